@@ -1,0 +1,81 @@
+//! A reader of EDN elements from bytes, in one pass with a stack.
+#![tactic(auto)]
+
+/// A part of the input: `text` is `input[at..at + text.len()]`.
+#[derive(Drop)]
+pub struct Span<'a> {
+    pub at: usize,
+    pub text: &'a [u8],
+}
+
+/// One element of EDN.
+#[derive(Drop)]
+#[cycle(edn)]
+pub enum Edn<'a> {
+    Nil,
+    Bool(bool),
+    Int(i64),
+    /// A symbol, a character, or a number that is no integer of 64 bits.
+    Atom(Span<'a>),
+    /// With its colon.
+    Keyword(Span<'a>),
+    /// From its first byte, `"` or `#`, to its closing quote.
+    Text(Span<'a>),
+    List(Vec<Edn<'a>>),
+    Vector(Vec<Edn<'a>>),
+    /// Members may repeat.
+    Set(Vec<Edn<'a>>),
+    /// Keys may repeat.
+    Map(Vec<Entry<'a>>),
+    /// The tag without its `#`, and the element that it stands before.
+    Tagged(Span<'a>, Box<Edn<'a>>),
+}
+
+/// A key of a map with its value.
+#[derive(Drop)]
+#[cycle(edn)]
+pub struct Entry<'a> {
+    pub key: Edn<'a>,
+    pub value: Edn<'a>,
+}
+
+/// What stands at the front of an input.
+#[derive(Drop)]
+pub enum Next<'a> {
+    /// After blanks an element begins at `at` and ends before `used`.
+    Complete {
+        value: Edn<'a>,
+        at: usize,
+        used: usize,
+    },
+    /// The bytes from `at` on are the unfinished beginning of an element or discard.
+    Partial {
+        at: usize,
+    },
+    /// Blanks of `used` bytes, and then nothing or an unfinished comment.
+    Blank {
+        used: usize,
+    },
+}
+
+/// Why nothing is read, and the place that tells it.
+#[derive(Clone, Copy, Debug, PartialEq, Eq)]
+pub struct EdnFault {
+    pub at: usize,
+    pub cause: EdnCause,
+}
+
+/// What is wrong at the place of a fault.
+#[derive(Clone, Copy, Debug, PartialEq, Eq)]
+pub enum EdnCause {
+    /// A closing byte that doesn't close the innermost open collection.
+    Unbalanced,
+    /// The end of a map with an odd number of elements.
+    OddMap,
+    /// The first byte of the 65th level.
+    TooDeep,
+    /// The first byte of a top-level element, comment or discard of more than 16,777,216 bytes.
+    TooLong,
+    /// Memory ran out; the place is 0.
+    OutOfMemory,
+}
