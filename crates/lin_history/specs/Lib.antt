@@ -1,0 +1,4 @@
+pub mod Sets
+pub mod Sameness
+pub mod Replies
+pub mod Operations

@@ -1,0 +1,10 @@
+//! Events of recorded histories: what clients call, what they are answered, and how both are read from operation maps.
+#![tactic(auto)]
+
+mod calls;
+mod events;
+mod numbers;
+
+pub use calls::{Call, Name, Reply, Val};
+pub use events::{Body, Event};
+pub use numbers::{IntSet, OutOfMemory};
