@@ -1,0 +1,4 @@
+pub mod Kinds
+pub mod Names
+pub mod Steps
+pub mod Laws
