@@ -2,3 +2,4 @@ pub mod Sets
 pub mod Sameness
 pub mod Replies
 pub mod Operations
+pub mod Names

@@ -1,5 +1,6 @@
 //! What clients call, and what they are answered.
 ghost use Rattle.std.specs.Prelude.{◌≡◌, IfOk};
+ghost use Rattle.lin_history.specs.Names.{name_of};
 
 use crate::numbers::{IntSet, OutOfMemory};
 use std::alloc::Global;
@@ -44,6 +45,24 @@ pub enum Reply {
     Done,
     Value(Val),
     Members(IntSet),
+}
+
+impl Call {
+    /// The function that is called.
+    pub fn name(self) -> Name
+        ensures { result ≡ name_of self }
+    {
+        match self {
+            Call::Read => Name::Read,
+            Call::Write(_) => Name::Write,
+            Call::Cas(_, _) => Name::Cas,
+            Call::Enqueue(_) => Name::Enqueue,
+            Call::Dequeue => Name::Dequeue,
+            Call::Add(_) => Name::Add,
+            Call::Acquire => Name::Acquire,
+            Call::Release => Name::Release,
+        }
+    }
 }
 
 impl Reply {

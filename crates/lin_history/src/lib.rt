@@ -3,8 +3,10 @@
 
 mod calls;
 mod events;
+mod meter;
 mod numbers;
 
 pub use calls::{Call, Name, Reply, Val};
 pub use events::{Body, Event};
-pub use numbers::{IntSet, OutOfMemory};
+pub use meter::Meter;
+pub use numbers::{IntSet, OutOfMemory, sets};

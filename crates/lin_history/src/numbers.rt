@@ -1,14 +1,14 @@
 //! Want of memory, and sets of numbers as replies hold them.
-ghost use Rattle.std.specs.Prelude.{◌≡◌, [], List, ℤ, IfOk};
+ghost use Rattle.std.specs.Prelude.{◌≡◌, [], List, ℤ, IfOk, OnOk, OnErr, IsTrue, ◌↔◌, ◌<◌, ◌-◌, ◌<ℤ◌, true, length, slice_index_or};
 ghost use Rattle.std.specs.Cmp.Lexicographic.{pointwise, lists_equiv, lists_per};
 ghost use Rattle.std.specs.Cmp.{int_eq_equiv, partial_equiv_from_equiv};
 ghost use Rattle.std.specs.Ordering.{int_eq};
 ghost use Rattle.std.specs.Hash as fed;
 ghost use Rattle.std.specs.Hash.{same_Alike};
-ghost use Rattle.lin_history.specs.Sets.{IsRising};
+ghost use Rattle.lin_history.specs.Sets.{IsRising, with_member, members_of, StaysRising, HasMember, AreSameSets};
 ghost use Rattle.lin_history.specs.Sameness.{numbers_Decides};
 
-use std::alloc::{AllocError, Global};
+use std::alloc::{AllocError, AllocFailed, Global};
 use std::hash::{Hash, Hasher};
 use std::marker::Model;
 
@@ -18,6 +18,12 @@ pub struct OutOfMemory;
 
 impl From<AllocError> for OutOfMemory {
     fn from(_error: AllocError) -> OutOfMemory {
+        OutOfMemory
+    }
+}
+
+impl<T: Drop> From<AllocFailed<T>> for OutOfMemory {
+    fn from(_error: AllocFailed<T>) -> OutOfMemory {
         OutOfMemory
     }
 }
@@ -70,6 +76,43 @@ impl IntSet {
         }
     }
 
+    /// The set of the numbers, which are strictly rising.
+    pub fn from_rising(items: Vec<i64>) -> Self
+        requires { IsRising items.items }
+        ensures { result ≡ items.items }
+    {
+        IntSet { items }
+    }
+
+    /// The set of the numbers, in any order and with repeats. Takes no memory.
+    pub fn from_members(mut items: Vec<i64>) -> Self
+        ensures { result ≡ members_of items.items }
+    {
+        if !is_rising(items.as_slice()) {
+            items.sort_unstable();
+            items.dedup();
+        }
+        IntSet { items }
+    }
+
+    /// Puts a number in; refused, the set is unchanged.
+    pub fn insert(&mut self, member: i64) -> Result<(), OutOfMemory>
+        ensures ok { OnOk result (self.new ≡ with_member member self.old) }
+        ensures err { OnErr result (self.new ≡ self.old) }
+    {
+        if is_above(self.items.as_slice(), member) {
+            self.items.push(member)?;
+            return Ok(());
+        }
+        match self.items.binary_search(&member) {
+            Ok(_) => Ok(()),
+            Err(at) => {
+                self.items.insert(at, member)?;
+                Ok(())
+            }
+        }
+    }
+
     /// The members, strictly rising.
     pub fn as_slice(&self) -> &[i64]
         ensures items { result.now ≡ self.now }
@@ -86,3 +129,32 @@ impl IntSet {
         Ok(IntSet { items })
     }
 }
+
+/// Whether each number is below the next.
+fn is_rising(items: &[i64]) -> bool
+    ensures { IsTrue result ↔ IsRising items.now }
+{
+    for at in 1..items.len() {
+        if items[at] <= items[at - 1] {
+            return false;
+        }
+    }
+    true
+}
+
+/// Whether a number is above the last one, if there is one.
+fn is_above(items: &[i64], member: i64) -> bool
+    ensures { result ≡ true → 0 < length items.now → slice_index_or items.now (length items.now - 1) member <ℤ member }
+{
+    match items.last() {
+        Some(last) => *last < member,
+        None => true,
+    }
+}
+
+/// What putting a number into a set does.
+pub fn sets()
+    ensures rising { StaysRising }
+    ensures members { HasMember }
+    ensures same { AreSameSets }
+{}
