@@ -1,0 +1,4 @@
+pub mod Lists
+pub mod OneEnd
+pub mod Latest
+pub mod Empty

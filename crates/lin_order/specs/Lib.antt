@@ -1,0 +1,4 @@
+pub mod Orders
+pub mod Linearizable
+pub mod Tables
+pub mod Laws

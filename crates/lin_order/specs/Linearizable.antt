@@ -1,0 +1,41 @@
+-- Legal orders, and which histories are linearizable (Herlihy and Wing 1990, sections 2 and 3).
+use Rattle.std.specs.Prelude.{◌≡◌, ℤ, List, [], ◌∷◌}
+use Rattle.lin_history.specs.declared.events.Event.{Event}
+use Rattle.lin_history.specs.declared.calls.Call.{Call}
+use Rattle.lin_history.specs.declared.calls.Reply.{Reply}
+use Rattle.lin_objects.specs.declared.kinds.Kind.{Kind}
+use Rattle.lin_objects.specs.declared.states.State.{State}
+use Rattle.lin_objects.specs.Steps.{Step, start}
+use Rattle.lin_order.specs.declared.placed.Placed.{Placed}
+use Rattle.lin_order.specs.Orders.{IsCall, IsOrder, IsOrderFor, part_of}
+
+-- an object runs through the order from the one state to the other: each operation's call is a step that gives its reply
+abbrev pub Runs : {S : Type 0} → (S → Call → S → Reply → Type 0) → List Event → S → List Placed → S → Type 0
+Runs step h from [] to = from ≡ to
+Runs {S} step h from (p ∷ order) to = (call : Call) × (next : S) × IsCall h p.at call × step from call next p.reply × Runs step h next order to
+
+-- an object of the kind runs through the order from its start
+abbrev pub IsLegalFor : Kind → List Event → List Placed → Type 0
+IsLegalFor kind h order = (last : State) × Runs (Step kind) h (start kind) order last
+
+-- each object, of the kind that its key has, runs through its part of the order
+abbrev pub IsLegal : (ℤ → Kind) → List Event → List Placed → Type 0
+IsLegal kinds h order = (key : ℤ) → IsLegalFor (kinds key) h (part_of h key order)
+
+-- a legal order of the history
+pub record IsLegalOrder (kinds : ℤ → Kind) (h : List Event) (order : List Placed) : Type 0 where
+  pub order_of : IsOrder h order
+  pub legal : IsLegal kinds h order
+
+-- a legal order of the history for one object
+pub record IsLegalOrderFor (kinds : ℤ → Kind) (key : ℤ) (h : List Event) (order : List Placed) : Type 0 where
+  pub order_of : IsOrderFor key h order
+  pub legal : IsLegalFor (kinds key) h order
+
+-- the history is linearizable
+abbrev pub IsLinearizable : (ℤ → Kind) → List Event → Type 0
+IsLinearizable kinds h = (order : List Placed) × IsLegalOrder kinds h order
+
+-- the history is linearizable for one object
+abbrev pub IsLinearizableFor : (ℤ → Kind) → ℤ → List Event → Type 0
+IsLinearizableFor kinds key h = (order : List Placed) × IsLegalOrderFor kinds key h order
