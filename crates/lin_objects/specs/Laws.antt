@@ -1,12 +1,11 @@
 -- Laws of the steps of objects.
-use Rattle.std.specs.Prelude.{◌≡◌, ◌↔◌, ◌⊎◌, ℤ, true, List, Contains}
+use Rattle.std.specs.Prelude.{◌≡◌, true}
 use Rattle.lin_history.specs.declared.calls.Call.{Call}
 use Rattle.lin_history.specs.declared.calls.Reply.{Reply}
-use Rattle.lin_history.specs.Sets.{IsRising}
 use Rattle.lin_objects.specs.declared.kinds.Kind.{Kind}
 use Rattle.lin_objects.specs.declared.states.State.{State}
-use Rattle.lin_objects.specs.Names.{name_of}
-use Rattle.lin_objects.specs.Steps.{Step, allows, with_member}
+use Rattle.lin_history.specs.Names.{name_of}
+use Rattle.lin_objects.specs.Steps.{Step, allows}
 
 -- an object takes only calls of functions that its kind has
 abbrev pub StepsAreAllowed : Type 0
@@ -15,7 +14,3 @@ StepsAreAllowed = (kind : Kind) (state : State) (call : Call) (next : State) (re
 -- the state before and the reply decide the state after
 abbrev pub RepliesDecide : Type 0
 RepliesDecide = (kind : Kind) (state : State) (call : Call) (next other : State) (reply : Reply) → Step kind state call next reply → Step kind state call other reply → next ≡ other
-
--- a rising list stays so with one more member, and has that one and those before
-abbrev pub MembersAreAdded : Type 0
-MembersAreAdded = (members : List ℤ) (v : ℤ) → IsRising members → IsRising (with_member members v) × ((x : ℤ) → Contains (with_member members v) x ↔ ((x ≡ v) ⊎ Contains members x))

@@ -1,4 +1,5 @@
 pub mod Kinds
-pub mod Names
 pub mod Steps
+pub mod OnlySteps
+pub mod States
 pub mod Laws

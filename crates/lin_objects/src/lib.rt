@@ -1,10 +1,16 @@
 //! Sequential objects: their kinds, their states and the steps that they take.
 #![tactic(auto)]
 
+mod any;
 mod kinds;
 mod laws;
+mod objects;
 mod states;
+#[cfg(test)]
+mod tests;
 
+pub use any::Any;
 pub use kinds::{Kind, Kinds, KindsFault};
 pub use laws::{replies_decide, steps_are_allowed};
+pub use objects::SeqObject;
 pub use states::{IntQueue, State};

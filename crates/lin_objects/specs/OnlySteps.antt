@@ -1,0 +1,12 @@
+-- What the private functions that find a step answer.
+use Rattle.std.specs.Prelude.{◌≡◌, Option, Some, None}
+use Rattle.lin_history.specs.declared.calls.Call.{Call}
+use Rattle.lin_history.specs.declared.calls.Reply.{Reply}
+use Rattle.lin_objects.specs.declared.kinds.Kind.{Kind}
+use Rattle.lin_objects.specs.declared.states.State.{State}
+use Rattle.lin_objects.specs.Steps.{Step}
+
+-- this is the only step that there is, or there is none
+abbrev pub IsOnlyStep : Kind → State → Call → Option (State × Reply) → Type 0
+IsOnlyStep kind state call None = (next : State) (reply : Reply) → Step kind state call next reply → ⊥
+IsOnlyStep kind state call (Some p) = Step kind state call p.0 p.1 × ((next : State) (reply : Reply) → Step kind state call next reply → (next ≡ p.0) × (reply ≡ p.1))

@@ -1,0 +1,174 @@
+//! An object of any kind.
+ghost use Rattle.std.specs.Prelude.{◌≡◌, ◌≢◌, true, IfOk, OnOk, Contains, AllPairs};
+ghost use Rattle.lin_history.specs.declared.calls.Reply.{Reply as ReplyOf};
+ghost use Rattle.lin_objects.specs.Steps.{start as start_of, allows as allows_of, Step};
+ghost use Rattle.lin_objects.specs.States.{state_same};
+ghost use Rattle.lin_objects.specs.OnlySteps.{IsOnlyStep};
+
+use crate::kinds::Kind;
+use crate::objects::SeqObject;
+use crate::states::{IntQueue, State};
+use lin_history::{Call, IntSet, Name, OutOfMemory, Reply, Val};
+use std::alloc::Global;
+
+/// An object of the kind.
+///
+/// Each call has at most one outcome, which takes memory for one state and time linear in the state.
+#[derive(Clone, Copy, Debug, PartialEq, Eq)]
+pub struct Any {
+    pub kind: Kind,
+}
+
+impl SeqObject for Any {
+    type State = State;
+
+    ghost starts = { λ a. start_of a.kind };
+
+    ghost allowed = { λ a. allows_of a.kind };
+
+    ghost step = { λ a. Step a.kind };
+
+    fn start(&self, alloc: Global) -> State {
+        match self.kind {
+            Kind::Register | Kind::CasRegister => State::Value(Val::Nil),
+            Kind::Fifo => State::Queue(IntQueue::new(alloc)),
+            Kind::Set => State::Members(IntSet::new(alloc)),
+            Kind::Mutex => State::Held(false),
+        }
+    }
+
+    fn allows(&self, name: Name) -> bool {
+        match self.kind {
+            Kind::Register => matches!(name, Name::Read | Name::Write),
+            Kind::CasRegister => matches!(name, Name::Read | Name::Write | Name::Cas),
+            Kind::Fifo => matches!(name, Name::Enqueue | Name::Dequeue),
+            Kind::Set => matches!(name, Name::Add | Name::Read),
+            Kind::Mutex => matches!(name, Name::Acquire | Name::Release),
+        }
+    }
+
+    fn copy_state(&self, alloc: Global, state: &State) -> Result<State, OutOfMemory> {
+        state.copy(alloc)
+    }
+
+    fn outcomes(
+        &self,
+        alloc: Global,
+        state: &State,
+        call: &Call,
+        out: &mut Vec<(State, Reply)>,
+    ) -> Result<(), OutOfMemory> {
+        out.clear();
+        if let Some(step) = only_step(alloc, self.kind, state, call)? {
+            out.push(step)?;
+        }
+        Ok(())
+    }
+
+    ghost same = { state_same };
+}
+
+/// The one step of an object of the kind, if there is one.
+fn only_step(
+    alloc: Global,
+    kind: Kind,
+    state: &State,
+    call: &Call,
+) -> Result<Option<(State, Reply)>, OutOfMemory>
+    ensures { IfOk result (IsOnlyStep kind state.now call.now) }
+{
+    match kind {
+        Kind::Register => Ok(register_step(state, call)),
+        Kind::CasRegister => Ok(cas_register_step(state, call)),
+        Kind::Fifo => fifo_step(alloc, state, call),
+        Kind::Set => set_step(alloc, state, call),
+        Kind::Mutex => Ok(mutex_step(state, call)),
+    }
+}
+
+/// A register's step.
+fn register_step(state: &State, call: &Call) -> Option<(State, Reply)>
+    ensures { IsOnlyStep Kind.Register state.now call.now result }
+{
+    match (state, call) {
+        (State::Value(value), Call::Read) => Some((State::Value(*value), Reply::Value(*value))),
+        (State::Value(_), Call::Write(value)) => Some((State::Value(*value), Reply::Done)),
+        _ => None,
+    }
+}
+
+/// The step of a register with compare-and-set.
+fn cas_register_step(state: &State, call: &Call) -> Option<(State, Reply)>
+    ensures { IsOnlyStep Kind.CasRegister state.now call.now result }
+{
+    match (state, call) {
+        (State::Value(value), Call::Cas(from, to)) => {
+            if value == from {
+                Some((State::Value(*to), Reply::Done))
+            } else {
+                None
+            }
+        }
+        (State::Value(_), Call::Read) => register_step(state, call),
+        (State::Value(_), Call::Write(_)) => register_step(state, call),
+        _ => None,
+    }
+}
+
+/// A queue's step.
+fn fifo_step(
+    alloc: Global,
+    state: &State,
+    call: &Call,
+) -> Result<Option<(State, Reply)>, OutOfMemory>
+    ensures { IfOk result (IsOnlyStep Kind.Fifo state.now call.now) }
+{
+    match (state, call) {
+        (State::Queue(queue), Call::Enqueue(number)) => {
+            let next = queue.with_last(alloc, *number)?;
+            Ok(Some((State::Queue(next), Reply::Done)))
+        }
+        (State::Queue(queue), Call::Dequeue) => match queue.as_slice().first() {
+            Some(number) => {
+                let next = queue.without_first(alloc)?;
+                Ok(Some((State::Queue(next), Reply::Value(Val::Int(*number)))))
+            }
+            None => Ok(Some((State::Queue(IntQueue::new(alloc)), Reply::Value(Val::Nil)))),
+        },
+        _ => Ok(None),
+    }
+}
+
+/// A set's step.
+fn set_step(
+    alloc: Global,
+    state: &State,
+    call: &Call,
+) -> Result<Option<(State, Reply)>, OutOfMemory>
+    ensures { IfOk result (IsOnlyStep Kind.Set state.now call.now) }
+{
+    match (state, call) {
+        (State::Members(members), Call::Add(number)) => {
+            let mut next = members.copy(alloc)?;
+            next.insert(*number)?;
+            Ok(Some((State::Members(next), Reply::Done)))
+        }
+        (State::Members(members), Call::Read) => {
+            let next = members.copy(alloc)?;
+            let reply = members.copy(alloc)?;
+            Ok(Some((State::Members(next), Reply::Members(reply))))
+        }
+        _ => Ok(None),
+    }
+}
+
+/// A lock's step.
+fn mutex_step(state: &State, call: &Call) -> Option<(State, Reply)>
+    ensures { IsOnlyStep Kind.Mutex state.now call.now result }
+{
+    match (state, call) {
+        (State::Held(false), Call::Acquire) => Some((State::Held(true), Reply::Done)),
+        (State::Held(true), Call::Release) => Some((State::Held(false), Reply::Done)),
+        _ => None,
+    }
+}

@@ -1,0 +1,54 @@
+//! What all sequential objects have in common.
+ghost use Rattle.std.specs.Prelude.{◌≡◌, ◌≢◌, Bool, true, IfOk, OnOk, Contains, AllPairs};
+ghost use Rattle.lin_history.specs.declared.calls.Name.{Name as NameOf};
+ghost use Rattle.lin_history.specs.declared.calls.Call.{Call as CallOf};
+ghost use Rattle.lin_history.specs.declared.calls.Reply.{Reply as ReplyOf};
+
+use lin_history::{Call, Name, OutOfMemory, Reply};
+use std::alloc::Global;
+use std::hash::Hash;
+
+/// An object that serves one call at a time (the sequential specification of Herlihy and Wing 1990, section 2).
+///
+/// In each state a call may have no outcome, one, or several.
+pub trait SeqObject {
+    /// Where the object stands between two calls.
+    type State: Eq + Hash + Drop;
+
+    /// Where the object begins.
+    ghost starts: { Self → Self.State };
+
+    /// Whether the object has the function.
+    ghost allowed: { Self → NameOf → Bool };
+
+    /// In the state the object may take the call, go to the next state and give the reply.
+    ghost step: { Self → Self.State → CallOf → Self.State → ReplyOf → Type 0 };
+
+    /// The state in which the object begins; takes no memory.
+    fn start(&self, alloc: Global) -> Self::State
+        ensures { result ≡ starts self.now };
+
+    /// Whether the object has the function. A call of another function has no outcome.
+    fn allows(&self, name: Name) -> bool
+        ensures { result ≡ allowed self.now name };
+
+    /// An equal state on its own memory.
+    fn copy_state(&self, alloc: Global, state: &Self::State) -> Result<Self::State, OutOfMemory>
+        ensures { IfOk result (λ copy. copy ≡ state.now) };
+
+    /// Leaves in `out` exactly the steps that the object may take on the call, each once: the state after it, and the
+    /// reply. What `out` held before is dropped. On `OutOfMemory` what `out` holds is open.
+    fn outcomes(
+        &self,
+        alloc: Global,
+        state: &Self::State,
+        call: &Call,
+        out: &mut Vec<(Self::State, Reply)>,
+    ) -> Result<(), OutOfMemory>
+        ensures sound { OnOk result ((next : Self.State) (reply : ReplyOf) → Contains out.new.items (next, reply) → step self.now state.now call.now next reply) }
+        ensures complete { OnOk result ((next : Self.State) (reply : ReplyOf) → step self.now state.now call.now next reply → Contains out.new.items (next, reply)) }
+        ensures once { OnOk result (AllPairs (λ p q. p ≢ q) out.new.items) };
+
+    /// States that compare alike are the same state.
+    ghost same: { (x y : Self.State) → Self.State.eq x y ≡ true → x ≡ y };
+}

@@ -1,0 +1,168 @@
+use crate::{Any, IntQueue, Kind, Kinds, KindsFault, SeqObject};
+use lin_history::{Call, IntSet, Name, OutOfMemory, Reply, Val};
+use std::alloc::Global;
+use std::test::Fail;
+
+const KINDS: [Kind; 5] = [
+    Kind::Register,
+    Kind::CasRegister,
+    Kind::Fifo,
+    Kind::Set,
+    Kind::Mutex,
+];
+
+const NAMES: [Name; 8] = [
+    Name::Read,
+    Name::Write,
+    Name::Cas,
+    Name::Enqueue,
+    Name::Dequeue,
+    Name::Add,
+    Name::Acquire,
+    Name::Release,
+];
+
+/// The replies to the calls, one after another, up to the first that has no outcome.
+fn replies_to<O: SeqObject>(
+    object: &O,
+    alloc: Global,
+    calls: &[Call],
+) -> Result<Vec<Reply>, OutOfMemory> {
+    let mut state = object.start(alloc);
+    let mut out = Vec::new(alloc);
+    let mut replies = Vec::new(alloc);
+    for call in calls {
+        object.outcomes(alloc, &state, call, &mut out)?;
+        match out.pop() {
+            Some((next, reply)) => {
+                state = next;
+                if replies.push(reply).is_err() {
+                    return Err(OutOfMemory);
+                }
+            }
+            None => return Ok(replies),
+        }
+    }
+    Ok(replies)
+}
+
+/// Whether a copy of the state at the start compares alike with it.
+fn copies_start<O: SeqObject>(object: &O, alloc: Global) -> Result<bool, OutOfMemory> {
+    let state = object.start(alloc);
+    let copy = object.copy_state(alloc, &state)?;
+    Ok(copy == state)
+}
+
+/// How many functions the object has.
+fn function_count<O: SeqObject>(object: &O) -> usize {
+    NAMES.iter().filter(|name| object.allows(**name)).count()
+}
+
+fn int(number: i64) -> Val {
+    Val::Int(number)
+}
+
+#[test]
+fn each_kind_takes_its_steps(rt: HostRuntime) -> Result<(), Fail> {
+    let alloc = rt.alloc();
+
+    let calls = [
+        Call::Read,
+        Call::Write(int(7)),
+        Call::Read,
+        Call::Cas(int(7), int(8)),
+    ];
+    let replies = replies_to(
+        &Any {
+            kind: Kind::Register,
+        },
+        alloc,
+        &calls,
+    )?;
+    let wanted = [Reply::Value(Val::Nil), Reply::Done, Reply::Value(int(7))];
+    assert!(rt; replies.as_slice() == wanted.as_slice());
+
+    let calls = [
+        Call::Cas(Val::Nil, int(1)),
+        Call::Read,
+        Call::Cas(int(2), int(3)),
+        Call::Read,
+    ];
+    let replies = replies_to(
+        &Any {
+            kind: Kind::CasRegister,
+        },
+        alloc,
+        &calls,
+    )?;
+    let wanted = [Reply::Done, Reply::Value(int(1))];
+    assert!(rt; replies.as_slice() == wanted.as_slice());
+
+    let calls = [
+        Call::Dequeue,
+        Call::Enqueue(1),
+        Call::Enqueue(2),
+        Call::Dequeue,
+        Call::Dequeue,
+    ];
+    let replies = replies_to(&Any { kind: Kind::Fifo }, alloc, &calls)?;
+    let wanted = [
+        Reply::Value(Val::Nil),
+        Reply::Done,
+        Reply::Done,
+        Reply::Value(int(1)),
+        Reply::Value(int(2)),
+    ];
+    assert!(rt; replies.as_slice() == wanted.as_slice());
+
+    let calls = [Call::Add(2), Call::Add(1), Call::Add(2), Call::Read];
+    let replies = replies_to(&Any { kind: Kind::Set }, alloc, &calls)?;
+    let mut members = IntSet::new(alloc);
+    members.insert(1)?;
+    members.insert(2)?;
+    let wanted = [
+        Reply::Done,
+        Reply::Done,
+        Reply::Done,
+        Reply::Members(members),
+    ];
+    assert!(rt; replies.as_slice() == wanted.as_slice());
+
+    let calls = [Call::Acquire, Call::Release, Call::Acquire, Call::Acquire];
+    let replies = replies_to(&Any { kind: Kind::Mutex }, alloc, &calls)?;
+    let wanted = [Reply::Done, Reply::Done, Reply::Done];
+    assert!(rt; replies.as_slice() == wanted.as_slice());
+    Ok(())
+}
+
+#[test]
+fn each_kind_has_its_functions_and_copies(rt: HostRuntime) -> Result<(), Fail> {
+    for (kind, count) in KINDS.iter().zip([2, 3, 2, 2, 2]) {
+        let object = Any { kind: *kind };
+        assert_eq!(rt; function_count(&object), count);
+        assert!(rt; copies_start(&object, rt.alloc())?);
+    }
+    Ok(())
+}
+
+#[test]
+fn queues_are_made_of_vectors(rt: HostRuntime) -> Result<(), Fail> {
+    let numbers = [3, 1, 2].to_vec(rt.alloc())?;
+    let queue = IntQueue::from_vec(numbers).copy(rt.alloc())?;
+    assert_eq!(rt; queue.into_vec().as_slice(), [3, 1, 2].as_slice());
+    Ok(())
+}
+
+#[test]
+fn so_many_keys_are_named(rt: HostRuntime) -> Result<(), Fail> {
+    let mut kinds = Kinds::new(rt.alloc(), Kind::Register);
+    for key in 0..65536 {
+        assert!(rt; kinds.set(key, Kind::Set).is_ok());
+    }
+    assert_eq!(rt; kinds.set(-1, Kind::Fifo), Err(KindsFault::Full));
+    assert!(rt; kinds.set(9, Kind::Mutex).is_ok());
+    assert_eq!(rt; kinds.of(9), Kind::Mutex);
+    assert_eq!(rt; kinds.of(65535), Kind::Set);
+    assert_eq!(rt; kinds.of(-1), Kind::Register);
+    Ok(())
+}
