@@ -1,0 +1,5 @@
+pub mod Lists
+pub mod StatusLemmas
+pub mod Causes
+pub mod ShapeLemmas
+pub mod ScanLemmas

@@ -1,0 +1,106 @@
+//! Well-formedness, kept up to date with a history that grows and is edited.
+ghost use Rattle.std.specs.Prelude.{◌≡◌, ◌+◌, ◌-◌, ◌<◌, ◌≤◌, ℤ, List, length, IfOk, OnOk, OnErr, IsOk};
+ghost use Rattle.lin_history.specs.declared.events.Event.{Event as EventOf};
+ghost use Rattle.lin_history.specs.Operations.{IsEvent};
+ghost use Rattle.lin_objects.specs.declared.kinds.Kind.{Kind as KindOf};
+ghost use Rattle.lin_objects.specs.Kinds.{kind_of};
+ghost use Rattle.lin_wellformed.specs.Scans.{ready_count, IsRight, AgreeBefore, looked_at, ticked};
+ghost use Rattle.lin_wellformed.specs.WellFormed.{IsShape};
+
+use crate::shapes::Shape;
+use crate::tables::Table;
+use lin_history::{Event, Meter, OutOfMemory};
+use lin_objects::Kinds;
+use std::alloc::Global;
+
+/// How far a history was looked through, and what was found: its first bad event, or what each process is after the events.
+#[derive(Drop)]
+pub struct Scan {
+    ready: usize,
+    shape: Shape,
+    table: Table,
+}
+
+impl Scan {
+    /// No event was looked at.
+    pub fn new(alloc: Global) -> Scan
+        ensures ready { ready_count result ≡ 0 }
+        ensures right { (kinds : ℤ → KindOf) (h : List EventOf) → IsRight result kinds h }
+    {
+        Scan {
+            ready: 0,
+            shape: Shape::Good,
+            table: Table::new(alloc),
+        }
+    }
+
+    /// How many events were taken in.
+    pub fn ready(&self) -> usize
+        ensures { result ≡ ready_count self.now }
+    {
+        self.ready
+    }
+
+    /// Forgets what depends on the events from the position on, and on their keys' kinds: they are about to change.
+    pub fn cut(&mut self, at: usize)
+        ensures back { at < ready_count self.old → ready_count self.new ≤ at }
+        ensures same { ready_count self.old ≤ at → self.new ≡ self.old }
+        ensures right { (kinds other : ℤ → KindOf) (h edited : List EventOf) → IsRight self.old kinds h → AgreeBefore at kinds other h edited → IsRight self.new other edited }
+    {
+        if at < self.ready {
+            self.ready = 0;
+            self.shape = Shape::Good;
+            self.table.clear();
+        }
+    }
+
+    /// Takes in the rest of the events, and answers whether all are well-formed for the kinds.
+    ///
+    /// Asks that the scan is right for the first `ready()` events. Each event past them counts as one scan.
+    /// Where memory is refused, the events before the refusal are taken in.
+    pub fn settle(
+        &mut self,
+        events: &[Event],
+        kinds: &Kinds,
+        meter: &mut Meter,
+    ) -> Result<Shape, OutOfMemory>
+        requires { IsRight self.old (kind_of kinds.now) events.now }
+        ensures shape { IfOk result (IsShape (kind_of kinds.now) events.now) }
+        ensures all { OnOk result (ready_count self.new ≡ length events.now) }
+        ensures right { IsRight self.new (kind_of kinds.now) events.now }
+        ensures no_less { ready_count self.old ≤ ready_count self.new }
+        ensures settled { ready_count self.old ≡ length events.now → IsOk result }
+        ensures counted { IfOk result (λ shape. meter.new ≡ record meter.old { scans = ticked meter.old.scans (looked_at shape (length events.now) - ready_count self.old) }) }
+        ensures bounded { meter.new.scans ≤ meter.old.scans + (length events.now - ready_count self.old) }
+        ensures others { (meter.new.steps ≡ meter.old.steps) × (meter.new.tries ≡ meter.old.tries) }
+    {
+        while self.ready < events.len() && self.shape.is_good() {
+            meter.tick_scan();
+            self.take_in(&events[self.ready], kinds)?;
+        }
+        self.ready = events.len();
+        Ok(self.shape)
+    }
+
+    /// Takes in one more event after good ones.
+    fn take_in(&mut self, event: &Event, kinds: &Kinds) -> Result<(), OutOfMemory>
+        requires room { ready_count self.old < usize.MAX }
+        requires good { self.old.shape ≡ Shape.Good }
+        ensures ready { OnOk result (ready_count self.new ≡ ready_count self.old + 1) }
+        ensures looked { OnOk result (looked_at self.new.shape (ready_count self.new) ≡ ready_count self.old + 1) }
+        ensures right { OnOk result ((h : List EventOf) → IsRight self.old (kind_of kinds.now) h → IsEvent h (ready_count self.old) event.now → IsRight self.new (kind_of kinds.now) h) }
+        ensures err { OnErr result (self.new ≡ self.old) }
+    {
+        match self.table.status(event.process).first_cause(event, kinds) {
+            Some(cause) => {
+                self.shape = Shape::Bad {
+                    at: self.ready,
+                    cause,
+                }
+            }
+            None => self.table.take_in(event)?,
+        }
+        self.ready += 1;
+        Ok(())
+    }
+}
