@@ -3,3 +3,5 @@ pub mod Sameness
 pub mod Replies
 pub mod Operations
 pub mod Names
+pub mod Table
+pub mod Fields

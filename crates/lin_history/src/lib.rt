@@ -5,8 +5,10 @@ mod calls;
 mod events;
 mod meter;
 mod numbers;
+mod table;
 
 pub use calls::{Call, Name, Reply, Val};
 pub use events::{Body, Event};
 pub use meter::Meter;
 pub use numbers::{IntSet, OutOfMemory, sets};
+pub use table::{EventFault, event_of};

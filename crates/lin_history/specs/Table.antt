@@ -1,0 +1,204 @@
+-- The event that an operation map says. Tags are read over at the map, at the values of its four keys, and at the
+-- parts of these values; at its keys they are not.
+use Rattle.std.specs.Prelude.{◌≡◌, ℕ, ℤ, pos, Bool, true, false, ◌||◌, if◌then◌else◌, List, [], ◌∷◌, ◌++◌, Option, Some, None, option_map, option_and_then, Result, Ok, Err, codes}
+use Rattle.std.specs.Str.{bytes_eq}
+use Rattle.lin_edn.specs.Value.{Value, nil, bool, int, atom, keyword, text, list, vector, set, map, tagged, Values, no_values, value, Entries, no_entries, entry}
+use Rattle.lin_history.specs.Sets.{members_of}
+use Rattle.lin_history.specs.declared.calls.Val.{Val}
+use Rattle.lin_history.specs.declared.calls.Val.TheVariants as val
+use Rattle.lin_history.specs.declared.calls.Name.{Name}
+use Rattle.lin_history.specs.declared.calls.Name.TheVariants.{Read, Write, Cas, Enqueue, Dequeue, Add, Acquire, Release}
+use Rattle.lin_history.specs.declared.calls.Call.{Call}
+use Rattle.lin_history.specs.declared.calls.Call.TheVariants as call
+use Rattle.lin_history.specs.declared.calls.Reply.{Reply}
+use Rattle.lin_history.specs.declared.calls.Reply.TheVariants.{Done, Value as Saw, Members}
+use Rattle.lin_history.specs.declared.events.Body.{Body}
+use Rattle.lin_history.specs.declared.events.Body.TheVariants as body
+use Rattle.lin_history.specs.declared.events.Event.{Event}
+use Rattle.lin_history.specs.declared.table.EventType.{EventType}
+use Rattle.lin_history.specs.declared.table.EventType.TheVariants as types
+use Rattle.lin_history.specs.declared.table.EventFault.{EventFault}
+use Rattle.lin_history.specs.declared.table.EventFault.TheVariants.{NotAMap, DuplicateKey, Missing, BadProcess, BadType, BadFunction, BadKey, BadValue, OutOfMemory}
+
+-- a value without the tags in front of it
+abbrev pub bare : Value → Value
+bare (tagged at tag v) = bare v
+bare nil = nil
+bare (bool b) = bool b
+bare (int i) = int i
+bare (atom at w) = atom at w
+bare (keyword at w) = keyword at w
+bare (text at w) = text at w
+bare (list vs) = list vs
+bare (vector vs) = vector vs
+bare (set vs) = set vs
+bare (map es) = map es
+
+-- the value is this keyword
+abbrev pub is_word : List ℕ → Value → Bool
+is_word w (keyword at word) = bytes_eq word w
+is_word w _ = false
+
+-- the value of an entry, if its key is this keyword
+abbrev pub here : List ℕ → Value → Value → List Value
+here w k v = if is_word w k then bare v ∷ [] else []
+
+-- the values under a keyword, in reading order
+abbrev pub under : List ℕ → Entries → List Value
+under w no_entries = []
+under w (entry k v es) = here w k v ++ under w es
+
+-- what a keyword stands for, by a list of rows
+abbrev pub look_up : {A : Type 0} → List (List ℕ × A) → Value → Option A
+look_up [] v = None
+look_up (row ∷ rows) v = if is_word row.0 v then Some row.1 else look_up rows v
+
+abbrev pub type_of : Value → Option EventType
+type_of = look_up (
+    (codes ":invoke", types.Invoke) ∷
+    (codes ":ok", types.Ok) ∷
+    (codes ":fail", types.Fail) ∷
+    (codes ":info", types.Info) ∷ [])
+
+abbrev pub function_of : Value → Option Name
+function_of = look_up (
+    (codes ":read", Read) ∷
+    (codes ":write", Write) ∷
+    (codes ":cas", Cas) ∷
+    (codes ":enqueue", Enqueue) ∷
+    (codes ":dequeue", Dequeue) ∷
+    (codes ":add", Add) ∷
+    (codes ":acquire", Acquire) ∷
+    (codes ":release", Release) ∷ [])
+
+-- an integer of at least 0
+abbrev pub process_of : Value → Option ℕ
+process_of (int (pos n)) = Some n
+process_of _ = None
+
+abbrev pub int_of : Value → Option ℤ
+int_of (int i) = Some i
+int_of _ = None
+
+-- nil or an integer
+abbrev pub val_of : Value → Option Val
+val_of nil = Some val.Nil
+val_of (int i) = Some (val.Int i)
+val_of _ = None
+
+-- exactly two values
+abbrev pub both_of : Values → Option (Value × Value)
+both_of (value v (value w no_values)) = Some (bare v, bare w)
+both_of _ = None
+
+-- a vector or list of exactly two
+abbrev pub pair_of : Value → Option (Value × Value)
+pair_of (vector vs) = both_of vs
+pair_of (list vs) = both_of vs
+pair_of _ = None
+
+-- integers alone
+abbrev pub ints_of : Values → Option (List ℤ)
+ints_of no_values = Some []
+ints_of (value v vs) = option_and_then (λ i. option_map (λ is. i ∷ is) (ints_of vs)) (int_of (bare v))
+
+-- the old and the new value of a compare-and-set
+abbrev pub cas_of : Value × Value → Option Call
+cas_of p = option_and_then (λ old. option_map (λ new. call.Cas old new) (val_of p.1)) (val_of p.0)
+
+-- what an invocation calls
+abbrev pub call_of : Name → Value → Option Call
+call_of Read v = Some call.Read
+call_of Write v = option_map call.Write (val_of v)
+call_of Cas v = option_and_then cas_of (pair_of v)
+call_of Enqueue v = option_map call.Enqueue (int_of v)
+call_of Dequeue v = Some call.Dequeue
+call_of Add v = option_map call.Add (int_of v)
+call_of Acquire v = Some call.Acquire
+call_of Release v = Some call.Release
+
+-- the integers of a collection as the members of a set
+abbrev pub members_in : Values → Option Reply
+members_in vs = option_map (λ is. Members (members_of is)) (ints_of vs)
+
+-- what a read saw
+abbrev pub seen : Value → Option Reply
+seen nil = Some (Saw val.Nil)
+seen (int i) = Some (Saw (val.Int i))
+seen (set vs) = members_in vs
+seen (vector vs) = members_in vs
+seen (list vs) = members_in vs
+seen _ = None
+
+-- what an operation that took effect answered
+abbrev pub reply_of : Name → Value → Option Reply
+reply_of Read v = seen v
+reply_of Dequeue v = option_map Saw (val_of v)
+reply_of _ v = Some Done
+
+abbrev pub body_of : EventType → Name → Value → Option Body
+body_of types.Invoke f v = option_map body.Invoke (call_of f v)
+body_of types.Ok f v = option_map (body.Ok f) (reply_of f v)
+body_of types.Fail f v = Some (body.Fail f)
+body_of types.Info f v = Some (body.Info f)
+
+-- the key of the object and the value: with keys those of a pair that begins with an integer, without keys 0 and the whole
+abbrev pub parts_of : Bool → Value → Option (ℤ × Value)
+parts_of true v = option_and_then (λ p. option_map (λ key. (key, p.1)) (int_of p.0)) (pair_of v)
+parts_of false v = Some (pos 0, v)
+
+-- one test after another: what is none has its fault
+abbrev pub or_fault : {A B : Type 0} → EventFault → Option A → (A → Result B EventFault) → Result B EventFault
+or_fault fault None more = Err fault
+or_fault fault (Some x) more = more x
+
+-- the event of a map with these values under its keys
+abbrev pub event_with : Bool → Value → Value → Value → Value → Result (Option Event) EventFault
+event_with keyed process type function v =
+    or_fault BadProcess (process_of process) (λ p.
+    or_fault BadType (type_of type) (λ t.
+    or_fault BadFunction (function_of function) (λ f.
+    or_fault BadKey (parts_of keyed v) (λ parts.
+    or_fault BadValue (body_of t f parts.1) (λ b.
+    Ok (Some (record { process = p; key = parts.0; body = b })))))))
+
+abbrev pub is_several : List Value → Bool
+is_several (v ∷ w ∷ vs) = true
+is_several _ = false
+
+-- the only value under a key; a missing one is nil
+abbrev pub or_nil : List Value → Value
+or_nil [] = nil
+or_nil (v ∷ vs) = v
+
+-- an operation of a process that a keyword names, as the nemesis, is no event
+abbrev pub is_named : List Value → Bool
+is_named (keyword at w ∷ vs) = true
+is_named _ = false
+
+abbrev pub event_when_there : Bool → List Value → List Value → List Value → Value → Result (Option Event) EventFault
+event_when_there keyed (process ∷ _) (type ∷ _) (function ∷ _) v = event_with keyed process type function v
+event_when_there keyed _ _ _ v = Err Missing
+
+abbrev pub event_under : Bool → List Value → List Value → List Value → List Value → Result (Option Event) EventFault
+event_under keyed process type function v =
+    if is_several process || is_several type || is_several function || is_several v then Err DuplicateKey else
+    (if is_named process then Ok None else event_when_there keyed process type function (or_nil v))
+
+abbrev pub event_in : Bool → Value → Result (Option Event) EventFault
+event_in keyed (map es) = event_under keyed (under (codes ":process") es) (under (codes ":type") es) (under (codes ":f") es) (under (codes ":value") es)
+event_in keyed _ = Err NotAMap
+
+-- The event that an element says, none for an operation of the nemesis, or the first fault; with keys or without.
+abbrev pub event : Bool → Value → Result (Option Event) EventFault
+event keyed v = event_in keyed (bare v)
+
+-- an event that holds a set of members, which takes memory
+abbrev pub HasMembers : Result (Option Event) EventFault → Type 0
+HasMembers wanted = (e : Event) × (is : List ℤ) × (wanted ≡ Ok (Some e)) × (e.body ≡ body.Ok Read (Members is))
+
+-- the table's answer, or want of memory in place of an event that takes memory
+abbrev pub IsAnswer : Result (Option Event) EventFault → Result (Option Event) EventFault → Type 0
+IsAnswer wanted (Ok e) = wanted ≡ Ok e
+IsAnswer wanted (Err OutOfMemory) = HasMembers wanted
+IsAnswer wanted (Err fault) = wanted ≡ Err fault

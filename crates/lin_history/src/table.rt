@@ -1,0 +1,396 @@
+//! Events from the maps that recorders write.
+ghost use Rattle.std.specs.Prelude.{◌≡◌, ◌||◌, ◌++◌, [], ◌∷◌, true, Some, None, codes, map, option_map, IsTrue, IsSome, is_some, IfOk};
+ghost use Rattle.lin_edn.specs.Value.{values_of, entries_of};
+ghost use Rattle.lin_edn.specs.View.{view, entry_view};
+ghost use Rattle.lin_history.specs.Table as table;
+ghost use Rattle.lin_history.specs.Table.{bare as bare_value, is_word as says, under, is_several, event, IsAnswer};
+ghost use Rattle.lin_history.specs.Fields.{found, IsPut, IsKept, IsFields, IsReply, IsBody};
+
+use crate::calls::{Call, Name, Reply, Val};
+use crate::events::{Body, Event};
+use crate::numbers::{IntSet, OutOfMemory};
+use lin_edn::{Edn, Entry};
+use std::alloc::Global;
+
+/// Why an element says no event: the first of these that holds.
+#[derive(Clone, Copy, Debug, PartialEq, Eq)]
+pub enum EventFault {
+    /// It isn't a map.
+    NotAMap,
+    /// `:process`, `:type`, `:f` or `:value` stands twice.
+    DuplicateKey,
+    /// `:process`, `:type` or `:f` isn't there.
+    Missing,
+    /// `:process` isn't an integer of at least 0.
+    BadProcess,
+    /// `:type` isn't `:invoke`, `:ok`, `:fail` or `:info`.
+    BadType,
+    /// `:f` is no function of the objects.
+    BadFunction,
+    /// With keys, `:value` isn't a pair that begins with an integer.
+    BadKey,
+    /// The value isn't of the form that its type and function ask for.
+    BadValue,
+    /// Memory for the members of a set was refused.
+    OutOfMemory,
+}
+
+#[derive(Clone, Copy)]
+pub(crate) enum EventType {
+    Invoke,
+    Ok,
+    Fail,
+    Info,
+}
+
+/// The values of the keys that count, without tags.
+#[derive(Clone, Copy)]
+struct Fields<'e, 'a> {
+    process: Option<&'e Edn<'a>>,
+    event_type: Option<&'e Edn<'a>>,
+    function: Option<&'e Edn<'a>>,
+    value: Option<&'e Edn<'a>>,
+}
+
+/// An element without the tags in front of it.
+pub(crate) fn bare<'e, 'a>(element: &'e Edn<'a>) -> &'e Edn<'a>
+    ensures { view result.now ≡ bare_value (view element.entry.now) }
+{
+    match element {
+        Edn::Tagged(_, inner) => bare(inner.as_ref()),
+        _ => element,
+    }
+}
+
+/// Whether an element is a keyword.
+fn is_word(element: &Edn, word: &[u8]) -> bool
+    ensures { result ≡ says word.now (view element.now) }
+{
+    match element {
+        Edn::Keyword(span) => span.text == word,
+        _ => false,
+    }
+}
+
+/// Keeps the value of a key that stands once.
+fn put<'e, 'a>(slot: &mut Option<&'e Edn<'a>>, value: &'e Edn<'a>) -> Result<(), EventFault>
+    ensures { IsPut slot.old (view value.entry.now) slot.new result }
+{
+    if slot.is_some() {
+        return Err(EventFault::DuplicateKey);
+    }
+    *slot = Some(value);
+    Ok(())
+}
+
+/// Keeps an entry whose key counts.
+fn keep<'e, 'a>(fields: &mut Fields<'e, 'a>, entry: &'e Entry<'a>) -> Result<(), EventFault>
+    ensures { IsKept fields.old (entry_view entry.entry.now) fields.new result }
+{
+    if is_word(&entry.key, b":process") {
+        return put(&mut fields.process, bare(&entry.value));
+    }
+    if is_word(&entry.key, b":type") {
+        return put(&mut fields.event_type, bare(&entry.value));
+    }
+    if is_word(&entry.key, b":f") {
+        return put(&mut fields.function, bare(&entry.value));
+    }
+    if is_word(&entry.key, b":value") {
+        return put(&mut fields.value, bare(&entry.value));
+    }
+    Ok(())
+}
+
+/// The values of a map's keys that count.
+fn fields_of<'e, 'a>(entries: &'e [Entry<'a>]) -> Result<Fields<'e, 'a>, EventFault>
+    ensures { IsFields (entries_of (map entry_view entries.entry.now)) result }
+{
+    let mut fields = Fields {
+        process: None,
+        event_type: None,
+        function: None,
+        value: None,
+    };
+    for entry in entries {
+        keep(&mut fields, entry)?;
+    }
+    Ok(fields)
+}
+
+fn type_of(element: &Edn) -> Option<EventType>
+    ensures { result ≡ table.type_of (view element.now) }
+{
+    if is_word(element, b":invoke") {
+        return Some(EventType::Invoke);
+    }
+    if is_word(element, b":ok") {
+        return Some(EventType::Ok);
+    }
+    if is_word(element, b":fail") {
+        return Some(EventType::Fail);
+    }
+    if is_word(element, b":info") {
+        return Some(EventType::Info);
+    }
+    None
+}
+
+fn function_of(element: &Edn) -> Option<Name>
+    ensures { result ≡ table.function_of (view element.now) }
+{
+    if is_word(element, b":read") {
+        return Some(Name::Read);
+    }
+    if is_word(element, b":write") {
+        return Some(Name::Write);
+    }
+    if is_word(element, b":cas") {
+        return Some(Name::Cas);
+    }
+    if is_word(element, b":enqueue") {
+        return Some(Name::Enqueue);
+    }
+    if is_word(element, b":dequeue") {
+        return Some(Name::Dequeue);
+    }
+    if is_word(element, b":add") {
+        return Some(Name::Add);
+    }
+    if is_word(element, b":acquire") {
+        return Some(Name::Acquire);
+    }
+    if is_word(element, b":release") {
+        return Some(Name::Release);
+    }
+    None
+}
+
+fn process_of(element: &Edn) -> Option<u64>
+    ensures { result ≡ table.process_of (view element.now) }
+{
+    match element {
+        Edn::Int(process) => u64::try_from(*process).ok(),
+        _ => None,
+    }
+}
+
+fn val_of(element: &Edn) -> Option<Val>
+    ensures { result ≡ table.val_of (view element.now) }
+{
+    match element {
+        Edn::Nil => Some(Val::Nil),
+        Edn::Int(i) => Some(Val::Int(*i)),
+        _ => None,
+    }
+}
+
+fn int_of(element: &Edn) -> Option<i64>
+    ensures { result ≡ table.int_of (view element.now) }
+{
+    match element {
+        Edn::Int(i) => Some(*i),
+        _ => None,
+    }
+}
+
+/// The two of exactly two elements, without tags.
+fn both_of<'e, 'a>(items: &'e [Edn<'a>]) -> Option<(&'e Edn<'a>, &'e Edn<'a>)>
+    ensures { option_map (λ p. (view p.0.now, view p.1.now)) result ≡ table.both_of (values_of (map view items.entry.now)) }
+{
+    if items.len() != 2 {
+        return None;
+    }
+    Some((bare(&items[0]), bare(&items[1])))
+}
+
+/// The two elements of a vector or list of exactly two, without tags.
+fn pair_of<'e, 'a>(element: &'e Edn<'a>) -> Option<(&'e Edn<'a>, &'e Edn<'a>)>
+    ensures { option_map (λ p. (view p.0.now, view p.1.now)) result ≡ table.pair_of (view element.entry.now) }
+{
+    match element {
+        Edn::Vector(items) => both_of(items.as_slice()),
+        Edn::List(items) => both_of(items.as_slice()),
+        _ => None,
+    }
+}
+
+fn call_of(name: Name, value: &Edn) -> Option<Call>
+    ensures { result ≡ table.call_of name (view value.now) }
+{
+    match name {
+        Name::Read => Some(Call::Read),
+        Name::Dequeue => Some(Call::Dequeue),
+        Name::Acquire => Some(Call::Acquire),
+        Name::Release => Some(Call::Release),
+        Name::Write => Some(Call::Write(val_of(value)?)),
+        Name::Enqueue => Some(Call::Enqueue(int_of(value)?)),
+        Name::Add => Some(Call::Add(int_of(value)?)),
+        Name::Cas => {
+            let (old, new) = pair_of(value)?;
+            Some(Call::Cas(val_of(old)?, val_of(new)?))
+        }
+    }
+}
+
+/// Whether all are integers, tags aside.
+fn are_integers(items: &[Edn]) -> bool
+    ensures { result ≡ is_some (table.ints_of (values_of (map view items.now))) }
+{
+    for item in items {
+        if int_of(bare(item)).is_none() {
+            return false;
+        }
+    }
+    true
+}
+
+/// The integers of a collection of integers.
+fn integers(alloc: Global, items: &[Edn]) -> Result<Vec<i64>, OutOfMemory>
+    requires { IsSome (table.ints_of (values_of (map view items.now))) }
+    ensures { IfOk result (λ found. table.ints_of (values_of (map view items.now)) ≡ Some found.items) }
+{
+    let mut found = Vec::with_capacity(alloc, items.len())?;
+    for item in items {
+        if let Some(i) = int_of(bare(item)) {
+            found.push(i)?;
+        }
+    }
+    Ok(found)
+}
+
+/// The integers of a collection as the members of a set.
+fn members_in(alloc: Global, items: &[Edn]) -> Result<Reply, EventFault>
+    ensures { IsReply (table.members_in (values_of (map view items.now))) result }
+{
+    if !are_integers(items) {
+        return Err(EventFault::BadValue);
+    }
+    match integers(alloc, items) {
+        Ok(found) => Ok(Reply::Members(IntSet::from_members(found))),
+        Err(_) => Err(EventFault::OutOfMemory),
+    }
+}
+
+/// What a read saw.
+fn seen(alloc: Global, value: &Edn) -> Result<Reply, EventFault>
+    ensures { IsReply (table.seen (view value.now)) result }
+{
+    let items = match value {
+        Edn::Nil => return Ok(Reply::Value(Val::Nil)),
+        Edn::Int(i) => return Ok(Reply::Value(Val::Int(*i))),
+        Edn::Set(items) => items.as_slice(),
+        Edn::Vector(items) => items.as_slice(),
+        Edn::List(items) => items.as_slice(),
+        _ => return Err(EventFault::BadValue),
+    };
+    members_in(alloc, items)
+}
+
+fn reply_of(alloc: Global, name: Name, value: &Edn) -> Result<Reply, EventFault>
+    ensures { IsReply (table.reply_of name (view value.now)) result }
+{
+    match name {
+        Name::Read => seen(alloc, value),
+        Name::Dequeue => match val_of(value) {
+            Some(taken) => Ok(Reply::Value(taken)),
+            None => Err(EventFault::BadValue),
+        },
+        _ => Ok(Reply::Done),
+    }
+}
+
+fn body_of(
+    alloc: Global,
+    event_type: EventType,
+    name: Name,
+    value: &Edn,
+) -> Result<Body, EventFault>
+    ensures { IsBody (table.body_of event_type name (view value.now)) result }
+{
+    match event_type {
+        EventType::Invoke => match call_of(name, value) {
+            Some(call) => Ok(Body::Invoke(call)),
+            None => Err(EventFault::BadValue),
+        },
+        EventType::Ok => Ok(Body::Ok(name, reply_of(alloc, name, value)?)),
+        EventType::Fail => Ok(Body::Fail(name)),
+        EventType::Info => Ok(Body::Info(name)),
+    }
+}
+
+/// The object's key and the value: with keys those of a pair, without them 0 and the whole.
+fn parts_of<'e, 'a>(value: &'e Edn<'a>, keyed: bool) -> Option<(i64, &'e Edn<'a>)>
+    ensures { option_map (λ p. (p.0, view p.1.now)) result ≡ table.parts_of keyed (view value.entry.now) }
+{
+    if !keyed {
+        return Some((0, value));
+    }
+    let (key, value) = pair_of(value)?;
+    Some((int_of(key)?, value))
+}
+
+/// The event of a map with these values under its keys.
+fn event_with(
+    alloc: Global,
+    keyed: bool,
+    process: &Edn,
+    event_type: &Edn,
+    function: &Edn,
+    value: &Edn,
+) -> Result<Option<Event>, EventFault>
+    ensures { IsAnswer (table.event_with keyed (view process.now) (view event_type.now) (view function.now) (view value.now)) result }
+{
+    let Some(process) = process_of(process) else {
+        return Err(EventFault::BadProcess);
+    };
+    let Some(event_type) = type_of(event_type) else {
+        return Err(EventFault::BadType);
+    };
+    let Some(name) = function_of(function) else {
+        return Err(EventFault::BadFunction);
+    };
+    let Some((key, value)) = parts_of(value, keyed) else {
+        return Err(EventFault::BadKey);
+    };
+    let body = body_of(alloc, event_type, name, value)?;
+    Ok(Some(Event { process, key, body }))
+}
+
+fn is_keyword(element: &Edn) -> bool
+    ensures { result ≡ table.is_named (view element.now ∷ []) }
+{
+    match element {
+        Edn::Keyword(_) => true,
+        _ => false,
+    }
+}
+
+/// The event that an operation map says, and none for an operation whose `:process` is a keyword, as that of the nemesis.
+///
+/// With `keyed`, `:value` is a pair of the object's key and the value; without, the key is 0.
+/// Want of memory comes only in place of an event that holds a set of members.
+pub fn event_of(alloc: Global, element: &Edn, keyed: bool) -> Result<Option<Event>, EventFault>
+    ensures { IsAnswer (event keyed (view element.now)) result }
+{
+    let Edn::Map(entries) = bare(element) else {
+        return Err(EventFault::NotAMap);
+    };
+    let fields = fields_of(entries.as_slice())?;
+    if let Some(process) = fields.process {
+        if is_keyword(process) {
+            return Ok(None);
+        }
+    }
+    let (Some(process), Some(event_type), Some(function)) = (
+        fields.process,
+        fields.event_type,
+        fields.function,
+    ) else {
+        return Err(EventFault::Missing);
+    };
+    match fields.value {
+        Some(value) => event_with(alloc, keyed, process, event_type, function, value),
+        None => event_with(alloc, keyed, process, event_type, function, &Edn::Nil),
+    }
+}
