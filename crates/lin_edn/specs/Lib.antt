@@ -1,2 +1,9 @@
+pub mod Bytes
+pub mod Grammar
+pub mod Levels
+pub mod Machine
+pub mod Numbers
+pub mod Run
+pub mod Turns
 pub mod Value
 pub mod View

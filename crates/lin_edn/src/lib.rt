@@ -1,6 +1,16 @@
 //! A reader of EDN elements from bytes, in one pass with a stack.
 #![tactic(auto)]
 
+ghost use Rattle.std.specs.Prelude.{◌≡◌};
+ghost use Rattle.lin_edn.specs.Turns.{out_of_memory};
+
+mod levels;
+mod reader;
+mod run;
+
+use std::alloc::AllocError;
+
+
 /// A part of the input: `text` is `input[at..at + text.len()]`.
 #[derive(Drop)]
 pub struct Span<'a> {
@@ -78,4 +88,15 @@ pub enum EdnCause {
     TooLong,
     /// Memory ran out; the place is 0.
     OutOfMemory,
+}
+
+impl From<AllocError> for EdnFault {
+    ghost from_gives = { λ _ e. e ≡ out_of_memory };
+
+    fn from(_e: AllocError) -> EdnFault {
+        EdnFault {
+            at: 0,
+            cause: EdnCause::OutOfMemory,
+        }
+    }
 }

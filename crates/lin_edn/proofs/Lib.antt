@@ -1,0 +1,6 @@
+pub mod Back
+pub mod Digits
+pub mod Flat
+pub mod Forth
+pub mod Places
+pub mod Runs
