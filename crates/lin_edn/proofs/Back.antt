@@ -1,11 +1,11 @@
 -- What is read is spelled, and a fault has its cause.
-use Rattle.std.proofs.Common.{◌≡◌, ℕ, suc, zero, ◌+◌, ◌<◌, ◌≤◌, Bool, true, false, List, [], ◌∷◌, ◌++◌, length, refl, sym, arith, Option, Some, None, nat_le, ◌==◌, rules, tests, subst, if◌then◌else◌}
+use Rattle.std.proofs.Common.{◌≡◌, ℕ, suc, zero, ◌+◌, ◌<◌, ◌≤◌, Bool, true, false, List, [], ◌∷◌, length, refl, sym, arith, Option, Some, None, nat_le, ◌==◌, rules, tests, subst, if◌then◌else◌}
 use Rattle.lin_edn.specs.Bytes.{Kind, a_set, Class, white, semicolon, opener, closer, quote, backslash, hash, inside, class, is_stop, is_newline, closing, Behind, behind, opens_set, opens_text, discards as discards_next, joins, stands_apart, names_tag, Quoted, quoted, ends, escapes, stays}
-use Rattle.lin_edn.specs.Grammar.{One, one, Inside, first, joined, character, next, Tag, first_of_tag, next_of_tag, Text, Escape, opened, opened_by_hash, plain, pair, escape, Comment, starts, goes, Opens, bracket, set_bracket, discards, Blank, white_byte, comment, discarded, no_blank, Element, run as a_run, hash_alone, whole_text, tagged_element, collection, Row, empty, blank, element, one_more, longest, ShortBlanks, no_blank_yet, one_more_short, Spells, spells, IsBlankText, nothing_more, open_comment, IsInReach, Frame, frame, discarding, tagging, Open, none_open, within, waits, awaits, Faulty, unbalanced, odd_map, too_deep, hash_too_deep, deepens}
+use Rattle.lin_edn.specs.Grammar.{One, one, Inside, first, joined, character, next, Tag, first_of_tag, next_of_tag, Text, Escape, opened, opened_by_hash, plain, pair, escape, Comment, starts, goes, bracket, set_bracket, discards, Blank, white_byte, comment, discarded, no_blank, Element, run as a_run, hash_alone, whole_text, tagged_element, collection, Row, empty, blank, element, one_more, longest, no_blank_yet, one_more_short, Spells, spells, IsBlankText, nothing_more, open_comment, IsInReach, Frame, frame, discarding, tagging, Open, none_open, within, waits, awaits, Faulty, unbalanced, odd_map, too_deep, hash_too_deep, deepens}
 use Rattle.lin_edn.specs.Machine.{Mode, between, in_run, after_hash, after_backslash, in_tag, in_text, in_escape, in_comment, Answer, complete, blank as blank_answer, partial, fault, too_long, Turn, go, stop, run, step, limited, ended, taken, begun, outermost, on_turn, put, deeper, begins, goes_on, quotes, apart, close, closed, at_end}
 use Rattle.lin_edn.specs.Run.{run_value}
-use Rattle.lin_edn.specs.Value.{Value, atom, text, tagged, made}
-use Rattle.lin_edn.specs.declared.EdnCause.TheVariants.{Unbalanced, OddMap, TooDeep}
+use Rattle.lin_edn.specs.Value.{Value, atom, tagged, made}
+use Rattle.lin_edn.specs.declared.EdnCause.TheVariants.{Unbalanced, TooDeep}
 use Rattle.lin_edn.proofs.Places.{one_rises, tag_rises, opens_rise, blanks_rise, row_rises}
 
 -- what an answer says of the input
@@ -63,15 +63,16 @@ skip (waits o h d bs) b le = waits o h d (one_more bs b)
 skip (awaits o tg h bs) b le = awaits o tg h (one_more bs b)
 
 -- the next byte begins a thing at the top, or belongs to that which is open
-bound_here : {p : ℕ} (q : ℕ) (st : List Frame) → q ≤ outermost p st + longest → q ≤ outermost q st + longest
-bound_here q [] le = omega arith
-bound_here q (f ∷ st) le = le
+bound_here : (p q : ℕ) (st : List Frame) → q ≤ outermost p st + longest → q ≤ outermost q st + longest
+bound_here p q [] le = omega arith
+bound_here p q (f ∷ st) le = le
 
 pub put_holds : {n p q : ℕ} {s0 t u : List ℕ} {st : List Frame} {v : Value} → Open s0 n st p t → Element n p t v q u →
     q ≤ outermost p st + longest → AfterTurn s0 q u (put v p st q)
 put_holds (none_open bs) e le = spells bs e le
 put_holds (within {n = n} o i row) e le = ((n, within o i (element row e)), le)
-put_holds {q = q} (waits {n = n} {st = st} o h d bs) e le = ((suc n, skip o (discarded (discards h d bs e)) le), bound_here q st le)
+put_holds {q = q} (waits {n = n} {p = o} {st = st} op h d bs) e le =
+    ((suc n, skip op (discarded (discards h d bs e)) le), bound_here o q st le)
 put_holds (awaits o tg h bs) e le = put_holds o (tagged_element tg h bs e) le
 
 pub reach : {n p : ℕ} {s t : List ℕ} {st : List Frame} → Open s n st p t → (j : ℕ) → p ≤ j → j < outermost p st + longest → IsInReach s j
@@ -145,7 +146,7 @@ next_bound at p st lt = omega arith
 begins_holds : (n at c : ℕ) (s0 s : List ℕ) (st : List Frame) → Open s0 n st at (c ∷ s) → at < outermost at st + longest → (k : Class) → class c ≡ k →
     AfterTurn s0 (at + 1) s (begins k at st c)
 begins_holds n at c s0 s st o lt white h =
-    let le = next_bound at at st lt in ((n, skip o (white_byte (one h)) le), bound_here (at + 1) st le)
+    let le = next_bound at at st lt in ((n, skip o (white_byte (one h)) le), bound_here at (at + 1) st le)
 begins_holds n at c s0 s st o lt semicolon h = ((n, c ∷ s, o, starts (one h)), next_bound at at st lt)
 begins_holds n at c s0 s st o lt (opener k) h =
     level_case n at at s0 (c ∷ s) s st (go (frame k at [] ∷ st) between) o (λ m o2. ((m, within o2 (bracket (one h)) empty), next_bound at at st lt))
@@ -186,7 +187,7 @@ quotes_holds n at p c s0 r s w st o i lt stays h = ((n, r, o, plain i h), next_b
 newline_case : (n at p c : ℕ) (s0 r s : List ℕ) (st : List Frame) → Open s0 n st p r → Comment p r at (c ∷ s) → at < outermost p st + longest →
     (b : Bool) → is_newline c ≡ b → AfterTurn s0 (at + 1) s (if b then go st between else go st (in_comment p))
 newline_case n at p c s0 r s st o i lt true h =
-    let le = next_bound at p st lt in ((n, skip o (comment i h) le), bound_here (at + 1) st le)
+    let le = next_bound at p st lt in ((n, skip o (comment i h) le), bound_here p (at + 1) st le)
 newline_case n at p c s0 r s st o i lt false h = ((n, r, o, goes i h), next_bound at p st lt)
 
 taken_holds : (at c : ℕ) (s0 s : List ℕ) (st : List Frame) (m : Mode) → Stands s0 at st m (c ∷ s) → Fresh m c → at < begun at st m + longest →

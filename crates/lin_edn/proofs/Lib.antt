@@ -1,6 +1,9 @@
+pub mod Alone
 pub mod Back
 pub mod Digits
 pub mod Flat
 pub mod Forth
+pub mod Fronts
+pub mod Order
 pub mod Places
 pub mod Runs

@@ -1,9 +1,9 @@
 -- How a run goes on by one byte.
-use Rattle.std.proofs.Common.{◌≡◌, ℕ, suc, ◌+◌, ◌-◌, ◌<◌, ◌≤◌, true, false, List, [], ◌∷◌, ◌++◌, length, get_or, take, drop, refl, sym, ap, ◌∙◌, arith, drop-cons, get_or-drop, length-drop}
+use Rattle.std.proofs.Common.{◌≡◌, ℕ, suc, ◌+◌, ◌-◌, ◌<◌, ◌≤◌, List, [], ◌∷◌, ◌++◌, length, get_or, take, drop, ap, ◌∙◌, arith, drop-cons, get_or-drop, length-drop}
 use Rattle.std.proofs.lemmas.List.{take_more, drop_all}
 use Rattle.std.specs.List.{slice_range}
 use Rattle.lin_edn.specs.Grammar.{Frame}
-use Rattle.lin_edn.specs.Machine.{Mode, Answer, Turn, go, stop, run, step, on_turn, at_end}
+use Rattle.lin_edn.specs.Machine.{Mode, Answer, go, stop, run, step, on_turn, at_end}
 
 pub run_at : (most : ℕ) (s : List ℕ) (at : ℕ) (st : List Frame) (m : Mode) → at < length s →
     run most at st m (drop at s) ≡ on_turn (step most at st m (get_or s at 0)) (λ st' m'. run most (at + 1) st' m' (drop (at + 1) s))

@@ -3,6 +3,7 @@ pub mod Grammar
 pub mod Levels
 pub mod Machine
 pub mod Numbers
+pub mod Reading
 pub mod Run
 pub mod Turns
 pub mod Value

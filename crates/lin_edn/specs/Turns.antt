@@ -1,5 +1,5 @@
 -- What the pass of the code does, as turns of the machine: cited by the contracts of private functions alone.
-use Rattle.std.specs.Prelude.{◌≡◌, ℕ, ◌+◌, List, [], ◌∷◌, Result, Ok, Err, ◌≤◌, ◌<◌}
+use Rattle.std.specs.Prelude.{◌≡◌, ℕ, ◌+◌, List, Result, Ok, Err, ◌≤◌}
 use Rattle.std.specs.List.{slice_range}
 use Rattle.lin_edn.specs.Grammar.{Frame}
 use Rattle.lin_edn.specs.Machine.{Mode, between, in_run, after_hash, after_backslash, in_tag, in_text, in_escape, in_comment, Turn, go, stop, Answer, complete, blank, partial, fault, too_long}

@@ -1,15 +1,17 @@
 //! A reader of EDN elements from bytes, in one pass with a stack.
 #![tactic(auto)]
 
-ghost use Rattle.std.specs.Prelude.{◌≡◌};
+ghost use Rattle.std.specs.Prelude.{◌≡◌, ℕ};
+ghost use Rattle.lin_edn.specs.Grammar.{Spells, IsBlankText};
+ghost use Rattle.lin_edn.specs.Reading.{Says, IsRead, IsBlank};
 ghost use Rattle.lin_edn.specs.Turns.{out_of_memory};
+ghost use Rattle.lin_edn.specs.Value.{Value};
 
 mod levels;
 mod reader;
 mod run;
 
-use std::alloc::AllocError;
-
+use std::alloc::{AllocError, Global};
 
 /// A part of the input: `text` is `input[at..at + text.len()]`.
 #[derive(Drop)]
@@ -99,4 +101,19 @@ impl From<AllocError> for EdnFault {
             cause: EdnCause::OutOfMemory,
         }
     }
+}
+
+/// The element at the front of the input, or what stands there in its place.
+///
+/// An element is complete only where a byte stops it that isn't of it, or where it ends in a closing byte or a quote.
+/// The first fault in reading order is told; `OutOfMemory` may stand in place of any answer.
+pub fn next_element<'a>(alloc: Global, input: &'a [u8]) -> Result<Next<'a>, EdnFault>
+    // What is answered is so.
+    ensures says { Says input.entry.now result }
+    // Each spelled element is read.
+    ensures read { (v : Value) (at : ℕ) (used : ℕ) → Spells input.entry.now v at used → IsRead result v at used }
+    // Blanks are told.
+    ensures blank { (used : ℕ) → IsBlankText input.entry.now used → IsBlank result used }
+{
+    reader::scan(alloc, input)
 }

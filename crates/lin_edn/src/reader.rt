@@ -11,7 +11,9 @@ ghost use Rattle.lin_edn.specs.Turns.{IsMove, IsEnding, IsBegun, mode_of, behind
 ghost use Rattle.lin_edn.specs.Value as value;
 ghost use Rattle.lin_edn.specs.View.{view, entry_view};
 
-use crate::levels::{Frame, Placed, Sequence, closing, depth, finish, gathered, map_of, opened_at, pop, push};
+use crate::levels::{
+    Frame, Placed, Sequence, closing, depth, finish, gathered, map_of, opened_at, pop, push,
+};
 use crate::run::run_element;
 use crate::{Edn, EdnCause, EdnFault, Entry, Next, Span};
 use std::alloc::{AllocError, Global};
@@ -75,7 +77,11 @@ fn is_white(c: u8) -> bool
 fn is_stop(c: u8) -> bool
     ensures { result ≡ bytes.is_stop c }
 {
-    is_white(c) || matches!(c, b'(' | b')' | b'[' | b']' | b'{' | b'}' | b'"' | b';' | b'\\')
+    is_white(c)
+        || matches!(
+            c,
+            b'(' | b')' | b'[' | b']' | b'{' | b'}' | b'"' | b';' | b'\\'
+        )
 }
 
 /// What the byte behind a `#` makes of it.
@@ -93,7 +99,11 @@ fn behind_hash(c: u8) -> Behind
 }
 
 /// Opens a level that begins at a place.
-fn enter<'a>(stack: &mut Vec<Frame<'a>>, frame: Frame<'a>, from: usize) -> Result<Moved<'a>, AllocError>
+fn enter<'a>(
+    stack: &mut Vec<Frame<'a>>,
+    frame: Frame<'a>,
+    from: usize,
+) -> Result<Moved<'a>, AllocError>
     ensures { IfOk result (λ moved. (s : List ℕ) (at : ℕ) → IsMove s at moved (frames_of stack.new.items)
         (machine.deeper at from (frames_of stack.old.items) (machine.go (frame_view frame.entry ∷ frames_of stack.old.items) machine.between))) }
 {
@@ -182,8 +192,16 @@ fn begin<'a>(
 {
     match c {
         _ if is_white(c) => Ok(Moved::On(Mode::Between)),
-        b'(' => Ok(enter(stack, Frame::Elements(Sequence::List, at, Vec::new(alloc)), at)?),
-        b'[' => Ok(enter(stack, Frame::Elements(Sequence::Vector, at, Vec::new(alloc)), at)?),
+        b'(' => Ok(enter(
+            stack,
+            Frame::Elements(Sequence::List, at, Vec::new(alloc)),
+            at,
+        )?),
+        b'[' => Ok(enter(
+            stack,
+            Frame::Elements(Sequence::Vector, at, Vec::new(alloc)),
+            at,
+        )?),
         b'{' => Ok(enter(stack, Frame::Entries(at, Vec::new(alloc), None), at)?),
         b')' | b']' | b'}' => Ok(close(alloc, stack, c, at)?),
         b'"' => Ok(Moved::On(Mode::Text(at))),
@@ -207,7 +225,11 @@ fn go_on<'a>(
         IsMove s at moved (frames_of stack.new.items) (machine.goes_on (bytes.behind c) at (frames_of stack.old.items) start (slice_range s start at) c)) }
 {
     match behind_hash(c) {
-        Behind::Set => Ok(enter(stack, Frame::Elements(Sequence::Set, start, Vec::new(alloc)), start)?),
+        Behind::Set => Ok(enter(
+            stack,
+            Frame::Elements(Sequence::Set, start, Vec::new(alloc)),
+            start,
+        )?),
         Behind::Text => Ok(Moved::On(Mode::Text(start))),
         Behind::Discard => Ok(enter(stack, Frame::Discard(start), start)?),
         Behind::Tag => Ok(begin_tag(stack, start)),
@@ -315,7 +337,16 @@ fn end_tag<'a>(
         return Ok(Ended::On(Mode::Tag(start)));
     }
     let text = &input[start + 1..at];
-    push(stack, Frame::Tag(start, Span { at: start + 1, text }))?;
+    push(
+        stack,
+        Frame::Tag(
+            start,
+            Span {
+                at: start + 1,
+                text,
+            },
+        ),
+    )?;
     Ok(Ended::On(Mode::Between))
 }
 

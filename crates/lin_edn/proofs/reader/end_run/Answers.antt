@@ -1,4 +1,4 @@
-use Rattle.std.proofs.Common.{◌≡◌, ℕ, List, true, get_or, sym, if◌then◌else◌}
+use Rattle.std.proofs.Common.{◌≡◌, ℕ, List, true, get_or, sym}
 use Rattle.std.specs.List.{slice_range}
 use Rattle.lin_edn.specs.Levels.{frames_of}
 use Rattle.lin_edn.specs.Bytes.{is_stop}
@@ -13,12 +13,14 @@ run_ends st at p c w t h e = rw (sym h) e
 
 pub returns-in-Inside : goal.returns-in-Inside
 returns-in-Inside c =
-    let turn = rw (c.in-Inside.is, c.run_element.ensures) at c.in_ok-finish.ensures in
-    (run_ends (frames_of c.args.stack.now.items) c.args.at c.args.start (get_or c.args.input.now c.args.at 0)
-      (slice_range c.args.input.now c.args.start c.args.at) _ c.if-not-is_stop.ensures (turn c.args.at), tt)
+    let turn = rw (c.in-Inside.is, c.run_element.ensures) at c.in_ok-finish.ensures in (
+      run_ends (frames_of c.args.stack.now.items) c.args.at c.args.start (get_or c.args.input.now c.args.at 0)
+          (slice_range c.args.input.now c.args.start c.args.at) _ c.if-not-is_stop.ensures (turn c.args.at),
+      tt,
+    )
 
 pub returns-in-Alone : goal.returns-in-Alone
 returns-in-Alone c =
     let turn = rw (c.in-Alone.is, c.run_element.ensures) at c.in_ok-finish.ensures in
     run_ends (frames_of c.args.stack.now.items) c.args.at c.args.start (get_or c.args.input.now c.args.at 0)
-      (slice_range c.args.input.now c.args.start c.args.at) _ c.if-not-is_stop.ensures (turn c.args.at)
+    (slice_range c.args.input.now c.args.start c.args.at) _ c.if-not-is_stop.ensures (turn c.args.at)

@@ -1,4 +1,4 @@
-use Rattle.std.proofs.Common.{◌≡◌, ℕ, ◌+◌, ◌≤◌, ◌<◌, List, [], ◌∷◌, get_or, length, sym, ap, ◌∙◌, subst, arith}
+use Rattle.std.proofs.Common.{◌≡◌, ℕ, ◌+◌, ◌≤◌, ◌<◌, List, [], ◌∷◌, get_or, length, ap, ◌∙◌, subst, arith}
 use Rattle.std.specs.List.{slice_range}
 use Rattle.lin_edn.specs.Bytes.{behind, names_tag}
 use Rattle.lin_edn.specs.Grammar.{Frame}
@@ -19,5 +19,5 @@ returns-in-Tag c = λ s lt is e.
     let le : c.args.start + 1 ≤ c.args.at = omega arith in
     let turn = rw c.deref.ensures.value at c.begin_tag.ensures in
     subst (IsMove s c.args.at c.begin_tag.result (frames_of c.args.stack.now.items))
-      (tag_begins s (frames_of c.args.stack.now.items) c.args.start c.args.at c.args.c c.in-Tag.ensures lt is e)
-      (turn s c.args.at le)
+    (tag_begins s (frames_of c.args.stack.now.items) c.args.start c.args.at c.args.c c.in-Tag.ensures lt is e)
+    (turn s c.args.at le)

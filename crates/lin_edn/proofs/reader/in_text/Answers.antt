@@ -1,9 +1,9 @@
-use Rattle.std.proofs.Common.{◌≡◌, ℕ, ◌+◌, ◌≤◌, ◌<◌, List, get_or, length, sym, ap, subst, refl}
+use Rattle.std.proofs.Common.{◌≡◌, ℕ, ◌+◌, ◌≤◌, ◌<◌, List, get_or, length, subst, refl}
 use Rattle.std.specs.List.{slice_range}
 use Rattle.lin_edn.specs.Bytes.{quoted}
 use Rattle.lin_edn.specs.Grammar.{Frame}
 use Rattle.lin_edn.specs.Levels.{frames_of}
-use Rattle.lin_edn.specs.Machine.{Turn, put, quotes}
+use Rattle.lin_edn.specs.Machine.{put, quotes}
 use Rattle.lin_edn.specs.Turns.{IsMove}
 use Rattle.lin_edn.specs.Value.{text}
 use Rattle.lin_edn.proofs.Runs.{range_more}
@@ -17,5 +17,5 @@ pub returns-in_ok-settle-in-34 : goal.returns-in_ok-settle-in-34
 returns-in_ok-settle-in-34 c =
     let s = c.args.input.now in
     subst (IsMove s c.args.at c.in_ok-settle-in-34.field-0 (frames_of c.settle.new.stack.items))
-      (ends_text s (frames_of c.args.stack.now.items) c.args.start c.args.at c.requires.begun c.requires.inside c.in-34.is)
-      (let turn = rw c.text_of.ensures at c.in_ok-settle-in-34.ensures in turn s c.args.at)
+    (ends_text s (frames_of c.args.stack.now.items) c.args.start c.args.at c.requires.begun c.requires.inside c.in-34.is)
+    (let turn = rw c.text_of.ensures at c.in_ok-settle-in-34.ensures in turn s c.args.at)

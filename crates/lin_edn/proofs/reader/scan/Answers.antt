@@ -30,7 +30,7 @@ returns-in-Fault c =
     let inside : c.loop-at.at < length c.args.input.now = omega arith in
     let turn = rw c.in-Fault.is at c.in_ok-next.ensures in
     fault_of _ c.loop-at.at c.in-Fault.at c.in-Fault.cause _
-      (λ b e. sym c.loop-at.invariant.0 ∙ stops longest c.args.input.now c.loop-at.at _ _ b inside e) turn
+    (λ b e. sym c.loop-at.invariant.0 ∙ stops longest c.args.input.now c.loop-at.at _ _ b inside e) turn
 
 pub loop-at-preserved : goal.loop-at-preserved
 loop-at-preserved c =

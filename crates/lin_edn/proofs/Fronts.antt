@@ -1,0 +1,378 @@
+-- What is read so far can be finished.
+use Rattle.std.proofs.Common.{◌≡◌, ℕ, suc, ◌+◌, ◌<◌, ◌≤◌, List, [], ◌∷◌, ◌++◌, length, take, refl, sym, ap, ◌∙◌, arith, Option, Some, None, option_map, subst, append_assoc, append-nil, length-append}
+use Rattle.std.proofs.Math.Seq.{take-append_seam}
+use Rattle.lin_edn.specs.Bytes.{Kind, a_list, a_vector, a_set, a_map, closing}
+use Rattle.lin_edn.specs.Grammar.{one, first, character, whole_text, pair, Comment, Discard, discards, Blank, white_byte, comment, discarded, Blanks, no_blank, one_more, Element, run as a_run, hash_alone, tagged_element, collection, Row, blank as blank_row, element, longest, ShortBlanks, no_blank_yet, one_more_short, Whole, an_element, a_discard, Thing, element_or_discard, a_comment, Reads, reads, IsViable, IsLeast, Frame, frame, discarding, tagging, Open, none_open, within, waits, awaits}
+use Rattle.lin_edn.specs.Machine.{Mode, between, in_run, after_hash, after_backslash, in_tag, in_text, in_escape, in_comment, Answer, complete, blank, partial, fault, too_long, Turn, go, stop, run, step, on_turn, at_end, begun, outermost, place_of}
+use Rattle.lin_edn.specs.Run.{run_value}
+use Rattle.lin_edn.specs.Value.{Value, Entries, atom, text, tagged, map, entry, no_entries, made, pairs_from}
+use Rattle.lin_edn.specs.declared.EdnCause.{EdnCause}
+use Rattle.lin_edn.proofs.Back.{Stands, Bound, AfterTurn, step_holds}
+use Rattle.lin_edn.proofs.Forth.{element_run, long_run}
+use Rattle.lin_edn.proofs.Order.{TurnOrder, step_order, wider}
+use Rattle.lin_edn.proofs.Places.{one_rises, inside_rises, tag_rises, text_rises, escape_rises, comment_rises, element_rises, below, first_below}
+
+-- one more element makes an odd map even
+none_map : (k v : Value) (o : Option Entries) → option_map (entry k v) o ≡ None → o ≡ None
+none_map k v None h = refl
+none_map k v (Some es) h = absurd (cc)
+
+none_made : (o : Option Entries) → option_map map o ≡ None → o ≡ None
+none_made None h = refl
+none_made (Some es) h = absurd (cc)
+
+paired : (o : Option Value) (vs : List Value) (w : Value) → pairs_from o vs ≡ None → (es : Entries) × (pairs_from o (vs ++ w ∷ []) ≡ Some es)
+paired None [] w h = absurd (cc)
+paired (Some k) [] w h = (entry k w no_entries, refl)
+paired None (v ∷ vs) w h = paired (Some v) vs w h
+paired (Some k) (v ∷ vs) w h =
+    let r = paired None vs w (none_map k v (pairs_from None vs) h) in
+    (entry k v r.0, ap (option_map (entry k v)) r.1)
+
+made_next : (k : Kind) (vs : List Value) (w : Value) → made k vs ≡ None → (v : Value) × (made k (vs ++ w ∷ []) ≡ Some v)
+made_next a_list vs w h = absurd (cc)
+made_next a_vector vs w h = absurd (cc)
+made_next a_set vs w h = absurd (cc)
+made_next a_map vs w h =
+    let r = paired None vs w (none_made (pairs_from None vs) h) in
+    (map r.0, ap (option_map map) r.1)
+
+-- the run `0`, with a space after it
+abbrev zero_at : ℕ → Value
+zero_at at = run_value at (48 ∷ [])
+
+zero_run : (n at : ℕ) (x : List ℕ) → Element n at (48 ∷ 32 ∷ x) (zero_at at) (at + 1) (32 ∷ x)
+zero_run n at x = a_run (first (one refl)) refl
+
+space : (n at : ℕ) (x : List ℕ) → Blank n at (32 ∷ x) (at + 1) x
+space n at x = white_byte (one refl)
+
+pub long : {q : ℕ} {s t : List ℕ} → ShortBlanks s q t → Blanks 64 0 s q t
+long no_blank_yet = no_blank
+long (one_more_short bs b le) = one_more (long bs) b
+
+inner_skip : {n q r : ℕ} {s t u : List ℕ} {f : Frame} {st : List Frame} → Open s n (f ∷ st) q t → Blank n q t r u → Open s n (f ∷ st) r u
+inner_skip (within o i row) b = within o i (blank_row row b)
+inner_skip (waits o h d bs) b = waits o h d (one_more bs b)
+inner_skip (awaits o tg h bs) b = awaits o tg h (one_more bs b)
+
+-- the bytes have a whole element or discard from a place on, and begin with blanks and an element
+abbrev Finished : List ℕ → ℕ → Type 0
+Finished s p = ((q : ℕ) × Whole s p q) × Reads s
+
+-- some bytes finish what is open
+abbrev CanEnd : ℕ → List Frame → Mode → ℕ → Type 0
+CanEnd at st m p = (x : List ℕ) × ((s : List ℕ) → Stands s at st m x → Finished s p)
+
+-- some bytes after a space finish what is open after one more element
+abbrev CanPut : List Frame → Type 0
+CanPut st = (p at : ℕ) (v : Value) → (x : List ℕ) ×
+    ((s : List ℕ) (n : ℕ) (t : List ℕ) → Open s n st p t → Element n p t v at (32 ∷ x) → Finished s (outermost p st))
+
+-- and after one more discard
+abbrev CanSkip : List Frame → Type 0
+CanSkip st = (p at : ℕ) → (x : List ℕ) ×
+    ((s : List ℕ) (n : ℕ) (t : List ℕ) → Open s n st p t → Discard n p t at (32 ∷ x) → Finished s (outermost p st))
+
+-- closing a bracket
+closed_end : {s u x : List ℕ} {n o at p : ℕ} {st : List Frame} {vs : List Value} {k : Kind} {v : Value} →
+    Open s n (frame k o vs ∷ st) at u → u ≡ closing k ∷ 32 ∷ x → made k vs ≡ Some v →
+    ((m : ℕ) (t : List ℕ) → Open s m st o t → Element m o t v (at + 1) (32 ∷ x) → Finished s p) → Finished s p
+closed_end (within {n = n} {q = q} {r = r} {t = t} {u = u} {vs = vs} o i row) e m use_it =
+    use_it (suc n) t o (collection i (subst (λ y. Row n q u vs r y) e row) m)
+
+made_end : (st : List Frame) → CanPut st → (k : Kind) (o at : ℕ) (vs : List Value) (v : Value) → made k vs ≡ Some v →
+    CanEnd at (frame k o vs ∷ st) between (outermost o st)
+made_end st can k o at vs v e =
+    let r = can o (at + 1) v in
+    (closing k ∷ 32 ∷ r.0, λ s h. closed_end h.1 refl e (λ m t. r.1 s m t))
+
+put_frame : {s t u : List ℕ} {n p at o : ℕ} {st : List Frame} {vs : List Value} {k : Kind} {v : Value} →
+    Open s n (frame k o vs ∷ st) p t → Element n p t v at u → Open s n (frame k o (vs ++ v ∷ []) ∷ st) at u
+put_frame (within o i row) e = within o i (element row e)
+
+made_case : (st : List Frame) → CanPut st → (k : Kind) (o at : ℕ) (vs : List Value) (m : Option Value) → made k vs ≡ m →
+    CanEnd at (frame k o vs ∷ st) between (outermost o st)
+made_case st can k o at vs (Some v) e = made_end st can k o at vs v e
+made_case st can k o at vs None e =
+    let next = made_next k vs (zero_at at) e in
+    let r = made_end st can k o (at + 1 + 1) (vs ++ zero_at at ∷ []) next.0 next.1 in
+    (48 ∷ 32 ∷ r.0, λ s h. r.1 s (h.0, inner_skip (put_frame h.1 (zero_run h.0 at r.0)) (space h.0 (at + 1) r.0)))
+
+-- giving a discard or a tag its element
+waits_end : {s u x : List ℕ} {n o at q p : ℕ} {st : List Frame} {v : Value} →
+    Open s n (discarding o ∷ st) at u → Element n at u v q x →
+    ((m : ℕ) (t : List ℕ) → Open s m st o t → Discard m o t q x → Finished s p) → Finished s p
+waits_end (waits {n = n} {t = t} o h d bs) e use_it = use_it (suc n) t o (discards h d bs e)
+
+discard_end : (st : List Frame) → CanSkip st → (o at : ℕ) → CanEnd at (discarding o ∷ st) between (outermost o st)
+discard_end st can o at =
+    let r = can o (at + 1) in
+    (48 ∷ 32 ∷ r.0, λ s h. waits_end h.1 (zero_run h.0 at r.0) (λ m t. r.1 s m t))
+
+awaits_end : {s u x w : List ℕ} {n o i at q p : ℕ} {st : List Frame} {v : Value} →
+    Open s n (tagging o i w ∷ st) at u → Element n at u v q x →
+    ((m : ℕ) (t : List ℕ) → Open s m st o t → Element m o t (tagged i w v) q x → Finished s p) → Finished s p
+awaits_end (awaits {n = n} {t = t} o tg h bs) e use_it = use_it (suc n) t o (tagged_element tg h bs e)
+
+tagged_end : (st : List Frame) → CanPut st → (o i at : ℕ) (w : List ℕ) → CanEnd at (tagging o i w ∷ st) between (outermost o st)
+tagged_end st can o i at w =
+    let r = can o (at + 1) (tagged i w (zero_at at)) in
+    (48 ∷ 32 ∷ r.0, λ s h. awaits_end h.1 (zero_run h.0 at r.0) (λ m t. r.1 s m t))
+
+frame_end : (f : Frame) (st : List Frame) → CanPut st → CanSkip st → (at : ℕ) → CanEnd at (f ∷ st) between (outermost (place_of f) st)
+frame_end (frame k o vs) st put_on skip_on at = made_case st put_on k o at vs (made k vs) refl
+frame_end (discarding o) st put_on skip_on at = discard_end st skip_on o at
+frame_end (tagging o i w) st put_on skip_on at = tagged_end st put_on o i at w
+
+top_put : {s t u : List ℕ} {n p at : ℕ} {v : Value} → Open s n [] p t → Element n p t v at u → Finished s p
+top_put {at = at} (none_open bs) e = ((at, an_element bs e), reads (long bs) e)
+
+top_skip : {s t : List ℕ} {n p at : ℕ} → Open s n [] p t → Discard n p t at (32 ∷ 48 ∷ 32 ∷ []) → Finished s p
+top_skip {at = at} (none_open bs) d = (
+  (at, a_discard bs d),
+  reads (one_more (one_more (long bs) (discarded d)) (space 64 at (48 ∷ 32 ∷ []))) (zero_run 64 (at + 1) []),
+)
+
+put_in : (f : Frame) (st : List Frame) → CanPut st → CanSkip st → CanPut (f ∷ st)
+put_in (frame k o vs) st put_on skip_on = λ p at v.
+    let r = frame_end (frame k o (vs ++ v ∷ [])) st put_on skip_on (at + 1) in
+    (r.0, λ s n t h e. r.1 s (n, inner_skip (put_frame h e) (space n at r.0)))
+put_in (discarding o) st put_on skip_on = λ p at v.
+    let r = skip_on o at in
+    (r.0, λ s n t h e. waits_end h e (λ m t2. r.1 s m t2))
+put_in (tagging o i w) st put_on skip_on = λ p at v.
+    let r = put_on o at (tagged i w v) in
+    (r.0, λ s n t h e. awaits_end h e (λ m t2. r.1 s m t2))
+
+skip_in : (f : Frame) (st : List Frame) → CanPut st → CanSkip st → CanSkip (f ∷ st)
+skip_in f st put_on skip_on = λ p at.
+    let r = frame_end f st put_on skip_on (at + 1) in
+    (r.0, λ s n t h d. r.1 s (n, inner_skip (inner_skip h (discarded d)) (space n at r.0)))
+
+can : (st : List Frame) → CanPut st × CanSkip st
+can [] = (λ p at v. ([], λ s n t h e. top_put h e), λ p at. (48 ∷ 32 ∷ [], λ s n t h d. top_skip h d))
+can (f ∷ st) = let c = can st in (put_in f st c.0 c.1, skip_in f st c.0 c.1)
+
+between_end : (f : Frame) (st : List Frame) (at : ℕ) → CanEnd at (f ∷ st) between (outermost (place_of f) st)
+between_end f st at = let c = can st in frame_end f st c.0 c.1 at
+
+run_end : (st : List Frame) (at p : ℕ) (w : List ℕ) → CanEnd at st (in_run p w) (outermost p st)
+run_end st at p w =
+    let r = (can st).0 p at (run_value p w) in
+    (32 ∷ r.0, λ s h. r.1 s h.0 h.1 h.2 (a_run h.3 refl))
+
+hash_end : (st : List Frame) (at p : ℕ) (w : List ℕ) → CanEnd at st (after_hash p w) (outermost p st)
+hash_end st at p w =
+    let r = (can st).0 p at (atom p w) in
+    (32 ∷ r.0, λ s h. r.1 s h.0 h.1 h.2 (hash_alone h.3 refl))
+
+backslash_end : (st : List Frame) (at p : ℕ) (w : List ℕ) → CanEnd at st (after_backslash p w) (outermost p st)
+backslash_end st at p w =
+    let r = (can st).0 p (at + 1) (run_value p (w ++ 32 ∷ [])) in
+    (32 ∷ 32 ∷ r.0, λ s h. r.1 s h.0 h.1 h.2 (a_run (character h.3) refl))
+
+tag_end : (st : List Frame) (at p : ℕ) (w : List ℕ) → CanEnd at st (in_tag p w) (outermost p st)
+tag_end st at p w =
+    let r = between_end (tagging p (p + 1) w) st (at + 1) in
+    (32 ∷ r.0, λ s h. r.1 s (h.0, inner_skip (awaits h.2 h.3 refl no_blank) (space h.0 at r.0)))
+
+text_end : (st : List Frame) (at p : ℕ) (w : List ℕ) → CanEnd at st (in_text p w) (outermost p st)
+text_end st at p w =
+    let r = (can st).0 p (at + 1) (text p (w ++ 34 ∷ [])) in
+    (34 ∷ 32 ∷ r.0, λ s h. r.1 s h.0 h.1 h.2 (whole_text h.3 refl))
+
+escape_end : (st : List Frame) (at p : ℕ) (w : List ℕ) → CanEnd at st (in_escape p w) (outermost p st)
+escape_end st at p w =
+    let r = (can st).0 p (at + 1 + 1) (text p ((w ++ 34 ∷ []) ++ 34 ∷ [])) in
+    (34 ∷ 34 ∷ 32 ∷ r.0, λ s h. r.1 s h.0 h.1 h.2 (whole_text (pair h.3) refl))
+
+comment_end : (f : Frame) (st : List Frame) (at p : ℕ) → CanEnd at (f ∷ st) (in_comment p) (outermost (place_of f) st)
+comment_end f st at p =
+    let r = between_end f st (at + 1) in
+    (10 ∷ r.0, λ s h. r.1 s (h.0, inner_skip h.2 (comment h.3 refl)))
+
+-- what is read so far leads to a state, whatever follows
+abbrev pub Reached : List ℕ → ℕ → List Frame → Mode → Type 0
+Reached front at st m = (x : List ℕ) → (run longest 0 [] between (front ++ x) ≡ run longest at st m x) × Stands (front ++ x) at st m x
+
+-- some bytes after the front make it whole from a place on
+abbrev CanGoOn : List ℕ → ℕ → Type 0
+CanGoOn front p = (x : List ℕ) × (q : ℕ) × Whole (front ++ x) p q
+
+goes_on_at : (front : List ℕ) (at : ℕ) (st : List Frame) (m : Mode) (p : ℕ) → Reached front at st m → CanEnd at st m p → CanGoOn front p
+goes_on_at front at st m p h r = let f = r.1 (front ++ r.0) (h r.0).1 in (r.0, f.0.0, f.0.1)
+
+ends : (front : List ℕ) (at : ℕ) (st : List Frame) (m : Mode) (p : ℕ) → Reached front at st m → CanEnd at st m p → IsViable front
+ends front at st m p h r = let f = r.1 (front ++ r.0) (h r.0).1 in (r.0, f.1)
+
+top_zero : {s u : List ℕ} {n at : ℕ} → Open s n [] at u → u ≡ 48 ∷ 32 ∷ [] → Reads s
+top_zero {s = s} {at = at} (none_open bs) e = reads (subst (λ y. Blanks 64 0 s at y) e (long bs)) (zero_run 64 at [])
+
+commented_zero : {s r : List ℕ} {n at p : ℕ} → Open s n [] p r → Blank 64 p r at (48 ∷ 32 ∷ []) → Reads s
+commented_zero {at = at} (none_open bs) b = reads (one_more (long bs) b) (zero_run 64 at [])
+
+viable : (front : List ℕ) (at : ℕ) (st : List Frame) (m : Mode) → Reached front at st m → IsViable front
+viable front at [] between h = (48 ∷ 32 ∷ [], top_zero (h (48 ∷ 32 ∷ [])).1.1 refl)
+viable front at (f ∷ st) between h = ends front at (f ∷ st) between (outermost (place_of f) st) h (between_end f st at)
+viable front at st (in_run p w) h = ends front at st (in_run p w) (outermost p st) h (run_end st at p w)
+viable front at st (after_hash p w) h = ends front at st (after_hash p w) (outermost p st) h (hash_end st at p w)
+viable front at st (after_backslash p w) h = ends front at st (after_backslash p w) (outermost p st) h (backslash_end st at p w)
+viable front at st (in_tag p w) h = ends front at st (in_tag p w) (outermost p st) h (tag_end st at p w)
+viable front at st (in_text p w) h = ends front at st (in_text p w) (outermost p st) h (text_end st at p w)
+viable front at st (in_escape p w) h = ends front at st (in_escape p w) (outermost p st) h (escape_end st at p w)
+viable front at [] (in_comment p) h =
+    let k = (h (10 ∷ 48 ∷ 32 ∷ [])).1 in (10 ∷ 48 ∷ 32 ∷ [], commented_zero k.2 (comment k.3 refl))
+viable front at (f ∷ st) (in_comment p) h = ends front at (f ∷ st) (in_comment p) (outermost (place_of f) st) h (comment_end f st at p)
+
+-- what is open can become whole
+whole_thing : (front : List ℕ) (p : ℕ) → CanGoOn front p → (x : List ℕ) × (q : ℕ) × Thing (front ++ x) p q
+whole_thing front p h = (h.0, h.1, element_or_discard h.2)
+
+whole_comment : {s r : List ℕ} {n at p : ℕ} → Open s n [] p r → (u : List ℕ) → Comment p r at u → u ≡ 10 ∷ [] → Thing s p (at + 1)
+whole_comment {r = r} {at = at} {p = p} (none_open bs) u i e = a_comment bs (subst (λ y. Comment p r at y) e i) refl
+
+thing : (front : List ℕ) (at : ℕ) (st : List Frame) (m : Mode) → Reached front at st m → begun at st m < at →
+    (x : List ℕ) × (q : ℕ) × Thing (front ++ x) (begun at st m) q
+thing front at [] between h lt = absurd (omega arith)
+thing front at (f ∷ st) between h lt = whole_thing front _ (goes_on_at front at (f ∷ st) between (outermost (place_of f) st) h (between_end f st at))
+thing front at st (in_run p w) h lt = whole_thing front _ (goes_on_at front at st (in_run p w) (outermost p st) h (run_end st at p w))
+thing front at st (after_hash p w) h lt = whole_thing front _ (goes_on_at front at st (after_hash p w) (outermost p st) h (hash_end st at p w))
+thing front at st (after_backslash p w) h lt = whole_thing front _ (goes_on_at front at st (after_backslash p w) (outermost p st) h (backslash_end st at p w))
+thing front at st (in_tag p w) h lt = whole_thing front _ (goes_on_at front at st (in_tag p w) (outermost p st) h (tag_end st at p w))
+thing front at st (in_text p w) h lt = whole_thing front _ (goes_on_at front at st (in_text p w) (outermost p st) h (text_end st at p w))
+thing front at st (in_escape p w) h lt = whole_thing front _ (goes_on_at front at st (in_escape p w) (outermost p st) h (escape_end st at p w))
+thing front at [] (in_comment p) h lt =
+    let k = (h (10 ∷ [])).1 in (10 ∷ [], at + 1, whole_comment k.2 (10 ∷ []) k.3 refl)
+thing front at (f ∷ st) (in_comment p) h lt =
+    whole_thing front _ (goes_on_at front at (f ∷ st) (in_comment p) (outermost (place_of f) st) h (comment_end f st at p))
+
+-- what an answer says of the fronts of the input
+abbrev pub Facts : List ℕ → Answer → Type 0
+Facts s (complete v p q) = Unit {0}
+Facts s (blank q) = Unit {0}
+Facts s (partial p) = (p < length s) × (length s ≤ p + longest) × CanGoOn s p
+Facts s (fault j i k) = IsLeast s j
+Facts s (too_long p) = (p + longest < length s) × (x : List ℕ) × (q : ℕ) × Thing (take (p + longest) s ++ x) p q
+
+run_step : (at : ℕ) (st : List Frame) (m : Mode) (c : ℕ) (x : List ℕ) →
+    run longest at st m (c ∷ x) ≡ on_turn (step longest at st m c) (λ st' m'. run longest (at + 1) st' m' x)
+unfolding run
+run_step at st m c x = refl
+
+turns : (front : List ℕ) (at : ℕ) (st : List Frame) (m : Mode) (c : ℕ) (t : Turn) → Reached front at st m → step longest at st m c ≡ t →
+    (x : List ℕ) → run longest 0 [] between ((front ++ c ∷ []) ++ x) ≡ on_turn t (λ st' m'. run longest (at + 1) st' m' x)
+turns front at st m c t h e x =
+    ap (run longest 0 [] between) (append_assoc front (c ∷ []) x) ∙ (h (c ∷ x)).0 ∙ run_step at st m c x
+    ∙ ap (λ y. on_turn y (λ st2 m2. run longest (at + 1) st2 m2 x)) e
+
+after : (front : List ℕ) (at : ℕ) (st : List Frame) (m : Mode) (c : ℕ) (t : Turn) → Reached front at st m → Bound at st m → step longest at st m c ≡ t →
+    (x : List ℕ) → AfterTurn ((front ++ c ∷ []) ++ x) (at + 1) x t
+after front at st m c t h le e x =
+    subst (λ l. AfterTurn l (at + 1) x t) (sym (append_assoc front (c ∷ []) x))
+    (subst (AfterTurn (front ++ c ∷ x) (at + 1) x) e (step_holds at c (front ++ c ∷ x) x st m (h (c ∷ x)).1 le))
+
+no_clash : (a : Answer) (at p q i : ℕ) (k : EdnCause) (v : Value) → a ≡ fault at i k → a ≡ complete v p q → ⊥
+no_clash a at p q i k v e f = cc
+
+-- no text with a fault begins with blanks and an element
+not_read : (s : List ℕ) (j i : ℕ) (k : EdnCause) → run longest 0 [] between s ≡ fault j i k → Reads s → ⊥
+not_read s j i k h (reads {p = p} {q = q} {v = v} bs e) =
+    let rises : p < q = element_rises e in
+    no_clash (run (q + longest) 0 [] between s) j p q i k v (wider longest (q + longest) (omega arith) s 0 [] between j i k h)
+    (long_run (q + longest) bs (omega arith) ∙ element_run (q + longest) e [] (omega arith) (omega arith))
+
+-- the front that ends with the byte of a fault is the least that can't be finished
+least : (s front : List ℕ) (at : ℕ) (st : List Frame) (m : Mode) (c j i : ℕ) (k : EdnCause) → Reached front at st m → length front ≡ at →
+    step longest at st m c ≡ stop (fault j i k) → IsLeast (front ++ c ∷ s) at
+least s front at st m c j i k h len e = (
+  front,
+  c,
+  s,
+  refl,
+  len,
+  viable front at st m h,
+  λ w. not_read ((front ++ c ∷ []) ++ w.0) j i k (turns front at st m c (stop (fault j i k)) h e w.0) w.1,
+)
+
+positive : 0 < longest
+unfolding longest
+positive = omega arith
+
+-- what is too long
+long_front : (s front : List ℕ) (at : ℕ) (st : List Frame) (m : Mode) (c p : ℕ) → Reached front at st m → length front ≡ at → Bound at st m →
+    begun at st m ≤ p → p + longest ≤ at → Facts (front ++ c ∷ s) (too_long p)
+long_front s front at st m c p h len le a b =
+    let pos : 0 < longest = positive in
+    let here : begun at st m ≡ p = omega arith in
+    let there : length front ≡ p + longest = omega arith in
+    let shorter : begun at st m < at = omega arith in
+    let t = thing front at st m h shorter in
+    let all : take (p + longest) (front ++ c ∷ s) ≡ front = subst (λ n. take n (front ++ c ∷ s) ≡ front) there (take-append_seam front (c ∷ s)) in (
+      simp length-append (omega arith),
+      t.0,
+      t.1,
+      subst (λ l. Thing (l ++ t.0) p t.1) (sym all) (subst (λ n. Thing (front ++ t.0) n t.1) here t.2),
+    )
+
+turn_facts : (s front : List ℕ) (at : ℕ) (st : List Frame) (m : Mode) (c : ℕ) → Reached front at st m → length front ≡ at → Bound at st m → (t : Turn) →
+    step longest at st m c ≡ t → TurnOrder longest (begun at st m) at t →
+    ((st2 : List Frame) (m2 : Mode) → Reached (front ++ c ∷ []) (at + 1) st2 m2 → Bound (at + 1) st2 m2 → begun (at + 1) st2 m2 ≤ at + 1 →
+    Facts ((front ++ c ∷ []) ++ s) (run longest (at + 1) st2 m2 s)) →
+    Facts (front ++ c ∷ s) (on_turn t (λ st2 m2. run longest (at + 1) st2 m2 s))
+turn_facts s front at st m c h len le (go st2 m2) e f ih =
+    subst (λ l. Facts l (run longest (at + 1) st2 m2 s)) (append_assoc front (c ∷ []) s)
+    (ih st2 m2 (λ x. (turns front at st m c (go st2 m2) h e x, (after front at st m c (go st2 m2) h le e x).0))
+    (after front at st m c (go st2 m2) h le e []).1 f.1)
+turn_facts s front at st m c h len le (stop (complete v p q)) e f ih = tt
+turn_facts s front at st m c h len le (stop (blank q)) e f ih = tt
+turn_facts s front at st m c h len le (stop (partial p)) e f ih = absurd f
+turn_facts s front at st m c h len le (stop (fault j i k)) e f ih = subst (IsLeast (front ++ c ∷ s)) (sym f) (least s front at st m c j i k h len e)
+turn_facts s front at st m c h len le (stop (too_long p)) e f ih = long_front s front at st m c p h len le f.0 f.1
+
+-- the end of the input
+partial_facts : (front : List ℕ) (at : ℕ) (p : ℕ) → length front ≡ at → at ≤ p + longest → p < at → CanGoOn front p → Facts front (partial p)
+partial_facts front at p len le lt g = (omega arith, omega arith, g)
+
+end_facts : (front : List ℕ) (at : ℕ) (st : List Frame) (m : Mode) → Reached front at st m → length front ≡ at → Bound at st m → Facts front (at_end at m st)
+end_facts front at [] between h len le = tt
+end_facts front at (f ∷ st) between h len le =
+    partial_facts front at _ len le (first_below (h []).1.1) (goes_on_at front at (f ∷ st) between (outermost (place_of f) st) h (between_end f st at))
+end_facts front at st (in_run p w) h len le =
+    let k = (h []).1 in
+    partial_facts front at _ len le (below k.2 at (inside_rises k.3)) (goes_on_at front at st (in_run p w) (outermost p st) h (run_end st at p w))
+end_facts front at st (after_hash p w) h len le =
+    let k = (h []).1 in
+    partial_facts front at _ len le (below k.2 at (one_rises k.3)) (goes_on_at front at st (after_hash p w) (outermost p st) h (hash_end st at p w))
+end_facts front at st (after_backslash p w) h len le =
+    let k = (h []).1 in
+    partial_facts front at _ len le (below k.2 at (one_rises k.3)) (goes_on_at front at st (after_backslash p w) (outermost p st) h (backslash_end st at p w))
+end_facts front at st (in_tag p w) h len le =
+    let k = (h []).1 in
+    partial_facts front at _ len le (below k.2 at (tag_rises k.3)) (goes_on_at front at st (in_tag p w) (outermost p st) h (tag_end st at p w))
+end_facts front at st (in_text p w) h len le =
+    let k = (h []).1 in
+    partial_facts front at _ len le (below k.2 at (text_rises k.3)) (goes_on_at front at st (in_text p w) (outermost p st) h (text_end st at p w))
+end_facts front at st (in_escape p w) h len le =
+    let k = (h []).1 in
+    partial_facts front at _ len le (below k.2 at (escape_rises k.3)) (goes_on_at front at st (in_escape p w) (outermost p st) h (escape_end st at p w))
+end_facts front at [] (in_comment p) h len le = tt
+end_facts front at (f ∷ st) (in_comment p) h len le =
+    let k = (h []).1 in
+    let a : outermost (place_of f) st < p = first_below k.2 in
+    let b : p < at = comment_rises k.3 in
+    partial_facts front at _ len le (omega arith) (goes_on_at front at (f ∷ st) (in_comment p) (outermost (place_of f) st) h (comment_end f st at p))
+
+longer : (front : List ℕ) (c at : ℕ) → length front ≡ at → length (front ++ c ∷ []) ≡ at + 1
+longer front c at e = simp length-append (omega arith)
+
+facts : (s front : List ℕ) (at : ℕ) (st : List Frame) (m : Mode) → Reached front at st m → length front ≡ at → Bound at st m → begun at st m ≤ at →
+    Facts (front ++ s) (run longest at st m s)
+unfolding run
+facts [] front at st m h len le b = subst (λ l. Facts l (at_end at m st)) (sym (append-nil front)) (end_facts front at st m h len le)
+facts (c ∷ s) front at st m h len le b =
+    turn_facts s front at st m c h len le (step longest at st m c) refl (step_order longest (begun at st m) at st m c (omega arith) b)
+    (λ st2 m2 h2 le2 b2. facts s (front ++ c ∷ []) (at + 1) st2 m2 h2 (longer front c at len) le2 b2)
+
+pub facts_of : (s : List ℕ) → Facts s (run longest 0 [] between s)
+facts_of s = facts s [] 0 [] between (λ x. (refl, (64, none_open no_blank_yet))) refl (omega arith) (omega arith)
