@@ -5,7 +5,7 @@ use Rattle.lin_edn.specs.Machine.{Answer, complete, partial, too_long, run, betw
 use Rattle.lin_edn.specs.Value.{Value}
 use Rattle.lin_edn.proofs.Forth.{short_run, blank_run, spells_run}
 use Rattle.lin_edn.proofs.Order.{AnswerOrder, run_order}
-use Rattle.lin_edn.proofs.Places.{blank_rises}
+use Rattle.lin_edn.proofs.Rising.{blank_rises}
 
 -- an answer that isn't complete, and tells a place
 data Open : Answer → ℕ → Type 0 where

@@ -6,7 +6,7 @@ use Rattle.lin_edn.specs.Machine.{Mode, between, in_run, after_hash, after_backs
 use Rattle.lin_edn.specs.Run.{run_value}
 use Rattle.lin_edn.specs.Value.{Value, atom, tagged, made}
 use Rattle.lin_edn.specs.declared.EdnCause.TheVariants.{Unbalanced, TooDeep}
-use Rattle.lin_edn.proofs.Places.{one_rises, tag_rises, opens_rise, blanks_rise, row_rises}
+use Rattle.lin_edn.proofs.Rising.{one_rises, tag_rises, opens_rise, blanks_rise, row_rises}
 
 -- what an answer says of the input
 abbrev pub What : List ℕ → Answer → Type 0

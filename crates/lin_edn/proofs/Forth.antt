@@ -5,7 +5,7 @@ use Rattle.lin_edn.specs.Grammar.{One, one, Inside, first, joined, character, ne
 use Rattle.lin_edn.specs.Machine.{Mode, between, in_run, after_hash, after_backslash, in_tag, in_text, in_escape, in_comment, complete, blank as blank_answer, Turn, go, stop, run, limited, ended, taken, begun, outermost, on_turn, put, deeper, begins, goes_on, quotes, apart, closed, too_long}
 use Rattle.lin_edn.specs.Run.{run_value}
 use Rattle.lin_edn.specs.Value.{Value, atom, tagged, made}
-use Rattle.lin_edn.proofs.Places.{one_rises, inside_rises, tag_rises, text_rises, escape_rises, comment_rises, opens_rise, blank_rises, blanks_rise, element_rises, row_rises}
+use Rattle.lin_edn.proofs.Rising.{one_rises, inside_rises, tag_rises, text_rises, escape_rises, comment_rises, opens_rise, blank_rises, blanks_rise, element_rises, row_rises}
 
 is_above : (a b : ℕ) → b < a → nat_le a b ≡ false
 is_above a b h = search (rules, tests)

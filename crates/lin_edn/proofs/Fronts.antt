@@ -7,10 +7,11 @@ use Rattle.lin_edn.specs.Machine.{Mode, between, in_run, after_hash, after_backs
 use Rattle.lin_edn.specs.Run.{run_value}
 use Rattle.lin_edn.specs.Value.{Value, Entries, atom, text, tagged, map, entry, no_entries, made, pairs_from}
 use Rattle.lin_edn.specs.declared.EdnCause.{EdnCause}
+use Rattle.lin_edn.proofs.Alone.{no_long}
 use Rattle.lin_edn.proofs.Back.{Stands, Bound, AfterTurn, step_holds}
 use Rattle.lin_edn.proofs.Forth.{element_run, long_run}
 use Rattle.lin_edn.proofs.Order.{TurnOrder, step_order, wider}
-use Rattle.lin_edn.proofs.Places.{one_rises, inside_rises, tag_rises, text_rises, escape_rises, comment_rises, element_rises, below, first_below}
+use Rattle.lin_edn.proofs.Rising.{one_rises, inside_rises, tag_rises, text_rises, escape_rises, comment_rises, element_rises, below, first_below}
 
 -- one more element makes an odd map even
 none_map : (k v : Value) (o : Option Entries) → option_map (entry k v) o ≡ None → o ≡ None
@@ -251,9 +252,10 @@ thing front at (f ∷ st) (in_comment p) h lt =
 abbrev pub Facts : List ℕ → Answer → Type 0
 Facts s (complete v p q) = Unit {0}
 Facts s (blank q) = Unit {0}
-Facts s (partial p) = (p < length s) × (length s ≤ p + longest) × CanGoOn s p
+Facts s (partial p) = (p < length s) × (length s ≤ p + longest) × ((t : List ℕ) × ShortBlanks s p t) × CanGoOn s p
 Facts s (fault j i k) = IsLeast s j
-Facts s (too_long p) = (p + longest < length s) × (x : List ℕ) × (q : ℕ) × Thing (take (p + longest) s ++ x) p q
+Facts s (too_long p) = (p + longest < length s) × ((q : ℕ) → q ≤ p + longest → Thing (take (p + longest + 1) s) p q → ⊥)
+    × (x : List ℕ) × (q : ℕ) × Thing (take (p + longest) s ++ x) p q
 
 run_step : (at : ℕ) (st : List Frame) (m : Mode) (c : ℕ) (x : List ℕ) →
     run longest at st m (c ∷ x) ≡ on_turn (step longest at st m c) (λ st' m'. run longest (at + 1) st' m' x)
@@ -301,15 +303,22 @@ positive = omega arith
 
 -- what is too long
 long_front : (s front : List ℕ) (at : ℕ) (st : List Frame) (m : Mode) (c p : ℕ) → Reached front at st m → length front ≡ at → Bound at st m →
-    begun at st m ≤ p → p + longest ≤ at → Facts (front ++ c ∷ s) (too_long p)
-long_front s front at st m c p h len le a b =
+    step longest at st m c ≡ stop (too_long p) → begun at st m ≤ p → p + longest ≤ at → Facts (front ++ c ∷ s) (too_long p)
+long_front s front at st m c p h len le e a b =
     let pos : 0 < longest = positive in
     let here : begun at st m ≡ p = omega arith in
     let there : length front ≡ p + longest = omega arith in
+    let over : length (front ++ c ∷ []) ≡ p + longest + 1 = simp length-append (omega arith) in
     let shorter : begun at st m < at = omega arith in
     let t = thing front at st m h shorter in
-    let all : take (p + longest) (front ++ c ∷ s) ≡ front = subst (λ n. take n (front ++ c ∷ s) ≡ front) there (take-append_seam front (c ∷ s)) in (
+    let all : take (p + longest) (front ++ c ∷ s) ≡ front = subst (λ n. take n (front ++ c ∷ s) ≡ front) there (take-append_seam front (c ∷ s)) in
+    let more : take (p + longest + 1) (front ++ c ∷ s) ≡ front ++ c ∷ [] =
+    subst (λ l. take (p + longest + 1) l ≡ front ++ c ∷ []) (append_assoc front (c ∷ []) s)
+    (subst (λ n. take n ((front ++ c ∷ []) ++ s) ≡ front ++ c ∷ []) over (take-append_seam (front ++ c ∷ []) s)) in
+    let stops : run longest 0 [] between (front ++ c ∷ []) ≡ too_long p =
+    (h (c ∷ [])).0 ∙ run_step at st m c [] ∙ ap (λ y. on_turn y (λ st2 m2. run longest (at + 1) st2 m2 [])) e in (
       simp length-append (omega arith),
+      subst (λ l. (q : ℕ) → q ≤ p + longest → Thing l p q → ⊥) (sym more) (no_long (front ++ c ∷ []) p stops),
       t.0,
       t.1,
       subst (λ l. Thing (l ++ t.0) p t.1) (sym all) (subst (λ n. Thing (front ++ t.0) n t.1) here t.2),
@@ -328,40 +337,51 @@ turn_facts s front at st m c h len le (stop (complete v p q)) e f ih = tt
 turn_facts s front at st m c h len le (stop (blank q)) e f ih = tt
 turn_facts s front at st m c h len le (stop (partial p)) e f ih = absurd f
 turn_facts s front at st m c h len le (stop (fault j i k)) e f ih = subst (IsLeast (front ++ c ∷ s)) (sym f) (least s front at st m c j i k h len e)
-turn_facts s front at st m c h len le (stop (too_long p)) e f ih = long_front s front at st m c p h len le f.0 f.1
+turn_facts s front at st m c h len le (stop (too_long p)) e f ih = long_front s front at st m c p h len le e f.0 f.1
 
 -- the end of the input
-partial_facts : (front : List ℕ) (at : ℕ) (p : ℕ) → length front ≡ at → at ≤ p + longest → p < at → CanGoOn front p → Facts front (partial p)
-partial_facts front at p len le lt g = (omega arith, omega arith, g)
+blanks_before : {n p : ℕ} {s t : List ℕ} {st : List Frame} → Open s n st p t → (u : List ℕ) × ShortBlanks s (outermost p st) u
+blanks_before (none_open {t = t} bs) = (t, bs)
+blanks_before (within o i row) = blanks_before o
+blanks_before (waits o h d bs) = blanks_before o
+blanks_before (awaits o tg h bs) = blanks_before o
+
+partial_facts : (front : List ℕ) (at p : ℕ) → length front ≡ at → at ≤ p + longest → p < at → (t : List ℕ) × ShortBlanks (front ++ []) p t →
+    CanGoOn front p → Facts front (partial p)
+partial_facts front at p len le lt bs g =
+    (omega arith, omega arith, subst (λ l. (t : List ℕ) × ShortBlanks l p t) (append-nil front) bs, g)
 
 end_facts : (front : List ℕ) (at : ℕ) (st : List Frame) (m : Mode) → Reached front at st m → length front ≡ at → Bound at st m → Facts front (at_end at m st)
 end_facts front at [] between h len le = tt
 end_facts front at (f ∷ st) between h len le =
-    partial_facts front at _ len le (first_below (h []).1.1) (goes_on_at front at (f ∷ st) between (outermost (place_of f) st) h (between_end f st at))
+    let k = (h []).1 in
+    partial_facts front at _ len le (first_below k.1) (blanks_before k.1) (goes_on_at front at (f ∷ st) between (outermost (place_of f) st) h (between_end f st at))
 end_facts front at st (in_run p w) h len le =
     let k = (h []).1 in
-    partial_facts front at _ len le (below k.2 at (inside_rises k.3)) (goes_on_at front at st (in_run p w) (outermost p st) h (run_end st at p w))
+    partial_facts front at _ len le (below k.2 at (inside_rises k.3)) (blanks_before k.2) (goes_on_at front at st (in_run p w) (outermost p st) h (run_end st at p w))
 end_facts front at st (after_hash p w) h len le =
     let k = (h []).1 in
-    partial_facts front at _ len le (below k.2 at (one_rises k.3)) (goes_on_at front at st (after_hash p w) (outermost p st) h (hash_end st at p w))
+    partial_facts front at _ len le (below k.2 at (one_rises k.3)) (blanks_before k.2) (goes_on_at front at st (after_hash p w) (outermost p st) h (hash_end st at p w))
 end_facts front at st (after_backslash p w) h len le =
     let k = (h []).1 in
-    partial_facts front at _ len le (below k.2 at (one_rises k.3)) (goes_on_at front at st (after_backslash p w) (outermost p st) h (backslash_end st at p w))
+    partial_facts front at _ len le (below k.2 at (one_rises k.3)) (blanks_before k.2)
+    (goes_on_at front at st (after_backslash p w) (outermost p st) h (backslash_end st at p w))
 end_facts front at st (in_tag p w) h len le =
     let k = (h []).1 in
-    partial_facts front at _ len le (below k.2 at (tag_rises k.3)) (goes_on_at front at st (in_tag p w) (outermost p st) h (tag_end st at p w))
+    partial_facts front at _ len le (below k.2 at (tag_rises k.3)) (blanks_before k.2) (goes_on_at front at st (in_tag p w) (outermost p st) h (tag_end st at p w))
 end_facts front at st (in_text p w) h len le =
     let k = (h []).1 in
-    partial_facts front at _ len le (below k.2 at (text_rises k.3)) (goes_on_at front at st (in_text p w) (outermost p st) h (text_end st at p w))
+    partial_facts front at _ len le (below k.2 at (text_rises k.3)) (blanks_before k.2) (goes_on_at front at st (in_text p w) (outermost p st) h (text_end st at p w))
 end_facts front at st (in_escape p w) h len le =
     let k = (h []).1 in
-    partial_facts front at _ len le (below k.2 at (escape_rises k.3)) (goes_on_at front at st (in_escape p w) (outermost p st) h (escape_end st at p w))
+    partial_facts front at _ len le (below k.2 at (escape_rises k.3)) (blanks_before k.2) (goes_on_at front at st (in_escape p w) (outermost p st) h (escape_end st at p w))
 end_facts front at [] (in_comment p) h len le = tt
 end_facts front at (f ∷ st) (in_comment p) h len le =
     let k = (h []).1 in
     let a : outermost (place_of f) st < p = first_below k.2 in
     let b : p < at = comment_rises k.3 in
-    partial_facts front at _ len le (omega arith) (goes_on_at front at (f ∷ st) (in_comment p) (outermost (place_of f) st) h (comment_end f st at p))
+    partial_facts front at _ len le (omega arith) (blanks_before k.2)
+    (goes_on_at front at (f ∷ st) (in_comment p) (outermost (place_of f) st) h (comment_end f st at p))
 
 longer : (front : List ℕ) (c at : ℕ) → length front ≡ at → length (front ++ c ∷ []) ≡ at + 1
 longer front c at e = simp length-append (omega arith)

@@ -4,6 +4,8 @@ pub mod Digits
 pub mod Flat
 pub mod Forth
 pub mod Fronts
+pub mod Longer
 pub mod Order
-pub mod Places
+pub mod Rising
 pub mod Runs
+pub mod Sizes

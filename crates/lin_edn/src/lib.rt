@@ -1,11 +1,12 @@
 //! A reader of EDN elements from bytes, in one pass with a stack.
 #![tactic(auto)]
 
-ghost use Rattle.std.specs.Prelude.{◌≡◌, ℕ};
-ghost use Rattle.lin_edn.specs.Grammar.{Spells, IsBlankText};
-ghost use Rattle.lin_edn.specs.Reading.{Says, IsRead, IsBlank};
+ghost use Rattle.std.specs.Prelude.{◌≡◌, ℕ, List, ◌++◌, ◌<◌, ◌≤◌, length};
+ghost use Rattle.lin_edn.specs.Grammar.{Spells, ShortBlanks, IsBlankText, IsUnfinished};
+ghost use Rattle.lin_edn.specs.Reading.{Says, IsRead, IsBlank, Refuses};
 ghost use Rattle.lin_edn.specs.Turns.{out_of_memory};
 ghost use Rattle.lin_edn.specs.Value.{Value};
+ghost use Rattle.lin_edn.specs.declared.EdnCause.{EdnCause as Cause};
 
 mod levels;
 mod reader;
@@ -117,3 +118,23 @@ pub fn next_element<'a>(alloc: Global, input: &'a [u8]) -> Result<Next<'a>, EdnF
 {
     reader::scan(alloc, input)
 }
+
+/// More bytes behind an element, blanks or a fault leave them what they are.
+pub fn more_bytes()
+    ensures spelled { (s : List ℕ) (x : List ℕ) (v : Value) (at : ℕ) (used : ℕ) → Spells s v at used → Spells (s ++ x) v at used }
+    ensures passed { (s : List ℕ) (x : List ℕ) (t : List ℕ) (n : ℕ) → ShortBlanks s n t → ShortBlanks (s ++ x) n (t ++ x) }
+    ensures faulty { (s : List ℕ) (x : List ℕ) (at : ℕ) (cause : Cause) → Refuses s at cause → Refuses (s ++ x) at cause }
+{}
+
+/// Blanks stand before what is unfinished.
+pub fn blanks_in_front()
+    ensures unfinished { (s : List ℕ) (at : ℕ) → IsUnfinished s at → (t : List ℕ) × ShortBlanks s at t }
+    ensures blank { (s : List ℕ) (used : ℕ) → IsBlankText s used → (t : List ℕ) × ShortBlanks s used t }
+{}
+
+/// Places lie within the text.
+pub fn places()
+    ensures spelled { (s : List ℕ) (v : Value) (at : ℕ) (used : ℕ) → Spells s v at used → (at < used) × (used ≤ length s) }
+    ensures passed { (s : List ℕ) (t : List ℕ) (n : ℕ) → ShortBlanks s n t → n ≤ length s }
+    ensures refused { (s : List ℕ) (at : ℕ) (cause : Cause) → Refuses s at cause → at ≤ length s }
+{}
