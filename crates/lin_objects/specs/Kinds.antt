@@ -1,7 +1,8 @@
--- The kinds that are given to keys. They are seen as a pair: the default kind, and the named keys with their kinds.
-use Rattle.std.specs.Prelude.{ℕ, ℤ, Bool, length, is_some, unwrap_or}
-use Rattle.std.specs.Ordering.{int_eq}
+-- The kinds that are given to keys. They are seen as a pair: the default kind, and the named keys with their kinds, in the keys' order.
+use Rattle.std.specs.Prelude.{◌≡◌, ◌||◌, if◌then◌else◌, ℕ, ℤ, Bool, [], length, is_some, unwrap_or}
+use Rattle.std.specs.Ordering.{int_cmp, int_eq}
 use Rattle.std.specs.Map.{lookup}
+use Rattle.std.specs.BTreeMap.{insert_entry}
 use Rattle.lin_objects.specs.declared.kinds.Kind.{Kind}
 use Rattle.lin_objects.specs.declared.kinds.Kinds.{Kinds}
 
@@ -16,3 +17,19 @@ is_named kinds key = is_some (lookup (int_eq key) kinds.1)
 -- how many keys are named
 abbrev pub named_count : Kinds → ℕ
 named_count kinds = length kinds.1
+
+-- the kind for every key, none of which is named
+abbrev pub same_for_all : Kind → Kinds
+same_for_all kind = (kind, [])
+
+-- the kinds with the key named, as of this kind
+abbrev pub with_kind : ℤ → Kind → Kinds → Kinds
+with_kind key kind kinds = (kinds.0, insert_entry int_cmp kinds.1 key kind)
+
+-- naming a key changes its kind and no other key's
+abbrev pub ChangesOneKind : Type 0
+ChangesOneKind = (kinds : Kinds) (key x : ℤ) (kind : Kind) → kind_of (with_kind key kind kinds) x ≡ (if int_eq key x then kind else kind_of kinds x)
+
+-- naming a key names it and no other key
+abbrev pub NamesOneKey : Type 0
+NamesOneKey = (kinds : Kinds) (key x : ℤ) (kind : Kind) → is_named (with_kind key kind kinds) x ≡ (int_eq key x || is_named kinds x)

@@ -1,8 +1,9 @@
 //! The kinds of objects, and which kind each key's object has.
 ghost use Rattle.std.specs.Prelude.{if◌then◌else◌, ◌≡◌, ◌↔◌, ◌||◌, ◌+◌, ◌≤◌, ℕ, ℤ, false, length, is_some, Some, Err, IsTrue, OnOk, OnErr};
-ghost use Rattle.std.specs.Ordering.{int_eq};
+ghost use Rattle.std.specs.Ordering.{int_cmp, int_eq};
+ghost use Rattle.std.specs.BTreeMap.{insert_entry};
 ghost use Rattle.std.specs.Map.{lookup};
-ghost use Rattle.lin_objects.specs.Kinds.{kind_of, is_named, named_count};
+ghost use Rattle.lin_objects.specs.Kinds.{kind_of, is_named, named_count, same_for_all, with_kind};
 
 use lin_history::OutOfMemory;
 use std::alloc::Global;
@@ -57,9 +58,7 @@ impl Model for Kinds {
 impl Kinds {
     /// The default kind for every key; none is named.
     pub fn new(alloc: Global, default: Kind) -> Self
-        ensures kinds { (x : ℤ) → kind_of result x ≡ default }
-        ensures names { (x : ℤ) → is_named result x ≡ false }
-        ensures count { named_count result ≡ 0 }
+        ensures { result ≡ same_for_all default }
     {
         Kinds {
             default,
@@ -79,6 +78,7 @@ impl Kinds {
     /// A key that is named already takes no further place, so naming it again is never `Full`. On an error nothing
     /// has changed.
     pub fn set(&mut self, key: i64, kind: Kind) -> Result<(), KindsFault>
+        ensures ok { OnOk result (self.new ≡ with_kind key kind self.old) }
         ensures kinds { OnOk result ((x : ℤ) → kind_of self.new x ≡ (if int_eq key x then kind else kind_of self.old x)) }
         ensures names { OnOk result ((x : ℤ) → is_named self.new x ≡ (int_eq key x || is_named self.old x)) }
         ensures count { OnOk result (named_count self.new ≡ named_count self.old + (if is_named self.old key then 0 else 1)) }
@@ -113,12 +113,11 @@ fn entry_at(named: &BTreeMap<i64, Kind>, key: i64) -> Option<Kind>
 
 /// Puts a kind at the key.
 fn put_entry(named: &mut BTreeMap<i64, Kind>, key: i64, kind: Kind) -> Result<(), OutOfMemory>
+    ensures put { OnOk result (named.new.entries ≡ insert_entry int_cmp named.old.entries key kind) }
     ensures entries { OnOk result ((x : ℤ) → lookup (int_eq x) named.new.entries ≡ (if int_eq key x then Some kind else lookup (int_eq x) named.old.entries)) }
     ensures count { OnOk result (length named.new.entries ≡ length named.old.entries + (if is_some (lookup (int_eq key) named.old.entries) then 0 else 1)) }
     ensures err { OnErr result (named.new.entries ≡ named.old.entries) }
 {
-    match named.insert(key, kind) {
-        Ok(_) => Ok(()),
-        Err(_) => Err(OutOfMemory),
-    }
+    named.insert(key, kind)?;
+    Ok(())
 }

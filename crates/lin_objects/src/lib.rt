@@ -11,6 +11,6 @@ mod tests;
 
 pub use any::Any;
 pub use kinds::{Kind, Kinds, KindsFault};
-pub use laws::{replies_decide, steps_are_allowed};
+pub use laws::{naming, replies_decide, steps_are_allowed};
 pub use objects::SeqObject;
 pub use states::{IntQueue, State};
