@@ -1,5 +1,5 @@
 -- The table of causes, row by row: which is the first that holds.
-use Rattle.std.proofs.Common.{◌≡◌, ◌≢◌, ℤ, ◌<◌, true, false, sym, ap, ◌∙◌, subst, arith}
+use Rattle.std.proofs.Common.{◌≡◌, ◌≢◌, ℤ, ◌<◌, false, sym, ◌∙◌, subst, arith}
 use Rattle.lin_history.specs.declared.calls.Call.{Call}
 use Rattle.lin_history.specs.declared.calls.Name.{Name}
 use Rattle.lin_history.specs.declared.events.Body.{Body}
@@ -25,10 +25,10 @@ one_completion (Ok name reply) a b at_a at_b = sym at_a ∙ at_b
 one_completion (Fail name) a b at_a at_b = sym at_a ∙ at_b
 one_completion (Info name) a b at_a at_b = sym at_a ∙ at_b
 
-one_busy : (a b : Name) (x y : ℤ) → Busy a x ≡ Busy b y → a ≡ b
+pub one_busy : (a b : Name) (x y : ℤ) → Busy a x ≡ Busy b y → a ≡ b
 one_busy a b x y e = cc
 
-one_key : (a b : Name) (x y : ℤ) → Busy a x ≡ Busy b y → x ≡ y
+pub one_key : (a b : Name) (x y : ℤ) → Busy a x ≡ Busy b y → x ≡ y
 one_key a b x y e = cc
 
 module _ (kinds : ℤ → Kind) (status : Status) (event : Event) where
@@ -54,20 +54,6 @@ module _ (kinds : ℤ → Kind) (status : Status) (event : Event) where
       first RetiredProcess below h = cc
       first BusyProcess below h = let busy = h.4 in cc
       first _ below h = omega arith
-
-  pub invoked_well : (call : Call) → status ≡ Idle → event.body ≡ Invoke call → allows (kinds event.key) (name_of call) ≡ true → (cause : Cause) → Holds kinds status event cause → ⊥
-  invoked_well call idle invokes allowed RetiredProcess h = cc
-  invoked_well call idle invokes allowed BusyProcess h = let busy = h.4 in cc
-  invoked_well call idle invokes allowed NotOfKind h =
-      let same : call ≡ h.0 = one_call (sym invokes ∙ h.1) in
-      let refused = ap (λ c. allows (kinds event.key) (name_of c)) same ∙ h.2 in
-      cc
-    where
-      one_call : {a b : Call} → Invoke a ≡ Invoke b → a ≡ b
-      one_call e = cc
-  invoked_well call idle invokes allowed NoInvocation h = no_completion event.body call h.0 invokes h.1
-  invoked_well call idle invokes allowed OtherCall h = no_completion event.body call h.0 invokes h.1
-  invoked_well call idle invokes allowed OtherKey h = no_completion event.body call h.0 invokes h.1
 
   pub idle_first : (name : Name) → status ≡ Idle → Completes event.body name → IsFirstCause kinds status event NoInvocation
   idle_first name idle completes = record { holds = (name, completes, idle); first = first }
@@ -101,14 +87,3 @@ module _ (kinds : ℤ → Kind) (status : Status) (event : Event) where
           let called : h.2 ≡ name = one_busy h.2 name h.3 key (sym h.4 ∙ busy) in
           h.5 (called ∙ sym named)
       first OtherKey below h = omega arith
-
-  pub completed_well : (name : Name) → status ≡ Busy name event.key → Completes event.body name → (cause : Cause) → Holds kinds status event cause → ⊥
-  completed_well name busy completes RetiredProcess h = cc
-  completed_well name busy completes BusyProcess h = no_completion event.body h.0 name h.1 completes
-  completed_well name busy completes NotOfKind h = no_completion event.body h.0 name h.1 completes
-  completed_well name busy completes NoInvocation h = let idle = h.2 in cc
-  completed_well name busy completes OtherCall h =
-      let named : h.0 ≡ name = one_completion event.body h.0 name h.1 completes in
-      let called : h.2 ≡ name = one_busy h.2 name h.3 event.key (sym h.4 ∙ busy) in
-      h.5 (called ∙ sym named)
-  completed_well name busy completes OtherKey h = h.5 (one_key h.2 name h.3 event.key (sym h.4 ∙ busy))

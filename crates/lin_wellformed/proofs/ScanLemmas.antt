@@ -12,13 +12,12 @@ use Rattle.lin_wellformed.specs.declared.shapes.Cause.{Cause}
 use Rattle.lin_wellformed.specs.declared.shapes.Shape.{Shape}
 use Rattle.lin_wellformed.specs.declared.shapes.Shape.TheVariants.{Good, Bad}
 use Rattle.lin_wellformed.specs.declared.shapes.Status.{Status}
-use Rattle.lin_wellformed.specs.declared.shapes.Status.TheVariants.{Idle}
 use Rattle.lin_wellformed.specs.Scans.{ready_count, IsRight, AgreeBefore, looked_at, ticked}
 use Rattle.lin_wellformed.specs.Tables.{status_in}
 use Rattle.lin_wellformed.specs.WellFormed.{left_by, IsStatus, Holds, IsFirstCause, IsBad, IsShape}
 use Rattle.lin_wellformed.proofs.Lists.{get_taken, get_inside, take_next}
 use Rattle.lin_wellformed.proofs.StatusLemmas.{status_of_last, status_kept}
-use Rattle.lin_wellformed.proofs.ShapeLemmas.{not_bad, bad_longer, bad_shorter, bad_inside, shape_alike}
+use Rattle.lin_wellformed.proofs.ShapeLemmas.{not_bad, bad_longer, bad_shorter, shape_alike}
 
 -- a table with one more event lists what each process is after it
 status_next : (h : List Event) (n : ℕ) (event : Event) (table next : List (ℕ × Status)) → IsEvent h n event
@@ -36,17 +35,6 @@ status_next h n event table next stands taken listed process =
         let kept : status_in next process ≡ status_in table process = taken process ∙ ap (λ b. cond b (left_by event) (status_in table process)) e in
         let other : event.process ≢ process = λ same. true≢false (sym ((Decides-eqb event.process process).1 same) ∙ e) in
         subst (λ s. IsStatus (take n h ++ event ∷ []) process s) (sym kept) (status_kept (take n h) event process (status_in table process) other (listed process))
-
--- a scan that took in no event is right
-pub right_at_start : (scan : Scan) → ready_count scan ≡ 0 → scan.shape ≡ Good → ((process : ℕ) → status_in scan.table process ≡ Idle) → (kinds : ℤ → Kind) (h : List Event) → IsRight scan kinds h
-right_at_start scan none good idle kinds h = record {
-  within = omega arith;
-  shaped = subst (λ n. IsShape kinds (take n h) scan.shape) (sym none) (subst (IsShape kinds []) (sym good) (λ k cause bad. let inside = bad_inside kinds [] k cause bad in omega arith));
-  listed = λ _ process. subst (λ n. IsStatus (take n h) process (status_in scan.table process)) (sym none) (inl (λ k of_it. no_event k of_it.0 of_it.1, idle process));
-}
-  where
-    no_event : (k : ℕ) (event : Event) → IsEvent [] k event → ⊥
-    no_event k event stands = let inside = get_inside [] k event stands in omega arith
 
 -- one more event, that is not bad
 pub right_next : (kinds : ℤ → Kind) (h : List Event) (old new : Scan) (event : Event) → IsRight old kinds h → old.shape ≡ Good → IsEvent h (ready_count old) event

@@ -1,3 +1,4 @@
 pub mod WellFormed
+pub mod Alternation
 pub mod Tables
 pub mod Scans
