@@ -5,3 +5,6 @@ pub mod Operations
 pub mod Names
 pub mod Table
 pub mod Fields
+pub mod Stream
+pub mod Sees
+pub mod Reads

@@ -3,12 +3,14 @@
 
 mod calls;
 mod events;
+mod follow;
 mod meter;
 mod numbers;
 mod table;
 
 pub use calls::{Call, Name, Reply, Val};
 pub use events::{Body, Event};
+pub use follow::{Follow, FollowFault, faults_stay};
 pub use meter::Meter;
 pub use numbers::{IntSet, OutOfMemory, sets};
 pub use table::{EventFault, event_of};

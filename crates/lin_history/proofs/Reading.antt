@@ -1,0 +1,58 @@
+-- A text that is read element by element.
+use Rattle.std.proofs.Common.{◌≡◌, ℕ, ◌+◌, ◌-◌, ◌≤◌, Bool, List, ◌++◌, Result, Ok, Err, take, drop, length, refl, sym, ap, ◌∙◌, arith, append_assoc, add_assoc}
+use Rattle.std.proofs.lemmas.List.{length-drop, take_all}
+use Rattle.lin_history.specs.Stream.{Gives, element}
+use Rattle.lin_history.specs.Sees.{is_fault}
+use Rattle.lin_history.specs.Reads.{behind, IsElement, IsReadTo}
+use Rattle.lin_history.specs.declared.events.Event.{Event}
+use Rattle.lin_history.specs.declared.follow.Read.{Read}
+use Rattle.lin_history.specs.declared.follow.FollowFault.{FollowFault}
+use Rattle.lin_history.specs.declared.follow.FollowFault.TheVariants as fault
+use Rattle.lin_history.proofs.Streams.{gives_join, stream_join}
+
+pub behind_twice : (p q : ℕ) (o : Result (Unit {0}) FollowFault) → behind (p + q) o ≡ behind p (behind q o)
+behind_twice p q (Ok u) = refl
+behind_twice p q (Err (fault.Edn at c)) = ap (λ n. Err (fault.Edn n c)) (add_assoc p q at)
+behind_twice p q (Err (fault.Event at c)) = ap (λ n. Err (fault.Event n c)) (add_assoc p q at)
+behind_twice p q (Err (fault.Truncated at)) = ap (λ n. Err (fault.Truncated n)) (add_assoc p q at)
+behind_twice p q (Err fault.OutOfMemory) = refl
+behind_twice p q (Err fault.TooMuch) = refl
+
+pub fault_behind : (p : ℕ) (o : Result (Unit {0}) FollowFault) → is_fault (behind p o) ≡ is_fault o
+fault_behind p (Ok u) = refl
+fault_behind p (Err (fault.Edn at c)) = refl
+fault_behind p (Err (fault.Event at c)) = refl
+fault_behind p (Err (fault.Truncated at)) = refl
+fault_behind p (Err fault.OutOfMemory) = refl
+fault_behind p (Err fault.TooMuch) = refl
+
+-- what is read up to a place
+pub record IsReadUp (k : Bool) (text : List ℕ) (at : ℕ) (old new : List Event) : Type 0 where
+  pub inside : at ≤ length text
+  pub read : (es : List Event) × (new ≡ old ++ es) × Gives k text es at
+
+pub put_again : (old mid new es fs : List Event) → mid ≡ old ++ es → new ≡ mid ++ fs → new ≡ old ++ (es ++ fs)
+put_again old mid new es fs a b = b ∙ ap (λ l. l ++ fs) a ∙ append_assoc old es fs
+
+pub one_more : (k : Bool) (text : List ℕ) (at used : ℕ) (old mid new : List Event) → IsReadUp k text at old mid → IsElement k (drop at text) mid new used →
+    IsReadUp k text (at + used) old new
+one_more k text at used old mid new b e = record {
+  inside = (let h : used ≤ length (drop at text) = e.inside in let g = length-drop at text in let i : at ≤ length text = b.inside in omega arith);
+  read = (b.read.0 ++ e.events, put_again old mid new b.read.0 e.events b.read.1 e.put, element b.read.2 e.spelled e.told);
+}
+
+pub the_end : (k : Bool) (text : List ℕ) (p at : ℕ) (old mid new : List Event) (r : Read) → IsReadUp k text at old mid → IsReadTo k (drop at text) (p + at) mid new r →
+    IsReadTo k text p old new (record { used = at + r.used; outcome = r.outcome })
+the_end k text p at old mid new r b e = record {
+  events = b.read.0 ++ e.events;
+  outcome = behind at e.outcome;
+  put = put_again old mid new b.read.0 e.events b.read.1 e.put;
+  inside = (let h : r.used ≤ length (drop at text) = e.inside in let g = length-drop at text in let i : at ≤ length text = b.inside in omega arith);
+  is_stream = stream_join b.read.2 e.is_stream refl;
+  told = e.told ∙ behind_twice p at e.outcome;
+  goes_on = λ h. gives_join b.read.2 (e.goes_on (sym (fault_behind at e.outcome) ∙ h)) refl;
+}
+
+-- the text from a place on, as a slice of it
+pub rest_is : (text : List ℕ) (at : ℕ) → take (length text - at) (drop at text) ≡ drop at text
+rest_is text at = take_all (length text - at) (drop at text) (let e = length-drop at text in omega arith)

@@ -1,0 +1,5 @@
+use Rattle.lin_history.proofs.Feeding.{sees_nothing}
+use Rattle.lin_history.proofs.follow.Follow.new.Goals as goal
+
+pub returns-clause-sees : goal.returns-clause-sees
+returns-clause-sees c = rw (c.new.ensures.items, c.new-2.ensures.items) (sees_nothing c.args.keyed)

@@ -1,0 +1,75 @@
+-- What the code reads of the bytes that are held: cited by the contracts of private functions alone.
+use Rattle.std.specs.Prelude.{◌≡◌, ℕ, ◌+◌, ◌<◌, ◌≤◌, Bool, true, false, List, ◌++◌, length, drop, Option, Some, None, Result, Ok, Err}
+use Rattle.lin_edn.specs.Value.{Value}
+use Rattle.lin_edn.specs.Grammar.{Spells}
+use Rattle.lin_history.specs.Stream.{Told, told, Gives, IsStream}
+use Rattle.lin_history.specs.Sees.{is_fault}
+use Rattle.lin_history.specs.declared.events.Event.{Event}
+use Rattle.lin_history.specs.declared.table.EventFault.{EventFault}
+use Rattle.lin_history.specs.declared.table.EventFault.TheVariants as cause
+use Rattle.lin_history.specs.declared.follow.FollowFault.{FollowFault}
+use Rattle.lin_history.specs.declared.follow.FollowFault.TheVariants as fault
+use Rattle.lin_history.specs.declared.follow.Read.{Read}
+use Rattle.lin_history.specs.declared.follow.Front.{Front}
+use Rattle.lin_history.specs.declared.follow.Front.TheVariants as front
+use Rattle.lin_history.specs.declared.numbers.OutOfMemory.{OutOfMemory}
+
+-- what an element tells is put behind what was ready
+abbrev pub IsTold : Told → List Event → List Event → Result (Unit {0}) EventFault → Type 0
+IsTold t old new (Ok _) = (t.ends ≡ None) × (new ≡ old ++ t.events)
+IsTold t old new (Err cause.OutOfMemory) = (es : List Event) × (new ≡ old ++ es)
+IsTold t old new (Err f) = (t.ends ≡ Some f) × (new ≡ old ++ t.events)
+
+-- an outcome whose places count from a place on
+abbrev pub behind : ℕ → Result (Unit {0}) FollowFault → Result (Unit {0}) FollowFault
+behind p (Ok _) = Ok tt
+behind p (Err (fault.Edn at c)) = Err (fault.Edn (p + at) c)
+behind p (Err (fault.Event at c)) = Err (fault.Event (p + at) c)
+behind p (Err (fault.Truncated at)) = Err (fault.Truncated (p + at))
+behind p (Err fault.OutOfMemory) = Err fault.OutOfMemory
+behind p (Err fault.TooMuch) = Err fault.TooMuch
+
+-- a text that stands from a place of the stream on is read as far as it goes
+pub record IsReadTo (keyed : Bool) (text : List ℕ) (p : ℕ) (old new : List Event) (r : Read) : Type 0 where
+  pub events : List Event
+  pub outcome : Result (Unit {0}) FollowFault
+  pub put : new ≡ old ++ events
+  pub inside : r.used ≤ length text
+  pub is_stream : IsStream keyed text events outcome
+  pub told : r.outcome ≡ behind p outcome
+  pub goes_on : is_fault outcome ≡ false → Gives keyed text events r.used
+
+-- events were put behind those that were ready
+abbrev pub IsPutBehind : List Event → List Event → Type 0
+IsPutBehind old new = (es : List Event) × (new ≡ old ++ es)
+
+abbrev pub IsReadOn : Bool → List ℕ → ℕ → List Event → List Event → Result Read OutOfMemory → Type 0
+IsReadOn keyed text p old new (Ok r) = IsReadTo keyed text p old new r
+IsReadOn keyed text p old new (Err _) = IsPutBehind old new
+
+-- an element without fault stands in front of a text, and tells these events
+pub record IsElement (keyed : Bool) (text : List ℕ) (old new : List Event) (used : ℕ) : Type 0 where
+  pub events : List Event
+  pub value : Value
+  pub at : ℕ
+  pub put : new ≡ old ++ events
+  pub some : 0 < used
+  pub inside : used ≤ length text
+  pub spelled : Spells text value at used
+  pub told : told keyed value ≡ record { events = events; ends = None }
+
+-- what stands in front of a text: an element without fault, or the end
+abbrev pub IsFront : Bool → List ℕ → ℕ → List Event → List Event → Result Front OutOfMemory → Type 0
+IsFront keyed text p old new (Ok (front.Element used)) = IsElement keyed text old new used
+IsFront keyed text p old new (Ok (front.End r)) = IsReadTo keyed text p old new r
+IsFront keyed text p old new (Err _) = IsPutBehind old new
+
+-- the fault of form that an outcome is, if it is one
+abbrev pub IsStanding : Result (Unit {0}) FollowFault → Option FollowFault → Type 0
+IsStanding o None = is_fault o ≡ false
+IsStanding o (Some f) = (o ≡ Err f) × (is_fault o ≡ true)
+
+-- a piece is put behind what is held and read, and what is read is dropped; or all is as it was
+abbrev pub IsRead : Bool → ℕ → List ℕ → List ℕ → List Event → List ℕ → List Event → Result Read OutOfMemory → Type 0
+IsRead keyed p piece held ready held' ready' (Ok r) = IsReadTo keyed (held ++ piece) p ready ready' r × (held' ≡ drop r.used (held ++ piece))
+IsRead keyed p piece held ready held' ready' (Err _) = (held' ≡ held) × (ready' ≡ ready)

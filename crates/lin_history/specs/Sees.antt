@@ -1,0 +1,79 @@
+-- A follower of a stream: what it shows, and that this is right for the bytes that it was fed.
+use Rattle.std.specs.Prelude.{◌≡◌, ℕ, ◌+◌, ◌<◌, ◌≤◌, Bool, true, false, List, [], ◌∷◌, ◌++◌, length, drop, Option, Some, None, Result, Ok, Err}
+use Rattle.lin_history.specs.Stream.{Gives, IsStream}
+use Rattle.lin_history.specs.declared.events.Event.{Event}
+use Rattle.lin_history.specs.declared.follow.FollowFault.{FollowFault}
+use Rattle.lin_history.specs.declared.follow.FollowFault.TheVariants as fault
+
+-- What a follower shows: whether values are pairs with keys, the events that are ready, how the stream ends so far,
+-- how many bytes are done with, and those behind them.
+pub record Followed : Type 0 where
+  pub keyed : Bool
+  pub ready : List Event
+  pub outcome : Result (Unit {0}) FollowFault
+  pub passed : ℕ
+  pub held : List ℕ
+
+abbrev pub keyed_of : Followed → Bool
+keyed_of f = f.keyed
+
+abbrev pub ready_of : Followed → List Event
+ready_of f = f.ready
+
+abbrev pub outcome_of : Followed → Result (Unit {0}) FollowFault
+outcome_of f = f.outcome
+
+-- an outcome behind which nothing is read
+abbrev pub is_fault : Result (Unit {0}) FollowFault → Bool
+is_fault (Ok _) = false
+is_fault (Err (fault.Edn at cause)) = true
+is_fault (Err (fault.Event at cause)) = true
+is_fault (Err (fault.Truncated at)) = false
+is_fault (Err fault.OutOfMemory) = false
+is_fault (Err fault.TooMuch) = false
+
+-- The bytes fed are this stream, and these events were taken: with those that are ready they are the stream's events, and
+-- it ends as the follower says. Without a fault, what is held is what stands behind the elements that are read.
+pub record Sees (f : Followed) (stream : List ℕ) (taken : List Event) : Type 0 where
+  pub is_stream : IsStream f.keyed stream (taken ++ f.ready) f.outcome
+  pub is_held : is_fault f.outcome ≡ false →
+      Gives f.keyed stream (taken ++ f.ready) f.passed × (f.passed ≤ length stream) × (f.held ≡ drop f.passed stream)
+
+-- the greatest number of bytes of a stream
+abbrev pub most : ℕ
+most = 1099511627776
+
+-- the piece was taken in: the follower is right for the longer stream, and these events became ready
+pub record IsTakenIn (old : Followed) (piece : List ℕ) (new : Followed) (more : List Event) : Type 0 where
+  pub keyed : new.keyed ≡ old.keyed
+  pub ready : new.ready ≡ old.ready ++ more
+  pub sees : (stream : List ℕ) (taken : List Event) → Sees old stream taken → Sees new (stream ++ piece) taken
+  pub fits : is_fault old.outcome ≡ false → (stream : List ℕ) (taken : List Event) → Sees old stream taken → length stream + length piece ≤ most
+
+-- the piece passes the greatest number of bytes
+abbrev pub IsTooMuch : Followed → List ℕ → Type 0
+IsTooMuch old piece = (stream : List ℕ) (taken : List Event) → Sees old stream taken → most < length stream + length piece
+
+-- What feeding a piece answers and does. A piece whose reading meets a fault is taken in too, and the fault told.
+abbrev pub Feeds : Followed → List ℕ → Followed → Result ℕ FollowFault → Type 0
+Feeds old piece new (Ok n) = (more : List Event) × IsTakenIn old piece new more × (n ≡ length more) × (is_fault new.outcome ≡ false)
+Feeds old piece new (Err (fault.Edn at cause)) = (more : List Event) × IsTakenIn old piece new more × (new.outcome ≡ Err (fault.Edn at cause))
+Feeds old piece new (Err (fault.Event at cause)) = (more : List Event) × IsTakenIn old piece new more × (new.outcome ≡ Err (fault.Event at cause))
+Feeds old piece new (Err (fault.Truncated at)) = ⊥
+Feeds old piece new (Err fault.OutOfMemory) = new ≡ old
+Feeds old piece new (Err fault.TooMuch) = (new ≡ old) × IsTooMuch old piece
+
+-- what is known of faults: nothing that is fed behind one changes it or the follower
+abbrev pub StaysFaulty : Followed → Followed → Result ℕ FollowFault → Type 0
+StaysFaulty old new result = (f : FollowFault) → old.outcome ≡ Err f → is_fault (Err f) ≡ true → (new ≡ old) × (result ≡ Err f)
+
+-- taking the oldest event that is ready
+abbrev pub Takes : Followed → Followed → Option Event → Type 0
+Takes old new None = (old.ready ≡ []) × (new ≡ old)
+Takes old new (Some e) = (old.ready ≡ e ∷ new.ready) × (new.keyed ≡ old.keyed) × (new.outcome ≡ old.outcome) ×
+    ((stream : List ℕ) (taken : List Event) → Sees old stream taken → Sees new stream (taken ++ e ∷ []))
+
+-- more bytes change nothing of a fault, nor of the events before it
+abbrev pub FaultsStay : Type 0
+FaultsStay = (keyed : Bool) (s more : List ℕ) (es : List Event) (o : Result (Unit {0}) FollowFault) →
+    is_fault o ≡ true → IsStream keyed s es o → IsStream keyed (s ++ more) es o

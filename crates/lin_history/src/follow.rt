@@ -1,0 +1,362 @@
+//! The events of a stream that comes in pieces.
+ghost use Rattle.std.specs.Prelude.{◌≡◌, ◌+◌, ◌≤◌, ◌++◌, [], ◌∷◌, true, false, List, Err, map, length, drop, MatchOption, OnOk, OnErr};
+ghost use Rattle.lin_edn.specs.Value.{values_of};
+ghost use Rattle.lin_edn.specs.View.{view};
+ghost use Rattle.lin_history.specs.Stream.{told, told_by};
+ghost use Rattle.lin_history.specs.Sees.{Sees, Takes, Feeds, StaysFaulty, FaultsStay, most};
+ghost use Rattle.lin_history.specs.Reads.{IsTold, IsReadOn, IsFront, IsStanding, IsRead};
+ghost use Rattle.lin_history.specs.declared.events.Event.{Event as TheEvent};
+ghost use Rattle.lin_history.specs.declared.follow.FollowFault.{FollowFault as TheFault};
+
+use crate::events::Event;
+use crate::numbers::OutOfMemory;
+use crate::table::{EventFault, bare, event_of};
+use lin_edn::{Edn, EdnCause, Next, blanks_in_front, more_bytes, next_element, places};
+use std::alloc::Global;
+use std::collections::VecDeque;
+use std::marker::Model;
+
+/// The greatest number of bytes of a stream.
+const MOST: u64 = 1_099_511_627_776;
+
+/// Why a stream isn't read further. A place counts in the bytes of the whole stream.
+#[derive(Clone, Copy, Debug, PartialEq, Eq)]
+pub enum FollowFault {
+    /// The bytes are no EDN: the place that tells it, and what is wrong there.
+    Edn { at: u64, cause: EdnCause },
+    /// An element says no event: where it begins, and why.
+    Event { at: u64, cause: EventFault },
+    /// The stream ends in an element or discard that begins here.
+    Truncated { at: u64 },
+    /// Memory was refused; nothing changed.
+    OutOfMemory,
+    /// The pieces together would pass 1,099,511,627,776 bytes; nothing changed.
+    TooMuch,
+}
+
+/// A reader of the events of a stream that is fed in pieces, cut anywhere.
+///
+/// A stream is a series of elements: operation maps, and vectors or lists of operation maps; tags in front of any of these are
+/// read over. The events are those of the maps, in order, without the operations of the nemesis.
+#[derive(Drop)]
+pub struct Follow {
+    alloc: Global,
+    keyed: bool,
+    ready: VecDeque<Event>,
+    outcome: Result<(), FollowFault>,
+    // How many bytes of the stream stand before those that are held.
+    passed: u64,
+    // What stands behind the last whole element, from the first byte on that isn't blank.
+    held: Vec<u8>,
+}
+
+impl Model for Follow {
+    ghost use Rattle.std.specs.Prelude.{◌+◌, ◌≤◌, length};
+    ghost use Rattle.lin_history.specs.Sees.{Followed, most};
+
+    ghost Value = { Followed };
+
+    ghost view = { λ f. record { keyed = f.keyed; ready = f.ready.items; outcome = f.outcome; passed = f.passed; held = f.held.items } };
+
+    ghost invariant = { λ f. f.passed + length f.held.items ≤ most };
+}
+
+impl Follow {
+    /// A follower of an empty stream. With `keyed`, values are pairs of a key and a value.
+    pub fn new(alloc: Global, keyed: bool) -> Follow
+        ensures keyed { result.keyed ≡ keyed }
+        ensures ready { result.ready ≡ [] }
+        ensures sees { Sees result [] [] }
+    {
+        Follow {
+            alloc,
+            keyed,
+            ready: VecDeque::new(alloc),
+            outcome: Ok(()),
+            passed: 0,
+            held: Vec::new(alloc),
+        }
+    }
+
+    /// How many events are ready.
+    pub fn ready(&self) -> usize
+        ensures { result ≡ length self.now.ready }
+    {
+        self.ready.len()
+    }
+
+    /// The oldest event that is ready.
+    pub fn take(&mut self) -> Option<Event>
+        ensures { Takes self.old self.new result }
+    {
+        self.ready.pop_front()
+    }
+
+    /// Whether the stream may end here: `Truncated` in an unfinished element or discard, else the fault that stands, if any.
+    pub fn finish(&self) -> Result<(), FollowFault>
+        ensures { result ≡ self.now.outcome }
+    {
+        self.outcome
+    }
+
+    /// Takes in a piece of the stream, and tells how many events became ready.
+    ///
+    /// At the first fault of form the events before it are ready, and it is answered from then on. After `OutOfMemory`
+    /// and `TooMuch` nothing changed.
+    pub fn feed(&mut self, piece: &[u8]) -> Result<usize, FollowFault>
+        ensures feeds { Feeds self.old piece.now self.new result }
+        ensures stays { StaysFaulty self.old self.new result }
+    {
+        more_bytes();
+        places();
+        if let Some(fault) = standing(&self.outcome) {
+            return Err(fault);
+        }
+        if piece.len() as u64 > MOST - self.passed - self.held.len() as u64 {
+            return Err(FollowFault::TooMuch);
+        }
+        let before = self.ready.len();
+        match take_in(
+            self.alloc,
+            self.keyed,
+            self.passed,
+            piece,
+            &mut self.held,
+            &mut self.ready,
+        ) {
+            Err(_) => Err(FollowFault::OutOfMemory),
+            Ok(read) => {
+                self.passed += read.used as u64;
+                self.outcome = read.outcome;
+                match standing(&self.outcome) {
+                    Some(fault) => Err(fault),
+                    None => Ok(self.ready.len() - before),
+                }
+            }
+        }
+    }
+}
+
+/// A fault of form, behind which nothing is read.
+fn standing(outcome: &Result<(), FollowFault>) -> Option<FollowFault>
+    ensures { IsStanding outcome.now result }
+{
+    match outcome {
+        Err(FollowFault::Edn { at, cause }) => Some(FollowFault::Edn {
+            at: *at,
+            cause: *cause,
+        }),
+        Err(FollowFault::Event { at, cause }) => Some(FollowFault::Event {
+            at: *at,
+            cause: *cause,
+        }),
+        _ => None,
+    }
+}
+
+/// Puts a piece behind what is held and reads it; what is read is dropped. Refused, all is as it was.
+fn take_in(
+    alloc: Global,
+    keyed: bool,
+    passed: u64,
+    piece: &[u8],
+    held: &mut Vec<u8>,
+    ready: &mut VecDeque<Event>,
+) -> Result<Read, OutOfMemory>
+    requires { passed + length held.old.items + length piece.now ≤ most }
+    ensures { IsRead keyed passed piece.now held.old.items ready.old.items held.new.items ready.new.items result }
+{
+    let kept = held.len();
+    let before = ready.len();
+    held.extend_from_slice(piece)?;
+    match read_on(alloc, keyed, held.as_slice(), passed, ready) {
+        Ok(read) => {
+            drop_front(held, read.used);
+            Ok(read)
+        }
+        Err(refused) => {
+            held.truncate(kept);
+            ready.truncate(before);
+            Err(refused)
+        }
+    }
+}
+
+/// Drops so many bytes at the front, in place.
+fn drop_front(held: &mut Vec<u8>, used: usize)
+    requires { used ≤ length held.old.items }
+    ensures { held.new.items ≡ drop used held.old.items }
+{
+    if used == 0 {
+        return;
+    }
+    let left = held.len() - used;
+    held.copy_within(used.., 0);
+    held.truncate(left);
+}
+
+/// What was read of a text: so many bytes are done with, and so it ends.
+#[derive(Drop)]
+struct Read {
+    used: usize,
+    outcome: Result<(), FollowFault>,
+}
+
+/// What stands in front of a text.
+#[derive(Drop)]
+enum Front {
+    /// An element without fault, which ends behind so many bytes.
+    Element(usize),
+    /// No whole element, or a fault.
+    End(Read),
+}
+
+/// Puts an event behind those that are ready; refused, they are as they were.
+fn put_back(ready: &mut VecDeque<Event>, event: Event) -> Result<(), OutOfMemory>
+    ensures ok { OnOk result (ready.new.items ≡ ready.old.items ++ event ∷ []) }
+    ensures err { OnErr result (ready.new.items ≡ ready.old.items) }
+{
+    ready.push_back(event)?;
+    Ok(())
+}
+
+/// Puts the event of a map behind those that are ready.
+fn tell_one(
+    alloc: Global,
+    keyed: bool,
+    element: &Edn,
+    ready: &mut VecDeque<Event>,
+) -> Result<(), EventFault>
+    ensures { IsTold (told_by keyed (values_of (view element.now ∷ []))) ready.old.items ready.new.items result }
+{
+    match event_of(alloc, element, keyed) {
+        Ok(None) => Ok(()),
+        Ok(Some(event)) => {
+            if put_back(ready, event).is_err() {
+                return Err(EventFault::OutOfMemory);
+            }
+            Ok(())
+        }
+        Err(fault) => Err(fault),
+    }
+}
+
+/// Puts the events of maps behind those that are ready, up to the first fault.
+fn tell_all(
+    alloc: Global,
+    keyed: bool,
+    items: &[Edn],
+    ready: &mut VecDeque<Event>,
+) -> Result<(), EventFault>
+    ensures { IsTold (told_by keyed (values_of (map view items.now))) ready.old.items ready.new.items result }
+{
+    for item in items {
+        if let Err(fault) = tell_one(alloc, keyed, item, ready) {
+            return Err(fault);
+        }
+    }
+    Ok(())
+}
+
+/// Puts the events of a top-level element behind those that are ready.
+fn tell(
+    alloc: Global,
+    keyed: bool,
+    element: &Edn,
+    ready: &mut VecDeque<Event>,
+) -> Result<(), EventFault>
+    ensures { IsTold (told keyed (view element.now)) ready.old.items ready.new.items result }
+{
+    let element = bare(element);
+    match element {
+        Edn::Vector(items) => tell_all(alloc, keyed, items.as_slice(), ready),
+        Edn::List(items) => tell_all(alloc, keyed, items.as_slice(), ready),
+        _ => tell_one(alloc, keyed, element, ready),
+    }
+}
+
+/// Reads what stands in front of a text, which stands from a place of the stream on.
+fn read_front(
+    alloc: Global,
+    keyed: bool,
+    text: &[u8],
+    place: u64,
+    ready: &mut VecDeque<Event>,
+) -> Result<Front, OutOfMemory>
+    requires { place + length text.now ≤ most }
+    ensures { IsFront keyed text.now place ready.old.items ready.new.items result }
+{
+    places();
+    blanks_in_front();
+    match next_element(alloc, text) {
+        Ok(Next::Complete { value, at, used }) => match tell(alloc, keyed, &value, ready) {
+            Ok(()) => Ok(Front::Element(used)),
+            Err(fault) => match fault {
+                EventFault::OutOfMemory => Err(OutOfMemory),
+                cause => Ok(ends(
+                    used,
+                    Err(FollowFault::Event {
+                        at: place + at as u64,
+                        cause,
+                    }),
+                )),
+            },
+        },
+        Ok(Next::Partial { at }) => Ok(ends(
+            at,
+            Err(FollowFault::Truncated {
+                at: place + at as u64,
+            }),
+        )),
+        Ok(Next::Blank { used }) => Ok(ends(used, Ok(()))),
+        Err(fault) => match fault.cause {
+            EdnCause::OutOfMemory => Err(OutOfMemory),
+            cause => Ok(ends(
+                0,
+                Err(FollowFault::Edn {
+                    at: place + fault.at as u64,
+                    cause,
+                }),
+            )),
+        },
+    }
+}
+
+fn ends(used: usize, outcome: Result<(), FollowFault>) -> Front
+    ensures { result ≡ Front.End (record { used = used; outcome = outcome }) }
+{
+    Front::End(Read { used, outcome })
+}
+
+/// Reads a text, which stands from a place of the stream on, as far as it goes.
+fn read_on(
+    alloc: Global,
+    keyed: bool,
+    text: &[u8],
+    place: u64,
+    ready: &mut VecDeque<Event>,
+) -> Result<Read, OutOfMemory>
+    requires { place + length text.now ≤ most }
+    ensures { IsReadOn keyed text.now place ready.old.items ready.new.items result }
+{
+    let mut at = 0;
+    'elements: loop {
+        match read_front(alloc, keyed, &text[at..], place + at as u64, ready)? {
+            Front::Element(used) => at += used,
+            Front::End(read) => {
+                return Ok(Read {
+                    used: at + read.used,
+                    outcome: read.outcome,
+                });
+            }
+        }
+    }
+}
+
+/// More bytes change nothing of a fault, nor of the events before it.
+pub fn faults_stay()
+    ensures { FaultsStay }
+{
+    more_bytes();
+    places();
+}
