@@ -6,3 +6,8 @@ pub mod Each
 pub mod RealTime
 pub mod Marks
 pub mod Outcomes
+pub mod StepsTaken
+pub mod Running
+pub mod Assembling
+pub mod Parts
+pub mod Prefixes

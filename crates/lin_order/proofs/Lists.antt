@@ -1,6 +1,6 @@
 -- Places of lists, and answers.
 use Rattle.std.proofs.Math.Seq.{take-suc}
-use Rattle.std.proofs.Common.{◌≡◌, ◌≢◌, ℕ, ◌+◌, ◌<◌, zero, suc, List, [], ◌∷◌, ◌++◌, length, ◌⊎◌, ◌↔◌, true, false, IsTrue, inl, inr, refl, arith, set, Some, slice_get, take, get_or, Option, None, sym, ap, ◌∙◌, add-one}
+use Rattle.std.proofs.Common.{◌≡◌, ◌≢◌, ℕ, ◌+◌, ◌<◌, zero, suc, List, [], ◌∷◌, ◌++◌, length, ◌⊎◌, ◌↔◌, Bool, true, false, MatchBool, IsTrue, inl, inr, refl, arith, set, Some, slice_get, take, get_or, Option, MatchOption, is_some, None, sym, ap, ◌∙◌, add-one}
 
 -- what a list has, it has with one more
 pub get_left : {A : Type 0} (xs : List A) (y : A) (k : ℕ) (x : A) → slice_get xs k ≡ Some x → slice_get (xs ++ y ∷ []) k ≡ Some x
@@ -48,3 +48,21 @@ yes_since p = (λ yes. p, λ q. refl)
 
 pub no_since : {P : Type 0} → (P → ⊥) → IsTrue false ↔ P
 no_since never = (λ no. cc, λ q. absurd (never q))
+
+-- what an `Option` says of its variant
+pub said_none : {A : Type 0} (o : Option A) (P : Type 0) (Q : A → Type 0) → MatchOption o P Q → is_some o ≡ false → P
+said_none None P Q said none = said
+said_none (Some x) P Q said none = cc
+
+pub said_some : {A : Type 0} (o : Option A) (P : Type 0) (Q : A → Type 0) → MatchOption o P Q → is_some o ≡ true → (x : A) × Q x
+said_some None P Q said some = cc
+said_some (Some x) P Q said some = (x, said)
+
+-- what an answer says of a yes and of a no
+pub said_yes : (b : Bool) (P Q : Type 0) → MatchBool b P Q → b ≡ true → P
+said_yes true P Q said yes' = said
+said_yes false P Q said yes' = cc
+
+pub said_no : (b : Bool) (P Q : Type 0) → MatchBool b P Q → b ≡ false → Q
+said_no true P Q said no' = cc
+said_no false P Q said no' = said

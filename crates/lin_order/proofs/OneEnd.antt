@@ -6,7 +6,8 @@ use Rattle.lin_history.specs.declared.events.Body.TheVariants.{Invoke}
 use Rattle.lin_history.specs.declared.calls.Call.{Call}
 use Rattle.lin_history.specs.declared.calls.Reply.{Reply}
 use Rattle.lin_history.specs.Operations.{IsEvent, IsOf, IsOperation, IsEnd, IsOk}
-use Rattle.lin_order.specs.Tables.{IsNext, IsLast}
+use Rattle.lin_order.specs.Orders.{IsCall}
+use Rattle.lin_order.specs.Tables.{IsCallOn, IsNext, IsLast}
 
 -- one event stands at a position
 pub one_event : (h : List Event) (k : ℕ) (a b : Event) → IsEvent h k a → IsEvent h k b → a ≡ b
@@ -66,3 +67,21 @@ module _ (h : List Event) (at : ℕ) where
   one_ok a b r s x y =
       let bodies = sym x.3 ∙ ap (λ (e : Event). e.body) (one_ending a b x.0 y.0 x.1 y.1) ∙ y.3 in
       (one_end a b x.0 y.0 x.1 y.1, cc)
+
+  -- an operation has one call
+  pub one_call : (a b : Call) → IsCall h at a → IsCall h at b → a ≡ b
+  one_call a b x y = let bodies = ap (λ (e : Event). e.body) (one_event h at _ _ x.2 y.2) in cc
+
+  -- an event that is an invocation is an operation on its key, and no other event is one
+  pub call_since : (event : Event) → IsEvent h at event → (call : Call) → event.body ≡ Invoke call → IsCallOn h at event.key call
+  call_since event there call is = (event.process, there ∙ ap (λ b. Some (record event { body = b })) is)
+
+  pub no_call : (event : Event) → IsEvent h at event → ((call : Call) → event.body ≡ Invoke call → ⊥) → (call : Call) → IsCall h at call → ⊥
+  no_call event there other call is = other call (ap (λ (e : Event). e.body) (one_event h at event _ there is.2))
+
+  -- an operation is on the key of its event
+  pub call_on : (event : Event) → IsEvent h at event → (call : Call) → IsCall h at call → IsCallOn h at event.key call
+  call_on event there call is = (is.0, subst (λ k. IsOperation h at is.0 k call) (sym (ap (λ (e : Event). e.key) (one_event h at event _ there is.2))) is.2)
+
+  pub body_of : (event : Event) → IsEvent h at event → (call : Call) → IsCall h at call → event.body ≡ Invoke call
+  body_of event there call is = ap (λ (e : Event). e.body) (one_event h at event _ there is.2)

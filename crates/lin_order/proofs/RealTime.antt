@@ -1,5 +1,5 @@
 -- The latest position of a part of an order, and real time.
-use Rattle.std.proofs.Common.{◌≡◌, ◌≤◌, ◌<◌, ℕ, ◌+◌, List, Bool, Decides, IsTrue, ◌↔◌, [], ◌∷◌, ◌++◌, length, max, All, Contains, ◌⊎◌, inl, inr, refl, sym, ap, subst, ◌∙◌, arith, take, get_or}
+use Rattle.std.proofs.Common.{◌≡◌, ◌≤◌, ◌<◌, ℕ, ◌+◌, List, Bool, Decides, IsTrue, ◌↔◌, [], ◌∷◌, ◌++◌, length, max, All, Contains, ◌⊎◌, inl, inr, refl, sym, subst, arith, take, get_or}
 use Rattle.std.proofs.lemmas.Bool.{cases_lt}
 use Rattle.std.proofs.lemmas.List.Elements.{All-push, All-weaker, Contains-push, Contains-append_left}
 use Rattle.lin_history.specs.declared.events.Event.{Event}

@@ -1,11 +1,19 @@
--- What the tables hold that `check_order` makes on its way, and what its parts decide: words of private contracts.
-use Rattle.std.specs.Prelude.{◌≡◌, ◌≢◌, ◌<◌, ℕ, List, Bool, true, false, length, Option, Some, None, All, AllPairs, slice_index_or, slice_get}
+-- What the parts of `check_order` decide, and what the tables hold that it makes on its way: words of private contracts.
+use Rattle.std.specs.Prelude.{◌≡◌, ◌≢◌, ◌<◌, ℕ, ℤ, List, Bool, true, false, length, Option, Some, None, All, AllPairs, slice_index_or, slice_get, unwrap_or}
+use Rattle.std.specs.Ordering.{int_eq}
 use Rattle.lin_history.specs.declared.events.Event.{Event}
 use Rattle.lin_history.specs.declared.calls.Call.{Call}
 use Rattle.lin_history.specs.declared.calls.Reply.{Reply}
-use Rattle.lin_history.specs.Operations.{IsOf, IsOk, IsFailed}
+use Rattle.lin_history.specs.Operations.{IsOf, IsOperation, IsOk, IsFailed}
+use Rattle.lin_objects.specs.declared.kinds.Kind.{Kind}
+use Rattle.lin_objects.specs.declared.states.State.{State}
+use Rattle.lin_objects.specs.Steps.{Step, start}
 use Rattle.lin_order.specs.declared.placed.Placed.{Placed}
 use Rattle.lin_order.specs.Orders.{IsBefore, IsCall, Places}
+
+-- the position is an operation on the key, with this call
+abbrev pub IsCallOn : List Event → ℕ → ℤ → Call → Type 0
+IsCallOn h at key call = (process : ℕ) × IsOperation h at process key call
 
 -- `next` is the least later position of the process of the event at `at`
 pub record IsNext (h : List Event) (at next : ℕ) : Type 0 where
@@ -50,3 +58,12 @@ MarksEachOk h marks = (at end : ℕ) (reply : Reply) → IsOk h at end reply →
 -- no later operation of the order is before an earlier one in real time
 abbrev pub KeepsRealTime : List Event → List Placed → Type 0
 KeepsRealTime h order = AllPairs (λ p q. IsBefore h q.at p.at → ⊥) order
+
+-- the state of each object, by its key: the one listed, else its start
+abbrev pub state_of : (ℤ → Kind) → (ℤ → Option State) → ℤ → State
+state_of kinds listed key = unwrap_or (listed key) (start (kinds key))
+
+-- the object of the key took a step by this call with this reply, and all others stay
+pub record Moves (kinds : ℤ → Kind) (old new : ℤ → Option State) (key : ℤ) (call : Call) (reply : Reply) : Type 0 where
+  pub steps : Step (kinds key) (state_of kinds old key) call (state_of kinds new key) reply
+  pub others : (other : ℤ) → int_eq key other ≡ false → new other ≡ old other

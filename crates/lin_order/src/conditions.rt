@@ -6,27 +6,17 @@ ghost use Rattle.lin_history.specs.Operations.{IsOk};
 ghost use Rattle.lin_order.specs.Orders.{IsBefore, IsCall};
 ghost use Rattle.lin_order.specs.Tables.{IsNextTable, IsMarked, KeepsOutcome, KeepsRealTime, MarksEachOk, NamesOnce, NamesOperations};
 
-use crate::ends::{is_failed, ok_end};
+use crate::operations::{call_at, is_failed, ok_end};
 use crate::placed::Placed;
-use lin_history::{Body, Event, OutOfMemory};
+use lin_history::{Event, OutOfMemory};
 use std::alloc::Global;
-
-/// Whether an operation begins at the position.
-fn is_operation(events: &[Event], at: usize) -> bool
-    ensures { IsTrue result ↔ ((call : CallOf) × IsCall events.now at call) }
-{
-    match events.get(at) {
-        Some(event) => matches!(event.body, Body::Invoke(_)),
-        None => false,
-    }
-}
 
 /// Whether the order names operations alone.
 pub fn names_operations(events: &[Event], order: &[Placed]) -> bool
     ensures { IsTrue result ↔ NamesOperations events.now order.now }
 {
     for placed in order {
-        if !is_operation(events, placed.at) {
+        if call_at(events, placed.at).is_none() {
             return false;
         }
     }

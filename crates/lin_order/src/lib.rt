@@ -2,9 +2,14 @@
 #![tactic(auto)]
 
 mod conditions;
-mod ends;
 mod laws;
+mod legality;
+mod operations;
+mod orders;
 mod placed;
+#[cfg(test)]
+mod tests;
 
-pub use laws::empty_is_legal;
+pub use laws::{empty_is_legal, parts_are_legal, prefixes_are_linearizable, replies_are_recorded};
+pub use orders::check_order;
 pub use placed::Placed;

@@ -1,4 +1,4 @@
-use Rattle.lin_order.proofs.Lists.{yes_since, no_since}
+use Rattle.lin_order.proofs.Lists.{yes_since}
 use Rattle.lin_order.proofs.conditions.is_kept.Goals as goal
 
 pub returns-in-None : goal.returns-in-None

@@ -1,7 +1,6 @@
-use Rattle.std.proofs.Common.{sym, ◌∙◌}
 use Rattle.std.proofs.lemmas.Bool.Decides.{Decides-at}
 use Rattle.lin_history.specs.Replies.{reply_Decides}
-use Rattle.lin_order.proofs.Lists.{yes_since, no_since}
+use Rattle.lin_order.proofs.Lists.{yes_since}
 use Rattle.lin_order.proofs.Outcomes.{outcome_since}
 use Rattle.lin_order.proofs.conditions.keeps_outcome.Goals as goal
 

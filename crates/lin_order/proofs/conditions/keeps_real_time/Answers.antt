@@ -2,7 +2,7 @@ use Rattle.std.proofs.Common.{◌+◌, take, sym, subst}
 use Rattle.lin_order.specs.Tables.{KeepsRealTime}
 use Rattle.lin_order.proofs.Lists.{yes_since, no_since}
 use Rattle.lin_order.proofs.Each.{at_end}
-use Rattle.lin_order.proofs.RealTime.{IsLatestOf, latest_none, latest_more, real_time_more, real_time_broken}
+use Rattle.lin_order.proofs.RealTime.{IsLatestOf, latest_more, real_time_more, real_time_broken}
 use Rattle.lin_order.proofs.conditions.keeps_real_time.Goals as goal
 
 pub returns-then-is_before : goal.returns-then-is_before

@@ -1,7 +1,7 @@
-use Rattle.std.proofs.Common.{◌<◌, length, true, false, set, length-set, sym, ap, ◌∙◌, arith, refl}
+use Rattle.std.proofs.Common.{◌<◌, length, true, false, set, length-set, ◌∙◌, arith, refl}
 use Rattle.std.proofs.lemmas.List.Elements.{All-contains}
 use Rattle.lin_order.proofs.Each.{read_any, contains_here}
-use Rattle.lin_order.proofs.Marks.{marked_none, marked_more, once_more, named_again}
+use Rattle.lin_order.proofs.Marks.{marked_more, once_more, named_again}
 use Rattle.lin_order.proofs.conditions.marks_of.Goals as goal
 
 pub returns-then-index : goal.returns-then-index

@@ -6,5 +6,5 @@ abbrev pub invariant-loop-placed : goal.invariant-loop-placed
 invariant-loop-placed l = record {
   once : NamesOnce (take l.placed-index l.order);
   marked : IsMarked (take l.placed-index l.order) l.marks.items;
-  length_of : length l.marks.items ≡ l.len
+  length_of : length l.marks.items ≡ l.len;
 }

@@ -1,7 +1,7 @@
 use Rattle.std.proofs.Common.{Some, Vec, Global, Option, ℕ, set, sym, ap, ◌∙◌}
 use Rattle.lin_order.proofs.Latest.{step_first, step_again, step_latest}
-use Rattle.lin_order.proofs.ends.ends_of.Goals as goal
-use Rattle.lin_order.proofs.ends.ends_of.Goals.{in-Some, in-None}
+use Rattle.lin_order.proofs.operations.ends_of.Goals as goal
+use Rattle.lin_order.proofs.operations.ends_of.Goals.{in-Some, in-None}
 
 pub loop-at-preserved : goal.loop-at-preserved
 loop-at-preserved c =
@@ -9,8 +9,8 @@ loop-at-preserved c =
     let i = c.loop-at.at in
     let event = c.index-events-at.result in
     let is = c.index-events-at.is in
-    let was = sym c.in-Ok-insert.ensures.old in
-    let pushed = c.in-Ok.ensures.items in
+    let was = sym c.in_ok-earlier.ensures.old in
+    let pushed = c.in_ok-push.ensures.items in
     let table = c.loop-at.invariant.table in
     let latest = c.loop-at.invariant.latest in
     let now = c.match-earlier.ends.items in
@@ -24,5 +24,5 @@ loop-at-preserved c =
             let made = ap (λ (v : Vec (Option ℕ) Global). v.items) w.ends-is in
             step_first h i event c.loop-at-test.true is _ now _ table latest (was ∙ w.in-None.is) (made ∙ pushed)
       ];
-      latest = step_latest h i event c.loop-at-test.true is _ _ latest c.in-Ok-insert.ensures.updates.0;
+      latest = step_latest h i event c.loop-at-test.true is _ _ latest c.in_ok-earlier.ensures.updates.0;
     }

@@ -1,13 +1,28 @@
-//! How operations end.
+//! How operations begin and end.
 ghost use Rattle.std.specs.Prelude.{◌≡◌, ◌<◌, ◌↔◌, ℕ, length, IsTrue, IfOk, MatchOption};
 ghost use Rattle.lin_history.specs.declared.events.Event.{Event as EventOf};
+ghost use Rattle.lin_history.specs.declared.calls.Call.{Call as CallOf};
 ghost use Rattle.lin_history.specs.declared.calls.Reply.{Reply as ReplyOf};
 ghost use Rattle.lin_history.specs.Operations.{IsEnd, IsFailed, IsOk};
+ghost use Rattle.lin_order.specs.Orders.{IsCall};
 ghost use Rattle.lin_order.specs.Tables.{IsNextTable};
 
-use lin_history::{Body, Event, OutOfMemory, Reply};
+use lin_history::{Body, Call, Event, OutOfMemory, Reply};
 use std::alloc::Global;
 use std::collections::HashMap;
+
+/// The call of the operation at the position, if an operation begins there.
+pub fn call_at(events: &[Event], at: usize) -> Option<&Call>
+    ensures { MatchOption result ((call : CallOf) → IsCall events.now at call → ⊥) (λ call. IsCall events.now at call.now) }
+{
+    let Some(event) = events.get(at) else {
+        return None;
+    };
+    match &event.body {
+        Body::Invoke(call) => Some(call),
+        _ => None,
+    }
+}
 
 /// For each position the next one of the same process: where an operation ends.
 pub fn ends_of(alloc: Global, events: &[Event]) -> Result<Vec<Option<usize>>, OutOfMemory>
@@ -16,14 +31,8 @@ pub fn ends_of(alloc: Global, events: &[Event]) -> Result<Vec<Option<usize>>, Ou
     let mut ends: Vec<Option<usize>> = Vec::new(alloc);
     let mut latest: HashMap<u64, usize> = HashMap::new(alloc);
     for (at, event) in events.iter().enumerate() {
-        match ends.push(None) {
-            Ok(()) => {}
-            Err(_) => return Err(OutOfMemory),
-        }
-        let earlier = match latest.insert(event.process, at) {
-            Ok(earlier) => earlier,
-            Err(_) => return Err(OutOfMemory),
-        };
+        ends.push(None)?;
+        let earlier = latest.insert(event.process, at)?;
         match earlier {
             Some(earlier) => ends[earlier] = Some(at),
             None => {}

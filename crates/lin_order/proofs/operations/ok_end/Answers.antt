@@ -1,7 +1,7 @@
 use Rattle.std.proofs.Common.{ap, ◌∙◌}
 use Rattle.lin_history.specs.declared.events.Event.{Event}
 use Rattle.lin_order.proofs.OneEnd.{one_ending}
-use Rattle.lin_order.proofs.ends.ok_end.Goals as goal
+use Rattle.lin_order.proofs.operations.ok_end.Goals as goal
 
 pub returns-in_default : goal.returns-in_default
 returns-in_default c end reply ok = c.in_default.ensures end ok.0 ok.1

@@ -2,7 +2,7 @@ use Rattle.std.proofs.Common.{ap, ◌∙◌}
 use Rattle.lin_history.specs.declared.events.Event.{Event}
 use Rattle.lin_order.proofs.Lists.{no_since}
 use Rattle.lin_order.proofs.OneEnd.{one_ending}
-use Rattle.lin_order.proofs.ends.is_failed.Goals as goal
+use Rattle.lin_order.proofs.operations.is_failed.Goals as goal
 
 pub returns-in_default : goal.returns-in_default
 returns-in_default c = no_since (λ failed.

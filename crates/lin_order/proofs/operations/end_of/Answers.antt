@@ -4,7 +4,7 @@ use Rattle.lin_history.specs.declared.events.Event.{Event}
 use Rattle.lin_order.proofs.Lists.{none_if}
 use Rattle.lin_order.proofs.OneEnd.{end_from_next, no_end, no_end_of}
 use Rattle.lin_order.proofs.Latest.{next_of, next_inside, last_of}
-use Rattle.lin_order.proofs.ends.end_of.Goals as goal
+use Rattle.lin_order.proofs.operations.end_of.Goals as goal
 
 pub bounds-events-end : goal.bounds-events-end
 bounds-events-end c = next_inside c.args.events.now c.args.ends.now c.requires.table c.args.at c.requires.within c.in-Some.end c.in-Some.is

@@ -1,0 +1,106 @@
+//! Whether an order is legal: whether each object runs through its part of it.
+ghost use Rattle.std.specs.Prelude.{◌≡◌, ◌↔◌, ℤ, IsTrue, IfOk, MatchBool, MatchOption};
+ghost use Rattle.std.specs.Ordering.{int_eq};
+ghost use Rattle.std.specs.HashMap.{get};
+ghost use Rattle.lin_history.specs.declared.calls.Call.{Call as CallOf};
+ghost use Rattle.lin_objects.specs.declared.states.State.{State as StateOf};
+ghost use Rattle.lin_objects.specs.Kinds.{kind_of};
+ghost use Rattle.lin_objects.specs.Steps.{Step};
+ghost use Rattle.lin_order.specs.Linearizable.{IsLegal};
+ghost use Rattle.lin_order.specs.Tables.{Moves, NamesOperations, state_of};
+
+use crate::placed::Placed;
+use lin_history::{Body, Call, Event, OutOfMemory, Reply};
+use lin_objects::{Any, Kinds, SeqObject, State, replies_decide};
+use std::alloc::Global;
+use std::collections::HashMap;
+
+/// A state that the object may go to when the call gets this reply, if there is one.
+fn state_after<O: SeqObject>(
+    object: &O,
+    alloc: Global,
+    state: &O::State,
+    call: &Call,
+    reply: &Reply,
+) -> Result<Option<O::State>, OutOfMemory>
+    ensures { IfOk result (λ found. MatchOption found ((next : O.State) → O.step object.now state.now call.now next reply.now → ⊥) (λ next. O.step object.now state.now call.now next reply.now)) }
+{
+    let mut outcomes = Vec::new(alloc);
+    object.outcomes(alloc, state, call, &mut outcomes)?;
+    while let Some((next, given)) = outcomes.pop() {
+        if given == *reply {
+            return Ok(Some(next));
+        }
+    }
+    Ok(None)
+}
+
+/// A state that the object of the key may go to when the call gets this reply, if there is one. An object that isn't listed
+/// is at its start.
+fn next_state(
+    alloc: Global,
+    kinds: &Kinds,
+    states: &HashMap<i64, State>,
+    key: i64,
+    call: &Call,
+    reply: &Reply,
+) -> Result<Option<State>, OutOfMemory>
+    ensures { IfOk result (λ found. MatchOption found
+        ((next : StateOf) → Step (kind_of kinds.now key) (state_of (kind_of kinds.now) (get int_eq states.now) key) call.now next reply.now → ⊥)
+        (λ next. Step (kind_of kinds.now key) (state_of (kind_of kinds.now) (get int_eq states.now) key) call.now next reply.now)) }
+{
+    let object = Any {
+        kind: kinds.of(key),
+    };
+    match states.get(&key) {
+        Some(state) => state_after(&object, alloc, state, call, reply),
+        None => state_after(&object, alloc, &object.start(alloc), call, reply),
+    }
+}
+
+/// Lets the object of the invocation take the call with this reply, if it may.
+fn take_step(
+    alloc: Global,
+    kinds: &Kinds,
+    event: &Event,
+    reply: &Reply,
+    states: &mut HashMap<i64, State>,
+) -> Result<bool, OutOfMemory>
+    ensures { IfOk result (λ taken. MatchBool taken
+        ((call : CallOf) × (event.now.body ≡ Body.Invoke call) × Moves (kind_of kinds.now) (get int_eq states.old) (get int_eq states.new) event.now.key call reply.now)
+        ((call : CallOf) (next : StateOf) → event.now.body ≡ Body.Invoke call
+        → Step (kind_of kinds.now event.now.key) (state_of (kind_of kinds.now) (get int_eq states.old) event.now.key) call next reply.now → ⊥)) }
+{
+    let Body::Invoke(call) = &event.body else {
+        return Ok(false);
+    };
+    match next_state(alloc, kinds, states, event.key, call, reply)? {
+        Some(next) => {
+            states.insert(event.key, next)?;
+            Ok(true)
+        }
+        None => Ok(false),
+    }
+}
+
+/// Whether each object runs through its part of the order.
+pub fn is_legal(
+    alloc: Global,
+    events: &[Event],
+    kinds: &Kinds,
+    order: &[Placed],
+) -> Result<bool, OutOfMemory>
+    requires { NamesOperations events.now order.now }
+    ensures { IfOk result (λ legal. IsTrue legal ↔ IsLegal (kind_of kinds.now) events.now order.now) }
+{
+    replies_decide();
+    let mut states = HashMap::new(alloc);
+    for placed in order {
+        let event = &events[placed.at];
+        let taken = take_step(alloc, kinds, event, &placed.reply, &mut states)?;
+        if !taken {
+            return Ok(false);
+        }
+    }
+    Ok(true)
+}
