@@ -1,9 +1,8 @@
 -- The part of an order that is of a key.
-use Rattle.std.proofs.Common.{◌≡◌, ◌<◌, ◌≤◌, ℕ, zero, suc, ℤ, Bool, true, false, cond, List, [], ◌∷◌, ◌++◌, length, All, Contains, filter, get_or, refl, sym, ap, subst, ◌∙◌, arith}
+use Rattle.std.proofs.Common.{◌≡◌, ◌<◌, ℕ, zero, suc, Bool, true, List, [], ◌∷◌, length, Contains, IsTrue, filter, get_or, ap, arith}
 use Rattle.std.proofs.lemmas.Bool.{cond_both}
 use Rattle.std.proofs.lemmas.List.Elements.{All-contains, All-contains_itself, All-filter, All-weaker, Contains-append_right, filter_passes}
 use Rattle.std.proofs.lemmas.List.Kept.{AllPairs-filter}
-use Rattle.lin_history.specs.declared.events.Event.{Event}
 use Rattle.lin_history.specs.declared.calls.Call.{Call}
 use Rattle.lin_history.specs.Operations.{IsFailed}
 use Rattle.lin_order.specs.declared.placed.Placed.{Placed}
@@ -33,7 +32,7 @@ parts_are_legal_lem kinds h order legal key =
     let whole = legal.order_of in
     record {
       order_of = record {
-        operations = All-weaker (Contains (part_of h key order)) _ (λ p there.
+        operations = All-weaker (Contains (part_of h key order)) (λ p. (call : Call) × IsCall h p.at call × IsTrue (is_of_key h key p.at)) (λ p there.
             let from = from_filter of_it order p there in
             let operation = All-contains (λ q. (call : Call) × IsCall h q.at call × Unit {0}) order p whole.operations from.0 in
             (operation.0, operation.1, from.1)) (part_of h key order) (All-contains_itself (part_of h key order));

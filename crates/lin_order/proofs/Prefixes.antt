@@ -1,16 +1,15 @@
 -- Prefixes of linearizable histories.
-use Rattle.std.proofs.Common.{◌≡◌, ◌<◌, ◌≤◌, ℕ, zero, suc, ℤ, Bool, true, false, cond, IsTrue, List, [], ◌∷◌, ◌++◌, length, All, AllPairs, Contains, filter, get_or, take, drop, Some, slice_get, refl, sym, ap, subst, ◌∙◌, arith, inl, inr}
+use Rattle.std.proofs.Common.{◌≡◌, ◌<◌, ◌≤◌, ℕ, zero, suc, ℤ, true, false, cond, IsTrue, List, [], ◌∷◌, ◌++◌, length, All, AllPairs, Contains, get_or, take, drop, Some, slice_get, refl, sym, ap, subst, ◌∙◌, arith, inl, inr}
 use Rattle.std.specs.Ordering.{int_eq}
 use Rattle.std.specs.Option.{option_map_or}
 use Rattle.std.proofs.lemmas.Bool.{cases_lt}
-use Rattle.std.proofs.lemmas.List.{get_or-take, length-take-le, take-append-drop}
-use Rattle.std.proofs.lemmas.List.Elements.{All-take, All-weaker, All-contains, All-contains_itself, filter-append}
+use Rattle.std.proofs.lemmas.Option.{slice_get_past}
+use Rattle.std.proofs.lemmas.List.{length-take, get_or-take, length-take-le, take-append-drop}
+use Rattle.std.proofs.lemmas.List.Elements.{All-filter, All-take, All-weaker, All-contains, All-contains_itself, filter-append}
 use Rattle.lin_history.specs.declared.events.Event.{Event}
 use Rattle.lin_history.specs.declared.calls.Call.{Call}
 use Rattle.lin_history.specs.declared.calls.Reply.{Reply}
-use Rattle.lin_history.specs.Operations.{IsEvent, IsOf, IsEnd, IsOk, IsFailed}
-use Rattle.lin_objects.specs.declared.kinds.Kind.{Kind}
-use Rattle.lin_objects.specs.declared.states.State.{State}
+use Rattle.lin_history.specs.Operations.{IsEnd, IsOk, IsFailed}
 use Rattle.lin_objects.specs.Steps.{Step, start}
 use Rattle.lin_order.specs.declared.placed.Placed.{Placed}
 use Rattle.lin_order.specs.Orders.{IsBefore, IsCall, IsOrderOf, Places, is_of_key, part_of}
@@ -47,13 +46,13 @@ cut n [] = (0, omega arith, (λ k d l. absurd (omega arith)), (λ l d. absurd (o
 cut n (p ∷ ps) = elim (cases_lt p.at n) [
   | inl below ↦
       let rest = cut n ps in
-      (suc rest.0, omega (arith, rest.1), (λ k d l. first_or k d below rest.2 l), (λ l d. rest.3 (omega arith) d))
+      (suc rest.0, omega (arith, rest.1), (λ k d l. first_or (take rest.0 ps) k d below rest.2 l), (λ l d. rest.3 (omega arith) d))
   | inr past ↦ (0, omega arith, (λ k d l. absurd (omega arith)), (λ l d. past))
 ]
   where
-    first_or : {xs : List Placed} (k : ℕ) (d : Placed) → p.at < n → All (λ q. q.at < n) xs → k < length (p ∷ xs) → (get_or (p ∷ xs) k d).at < n
-    first_or zero d below rest l = below
-    first_or (suc k) d below rest l = rest k d (omega arith)
+    first_or : (xs : List Placed) (k : ℕ) (d : Placed) → p.at < n → All (λ q. q.at < n) xs → k < length (p ∷ xs) → (get_or (p ∷ xs) k d).at < n
+    first_or xs zero d below rest l = below
+    first_or xs (suc k) d below rest l = rest k d (omega arith)
 
 module _ (h : List Event) (n : ℕ) where
   end_whole : (at end : ℕ) (ending : Event) → IsEnd (take n h) at end ending → (end < n) × IsEnd h at end ending
@@ -80,6 +79,18 @@ module _ (h : List Event) (n : ℕ) where
 
   key_within : (key : ℤ) (at : ℕ) → at < n → is_of_key (take n h) key at ≡ is_of_key h key at
   key_within key at below = ap (λ o. option_map_or (λ event. int_eq event.key key) o false) (get_of_take n h at below)
+
+  key_whole : (key : ℤ) (at : ℕ) → is_of_key (take n h) key at ≡ true → is_of_key h key at ≡ true
+  key_whole key at of_it = elim (cases_lt at n) [
+    | inl below ↦ sym (key_within key at below) ∙ of_it
+    | inr past ↦ absurd (differ (sym (ap (λ o. option_map_or (λ (event : Event). int_eq event.key key) o false) (slice_get_past (take n h) at (length_at_most past))) ∙ of_it))
+  ]
+    where
+      differ : false ≡ true → ⊥
+      differ e = cc
+
+      length_at_most : n ≤ at → length (take n h) ≤ at
+      length_at_most past = let len = length-take n h in omega arith
 
   -- a run through operations below n is a run of the prefix
   run_within : {S : Type 0} (step : S → Call → S → Reply → Type 0) (s t : S) (o : List Placed) → All (λ p. p.at < n) o → Runs step h s o t → Runs step (take n h) s o t
@@ -121,12 +132,12 @@ module _ (h : List Event) (n : ℕ) where
     -- an order of a prefix
     order_within : (m : ℕ) → m ≤ length o → All (λ p. p.at < n) (take m o) → ((m < length o) → (d : Placed) → n ≤ (get_or o m d).at) → IsOrderOf inner (take n h) (take m o)
     order_within m fits small past = record {
-      operations = All-weaker (Contains (take m o)) _ (λ p there.
+      operations = All-weaker (Contains (take m o)) (λ p. (call : Call) × IsCall (take n h) p.at call × inner p.at) (λ p there.
           let below = All-contains (λ q. q.at < n) (take m o) p small there in
           let operation = All-contains (λ q. (call : Call) × IsCall h q.at call × scope q.at) (take m o) p (All-take (λ q. (call : Call) × IsCall h q.at call × scope q.at) m o is.operations) there in
           (operation.0, call_within p.at operation.0 below operation.1, narrow p.at below operation.2)) (take m o) (All-contains_itself (take m o));
       once = pairs_take (λ p q. p.at ≡ q.at → ⊥) m o fits is.once;
-      none_failed = All-take (λ p. IsFailed (take n h) p.at → ⊥) m o (All-weaker (λ p. IsFailed h p.at → ⊥) _ (λ p never failed. never (failed.0, failed.1, (end_whole p.at failed.0 failed.1 failed.2).1, failed.3, failed.4)) o is.none_failed);
+      none_failed = All-take (λ p. IsFailed (take n h) p.at → ⊥) m o (All-weaker (λ p. IsFailed h p.at → ⊥) (λ p. IsFailed (take n h) p.at → ⊥) (λ p never failed. never (failed.0, failed.1, (end_whole p.at failed.0 failed.1 failed.2).1, failed.3, failed.4)) o is.none_failed);
       each_ok = λ at end reply of_it ok. let w = ok_whole at end reply ok in each_in m fits past at end reply of_it w.0 w.1;
       real_time = pairs_take (λ p q. IsBefore (take n h) q.at p.at → ⊥) m o fits (λ i j d before within b.
           is.real_time i j d before within (b.0, b.1, (ok_whole _ b.0 b.1 b.2).1, b.3));
@@ -146,7 +157,7 @@ prefixes_for_lem kinds key h n lin =
     let ran = subst (λ l. Runs (Step (kinds key)) h (start (kinds key)) l lin.1.legal.0) (sym (take-append-drop m o)) lin.1.legal.1 in (
       take m o,
       record {
-        order_of = order_within h n _ _ (λ at below of_it. key_within h n key at below ∙ of_it) (λ at of_it. ?) o lin.1.order_of m c.1 c.2 c.3;
+        order_of = order_within h n (λ at. IsTrue (is_of_key h key at)) (λ at. IsTrue (is_of_key (take n h) key at)) (λ at below of_it. key_within h n key at below ∙ of_it) (λ at of_it. key_whole h n key at of_it) o lin.1.order_of m c.1 c.2 c.3;
         legal = run_begins h n (Step (kinds key)) (start (kinds key)) lin.1.legal.0 (take m o) (drop m o) c.2 ran;
       },
     )
@@ -158,7 +169,12 @@ prefixes_whole_lem kinds h n lin =
     let m = c.0 in (
       take m o,
       record {
-        order_of = order_within h n _ _ (λ at below of_it. tt) (λ at of_it. tt) o lin.1.order_of m c.1 c.2 c.3;
-        legal = λ key. ?;
+        order_of = order_within h n (λ at. Unit {0}) (λ at. Unit {0}) (λ at below of_it. tt) (λ at of_it. tt) o lin.1.order_of m c.1 c.2 c.3;
+        legal = λ key.
+            let split = ap (part_of h key) (sym (take-append-drop m o)) ∙ filter-append (λ p. is_of_key h key p.at) (take m o) (drop m o) in
+            let ran = subst (λ l. Runs (Step (kinds key)) h (start (kinds key)) l (lin.1.legal key).0) split (lin.1.legal key).1 in
+            let small = All-filter (λ p. is_of_key h key p.at) (λ p. p.at < n) (take m o) c.2 in
+            let run = run_begins h n (Step (kinds key)) (start (kinds key)) (lin.1.legal key).0 (part_of h key (take m o)) (part_of h key (drop m o)) small ran in
+            (run.0, subst (λ l. Runs (Step (kinds key)) (take n h) (start (kinds key)) l run.0) (sym (part_within h n key (take m o) c.2)) run.1);
       },
     )
