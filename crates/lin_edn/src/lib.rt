@@ -11,6 +11,8 @@ ghost use Rattle.lin_edn.specs.declared.EdnCause.{EdnCause as Cause};
 mod levels;
 mod reader;
 mod run;
+#[cfg(test)]
+mod tests;
 
 use std::alloc::{AllocError, Global};
 

@@ -1,0 +1,205 @@
+use crate::{Edn, EdnCause, EdnFault, Next, next_element};
+use std::alloc::{AllocError, Global};
+use std::test::Fail;
+
+// The answers, short: what, its place, and the byte behind it or the number of the cause.
+const COMPLETE: u8 = 0;
+const PARTIAL: u8 = 1;
+const BLANK: u8 = 2;
+const FAULT: u8 = 3;
+
+fn number_of(cause: EdnCause) -> usize {
+    match cause {
+        EdnCause::Unbalanced => 1,
+        EdnCause::OddMap => 2,
+        EdnCause::TooDeep => 3,
+        EdnCause::TooLong => 4,
+        EdnCause::OutOfMemory => 5,
+    }
+}
+
+fn short(answer: &Result<Next, EdnFault>) -> (u8, usize, usize) {
+    match answer {
+        Ok(Next::Complete { value: _, at, used }) => (COMPLETE, *at, *used),
+        Ok(Next::Partial { at }) => (PARTIAL, *at, 0),
+        Ok(Next::Blank { used }) => (BLANK, *used, 0),
+        Err(fault) => (FAULT, fault.at, number_of(fault.cause)),
+    }
+}
+
+fn answer(alloc: Global, input: &[u8]) -> (u8, usize, usize) {
+    short(&next_element(alloc, input))
+}
+
+/// A letter for what an element is.
+fn letter(element: &Edn) -> u8 {
+    match element {
+        Edn::Nil => b'n',
+        Edn::Bool(_) => b'b',
+        Edn::Int(_) => b'i',
+        Edn::Atom(_) => b'a',
+        Edn::Keyword(_) => b'k',
+        Edn::Text(_) => b't',
+        Edn::List(_) => b'l',
+        Edn::Vector(_) => b'v',
+        Edn::Set(_) => b's',
+        Edn::Map(_) => b'm',
+        Edn::Tagged(_, _) => b'#',
+    }
+}
+
+fn letter_at(alloc: Global, input: &[u8]) -> u8 {
+    match next_element(alloc, input) {
+        Ok(Next::Complete { value, at: _, used: _ }) => letter(&value),
+        _ => b'?',
+    }
+}
+
+fn integer_at(alloc: Global, input: &[u8]) -> Option<i64> {
+    match next_element(alloc, input) {
+        Ok(Next::Complete { value: Edn::Int(value), at: _, used: _ }) => Some(value),
+        _ => None,
+    }
+}
+
+/// Some bytes, so many times one byte, and a last byte.
+fn padded(alloc: Global, front: &[u8], byte: u8, count: usize, last: &[u8]) -> Result<Vec<u8>, AllocError> {
+    let mut bytes = Vec::new(alloc);
+    bytes.extend_from_slice(front)?;
+    for _ in 0..count {
+        bytes.push(byte)?;
+    }
+    bytes.extend_from_slice(last)?;
+    Ok(bytes)
+}
+
+#[test]
+fn answers(rt: HostRuntime) {
+    let rows: [(&[u8], (u8, usize, usize)); 36] = [
+        (b"  ", (BLANK, 2, 0)),
+        (b" ; c", (BLANK, 1, 0)),
+        (b" ; c\n,", (BLANK, 6, 0)),
+        (b"", (BLANK, 0, 0)),
+        (b"nil", (PARTIAL, 0, 0)),
+        (b"nil ", (COMPLETE, 0, 3)),
+        (b"#_ 1 2 ", (COMPLETE, 5, 6)),
+        (b"#_", (PARTIAL, 0, 0)),
+        (b"\\} ", (COMPLETE, 0, 2)),
+        (b"\\}", (PARTIAL, 0, 0)),
+        (b"\\ a ", (COMPLETE, 0, 3)),
+        (b"{a\\}}", (COMPLETE, 0, 5)),
+        (b"\"a\\\"b\"", (COMPLETE, 0, 6)),
+        (b"#\"a\\\\\"", (COMPLETE, 0, 6)),
+        (b"#{1 1}", (COMPLETE, 0, 6)),
+        (b"#t 1 ", (COMPLETE, 0, 4)),
+        (b"#t}", (FAULT, 2, 1)),
+        (b"#(1)", (COMPLETE, 0, 1)),
+        (b"#;", (COMPLETE, 0, 1)),
+        (b"#\\a", (COMPLETE, 0, 1)),
+        (b"##a'#_b ", (COMPLETE, 0, 7)),
+        (b"#'", (PARTIAL, 0, 0)),
+        (b"#a#b 1 ", (COMPLETE, 0, 6)),
+        (b"#t{}", (COMPLETE, 0, 4)),
+        (b"[1 ; c", (PARTIAL, 0, 0)),
+        (b"[1 ; ]\n]", (COMPLETE, 0, 8)),
+        (b"{:a #_ }", (FAULT, 7, 1)),
+        (b"{:a #_ 1}", (FAULT, 8, 2)),
+        (b"{:a #_ 1 2}", (COMPLETE, 0, 11)),
+        (b"(]", (FAULT, 1, 1)),
+        (b" )", (FAULT, 1, 1)),
+        (b"#_#_a b", (PARTIAL, 0, 0)),
+        (b"#_a b", (PARTIAL, 4, 0)),
+        (b"#_ #_ a b c ", (COMPLETE, 10, 11)),
+        (b"5(", (COMPLETE, 0, 1)),
+        (b"a\x00b\x0b", (COMPLETE, 0, 3)),
+    ];
+    for (input, want) in rows {
+        assert_eq!(rt; answer(rt.alloc(), input), want);
+    }
+}
+
+#[test]
+fn runs(rt: HostRuntime) {
+    let rows: [(&[u8], u8); 24] = [
+        (b"nil ", b'n'),
+        (b"true ", b'b'),
+        (b"nils ", b'a'),
+        (b"+0 ", b'i'),
+        (b"-0N ", b'i'),
+        (b"+5N ", b'i'),
+        (b"00 ", b'a'),
+        (b"007 ", b'a'),
+        (b"- ", b'a'),
+        (b"+ ", b'a'),
+        (b"N ", b'a'),
+        (b"-N ", b'a'),
+        (b"1M ", b'a'),
+        (b"1.5 ", b'a'),
+        (b"1/2 ", b'a'),
+        (b"+-1 ", b'a'),
+        (b"9223372036854775807 ", b'i'),
+        (b"+9223372036854775808 ", b'a'),
+        (b"-9223372036854775808 ", b'i'),
+        (b"-9223372036854775809 ", b'a'),
+        (b"99999999999999999999999 ", b'a'),
+        (b": ", b'a'),
+        (b":: ", b'k'),
+        (b":a#b ", b'k'),
+    ];
+    for (input, want) in rows {
+        assert_eq!(rt; letter_at(rt.alloc(), input), want);
+    }
+    assert_eq!(rt; integer_at(rt.alloc(), b"-9223372036854775808 "), Some(i64::MIN));
+    assert_eq!(rt; integer_at(rt.alloc(), b"-120N "), Some(-120));
+}
+
+#[test]
+fn levels(rt: HostRuntime) -> Result<(), Fail> {
+    let alloc = rt.alloc();
+    let deepest = padded(alloc, b"", b'[', 64, b"#")?;
+    assert_eq!(rt; answer(alloc, deepest.as_slice()), (PARTIAL, 0, 0));
+    let too_deep = padded(alloc, b"", b'[', 65, b"")?;
+    assert_eq!(rt; answer(alloc, too_deep.as_slice()), (FAULT, 64, 3));
+    let set = padded(alloc, b"", b'[', 64, b"#{")?;
+    assert_eq!(rt; answer(alloc, set.as_slice()), (FAULT, 64, 3));
+    let tag = padded(alloc, b"", b'[', 64, b"#a")?;
+    assert_eq!(rt; answer(alloc, tag.as_slice()), (FAULT, 64, 3));
+    let atom = padded(alloc, b"", b'(', 64, b"#'a")?;
+    assert_eq!(rt; answer(alloc, atom.as_slice()), (PARTIAL, 0, 0));
+    Ok(())
+}
+
+#[test]
+fn lengths(rt: HostRuntime) -> Result<(), Fail> {
+    let alloc = rt.alloc();
+    let longest = 16_777_216;
+    let text = padded(alloc, b"\"", b'a', longest - 2, b"\"")?;
+    assert_eq!(rt; answer(alloc, text.as_slice()), (COMPLETE, 0, longest));
+    let open_text = padded(alloc, b"\"", b'a', longest, b"")?;
+    assert_eq!(rt; answer(alloc, open_text.as_slice()), (FAULT, 0, 4));
+    assert_eq!(rt; answer(alloc, &open_text[..longest]), (PARTIAL, 0, 0));
+    let run = padded(alloc, b" ", b'a', longest, b"}")?;
+    assert_eq!(rt; answer(alloc, run.as_slice()), (COMPLETE, 1, longest + 1));
+    let wrong = padded(alloc, b"(", b'a', longest - 1, b"}")?;
+    assert_eq!(rt; answer(alloc, wrong.as_slice()), (FAULT, 0, 4));
+    assert_eq!(rt; answer(alloc, &wrong[1..]), (COMPLETE, 0, longest - 1));
+    Ok(())
+}
+
+#[test]
+fn long_comments(rt: HostRuntime) -> Result<(), Fail> {
+    let alloc = rt.alloc();
+    let longest = 16_777_216;
+    let comment = padded(alloc, b";", b'a', longest, b"\n")?;
+    assert_eq!(rt; answer(alloc, &comment[..longest]), (BLANK, 0, 0));
+    assert_eq!(rt; answer(alloc, &comment[..longest + 1]), (FAULT, 0, 4));
+    let short = padded(alloc, b";", b'a', longest - 2, b"\n")?;
+    assert_eq!(rt; answer(alloc, short.as_slice()), (BLANK, longest, 0));
+    let over = padded(alloc, b";", b'a', longest - 1, b"\n")?;
+    assert_eq!(rt; answer(alloc, over.as_slice()), (FAULT, 0, 4));
+    let discard = padded(alloc, b"#_", b'a', longest - 2, b" nil ")?;
+    assert_eq!(rt; answer(alloc, discard.as_slice()), (COMPLETE, longest + 1, longest + 4));
+    let long_discard = padded(alloc, b"#_", b'a', longest - 1, b" nil ")?;
+    assert_eq!(rt; answer(alloc, long_discard.as_slice()), (FAULT, 0, 4));
+    Ok(())
+}
