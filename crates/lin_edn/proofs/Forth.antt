@@ -21,7 +21,7 @@ takes most at st m c s t e lt f =
     ∙ ap (λ x. on_turn x (λ st2 m2. run most (at + 1) st2 m2 s)) f
 
 -- a byte where an element may begin
-begins_run : (most at : ℕ) (st : List Frame) (c : ℕ) (s : List ℕ) (k : Class) (t : Turn) → class c ≡ k → at < outermost at st + most → begins k at st c ≡ t →
+pub begins_run : (most at : ℕ) (st : List Frame) (c : ℕ) (s : List ℕ) (k : Class) (t : Turn) → class c ≡ k → at < outermost at st + most → begins k at st c ≡ t →
     run most at st between (c ∷ s) ≡ on_turn t (λ st' m'. run most (at + 1) st' m' s)
 begins_run most at st c s k t h lt f = takes most at st between c s t refl lt (ap (λ x. begins x at st c) h ∙ f)
 
@@ -38,7 +38,7 @@ put_then most v p at c (frame k o vs ∷ st) s = refl
 put_then most v p at c (discarding o ∷ st) s = refl
 put_then most v p at c (tagging o i w ∷ st) s = put_then most (tagged i w v) o at c st s
 
-ends_run : (most at : ℕ) (st : List Frame) (m : Mode) (v : Value) (p c : ℕ) (s : List ℕ) → ended at st m c ≡ put v p st at →
+pub ends_run : (most at : ℕ) (st : List Frame) (m : Mode) (v : Value) (p c : ℕ) (s : List ℕ) → ended at st m c ≡ put v p st at →
     run most at st m (c ∷ s) ≡ on_turn (put v p st at) (λ st' m'. run most at st' m' (c ∷ s))
 unfolding run
 ends_run most at st m v p c s e =
@@ -50,11 +50,11 @@ unfolding run
 tag_ends most at st p w c s h = rw h refl
 
 -- one byte of what is open beside the levels
-run_goes : (most at : ℕ) (st : List Frame) (p : ℕ) (w : List ℕ) (c : ℕ) (s : List ℕ) → is_stop c ≡ false → at < outermost p st + most →
+pub run_goes : (most at : ℕ) (st : List Frame) (p : ℕ) (w : List ℕ) (c : ℕ) (s : List ℕ) → is_stop c ≡ false → at < outermost p st + most →
     run most at st (in_run p w) (c ∷ s) ≡ run most (at + 1) st (in_run p (w ++ c ∷ [])) s
 run_goes most at st p w c s h lt = takes most at st (in_run p w) c s (go st (in_run p (w ++ c ∷ []))) (rw h refl) lt refl
 
-tag_goes : (most at : ℕ) (st : List Frame) (p : ℕ) (w : List ℕ) (c : ℕ) (s : List ℕ) → is_stop c ≡ false → at < outermost p st + most →
+pub tag_goes : (most at : ℕ) (st : List Frame) (p : ℕ) (w : List ℕ) (c : ℕ) (s : List ℕ) → is_stop c ≡ false → at < outermost p st + most →
     run most at st (in_tag p w) (c ∷ s) ≡ run most (at + 1) st (in_tag p (w ++ c ∷ [])) s
 tag_goes most at st p w c s h lt = takes most at st (in_tag p w) c s (go st (in_tag p (w ++ c ∷ []))) (rw h refl) lt refl
 
@@ -68,7 +68,7 @@ slash_goes : (most at : ℕ) (st : List Frame) (p : ℕ) (w : List ℕ) (c : ℕ
     run most at st (after_backslash p w) (c ∷ s) ≡ run most (at + 1) st (in_run p (w ++ c ∷ [])) s
 slash_goes most at st p w c s lt = takes most at st (after_backslash p w) c s (go st (in_run p (w ++ c ∷ []))) refl lt refl
 
-text_goes : (most at : ℕ) (st : List Frame) (p : ℕ) (w : List ℕ) (c : ℕ) (s : List ℕ) (k : Quoted) → quoted c ≡ k → at < outermost p st + most →
+pub text_goes : (most at : ℕ) (st : List Frame) (p : ℕ) (w : List ℕ) (c : ℕ) (s : List ℕ) (k : Quoted) → quoted c ≡ k → at < outermost p st + most →
     run most at st (in_text p w) (c ∷ s) ≡ on_turn (quotes k at st p w c) (λ st' m'. run most (at + 1) st' m' s)
 text_goes most at st p w c s k h lt = takes most at st (in_text p w) c s (quotes k at st p w c) refl lt (ap (λ x. quotes x at st p w c) h)
 
@@ -76,7 +76,7 @@ escape_goes : (most at : ℕ) (st : List Frame) (p : ℕ) (w : List ℕ) (c : �
     run most at st (in_escape p w) (c ∷ s) ≡ run most (at + 1) st (in_text p (w ++ c ∷ [])) s
 escape_goes most at st p w c s lt = takes most at st (in_escape p w) c s (go st (in_text p (w ++ c ∷ []))) refl lt refl
 
-comment_goes : (most at : ℕ) (st : List Frame) (p : ℕ) (c : ℕ) (s : List ℕ) → is_newline c ≡ false → at < outermost p st + most →
+pub comment_goes : (most at : ℕ) (st : List Frame) (p : ℕ) (c : ℕ) (s : List ℕ) → is_newline c ≡ false → at < outermost p st + most →
     run most at st (in_comment p) (c ∷ s) ≡ run most (at + 1) st (in_comment p) s
 comment_goes most at st p c s h lt = takes most at st (in_comment p) c s (go st (in_comment p)) refl lt (rw h refl)
 
@@ -128,7 +128,7 @@ comment_run most (goes {p = p} {q = q} {b = b} {t = t} i h) st le =
     let a : p < q = comment_rises i in comment_run most i st (omega arith) ∙ comment_goes most q st p b t h (omega arith)
 
 -- levels
-enters : (at p : ℕ) (st : List Frame) (t : Turn) → length st < 64 → deeper at p st t ≡ t
+pub enters : (at p : ℕ) (st : List Frame) (t : Turn) → length st < 64 → deeper at p st t ≡ t
 enters at p st t h = rw (is_above 64 (length st) h) refl
 
 tag_run : (most : ℕ) {p q : ℕ} {s t w : List ℕ} → Tag p s w q t → (st : List Frame) → length st < 64 → q ≤ outermost p st + most →
@@ -139,7 +139,7 @@ tag_run most (first_of_tag {p = p} {q = q} {b = b} {t = t} {w = w} i h) st lt le
 tag_run most (next_of_tag {p = p} {q = q} {b = b} {t = t} {w = w} i h) st lt le =
     let a : p < q = tag_rises i in tag_run most i st lt (omega arith) ∙ tag_goes most q st p w b t h (omega arith)
 
-opens_run : (most : ℕ) {p q : ℕ} {s t : List ℕ} {k : Kind} → Opens k p s q t → (st : List Frame) → length st < 64 → q ≤ outermost p st + most →
+pub opens_run : (most : ℕ) {p q : ℕ} {s t : List ℕ} {k : Kind} → Opens k p s q t → (st : List Frame) → length st < 64 → q ≤ outermost p st + most →
     run most p st between s ≡ run most q (frame k p [] ∷ st) between t
 opens_run most (bracket {k = k} (one {p = p} {b = b} {s = s} h)) st lt le =
     begins_run most p st b s (opener k) _ h (omega arith) (enters p p st (go (frame k p [] ∷ st) between) lt)
@@ -147,7 +147,7 @@ opens_run most (set_bracket {p = p} {q = q} {b = b} {t = t} {w = w} i h) st lt l
     let a : p < q = one_rises i in
     hash_run most i st (omega arith) ∙ hash_goes most q st p w b t opens_set _ h refl (enters q p st (go (frame a_set p [] ∷ st) between) lt) (omega arith)
 
-close_run : (most : ℕ) (k : Kind) (o : ℕ) (vs : List Value) (st : List Frame) (at : ℕ) (t : List ℕ) (v : Value) → made k vs ≡ Some v →
+pub close_run : (most : ℕ) (k : Kind) (o : ℕ) (vs : List Value) (st : List Frame) (at : ℕ) (t : List ℕ) (v : Value) → made k vs ≡ Some v →
     at < outermost o st + most →
     run most at (frame k o vs ∷ st) between (closing k ∷ t) ≡ on_turn (put v o st (at + 1)) (λ st' m'. run most (at + 1) st' m' t)
 close_run most a_list o vs st at t v h lt = takes most at (frame a_list o vs ∷ st) between 41 t _ refl lt (ap (λ m. closed m o st at) h)

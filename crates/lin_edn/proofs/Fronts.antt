@@ -297,7 +297,7 @@ least s front at st m c j i k h len e = (
   λ w. not_read ((front ++ c ∷ []) ++ w.0) j i k (turns front at st m c (stop (fault j i k)) h e w.0) w.1,
 )
 
-positive : 0 < longest
+pub positive : 0 < longest
 unfolding longest
 positive = omega arith
 

@@ -1,9 +1,12 @@
+pub mod Ahead
 pub mod Alone
 pub mod Back
 pub mod Digits
+pub mod Faults
 pub mod Flat
 pub mod Forth
 pub mod Fronts
+pub mod Limit
 pub mod Longer
 pub mod Order
 pub mod Rising

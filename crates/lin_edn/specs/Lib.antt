@@ -5,6 +5,7 @@ pub mod Machine
 pub mod Numbers
 pub mod Reading
 pub mod Run
+pub mod Scans
 pub mod Turns
 pub mod Value
 pub mod View

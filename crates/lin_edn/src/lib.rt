@@ -11,6 +11,7 @@ ghost use Rattle.lin_edn.specs.declared.EdnCause.{EdnCause as Cause};
 mod levels;
 mod reader;
 mod run;
+mod scan;
 #[cfg(test)]
 mod tests;
 

@@ -1,0 +1,83 @@
+use Rattle.std.proofs.Common.{◌≡◌, ℕ, ◌+◌, ◌≤◌, ◌<◌, ◌∙◌, sym, ap, arith, [], drop, length, nat_le, true, false, map, rules, tests, subst}
+use Rattle.lin_edn.proofs.Ahead.{over_here, deep_here, map_to, map_ends}
+use Rattle.lin_edn.specs.Grammar.{longest}
+use Rattle.lin_edn.specs.Levels.{frames_of}
+use Rattle.lin_edn.specs.Machine.{run, between, outermost, too_long}
+use Rattle.lin_edn.specs.Scans.{ArePairs}
+use Rattle.lin_edn.specs.View.{entry_view}
+use Rattle.lin_edn.proofs.reader.open_map.Goals as goal
+
+under : (a b : ℕ) → false ≡ nat_le a b → b < a
+under a b h = search (rules, tests)
+
+le_true : (a b : ℕ) → a ≤ b → nat_le a b ≡ true
+le_true a b h = search (rules, tests)
+
+pub returns-then-is_over : goal.returns-then-is_over
+returns-then-is_over c =
+    let s = c.args.input.now in
+    let st = frames_of c.args.stack.now.items in
+    let begun = rw c.deref.ensures.value at c.begun_at-begun.ensures in
+    let e : c.begun_at-begun.result ≡ outermost c.args.at st = begun s in
+    let over : true ≡ nat_le (c.begun_at-begun.result + longest) c.args.at = c.if-is_over.ensures in
+    over_here s c.args.at st c.requires.inside (ap (λ b. nat_le (b + longest) c.args.at) (sym e) ∙ sym over) ∙ ap too_long (sym e)
+
+pub returns-then-depth-ge-DEEPEST : goal.returns-then-depth-ge-DEEPEST
+returns-then-depth-ge-DEEPEST c =
+    let s = c.args.input.now in
+    let st = frames_of c.args.stack.now.items in
+    let begun = rw c.deref.ensures.value at c.begun_at-begun.ensures in
+    let e : c.begun_at-begun.result ≡ outermost c.args.at st = begun s in
+    let short : c.args.at < c.begun_at-begun.result + longest = under _ _ c.if-is_over.ensures in
+    let depth = rw c.deref-2.ensures.value at c.depth.ensures in
+    let d : c.depth.result ≡ length st = depth in
+    (c.args.at, deep_here s c.args.at st c.requires.inside c.requires.opens (omega arith) (le_true 64 (length st) (omega arith)))
+
+pub returns-then-input-next-eq125 : goal.returns-then-input-next-eq125
+returns-then-input-next-eq125 c =
+    let s = c.args.input.now in
+    let st = frames_of c.args.stack.now.items in
+    let begun = rw c.deref.ensures.value at c.begun_at-begun.ensures in
+    let e : c.begun_at-begun.result ≡ outermost c.args.at st = begun s in
+    let short : c.args.at < c.begun_at-begun.result + longest = under _ _ c.if-is_over.ensures in
+    let depth = rw c.deref-2.ensures.value at c.depth.ensures in
+    let d : c.depth.result ≡ length st = depth in
+    let es = map entry_view c.take_pairs.new.entries.items in
+    let next = c.white_end-next.result in
+    let end_in : c.window-end.result ≤ length s = c.window-end.ensures.within in
+    let end_short : c.window-end.result ≤ c.begun_at-begun.result + longest = c.window-end.ensures.short in
+    let pairs = rw c.in_ok-entries.ensures.items at c.in_ok-paired.ensures in
+    let first_pair : c.args.at + 1 ≤ c.in_ok-paired.paired = pairs.0 in
+    let later : c.in_ok-paired.paired ≤ next = c.white_end-next.ensures.0 in
+    let inside : next ≤ c.window-end.result = c.white_end-next.ensures.1 in
+    let before_end : next < c.window-end.result = c.if-next-end.true in
+    c.in_ok-close_pairs.ensures s c.args.at _ (omega arith) (omega arith)
+      (map_to s c.args.at c.in_ok-paired.paired next c.window-end.result st es c.requires.inside c.requires.opens (omega arith) (omega arith) end_in (omega arith)
+        pairs c.white_end-next.ensures
+      ∙ map_ends s next c.args.at st es (omega arith) c.if-input-next-eq125.true (omega arith))
+
+pub returns : goal.returns
+returns c =
+    let s = c.args.input.now in
+    let st = frames_of c.args.stack.now.items in
+    let begun = rw c.deref.ensures.value at c.begun_at-begun.ensures in
+    let e : c.begun_at-begun.result ≡ outermost c.args.at st = begun s in
+    let short : c.args.at < c.begun_at-begun.result + longest = under _ _ c.if-is_over.ensures in
+    let depth = rw c.deref-2.ensures.value at c.depth.ensures in
+    let d : c.depth.result ≡ length st = depth in
+    let es = map entry_view c.take_pairs.new.entries.items in
+    let next = c.white_end-next.result in
+    let end_in : c.window-end.result ≤ length s = c.window-end.ensures.within in
+    let end_short : c.window-end.result ≤ c.begun_at-begun.result + longest = c.window-end.ensures.short in
+    let pairs = rw c.in_ok-entries.ensures.items at c.in_ok-paired.ensures in
+    let first_pair : c.args.at + 1 ≤ c.in_ok-paired.paired = pairs.0 in
+    let later : c.in_ok-paired.paired ≤ next = c.white_end-next.ensures.0 in
+    let inside : next ≤ c.window-end.result = c.white_end-next.ensures.1 in
+    (
+      map_to s c.args.at c.in_ok-paired.paired next c.window-end.result st es c.requires.inside c.requires.opens (omega arith) (omega arith) end_in (omega arith)
+        pairs c.white_end-next.ensures
+      ∙ ap (λ fs. run longest next fs between (drop next s)) (sym c.in_ok-push.ensures.ok),
+      tt,
+      omega arith,
+      omega arith,
+    )

@@ -1,0 +1,111 @@
+//! Where rows of bytes end.
+
+ghost use Rattle.std.specs.Prelude.{◌≡◌, ◌≤◌, length};
+ghost use Rattle.lin_edn.specs.Bytes as bytes;
+ghost use Rattle.lin_edn.specs.Scans.{IsStopAt, is_dark, is_quoting, is_inside};
+
+// The classes of the bytes: PLAIN begins a run, 1 is `#`, from WHITE on a byte stops a run.
+const PLAIN: u8 = 0;
+const WHITE: u8 = 2;
+
+static CLASSES: [u8; 256] = [
+    0, 0, 0, 0, 0, 0, 0, 0, 0, 2, 2, 2, 2, 2, 0, 0,
+    0, 0, 0, 0, 0, 0, 0, 0, 0, 0, 0, 0, 0, 0, 0, 0,
+    2, 0, 3, 1, 0, 0, 0, 0, 3, 3, 0, 0, 2, 0, 0, 0,
+    0, 0, 0, 0, 0, 0, 0, 0, 0, 0, 0, 3, 0, 0, 0, 0,
+    0, 0, 0, 0, 0, 0, 0, 0, 0, 0, 0, 0, 0, 0, 0, 0,
+    0, 0, 0, 0, 0, 0, 0, 0, 0, 0, 0, 3, 3, 3, 0, 0,
+    0, 0, 0, 0, 0, 0, 0, 0, 0, 0, 0, 0, 0, 0, 0, 0,
+    0, 0, 0, 0, 0, 0, 0, 0, 0, 0, 0, 3, 0, 3, 0, 0,
+    0, 0, 0, 0, 0, 0, 0, 0, 0, 0, 0, 0, 0, 0, 0, 0,
+    0, 0, 0, 0, 0, 0, 0, 0, 0, 0, 0, 0, 0, 0, 0, 0,
+    0, 0, 0, 0, 0, 0, 0, 0, 0, 0, 0, 0, 0, 0, 0, 0,
+    0, 0, 0, 0, 0, 0, 0, 0, 0, 0, 0, 0, 0, 0, 0, 0,
+    0, 0, 0, 0, 0, 0, 0, 0, 0, 0, 0, 0, 0, 0, 0, 0,
+    0, 0, 0, 0, 0, 0, 0, 0, 0, 0, 0, 0, 0, 0, 0, 0,
+    0, 0, 0, 0, 0, 0, 0, 0, 0, 0, 0, 0, 0, 0, 0, 0,
+    0, 0, 0, 0, 0, 0, 0, 0, 0, 0, 0, 0, 0, 0, 0, 0,
+];
+
+#[inline(always)]
+pub(crate) fn is_white(c: u8) -> bool
+    ensures { result ≡ bytes.is_white c }
+{
+    CLASSES[c as usize] == WHITE
+}
+
+/// Whether a byte ends a run.
+#[inline(always)]
+pub(crate) fn is_stop(c: u8) -> bool
+    ensures { result ≡ bytes.is_stop c }
+{
+    CLASSES[c as usize] >= WHITE
+}
+
+/// Whether a byte begins a run.
+#[inline(always)]
+pub(crate) fn is_plain(c: u8) -> bool
+    ensures { result ≡ is_inside (bytes.class c) }
+{
+    CLASSES[c as usize] == PLAIN
+}
+
+/// Where the bytes of a run from a place on end.
+#[inline(never)]
+pub(crate) fn run_end(input: &[u8], from: usize, end: usize) -> usize
+    requires begun { from ≤ end }
+    requires inside { end ≤ length input.now }
+    ensures { IsStopAt bytes.is_stop input.now from end result }
+{
+    for at in from..end {
+        if is_stop(input[at]) {
+            return at;
+        }
+    }
+    end
+}
+
+/// Where the white from a place on ends.
+#[inline(never)]
+pub(crate) fn white_end(input: &[u8], from: usize, end: usize) -> usize
+    requires begun { from ≤ end }
+    requires inside { end ≤ length input.now }
+    ensures { IsStopAt is_dark input.now from end result }
+{
+    for at in from..end {
+        if !is_white(input[at]) {
+            return at;
+        }
+    }
+    end
+}
+
+/// Where the bytes of a text from a place on end, before a quote or a backslash.
+#[inline(never)]
+pub(crate) fn plain_end(input: &[u8], from: usize, end: usize) -> usize
+    requires begun { from ≤ end }
+    requires inside { end ≤ length input.now }
+    ensures { IsStopAt is_quoting input.now from end result }
+{
+    for at in from..end {
+        if input[at] == b'"' || input[at] == b'\\' {
+            return at;
+        }
+    }
+    end
+}
+
+/// Where the line from a place on ends.
+#[inline(never)]
+pub(crate) fn line_end(input: &[u8], from: usize, end: usize) -> usize
+    requires begun { from ≤ end }
+    requires inside { end ≤ length input.now }
+    ensures { IsStopAt bytes.is_newline input.now from end result }
+{
+    for at in from..end {
+        if input[at] == b'\n' {
+            return at;
+        }
+    }
+    end
+}
