@@ -1,10 +1,10 @@
 -- Rows of bytes that change nothing but the place.
-use Rattle.std.proofs.Common.{◌≡◌, ℕ, zero, suc, ◌+◌, ◌-◌, ◌<◌, ◌≤◌, Bool, true, false, not, List, [], ◌∷◌, ◌++◌, length, drop, get_or, refl, sym, ap, ◌∙◌, arith, drop-cons, if◌then◌else◌, ◌||◌, ◌==◌, None, Some, nat_le, map as each}
+use Rattle.std.proofs.Common.{◌≡◌, ℕ, zero, suc, ◌+◌, ◌-◌, ◌<◌, ◌≤◌, Bool, true, false, not, List, [], ◌∷◌, ◌++◌, length, drop, get_or, refl, sym, ap, ◌∙◌, arith, drop-cons, ◌||◌, ◌==◌, None, nat_le, map as each}
 use Rattle.std.specs.List.{slice_range}
 use Rattle.lin_edn.specs.Bytes.{Kind, a_map, Class, white, semicolon, opener, closer, quote, backslash, hash, inside, class, is_white, is_stop, is_newline, quoted, stays}
 use Rattle.lin_edn.specs.Grammar.{Frame, frame, longest}
 use Rattle.lin_edn.specs.Levels.{flat}
-use Rattle.lin_edn.specs.Machine.{Answer, Mode, Turn, stop, fault, too_long, deeper, between, in_run, in_tag, in_text, in_comment, go, run, outermost, on_turn, put}
+use Rattle.lin_edn.specs.Machine.{Answer, Turn, stop, fault, too_long, deeper, between, in_run, in_tag, in_text, in_comment, go, run, outermost, on_turn, put}
 use Rattle.lin_edn.specs.Run.{run_value}
 use Rattle.lin_edn.specs.Scans.{IsStopAt, IsAhead, ArePairs, is_dark, is_quoting, is_inside}
 use Rattle.lin_edn.specs.declared.reader.Mode.TheVariants as mode
@@ -39,22 +39,22 @@ pub run_row : (s : List ℕ) (at next p : ℕ) (st : List Frame) → p ≤ at �
     run longest at st (in_run p (slice_range s p at)) (drop at s) ≡ run longest next st (in_run p (slice_range s p next)) (drop next s)
 run_row s at next p st before le within short h =
     along_to (λ i. run longest i st (in_run p (slice_range s p i)) (drop i s)) at next le (λ i a b.
-      let lt : i < length s = omega arith in
-      let pi : p ≤ i = omega arith in
-      ap (run longest i st (in_run p (slice_range s p i))) (at_byte s i lt)
-      ∙ run_goes longest i st p (slice_range s p i) (get_or s i 0) (drop (i + 1) s) (h i a b) (omega arith)
-      ∙ ap (λ w. run longest (i + 1) st (in_run p w) (drop (i + 1) s)) (sym (range_more s p i pi lt)))
+    let lt : i < length s = omega arith in
+    let pi : p ≤ i = omega arith in
+    ap (run longest i st (in_run p (slice_range s p i))) (at_byte s i lt)
+    ∙ run_goes longest i st p (slice_range s p i) (get_or s i 0) (drop (i + 1) s) (h i a b) (omega arith)
+    ∙ ap (λ w. run longest (i + 1) st (in_run p w) (drop (i + 1) s)) (sym (range_more s p i pi lt)))
 
 pub tag_row : (s : List ℕ) (at next p : ℕ) (st : List Frame) → p + 1 ≤ at → at ≤ next → next ≤ length s → next ≤ outermost p st + longest →
     ((i : ℕ) → at ≤ i → i < next → is_stop (get_or s i 0) ≡ false) →
     run longest at st (in_tag p (slice_range s (p + 1) at)) (drop at s) ≡ run longest next st (in_tag p (slice_range s (p + 1) next)) (drop next s)
 tag_row s at next p st before le within short h =
     along_to (λ i. run longest i st (in_tag p (slice_range s (p + 1) i)) (drop i s)) at next le (λ i a b.
-      let lt : i < length s = omega arith in
-      let pi : p + 1 ≤ i = omega arith in
-      ap (run longest i st (in_tag p (slice_range s (p + 1) i))) (at_byte s i lt)
-      ∙ tag_goes longest i st p (slice_range s (p + 1) i) (get_or s i 0) (drop (i + 1) s) (h i a b) (omega arith)
-      ∙ ap (λ w. run longest (i + 1) st (in_tag p w) (drop (i + 1) s)) (sym (range_more s (p + 1) i pi lt)))
+    let lt : i < length s = omega arith in
+    let pi : p + 1 ≤ i = omega arith in
+    ap (run longest i st (in_tag p (slice_range s (p + 1) i))) (at_byte s i lt)
+    ∙ tag_goes longest i st p (slice_range s (p + 1) i) (get_or s i 0) (drop (i + 1) s) (h i a b) (omega arith)
+    ∙ ap (λ w. run longest (i + 1) st (in_tag p w) (drop (i + 1) s)) (sym (range_more s (p + 1) i pi lt)))
 
 plain_if : (a b : Bool) → (a || b) ≡ false → (a ≡ false) × (b ≡ false)
 plain_if true b h = absurd (cc)
@@ -69,20 +69,20 @@ pub text_row : (s : List ℕ) (at next p : ℕ) (st : List Frame) → p ≤ at �
     run longest at st (in_text p (slice_range s p at)) (drop at s) ≡ run longest next st (in_text p (slice_range s p next)) (drop next s)
 text_row s at next p st before le within short h =
     along_to (λ i. run longest i st (in_text p (slice_range s p i)) (drop i s)) at next le (λ i a b.
-      let lt : i < length s = omega arith in
-      let pi : p ≤ i = omega arith in
-      ap (run longest i st (in_text p (slice_range s p i))) (at_byte s i lt)
-      ∙ text_goes longest i st p (slice_range s p i) (get_or s i 0) (drop (i + 1) s) stays (stays_of (get_or s i 0) (h i a b)) (omega arith)
-      ∙ ap (λ w. run longest (i + 1) st (in_text p w) (drop (i + 1) s)) (sym (range_more s p i pi lt)))
+    let lt : i < length s = omega arith in
+    let pi : p ≤ i = omega arith in
+    ap (run longest i st (in_text p (slice_range s p i))) (at_byte s i lt)
+    ∙ text_goes longest i st p (slice_range s p i) (get_or s i 0) (drop (i + 1) s) stays (stays_of (get_or s i 0) (h i a b)) (omega arith)
+    ∙ ap (λ w. run longest (i + 1) st (in_text p w) (drop (i + 1) s)) (sym (range_more s p i pi lt)))
 
 pub comment_row : (s : List ℕ) (at next p : ℕ) (st : List Frame) → at ≤ next → next ≤ length s → next ≤ outermost p st + longest →
     ((i : ℕ) → at ≤ i → i < next → is_newline (get_or s i 0) ≡ false) →
     run longest at st (in_comment p) (drop at s) ≡ run longest next st (in_comment p) (drop next s)
 comment_row s at next p st le within short h =
     along_to (λ i. run longest i st (in_comment p) (drop i s)) at next le (λ i a b.
-      let lt : i < length s = omega arith in
-      ap (run longest i st (in_comment p)) (at_byte s i lt)
-      ∙ comment_goes longest i st p (get_or s i 0) (drop (i + 1) s) (h i a b) (omega arith))
+    let lt : i < length s = omega arith in
+    ap (run longest i st (in_comment p)) (at_byte s i lt)
+    ∙ comment_goes longest i st p (get_or s i 0) (drop (i + 1) s) (h i a b) (omega arith))
 
 lit : (b : Bool) → not b ≡ false → b ≡ true
 lit true h = refl
@@ -100,11 +100,11 @@ pub white_row : (s : List ℕ) (at next p : ℕ) (st : List Frame) → at ≤ ne
     run longest at st between (drop at s) ≡ run longest next st between (drop next s)
 white_row s at next p st le within short h =
     along_to (λ i. run longest i st between (drop i s)) at next le (λ i a b.
-      let lt : i < length s = omega arith in
-      let fits : i < outermost p st + longest = omega arith in
-      ap (run longest i st between) (at_byte s i lt)
-      ∙ begins_run longest i st (get_or s i 0) (drop (i + 1) s) white (go st between)
-          (white_class (get_or s i 0) (lit (is_white (get_or s i 0)) (h i a b))) (room i p st fits) refl)
+    let lt : i < length s = omega arith in
+    let fits : i < outermost p st + longest = omega arith in
+    ap (run longest i st between) (at_byte s i lt)
+    ∙ begins_run longest i st (get_or s i 0) (drop (i + 1) s) white (go st between)
+    (white_class (get_or s i 0) (lit (is_white (get_or s i 0)) (h i a b))) (room i p st fits) refl)
 
 inside_of : (k : Class) → is_inside k ≡ true → k ≡ inside
 inside_of white h = absurd (cc)
@@ -132,7 +132,7 @@ run_in s from start past end a b c inside_s whites first_byte stays_in ends k o 
     white_row s from start o top a (omega arith) (omega arith) whites
     ∙ ap (run longest start top between) (at_byte s start at_start)
     ∙ begins_run longest start top (get_or s start 0) (drop (start + 1) s) inside (go top (in_run start (get_or s start 0 ∷ [])))
-        (inside_of (class (get_or s start 0)) first_byte) (omega arith) refl
+    (inside_of (class (get_or s start 0)) first_byte) (omega arith) refl
     ∙ ap (λ x. run longest (start + 1) top (in_run start x) (drop (start + 1) s)) (sym (range_one s start at_start))
     ∙ run_row s (start + 1) past start top (omega arith) (omega arith) (omega arith) (omega arith) stays_in
     ∙ ap (run longest past top (in_run start w)) (at_byte s past at_stop)
@@ -180,7 +180,7 @@ pub deep_here : (s : List ℕ) (at : ℕ) (st : List Frame) → at < length s �
 deep_here s at st lt h short deep =
     ap (run longest at st between) (at_byte s at lt)
     ∙ begins_run longest at st (get_or s at 0) (drop (at + 1) s) (opener a_map) (stop (fault at at TooDeep)) (opens_map (get_or s at 0) h) short
-        (too_deep at st (go (frame a_map at [] ∷ st) between) deep)
+    (too_deep at st (go (frame a_map at [] ∷ st) between) deep)
 
 pub map_to : (s : List ℕ) (at paired next end : ℕ) (st : List Frame) (es : List (Value × Value)) → at < length s → get_or s at 0 ≡ 123 →
     length st < 64 → at < outermost at st + longest → end ≤ length s → end ≤ outermost at st + longest →
@@ -190,7 +190,7 @@ map_to s at paired next end st es lt h levels short within end_short pairs white
     let top = frame a_map at (flat es None) ∷ st in
     ap (run longest at st between) (at_byte s at lt)
     ∙ begins_run longest at st (get_or s at 0) (drop (at + 1) s) (opener a_map) (go (frame a_map at [] ∷ st) between) (opens_map (get_or s at 0) h) short
-        (enters at at st (go (frame a_map at [] ∷ st) between) levels)
+    (enters at at st (go (frame a_map at [] ∷ st) between) levels)
     ∙ pairs.2 at st end_short
     ∙ white_row s paired next at top whites.0 (omega arith) (omega arith) whites.2
 

@@ -6,7 +6,7 @@ use Rattle.lin_edn.specs.Grammar.{Frame, frame, longest}
 use Rattle.lin_edn.specs.Levels.{flat}
 use Rattle.lin_edn.specs.Run.{run_value}
 use Rattle.lin_edn.specs.Value.{Value}
-use Rattle.lin_edn.specs.Machine.{Mode, Answer, complete, run, between, outermost}
+use Rattle.lin_edn.specs.Machine.{Answer, complete, run, between, outermost}
 use Rattle.lin_edn.specs.Turns.{mode_of, IsBegun, IsFault}
 use Rattle.lin_edn.specs.View.{view}
 use Rattle.lin_edn.specs.declared.reader.Mode.{Mode as CodeMode}

@@ -13,7 +13,8 @@ ghost use Rattle.lin_edn.specs.Value as value;
 ghost use Rattle.lin_edn.specs.View.{view, entry_view};
 
 use crate::levels::{
-    Frame, Placed, Sequence, closing, depth, entry_of, finish, gathered, map_of, opened_at, pop, push,
+    Frame, Placed, Sequence, closing, depth, entry_of, finish, gathered, map_of, opened_at, pop,
+    push,
 };
 use crate::run::run_element;
 use crate::scan::{is_plain, is_stop, is_white, line_end, plain_end, run_end, white_end};
@@ -24,7 +25,7 @@ use std::alloc::{AllocError, Global};
 const LONGEST: usize = 16_777_216;
 
 // Room for the entries of the usual map at its beginning.
-const USUAL_ENTRIES: usize = 8;
+const USUAL_ENTRIES: usize = 6;
 
 // The greatest number of levels.
 const DEEPEST: usize = 64;
@@ -622,7 +623,7 @@ fn close_pairs<'a>(
     requires { at < usize.MAX }
     ensures { IfOk result (λ went. (s : List ℕ) (o : ℕ) (a : machine.Answer) → o ≤ at → at < length s →
         a ≡ machine.on_turn (machine.put (value.map (value.entries_of (map entry_view entries.entry.items))) from (frames_of stack.old.items) (at + 1))
-            (λ st m. machine.run longest (at + 1) st m (drop (at + 1) s)) →
+        (λ st m. machine.run longest (at + 1) st m (drop (at + 1) s)) →
         IsWent s o went (frames_of stack.new.items) a) }
 {
     match finish(alloc, stack, map_of(entries), from)? {

@@ -4,8 +4,11 @@ use std::test::Fail;
 
 // The answers, short: what, its place, and the byte behind it or the number of the cause.
 const COMPLETE: u8 = 0;
+
 const PARTIAL: u8 = 1;
+
 const BLANK: u8 = 2;
+
 const FAULT: u8 = 3;
 
 fn number_of(cause: EdnCause) -> usize {
@@ -50,20 +53,38 @@ fn letter(element: &Edn) -> u8 {
 
 fn letter_at(alloc: Global, input: &[u8]) -> u8 {
     match next_element(alloc, input) {
-        Ok(Next::Complete { value, at: _, used: _ }) => letter(&value),
+        Ok(
+            Next::Complete {
+                value,
+                at: _,
+                used: _,
+            },
+        ) => letter(&value),
         _ => b'?',
     }
 }
 
 fn integer_at(alloc: Global, input: &[u8]) -> Option<i64> {
     match next_element(alloc, input) {
-        Ok(Next::Complete { value: Edn::Int(value), at: _, used: _ }) => Some(value),
+        Ok(
+            Next::Complete {
+                value: Edn::Int(value),
+                at: _,
+                used: _,
+            },
+        ) => Some(value),
         _ => None,
     }
 }
 
 /// Some bytes, so many times one byte, and a last byte.
-fn padded(alloc: Global, front: &[u8], byte: u8, count: usize, last: &[u8]) -> Result<Vec<u8>, AllocError> {
+fn padded(
+    alloc: Global,
+    front: &[u8],
+    byte: u8,
+    count: usize,
+    last: &[u8],
+) -> Result<Vec<u8>, AllocError> {
     let mut bytes = Vec::new(alloc);
     bytes.extend_from_slice(front)?;
     for _ in 0..count {
@@ -149,7 +170,10 @@ fn runs(rt: HostRuntime) {
     for (input, want) in rows {
         assert_eq!(rt; letter_at(rt.alloc(), input), want);
     }
-    assert_eq!(rt; integer_at(rt.alloc(), b"-9223372036854775808 "), Some(i64::MIN));
+    assert_eq!(rt;
+        integer_at(rt.alloc(), b"-9223372036854775808 "),
+        Some(i64::MIN)
+    );
     assert_eq!(rt; integer_at(rt.alloc(), b"-120N "), Some(-120));
 }
 
@@ -175,30 +199,39 @@ fn lengths(rt: HostRuntime) -> Result<(), Fail> {
     let longest = 16_777_216;
     let text = padded(alloc, b"\"", b'a', longest - 2, b"\"")?;
     assert_eq!(rt; answer(alloc, text.as_slice()), (COMPLETE, 0, longest));
-    let open_text = padded(alloc, b"\"", b'a', longest, b"")?;
-    assert_eq!(rt; answer(alloc, open_text.as_slice()), (FAULT, 0, 4));
-    assert_eq!(rt; answer(alloc, &open_text[..longest]), (PARTIAL, 0, 0));
+    let open_text = padded(alloc, b"\"", b'a', longest - 1, b"")?;
+    assert_eq!(rt; answer(alloc, open_text.as_slice()), (PARTIAL, 0, 0));
+    let long_text = padded(alloc, b"\"", b'a', longest, b"")?;
+    assert_eq!(rt; answer(alloc, long_text.as_slice()), (FAULT, 0, 4));
     let run = padded(alloc, b" ", b'a', longest, b"}")?;
     assert_eq!(rt; answer(alloc, run.as_slice()), (COMPLETE, 1, longest + 1));
     let wrong = padded(alloc, b"(", b'a', longest - 1, b"}")?;
     assert_eq!(rt; answer(alloc, wrong.as_slice()), (FAULT, 0, 4));
-    assert_eq!(rt; answer(alloc, &wrong[1..]), (COMPLETE, 0, longest - 1));
+    let wrong_before = padded(alloc, b"(", b'a', longest - 2, b"}")?;
+    assert_eq!(rt;
+        answer(alloc, wrong_before.as_slice()),
+        (FAULT, longest - 1, 1)
+    );
     Ok(())
 }
 
 #[test]
-fn long_comments(rt: HostRuntime) -> Result<(), Fail> {
+fn lengths_of_blanks(rt: HostRuntime) -> Result<(), Fail> {
     let alloc = rt.alloc();
     let longest = 16_777_216;
-    let comment = padded(alloc, b";", b'a', longest, b"\n")?;
-    assert_eq!(rt; answer(alloc, &comment[..longest]), (BLANK, 0, 0));
-    assert_eq!(rt; answer(alloc, &comment[..longest + 1]), (FAULT, 0, 4));
-    let short = padded(alloc, b";", b'a', longest - 2, b"\n")?;
-    assert_eq!(rt; answer(alloc, short.as_slice()), (BLANK, longest, 0));
+    let open_comment = padded(alloc, b";", b'a', longest - 1, b"")?;
+    assert_eq!(rt; answer(alloc, open_comment.as_slice()), (BLANK, 0, 0));
+    let long_comment = padded(alloc, b";", b'a', longest, b"")?;
+    assert_eq!(rt; answer(alloc, long_comment.as_slice()), (FAULT, 0, 4));
+    let comment = padded(alloc, b";", b'a', longest - 2, b"\n")?;
+    assert_eq!(rt; answer(alloc, comment.as_slice()), (BLANK, longest, 0));
     let over = padded(alloc, b";", b'a', longest - 1, b"\n")?;
     assert_eq!(rt; answer(alloc, over.as_slice()), (FAULT, 0, 4));
     let discard = padded(alloc, b"#_", b'a', longest - 2, b" nil ")?;
-    assert_eq!(rt; answer(alloc, discard.as_slice()), (COMPLETE, longest + 1, longest + 4));
+    assert_eq!(rt;
+        answer(alloc, discard.as_slice()),
+        (COMPLETE, longest + 1, longest + 4)
+    );
     let long_discard = padded(alloc, b"#_", b'a', longest - 1, b" nil ")?;
     assert_eq!(rt; answer(alloc, long_discard.as_slice()), (FAULT, 0, 4));
     Ok(())

@@ -1,4 +1,4 @@
-use Rattle.std.proofs.Common.{◌≡◌, ℕ, ◌+◌, ◌≤◌, sym, subst, arith}
+use Rattle.std.proofs.Common.{◌≡◌, ◌+◌, ◌≤◌, sym, subst, arith}
 use Rattle.lin_edn.proofs.Ahead.{between_ahead, run_ahead, tag_ahead, text_ahead, comment_ahead}
 use Rattle.lin_edn.specs.Levels.{frames_of}
 use Rattle.lin_edn.specs.Machine.{outermost}
@@ -12,7 +12,7 @@ returns-in-Between c =
     let begun = rw c.in-Between.is at c.begun_at.ensures in
     let e : c.begun_at.result ≡ outermost c.args.at st = begun s in
     subst (IsAhead s c.args.at c.white_end.result st) (sym c.in-Between.is)
-      (between_ahead s c.args.at c.white_end.result c.window-end.result st c.white_end.ensures c.window-end.ensures.within (omega arith))
+    (between_ahead s c.args.at c.white_end.result c.window-end.result st c.white_end.ensures c.window-end.ensures.within (omega arith))
 
 pub returns-in-Run : goal.returns-in-Run
 returns-in-Run c =
@@ -22,7 +22,7 @@ returns-in-Run c =
     let e : c.begun_at.result ≡ outermost c.in-Run.field-0 st = begun s in
     let before : c.in-Run.field-0 ≤ c.args.at = rw c.in-Run.is at c.requires.begun in
     subst (IsAhead s c.args.at c.run_end.result st) (sym c.in-Run.is)
-      (run_ahead s c.args.at c.run_end.result c.window-end.result c.in-Run.field-0 st before c.run_end.ensures c.window-end.ensures.within (omega arith))
+    (run_ahead s c.args.at c.run_end.result c.window-end.result c.in-Run.field-0 st before c.run_end.ensures c.window-end.ensures.within (omega arith))
 
 pub returns-in-Tag : goal.returns-in-Tag
 returns-in-Tag c =
@@ -32,7 +32,7 @@ returns-in-Tag c =
     let e : c.begun_at.result ≡ outermost c.in-Tag.field-0 st = begun s in
     let before : c.in-Tag.field-0 + 1 ≤ c.args.at = rw c.in-Tag.is at c.requires.begun in
     subst (IsAhead s c.args.at c.run_end-in-Tag.result st) (sym c.in-Tag.is)
-      (tag_ahead s c.args.at c.run_end-in-Tag.result c.window-end.result c.in-Tag.field-0 st before c.run_end-in-Tag.ensures c.window-end.ensures.within (omega arith))
+    (tag_ahead s c.args.at c.run_end-in-Tag.result c.window-end.result c.in-Tag.field-0 st before c.run_end-in-Tag.ensures c.window-end.ensures.within (omega arith))
 
 pub returns-in-Text : goal.returns-in-Text
 returns-in-Text c =
@@ -42,7 +42,7 @@ returns-in-Text c =
     let e : c.begun_at.result ≡ outermost c.in-Text.field-0 st = begun s in
     let before : c.in-Text.field-0 ≤ c.args.at = rw c.in-Text.is at c.requires.begun in
     subst (IsAhead s c.args.at c.plain_end.result st) (sym c.in-Text.is)
-      (text_ahead s c.args.at c.plain_end.result c.window-end.result c.in-Text.field-0 st before c.plain_end.ensures c.window-end.ensures.within (omega arith))
+    (text_ahead s c.args.at c.plain_end.result c.window-end.result c.in-Text.field-0 st before c.plain_end.ensures c.window-end.ensures.within (omega arith))
 
 pub returns-in-Comment : goal.returns-in-Comment
 returns-in-Comment c =
@@ -52,4 +52,4 @@ returns-in-Comment c =
     let e : c.begun_at.result ≡ outermost c.in-Comment.field-0 st = begun s in
     let before : c.in-Comment.field-0 ≤ c.args.at = rw c.in-Comment.is at c.requires.begun in
     subst (IsAhead s c.args.at c.line_end.result st) (sym c.in-Comment.is)
-      (comment_ahead s c.args.at c.line_end.result c.window-end.result c.in-Comment.field-0 st before c.line_end.ensures c.window-end.ensures.within (omega arith))
+    (comment_ahead s c.args.at c.line_end.result c.window-end.result c.in-Comment.field-0 st before c.line_end.ensures c.window-end.ensures.within (omega arith))

@@ -1,4 +1,4 @@
-use Rattle.std.proofs.Common.{◌≡◌, ℕ, ◌+◌, ◌∙◌, ap, arith, drop}
+use Rattle.std.proofs.Common.{◌+◌, ◌∙◌, ap, arith, drop}
 use Rattle.lin_edn.specs.Grammar.{longest}
 use Rattle.lin_edn.specs.Machine.{run, on_turn}
 use Rattle.lin_edn.proofs.reader.close_pairs.Goals as goal

@@ -1,4 +1,4 @@
-use Rattle.std.proofs.Common.{◌≡◌, ℕ, ◌+◌, arith}
+use Rattle.std.proofs.Common.{arith}
 use Rattle.lin_edn.proofs.Faults.{fault_of}
 use Rattle.lin_edn.proofs.Runs.{stops, goes}
 use Rattle.lin_edn.specs.Grammar.{longest}

@@ -1,9 +1,8 @@
-use Rattle.std.proofs.Common.{◌≡◌, ℕ, ◌+◌, ◌≤◌, ◌<◌, ◌∙◌, sym, ap, arith, [], drop, length, nat_le, true, false, map, rules, tests, subst}
+use Rattle.std.proofs.Common.{◌≡◌, ℕ, ◌+◌, ◌≤◌, ◌<◌, ◌∙◌, sym, ap, arith, drop, length, nat_le, true, false, map, rules, tests}
 use Rattle.lin_edn.proofs.Ahead.{over_here, deep_here, map_to, map_ends}
 use Rattle.lin_edn.specs.Grammar.{longest}
 use Rattle.lin_edn.specs.Levels.{frames_of}
 use Rattle.lin_edn.specs.Machine.{run, between, outermost, too_long}
-use Rattle.lin_edn.specs.Scans.{ArePairs}
 use Rattle.lin_edn.specs.View.{entry_view}
 use Rattle.lin_edn.proofs.reader.open_map.Goals as goal
 
@@ -52,9 +51,9 @@ returns-then-input-next-eq125 c =
     let inside : next ≤ c.window-end.result = c.white_end-next.ensures.1 in
     let before_end : next < c.window-end.result = c.if-next-end.true in
     c.in_ok-close_pairs.ensures s c.args.at _ (omega arith) (omega arith)
-      (map_to s c.args.at c.in_ok-paired.paired next c.window-end.result st es c.requires.inside c.requires.opens (omega arith) (omega arith) end_in (omega arith)
-        pairs c.white_end-next.ensures
-      ∙ map_ends s next c.args.at st es (omega arith) c.if-input-next-eq125.true (omega arith))
+    (map_to s c.args.at c.in_ok-paired.paired next c.window-end.result st es c.requires.inside c.requires.opens (omega arith) (omega arith) end_in (omega arith)
+    pairs c.white_end-next.ensures
+    ∙ map_ends s next c.args.at st es (omega arith) c.if-input-next-eq125.true (omega arith))
 
 pub returns : goal.returns
 returns c =
@@ -72,11 +71,10 @@ returns c =
     let pairs = rw c.in_ok-entries.ensures.items at c.in_ok-paired.ensures in
     let first_pair : c.args.at + 1 ≤ c.in_ok-paired.paired = pairs.0 in
     let later : c.in_ok-paired.paired ≤ next = c.white_end-next.ensures.0 in
-    let inside : next ≤ c.window-end.result = c.white_end-next.ensures.1 in
-    (
+    let inside : next ≤ c.window-end.result = c.white_end-next.ensures.1 in (
       map_to s c.args.at c.in_ok-paired.paired next c.window-end.result st es c.requires.inside c.requires.opens (omega arith) (omega arith) end_in (omega arith)
-        pairs c.white_end-next.ensures
-      ∙ ap (λ fs. run longest next fs between (drop next s)) (sym c.in_ok-push.ensures.ok),
+          pairs c.white_end-next.ensures
+          ∙ ap (λ fs. run longest next fs between (drop next s)) (sym c.in_ok-push.ensures.ok),
       tt,
       omega arith,
       omega arith,

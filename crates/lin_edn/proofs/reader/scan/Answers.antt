@@ -17,8 +17,8 @@ returns-then-here-input c =
     let on = rw c.deref.ensures.value at c.ahead-here.ensures in
     let past : length s ≤ here = omega arith in
     same_answer _ _ _ (sym c.loop-at.invariant.0 ∙ on.2 ∙ ends longest s here (frames_of c.loop-at.stack.items) (mode_of s here c.loop-at.mode) past)
-      (subst (λ fs. Answers (at_end here (mode_of s here c.loop-at.mode) (frames_of fs)) (Ok c.at_end.result))
-        c.deref-then-here-input.ensures.value (c.at_end.ensures s))
+    (subst (λ fs. Answers (at_end here (mode_of s here c.loop-at.mode) (frames_of fs)) (Ok c.at_end.result))
+    c.deref-then-here-input.ensures.value (c.at_end.ensures s))
 
 pub returns : goal.returns
 returns c =
@@ -26,5 +26,5 @@ returns c =
     let at = c.loop-at.at in
     let past : length s ≤ at = omega arith in
     same_answer _ _ _ (sym c.loop-at.invariant.0 ∙ ends longest s at (frames_of c.loop-at.stack.items) (mode_of s at c.loop-at.mode) past)
-      (subst (λ fs. Answers (at_end at (mode_of s at c.loop-at.mode) (frames_of fs)) (Ok c.at_end-2.result))
-        c.deref-2.ensures.value (c.at_end-2.ensures s))
+    (subst (λ fs. Answers (at_end at (mode_of s at c.loop-at.mode) (frames_of fs)) (Ok c.at_end-2.result))
+    c.deref-2.ensures.value (c.at_end-2.ensures s))

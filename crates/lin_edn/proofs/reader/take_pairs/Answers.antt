@@ -1,4 +1,4 @@
-use Rattle.std.proofs.Common.{◌≡◌, ℕ, ◌+◌, ◌≤◌, ◌<◌, ◌∙◌, ap, arith, [], ◌∷◌, ◌++◌, drop, map, None}
+use Rattle.std.proofs.Common.{◌≤◌, ◌<◌, ◌∙◌, ap, arith, [], ◌∷◌, ◌++◌, drop, map, None}
 use Rattle.std.specs.List.{slice_range}
 use Rattle.lin_edn.proofs.Ahead.{pair_more, entry_more}
 use Rattle.lin_edn.specs.Bytes.{a_map}
@@ -26,10 +26,13 @@ loop-at-preserved c =
     let d2 : value_end ≤ c.args.end = c.plain_run-value_at.ensures.1 in
     let key_in : key_end < c.args.end = omega arith in
     let value_in : value_end < c.args.end = omega arith in
-    let seen = rw (c.run_element-key.ensures, c.run_element-value.ensures) at c.entry_of.ensures in
-    (omega arith, d2, λ o st short.
-      c.loop-at.invariant.2 o st short
-      ∙ (c.plain_run-key_at.ensures.3 key_in).1 a_map o (flat (map entry_view old) None) st short
-      ∙ (c.plain_run-value_at.ensures.3 value_in).1 a_map o (flat (map entry_view old) None ++ key ∷ []) st short
-      ∙ ap (λ l. run longest value_end (frame a_map o l ∷ st) between (drop value_end s))
-          (pair_more (map entry_view old) key value ∙ entry_more old c.push.new.self.items c.entry_of.result key value c.in_ok-push.ensures.items seen))
+    let seen = rw (c.run_element-key.ensures, c.run_element-value.ensures) at c.entry_of.ensures in (
+      omega arith,
+      d2,
+      λ o st short.
+          c.loop-at.invariant.2 o st short
+          ∙ (c.plain_run-key_at.ensures.3 key_in).1 a_map o (flat (map entry_view old) None) st short
+          ∙ (c.plain_run-value_at.ensures.3 value_in).1 a_map o (flat (map entry_view old) None ++ key ∷ []) st short
+          ∙ ap (λ l. run longest value_end (frame a_map o l ∷ st) between (drop value_end s))
+          (pair_more (map entry_view old) key value ∙ entry_more old c.push.new.self.items c.entry_of.result key value c.in_ok-push.ensures.items seen),
+    )

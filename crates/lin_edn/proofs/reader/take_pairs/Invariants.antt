@@ -1,4 +1,4 @@
-use Rattle.std.proofs.Common.{◌≡◌, ◌≤◌, map, length, ◌-◌}
+use Rattle.std.proofs.Common.{map, ◌-◌}
 use Rattle.lin_edn.specs.Scans.{ArePairs}
 use Rattle.lin_edn.specs.View.{entry_view}
 use Rattle.lin_edn.proofs.reader.take_pairs.Given as goal

@@ -1,4 +1,4 @@
-use Rattle.std.proofs.Common.{◌≡◌, ℕ, nat_eq, get_or, refl, arith}
+use Rattle.std.proofs.Common.{nat_eq, get_or, refl, arith}
 use Rattle.std.proofs.lemmas.Bool.{agree_below_at}
 use Rattle.lin_edn.specs.Bytes.{is_white}
 use Rattle.lin_edn.specs.declared.scan.TheConstants.{CLASSES}
