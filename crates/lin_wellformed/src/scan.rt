@@ -56,8 +56,8 @@ impl Scan {
 
     /// Takes in the rest of the events, and answers whether all are well-formed for the kinds.
     ///
-    /// Asks that the scan is right for the first `ready()` events. Each event past them counts as one scan.
-    /// Where memory is refused, the events before the refusal are taken in.
+    /// Asks that the scan is right for the first `ready()` events. Each event past them, up to the first bad one, counts as
+    /// one scan. Where memory is refused, the events before the refusal are taken in.
     pub fn settle(
         &mut self,
         events: &[Event],
