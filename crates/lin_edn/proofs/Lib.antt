@@ -12,3 +12,5 @@ pub mod Order
 pub mod Rising
 pub mod Runs
 pub mod Sizes
+pub mod Skims
+pub mod Sound

@@ -6,6 +6,7 @@ pub mod Numbers
 pub mod Reading
 pub mod Run
 pub mod Scans
+pub mod Skimming
 pub mod Turns
 pub mod Value
 pub mod View

@@ -12,9 +12,11 @@ mod levels;
 mod reader;
 mod run;
 mod scan;
+mod skim;
 #[cfg(test)]
 mod tests;
 
+pub use crate::skim::Skim;
 use std::alloc::{AllocError, Global};
 
 /// A part of the input: `text` is `input[at..at + text.len()]`.

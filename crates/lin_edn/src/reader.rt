@@ -22,13 +22,13 @@ use crate::{Edn, EdnCause, EdnFault, Entry, Next, Span};
 use std::alloc::{AllocError, Global};
 
 // The greatest number of bytes that a top-level element, comment or discard has.
-const LONGEST: usize = 16_777_216;
+pub(crate) const LONGEST: usize = 16_777_216;
 
 // Room for the entries of the usual map at its beginning.
 const USUAL_ENTRIES: usize = 6;
 
 // The greatest number of levels.
-const DEEPEST: usize = 64;
+pub(crate) const DEEPEST: usize = 64;
 
 /// What is open beside the levels, with the place where it begins.
 #[derive(Clone, Copy)]
@@ -83,7 +83,7 @@ pub(crate) enum Behind {
 }
 
 /// What the byte behind a `#` makes of it.
-fn behind_hash(c: u8) -> Behind
+pub(crate) fn behind_hash(c: u8) -> Behind
     ensures { behind_of result ≡ bytes.behind c }
 {
     match c {

@@ -1,4 +1,4 @@
-use crate::{Edn, EdnCause, EdnFault, Next, next_element};
+use crate::{Edn, EdnCause, EdnFault, Next, Skim, next_element};
 use std::alloc::{AllocError, Global};
 use std::test::Fail;
 
@@ -235,4 +235,46 @@ fn lengths_of_blanks(rt: HostRuntime) -> Result<(), Fail> {
     let long_discard = padded(alloc, b"#_", b'a', longest - 1, b" nil ")?;
     assert_eq!(rt; answer(alloc, long_discard.as_slice()), (FAULT, 0, 4));
     Ok(())
+}
+
+/// Whether the reader without values says of each front of a text what the reader says, up to the first that isn't open.
+fn skims(alloc: Global, text: &[u8]) -> bool {
+    let mut skim = Skim::new(alloc);
+    for n in 0..text.len() {
+        let goes_on = skim.go_on(&text[n..n + 1]);
+        let (kind, at, _) = answer(alloc, &text[..n + 1]);
+        if goes_on != ((kind == PARTIAL || kind == BLANK) && at == 0) {
+            return false;
+        }
+        if !goes_on {
+            return true;
+        }
+        if skim.is_comment() != (kind == BLANK) {
+            return false;
+        }
+    }
+    true
+}
+
+#[test]
+fn skimmed(rt: HostRuntime) {
+    let rows: [&[u8]; 8] = [
+        b"#_ [1 \"]\\\"\" {:a #t (2 ; ]\n) \\] } #{a #_ b ##c}] ",
+        b"{:process 0, :type :ok, :value [1 nil]}",
+        b"{:a #_ 1}",
+        b"[(])",
+        b"; a comment\n",
+        b"#t #u abc ",
+        b"#(",
+        b"\\ a ",
+    ];
+    for text in rows {
+        assert!(rt; skims(rt.alloc(), text));
+    }
+    let mut skim = Skim::new(rt.alloc());
+    assert!(rt; skim.go_on(b"[1 2"));
+    assert!(rt; !skim.go_on(b" 3]"));
+    skim.clear();
+    assert!(rt; skim.go_on(b"[1 2"));
+    assert!(rt; skim.go_on(b" 3"));
 }

@@ -1,0 +1,256 @@
+-- The reader without values goes with the machine.
+use Rattle.std.proofs.Common.{◌≡◌, ℕ, suc, ◌+◌, ◌<◌, Bool, true, false, not, ◌&&◌, ◌==◌, nat_le, if◌then◌else◌, List, [], ◌∷◌, ◌++◌, length, map as each, refl, sym, ap, ◌∙◌, arith, Option, Some, None, option_map, is_some, subst, rules, tests, append_assoc, append-nil, length-append}
+use Rattle.std.proofs.lemmas.List.{length-map}
+use Rattle.lin_edn.specs.Bytes.{Kind, a_list, a_vector, a_set, a_map, Class, class, white, semicolon, opener, closer, quote, backslash, hash, inside, is_stop, is_newline, closing, Behind, behind, opens_set, opens_text, discards, joins, stands_apart, names_tag, Quoted, quoted, ends, escapes, stays}
+use Rattle.lin_edn.specs.Grammar.{Frame, frame, discarding, tagging, longest, IsUnfinished, IsBlankText}
+use Rattle.lin_edn.specs.Machine.{Mode, between, in_run, after_hash, after_backslash, in_tag, in_text, in_escape, in_comment, partial, blank, fault, too_long, Turn, go, stop, run, step, limited, ended, taken, begun, outermost, place_of, on_turn, put, deeper, begins, goes_on, quotes, apart, close, closed, at_end}
+use Rattle.lin_edn.specs.Run.{run_value}
+use Rattle.lin_edn.specs.Skimming.{Shape, brackets, a_discard, a_tag, shape_of, part_of, grown, still, put_shape, with_part, apart_shape, ended_shape, deeper_shape, close_shape, begins_shape, goes_on_shape, quotes_shape, taken_shape, Seen, is_top_comment, IsOpenText}
+use Rattle.lin_edn.specs.Value.{Value, Entries, atom, text as a_text, tagged, made, map, pairs_from, entry}
+use Rattle.lin_edn.specs.declared.EdnCause.TheVariants.{Unbalanced, TooDeep}
+use Rattle.lin_edn.specs.declared.skim.Part.{Part}
+use Rattle.lin_edn.specs.declared.skim.Part.TheVariants as part
+use Rattle.lin_edn.proofs.Back.{What, what}
+use Rattle.lin_edn.proofs.Sound.{unfinished_of}
+
+-- whether a level can be closed after one more element
+some_map : (f : Entries → Value) (o : Option Entries) → is_some (option_map f o) ≡ is_some o
+some_map f None = refl
+some_map f (Some es) = refl
+
+some_entry : (k v : Value) (o : Option Entries) → is_some (option_map (entry k v) o) ≡ is_some o
+some_entry k v None = refl
+some_entry k v (Some es) = refl
+
+paired : (o : Option Value) (vs : List Value) (v : Value) → is_some (pairs_from o (vs ++ v ∷ [])) ≡ not (is_some (pairs_from o vs))
+paired None [] v = refl
+paired (Some k) [] v = refl
+paired None (w ∷ vs) v = paired (Some w) vs v
+paired (Some k) (w ∷ vs) v =
+    some_entry k w (pairs_from None (vs ++ v ∷ [])) ∙ paired None vs v ∙ ap not (sym (some_entry k w (pairs_from None vs)))
+
+made_grown : (k : Kind) (vs : List Value) (v : Value) → is_some (made k (vs ++ v ∷ [])) ≡ grown k (is_some (made k vs))
+made_grown a_list vs v = refl
+made_grown a_vector vs v = refl
+made_grown a_set vs v = refl
+made_grown a_map vs v =
+    some_map map (pairs_from None (vs ++ v ∷ [])) ∙ paired None vs v ∙ ap not (sym (some_map map (pairs_from None vs)))
+
+made_empty : (k : Kind) → is_some (made k []) ≡ true
+made_empty a_list = refl
+made_empty a_vector = refl
+made_empty a_set = refl
+made_empty a_map = refl
+
+-- a turn goes on to a state of this shape, and what stands at the top began where it did
+pub data Follows : ℕ → ℕ → Turn → List Shape → Part → Type 0 where
+  follows : {at b : ℕ} {t : Turn} {ls : List Shape} {p : Part} (st : List Frame) (m : Mode) → t ≡ go st m → each shape_of st ≡ ls → part_of m ≡ p →
+      begun at st m ≡ b → Follows at b t ls p
+
+-- what an outcome of the shapes says of a turn
+abbrev Matches : ℕ → ℕ → Turn → Option (List Shape × Part) → Type 0
+Matches at b t None = Unit {0}
+Matches at b t (Some r) = Follows at b t r.0 r.1
+
+put_case : (v : Value) (p : ℕ) (st : List Frame) (q : ℕ) (o : Option (List Shape)) → put_shape (each shape_of st) ≡ o →
+    Matches q (outermost p st) (put v p st q) (with_part part.Between o)
+put_case v p st q None h = tt
+put_case v p [] q (Some ls) h = absurd (cc)
+put_case v p (frame k o vs ∷ st) q (Some ls) h =
+    follows (frame k o (vs ++ v ∷ []) ∷ st) between refl (ap (λ b. brackets k b ∷ each shape_of st) (made_grown k vs v) ∙ cc) refl refl
+put_case v p (discarding o ∷ []) q (Some ls) h = absurd (cc)
+put_case v p (discarding o ∷ (f ∷ st)) q (Some ls) h = follows (f ∷ st) between refl (cc) refl refl
+put_case v p (tagging o i w ∷ st) q (Some ls) h = put_case (tagged i w v) o st q (Some ls) h
+
+put_matches : (v : Value) (p : ℕ) (st : List Frame) (q : ℕ) → Matches q (outermost p st) (put v p st q) (with_part part.Between (put_shape (each shape_of st)))
+put_matches v p st q = put_case v p st q (put_shape (each shape_of st)) refl
+
+still_matches : (p at : ℕ) (st : List Frame) → Matches at (outermost p st) (go st between) (with_part part.Between (still (each shape_of st)))
+still_matches p at [] = tt
+still_matches p at (f ∷ st) = follows (f ∷ st) between refl refl refl refl
+
+-- what a byte ends before itself
+run_if : (at p : ℕ) (w : List ℕ) (st : List Frame) (b : Bool) → Matches at (outermost p st) (if b then put (run_value p w) p st at else go st (in_run p w))
+    (if b then with_part part.Between (put_shape (each shape_of st)) else Some (each shape_of st, part.Run))
+run_if at p w st true = put_matches (run_value p w) p st at
+run_if at p w st false = follows st (in_run p w) refl refl refl refl
+
+tag_if : (at p : ℕ) (w : List ℕ) (st : List Frame) (b : Bool) → Matches at (outermost p st) (if b then go (tagging p (p + 1) w ∷ st) between else go st (in_tag p w))
+    (if b then Some (a_tag ∷ each shape_of st, part.Between) else Some (each shape_of st, part.Tag))
+tag_if at p w st true = follows (tagging p (p + 1) w ∷ st) between refl refl refl refl
+tag_if at p w st false = follows st (in_tag p w) refl refl refl refl
+
+apart_matches : (at p : ℕ) (w : List ℕ) (st : List Frame) (b : Behind) → Matches at (outermost p st) (apart b at st p w) (apart_shape b (each shape_of st))
+apart_matches at p w st opens_set = follows st (after_hash p w) refl refl refl refl
+apart_matches at p w st opens_text = follows st (after_hash p w) refl refl refl refl
+apart_matches at p w st discards = follows st (after_hash p w) refl refl refl refl
+apart_matches at p w st joins = follows st (after_hash p w) refl refl refl refl
+apart_matches at p w st stands_apart = put_matches (atom p w) p st at
+apart_matches at p w st names_tag = follows st (after_hash p w) refl refl refl refl
+
+ended_matches : (at c : ℕ) (st : List Frame) (m : Mode) → Matches at (begun at st m) (ended at st m c) (ended_shape (part_of m) (each shape_of st) c)
+ended_matches at c st between = follows st between refl refl refl refl
+ended_matches at c st (in_run p w) = run_if at p w st (is_stop c)
+ended_matches at c st (after_hash p w) = apart_matches at p w st (behind c)
+ended_matches at c st (after_backslash p w) = follows st (after_backslash p w) refl refl refl refl
+ended_matches at c st (in_tag p w) = tag_if at p w st (is_stop c)
+ended_matches at c st (in_text p w) = follows st (in_text p w) refl refl refl refl
+ended_matches at c st (in_escape p w) = follows st (in_escape p w) refl refl refl refl
+ended_matches at c st (in_comment p) = follows st (in_comment p) refl refl refl refl
+
+-- the byte itself
+deeper_case : (at b here p : ℕ) (t : Turn) (r : List Shape × Part) (d : Bool) → Follows at b t r.0 r.1 →
+    Matches at b (if d then stop (fault here p TooDeep) else t) (if d then None else Some r)
+deeper_case at b here p t r true h = tt
+deeper_case at b here p t r false h = h
+
+deeper_matches : (at b here p : ℕ) (st : List Frame) (t : Turn) (r : List Shape × Part) → Follows at b t r.0 r.1 →
+    Matches at b (deeper here p st t) (deeper_shape (each shape_of st) r)
+deeper_matches at b here p st t r h = rw length-map (deeper_case at b here p t r (nat_le 64 (length st)) h)
+
+closed_if : (at o : ℕ) (st : List Frame) (b : Bool) (m : Option Value) →
+    Matches (at + 1) (outermost o st) (if b then closed m o st at else stop (fault at at Unbalanced))
+    (if b && is_some m then with_part part.Between (put_shape (each shape_of st)) else None)
+closed_if at o st true None = tt
+closed_if at o st true (Some v) = put_matches v o st (at + 1)
+closed_if at o st false None = tt
+closed_if at o st false (Some v) = tt
+
+close_matches : (at c : ℕ) (st : List Frame) → Matches (at + 1) (outermost at st) (close at st c) (close_shape (each shape_of st) c)
+close_matches at c [] = tt
+close_matches at c (frame k o vs ∷ st) = closed_if at o st (closing k == c) (made k vs)
+close_matches at c (discarding o ∷ st) = tt
+close_matches at c (tagging o i w ∷ st) = tt
+
+begins_matches : (at c : ℕ) (st : List Frame) (k : Class) → Matches (at + 1) (outermost at st) (begins k at st c) (begins_shape k (each shape_of st) c)
+begins_matches at c st white = still_matches at (at + 1) st
+begins_matches at c st semicolon = follows st (in_comment at) refl refl refl refl
+begins_matches at c st (opener k) =
+    deeper_matches (at + 1) (outermost at st) at at st (go (frame k at [] ∷ st) between) (brackets k true ∷ each shape_of st, part.Between)
+    (follows (frame k at [] ∷ st) between refl (ap (λ b. brackets k b ∷ each shape_of st) (made_empty k)) refl refl)
+begins_matches at c st closer = close_matches at c st
+begins_matches at c st quote = follows st (in_text at (c ∷ [])) refl refl refl refl
+begins_matches at c st backslash = follows st (after_backslash at (c ∷ [])) refl refl refl refl
+begins_matches at c st hash = follows st (after_hash at (c ∷ [])) refl refl refl refl
+begins_matches at c st inside = follows st (in_run at (c ∷ [])) refl refl refl refl
+
+goes_on_matches : (at c p : ℕ) (w : List ℕ) (st : List Frame) (b : Behind) → Matches (at + 1) (outermost p st) (goes_on b at st p w c) (goes_on_shape b (each shape_of st))
+goes_on_matches at c p w st opens_set =
+    deeper_matches (at + 1) (outermost p st) at p st (go (frame a_set p [] ∷ st) between) (brackets a_set true ∷ each shape_of st, part.Between)
+    (follows (frame a_set p [] ∷ st) between refl refl refl refl)
+goes_on_matches at c p w st opens_text = follows st (in_text p (w ++ c ∷ [])) refl refl refl refl
+goes_on_matches at c p w st discards =
+    deeper_matches (at + 1) (outermost p st) at p st (go (discarding p ∷ st) between) (a_discard ∷ each shape_of st, part.Between)
+    (follows (discarding p ∷ st) between refl refl refl refl)
+goes_on_matches at c p w st joins = follows st (in_run p (w ++ c ∷ [])) refl refl refl refl
+goes_on_matches at c p w st stands_apart = follows st (in_run p (w ++ c ∷ [])) refl refl refl refl
+goes_on_matches at c p w st names_tag =
+    deeper_matches (at + 1) (outermost p st) at p st (go st (in_tag p (c ∷ []))) (each shape_of st, part.Tag) (follows st (in_tag p (c ∷ [])) refl refl refl refl)
+
+quotes_matches : (at c p : ℕ) (w : List ℕ) (st : List Frame) (k : Quoted) → Matches (at + 1) (outermost p st) (quotes k at st p w c) (quotes_shape k (each shape_of st))
+quotes_matches at c p w st ends = put_matches (a_text p (w ++ c ∷ [])) p st (at + 1)
+quotes_matches at c p w st escapes = follows st (in_escape p (w ++ c ∷ [])) refl refl refl refl
+quotes_matches at c p w st stays = follows st (in_text p (w ++ c ∷ [])) refl refl refl refl
+
+newline_if : (at p : ℕ) (st : List Frame) (b : Bool) → Matches (at + 1) (outermost p st) (if b then go st between else go st (in_comment p))
+    (if b then with_part part.Between (still (each shape_of st)) else Some (each shape_of st, part.Comment))
+newline_if at p st true = still_matches p (at + 1) st
+newline_if at p st false = follows st (in_comment p) refl refl refl refl
+
+taken_matches : (at c : ℕ) (st : List Frame) (m : Mode) → Matches (at + 1) (begun at st m) (taken at st m c) (taken_shape (part_of m) (each shape_of st) c)
+taken_matches at c st between = begins_matches at c st (class c)
+taken_matches at c st (in_run p w) = follows st (in_run p (w ++ c ∷ [])) refl refl refl refl
+taken_matches at c st (after_hash p w) = goes_on_matches at c p w st (behind c)
+taken_matches at c st (after_backslash p w) = follows st (in_run p (w ++ c ∷ [])) refl refl refl refl
+taken_matches at c st (in_tag p w) = follows st (in_tag p (w ++ c ∷ [])) refl refl refl refl
+taken_matches at c st (in_text p w) = quotes_matches at c p w st (quoted c)
+taken_matches at c st (in_escape p w) = follows st (in_text p (w ++ c ∷ [])) refl refl refl refl
+taken_matches at c st (in_comment p) = newline_if at p st (is_newline c)
+
+-- a byte
+is_above : (a b : ℕ) → b < a → nat_le a b ≡ false
+is_above a b h = search (rules, tests)
+
+matched : (at b : ℕ) (t : Turn) (o : Option (List Shape × Part)) (r : List Shape × Part) → o ≡ Some r → Matches at b t o → Follows at b t r.0 r.1
+matched at b t None r e h = absurd (cc)
+matched at b t (Some x) r e h = let same : x ≡ r = cc in subst (λ y. Follows at b t y.0 y.1) same h
+
+limited_follows : (at c : ℕ) (t : Turn) (ls1 ls2 : List Shape) (p1 p2 : Part) → Follows at 0 t ls1 p1 → at < longest →
+    taken_shape p1 ls1 c ≡ Some (ls2, p2) → Follows (at + 1) 0 (limited longest at c t) ls2 p2
+limited_follows at c t ls1 ls2 p1 p2 (follows st m e s q b) lt h =
+    let shaped : taken_shape (part_of m) (each shape_of st) c ≡ Some (ls2, p2) = ap (λ x. taken_shape x (each shape_of st) c) q ∙ ap (λ x. taken_shape p1 x c) s ∙ h in
+    let next = subst (λ n. Follows (at + 1) n (taken at st m c) ls2 p2) b (matched (at + 1) (begun at st m) (taken at st m c) _ (ls2, p2) shaped (taken_matches at c st m)) in
+    let above : at < begun at st m + longest = omega arith in
+    subst (λ x. Follows (at + 1) 0 (limited longest at c x) ls2 p2) (sym e)
+    (subst (λ x. Follows (at + 1) 0 (if x then stop (too_long (begun at st m)) else taken at st m c) ls2 p2) (sym (is_above (begun at st m + longest) at above)) next)
+
+run_step : (at : ℕ) (st : List Frame) (m : Mode) (c : ℕ) (x : List ℕ) →
+    run longest at st m (c ∷ x) ≡ on_turn (step longest at st m c) (λ st' m'. run longest (at + 1) st' m' x)
+unfolding run
+run_step at st m c x = refl
+
+more_seen : (n : ℕ) (text : List ℕ) (c : ℕ) (st : List Frame) (m : Mode) (ls : List Shape) (p : Part) → n ≡ length text →
+    ((x : List ℕ) → run longest 0 [] between (text ++ x) ≡ run longest (length text) st m x) →
+    Follows (length text + 1) 0 (step longest (length text) st m c) ls p → Seen (n + 1) ls p (text ++ c ∷ [])
+more_seen n text c st m ls p len h (follows st2 m2 e s q b) =
+    let more : length text + 1 ≡ length (text ++ c ∷ []) = simp length-append (omega arith) in (
+      omega arith,
+      st2,
+      m2,
+      s,
+      q,
+      subst (λ k. begun k st2 m2 ≡ 0) more b,
+      λ x. ap (run longest 0 [] between) (append_assoc text (c ∷ []) x) ∙ h (c ∷ x) ∙ run_step (length text) st m c x
+          ∙ ap (λ t. on_turn t (λ st3 m3. run longest (length text + 1) st3 m3 x)) e ∙ ap (λ k. run longest k st2 m2 x) more,
+    )
+
+pub seen_more : (n : ℕ) (text : List ℕ) (c : ℕ) (ls ls1 ls2 : List Shape) (p p1 p2 : Part) → ended_shape p ls c ≡ Some (ls1, p1) → n < longest →
+    taken_shape p1 ls1 c ≡ Some (ls2, p2) → Seen n ls p text → Seen (n + 1) ls2 p2 (text ++ c ∷ [])
+seen_more n text c ls ls1 ls2 p p1 p2 e lt f seen =
+    let st = seen.1 in
+    let m = seen.2 in
+    let at = length text in
+    let shaped : ended_shape (part_of m) (each shape_of st) c ≡ Some (ls1, p1) = ap (λ x. ended_shape x (each shape_of st) c) seen.4 ∙ ap (λ x. ended_shape p x c) seen.3 ∙ e in
+    let first_half = subst (λ b. Follows at b (ended at st m c) ls1 p1) seen.5 (matched at (begun at st m) (ended at st m c) _ (ls1, p1) shaped (ended_matches at c st m)) in
+    let below : at < longest = omega arith in
+    more_seen n text c st m ls2 p2 seen.0 seen.6 (limited_follows at c (ended at st m c) ls1 ls2 p1 p2 first_half below f)
+
+pub seen_none : (n : ℕ) (ls : List Shape) (p : Part) → n ≡ 0 → ls ≡ [] → p ≡ part.Between → Seen n ls p []
+seen_none n ls p a b c = (a, [], between, sym b, sym c, refl, λ x. refl)
+
+-- what is open
+end_run : (at : ℕ) (st : List Frame) (m : Mode) → run longest at st m [] ≡ at_end at m st
+unfolding run
+end_run at st m = refl
+
+partial_at : (text : List ℕ) (p : ℕ) → run longest 0 [] between text ≡ partial p → p ≡ 0 → IsUnfinished text 0
+partial_at text p e z = subst (IsUnfinished text) z (unfinished_of text p e)
+
+blank_at : (text : List ℕ) (p : ℕ) → run longest 0 [] between text ≡ blank p → p ≡ 0 → IsBlankText text 0
+blank_at text p e z = subst (IsBlankText text) z (subst (What text) e (what text))
+
+not_zero : (n : ℕ) → (suc n == 0) ≡ false
+not_zero n = search (rules, tests)
+
+open_case : (text : List ℕ) (st : List Frame) (m : Mode) → 0 < length text → begun (length text) st m ≡ 0 →
+    run longest 0 [] between text ≡ at_end (length text) m st → IsOpenText (is_top_comment (part_of m) (each shape_of st)) text
+open_case text [] between lt b e = absurd (omega arith)
+open_case text (f ∷ st) between lt b e = partial_at text (outermost (place_of f) st) e b
+open_case text st (in_run p w) lt b e = partial_at text (outermost p st) e b
+open_case text st (after_hash p w) lt b e = partial_at text (outermost p st) e b
+open_case text st (after_backslash p w) lt b e = partial_at text (outermost p st) e b
+open_case text st (in_tag p w) lt b e = partial_at text (outermost p st) e b
+open_case text st (in_text p w) lt b e = partial_at text (outermost p st) e b
+open_case text st (in_escape p w) lt b e = partial_at text (outermost p st) e b
+open_case text [] (in_comment p) lt b e = blank_at text p e b
+open_case text (f ∷ st) (in_comment p) lt b e =
+    subst (λ x. IsOpenText x text) (sym (not_zero (length (each shape_of st)))) (partial_at text (outermost (place_of f) st) e b)
+
+pub seen_open : (n : ℕ) (text : List ℕ) (ls : List Shape) (p : Part) → Seen n ls p text → 0 < length text → IsOpenText (is_top_comment p ls) text
+seen_open n text ls p seen lt =
+    let st = seen.1 in
+    let m = seen.2 in
+    let all : run longest 0 [] between text ≡ at_end (length text) m st =
+    ap (run longest 0 [] between) (sym (append-nil text)) ∙ seen.6 [] ∙ end_run (length text) st m in
+    subst (λ x. IsOpenText (is_top_comment x ls) text) seen.4
+    (subst (λ x. IsOpenText (is_top_comment (part_of m) x) text) seen.3 (open_case text st m lt seen.5 all))
