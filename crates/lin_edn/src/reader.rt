@@ -632,6 +632,63 @@ fn close_pairs<'a>(
     }
 }
 
+/// Whether the innermost level is a map that waits for a key.
+fn awaits_key(stack: &[Frame]) -> bool {
+    match stack.last() {
+        Some(Frame::Entries(_, _, key)) => key.is_none(),
+        _ => false,
+    }
+}
+
+/// Takes the byte at a place, and all pairs of runs that begin there in the innermost level.
+fn more_pairs<'a>(
+    alloc: Global,
+    stack: &mut Vec<Frame<'a>>,
+    input: &'a [u8],
+    at: usize,
+) -> Result<Went<'a>, AllocError>
+    requires inside { at < length input.now }
+    ensures { IfOk result (λ went. IsWent input.now at went (frames_of stack.new.items)
+        (machine.run longest at (frames_of stack.old.items) machine.between (drop at input.now))) }
+{
+    let end = window(begun_at(stack, Mode::Between, at), input.len());
+    if end <= at {
+        return Ok(one_step(alloc, stack, input, Mode::Between, at)?);
+    }
+    let next = pairs_on_top(stack, input, at, end)?;
+    if next > at {
+        return Ok(Went::On(Mode::Between, next));
+    }
+    Ok(one_step(alloc, stack, input, Mode::Between, at)?)
+}
+
+/// Takes the pairs of runs that begin at a place, where the innermost level is a map that waits for a key.
+fn pairs_on_top<'a>(
+    stack: &mut Vec<Frame<'a>>,
+    input: &'a [u8],
+    at: usize,
+    end: usize,
+) -> Result<usize, AllocError>
+    requires begun { at ≤ end }
+    requires inside { end ≤ length input.now }
+    ensures { IfOk result (λ next. (at ≤ next) × (next ≤ end) × (end ≤ machine.outermost at (frames_of stack.old.items) + longest →
+        machine.run longest at (frames_of stack.old.items) machine.between (drop at input.now)
+        ≡ machine.run longest next (frames_of stack.new.items) machine.between (drop next input.now))) }
+{
+    match pop(stack) {
+        Some(Frame::Entries(from, mut entries, None)) => {
+            let next = take_pairs(&mut entries, input, at, end)?;
+            push(stack, Frame::Entries(from, entries, None))?;
+            Ok(next)
+        }
+        Some(frame) => {
+            push(stack, frame)?;
+            Ok(at)
+        }
+        None => Ok(at),
+    }
+}
+
 /// Takes the byte at a place, and all that can be taken with it.
 fn go_from<'a>(
     alloc: Global,
@@ -647,6 +704,9 @@ fn go_from<'a>(
 {
     match mode {
         Mode::Between if input[at] == b'{' => Ok(open_map(alloc, stack, input, at)?),
+        Mode::Between if is_plain(input[at]) && awaits_key(stack) => Ok(more_pairs(
+            alloc, stack, input, at,
+        )?),
         _ => Ok(one_step(alloc, stack, input, mode, at)?),
     }
 }
