@@ -14,3 +14,6 @@ pub use follow::{Follow, FollowFault, faults_stay};
 pub use meter::Meter;
 pub use numbers::{IntSet, OutOfMemory, sets};
 pub use table::{EventFault, event_of};
+
+#[cfg(test)]
+mod tests;

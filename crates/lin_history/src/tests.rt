@@ -1,0 +1,271 @@
+use crate::{
+    Body, Call, Event, EventFault, Follow, FollowFault, IntSet, Meter, Name, Reply, Val, event_of,
+};
+use lin_edn::{EdnCause, Next, next_element};
+use std::alloc::Global;
+use std::process::Abort;
+use std::test::Fail;
+
+const RECORDED: &[u8] = b"; a recorded test
+[#jepsen.history.Op{:index 0, :time 12, :type :invoke, :process 0, :f :write, :value 1}
+ {:type :info :process :nemesis :f :start :value {:n1 #{\"n2; }\"}}}
+ #_{:type \\}} {:process 0, :type :ok, :f :write, :value 1, :error nil}]
+{:process 1 :type :invoke :f :read}
+";
+
+/// What the events of a follower are, one letter for each, and its end.
+fn taken(follow: &mut Follow) -> (usize, usize, usize) {
+    let mut counts = (0usize, 0usize, 0usize);
+    for _ in 0..follow.ready() {
+        match follow.take() {
+            Some(
+                Event {
+                    process: 0,
+                    key: 0,
+                    body: Body::Invoke(Call::Write(Val::Int(1))),
+                },
+            ) => counts.0 = counts.0.saturating_add(1),
+            Some(
+                Event {
+                    process: 0,
+                    key: 0,
+                    body: Body::Ok(Name::Write, Reply::Done),
+                },
+            ) => counts.1 = counts.1.saturating_add(1),
+            Some(
+                Event {
+                    process: 1,
+                    key: 0,
+                    body: Body::Invoke(Call::Read),
+                },
+            ) => counts.2 = counts.2.saturating_add(1),
+            _ => {}
+        }
+    }
+    counts
+}
+
+#[test]
+fn a_recorded_test_is_the_same_however_it_is_cut(rt: HostRuntime) -> Result<(), Fail> {
+    let alloc = rt.alloc();
+    let mut whole = Follow::new(alloc, false);
+    assert_eq!(rt; whole.feed(RECORDED), Ok(3));
+    assert_eq!(rt; whole.finish(), Ok(()));
+    assert_eq!(rt; taken(&mut whole), (1, 1, 1));
+
+    let mut cut = Follow::new(alloc, false);
+    for byte in RECORDED {
+        assert!(rt; cut.feed(&[*byte]).is_ok());
+    }
+    assert_eq!(rt; cut.ready(), 3);
+    assert_eq!(rt; cut.finish(), Ok(()));
+    assert_eq!(rt; taken(&mut cut), (1, 1, 1));
+    assert!(rt; cut.take().is_none());
+    Ok(())
+}
+
+#[test]
+fn a_fault_stands_and_the_events_before_it_are_ready(rt: HostRuntime) -> Result<(), Fail> {
+    let alloc = rt.alloc();
+    let mut follow = Follow::new(alloc, false);
+    assert_eq!(rt;
+        follow.feed(b"{:process 0 :type :invoke :f :write :value 1"),
+        Ok(0)
+    );
+    assert_eq!(rt; follow.finish(), Err(FollowFault::Truncated { at: 0 }));
+    assert_eq!(rt; follow.feed(b"2}"), Ok(1));
+    let fault = FollowFault::Edn {
+        at: 46,
+        cause: EdnCause::Unbalanced,
+    };
+    assert_eq!(rt; follow.feed(b"}"), Err(fault));
+    assert_eq!(rt; follow.feed(b"{}"), Err(fault));
+    assert_eq!(rt; follow.finish(), Err(fault));
+    match follow.take() {
+        Some(
+            Event {
+                process: 0,
+                key: 0,
+                body: Body::Invoke(Call::Write(Val::Int(12))),
+            },
+        ) => {}
+        _ => assert!(rt; false, "the write of 12 was ready"),
+    }
+    assert_eq!(rt; follow.ready(), 0);
+    Ok(())
+}
+
+fn end_of(rt: &impl Abort, alloc: Global, text: &[u8], events: usize) -> Result<(), FollowFault> {
+    let mut follow = Follow::new(alloc, false);
+    let fed = follow.feed(text);
+    assert_eq!(rt; follow.ready(), events);
+    match fed {
+        Ok(count) => assert_eq!(rt; count, events),
+        Err(fault) => assert_eq!(rt; follow.finish(), Err(fault)),
+    }
+    follow.finish()
+}
+
+#[test]
+fn a_stream_ends_where_it_has_to(rt: HostRuntime) -> Result<(), Fail> {
+    let alloc = rt.alloc();
+    assert_eq!(rt;
+        end_of(&rt, alloc, b"#_#_a b", 0),
+        Err(FollowFault::Truncated { at: 0 })
+    );
+    assert_eq!(rt;
+        end_of(&rt, alloc, b"#_a b", 0),
+        Err(FollowFault::Truncated { at: 4 })
+    );
+    assert_eq!(rt; end_of(&rt, alloc, b" [] ; no end", 0), Ok(()));
+    assert_eq!(rt;
+        end_of(&rt, alloc, b"5(", 0),
+        Err(FollowFault::Event {
+            at: 0,
+            cause: EventFault::NotAMap
+        })
+    );
+    // The map before the nested vector counts, and the fault is told at the tag in front of the outer one.
+    assert_eq!(rt;
+        end_of(
+            &rt,
+            alloc,
+            b" #t[{:process 0 :type :fail :f :cas} [{:process 0 :type :fail :f :cas}]]",
+            1
+        ),
+        Err(FollowFault::Event {
+            at: 1,
+            cause: EventFault::NotAMap
+        })
+    );
+    assert_eq!(rt;
+        end_of(&rt, alloc, b"[{:process 0 :type :fail :f :cas} }", 0),
+        Err(FollowFault::Edn {
+            at: 34,
+            cause: EdnCause::Unbalanced
+        })
+    );
+    Ok(())
+}
+
+/// The event of a text that holds one element.
+fn event_in(
+    rt: &impl Abort,
+    alloc: Global,
+    text: &[u8],
+    keyed: bool,
+) -> Result<Option<Event>, EventFault> {
+    match next_element(alloc, text) {
+        Ok(Next::Complete { value, .. }) => event_of(alloc, &value, keyed),
+        _ => {
+            assert!(rt; false, "the text is one element");
+            Ok(None)
+        }
+    }
+}
+
+fn fault_in(rt: &impl Abort, alloc: Global, text: &[u8], keyed: bool) -> Option<EventFault> {
+    event_in(rt, alloc, text, keyed).err()
+}
+
+#[test]
+fn maps_say_events_by_the_table(rt: HostRuntime) -> Result<(), Fail> {
+    let alloc = rt.alloc();
+    let bad = Some(EventFault::BadValue);
+    for text in [
+        b"9223372036854775808 ".as_slice(),
+        b"007 ",
+        b"1.5 ",
+        b"\"a\" ",
+        b":a ",
+    ] {
+        let mut map = Vec::from_slice(alloc, b"{:process 0 :type :invoke :f :write :value ")?;
+        map.extend_from_slice(text)?;
+        map.push(b'}')?;
+        assert_eq!(rt; fault_in(&rt, alloc, map.as_slice(), false), bad);
+    }
+    match event_in(
+        &rt,
+        alloc,
+        b"{:process 7N :type :invoke :f #t :cas :value #t[1 #u -9223372036854775808]}",
+        false,
+    ) {
+        Ok(
+            Some(
+                Event {
+                    process: 7,
+                    key: 0,
+                    body: Body::Invoke(Call::Cas(Val::Int(1), Val::Int(least))),
+                },
+            ),
+        ) => assert_eq!(rt; least, i64::MIN),
+        _ => assert!(rt; false, "a compare-and-set"),
+    }
+    match event_in(
+        &rt,
+        alloc,
+        b"{:process 1 :type :ok :f :read :value (3 [2 1 2])}",
+        true,
+    ) {
+        Ok(
+            Some(
+                Event {
+                    process: 1,
+                    key: 3,
+                    body: Body::Ok(Name::Read, Reply::Members(members)),
+                },
+            ),
+        ) => {
+            assert_eq!(rt; members.as_slice(), [1, 2].as_slice());
+        }
+        _ => assert!(rt; false, "a read of a set"),
+    }
+    assert!(rt; matches!(event_in(&rt, alloc, b"{:process :nemesis}", true), Ok(None)));
+    assert_eq!(rt;
+        fault_in(&rt, alloc, b"{:process 0 :process 1}", false),
+        Some(EventFault::DuplicateKey)
+    );
+    assert_eq!(rt;
+        fault_in(&rt, alloc, b"{#t :process 0 :type :ok :f :read}", false),
+        Some(EventFault::Missing)
+    );
+    assert_eq!(rt;
+        fault_in(
+            &rt,
+            alloc,
+            b"{:process 0 :type :ok :f :read :value [1 2 3]}",
+            true
+        ),
+        Some(EventFault::BadKey)
+    );
+    Ok(())
+}
+
+#[test]
+fn sets_copies_and_counts(rt: HostRuntime) -> Result<(), Fail> {
+    let alloc = rt.alloc();
+    let mut set = IntSet::new(alloc);
+    for member in [3, 1, 2, 3] {
+        set.insert(member)?;
+    }
+    assert_eq!(rt; set.as_slice(), [1, 2, 3].as_slice());
+    let event = Event {
+        process: 4,
+        key: 5,
+        body: Body::Ok(Name::Read, Reply::Members(set)),
+    };
+    match event.copy(alloc)? {
+        Event {
+            process: 4,
+            key: 5,
+            body: Body::Ok(Name::Read, Reply::Members(members)),
+        } => assert_eq!(rt; members.as_slice().len(), 3),
+        _ => assert!(rt; false, "the same event"),
+    }
+    let mut meter = Meter::new();
+    meter.tick_scan();
+    meter.tick_step();
+    meter.tick_step();
+    assert_eq!(rt; (meter.scans(), meter.steps(), meter.tries()), (1, 2, 0));
+    Ok(())
+}
