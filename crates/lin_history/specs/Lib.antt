@@ -8,3 +8,4 @@ pub mod Fields
 pub mod Stream
 pub mod Sees
 pub mod Reads
+pub mod Rests

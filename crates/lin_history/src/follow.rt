@@ -1,17 +1,19 @@
 //! The events of a stream that comes in pieces.
-ghost use Rattle.std.specs.Prelude.{◌≡◌, ◌+◌, ◌≤◌, ◌++◌, [], ◌∷◌, true, false, List, Err, map, length, drop, MatchOption, OnOk, OnErr};
+ghost use Rattle.std.specs.Prelude.{◌≡◌, ◌+◌, ◌≤◌, ◌++◌, [], ◌∷◌, true, false, Bool, ℕ, List, Err, map, length, drop, MatchOption, OnOk, OnErr};
 ghost use Rattle.lin_edn.specs.Value.{values_of};
 ghost use Rattle.lin_edn.specs.View.{view};
+ghost use Rattle.lin_edn.specs.Skimming.{IsOpenText};
 ghost use Rattle.lin_history.specs.Stream.{told, told_by};
 ghost use Rattle.lin_history.specs.Sees.{Sees, Takes, Feeds, StaysFaulty, FaultsStay, most};
-ghost use Rattle.lin_history.specs.Reads.{IsTold, IsReadOn, IsFront, IsStanding, IsRead};
+ghost use Rattle.lin_history.specs.Reads.{IsTold, IsReadOn, IsReadTo, IsFront, IsStanding, IsRead};
+ghost use Rattle.lin_history.specs.Rests.{Knows, GoesOn};
 ghost use Rattle.lin_history.specs.declared.events.Event.{Event as TheEvent};
 ghost use Rattle.lin_history.specs.declared.follow.FollowFault.{FollowFault as TheFault};
 
 use crate::events::Event;
 use crate::numbers::OutOfMemory;
 use crate::table::{EventFault, bare, event_of};
-use lin_edn::{Edn, EdnCause, Next, blanks_in_front, more_bytes, next_element, places};
+use lin_edn::{Edn, EdnCause, Next, Skim, blanks_in_front, more_bytes, next_element, places};
 use std::alloc::Global;
 use std::collections::VecDeque;
 use std::marker::Model;
@@ -48,17 +50,27 @@ pub struct Follow {
     passed: u64,
     // What stands behind the last whole element, from the first byte on that isn't blank.
     held: Vec<u8>,
+    rest: Rest,
+}
+
+/// What is known of the bytes that are held without reading them again.
+#[derive(Drop)]
+struct Rest {
+    skim: Skim,
+    // Whether the skim has seen just the bytes that are held.
+    is_seen: bool,
 }
 
 impl Model for Follow {
     ghost use Rattle.std.specs.Prelude.{◌+◌, ◌≤◌, length};
     ghost use Rattle.lin_history.specs.Sees.{Followed, most};
+    ghost use Rattle.lin_history.specs.Rests.{Knows};
 
     ghost Value = { Followed };
 
     ghost view = { λ f. record { keyed = f.keyed; ready = f.ready.items; outcome = f.outcome; passed = f.passed; held = f.held.items } };
 
-    ghost invariant = { λ f. f.passed + length f.held.items ≤ most };
+    ghost invariant = { λ f. (f.passed + length f.held.items ≤ most) × Knows f.rest f.held.items };
 }
 
 impl Follow {
@@ -75,6 +87,10 @@ impl Follow {
             outcome: Ok(()),
             passed: 0,
             held: Vec::new(alloc),
+            rest: Rest {
+                skim: Skim::new(alloc),
+                is_seen: true,
+            },
         }
     }
 
@@ -122,6 +138,7 @@ impl Follow {
             self.passed,
             piece,
             &mut self.held,
+            &mut self.rest,
             &mut self.ready,
         ) {
             Err(_) => Err(FollowFault::OutOfMemory),
@@ -154,24 +171,31 @@ fn standing(outcome: &Result<(), FollowFault>) -> Option<FollowFault>
     }
 }
 
-/// Puts a piece behind what is held and reads it; what is read is dropped. Refused, all is as it was.
+/// Puts a piece behind what is held and reads it, if something may be whole; what is read is dropped. Refused, all is as it was.
 fn take_in(
     alloc: Global,
     keyed: bool,
     passed: u64,
     piece: &[u8],
     held: &mut Vec<u8>,
+    rest: &mut Rest,
     ready: &mut VecDeque<Event>,
 ) -> Result<Read, OutOfMemory>
-    requires { passed + length held.old.items + length piece.now ≤ most }
-    ensures { IsRead keyed passed piece.now held.old.items ready.old.items held.new.items ready.new.items result }
+    requires small { passed + length held.old.items + length piece.now ≤ most }
+    requires known { Knows rest.old held.old.items }
+    ensures read { IsRead keyed passed piece.now held.old.items ready.old.items held.new.items ready.new.items result }
+    ensures known { Knows rest.new held.new.items }
 {
     let kept = held.len();
     let before = ready.len();
     held.extend_from_slice(piece)?;
+    if go_on(rest, piece) {
+        return Ok(resting(rest, held.as_slice(), passed));
+    }
     match read_on(alloc, keyed, held.as_slice(), passed, ready) {
         Ok(read) => {
             drop_front(held, read.used);
+            look_at(rest, held.as_slice());
             Ok(read)
         }
         Err(refused) => {
@@ -179,6 +203,54 @@ fn take_in(
             ready.truncate(before);
             Err(refused)
         }
+    }
+}
+
+/// Whether the bytes that are held are still unfinished once a piece is put behind them.
+fn go_on(rest: &mut Rest, piece: &[u8]) -> bool
+    ensures { (text : List ℕ) → Knows rest.old text → GoesOn rest.new (text ++ piece.now) result }
+{
+    if !rest.is_seen {
+        return false;
+    }
+    rest.is_seen = rest.skim.go_on(piece);
+    rest.is_seen
+}
+
+/// Looks at bytes that are held anew.
+fn look_at(rest: &mut Rest, held: &[u8])
+    ensures { Knows rest.new held.now }
+{
+    rest.skim.clear();
+    rest.is_seen = rest.skim.go_on(held);
+}
+
+/// Whether unfinished bytes are blank: none, or a comment.
+fn is_blank(rest: &Rest, held: &[u8]) -> bool
+    requires { GoesOn rest.now held.now true }
+    ensures { IsOpenText result held.now }
+{
+    if held.is_empty() {
+        return true;
+    }
+    rest.skim.is_comment()
+}
+
+/// What is read of unfinished bytes, which stand from a place of the stream on.
+fn resting(rest: &Rest, held: &[u8], place: u64) -> Read
+    requires { GoesOn rest.now held.now true }
+    ensures used { result.used ≡ 0 }
+    ensures read { (keyed : Bool) (ready : List TheEvent) → IsReadTo keyed held.now place ready ready result }
+{
+    if is_blank(rest, held) {
+        return Read {
+            used: 0,
+            outcome: Ok(()),
+        };
+    }
+    Read {
+        used: 0,
+        outcome: Err(FollowFault::Truncated { at: place }),
     }
 }
 

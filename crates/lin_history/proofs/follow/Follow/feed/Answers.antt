@@ -13,8 +13,8 @@ pub returns-after-standing-2-clause-feeds : goal.returns-after-standing-2-clause
 returns-after-standing-2-clause-feeds c =
     let old : Followed = record { keyed = c.self.inside.keyed; ready = c.self.inside.ready.items; outcome = c.self.inside.outcome; passed = c.self.inside.passed; held = c.self.inside.held.items } in
     let t = taken_in c.places.ensures.spelled c.places.ensures.passed c.more_bytes.ensures.spelled c.more_bytes.ensures.passed
-    old c.args.piece.now c.in-Ok.read c.take_in.new.ready.items c.take_in.new.held.items c.in_default.ensures (omega arith) c.in-Ok.ensures.0 c.in-Ok.ensures.1 in
+    old c.args.piece.now c.in-Ok.read c.take_in.new.ready.items c.take_in.new.held.items c.in_default.ensures (omega arith) c.in-Ok.ensures.read.0 c.in-Ok.ensures.read.1 in
     rw (← c.self.view_is) (elim c.match-standing-2.branch [
-      | in-Some-standing w ↦ rw w.result-is (feeds_fault old _ c.args.piece.now c.in-Ok.ensures.0.events w.in-Some-standing.fault w.in-Some-standing.ensures.0 w.in-Some-standing.ensures.1 t)
-      | in-None w ↦ rw w.result-is (feeds_ok old _ c.args.piece.now c.in-Ok.ensures.0.events _ w.in-None.ensures (cc) t)
+      | in-Some-standing w ↦ rw w.result-is (feeds_fault old _ c.args.piece.now c.in-Ok.ensures.read.0.events w.in-Some-standing.fault w.in-Some-standing.ensures.0 w.in-Some-standing.ensures.1 t)
+      | in-None w ↦ rw w.result-is (feeds_ok old _ c.args.piece.now c.in-Ok.ensures.read.0.events _ w.in-None.ensures (cc) t)
     ])

@@ -1,0 +1,49 @@
+-- Unfinished bytes, as what is read of them.
+use Rattle.std.proofs.Common.{◌≡◌, ℕ, ◌+◌, ◌<◌, ◌==◌, Bool, true, false, List, [], ◌∷◌, Ok, Err, length, refl, sym, ap, arith, append-nil}
+use Rattle.std.proofs.lemmas.Bool.Decides.{nat_tests}
+use Rattle.lin_edn.specs.Grammar.{IsBlankText, nothing_more, no_blank_yet}
+use Rattle.lin_edn.specs.Skimming.{HasSeen, IsOpenText}
+use Rattle.lin_history.specs.Rests.{GoesOn}
+use Rattle.lin_history.specs.declared.follow.Rest.{Rest}
+use Rattle.lin_history.specs.Stream.{nothing, blank, unfinished}
+use Rattle.lin_history.specs.Reads.{IsReadTo}
+use Rattle.lin_history.specs.declared.events.Event.{Event}
+use Rattle.lin_history.specs.declared.follow.FollowFault.TheVariants as fault
+
+pub none_is_blank : (text : List ℕ) → length text ≡ 0 → IsBlankText text 0
+none_is_blank [] e = nothing_more no_blank_yet
+none_is_blank (c ∷ text) e = absurd (omega arith)
+
+pub rests_blank : (k : Bool) (text : List ℕ) (p : ℕ) (ready : List Event) → IsOpenText true text →
+    IsReadTo k text p ready ready (record { used = 0; outcome = Ok tt })
+rests_blank k text p ready u = record {
+  events = [];
+  outcome = Ok tt;
+  put = sym (append-nil ready);
+  inside = omega arith;
+  is_stream = blank nothing u;
+  told = refl;
+  goes_on = λ h. nothing;
+}
+
+pub rests_unfinished : (k : Bool) (text : List ℕ) (p : ℕ) (ready : List Event) → IsOpenText false text →
+    IsReadTo k text p ready ready (record { used = 0; outcome = Err (fault.Truncated p) })
+rests_unfinished k text p ready u = record {
+  events = [];
+  outcome = Err (fault.Truncated (0 + 0));
+  put = sym (append-nil ready);
+  inside = omega arith;
+  is_stream = unfinished 0 nothing u;
+  told = (let e : p ≡ p + (0 + 0) = omega arith in ap (λ n. Err (fault.Truncated n)) e);
+  goes_on = λ h. nothing;
+}
+
+pub is_zero : (n : ℕ) → (n == 0) ≡ true → n ≡ 0
+is_zero n h = grind (arith, nat_tests)
+
+pub is_some : (n : ℕ) → (n == 0) ≡ false → 0 < n
+is_some n h = grind (arith, nat_tests)
+
+pub gone_on : (b : Bool) (rest : Rest) (text : List ℕ) → rest.is_seen ≡ b → (b ≡ true → HasSeen rest.skim text) → GoesOn rest text b
+gone_on true rest text e h = (e, h refl)
+gone_on false rest text e h = e
