@@ -1,0 +1,15 @@
+//! Worked examples, each through `verify` as a tester calls it: what it prints, and how it ends.
+#![tactic(auto)]
+
+#[cfg(test)]
+mod bad_input;
+#[cfg(test)]
+mod keyed;
+#[cfg(test)]
+mod large;
+#[cfg(test)]
+mod objects;
+#[cfg(test)]
+mod register;
+#[cfg(test)]
+mod table;
