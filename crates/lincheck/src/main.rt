@@ -7,8 +7,6 @@ ghost use Rattle.lincheck.specs.Exit.{exit_status, settings_of};
 mod command;
 mod words;
 
-pub use words::Line;
-
 use clap::Error;
 use clap::error::ErrorKind;
 use lin_report::{Counted, RunFault, Status, verify};
@@ -16,6 +14,7 @@ use std::alloc::{AllocError, Global};
 use std::fs::File;
 use std::process::ExitCode;
 use std::{env, io};
+pub use words::Line;
 
 /// The exit status where the command line is refused.
 const LINE_REFUSED: u8 = 5;
@@ -91,8 +90,15 @@ fn main(rt: HostRuntime) -> io::Result<ExitCode> {
         Ok(line) => run_line(rt, line),
         Err(error) => {
             let shown = println!(rt; "{error}");
-            if shown.is_err() { FAILED } else { exit_of_error(&error) }
+            if shown.is_err() {
+                FAILED
+            } else {
+                exit_of_error(&error)
+            }
         }
     };
     Ok(ExitCode::from(status))
 }
+
+#[cfg(test)]
+mod tests;
