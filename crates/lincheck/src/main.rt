@@ -1,8 +1,9 @@
 //! Checks recorded histories for linearizability.
 #![tactic(auto)]
 
-ghost use Rattle.std.specs.Prelude.{◌≡◌, IfOk};
+ghost use Rattle.std.specs.Prelude.{◌≡◌, IfOk, map};
 ghost use Rattle.lincheck.specs.Exit.{exit_status, settings_of};
+ghost use Rattle.lincheck.specs.Program.{IsLineOf};
 
 mod command;
 mod words;
@@ -26,15 +27,15 @@ const FAILED: u8 = 6;
 ///
 /// Errors: what `clap` refuses, a request for help among it, and want of memory.
 pub fn line<'a>(alloc: Global, words: &'a [&'a str]) -> Result<Line<'a>, Error>
-    ensures budget { IfOk result (λ line. (settings_of line).budget ≡ 65536) }
+    ensures { IfOk result (IsLineOf (map (λ w. w.now) words.entry.now)) }
 {
     let matches = command::program(alloc)?.try_get_matches_from(words)?;
     let Some((_name, inner)) = matches.subcommand() else {
         return Err(Error::from(AllocError));
     };
-    match (inner.get_str("file"), inner.get_str("order")) {
-        (Some(file), Some(order)) => Ok(Line::Verify(command::settings(inner), file, order)),
-        _ => Err(Error::from(AllocError)),
+    match command::verify_line(inner) {
+        Some(line) => Ok(line),
+        None => Err(Error::from(AllocError)),
     }
 }
 
