@@ -1,10 +1,10 @@
 -- The exit status of a run, and the settings of a command line.
 use Rattle.std.specs.Prelude.{ℕ, Result, Ok, Err}
-use Rattle.lin_report.specs.declared.Status.{Status}
-use Rattle.lin_report.specs.declared.Status.TheVariants.{Yes, No, Undecided, IllFormed, Refused}
-use Rattle.lin_report.specs.declared.RunFault.{RunFault}
-use Rattle.lin_report.specs.declared.RunFault.TheVariants.{ReadFailed, WriteFailed, OutOfMemory, TooMuch}
-use Rattle.lin_report.specs.declared.Settings.{Settings}
+use Rattle.lin_report.specs.declared.answers.Status.{Status}
+use Rattle.lin_report.specs.declared.answers.Status.TheVariants.{Yes, No, Undecided, IllFormed, Refused}
+use Rattle.lin_report.specs.declared.faults.RunFault.{RunFault}
+use Rattle.lin_report.specs.declared.faults.RunFault.TheVariants.{ReadFailed, WriteFailed, OutOfMemory, TooMuch}
+use Rattle.lin_report.specs.declared.runs.Settings.{Settings}
 use Rattle.lincheck.specs.declared.words.Line.{Line}
 use Rattle.lincheck.specs.declared.words.Line.TheVariants.{Verify}
 
