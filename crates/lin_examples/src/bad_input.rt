@@ -18,17 +18,41 @@ fn a_recording_cut_short(rt: HostRuntime) -> Result<(), Fail> {
     let whole = RECORDED.len();
     let vector_end = 244;
     gives(&rt, Kind::Register, false, RECORDED, "0=done", "yes", Yes)?;
-    gives(&rt, Kind::Register, false, RECORDED, "0=done 2=1", "yes", Yes)?;
+    gives(
+        &rt,
+        Kind::Register,
+        false,
+        RECORDED,
+        "0=done 2=1",
+        "yes",
+        Yes,
+    )?;
     for kept in 0..whole {
         let text = &RECORDED[..kept];
         if kept <= 18 {
             gives(&rt, Kind::Register, false, text, "empty", "yes", Yes)?;
         } else if kept < vector_end {
-            gives(&rt, Kind::Register, false, text, "0=done", "refused input truncated at 18", Refused)?;
+            gives(
+                &rt,
+                Kind::Register,
+                false,
+                text,
+                "0=done",
+                "refused input truncated at 18",
+                Refused,
+            )?;
         } else if kept <= vector_end + 1 {
             gives(&rt, Kind::Register, false, text, "0=done", "yes", Yes)?;
         } else if kept < whole - 1 {
-            gives(&rt, Kind::Register, false, text, "0=done", "refused input truncated at 245", Refused)?;
+            gives(
+                &rt,
+                Kind::Register,
+                false,
+                text,
+                "0=done",
+                "refused input truncated at 245",
+                Refused,
+            )?;
         }
     }
     Ok(())
@@ -46,7 +70,10 @@ fn repeated(rt: &HostRuntime, bytes: &[u8], times: usize) -> Result<Vec<u8>, All
 #[test]
 fn refused_recordings(rt: HostRuntime) -> Result<(), Fail> {
     let examples: [(&[u8], &str); 21] = [
-        (b"{:process 0, :type :invoke, :f :read", "refused input truncated at 0"),
+        (
+            b"{:process 0, :type :invoke, :f :read",
+            "refused input truncated at 0",
+        ),
         (b"[", "refused input truncated at 0"),
         (b"nil", "refused input truncated at 0"),
         (b"#_a b", "refused input truncated at 4"),
@@ -60,13 +87,34 @@ fn refused_recordings(rt: HostRuntime) -> Result<(), Fail> {
         (b"5 ", "refused input event 1 NotAMap at 0"),
         (b"[[]]", "refused input event 1 NotAMap at 0"),
         (b" #{}", "refused input event 1 NotAMap at 1"),
-        (b"{:process 0 :process :x}", "refused input event 2 DuplicateKey at 0"),
-        (b"{:process 0 :type :ok}", "refused input event 3 Missing at 0"),
-        (b"{:process 0 :f :read}", "refused input event 3 Missing at 0"),
-        (b"[{:process -1 :type :ok :f :read}]", "refused input event 4 BadProcess at 0"),
-        (b"{:process 9223372036854775808 :type :ok :f :read}", "refused input event 4 BadProcess at 0"),
-        (b"{:process 0 :type :done :f :read}", "refused input event 5 BadType at 0"),
-        (b"{:process 0 :type :ok :f :txn}", "refused input event 6 BadFunction at 0"),
+        (
+            b"{:process 0 :process :x}",
+            "refused input event 2 DuplicateKey at 0",
+        ),
+        (
+            b"{:process 0 :type :ok}",
+            "refused input event 3 Missing at 0",
+        ),
+        (
+            b"{:process 0 :f :read}",
+            "refused input event 3 Missing at 0",
+        ),
+        (
+            b"[{:process -1 :type :ok :f :read}]",
+            "refused input event 4 BadProcess at 0",
+        ),
+        (
+            b"{:process 9223372036854775808 :type :ok :f :read}",
+            "refused input event 4 BadProcess at 0",
+        ),
+        (
+            b"{:process 0 :type :done :f :read}",
+            "refused input event 5 BadType at 0",
+        ),
+        (
+            b"{:process 0 :type :ok :f :txn}",
+            "refused input event 6 BadFunction at 0",
+        ),
     ];
     for (text, line) in &examples {
         gives(&rt, Kind::Register, false, text, "x", line, Refused)?;
@@ -77,14 +125,46 @@ fn refused_recordings(rt: HostRuntime) -> Result<(), Fail> {
 #[test]
 fn deep_recordings(rt: HostRuntime) -> Result<(), Fail> {
     let deep = repeated(&rt, b"[", 65)?;
-    gives(&rt, Kind::Register, false, deep.as_slice(), "empty", "refused input edn 3 TooDeep at 64", Refused)?;
+    gives(
+        &rt,
+        Kind::Register,
+        false,
+        deep.as_slice(),
+        "empty",
+        "refused input edn 3 TooDeep at 64",
+        Refused,
+    )?;
     let mut just = repeated(&rt, b"[", 64)?;
     just.extend_from_slice(repeated(&rt, b"]", 64)?.as_slice())?;
-    gives(&rt, Kind::Register, false, just.as_slice(), "empty", "refused input event 1 NotAMap at 0", Refused)?;
+    gives(
+        &rt,
+        Kind::Register,
+        false,
+        just.as_slice(),
+        "empty",
+        "refused input event 1 NotAMap at 0",
+        Refused,
+    )?;
     let tags = repeated(&rt, b"#a ", 65)?;
-    gives(&rt, Kind::Register, false, tags.as_slice(), "empty", "refused input edn 3 TooDeep at 192", Refused)?;
+    gives(
+        &rt,
+        Kind::Register,
+        false,
+        tags.as_slice(),
+        "empty",
+        "refused input edn 3 TooDeep at 192",
+        Refused,
+    )?;
     let discards = repeated(&rt, b"#_", 65)?;
-    gives(&rt, Kind::Register, false, discards.as_slice(), "empty", "refused input edn 3 TooDeep at 128", Refused)
+    gives(
+        &rt,
+        Kind::Register,
+        false,
+        discards.as_slice(),
+        "empty",
+        "refused input edn 3 TooDeep at 128",
+        Refused,
+    )
 }
 
 #[test]
@@ -102,9 +182,25 @@ fn values_at_the_edges(rt: HostRuntime) -> Result<(), Fail> {
     ] {
         let text = format!(in rt.alloc(); "{{:process 0 :type :invoke :f :write :value {value}}}")?;
         if read {
-            gives(&rt, Kind::Register, false, text.as_bytes(), "empty", "yes", Yes)?;
+            gives(
+                &rt,
+                Kind::Register,
+                false,
+                text.as_bytes(),
+                "empty",
+                "yes",
+                Yes,
+            )?;
         } else {
-            gives(&rt, Kind::Register, false, text.as_bytes(), "empty", "refused input event 8 BadValue at 0", Refused)?;
+            gives(
+                &rt,
+                Kind::Register,
+                false,
+                text.as_bytes(),
+                "empty",
+                "refused input event 8 BadValue at 0",
+                Refused,
+            )?;
         }
     }
     Ok(())

@@ -14,7 +14,8 @@ const STALE: &str = "p0 invoke write 1; p0 ok write; p1 invoke read; p1 ok read 
 const FAILED: &str = "p0 invoke write 2; p1 invoke read; p1 ok read 2; p0 fail write";
 
 /// A write that crashed, which the first read didn't see and the second did.
-const CRASHED: &str = "p0 invoke write 5; p0 info write; p1 invoke read; p1 ok read nil; p1 invoke read; p1 ok read 5";
+const CRASHED: &str =
+    "p0 invoke write 5; p0 info write; p1 invoke read; p1 ok read nil; p1 invoke read; p1 ok read 5";
 
 #[test]
 fn orders_of_one_register(rt: HostRuntime) -> Result<(), Fail> {
@@ -30,11 +31,21 @@ fn orders_of_one_register(rt: HostRuntime) -> Result<(), Fail> {
         (OVERLAP, "0=done 1=2", "no", No),
         (STALE, "2=nil 0=done", "no", No),
         (STALE, "0=done 2=nil", "no", No),
-        ("p0 invoke write 2; p1 invoke read; p1 ok read 2", "0=done 1=2", "yes", Yes),
+        (
+            "p0 invoke write 2; p1 invoke read; p1 ok read 2",
+            "0=done 1=2",
+            "yes",
+            Yes,
+        ),
         (FAILED, "0=done 1=2", "no", No),
         (CRASHED, "2=nil 0=done 4=5", "yes", Yes),
         (CRASHED, "0=done 2=nil 4=5", "no", No),
-        ("p0 invoke write 1; p0 invoke read", "empty", "ill-formed at 1 cause 2 BusyProcess", IllFormed),
+        (
+            "p0 invoke write 1; p0 invoke read",
+            "empty",
+            "ill-formed at 1 cause 2 BusyProcess",
+            IllFormed,
+        ),
         (OVERLAP, "0=done x", "refused order 1 BadPair at 7", Refused),
     ];
     all_give(&rt, Kind::Register, false, &examples)
@@ -43,12 +54,42 @@ fn orders_of_one_register(rt: HostRuntime) -> Result<(), Fail> {
 #[test]
 fn ill_formed_histories(rt: HostRuntime) -> Result<(), Fail> {
     let examples = [
-        ("p0 invoke read; p0 info read; p0 invoke read", "empty", "ill-formed at 2 cause 1 RetiredProcess", IllFormed),
-        ("p0 invoke read; p0 invoke read", "empty", "ill-formed at 1 cause 2 BusyProcess", IllFormed),
-        ("p0 invoke read; p0 ok write", "empty", "ill-formed at 1 cause 5 OtherCall", IllFormed),
-        ("p0 invoke read; p0 info read; p0 ok write", "empty", "ill-formed at 2 cause 1 RetiredProcess", IllFormed),
-        ("p0 invoke read; p0 ok read nil; p0 ok read nil", "empty", "ill-formed at 2 cause 4 NoInvocation", IllFormed),
-        ("p0 invoke cas [1 2]; p0 ok cas", "0=done", "ill-formed at 0 cause 3 NotOfKind", IllFormed),
+        (
+            "p0 invoke read; p0 info read; p0 invoke read",
+            "empty",
+            "ill-formed at 2 cause 1 RetiredProcess",
+            IllFormed,
+        ),
+        (
+            "p0 invoke read; p0 invoke read",
+            "empty",
+            "ill-formed at 1 cause 2 BusyProcess",
+            IllFormed,
+        ),
+        (
+            "p0 invoke read; p0 ok write",
+            "empty",
+            "ill-formed at 1 cause 5 OtherCall",
+            IllFormed,
+        ),
+        (
+            "p0 invoke read; p0 info read; p0 ok write",
+            "empty",
+            "ill-formed at 2 cause 1 RetiredProcess",
+            IllFormed,
+        ),
+        (
+            "p0 invoke read; p0 ok read nil; p0 ok read nil",
+            "empty",
+            "ill-formed at 2 cause 4 NoInvocation",
+            IllFormed,
+        ),
+        (
+            "p0 invoke cas [1 2]; p0 ok cas",
+            "0=done",
+            "ill-formed at 0 cause 3 NotOfKind",
+            IllFormed,
+        ),
     ];
     all_give(&rt, Kind::Register, false, &examples)
 }
@@ -64,11 +105,26 @@ fn texts_of_orders(rt: HostRuntime) -> Result<(), Fail> {
         ("", "empty 0=done", "refused order 1 BadPair at 0", Refused),
         ("", "0=done empty", "refused order 1 BadPair at 7", Refused),
         ("", "empty empty", "refused order 1 BadPair at 0", Refused),
-        ("", "18446744073709551616=done", "refused order 1 BadPair at 0", Refused),
+        (
+            "",
+            "18446744073709551616=done",
+            "refused order 1 BadPair at 0",
+            Refused,
+        ),
         ("", "18446744073709551615=done", "no", No),
-        ("", "0=9223372036854775808", "refused order 1 BadPair at 0", Refused),
+        (
+            "",
+            "0=9223372036854775808",
+            "refused order 1 BadPair at 0",
+            Refused,
+        ),
         ("", "0=-9223372036854775808", "no", No),
-        ("", "0={1,2} 0={1,1}", "refused order 1 BadPair at 8", Refused),
+        (
+            "",
+            "0={1,2} 0={1,1}",
+            "refused order 1 BadPair at 8",
+            Refused,
+        ),
         ("", "0={-0,0}", "refused order 1 BadPair at 0", Refused),
         ("", "0={}", "no", No),
         ("", "0=", "refused order 1 BadPair at 0", Refused),

@@ -15,7 +15,15 @@ fn put_event(text: &mut String, event: &str) -> Result<(), AllocError> {
     let function = words.next().unwrap_or("");
     let value = words.next().unwrap_or("nil");
     for part in [
-        "{:process ", process, ", :type :", kind, ", :f :", function, ", :value ", value, "}\n",
+        "{:process ",
+        process,
+        ", :type :",
+        kind,
+        ", :f :",
+        function,
+        ", :value ",
+        value,
+        "}\n",
     ] {
         text.push_str(part)?;
     }
@@ -34,7 +42,15 @@ pub fn recording(rt: &HostRuntime, events: &str) -> Result<String, AllocError> {
 }
 
 /// `verify` on the recording prints the line and ends with the status.
-pub fn gives(rt: &HostRuntime, kind: Kind, keyed: bool, text: &[u8], order: &str, line: &str, status: Status) -> Result<(), Fail> {
+pub fn gives(
+    rt: &HostRuntime,
+    kind: Kind,
+    keyed: bool,
+    text: &[u8],
+    order: &str,
+    line: &str,
+    status: Status,
+) -> Result<(), Fail> {
     let settings = Settings {
         kind,
         keyed,
@@ -53,7 +69,12 @@ pub fn gives(rt: &HostRuntime, kind: Kind, keyed: bool, text: &[u8], order: &str
 }
 
 /// Each example of the table gives what it says.
-pub fn all_give(rt: &HostRuntime, kind: Kind, keyed: bool, examples: &[Example]) -> Result<(), Fail> {
+pub fn all_give(
+    rt: &HostRuntime,
+    kind: Kind,
+    keyed: bool,
+    examples: &[Example],
+) -> Result<(), Fail> {
     for (events, order, line, status) in examples {
         let text = recording(rt, events)?;
         gives(rt, kind, keyed, text.as_bytes(), order, line, *status)?;

@@ -1,0 +1,15 @@
+use Rattle.std.proofs.Common.{◌≡◌, ◌≤◌, ℕ, List, length}
+use Rattle.std.specs.Io.KnownBytes.{Consumes}
+use Rattle.lin_report.specs.Devices.{device_of, failures_of}
+use Rattle.lin_report.specs.Intakes.{IsTaken}
+use Rattle.lin_report.proofs.inputs.read_history.Given as goal
+
+abbrev pub invariant-pieces : goal.invariant-pieces
+invariant-pieces g l = record {
+  bytes : List ℕ;
+  consumed : Consumes (g.R.Read.remaining (device_of l.fn.file)) (g.R.Read.remaining (device_of l.file)) bytes;
+  taken : IsTaken l.follow bytes l.events.items;
+  keyed : l.follow.keyed ≡ l.fn.keyed;
+  counted : l.counter ≤ length bytes;
+  uncounted : failures_of l.file ≡ failures_of l.fn.file;
+}

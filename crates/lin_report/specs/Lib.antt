@@ -1,0 +1,9 @@
+pub mod Answers
+pub mod Devices
+pub mod Histories
+pub mod Inputs
+pub mod Intakes
+pub mod Integers
+pub mod Orders
+pub mod Parts
+pub mod Verdicts

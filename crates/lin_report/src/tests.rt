@@ -1,0 +1,193 @@
+//! Texts of orders and of faults, and devices that fail at some call.
+use crate::{Counted, OrderFault, RunFault, Settings, Status, read_order, verify};
+use lin_history::{Reply, Val};
+use lin_objects::Kind;
+use std::io;
+use std::io::{ErrorKind, Read, Write};
+use std::test::Fail;
+
+/// A write that was read: a register's client writes 1, another reads it.
+const HISTORY: &[u8] = b"{:process 0, :type :invoke, :f :write, :value 1, :time 3, :index 0}\n\
+{:process :nemesis, :type :info, :f :start, :value #{\"n1; }\"}}\n\
+{:process 1, :type :invoke, :f :read, :value nil}\n\
+{:process 1, :type :ok, :f :read, :value 1}\n";
+
+/// A reader that gives one byte a call, and fails at one of its calls.
+#[derive(Drop)]
+struct FailingReader {
+    next: usize,
+    fails_at: usize,
+}
+
+impl Read for FailingReader {
+    fn read(&mut self, buf: &mut [u8]) -> io::Result<usize> {
+        if self.next == self.fails_at {
+            return Err(io::Error::from(ErrorKind::Other));
+        }
+        if self.next >= HISTORY.len() || buf.is_empty() {
+            return Ok(0);
+        }
+        buf[0] = HISTORY[self.next];
+        self.next += 1;
+        Ok(1)
+    }
+}
+
+/// A writer that takes one byte a call, and at one of its calls fails or takes nothing.
+#[derive(Drop)]
+struct FailingWriter {
+    taken: Vec<u8>,
+    stops_at: usize,
+    is_full: bool,
+}
+
+impl Write for FailingWriter {
+    fn write(&mut self, buf: &[u8]) -> io::Result<usize> {
+        if self.taken.len() == self.stops_at {
+            if self.is_full {
+                return Ok(0);
+            }
+            return Err(io::Error::from(ErrorKind::Other));
+        }
+        let Some(first) = buf.first() else {
+            return Ok(0);
+        };
+        self.taken.push(*first)?;
+        Ok(1)
+    }
+
+    fn flush(&mut self) -> io::Result<()> {
+        Ok(())
+    }
+}
+
+const REGISTER: Settings = Settings {
+    kind: Kind::Register,
+    keyed: false,
+    budget: 65_536,
+};
+
+/// Where a text is refused as an order, or none.
+fn bad_place(rt: HostRuntime, text: &[u8]) -> Option<usize> {
+    match read_order(rt.alloc(), text) {
+        Err(OrderFault::BadPair { at }) => Some(at),
+        _ => None,
+    }
+}
+
+#[test]
+fn orders_are_read(rt: HostRuntime) -> Result<(), Fail> {
+    let text = b"  18446744073709551615=done 007=-9223372036854775808 2=nil 3={} 4={-1,0,2} ";
+    let Ok(order) = read_order(rt.alloc(), text) else {
+        assert!(rt; false, "no order was read");
+        return Ok(());
+    };
+    assert_eq!(rt; order.len(), 5);
+    assert_eq!(rt; order[0].at, usize::MAX);
+    assert!(rt; order[0].reply == Reply::Done);
+    assert_eq!(rt; order[1].at, 7);
+    assert!(rt; order[1].reply == Reply::Value(Val::Int(i64::MIN)));
+    assert!(rt; order[2].reply == Reply::Value(Val::Nil));
+    for (k, count) in [(3, 0), (4, 3)] {
+        match &order[k].reply {
+            Reply::Members(members) => assert_eq!(rt; members.as_slice().len(), count),
+            _ => assert!(rt; false, "no members"),
+        }
+    }
+    match read_order(rt.alloc(), b" empty ") {
+        Ok(order) => assert!(rt; order.is_empty()),
+        Err(_) => assert!(rt; false, "no empty order was read"),
+    }
+    Ok(())
+}
+
+#[test]
+fn words_that_are_no_pairs_are_told(rt: HostRuntime) {
+    let refused: [(&[u8], usize); 14] = [
+        (b"", 0),
+        (b"   ", 0),
+        (b"0=done x", 7),
+        (b"empty 0=done", 0),
+        (b"0=done empty", 7),
+        (b"0=done  2=done 4={2,1}", 15),
+        (b"0={1,1}", 0),
+        (b"0={-0,0}", 0),
+        (b" 0={,}", 1),
+        (b"0={1,2", 0),
+        (b"18446744073709551616=done", 0),
+        (b"0=9223372036854775808", 0),
+        (b"0=+5", 0),
+        (b"1=1 =done", 4),
+    ];
+    for (text, at) in refused {
+        assert_eq!(rt; bad_place(rt, text), Some(at), "at {at}");
+    }
+}
+
+#[test]
+fn a_reader_fails_at_each_call(rt: HostRuntime) -> Result<(), Fail> {
+    for fails_at in 0..HISTORY.len() + 2 {
+        let mut taken = Vec::new(rt.alloc());
+        let mut file = Counted::new(FailingReader { next: 0, fails_at });
+        let mut out = Counted::new(&mut taken);
+        let outcome = verify(rt.alloc(), REGISTER, &mut file, b"0=done 1=1", &mut out);
+        let failures = file.failures();
+        assert_eq!(rt; out.failures(), 0);
+        if fails_at <= HISTORY.len() {
+            assert_eq!(rt; outcome, Err(RunFault::ReadFailed), "at {fails_at}");
+            assert_eq!(rt; failures, 1);
+            assert!(rt; taken.is_empty());
+        } else {
+            assert_eq!(rt; outcome, Ok(Status::Yes));
+            assert_eq!(rt; failures, 0);
+            assert!(rt; taken.as_slice() == b"yes\n".as_slice());
+        }
+    }
+    Ok(())
+}
+
+#[test]
+fn a_writer_stops_at_each_call(rt: HostRuntime) -> Result<(), Fail> {
+    let line = b"refused order 1 BadPair at 7\n".as_slice();
+    for is_full in [false, true] {
+        for stops_at in 0..line.len() + 1 {
+            let mut writer = FailingWriter {
+                taken: Vec::new(rt.alloc()),
+                stops_at,
+                is_full,
+            };
+            let mut file = Counted::new(HISTORY);
+            let mut out = Counted::new(&mut writer);
+            let outcome = verify(rt.alloc(), REGISTER, &mut file, b"0=done x", &mut out);
+            let failures = out.failures();
+            assert!(rt; writer.taken.as_slice() == &line[..stops_at]);
+            if stops_at < line.len() {
+                assert_eq!(rt; outcome, Err(RunFault::WriteFailed), "at {stops_at}");
+                assert_eq!(rt; failures, 1);
+            } else {
+                assert_eq!(rt; outcome, Ok(Status::Refused));
+                assert_eq!(rt; failures, 0);
+            }
+        }
+    }
+    Ok(())
+}
+
+#[test]
+fn faults_are_told_by_number_and_name(rt: HostRuntime) -> Result<(), Fail> {
+    for (fault, text) in [
+        (RunFault::ReadFailed, "1 ReadFailed"),
+        (RunFault::WriteFailed, "2 WriteFailed"),
+        (RunFault::OutOfMemory, "3 OutOfMemory"),
+        (RunFault::TooMuch, "4 TooMuch"),
+    ] {
+        assert_eq!(rt; fault.to_string(rt.alloc())?.as_str(), text);
+    }
+    assert_eq!(rt;
+        OrderFault::BadPair { at: 7 }
+            .to_string(rt.alloc())?
+            .as_str(),
+        "1 BadPair at 7"
+    );
+    Ok(())
+}
