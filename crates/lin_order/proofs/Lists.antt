@@ -1,6 +1,6 @@
 -- Places of lists, and answers.
 use Rattle.std.proofs.Math.Seq.{take-suc}
-use Rattle.std.proofs.Common.{◌≡◌, ◌≢◌, ℕ, ◌+◌, ◌<◌, zero, suc, List, [], ◌∷◌, ◌++◌, length, ◌⊎◌, ◌↔◌, Bool, true, false, MatchBool, IsTrue, inl, inr, refl, arith, set, Some, slice_get, take, get_or, Option, MatchOption, is_some, None, sym, ap, ◌∙◌, add-one}
+use Rattle.std.proofs.Common.{◌≡◌, ◌≢◌, ℕ, ◌+◌, ◌<◌, zero, suc, List, [], ◌∷◌, ◌++◌, length, ◌⊎◌, ◌↔◌, Bool, true, false, MatchBool, IsTrue, inl, inr, refl, arith, set, Some, slice_get, take, get_or, Option, Result, Ok, Err, IfOk, MatchOption, is_some, None, sym, ap, ◌∙◌, add-one}
 
 -- what a list has, it has with one more
 pub get_left : {A : Type 0} (xs : List A) (y : A) (k : ℕ) (x : A) → slice_get xs k ≡ Some x → slice_get (xs ++ y ∷ []) k ≡ Some x
@@ -57,6 +57,11 @@ said_none (Some x) P Q said none = cc
 pub said_some : {A : Type 0} (o : Option A) (P : Type 0) (Q : A → Type 0) → MatchOption o P Q → is_some o ≡ true → (x : A) × Q x
 said_some None P Q said some = cc
 said_some (Some x) P Q said some = (x, said)
+
+-- what is said of an `Ok`, and what follows from it
+pub if_ok_weaker : {A E : Type 0} (r : Result A E) (P Q : A → Type 0) → ((x : A) → P x → Q x) → IfOk r P → IfOk r Q
+if_ok_weaker (Ok x) P Q weaker said = weaker x said
+if_ok_weaker (Err e) P Q weaker said = said
 
 -- what an answer says of a yes and of a no
 pub said_yes : (b : Bool) (P Q : Type 0) → MatchBool b P Q → b ≡ true → P

@@ -1,13 +1,11 @@
 //! Whether an order is legal: whether each object runs through its part of it.
-ghost use Rattle.std.specs.Prelude.{◌≡◌, ◌↔◌, ℤ, IsTrue, IfOk, MatchBool, MatchOption};
+ghost use Rattle.std.specs.Prelude.{◌↔◌, IsTrue, IfOk, MatchBool};
 ghost use Rattle.std.specs.Ordering.{int_eq};
 ghost use Rattle.std.specs.HashMap.{get};
-ghost use Rattle.lin_history.specs.declared.calls.Call.{Call as CallOf};
-ghost use Rattle.lin_objects.specs.declared.states.State.{State as StateOf};
 ghost use Rattle.lin_objects.specs.Kinds.{kind_of};
 ghost use Rattle.lin_objects.specs.Steps.{Step};
 ghost use Rattle.lin_order.specs.Linearizable.{IsLegal};
-ghost use Rattle.lin_order.specs.Tables.{Moves, NamesOperations, state_of};
+ghost use Rattle.lin_order.specs.Tables.{IsFound, IsRefused, IsTaken, NamesOperations, state_of};
 
 use crate::placed::Placed;
 use lin_history::{Body, Call, Event, OutOfMemory, Reply};
@@ -23,7 +21,7 @@ fn state_after<O: SeqObject>(
     call: &Call,
     reply: &Reply,
 ) -> Result<Option<O::State>, OutOfMemory>
-    ensures { IfOk result (λ found. MatchOption found ((next : O.State) → O.step object.now state.now call.now next reply.now → ⊥) (λ next. O.step object.now state.now call.now next reply.now)) }
+    ensures { IfOk result (IsFound (λ next. O.step object.now state.now call.now next reply.now)) }
 {
     let mut outcomes = Vec::new(alloc);
     object.outcomes(alloc, state, call, &mut outcomes)?;
@@ -35,8 +33,9 @@ fn state_after<O: SeqObject>(
     Ok(None)
 }
 
-/// A state that the object of the key may go to when the call gets this reply, if there is one. An object that isn't listed
-/// is at its start.
+/// A state that the object of the key may go to when the call gets this reply, if there is one.
+///
+/// An object that isn't listed is at its start.
 fn next_state(
     alloc: Global,
     kinds: &Kinds,
@@ -45,9 +44,8 @@ fn next_state(
     call: &Call,
     reply: &Reply,
 ) -> Result<Option<State>, OutOfMemory>
-    ensures { IfOk result (λ found. MatchOption found
-        ((next : StateOf) → Step (kind_of kinds.now key) (state_of (kind_of kinds.now) (get int_eq states.now) key) call.now next reply.now → ⊥)
-        (λ next. Step (kind_of kinds.now key) (state_of (kind_of kinds.now) (get int_eq states.now) key) call.now next reply.now)) }
+    ensures { let state = state_of (kind_of kinds.now) (get int_eq states.now) key in
+        IfOk result (IsFound (λ next. Step (kind_of kinds.now key) state call.now next reply.now)) }
 {
     let object = Any {
         kind: kinds.of(key),
@@ -67,9 +65,8 @@ fn take_step(
     states: &mut HashMap<i64, State>,
 ) -> Result<bool, OutOfMemory>
     ensures { IfOk result (λ taken. MatchBool taken
-        ((call : CallOf) × (event.now.body ≡ Body.Invoke call) × Moves (kind_of kinds.now) (get int_eq states.old) (get int_eq states.new) event.now.key call reply.now)
-        ((call : CallOf) (next : StateOf) → event.now.body ≡ Body.Invoke call
-        → Step (kind_of kinds.now event.now.key) (state_of (kind_of kinds.now) (get int_eq states.old) event.now.key) call next reply.now → ⊥)) }
+        (IsTaken (kind_of kinds.now) (get int_eq states.old) (get int_eq states.new) event.now reply.now)
+        (IsRefused (kind_of kinds.now) (get int_eq states.old) event.now reply.now)) }
 {
     let Body::Invoke(call) = &event.body else {
         return Ok(false);

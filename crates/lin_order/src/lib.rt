@@ -1,4 +1,5 @@
-//! Orders of the operations of a history: what a legal order is, and whether a list is one (Herlihy and Wing 1990, section 2).
+//! Orders of the operations of a history: what a legal order is, and whether a list is one (Herlihy and Wing 1990,
+//! section 2).
 #![tactic(auto)]
 
 mod conditions;

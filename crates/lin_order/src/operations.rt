@@ -33,9 +33,8 @@ pub fn ends_of(alloc: Global, events: &[Event]) -> Result<Vec<Option<usize>>, Ou
     for (at, event) in events.iter().enumerate() {
         ends.push(None)?;
         let earlier = latest.insert(event.process, at)?;
-        match earlier {
-            Some(earlier) => ends[earlier] = Some(at),
-            None => {}
+        if let Some(earlier) = earlier {
+            ends[earlier] = Some(at);
         }
     }
     Ok(ends)

@@ -36,10 +36,10 @@ fn is_order(alloc: Global, events: &[Event], order: &[Placed]) -> Result<bool, O
 
 /// Whether the list is a legal order of the history (Herlihy and Wing 1990, sections 2 and 3).
 ///
-/// It is when each position is an operation, no operation stands twice, no failed one is there, each ok one is there with its
-/// recorded reply, no later one is before an earlier one in real time, and the object of each key, of its kind, runs
-/// through the operations of that key from its start. An operation that is neither ok nor failed may be there, with any
-/// reply that its object gives, or not. This holds for every list of events, well-formed or not.
+/// It is when each position is an operation, no operation stands twice, no failed one is there, each ok one is there
+/// with its recorded reply, no later one is before an earlier one in real time, and the object of each key, of the kind
+/// that the key has, runs through the operations of that key from its start. An operation that is neither ok nor failed
+/// may be there, with any reply that its object gives, or not. This is so for every list of events, well-formed or not.
 ///
 /// Takes time and memory linear in the events and the order, and for each operation of the order what a step of its
 /// object takes. `OutOfMemory` is answered only where memory was refused.
@@ -55,6 +55,5 @@ pub fn check_order(
     if !ordered {
         return Ok(false);
     }
-    let legal = is_legal(alloc, events, kinds, order)?;
-    Ok(legal)
+    is_legal(alloc, events, kinds, order)
 }

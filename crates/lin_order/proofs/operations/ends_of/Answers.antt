@@ -1,7 +1,8 @@
 use Rattle.std.proofs.Common.{Some, Vec, Global, Option, ℕ, set, sym, ap, ◌∙◌}
+use Rattle.lin_order.proofs.Lists.{none_if}
 use Rattle.lin_order.proofs.Latest.{step_first, step_again, step_latest}
 use Rattle.lin_order.proofs.operations.ends_of.Goals as goal
-use Rattle.lin_order.proofs.operations.ends_of.Goals.{in-Some, in-None}
+use Rattle.lin_order.proofs.operations.ends_of.Goals.{in-Some, in_default}
 
 pub loop-at-preserved : goal.loop-at-preserved
 loop-at-preserved c =
@@ -20,9 +21,9 @@ loop-at-preserved c =
             let made = ap (λ (v : Vec (Option ℕ) Global). v.items) w.ends-is in
             let last = ap (λ l. set l w.in-Some.earlier (Some i)) pushed in
             step_again h i event c.loop-at-test.true is _ now _ table latest w.in-Some.earlier (was ∙ w.in-Some.is) (made ∙ last)
-        | in-None w ↦
+        | in_default w ↦
             let made = ap (λ (v : Vec (Option ℕ) Global). v.items) w.ends-is in
-            step_first h i event c.loop-at-test.true is _ now _ table latest (was ∙ w.in-None.is) (made ∙ pushed)
+            step_first h i event c.loop-at-test.true is _ now _ table latest (was ∙ none_if _ w.in_default.not-Some) (made ∙ pushed)
       ];
       latest = step_latest h i event c.loop-at-test.true is _ _ latest c.in_ok-earlier.ensures.updates.0;
     }
