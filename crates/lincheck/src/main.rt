@@ -79,26 +79,49 @@ fn run_line(rt: HostRuntime, line: Line) -> u8
     exit_of(&outcome)
 }
 
-fn main(rt: HostRuntime) -> io::Result<ExitCode> {
-    let alloc = rt.alloc();
-    let Ok(arguments) = env::args(&rt) else {
-        let _printed = println!(rt; "lincheck: the command line is no text");
-        return Ok(ExitCode::from(LINE_REFUSED));
-    };
-    let owned: Vec<String> = arguments.collect(alloc)?;
-    let words: Vec<&str> = owned.iter().map(|word| word.as_str()).collect(alloc)?;
-    let status = match line(alloc, words.as_slice()) {
+/// Tells that memory was refused.
+fn tell_out_of_memory(rt: &HostRuntime) -> u8 {
+    let _printed = println!(rt; "lincheck: 3 OutOfMemory");
+    FAILED
+}
+
+/// Tells why there are no words of a command line.
+fn tell_no_words(rt: &HostRuntime, error: &io::Error) -> u8 {
+    if error.kind() == io::ErrorKind::OutOfMemory {
+        return tell_out_of_memory(rt);
+    }
+    let _printed = println!(rt; "lincheck: the command line is no text");
+    LINE_REFUSED
+}
+
+/// Runs what the words say, and gives the exit status.
+fn run_words(rt: HostRuntime, words: &[&str]) -> u8 {
+    match line(rt.alloc(), words) {
         Ok(line) => run_line(rt, line),
         Err(error) => {
-            let shown = println!(rt; "{error}");
-            if shown.is_err() {
-                FAILED
-            } else {
-                exit_of_error(&error)
+            if println!(rt; "{error}").is_err() {
+                return FAILED;
             }
+            exit_of_error(&error)
         }
+    }
+}
+
+fn main(rt: HostRuntime) -> ExitCode {
+    let alloc = rt.alloc();
+    let arguments = match env::args(&rt) {
+        Ok(arguments) => arguments,
+        Err(error) => return ExitCode::from(tell_no_words(&rt, &error)),
     };
-    Ok(ExitCode::from(status))
+    let owned: Vec<String> = match arguments.collect(alloc) {
+        Ok(owned) => owned,
+        Err(_) => return ExitCode::from(tell_out_of_memory(&rt)),
+    };
+    let words: Vec<&str> = match owned.iter().map(|word| word.as_str()).collect(alloc) {
+        Ok(words) => words,
+        Err(_) => return ExitCode::from(tell_out_of_memory(&rt)),
+    };
+    ExitCode::from(run_words(rt, words.as_slice()))
 }
 
 #[cfg(test)]
