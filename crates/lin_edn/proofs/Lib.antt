@@ -5,11 +5,13 @@ pub mod Digits
 pub mod Faults
 pub mod Flat
 pub mod Forth
+pub mod Inner
 pub mod Fronts
 pub mod Limit
 pub mod Longer
 pub mod Order
 pub mod Rising
+pub mod Rows
 pub mod Runs
 pub mod Sizes
 pub mod Skims

@@ -1,15 +1,18 @@
 -- The reader without values goes with the machine.
-use Rattle.std.proofs.Common.{◌≡◌, ℕ, suc, ◌+◌, ◌<◌, Bool, true, false, not, ◌&&◌, ◌==◌, nat_le, if◌then◌else◌, List, [], ◌∷◌, ◌++◌, length, map as each, refl, sym, ap, ◌∙◌, arith, Option, Some, None, option_map, is_some, subst, rules, tests, append_assoc, append-nil, length-append}
+use Rattle.std.proofs.Common.{◌≡◌, ℕ, suc, ◌+◌, ◌<◌, Bool, true, false, not, ◌&&◌, ◌==◌, nat_le, if◌then◌else◌, List, [], ◌∷◌, ◌++◌, length, ◌≤◌, drop, length-drop, map as each, refl, sym, ap, ◌∙◌, arith, Option, Some, None, option_map, is_some, subst, rules, tests, append_assoc, append-nil, length-append}
 use Rattle.std.proofs.lemmas.List.{length-map}
 use Rattle.lin_edn.specs.Bytes.{Kind, a_list, a_vector, a_set, a_map, Class, class, white, semicolon, opener, closer, quote, backslash, hash, inside, is_stop, is_newline, closing, Behind, behind, opens_set, opens_text, discards, joins, stands_apart, names_tag, Quoted, quoted, ends, escapes, stays}
 use Rattle.lin_edn.specs.Grammar.{Frame, frame, discarding, tagging, longest, IsUnfinished, IsBlankText}
-use Rattle.lin_edn.specs.Machine.{Mode, between, in_run, after_hash, after_backslash, in_tag, in_text, in_escape, in_comment, partial, blank, fault, too_long, Turn, go, stop, run, step, limited, ended, taken, begun, outermost, place_of, on_turn, put, deeper, begins, goes_on, quotes, apart, close, closed, at_end}
+use Rattle.lin_edn.specs.Machine.{Mode, between, in_run, after_hash, after_backslash, in_tag, in_text, in_escape, in_comment, Answer, partial, blank, fault, too_long, Turn, go, stop, run, step, limited, ended, taken, begun, outermost, place_of, on_turn, put, deeper, begins, goes_on, quotes, apart, close, closed, at_end}
 use Rattle.lin_edn.specs.Run.{run_value}
-use Rattle.lin_edn.specs.Skimming.{Shape, brackets, a_discard, a_tag, shape_of, part_of, grown, still, put_shape, with_part, apart_shape, ended_shape, deeper_shape, close_shape, begins_shape, goes_on_shape, quotes_shape, taken_shape, Seen, is_top_comment, IsOpenText}
+use Rattle.lin_edn.specs.Rows.{IsRow, bracket_of}
+use Rattle.lin_edn.specs.Skimming.{Shape, brackets, a_discard, a_tag, shape_of, part_of, grown, still, put_shape, with_part, apart_shape, ended_shape, deeper_shape, close_shape, begins_shape, goes_on_shape, quotes_shape, taken_shape, Stops, GoesWith, HasSeen, HasGone, shapes_of, is_top_comment, IsOpenText}
 use Rattle.lin_edn.specs.Value.{Value, Entries, atom, text as a_text, tagged, made, map, pairs_from, entry}
 use Rattle.lin_edn.specs.declared.EdnCause.TheVariants.{Unbalanced, TooDeep}
+use Rattle.lin_edn.specs.declared.series.Series.{Series}
 use Rattle.lin_edn.specs.declared.skim.Part.{Part}
 use Rattle.lin_edn.specs.declared.skim.Part.TheVariants as part
+use Rattle.lin_edn.specs.declared.skim.Skim.{Skim}
 use Rattle.lin_edn.proofs.Back.{What, what}
 use Rattle.lin_edn.proofs.Sound.{unfinished_of}
 
@@ -189,34 +192,32 @@ run_step : (at : ℕ) (st : List Frame) (m : Mode) (c : ℕ) (x : List ℕ) →
 unfolding run
 run_step at st m c x = refl
 
-more_seen : (n : ℕ) (text : List ℕ) (c : ℕ) (st : List Frame) (m : Mode) (ls : List Shape) (p : Part) → n ≡ length text →
-    ((x : List ℕ) → run longest 0 [] between (text ++ x) ≡ run longest (length text) st m x) →
-    Follows (length text + 1) 0 (step longest (length text) st m c) ls p → Seen (n + 1) ls p (text ++ c ∷ [])
-more_seen n text c st m ls p len h (follows st2 m2 e s q b) =
-    let more : length text + 1 ≡ length (text ++ c ∷ []) = simp length-append (omega arith) in (
-      omega arith,
-      st2,
-      m2,
-      s,
-      q,
-      subst (λ k. begun k st2 m2 ≡ 0) more b,
-      λ x. ap (run longest 0 [] between) (append_assoc text (c ∷ []) x) ∙ h (c ∷ x) ∙ run_step (length text) st m c x
-          ∙ ap (λ t. on_turn t (λ st3 m3. run longest (length text + 1) st3 m3 x)) e ∙ ap (λ k. run longest k st2 m2 x) more,
-    )
+more_stops : (at : ℕ) (st : List Frame) (m : Mode) (c : ℕ) (ls : List Shape) (p : Part) (answers : List ℕ → Answer) →
+    ((x : List ℕ) → answers x ≡ run longest at st m x) → Follows (at + 1) 0 (step longest at st m c) ls p → Stops (at + 1) ls p (λ x. answers (c ∷ x))
+more_stops at st m c ls p answers h (follows st2 m2 e s q b) = (
+  st2,
+  m2,
+  s,
+  q,
+  b,
+  λ x. h (c ∷ x) ∙ run_step at st m c x ∙ ap (λ t. on_turn t (λ st3 m3. run longest (at + 1) st3 m3 x)) e,
+)
 
-pub seen_more : (n : ℕ) (text : List ℕ) (c : ℕ) (ls ls1 ls2 : List Shape) (p p1 p2 : Part) → ended_shape p ls c ≡ Some (ls1, p1) → n < longest →
-    taken_shape p1 ls1 c ≡ Some (ls2, p2) → Seen n ls p text → Seen (n + 1) ls2 p2 (text ++ c ∷ [])
-seen_more n text c ls ls1 ls2 p p1 p2 e lt f seen =
-    let st = seen.1 in
-    let m = seen.2 in
-    let at = length text in
-    let shaped : ended_shape (part_of m) (each shape_of st) c ≡ Some (ls1, p1) = ap (λ x. ended_shape x (each shape_of st) c) seen.4 ∙ ap (λ x. ended_shape p x c) seen.3 ∙ e in
-    let first_half = subst (λ b. Follows at b (ended at st m c) ls1 p1) seen.5 (matched at (begun at st m) (ended at st m c) _ (ls1, p1) shaped (ended_matches at c st m)) in
-    let below : at < longest = omega arith in
-    more_seen n text c st m ls2 p2 seen.0 seen.6 (limited_follows at c (ended at st m c) ls1 ls2 p1 p2 first_half below f)
+pub stops_more : (at c : ℕ) (ls ls1 ls2 : List Shape) (p p1 p2 : Part) → ended_shape p ls c ≡ Some (ls1, p1) → at < longest →
+    taken_shape p1 ls1 c ≡ Some (ls2, p2) → (answers : List ℕ → Answer) → Stops at ls p answers → Stops (at + 1) ls2 p2 (λ x. answers (c ∷ x))
+stops_more at c ls ls1 ls2 p p1 p2 e lt f answers seen =
+    let st = seen.0 in
+    let m = seen.1 in
+    let shaped : ended_shape (part_of m) (each shape_of st) c ≡ Some (ls1, p1) = ap (λ x. ended_shape x (each shape_of st) c) seen.3 ∙ ap (λ x. ended_shape p x c) seen.2 ∙ e in
+    let first_half = subst (λ b. Follows at b (ended at st m c) ls1 p1) seen.4 (matched at (begun at st m) (ended at st m c) _ (ls1, p1) shaped (ended_matches at c st m)) in
+    more_stops at st m c ls2 p2 answers seen.5 (limited_follows at c (ended at st m c) ls1 ls2 p1 p2 first_half lt f)
 
-pub seen_none : (n : ℕ) (ls : List Shape) (p : Part) → n ≡ 0 → ls ≡ [] → p ≡ part.Between → Seen n ls p []
-seen_none n ls p a b c = (a, [], between, sym b, sym c, refl, λ x. refl)
+-- the same answers
+pub stops_same : (n : ℕ) (ls : List Shape) (p : Part) (f g : List ℕ → Answer) → ((x : List ℕ) → g x ≡ f x) → Stops n ls p f → Stops n ls p g
+stops_same n ls p f g h s = (s.0, s.1, s.2, s.3, s.4, λ x. h x ∙ s.5 x)
+
+pub stops_none : (n : ℕ) (ls : List Shape) (p : Part) → n ≡ 0 → ls ≡ [] → p ≡ part.Between → Stops n ls p (λ x. run longest 0 [] between x)
+stops_none n ls p a b c = ([], between, sym b, sym c, a, λ x. ap (λ k. run longest k [] between x) (sym a))
 
 -- what is open
 end_run : (at : ℕ) (st : List Frame) (m : Mode) → run longest at st m [] ≡ at_end at m st
@@ -246,11 +247,53 @@ open_case text [] (in_comment p) lt b e = blank_at text p e b
 open_case text (f ∷ st) (in_comment p) lt b e =
     subst (λ x. IsOpenText x text) (sym (not_zero (length (each shape_of st)))) (partial_at text (outermost (place_of f) st) e b)
 
-pub seen_open : (n : ℕ) (text : List ℕ) (ls : List Shape) (p : Part) → Seen n ls p text → 0 < length text → IsOpenText (is_top_comment p ls) text
-seen_open n text ls p seen lt =
-    let st = seen.1 in
-    let m = seen.2 in
+pub seen_open : (n : ℕ) (text : List ℕ) (ls : List Shape) (p : Part) → n ≡ length text → Stops n ls p (λ x. run longest 0 [] between (text ++ x)) → 0 < length text →
+    IsOpenText (is_top_comment p ls) text
+seen_open n text ls p size seen lt =
+    let st = seen.0 in
+    let m = seen.1 in
     let all : run longest 0 [] between text ≡ at_end (length text) m st =
-    ap (run longest 0 [] between) (sym (append-nil text)) ∙ seen.6 [] ∙ end_run (length text) st m in
-    subst (λ x. IsOpenText (is_top_comment x ls) text) seen.4
-    (subst (λ x. IsOpenText (is_top_comment (part_of m) x) text) seen.3 (open_case text st m lt seen.5 all))
+    ap (run longest 0 [] between) (sym (append-nil text)) ∙ seen.5 [] ∙ end_run n st m ∙ ap (λ k. at_end k m st) size in
+    let since_first : begun (length text) st m ≡ 0 = ap (λ k. begun k st m) (sym size) ∙ seen.4 in
+    subst (λ x. IsOpenText (is_top_comment x ls) text) seen.3
+    (subst (λ x. IsOpenText (is_top_comment (part_of m) x) text) seen.2 (open_case text st m lt since_first all))
+
+-- going on
+pub nothing_gone : (skim : Skim) → HasGone skim skim []
+nothing_gone skim = (omega arith, λ answers h. h)
+
+pub gone_twice : (a b d : Skim) (s t : List ℕ) → HasGone a b s → HasGone b d t → HasGone a d (s ++ t)
+gone_twice a b d s t g h = (
+  (let e = length-append s t in let i : b.length ≡ a.length + length s = g.0 in let j : d.length ≡ b.length + length t = h.0 in omega arith),
+  λ answers goes. stops_same d.length (shapes_of d.levels.items) d.part (λ x. answers (s ++ (t ++ x))) (λ x. answers ((s ++ t) ++ x))
+      (λ x. ap answers (append_assoc s t x)) (h.1 (λ x. answers (s ++ x)) (g.1 answers goes)),
+)
+
+pub seen_gone : (old new : Skim) (text piece : List ℕ) → HasGone old new piece → HasSeen old text → HasSeen new (text ++ piece)
+seen_gone old new text piece g seen = (
+  (let e = length-append text piece in let i : new.length ≡ old.length + length piece = g.0 in let j : old.length ≡ length text = seen.0 in omega arith),
+  stops_same new.length (shapes_of new.levels.items) new.part (λ x. run longest 0 [] between (text ++ (piece ++ x))) (λ x. run longest 0 [] between ((text ++ piece) ++ x))
+      (λ x. ap (run longest 0 [] between) (append_assoc text piece x)) (g.1 (λ x. run longest 0 [] between (text ++ x)) seen.1),
+)
+
+-- in a list or vector
+row_shape : (b : Bool) (vs : List Value) → shape_of (frame (bracket_of b) 0 vs) ≡ brackets (bracket_of b) true
+row_shape true vs = refl
+row_shape false vs = refl
+
+pub seen_in : (r : Series) (text : List ℕ) (vs : List Value) (old new : Skim) → old.length ≡ r.at → shapes_of old.levels.items ≡ brackets (bracket_of r.is_vector) true ∷ [] →
+    old.part ≡ part.Between → HasGone old new (drop r.at text) → IsRow r text vs → HasSeen new text
+seen_in r text vs old new size shapes is_between g row =
+    let st : List Frame = frame (bracket_of r.is_vector) 0 vs ∷ [] in
+    let begins : GoesWith old (λ x. run longest r.at st between x) = (
+      st,
+      between,
+      ap (λ l. l ∷ []) (row_shape r.is_vector vs) ∙ sym shapes,
+      sym is_between,
+      refl,
+      λ x. ap (λ n. run longest n st between x) (sym size),
+    ) in (
+      (let e = length-drop r.at text in let i : r.at ≤ length text = row.0 in let j : new.length ≡ old.length + length (drop r.at text) = g.0 in omega arith),
+      stops_same new.length (shapes_of new.levels.items) new.part (λ x. run longest r.at st between (drop r.at text ++ x)) (λ x. run longest 0 [] between (text ++ x))
+          row.1 (g.1 (λ x. run longest r.at st between x) begins),
+    )

@@ -4,6 +4,7 @@ pub mod Levels
 pub mod Machine
 pub mod Numbers
 pub mod Reading
+pub mod Rows
 pub mod Run
 pub mod Scans
 pub mod Skimming

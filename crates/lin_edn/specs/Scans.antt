@@ -52,6 +52,11 @@ ArePairs s from next end es es' = (from ≤ next) × (next ≤ end) × ((o : ℕ
     run longest from (frame a_map o (flat es None) ∷ st) between (drop from s)
     ≡ run longest next (frame a_map o (flat es' None) ∷ st) between (drop next s))
 
+-- behind the opening byte of a map its pairs are taken, with the white behind them
+abbrev pub AreOpened : List ℕ → ℕ → ℕ → ℕ → List (Value × Value) → Type 0
+AreOpened s at next end es = (at < next) × (next ≤ end) × ((st : List Frame) → length st < 64 → at < outermost at st + longest → end ≤ outermost at st + longest →
+    run longest at st between (drop at s) ≡ run longest next (frame a_map at (flat es None) ∷ st) between (drop next s))
+
 -- what the code made of the bytes from a place on is what the machine makes of them
 abbrev pub IsWent : List ℕ → ℕ → Went → List Frame → Answer → Type 0
 IsWent s at (went.On m next) st a =

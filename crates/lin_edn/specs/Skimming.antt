@@ -1,9 +1,9 @@
 -- What a reader that keeps no values knows of the text so far: `HasSeen` is all that callers cite;
 -- the rest is cited by the contracts of private functions alone.
-use Rattle.std.specs.Prelude.{◌≡◌, ℕ, Bool, true, false, ◌&&◌, ◌==◌, nat_le, if◌then◌else◌, List, [], ◌∷◌, ◌++◌, length, map, reverse, Option, Some, None, option_map, is_some, not}
+use Rattle.std.specs.Prelude.{◌≡◌, ℕ, ◌+◌, Bool, true, false, ◌&&◌, ◌==◌, nat_le, if◌then◌else◌, List, [], ◌∷◌, ◌++◌, length, map, reverse, Option, Some, None, option_map, is_some, not}
 use Rattle.lin_edn.specs.Bytes.{Kind, a_list, a_vector, a_set, a_map, Class, class, white, semicolon, opener, closer, quote, backslash, hash, inside, is_stop, is_newline, closing, Behind, behind, opens_set, opens_text, discards, joins, stands_apart, names_tag, Quoted, quoted, ends, escapes, stays}
 use Rattle.lin_edn.specs.Grammar.{Frame, frame, discarding, tagging, longest, IsUnfinished, IsBlankText}
-use Rattle.lin_edn.specs.Machine.{Mode, between, in_run, after_hash, after_backslash, in_tag, in_text, in_escape, in_comment, run, begun}
+use Rattle.lin_edn.specs.Machine.{Mode, between, in_run, after_hash, after_backslash, in_tag, in_text, in_escape, in_comment, Answer, run, begun}
 use Rattle.lin_edn.specs.Value.{made}
 use Rattle.lin_edn.specs.declared.skim.Level.{Level}
 use Rattle.lin_edn.specs.declared.skim.Level.TheVariants as level
@@ -133,15 +133,23 @@ taken_shape part.Text ls c = quotes_shape (quoted c) ls
 taken_shape part.Escape ls c = Some (ls, part.Text)
 taken_shape part.Comment ls c = if is_newline c then with_part part.Between (still ls) else Some (ls, part.Comment)
 
--- so many bytes of a text, which is open from its first byte on, leave these levels and this part of the machine open
-abbrev pub Seen : ℕ → List Shape → Part → List ℕ → Type 0
-Seen n ls p text = (n ≡ length text) × (st : List Frame) × (m : Mode) × (map shape_of st ≡ ls) × (part_of m ≡ p)
-    × (begun (length text) st m ≡ 0)
-    × ((x : List ℕ) → run longest 0 [] between (text ++ x) ≡ run longest (length text) st m x)
+-- at a place a machine that answers as told has these levels and this part open, and the outermost of them began with the first byte
+abbrev pub Stops : ℕ → List Shape → Part → (List ℕ → Answer) → Type 0
+Stops n ls p answers = (st : List Frame) × (m : Mode) × (map shape_of st ≡ ls) × (part_of m ≡ p) × (begun n st m ≡ 0)
+    × ((x : List ℕ) → answers x ≡ run longest n st m x)
+
+-- the reader without values is where a machine is that answers as told what stands behind
+abbrev pub GoesWith : Skim → (List ℕ → Answer) → Type 0
+GoesWith skim answers = Stops skim.length (shapes_of skim.levels.items) skim.part answers
 
 -- The reader without values is right for the text so far, which is open from its first byte on.
 abbrev pub HasSeen : Skim → List ℕ → Type 0
-HasSeen skim text = Seen skim.length (shapes_of skim.levels.items) skim.part text
+HasSeen skim text = (skim.length ≡ length text) × GoesWith skim (λ x. run longest 0 [] between (text ++ x))
+
+-- it went so many bytes on with every machine that it goes with
+abbrev pub HasGone : Skim → Skim → List ℕ → Type 0
+HasGone old new bytes = (new.length ≡ old.length + length bytes)
+    × ((answers : List ℕ → Answer) → GoesWith old answers → GoesWith new (λ x. answers (bytes ++ x)))
 
 -- a comment is open and nothing round it
 abbrev pub is_top_comment : Part → List Shape → Bool

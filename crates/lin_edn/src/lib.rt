@@ -4,18 +4,22 @@
 ghost use Rattle.std.specs.Prelude.{◌≡◌, ℕ, List, ◌++◌, ◌<◌, ◌≤◌, length};
 ghost use Rattle.lin_edn.specs.Grammar.{Spells, ShortBlanks, IsBlankText, IsUnfinished};
 ghost use Rattle.lin_edn.specs.Reading.{Says, IsRead, IsBlank, Refuses};
+ghost use Rattle.lin_edn.specs.Rows.{IsRow};
 ghost use Rattle.lin_edn.specs.Turns.{out_of_memory};
 ghost use Rattle.lin_edn.specs.Value.{Value};
 ghost use Rattle.lin_edn.specs.declared.EdnCause.{EdnCause as Cause};
+ghost use Rattle.lin_edn.specs.declared.series.Series.{Series as TheSeries};
 
 mod levels;
 mod reader;
 mod run;
 mod scan;
+mod series;
 mod skim;
 #[cfg(test)]
 mod tests;
 
+pub use crate::series::{Inside, Series};
 pub use crate::skim::Skim;
 use std::alloc::{AllocError, Global};
 
@@ -124,11 +128,12 @@ pub fn next_element<'a>(alloc: Global, input: &'a [u8]) -> Result<Next<'a>, EdnF
     reader::scan(alloc, input)
 }
 
-/// More bytes behind an element, blanks or a fault leave them what they are.
+/// More bytes behind an element, blanks, a fault or an open row of elements leave them what they are.
 pub fn more_bytes()
     ensures spelled { (s : List ℕ) (x : List ℕ) (v : Value) (at : ℕ) (used : ℕ) → Spells s v at used → Spells (s ++ x) v at used }
     ensures passed { (s : List ℕ) (x : List ℕ) (t : List ℕ) (n : ℕ) → ShortBlanks s n t → ShortBlanks (s ++ x) n (t ++ x) }
     ensures faulty { (s : List ℕ) (x : List ℕ) (at : ℕ) (cause : Cause) → Refuses s at cause → Refuses (s ++ x) at cause }
+    ensures row { (r : TheSeries) (s : List ℕ) (x : List ℕ) (vs : List Value) → IsRow r s vs → IsRow r (s ++ x) vs }
 {}
 
 /// Blanks stand before what is unfinished.

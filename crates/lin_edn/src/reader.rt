@@ -7,7 +7,7 @@ ghost use Rattle.lin_edn.specs.Grammar.{longest, discarding};
 ghost use Rattle.lin_edn.specs.Levels.{frame_view, frames_of, flat};
 ghost use Rattle.lin_edn.specs.Machine as machine;
 ghost use Rattle.lin_edn.specs.Run.{run_value};
-ghost use Rattle.lin_edn.specs.Scans.{IsAhead, IsRunTo, ArePairs, IsWent};
+ghost use Rattle.lin_edn.specs.Scans.{IsAhead, IsRunTo, ArePairs, AreOpened, IsWent};
 ghost use Rattle.lin_edn.specs.Turns.{IsMove, IsEnding, IsBegun, mode_of, behind_of, Answers};
 ghost use Rattle.lin_edn.specs.Value as value;
 ghost use Rattle.lin_edn.specs.View.{view, entry_view};
@@ -25,7 +25,7 @@ use std::alloc::{AllocError, Global};
 pub(crate) const LONGEST: usize = 16_777_216;
 
 // Room for the entries of the usual map at its beginning.
-const USUAL_ENTRIES: usize = 6;
+pub(crate) const USUAL_ENTRIES: usize = 6;
 
 // The greatest number of levels.
 pub(crate) const DEEPEST: usize = 64;
@@ -509,7 +509,7 @@ fn at_end<'a>(stack: &[Frame], mode: Mode, at: usize) -> Next<'a>
 }
 
 /// How far the bytes go that are among the longest from `begun` on.
-fn window(begun: usize, len: usize) -> usize
+pub(crate) fn window(begun: usize, len: usize) -> usize
     ensures within { result ≤ len }
     ensures short { result ≤ begun + longest }
     ensures whole { (i : ℕ) → i < begun + longest → i < len → i < result }
@@ -582,6 +582,23 @@ fn take_pairs<'a>(
     Ok(at)
 }
 
+/// Takes all pairs of runs that stand behind the opening byte of a map, and the white behind them.
+pub(crate) fn open_pairs<'a>(
+    entries: &mut Vec<Entry<'a>>,
+    input: &'a [u8],
+    at: usize,
+    end: usize,
+) -> Result<usize, AllocError>
+    requires begun { at < end }
+    requires inside { end ≤ length input.now }
+    requires opens { slice_index input.now at ≡ 123 }
+    requires none { entries.old.items ≡ [] }
+    ensures { IfOk result (λ next. AreOpened input.now at next end (map entry_view entries.new.items)) }
+{
+    let paired = take_pairs(entries, input, at + 1, end)?;
+    Ok(white_end(input, paired, end))
+}
+
 /// Takes the map whose opening byte stands at a place, up to its end where it holds runs alone.
 fn open_map<'a>(
     alloc: Global,
@@ -603,8 +620,7 @@ fn open_map<'a>(
     }
     let end = window(begun, input.len());
     let mut entries = Vec::with_capacity(alloc, USUAL_ENTRIES)?;
-    let paired = take_pairs(&mut entries, input, at + 1, end)?;
-    let next = white_end(input, paired, end);
+    let next = open_pairs(&mut entries, input, at, end)?;
     if next < end && input[next] == b'}' {
         return Ok(close_pairs(alloc, stack, entries, at, next)?);
     }
@@ -735,9 +751,21 @@ fn one_step<'a>(
 pub(crate) fn scan<'a>(alloc: Global, input: &'a [u8]) -> Result<Next<'a>, EdnFault>
     ensures { Answers (machine.run longest 0 [] machine.between input.entry.now) result }
 {
-    let mut stack = Vec::new(alloc);
+    scan_on(alloc, Vec::new(alloc), input, 0)
+}
+
+/// What comes of the input from a place on, where levels are open.
+pub(crate) fn scan_on<'a>(
+    alloc: Global,
+    mut stack: Vec<Frame<'a>>,
+    input: &'a [u8],
+    from: usize,
+) -> Result<Next<'a>, EdnFault>
+    requires { from ≤ length input.now }
+    ensures { Answers (machine.run longest from (frames_of stack.entry.items) machine.between (drop from input.entry.now)) result }
+{
     let mut mode = Mode::Between;
-    let mut at = 0;
+    let mut at = from;
     while at < input.len() {
         let here = ahead(&stack, input, mode, at);
         if here == input.len() {

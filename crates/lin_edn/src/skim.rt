@@ -2,12 +2,15 @@
 
 ghost use Rattle.std.specs.Prelude.{◌≡◌, ℕ, ◌<◌, List, [], ◌∷◌, ◌++◌, length, ◌==◌, true, Some, IfSome};
 ghost use Rattle.lin_edn.specs.Bytes as bytes;
+ghost use Rattle.lin_edn.specs.Rows.{IsRow, bracket_of};
 ghost use Rattle.lin_edn.specs.Skimming as skimming;
-ghost use Rattle.lin_edn.specs.Skimming.{HasSeen, IsOpenText, shapes_of, level_view};
+ghost use Rattle.lin_edn.specs.Skimming.{HasSeen, HasGone, IsOpenText, shapes_of, level_view};
+ghost use Rattle.lin_edn.specs.Value.{Value};
 ghost use Rattle.lin_edn.specs.declared.skim.Part.TheVariants as part;
 
 use crate::reader::{Behind, DEEPEST, LONGEST, behind_hash};
 use crate::scan::{is_stop, is_white};
+use crate::series::Series;
 use std::alloc::Global;
 
 /// An open level.
@@ -74,12 +77,26 @@ impl Skim {
     pub fn go_on(&mut self, piece: &[u8]) -> bool
         ensures { result ≡ true → (text : List ℕ) → HasSeen self.old text → HasSeen self.new (text ++ piece.now) }
     {
-        for at in 0..piece.len() {
-            if !self.take(piece[at]) {
-                return false;
-            }
+        self.pass(piece)
+    }
+
+    /// Goes anew over a text that begins with a list or vector, from where that is read to.
+    ///
+    /// True and false mean what they mean of `go_on`.
+    pub fn go_on_in(&mut self, series: &Series, text: &[u8]) -> bool
+        ensures { result ≡ true → (vs : List Value) → IsRow series.now text.now vs → HasSeen self.new text.now }
+    {
+        let at = series.end();
+        if at > text.len() {
+            return false;
         }
-        true
+        self.levels.clear();
+        if !push(&mut self.levels, level_of(series)) {
+            return false;
+        }
+        self.part = Part::Between;
+        self.length = at;
+        self.pass(&text[at..])
     }
 
     /// Whether the text seen so far is a comment.
@@ -92,9 +109,21 @@ impl Skim {
         }
     }
 
+    /// Goes on over bytes.
+    fn pass(&mut self, bytes: &[u8]) -> bool
+        ensures { result ≡ true → HasGone self.old self.new bytes.now }
+    {
+        for at in 0..bytes.len() {
+            if !self.take(bytes[at]) {
+                return false;
+            }
+        }
+        true
+    }
+
     /// Takes one byte.
     fn take(&mut self, c: u8) -> bool
-        ensures { result ≡ true → (text : List ℕ) → HasSeen self.old text → HasSeen self.new (text ++ c ∷ []) }
+        ensures { result ≡ true → HasGone self.old self.new (c ∷ []) }
     {
         let Some(part) = end_before(&mut self.levels, self.part, c) else {
             return false;
@@ -108,6 +137,17 @@ impl Skim {
         self.part = next;
         self.length += 1;
         true
+    }
+}
+
+/// The level that a list or vector is.
+fn level_of(series: &Series) -> Level
+    ensures { level_view result ≡ skimming.brackets (bracket_of series.now.is_vector) true }
+{
+    if series.is_vector() {
+        Level::Vector
+    } else {
+        Level::List
     }
 }
 

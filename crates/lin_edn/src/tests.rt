@@ -1,4 +1,4 @@
-use crate::{Edn, EdnCause, EdnFault, Next, Skim, next_element};
+use crate::{Edn, EdnCause, EdnFault, Inside, Next, Series, Skim, next_element};
 use std::alloc::{AllocError, Global};
 use std::test::Fail;
 
@@ -277,4 +277,78 @@ fn skimmed(rt: HostRuntime) {
     skim.clear();
     assert!(rt; skim.go_on(b"[1 2"));
     assert!(rt; skim.go_on(b" 3"));
+}
+
+/// How many elements the list or vector has that an input begins with, and where it ends; 0 where that isn't told.
+fn walked(alloc: Global, input: &[u8]) -> (usize, usize) {
+    let Some(mut series) = Series::begin(input) else {
+        return (0, 0);
+    };
+    for elements in 0..100 {
+        match series.next(alloc, input, Vec::new(alloc)) {
+            Inside::Element(_) => {}
+            Inside::Closed(used) => return (elements, used),
+            Inside::Unknown | Inside::OutOfMemory => return (elements, 0),
+        }
+    }
+    (0, 0)
+}
+
+#[test]
+fn element_by_element(rt: HostRuntime) {
+    let alloc = rt.alloc();
+    assert_eq!(rt; walked(alloc, b"[]"), (0, 2));
+    assert_eq!(rt; walked(alloc, b"(1 :b)"), (2, 6));
+    assert_eq!(rt;
+        walked(alloc, b"[ {:a 1, :b 2} ,{:a [1 {2 3}]}{} ] "),
+        (3, 34)
+    );
+    assert_eq!(rt;
+        walked(alloc, b"[1 \"x\" ; 2 ]\n #_ 3 #t 4 (5) #{6}]"),
+        (5, 33)
+    );
+    assert_eq!(rt; walked(alloc, b"{1 2}"), (0, 0));
+    assert_eq!(rt; walked(alloc, b" [1]"), (0, 0));
+    // An atom is finished by the byte behind it.
+    assert_eq!(rt; walked(alloc, b"[1 23"), (1, 0));
+    assert_eq!(rt; walked(alloc, b"[1 23 "), (2, 0));
+    assert_eq!(rt; walked(alloc, b"[1 )"), (1, 0));
+    assert_eq!(rt; walked(alloc, b"[{:a 1} {:a}]"), (1, 0));
+    // Blanks before the closing byte, other than white, are for `next_element`.
+    assert_eq!(rt; walked(alloc, b"[1 #_ 2 ]"), (1, 0));
+}
+
+/// Whether what an input begins with is unfinished, told from where its elements are read to.
+fn skims_in(alloc: Global, input: &[u8]) -> bool {
+    let Some(mut series) = Series::begin(input) else {
+        return false;
+    };
+    for _ in 0..100 {
+        match series.next(alloc, input, Vec::new(alloc)) {
+            Inside::Element(_) => {}
+            _ => return Skim::new(alloc).go_on_in(&series, input),
+        }
+    }
+    false
+}
+
+#[test]
+fn skimmed_from_within(rt: HostRuntime) {
+    let alloc = rt.alloc();
+    assert!(rt; skims_in(alloc, b"["));
+    assert!(rt; skims_in(alloc, b"[1 {:a 1} {:b #{1"));
+    assert!(rt; skims_in(alloc, b"(1 {:a 1} ; ) "));
+    assert!(rt; !skims_in(alloc, b"[1 {:a 1} )"));
+    assert!(rt; !skims_in(alloc, b"[1 #_ 2 ]"));
+    assert!(rt; !skims_in(alloc, b"[1 {:a}"));
+}
+
+#[test]
+fn levels_within(rt: HostRuntime) -> Result<(), Fail> {
+    let alloc = rt.alloc();
+    let deepest = padded(alloc, b"[", b'(', 63, b"1")?;
+    assert!(rt; skims_in(alloc, deepest.as_slice()));
+    let deeper = padded(alloc, b"[", b'(', 64, b"1")?;
+    assert!(rt; !skims_in(alloc, deeper.as_slice()));
+    Ok(())
 }

@@ -1,5 +1,5 @@
 use Rattle.std.proofs.Common.{◌≡◌, ℕ, ◌+◌, ◌≤◌, ◌<◌, ◌∙◌, sym, ap, arith, drop, length, nat_le, true, false, map, rules, tests}
-use Rattle.lin_edn.proofs.Ahead.{over_here, deep_here, map_to, map_ends}
+use Rattle.lin_edn.proofs.Ahead.{over_here, deep_here, map_ends}
 use Rattle.lin_edn.specs.Grammar.{longest}
 use Rattle.lin_edn.specs.Levels.{frames_of}
 use Rattle.lin_edn.specs.Machine.{run, between, outermost, too_long}
@@ -41,19 +41,15 @@ returns-then-input-next-eq125 c =
     let short : c.args.at < c.begun_at-begun.result + longest = under _ _ c.if-is_over.ensures in
     let depth = rw c.deref-2.ensures.value at c.depth.ensures in
     let d : c.depth.result ≡ length st = depth in
-    let es = map entry_view c.take_pairs.new.entries.items in
-    let next = c.white_end-next.result in
+    let es = map entry_view c.open_pairs.new.entries.items in
+    let next = c.in_ok-next.next in
     let end_in : c.window-end.result ≤ length s = c.window-end.ensures.within in
     let end_short : c.window-end.result ≤ c.begun_at-begun.result + longest = c.window-end.ensures.short in
-    let pairs = rw c.in_ok-entries.ensures.items at c.in_ok-paired.ensures in
-    let first_pair : c.args.at + 1 ≤ c.in_ok-paired.paired = pairs.0 in
-    let later : c.in_ok-paired.paired ≤ next = c.white_end-next.ensures.0 in
-    let inside : next ≤ c.window-end.result = c.white_end-next.ensures.1 in
+    let opened = c.in_ok-next.ensures in
+    let later : c.args.at < next = opened.0 in
     let before_end : next < c.window-end.result = c.if-next-end.true in
     c.in_ok-close_pairs.ensures s c.args.at _ (omega arith) (omega arith)
-    (map_to s c.args.at c.in_ok-paired.paired next c.window-end.result st es c.requires.inside c.requires.opens (omega arith) (omega arith) end_in (omega arith)
-    pairs c.white_end-next.ensures
-    ∙ map_ends s next c.args.at st es (omega arith) c.if-input-next-eq125.true (omega arith))
+    (opened.2 st (omega arith) (omega arith) (omega arith) ∙ map_ends s next c.args.at st es (omega arith) c.if-input-next-eq125.true (omega arith))
 
 pub returns : goal.returns
 returns c =
@@ -64,17 +60,13 @@ returns c =
     let short : c.args.at < c.begun_at-begun.result + longest = under _ _ c.if-is_over.ensures in
     let depth = rw c.deref-2.ensures.value at c.depth.ensures in
     let d : c.depth.result ≡ length st = depth in
-    let es = map entry_view c.take_pairs.new.entries.items in
-    let next = c.white_end-next.result in
+    let next = c.in_ok-next.next in
     let end_in : c.window-end.result ≤ length s = c.window-end.ensures.within in
     let end_short : c.window-end.result ≤ c.begun_at-begun.result + longest = c.window-end.ensures.short in
-    let pairs = rw c.in_ok-entries.ensures.items at c.in_ok-paired.ensures in
-    let first_pair : c.args.at + 1 ≤ c.in_ok-paired.paired = pairs.0 in
-    let later : c.in_ok-paired.paired ≤ next = c.white_end-next.ensures.0 in
-    let inside : next ≤ c.window-end.result = c.white_end-next.ensures.1 in (
-      map_to s c.args.at c.in_ok-paired.paired next c.window-end.result st es c.requires.inside c.requires.opens (omega arith) (omega arith) end_in (omega arith)
-          pairs c.white_end-next.ensures
-          ∙ ap (λ fs. run longest next fs between (drop next s)) (sym c.in_ok-push.ensures.ok),
+    let opened = c.in_ok-next.ensures in
+    let later : c.args.at < next = opened.0 in
+    let inside : next ≤ c.window-end.result = opened.1 in (
+      opened.2 st (omega arith) (omega arith) (omega arith) ∙ ap (λ fs. run longest next fs between (drop next s)) (sym c.in_ok-push.ensures.ok),
       tt,
       omega arith,
       omega arith,

@@ -20,10 +20,10 @@ returns-in-Comment c = λ text seen lt.
     let skim = c.args.self.now in
     let ls = shapes_of skim.levels.items in
     let none = rw c.deref.ensures.value at c.is_empty.ensures in
-    subst (λ b. IsOpenText b text) (ap (λ x. is_top_comment x ls) c.in-Comment.is ∙ sym none) (seen_open skim.length text ls skim.part seen lt)
+    subst (λ b. IsOpenText b text) (ap (λ x. is_top_comment x ls) c.in-Comment.is ∙ sym none) (seen_open skim.length text ls skim.part seen.0 seen.1 lt)
 
 pub returns-in_default : goal.returns-in_default
 returns-in_default c = λ text seen lt.
     let skim = c.args.self.now in
     let ls = shapes_of skim.levels.items in
-    subst (λ b. IsOpenText b text) (no_comment skim.part ls c.in_default.not-Comment) (seen_open skim.length text ls skim.part seen lt)
+    subst (λ b. IsOpenText b text) (no_comment skim.part ls c.in_default.not-Comment) (seen_open skim.length text ls skim.part seen.0 seen.1 lt)

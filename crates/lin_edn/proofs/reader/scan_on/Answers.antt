@@ -5,7 +5,7 @@ use Rattle.lin_edn.specs.Levels.{frames_of}
 use Rattle.lin_edn.specs.Machine.{Answer, at_end}
 use Rattle.lin_edn.specs.Turns.{Answers, mode_of}
 use Rattle.lin_edn.specs.declared.Next.{Next}
-use Rattle.lin_edn.proofs.reader.scan.Goals as goal
+use Rattle.lin_edn.proofs.reader.scan_on.Goals as goal
 
 same_answer : (a b : Answer) (n : Next) → a ≡ b → Answers b (Ok n) → Answers a (Ok n)
 same_answer a b n e h = subst (λ x. Answers x (Ok n)) (sym e) h
