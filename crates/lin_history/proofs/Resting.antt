@@ -1,5 +1,5 @@
 -- Unfinished bytes, as what is read of them.
-use Rattle.std.proofs.Common.{◌≡◌, ℕ, ◌+◌, ◌<◌, ◌==◌, Bool, true, false, List, [], ◌∷◌, Ok, Err, length, refl, sym, ap, arith, append-nil}
+use Rattle.std.proofs.Common.{◌≡◌, ℕ, ◌+◌, ◌<◌, ◌==◌, Bool, true, false, List, [], ◌∷◌, ◌++◌, Ok, Err, length, refl, sym, ap, subst, arith, append-nil}
 use Rattle.std.proofs.lemmas.Bool.Decides.{nat_tests}
 use Rattle.lin_edn.specs.Grammar.{IsBlankText, nothing_more, no_blank_yet}
 use Rattle.lin_edn.specs.Skimming.{HasSeen, IsOpenText}
@@ -47,3 +47,7 @@ is_some n h = grind (arith, nat_tests)
 pub gone_on : (b : Bool) (rest : Rest) (text : List ℕ) → rest.is_seen ≡ b → (b ≡ true → HasSeen rest.skim text) → GoesOn rest text b
 gone_on true rest text e h = (e, h refl)
 gone_on false rest text e h = e
+
+-- the bytes that are held, with a new piece behind them, are still unfinished
+pub held_goes_on : (rest : Rest) (text piece held : List ℕ) (b : Bool) → held ≡ text ++ piece → b ≡ true → GoesOn rest (text ++ piece) b → GoesOn rest held true
+held_goes_on rest text piece held b is goes h = subst (λ (l : List ℕ). GoesOn rest l true) (sym is) (subst (λ b. GoesOn rest (text ++ piece) b) goes h)

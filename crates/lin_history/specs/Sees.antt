@@ -73,6 +73,14 @@ Takes old new None = (old.ready ≡ []) × (new ≡ old)
 Takes old new (Some e) = (old.ready ≡ e ∷ new.ready) × (new.keyed ≡ old.keyed) × (new.outcome ≡ old.outcome) ×
     ((stream : List ℕ) (taken : List Event) → Sees old stream taken → Sees new stream (taken ++ e ∷ []))
 
+-- taking all events that are ready
+pub record TakesAll (old new : Followed) (es : List Event) : Type 0 where
+  pub events : es ≡ old.ready
+  pub none_ready : new.ready ≡ []
+  pub keyed : new.keyed ≡ old.keyed
+  pub outcome : new.outcome ≡ old.outcome
+  pub sees : (stream : List ℕ) (taken : List Event) → Sees old stream taken → Sees new stream (taken ++ es)
+
 -- more bytes change nothing of a fault, nor of the events before it
 abbrev pub FaultsStay : Type 0
 FaultsStay = (keyed : Bool) (s more : List ℕ) (es : List Event) (o : Result (Unit {0}) FollowFault) →

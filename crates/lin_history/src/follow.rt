@@ -4,19 +4,21 @@ ghost use Rattle.lin_edn.specs.Value.{values_of};
 ghost use Rattle.lin_edn.specs.View.{view};
 ghost use Rattle.lin_edn.specs.Skimming.{IsOpenText};
 ghost use Rattle.lin_history.specs.Stream.{told, told_by};
-ghost use Rattle.lin_history.specs.Sees.{Sees, Takes, Feeds, StaysFaulty, FaultsStay, most};
+ghost use Rattle.lin_history.specs.Sees.{Sees, Takes, TakesAll, Feeds, StaysFaulty, FaultsStay, most};
 ghost use Rattle.lin_history.specs.Reads.{IsTold, IsReadOn, IsReadTo, IsFront, IsStanding, IsRead};
-ghost use Rattle.lin_history.specs.Rests.{Knows, GoesOn};
+ghost use Rattle.lin_history.specs.Rests.{IsOpen, IsWhole, IsSeen, Knows, IsUnaware, GoesOn, IsReadHeld};
 ghost use Rattle.lin_history.specs.declared.events.Event.{Event as TheEvent};
 ghost use Rattle.lin_history.specs.declared.follow.FollowFault.{FollowFault as TheFault};
 
 use crate::events::Event;
 use crate::numbers::OutOfMemory;
-use crate::table::{EventFault, bare, event_of};
+use crate::row::{Far, Row, begin_row, put_all, read_maps, tell_one};
+use crate::table::{EventFault, bare};
 use lin_edn::{Edn, EdnCause, Next, Skim, blanks_in_front, more_bytes, next_element, places};
 use std::alloc::Global;
 use std::collections::VecDeque;
 use std::marker::Model;
+use std::mem;
 
 /// The greatest number of bytes of a stream.
 const MOST: u64 = 1_099_511_627_776;
@@ -59,6 +61,8 @@ struct Rest {
     skim: Skim,
     // Whether the skim has seen just the bytes that are held.
     is_seen: bool,
+    // The list or vector that the held bytes begin with, as far as it is read.
+    row: Option<Row>,
 }
 
 impl Model for Follow {
@@ -70,7 +74,7 @@ impl Model for Follow {
 
     ghost view = { λ f. record { keyed = f.keyed; ready = f.ready.items; outcome = f.outcome; passed = f.passed; held = f.held.items } };
 
-    ghost invariant = { λ f. (f.passed + length f.held.items ≤ most) × Knows f.rest f.held.items };
+    ghost invariant = { λ f. (f.passed + length f.held.items ≤ most) × Knows f.keyed f.rest f.held.items };
 }
 
 impl Follow {
@@ -90,6 +94,7 @@ impl Follow {
             rest: Rest {
                 skim: Skim::new(alloc),
                 is_seen: true,
+                row: None,
             },
         }
     }
@@ -106,6 +111,13 @@ impl Follow {
         ensures { Takes self.old self.new result }
     {
         self.ready.pop_front()
+    }
+
+    /// All events that are ready, the oldest first.
+    pub fn take_all(&mut self) -> Vec<Event>
+        ensures { TakesAll self.old self.new result.items }
+    {
+        mem::replace(&mut self.ready, VecDeque::new(self.alloc)).into_vec()
     }
 
     /// Whether the stream may end here: `Truncated` in an unfinished element or discard, else the fault that stands, if any.
@@ -182,20 +194,16 @@ fn take_in(
     ready: &mut VecDeque<Event>,
 ) -> Result<Read, OutOfMemory>
     requires small { passed + length held.old.items + length piece.now ≤ most }
-    requires known { Knows rest.old held.old.items }
+    requires known { Knows keyed rest.old held.old.items }
     ensures read { IsRead keyed passed piece.now held.old.items ready.old.items held.new.items ready.new.items result }
-    ensures known { Knows rest.new held.new.items }
+    ensures known { Knows keyed rest.new held.new.items }
 {
     let kept = held.len();
     let before = ready.len();
     held.extend_from_slice(piece)?;
-    if go_on(rest, piece) {
-        return Ok(resting(rest, held.as_slice(), passed));
-    }
-    match read_on(alloc, keyed, held.as_slice(), passed, ready) {
+    match read_held(alloc, keyed, passed, piece, held.as_slice(), rest, ready) {
         Ok(read) => {
             drop_front(held, read.used);
-            look_at(rest, held.as_slice());
             Ok(read)
         }
         Err(refused) => {
@@ -206,9 +214,126 @@ fn take_in(
     }
 }
 
+/// Reads the bytes that are held, the last of them a new piece, if something may be whole.
+fn read_held(
+    alloc: Global,
+    keyed: bool,
+    passed: u64,
+    piece: &[u8],
+    held: &[u8],
+    rest: &mut Rest,
+    ready: &mut VecDeque<Event>,
+) -> Result<Read, OutOfMemory>
+    requires small { passed + length held.now ≤ most }
+    requires known { (text : List ℕ) × (held.now ≡ text ++ piece.now) × Knows keyed rest.old text }
+    ensures { IsReadHeld keyed held.now passed ready.old.items ready.new.items rest.new result }
+{
+    more_bytes();
+    match rest.row.take() {
+        Some(row) => read_in(alloc, keyed, passed, held, row, rest, ready),
+        None => {
+            if !go_on(rest, piece) {
+                return read_anew(alloc, keyed, passed, held, rest, ready);
+            }
+            let read = resting(rest, held, passed);
+            if piece.len() == held.len() {
+                rest.row = begin_row(alloc, held);
+            }
+            Ok(read)
+        }
+    }
+}
+
+/// Reads on in the list or vector that the held bytes begin with.
+fn read_in(
+    alloc: Global,
+    keyed: bool,
+    passed: u64,
+    held: &[u8],
+    mut row: Row,
+    rest: &mut Rest,
+    ready: &mut VecDeque<Event>,
+) -> Result<Read, OutOfMemory>
+    requires small { passed + length held.now ≤ most }
+    requires waiting { IsOpen keyed row held.now }
+    requires row { rest.old.row ≡ None }
+    ensures { IsReadHeld keyed held.now passed ready.old.items ready.new.items rest.new result }
+{
+    rest.is_seen = false;
+    match read_maps(alloc, keyed, held, &mut row)? {
+        Far::Closed(used) => {
+            let read = close(alloc, keyed, passed, held, used, row, ready)?;
+            look_at(alloc, rest, &held[read.used..]);
+            Ok(read)
+        }
+        Far::Open(more) => {
+            rest.is_seen = rest.skim.go_on_in(&row.series, held);
+            if !rest.is_seen {
+                return read_anew(alloc, keyed, passed, held, rest, ready);
+            }
+            let read = resting(rest, held, passed);
+            // Where a piece ends no map the skim goes on alone, so that no byte is read again and again.
+            if more {
+                rest.row = Some(row);
+            }
+            Ok(read)
+        }
+    }
+}
+
+/// Reads the bytes that are held from the first on, and looks at what is left.
+fn read_anew(
+    alloc: Global,
+    keyed: bool,
+    passed: u64,
+    held: &[u8],
+    rest: &mut Rest,
+    ready: &mut VecDeque<Event>,
+) -> Result<Read, OutOfMemory>
+    requires small { passed + length held.now ≤ most }
+    requires unaware { IsUnaware rest.old }
+    ensures { IsReadHeld keyed held.now passed ready.old.items ready.new.items rest.new result }
+{
+    let read = read_on(alloc, keyed, held, passed, ready)?;
+    look_at(alloc, rest, &held[read.used..]);
+    Ok(read)
+}
+
+/// Puts what waited behind what is ready, now that its list or vector is whole, and reads what stands behind that.
+fn close(
+    alloc: Global,
+    keyed: bool,
+    passed: u64,
+    held: &[u8],
+    used: usize,
+    row: Row,
+    ready: &mut VecDeque<Event>,
+) -> Result<Read, OutOfMemory>
+    requires small { passed + length held.now ≤ most }
+    requires whole { IsWhole keyed row held.now used }
+    ensures { IsReadOn keyed held.now passed ready.old.items ready.new.items result }
+{
+    places();
+    put_all(ready, row.waiting)?;
+    match row.ends {
+        Some(cause) => Ok(Read {
+            used,
+            outcome: Err(FollowFault::Event { at: passed, cause }),
+        }),
+        None => {
+            let read = read_on(alloc, keyed, &held[used..], passed + used as u64, ready)?;
+            Ok(Read {
+                used: used + read.used,
+                outcome: read.outcome,
+            })
+        }
+    }
+}
+
 /// Whether the bytes that are held are still unfinished once a piece is put behind them.
 fn go_on(rest: &mut Rest, piece: &[u8]) -> bool
-    ensures { (text : List ℕ) → Knows rest.old text → GoesOn rest.new (text ++ piece.now) result }
+    ensures row { rest.new.row ≡ rest.old.row }
+    ensures seen { (text : List ℕ) → IsSeen rest.old text → GoesOn rest.new (text ++ piece.now) result }
 {
     if !rest.is_seen {
         return false;
@@ -218,11 +343,12 @@ fn go_on(rest: &mut Rest, piece: &[u8]) -> bool
 }
 
 /// Looks at bytes that are held anew.
-fn look_at(rest: &mut Rest, held: &[u8])
-    ensures { Knows rest.new held.now }
+fn look_at(alloc: Global, rest: &mut Rest, held: &[u8])
+    ensures { (keyed : Bool) → Knows keyed rest.new held.now }
 {
     rest.skim.clear();
     rest.is_seen = rest.skim.go_on(held);
+    rest.row = begin_row(alloc, held);
 }
 
 /// Whether unfinished bytes are blank: none, or a comment.
@@ -281,36 +407,6 @@ enum Front {
     Element(usize),
     /// No whole element, or a fault.
     End(Read),
-}
-
-/// Puts an event behind those that are ready; refused, they are as they were.
-fn put_back(ready: &mut VecDeque<Event>, event: Event) -> Result<(), OutOfMemory>
-    ensures ok { OnOk result (ready.new.items ≡ ready.old.items ++ event ∷ []) }
-    ensures err { OnErr result (ready.new.items ≡ ready.old.items) }
-{
-    ready.push_back(event)?;
-    Ok(())
-}
-
-/// Puts the event of a map behind those that are ready.
-fn tell_one(
-    alloc: Global,
-    keyed: bool,
-    element: &Edn,
-    ready: &mut VecDeque<Event>,
-) -> Result<(), EventFault>
-    ensures { IsTold (told_by keyed (values_of (view element.now ∷ []))) ready.old.items ready.new.items result }
-{
-    match event_of(alloc, element, keyed) {
-        Ok(None) => Ok(()),
-        Ok(Some(event)) => {
-            if put_back(ready, event).is_err() {
-                return Err(EventFault::OutOfMemory);
-            }
-            Ok(())
-        }
-        Err(fault) => Err(fault),
-    }
 }
 
 /// Puts the events of maps behind those that are ready, up to the first fault.

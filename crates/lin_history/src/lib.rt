@@ -6,6 +6,7 @@ mod events;
 mod follow;
 mod meter;
 mod numbers;
+mod row;
 mod table;
 
 pub use calls::{Call, Name, Reply, Val};

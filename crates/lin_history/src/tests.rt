@@ -148,6 +148,144 @@ fn a_stream_ends_where_it_has_to(rt: HostRuntime) -> Result<(), Fail> {
     Ok(())
 }
 
+/// A vector and a list with blanks, a discard and a tag between their maps.
+const MIXED: &[u8] = b"[; first
+ {:process 0 :type :invoke :f :write :value 1} #_{:process 9}, #op {:process 0 :type :ok :f :write :value 1} ; last
+] (;
+{:process 1 :type :invoke :f :read} #_[] )
+";
+
+/// Feeds a text in pieces of so many bytes.
+fn in_pieces(alloc: Global, text: &[u8], size: usize) -> Result<Follow, Fail> {
+    let mut follow = Follow::new(alloc, false);
+    let mut piece = Vec::new(alloc);
+    for byte in text {
+        piece.push(*byte)?;
+        if piece.len() >= size {
+            let _fed = follow.feed(piece.as_slice());
+            piece.clear();
+        }
+    }
+    let _fed = follow.feed(piece.as_slice());
+    Ok(follow)
+}
+
+#[test]
+fn a_vector_is_the_same_however_it_is_cut(rt: HostRuntime) -> Result<(), Fail> {
+    let alloc = rt.alloc();
+    for text in [
+        MIXED,
+        b" [{:process 0 :type :invoke :f :write :value 1} 5 {:process 1 :type :invoke :f :read} [] ] {}",
+        b"({:process 0 :type :invoke :f :write :value 1} {:process x} {:process 1 :type :invoke :f :read}]",
+        b"[{:process 0 :type :invoke :f :write :value 1} #",
+        b"[]()[ ](;\n)[{:process :nemesis}]",
+    ] {
+        let mut whole = in_pieces(alloc, text, text.len())?;
+        let ready = whole.ready();
+        let outcome = whole.finish();
+        let events = taken(&mut whole);
+        for size in [1, 2, 3, 7, 50] {
+            let mut cut = in_pieces(alloc, text, size)?;
+            assert_eq!(rt; cut.ready(), ready);
+            assert_eq!(rt; cut.finish(), outcome);
+            assert_eq!(rt; taken(&mut cut), events);
+        }
+    }
+    Ok(())
+}
+
+#[test]
+fn blanks_discards_and_tags_may_stand_between_maps(rt: HostRuntime) -> Result<(), Fail> {
+    let alloc = rt.alloc();
+    let mut follow = in_pieces(alloc, MIXED, 50)?;
+    assert_eq!(rt; follow.finish(), Ok(()));
+    assert_eq!(rt; follow.ready(), 3);
+    assert_eq!(rt; taken(&mut follow), (1, 1, 1));
+    Ok(())
+}
+
+#[test]
+fn events_of_a_vector_are_ready_once_it_is_closed(rt: HostRuntime) -> Result<(), Fail> {
+    let alloc = rt.alloc();
+    let mut follow = Follow::new(alloc, false);
+    assert_eq!(rt;
+        follow.feed(b"[{:process 0 :type :invoke :f :write :value 1} "),
+        Ok(0)
+    );
+    assert_eq!(rt;
+        follow.feed(b"{:process 0 :type :ok :f :write :value 1} {:proc"),
+        Ok(0)
+    );
+    assert_eq!(rt; follow.feed(b"ess 1 :type :invoke :f :read} "), Ok(0));
+    assert_eq!(rt; follow.ready(), 0);
+    assert_eq!(rt; follow.finish(), Err(FollowFault::Truncated { at: 0 }));
+    assert_eq!(rt; follow.feed(b"] {"), Ok(3));
+    assert_eq!(rt; follow.finish(), Err(FollowFault::Truncated { at: 127 }));
+    assert_eq!(rt; taken(&mut follow), (1, 1, 1));
+    Ok(())
+}
+
+#[test]
+fn all_that_is_ready_is_taken(rt: HostRuntime) -> Result<(), Fail> {
+    let mut follow = Follow::new(rt.alloc(), false);
+    assert_eq!(rt; follow.take_all().len(), 0);
+    assert_eq!(rt;
+        follow.feed(b"{:process 0 :type :invoke :f :read} {:process 0 :type :ok :f :read} {"),
+        Ok(2)
+    );
+    assert_eq!(rt; follow.take_all().len(), 2);
+    assert_eq!(rt; follow.ready(), 0);
+    assert_eq!(rt; follow.feed(b":process 1 :type :invoke :f :read}"), Ok(1));
+    assert_eq!(rt; follow.take().is_some(), true);
+    Ok(())
+}
+
+#[test]
+fn a_fault_in_a_vector_is_told_once_it_is_closed(rt: HostRuntime) -> Result<(), Fail> {
+    let alloc = rt.alloc();
+    let mut follow = Follow::new(alloc, false);
+    let open = Err(FollowFault::Truncated { at: 1 });
+    assert_eq!(rt;
+        follow.feed(b" [{:process 0 :type :invoke :f :write :value 1} "),
+        Ok(0)
+    );
+    assert_eq!(rt; follow.feed(b"5 {:process 1 :type"), Ok(0));
+    assert_eq!(rt; follow.feed(b" :invoke :f :read} [] "), Ok(0));
+    assert_eq!(rt; follow.ready(), 0);
+    assert_eq!(rt; follow.finish(), open);
+    let fault = FollowFault::Event {
+        at: 1,
+        cause: EventFault::NotAMap,
+    };
+    assert_eq!(rt; follow.feed(b"] }"), Err(fault));
+    assert_eq!(rt; follow.finish(), Err(fault));
+    assert_eq!(rt; follow.ready(), 1);
+    assert_eq!(rt; taken(&mut follow), (1, 0, 0));
+    Ok(())
+}
+
+#[test]
+fn a_fault_of_edn_comes_before_that_of_a_map(rt: HostRuntime) -> Result<(), Fail> {
+    let alloc = rt.alloc();
+    let mut follow = Follow::new(alloc, false);
+    assert_eq!(rt;
+        follow.feed(b"[{:process 0 :type :invoke :f :write :value 1} "),
+        Ok(0)
+    );
+    assert_eq!(rt; follow.feed(b"5 "), Ok(0));
+    let fault = FollowFault::Edn {
+        at: 84,
+        cause: EdnCause::Unbalanced,
+    };
+    assert_eq!(rt;
+        follow.feed(b"{:process 1 :type :invoke :f :read})"),
+        Err(fault)
+    );
+    assert_eq!(rt; follow.ready(), 0);
+    assert_eq!(rt; follow.finish(), Err(fault));
+    Ok(())
+}
+
 /// The event of a text that holds one element.
 fn event_in(
     rt: &impl Abort,

@@ -1,0 +1,84 @@
+-- What waits of a list or vector that is read map by map.
+use Rattle.std.proofs.Common.{◌≡◌, ◌≢◌, ℕ, ◌+◌, ◌≤◌, Bool, true, false, List, [], ◌∷◌, ◌++◌, Option, Some, None, Result, Ok, Err, length, drop, refl, sym, ap, ◌∙◌, subst, zero-add, add-zero, true≢false}
+use Rattle.std.specs.Option.{is_some}
+use Rattle.lin_edn.specs.Value.{Value, values_of}
+use Rattle.lin_edn.specs.Grammar.{Spells}
+use Rattle.lin_edn.specs.Rows.{value_in}
+use Rattle.lin_history.specs.Table.{event}
+use Rattle.lin_history.specs.Stream.{Told, before, told, told_by, Gives, nothing, element}
+use Rattle.lin_history.specs.Reads.{IsReadTo, IsTold}
+use Rattle.lin_history.specs.declared.events.Event.{Event}
+use Rattle.lin_history.specs.declared.follow.Read.{Read}
+use Rattle.lin_history.specs.declared.follow.FollowFault.TheVariants as fault
+use Rattle.lin_history.specs.declared.table.EventFault.{EventFault}
+use Rattle.lin_history.specs.declared.table.EventFault.TheVariants as cause
+use Rattle.lin_history.proofs.Fronts.{ends_in_fault, told_fault}
+use Rattle.lin_history.proofs.Reading.{IsReadUp, the_end}
+
+-- events and their end, and what is told behind them if there is none
+abbrev pub then_told : List Event → Option EventFault → Told → Told
+then_told es None t = record { events = es ++ t.events; ends = t.ends }
+then_told es (Some f) t = record { events = es; ends = Some f }
+
+before_then : (r : Result (Option Event) EventFault) (es : List Event) (o : Option EventFault) (t : Told) →
+    before r (then_told es o t) ≡ then_told (before r (record { events = es; ends = o })).events (before r (record { events = es; ends = o })).ends t
+before_then (Ok None) es o t = refl
+before_then (Ok (Some e)) es None t = refl
+before_then (Ok (Some e)) es (Some f) t = refl
+before_then (Err f) es o t = refl
+
+-- one more map behind others
+pub told_more : (k : Bool) (vs : List Value) (v : Value) →
+    told_by k (values_of (vs ++ v ∷ [])) ≡ then_told (told_by k (values_of vs)).events (told_by k (values_of vs)).ends (told_by k (values_of (v ∷ [])))
+told_more k [] v = refl
+told_more k (w ∷ vs) v = ap (before (event k w)) (told_more k vs v) ∙ before_then (event k w) (told_by k (values_of vs)).events (told_by k (values_of vs)).ends (told_by k (values_of (v ∷ [])))
+
+told_then : (k : Bool) (vs : List Value) (v : Value) (es : List Event) (o : Option EventFault) → told_by k (values_of vs) ≡ record { events = es; ends = o } →
+    told_by k (values_of (vs ++ v ∷ [])) ≡ then_told es o (told_by k (values_of (v ∷ [])))
+told_then k vs v es o e = told_more k vs v ∙ ap (λ (t : Told). then_told t.events t.ends (told_by k (values_of (v ∷ [])))) e
+
+-- behind a fault a map tells nothing
+pub waits_behind_fault : (k : Bool) (vs : List Value) (v : Value) (es : List Event) (o : Option EventFault) → is_some o ≡ true →
+    told_by k (values_of vs) ≡ record { events = es; ends = o } → told_by k (values_of (vs ++ v ∷ [])) ≡ record { events = es; ends = o }
+waits_behind_fault k vs v es None h e = absurd (true≢false (sym h))
+waits_behind_fault k vs v es (Some f) h e = told_then k vs v es (Some f) e
+
+-- the event of a map waits behind those before it
+pub waits_more : (k : Bool) (vs : List Value) (v : Value) (es fs : List Event) (o : Option EventFault) → is_some o ≡ false →
+    IsTold (told_by k (values_of (v ∷ []))) es fs (Ok tt) →
+    told_by k (values_of vs) ≡ record { events = es; ends = o } → told_by k (values_of (vs ++ v ∷ [])) ≡ record { events = fs; ends = o }
+waits_more k vs v es fs None h t e = told_then k vs v es None e ∙ cc
+waits_more k vs v es fs (Some f) h t e = absurd (true≢false h)
+
+-- a fault of a map ends what waits
+pub waits_fault : (k : Bool) (vs : List Value) (v : Value) (es fs : List Event) (o : Option EventFault) (f : EventFault) → is_some o ≡ false → f ≢ cause.OutOfMemory →
+    IsTold (told_by k (values_of (v ∷ []))) es fs (Err f) →
+    told_by k (values_of vs) ≡ record { events = es; ends = o } → told_by k (values_of (vs ++ v ∷ [])) ≡ record { events = fs; ends = Some f }
+waits_fault k vs v es fs None f h n t e =
+    let tells = told_fault (told_by k (values_of (v ∷ []))) es fs f n t in
+    told_then k vs v es None e ∙ cc
+waits_fault k vs v es fs (Some g) f h n t e = absurd (true≢false h)
+
+-- a list or vector tells what its maps tell
+pub row_told : (k b : Bool) (vs : List Value) → told k (value_in b vs) ≡ told_by k (values_of vs)
+row_told k true vs = refl
+row_told k false vs = refl
+
+-- what waited is ready, and the fault behind it is the element's
+pub closes_in_fault : (k : Bool) (s : List ℕ) (p : ℕ) (old new es : List Event) (o : Option EventFault) (v : Value) (used : ℕ) (f : EventFault) →
+    Spells s v 0 used → used ≤ length s → told k v ≡ record { events = es; ends = o } → o ≡ Some f → new ≡ old ++ es →
+    IsReadTo k s p old new (record { used = used; outcome = Err (fault.Event p f) })
+closes_in_fault k s p old new es o v used f spelled inside tells is put =
+    subst (λ n. IsReadTo k s p old new (record { used = used; outcome = Err (fault.Event n f) })) (add-zero p)
+    (ends_in_fault k s p old new v 0 used f spelled inside (ap (λ (t : Told). t.ends) tells ∙ is) (put ∙ ap (λ (t : Told). old ++ t.events) (sym tells)))
+
+-- what waited is ready, and the text is read on behind the element
+pub closes : (k : Bool) (s : List ℕ) (p : ℕ) (old mid new es : List Event) (o : Option EventFault) (v : Value) (used : ℕ) (r : Read) →
+    Spells s v 0 used → used ≤ length s → told k v ≡ record { events = es; ends = o } → o ≡ None → mid ≡ old ++ es →
+    IsReadTo k (drop used s) (p + used) mid new r → IsReadTo k s p old new (record { used = used + r.used; outcome = r.outcome })
+closes k s p old mid new es o v used r spelled inside tells is put rest =
+    let up : IsReadUp k s used old mid = record {
+      inside = inside;
+      read = (es, put, subst (λ n. Gives k s es n) (zero-add used) (element {es = []} nothing spelled (tells ∙ ap (λ e. record { events = es; ends = e }) is)));
+    } in
+    the_end k s p used old mid new r up rest
