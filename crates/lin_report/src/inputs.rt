@@ -51,11 +51,14 @@ fn take_ready(follow: &mut Follow, events: &mut Vec<Event>) -> Result<bool, OutO
     ensures all { IfOk result (λ fits. (bytes : List ℕ) → Sees follow.old bytes events.old.items →
         MatchBool fits (IsTaken follow.new bytes events.new.items) (IsTooMany follow.new.keyed bytes)) }
 {
-    'events: while let Some(event) = follow.take() {
-        if events.len() == LIMIT {
-            return Ok(false);
-        }
-        events.push(event)?;
+    let mut more = follow.take_all();
+    if more.len() > LIMIT - events.len() {
+        return Ok(false);
+    }
+    if events.is_empty() {
+        *events = more;
+    } else {
+        events.append(&mut more)?;
     }
     Ok(true)
 }
