@@ -1,5 +1,5 @@
 -- Pairs behind options.
-use Rattle.std.proofs.Common.{◌≡◌, refl, sym, ap, ◌∙◌, Option, Some, None, is_some, option_map, true≢false}
+use Rattle.std.proofs.Common.{◌≡◌, refl, sym, ap, Option, Some, None, is_some, option_map, true≢false}
 use Rattle.std.specs.Option.{unwrap_or}
 
 -- where the second parts of an option are one, it has a pair with that second part

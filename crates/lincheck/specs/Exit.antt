@@ -1,5 +1,7 @@
 -- The exit status of a run, and the settings of a command line.
 use Rattle.std.specs.Prelude.{ℕ, Result, Ok, Err}
+use Rattle.clap.specs.declared.error.kind.ErrorKind.{ErrorKind}
+use Rattle.clap.specs.declared.error.kind.ErrorKind.TheVariants as kind
 use Rattle.lin_report.specs.declared.answers.Status.{Status}
 use Rattle.lin_report.specs.declared.answers.Status.TheVariants.{Yes, No, Undecided, IllFormed, Refused}
 use Rattle.lin_report.specs.declared.faults.RunFault.{RunFault}
@@ -19,6 +21,12 @@ exit_status (Err TooMuch) = 4
 exit_status (Err ReadFailed) = 6
 exit_status (Err WriteFailed) = 6
 exit_status (Err OutOfMemory) = 6
+
+-- where there is no line: 0 for help that was asked for, 6 where memory ran out, else 5
+abbrev pub refusal_status : ErrorKind → ℕ
+refusal_status kind.DisplayHelp = 0
+refusal_status kind.OutOfMemory = 6
+refusal_status _ = 5
 
 -- the settings of the line
 abbrev pub settings_of : Line → Settings

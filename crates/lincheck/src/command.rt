@@ -1,9 +1,9 @@
 //! The command line as `clap` knows it.
-ghost use Rattle.std.specs.Prelude.{◌≡◌, IfOk, IfSome, true, false, option_map};
+ghost use Rattle.std.specs.Prelude.{◌≡◌, IfOk, IfSome, IfNone, true, false, option_map};
 ghost use Rattle.clap.specs.Words.{app_of, first_of, found_of, rows_of, rule_of};
 ghost use Rattle.clap.specs.declared.builder.value_parser.ValueParser.{ValueParser};
 ghost use Rattle.clap.specs.declared.builder.command.Command.TheViews.{out-Command as fields_of};
-ghost use Rattle.lincheck.specs.Program.{file_rule, keyed_rule, kind_of_word, kind_rule, order_rule, program_app, verify_app, is_given as given, IsVerifyLine};
+ghost use Rattle.lincheck.specs.Program.{file_rule, keyed_rule, kind_of_word, kind_rule, order_rule, program_app, verify_app, is_given as given, IsKindParser, IsVerifyLine, IsLacking};
 
 use crate::words::Line;
 use clap::{Arg, ArgAction, ArgMatches, Command};
@@ -17,7 +17,7 @@ const KINDS: [&str; 5] = ["register", "cas-register", "fifo", "set", "mutex"];
 const BUDGET: u32 = 65_536;
 
 fn kind_option<'a>(alloc: Global) -> Arg<'a>
-    ensures rule { (parser : ValueParser) × (rule_of result ≡ kind_rule parser) }
+    ensures rule { (parser : ValueParser) × IsKindParser parser × (rule_of result ≡ kind_rule parser) }
     ensures local { (result.required ≡ false) × (result.global ≡ false) }
 {
     Arg::new(alloc, "kind")
@@ -62,7 +62,7 @@ fn order_argument<'a>(alloc: Global) -> Arg<'a>
 }
 
 fn verify_command<'a>(alloc: Global) -> Result<Command<'a>, AllocError>
-    ensures app { IfOk result (λ command. (parser : ValueParser) × (app_of command ≡ verify_app parser)) }
+    ensures app { IfOk result (λ command. (parser : ValueParser) × IsKindParser parser × (app_of command ≡ verify_app parser)) }
     ensures local { IfOk result (λ command. (fields_of command).has_globals ≡ false) }
 {
     Command::new(alloc, "verify")
@@ -75,7 +75,7 @@ fn verify_command<'a>(alloc: Global) -> Result<Command<'a>, AllocError>
 
 /// The whole program's command.
 pub fn program<'a>(alloc: Global) -> Result<Command<'a>, AllocError>
-    ensures { IfOk result (λ command. (parser : ValueParser) × (app_of command ≡ program_app parser)) }
+    ensures { IfOk result (λ command. (parser : ValueParser) × IsKindParser parser × (app_of command ≡ program_app parser)) }
 {
     Command::new(alloc, "lincheck")
         .about("Checks recorded histories for linearizability")
@@ -115,7 +115,8 @@ fn is_given(text: Option<&str>) -> bool
 
 /// What the arguments of `verify` say; none where `clap` found no file, order or kind, which it requires.
 pub fn verify_line<'a>(matches: &ArgMatches<'a>) -> Option<Line<'a>>
-    ensures { IfSome result (IsVerifyLine (rows_of (found_of matches.now))) }
+    ensures some { IfSome result (IsVerifyLine (rows_of (found_of matches.now))) }
+    ensures none { IfNone result (IsLacking (rows_of (found_of matches.now))) }
 {
     let Some(file) = text_of(matches, "file") else {
         return None;

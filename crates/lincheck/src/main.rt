@@ -1,9 +1,10 @@
 //! Checks recorded histories for linearizability.
 #![tactic(auto)]
 
-ghost use Rattle.std.specs.Prelude.{◌≡◌, IfOk, map};
-ghost use Rattle.lincheck.specs.Exit.{exit_status, settings_of};
-ghost use Rattle.lincheck.specs.Program.{IsLineOf};
+ghost use Rattle.std.specs.Prelude.{◌≡◌, IfOk, IfErr, map};
+ghost use Rattle.clap.specs.Words.{kind_of};
+ghost use Rattle.lincheck.specs.Exit.{exit_status, refusal_status, settings_of};
+ghost use Rattle.lincheck.specs.Program.{IsLineOf, IsRefusalOf};
 
 mod command;
 mod words;
@@ -27,7 +28,10 @@ const FAILED: u8 = 6;
 ///
 /// Errors: what `clap` refuses, a request for help among it, and want of memory.
 pub fn line<'a>(alloc: Global, words: &'a [&'a str]) -> Result<Line<'a>, Error>
-    ensures { IfOk result (IsLineOf (map (λ w. w.now) words.entry.now)) }
+    // A line is what `clap` defines.
+    ensures understood { IfOk result (IsLineOf (map (λ w. w.now) words.entry.now)) }
+    // Words that `clap`'s definition takes are refused for want of memory alone, others as it defines.
+    ensures refused { IfErr result (IsRefusalOf (map (λ w. w.now) words.entry.now)) }
 {
     let matches = command::program(alloc)?.try_get_matches_from(words)?;
     let Some((_name, inner)) = matches.subcommand() else {
@@ -54,7 +58,9 @@ pub fn exit_of(outcome: &Result<Status, RunFault>) -> u8
 }
 
 /// The exit status where `clap` gives no line: 0 where help was asked for.
-fn exit_of_error(error: &Error) -> u8 {
+fn exit_of_error(error: &Error) -> u8
+    ensures { result ≡ refusal_status (kind_of error.now) }
+{
     match error.kind() {
         ErrorKind::DisplayHelp => 0,
         ErrorKind::OutOfMemory => FAILED,
