@@ -1,5 +1,6 @@
 #!/usr/bin/env bash
-# Measures `lincheck verify` beside md5sum and wc on generated recordings. It prints a table; times are processor seconds (user and system).
+# Measures `lincheck verify` beside md5sum and wc on generated recordings. It prints a table; times are processor seconds (user and system),
+# the least of nine rounds, in each of which every recording is read once.
 # usage: bench/measure.sh [EVENTS]   (default 1000000)
 set -eu
 here=$(cd "$(dirname "$0")" && pwd)
@@ -8,34 +9,58 @@ folder=$(mktemp -d)
 trap 'rm -rf "$folder"' EXIT
 "$here/../lincheck" --help > "$folder/help" 2> "$folder/build" || { cat "$folder/build"; exit 1; }
 program=$here/../crates/lincheck/out/lincheck
+rows=0
 
-# processor seconds of a command
-seconds() {
-    local TIMEFORMAT='%U %S'
-    { time "$@" > "$folder/printed"; } 2> "$folder/time" || true
-    awk '{print $1 + $2}' "$folder/time"
+recording() { # name, order; the recording itself on standard input
+    rows=$((rows + 1))
+    cat > "$folder/$rows.edn"
+    printf '%s' "$1" > "$folder/$rows.name"
+    printf '%s' "$2" > "$folder/$rows.order"
 }
 
-row() { # name, file, order
-    local file=$2 bytes md5 lines own limit memory=yes
+# adds the processor seconds of a command to a file
+seconds() { # file, command
+    local TIMEFORMAT='%U %S' to=$1
+    shift
+    { time "$@" > "$folder/printed"; } 2> "$folder/time" || true
+    awk '{print $1 + $2}' "$folder/time" >> "$to"
+}
+
+measure() { # row
+    local file=$folder/$1.edn
+    seconds "$folder/$1.md5" md5sum "$file"
+    seconds "$folder/$1.lines" wc -l "$file"
+    seconds "$folder/$1.own" "$program" verify "$file" "$(cat "$folder/$1.order")"
+    cp "$folder/printed" "$folder/$1.printed"
+}
+
+least() { sort -n "$1" | head -n 1; }
+
+line() { # row
+    local file=$folder/$1.edn bytes limit memory=yes
     bytes=$(stat -c %s "$file")
-    md5=$(seconds md5sum "$file")
-    lines=$(seconds wc -l "$file")
-    own=$(seconds "$program" verify "$file" "$3")
     limit=$(( bytes * 4 / 1024 + 16384 ))
-    (ulimit -v "$limit"; exec "$program" verify "$file" "$3") > "$folder/within" 2>&1 || true
-    cmp -s "$folder/printed" "$folder/within" || "$program" verify "$file" "$3" | cmp -s - "$folder/within" || memory=no
-    awk -v name="$1" -v bytes="$bytes" -v md5="$md5" -v lines="$lines" -v own="$own" -v memory="$memory" -v said="$(cat "$folder/within")" 'BEGIN {
+    (ulimit -v "$limit"; exec "$program" verify "$file" "$(cat "$folder/$1.order")") > "$folder/within" 2>&1 || true
+    cmp -s "$folder/$1.printed" "$folder/within" || memory=no
+    awk -v name="$(cat "$folder/$1.name")" -v bytes="$bytes" -v md5="$(least "$folder/$1.md5")" -v lines="$(least "$folder/$1.lines")" \
+        -v own="$(least "$folder/$1.own")" -v memory="$memory" -v said="$(cat "$folder/within")" 'BEGIN {
         printf "| %s | %.1f | %.2f | %.2f | %.2f | %.1f | %.1f | %s | %s |\n", name, bytes / 1e6, lines, md5, own, (md5 > 0 ? own / md5 : 0), own * 1e9 / bytes, memory, said }'
 }
 
+for events in 10000 100000 "$most"; do
+    "$here/generate.sh" "$events" > "$folder/lines.edn"
+    recording "$events events, \`empty\`" empty < "$folder/lines.edn"
+done
+"$here/generate.sh" 100000 26 lines "$folder/order" > "$folder/ordered.edn"
+recording "100000 events, a legal order of $(stat -c %s "$folder/order") bytes" "$(cat "$folder/order")" < "$folder/ordered.edn"
+for shape in lines vector; do
+    "$here/generate.sh" 195000 100 "$shape" > "$folder/shaped.edn"
+    recording "195000 events in ${shape/vector/one vector}, \`empty\`" empty < "$folder/shaped.edn"
+done
+
+for round in 1 2 3 4 5 6 7 8 9; do
+    for row in $(seq "$rows"); do measure "$row"; done
+done
 echo "| recording and order | MB | wc -l s | md5sum s | verify s | verify / md5sum | ns a byte | within 4 times the file and 16 MiB | prints |"
 echo "|---|---|---|---|---|---|---|---|---|"
-for events in 10000 100000 "$most"; do
-    "$here/generate.sh" "$events" > "$folder/recording.edn"
-    row "$events events, \`empty\`" "$folder/recording.edn" empty
-done
-"$here/generate.sh" 100000 26 lines "$folder/order" > "$folder/recording.edn"
-row "100000 events, a legal order of $(stat -c %s "$folder/order") bytes" "$folder/recording.edn" "$(cat "$folder/order")"
-"$here/generate.sh" 195000 100 vector > "$folder/recording.edn"
-row "195000 events in one vector, \`empty\`" "$folder/recording.edn" empty
+for row in $(seq "$rows"); do line "$row"; done
