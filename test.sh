@@ -1,5 +1,16 @@
 #!/usr/bin/env bash
-# The whole gate: each proof from nothing, each edit that has to be refused, each test and the stored run of the program.
-set -eu
+# The whole gate: each proof from nothing, each edit that has to be refused, each test and the stored run of the program; then the
+# built program on the README's commands and on generated histories. The last line counts all of them.
+set -u
 cd "$(dirname "$0")"
-exec rt ci
+log=$(mktemp)
+trap 'rm -f "$log"' EXIT
+
+rt ci | tee "$log"
+[ "${PIPESTATUS[0]}" = 0 ] || exit 1
+for script in tests/readme.sh tests/generated.sh; do
+    echo "== $script"
+    "$script" | tee -a "$log"
+    [ "${PIPESTATUS[0]}" = 0 ] || exit 1
+done
+awk '/^[0-9]+ passed, [0-9]+ failed$/ { passed += $1; failed += $3 } END { printf "%d passed, %d failed\n", passed, failed }' "$log"

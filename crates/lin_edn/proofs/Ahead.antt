@@ -1,13 +1,16 @@
 -- Rows of bytes that change nothing but the place.
-use Rattle.std.proofs.Common.{◌≡◌, ℕ, zero, suc, ◌+◌, ◌-◌, ◌<◌, ◌≤◌, Bool, true, false, not, List, [], ◌∷◌, ◌++◌, length, drop, get_or, refl, sym, ap, ◌∙◌, arith, drop-cons, ◌||◌, ◌==◌, None, nat_le, map as each}
+use Rattle.std.proofs.Common.{◌≡◌, ℕ, zero, suc, ◌+◌, ◌-◌, ◌<◌, ◌≤◌, Bool, true, false, not, List, [], ◌∷◌, ◌++◌, length, drop, get_or, refl, sym, ap, subst, ◌∙◌, inl, inr, arith, drop-cons, ◌||◌, ◌==◌, None, nat_le, map as each}
+use Rattle.std.proofs.lemmas.Bool.{cases_lt}
 use Rattle.std.specs.List.{slice_range}
 use Rattle.lin_edn.specs.Bytes.{Kind, a_map, Class, white, semicolon, opener, closer, quote, backslash, hash, inside, class, is_white, is_stop, is_newline, quoted, stays}
 use Rattle.lin_edn.specs.Grammar.{Frame, frame, longest}
 use Rattle.lin_edn.specs.Levels.{flat}
-use Rattle.lin_edn.specs.Machine.{Answer, Turn, stop, fault, too_long, deeper, between, in_run, in_tag, in_text, in_comment, go, run, outermost, on_turn, put}
+use Rattle.lin_edn.specs.Machine.{Answer, Turn, stop, fault, too_long, deeper, between, in_run, in_tag, in_text, in_comment, go, run, begun, outermost, on_turn, put}
 use Rattle.lin_edn.specs.Run.{run_value}
 use Rattle.lin_edn.specs.Scans.{IsStopAt, IsAhead, ArePairs, is_dark, is_quoting, is_inside}
+use Rattle.lin_edn.specs.declared.reader.Mode.{Mode as CodeMode}
 use Rattle.lin_edn.specs.declared.reader.Mode.TheVariants as mode
+use Rattle.lin_edn.specs.Turns.{mode_of, IsBegun}
 use Rattle.lin_edn.specs.Value.{Value, map, entries_of}
 use Rattle.lin_edn.specs.View.{entry_view}
 use Rattle.lin_edn.specs.declared.Entry.{Entry}
@@ -143,26 +146,42 @@ run_in s from start past end a b c inside_s whites first_byte stays_in ends k o 
 pub pair_more : (es : List (Value × Value)) (k v : Value) → (flat es None ++ k ∷ []) ++ v ∷ [] ≡ flat (es ++ (k, v) ∷ []) None
 pair_more es k v = ap (λ l. l ++ v ∷ []) (sym (flat_key es k)) ∙ sym (flat_pair es k v)
 
--- the code's modes
-pub between_ahead : (s : List ℕ) (at r end : ℕ) (st : List Frame) → IsStopAt is_dark s at end r → end ≤ length s → end ≤ outermost at st + longest →
-    IsAhead s at r st mode.Between
-between_ahead s at r end st h within short = (h.0, omega arith, white_row s at r at st h.0 (omega arith) (omega arith) h.2, tt)
+-- which byte stops what is open beside the levels
+abbrev pub stops_in : CodeMode → ℕ → Bool
+stops_in mode.Between = is_dark
+stops_in (mode.Run p) = is_stop
+stops_in (mode.Hash p) = λ c. true
+stops_in (mode.Backslash p) = λ c. true
+stops_in (mode.Tag p) = is_stop
+stops_in (mode.Text p) = is_quoting
+stops_in (mode.Escape p) = λ c. true
+stops_in (mode.Comment p) = is_newline
 
-pub run_ahead : (s : List ℕ) (at r end p : ℕ) (st : List Frame) → p ≤ at → IsStopAt is_stop s at end r → end ≤ length s → end ≤ outermost p st + longest →
-    IsAhead s at r st (mode.Run p)
-run_ahead s at r end p st before h within short = (h.0, omega arith, run_row s at r p st before h.0 (omega arith) (omega arith) h.2, omega arith)
+at_once : (s : List ℕ) (at end r : ℕ) → IsStopAt (λ c. true) s at end r → at ≡ r
+at_once s at end r h = elim (cases_lt at r) [
+  | inl lt ↦ (let e = h.2 at (omega arith) lt in absurd (cc))
+  | inr le ↦ (let from : at ≤ r = h.0 in omega arith)
+]
 
-pub tag_ahead : (s : List ℕ) (at r end p : ℕ) (st : List Frame) → p + 1 ≤ at → IsStopAt is_stop s at end r → end ≤ length s → end ≤ outermost p st + longest →
-    IsAhead s at r st (mode.Tag p)
-tag_ahead s at r end p st before h within short = (h.0, omega arith, tag_row s at r p st before h.0 (omega arith) (omega arith) h.2, omega arith)
+here_ahead : (s : List ℕ) (at end r : ℕ) (st : List Frame) (m : CodeMode) → at ≤ length s → IsBegun m at → IsStopAt (λ c. true) s at end r → IsAhead s at r st m
+here_ahead s at end r st m within before h = subst (λ n. IsAhead s at n st m) (at_once s at end r h) (omega arith, within, refl, before)
 
-pub text_ahead : (s : List ℕ) (at r end p : ℕ) (st : List Frame) → p ≤ at → IsStopAt is_quoting s at end r → end ≤ length s → end ≤ outermost p st + longest →
-    IsAhead s at r st (mode.Text p)
-text_ahead s at r end p st before h within short = (h.0, omega arith, text_row s at r p st before h.0 (omega arith) (omega arith) h.2, omega arith)
+mode_ahead : (s : List ℕ) (at end r : ℕ) (st : List Frame) (m : CodeMode) → IsStopAt (stops_in m) s at end r → IsBegun m at → end ≤ length s →
+    end ≤ begun at st (mode_of s at m) + longest → IsAhead s at r st m
+mode_ahead s at end r st mode.Between h before within short = (h.0, omega arith, white_row s at r at st h.0 (omega arith) (omega arith) h.2, tt)
+mode_ahead s at end r st (mode.Run p) h before within short = (h.0, omega arith, run_row s at r p st before h.0 (omega arith) (omega arith) h.2, omega arith)
+mode_ahead s at end r st (mode.Hash p) h before within short = here_ahead s at end r st (mode.Hash p) (omega arith) before h
+mode_ahead s at end r st (mode.Backslash p) h before within short = here_ahead s at end r st (mode.Backslash p) (omega arith) before h
+mode_ahead s at end r st (mode.Tag p) h before within short = (h.0, omega arith, tag_row s at r p st before h.0 (omega arith) (omega arith) h.2, omega arith)
+mode_ahead s at end r st (mode.Text p) h before within short = (h.0, omega arith, text_row s at r p st before h.0 (omega arith) (omega arith) h.2, omega arith)
+mode_ahead s at end r st (mode.Escape p) h before within short = here_ahead s at end r st (mode.Escape p) (omega arith) before h
+mode_ahead s at end r st (mode.Comment p) h before within short = (h.0, omega arith, comment_row s at r p st h.0 (omega arith) (omega arith) h.2, omega arith)
 
-pub comment_ahead : (s : List ℕ) (at r end p : ℕ) (st : List Frame) → p ≤ at → IsStopAt is_newline s at end r → end ≤ length s → end ≤ outermost p st + longest →
-    IsAhead s at r st (mode.Comment p)
-comment_ahead s at r end p st before h within short = (h.0, omega arith, comment_row s at r p st h.0 (omega arith) (omega arith) h.2, omega arith)
+-- what the code's search found ends what is open
+pub found_ahead : (s : List ℕ) (at end r from : ℕ) (st : List Frame) (m found : CodeMode) → m ≡ found → IsStopAt (stops_in found) s at end r → IsBegun m at → end ≤ length s →
+    ((t : List ℕ) → from ≡ begun at st (mode_of t at m)) → end ≤ from + longest → IsAhead s at r st m
+found_ahead s at end r from st m found is h before within begins short =
+    mode_ahead s at end r st m (subst (λ k. IsStopAt (stops_in k) s at end r) (sym is) h) before within (let e = begins s in omega arith)
 
 -- a map that is opened at a place
 pub over_here : (s : List ℕ) (at : ℕ) (st : List Frame) → at < length s → nat_le (outermost at st + longest) at ≡ true →

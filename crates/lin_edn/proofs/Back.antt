@@ -50,7 +50,7 @@ abbrev FreshTurn : ℕ → Turn → Type 0
 FreshTurn c (go st m) = Fresh m c
 FreshTurn c (stop a) = Unit {0}
 
-levels : {n q : ℕ} {s t : List ℕ} {st : List Frame} → Open s n st q t → n + length st ≡ 64
+pub levels : {n q : ℕ} {s t : List ℕ} {st : List Frame} → Open s n st q t → n + length st ≡ 64
 levels (none_open b) = refl
 levels (within {n = n} {st = st} o i row) = let e : suc n + length st ≡ 64 = levels o in omega arith
 levels (waits {n = n} {st = st} o h d bs) = let e : suc n + length st ≡ 64 = levels o in omega arith

@@ -11,7 +11,7 @@ is_above : (a b : ℕ) → b < a → nat_le a b ≡ false
 is_above a b h = search (rules, tests)
 
 -- a byte that ends nothing before itself and isn't one too many
-takes : (most at : ℕ) (st : List Frame) (m : Mode) (c : ℕ) (s : List ℕ) (t : Turn) → ended at st m c ≡ go st m →
+pub takes : (most at : ℕ) (st : List Frame) (m : Mode) (c : ℕ) (s : List ℕ) (t : Turn) → ended at st m c ≡ go st m →
     at < begun at st m + most → taken at st m c ≡ t →
     run most at st m (c ∷ s) ≡ on_turn t (λ st' m'. run most (at + 1) st' m' s)
 unfolding run
@@ -58,7 +58,7 @@ pub tag_goes : (most at : ℕ) (st : List Frame) (p : ℕ) (w : List ℕ) (c : �
     run most at st (in_tag p w) (c ∷ s) ≡ run most (at + 1) st (in_tag p (w ++ c ∷ [])) s
 tag_goes most at st p w c s h lt = takes most at st (in_tag p w) c s (go st (in_tag p (w ++ c ∷ []))) (rw h refl) lt refl
 
-hash_goes : (most at : ℕ) (st : List Frame) (p : ℕ) (w : List ℕ) (c : ℕ) (s : List ℕ) (b : Behind) (t : Turn) → behind c ≡ b →
+pub hash_goes : (most at : ℕ) (st : List Frame) (p : ℕ) (w : List ℕ) (c : ℕ) (s : List ℕ) (b : Behind) (t : Turn) → behind c ≡ b →
     apart b at st p w ≡ go st (after_hash p w) → goes_on b at st p w c ≡ t → at < outermost p st + most →
     run most at st (after_hash p w) (c ∷ s) ≡ on_turn t (λ st' m'. run most (at + 1) st' m' s)
 hash_goes most at st p w c s b t h e f lt =
@@ -85,7 +85,7 @@ comment_ends : (most at : ℕ) (st : List Frame) (p : ℕ) (c : ℕ) (s : List �
 comment_ends most at st p c s h lt = takes most at st (in_comment p) c s (go st between) refl lt (rw h refl)
 
 -- the bytes of what is open beside the levels
-hash_run : (most : ℕ) {p q : ℕ} {s t w : List ℕ} → One hash p s w q t → (st : List Frame) → p < outermost p st + most →
+pub hash_run : (most : ℕ) {p q : ℕ} {s t w : List ℕ} → One hash p s w q t → (st : List Frame) → p < outermost p st + most →
     run most p st between s ≡ run most q st (after_hash p w) t
 hash_run most {p = p} {w = w} i st lt = one_run most i st (after_hash p w) lt (λ c e. ap (λ x. go st (after_hash p x)) (sym e))
 
@@ -155,13 +155,24 @@ close_run most a_vector o vs st at t v h lt = takes most at (frame a_vector o vs
 close_run most a_set o vs st at t v h lt = takes most at (frame a_set o vs ∷ st) between 125 t _ refl lt (ap (λ m. closed m o st at) h)
 close_run most a_map o vs st at t v h lt = takes most at (frame a_map o vs ∷ st) between 125 t _ refl lt (ap (λ m. closed m o st at) h)
 
+-- what opens a discard, and a tag up to its element
+pub discard_opens : (most : ℕ) {p q b : ℕ} {s t w : List ℕ} → One hash p s w q (b ∷ t) → behind b ≡ discards_next → (st : List Frame) → length st < 64 →
+    q + 1 ≤ outermost p st + most → run most p st between s ≡ run most (q + 1) (discarding p ∷ st) between t
+discard_opens most {p = p} {q = q} {b = b} {t = t} {w = w} h d st lt le =
+    let a : p < q = one_rises h in
+    hash_run most h st (omega arith)
+    ∙ hash_goes most q st p w b t discards_next _ d refl (enters q p st (go (discarding p ∷ st) between) lt) (omega arith)
+
+pub tag_opens : (most : ℕ) {p q c : ℕ} {s t w : List ℕ} → Tag p s w q (c ∷ t) → is_stop c ≡ true → (st : List Frame) → length st < 64 → q ≤ outermost p st + most →
+    run most p st between s ≡ run most q (tagging p (p + 1) w ∷ st) between (c ∷ t)
+tag_opens most {p = p} {q = q} {c = c} {t = t} {w = w} tg h st lt le = tag_run most tg st lt le ∙ tag_ends most q st p w c t h
+
 mutual
   pub discard_run : (most : ℕ) {n p q : ℕ} {s t : List ℕ} → Discard n p s q t → (st : List Frame) → length st + n ≤ 64 → q ≤ outermost p st + most →
       run most p st between s ≡ run most q st between t
   discard_run most (discards {n = n} {p = p} {q = q} {r = r} {o = o} {b = b} {t = t} {w = w} h d bs e) st fits le =
       let a1 : p < q = one_rises h in let a2 : q + 1 ≤ r = blanks_rise bs in let a3 : r < o = element_rises e in
-      hash_run most h st (omega arith)
-      ∙ hash_goes most q st p w b t discards_next _ d refl (enters q p st (go (discarding p ∷ st) between) (omega arith)) (omega arith)
+      discard_opens most h d st (omega arith) (omega arith)
       ∙ blanks_run most bs (discarding p) st (omega arith) (omega arith) ∙ element_run most e (discarding p ∷ st) (omega arith) le
 
   pub blank_run : (most : ℕ) {n p q : ℕ} {s t : List ℕ} → Blank n p s q t → (st : List Frame) → length st + n ≤ 64 → q ≤ outermost p st + most →
@@ -171,7 +182,7 @@ mutual
       comment_run most i st (omega arith) ∙ comment_ends most q st p c t h (omega arith)
   blank_run most (discarded d) st fits le = discard_run most d st fits le
 
-  blanks_run : (most : ℕ) {n p q : ℕ} {s t : List ℕ} → Blanks n p s q t → (f : Frame) (st : List Frame) → length (f ∷ st) + n ≤ 64 → q ≤ outermost p (f ∷ st) + most →
+  pub blanks_run : (most : ℕ) {n p q : ℕ} {s t : List ℕ} → Blanks n p s q t → (f : Frame) (st : List Frame) → length (f ∷ st) + n ≤ 64 → q ≤ outermost p (f ∷ st) + most →
       run most p (f ∷ st) between s ≡ run most q (f ∷ st) between t
   blanks_run most no_blank f st fits le = refl
   blanks_run most (one_more {q = q} {r = r} bs b) f st fits le =
@@ -189,7 +200,7 @@ mutual
       text_run most i st (omega arith) ∙ text_goes most q st p w c t ends h (omega arith)
   element_run most (tagged_element {n = n} {p = p} {q = q} {r = r} {o = o} {c = c} {t = t} {w = w} tg h bs e) st fits le =
       let a1 : p < q = tag_rises tg in let a2 : q ≤ r = blanks_rise bs in let a3 : r < o = element_rises e in
-      tag_run most tg st (omega arith) (omega arith) ∙ tag_ends most q st p w c t h
+      tag_opens most tg h st (omega arith) (omega arith)
       ∙ blanks_run most bs (tagging p (p + 1) w) st (omega arith) (omega arith) ∙ element_run most e (tagging p (p + 1) w ∷ st) (omega arith) le
   element_run most (collection {n = n} {p = p} {q = q} {r = r} {t = t} {u = u} {vs = vs} {v = v} {k = k} i row m) st fits le =
       let a1 : p < q = opens_rise i in let a2 : q ≤ r = row_rises row in
@@ -197,7 +208,7 @@ mutual
       ∙ row_run most row k p st (omega arith) (omega arith)
       ∙ close_run most k p vs st r u v m (omega arith)
 
-  row_run : (most : ℕ) {n p q : ℕ} {s t : List ℕ} {vs : List Value} → Row n p s vs q t → (k : Kind) (o : ℕ) (st : List Frame) →
+  pub row_run : (most : ℕ) {n p q : ℕ} {s t : List ℕ} {vs : List Value} → Row n p s vs q t → (k : Kind) (o : ℕ) (st : List Frame) →
       suc (length st) + n ≤ 64 → q ≤ outermost o st + most →
       run most p (frame k o [] ∷ st) between s ≡ run most q (frame k o vs ∷ st) between t
   row_run most empty k o st fits le = refl

@@ -7,7 +7,6 @@ use Rattle.lin_edn.specs.Machine.{Mode, between, in_run, after_hash, after_backs
 use Rattle.lin_edn.specs.Run.{run_value}
 use Rattle.lin_edn.specs.Value.{Value, Entries, atom, text, tagged, map, entry, no_entries, made, pairs_from}
 use Rattle.lin_edn.specs.declared.EdnCause.{EdnCause}
-use Rattle.lin_edn.proofs.Alone.{no_long}
 use Rattle.lin_edn.proofs.Back.{Stands, Bound, AfterTurn, step_holds}
 use Rattle.lin_edn.proofs.Forth.{element_run, long_run}
 use Rattle.lin_edn.proofs.Order.{TurnOrder, step_order, wider}
@@ -57,28 +56,31 @@ inner_skip (within o i row) b = within o i (blank_row row b)
 inner_skip (waits o h d bs) b = waits o h d (one_more bs b)
 inner_skip (awaits o tg h bs) b = awaits o tg h (one_more bs b)
 
--- the bytes have a whole element or discard from a place on, and begin with blanks and an element
-abbrev Finished : List ℕ → ℕ → Type 0
-Finished s p = ((q : ℕ) × Whole s p q) × Reads s
+-- the bytes have a whole element or discard from a place on, which ends no earlier than another, and begin with blanks and an element
+abbrev Finished : List ℕ → ℕ → ℕ → Type 0
+Finished s p at = ((q : ℕ) × (at ≤ q) × Whole s p q) × Reads s
+
+sooner : {s : List ℕ} {p at later : ℕ} → at ≤ later → Finished s p later → Finished s p at
+sooner {later = later} le h = ((h.0.0, (let e : later ≤ h.0.0 = h.0.1 in omega arith), h.0.2), h.1)
 
 -- some bytes finish what is open
 abbrev CanEnd : ℕ → List Frame → Mode → ℕ → Type 0
-CanEnd at st m p = (x : List ℕ) × ((s : List ℕ) → Stands s at st m x → Finished s p)
+CanEnd at st m p = (x : List ℕ) × ((s : List ℕ) → Stands s at st m x → Finished s p at)
 
 -- some bytes after a space finish what is open after one more element
 abbrev CanPut : List Frame → Type 0
 CanPut st = (p at : ℕ) (v : Value) → (x : List ℕ) ×
-    ((s : List ℕ) (n : ℕ) (t : List ℕ) → Open s n st p t → Element n p t v at (32 ∷ x) → Finished s (outermost p st))
+    ((s : List ℕ) (n : ℕ) (t : List ℕ) → Open s n st p t → Element n p t v at (32 ∷ x) → Finished s (outermost p st) at)
 
 -- and after one more discard
 abbrev CanSkip : List Frame → Type 0
 CanSkip st = (p at : ℕ) → (x : List ℕ) ×
-    ((s : List ℕ) (n : ℕ) (t : List ℕ) → Open s n st p t → Discard n p t at (32 ∷ x) → Finished s (outermost p st))
+    ((s : List ℕ) (n : ℕ) (t : List ℕ) → Open s n st p t → Discard n p t at (32 ∷ x) → Finished s (outermost p st) at)
 
 -- closing a bracket
-closed_end : {s u x : List ℕ} {n o at p : ℕ} {st : List Frame} {vs : List Value} {k : Kind} {v : Value} →
+closed_end : {s u x : List ℕ} {n o at p end : ℕ} {st : List Frame} {vs : List Value} {k : Kind} {v : Value} →
     Open s n (frame k o vs ∷ st) at u → u ≡ closing k ∷ 32 ∷ x → made k vs ≡ Some v →
-    ((m : ℕ) (t : List ℕ) → Open s m st o t → Element m o t v (at + 1) (32 ∷ x) → Finished s p) → Finished s p
+    ((m : ℕ) (t : List ℕ) → Open s m st o t → Element m o t v (at + 1) (32 ∷ x) → Finished s p end) → Finished s p end
 closed_end (within {n = n} {q = q} {r = r} {t = t} {u = u} {vs = vs} o i row) e m use_it =
     use_it (suc n) t o (collection i (subst (λ y. Row n q u vs r y) e row) m)
 
@@ -86,7 +88,7 @@ made_end : (st : List Frame) → CanPut st → (k : Kind) (o at : ℕ) (vs : Lis
     CanEnd at (frame k o vs ∷ st) between (outermost o st)
 made_end st can k o at vs v e =
     let r = can o (at + 1) v in
-    (closing k ∷ 32 ∷ r.0, λ s h. closed_end h.1 refl e (λ m t. r.1 s m t))
+    (closing k ∷ 32 ∷ r.0, λ s h. sooner (omega arith) (closed_end h.1 refl e (λ m t. r.1 s m t)))
 
 put_frame : {s t u : List ℕ} {n p at o : ℕ} {st : List Frame} {vs : List Value} {k : Kind} {v : Value} →
     Open s n (frame k o vs ∷ st) p t → Element n p t v at u → Open s n (frame k o (vs ++ v ∷ []) ∷ st) at u
@@ -98,47 +100,47 @@ made_case st can k o at vs (Some v) e = made_end st can k o at vs v e
 made_case st can k o at vs None e =
     let next = made_next k vs (zero_at at) e in
     let r = made_end st can k o (at + 1 + 1) (vs ++ zero_at at ∷ []) next.0 next.1 in
-    (48 ∷ 32 ∷ r.0, λ s h. r.1 s (h.0, inner_skip (put_frame h.1 (zero_run h.0 at r.0)) (space h.0 (at + 1) r.0)))
+    (48 ∷ 32 ∷ r.0, λ s h. sooner (omega arith) (r.1 s (h.0, inner_skip (put_frame h.1 (zero_run h.0 at r.0)) (space h.0 (at + 1) r.0))))
 
 -- giving a discard or a tag its element
-waits_end : {s u x : List ℕ} {n o at q p : ℕ} {st : List Frame} {v : Value} →
+waits_end : {s u x : List ℕ} {n o at q p end : ℕ} {st : List Frame} {v : Value} →
     Open s n (discarding o ∷ st) at u → Element n at u v q x →
-    ((m : ℕ) (t : List ℕ) → Open s m st o t → Discard m o t q x → Finished s p) → Finished s p
+    ((m : ℕ) (t : List ℕ) → Open s m st o t → Discard m o t q x → Finished s p end) → Finished s p end
 waits_end (waits {n = n} {t = t} o h d bs) e use_it = use_it (suc n) t o (discards h d bs e)
 
 discard_end : (st : List Frame) → CanSkip st → (o at : ℕ) → CanEnd at (discarding o ∷ st) between (outermost o st)
 discard_end st can o at =
     let r = can o (at + 1) in
-    (48 ∷ 32 ∷ r.0, λ s h. waits_end h.1 (zero_run h.0 at r.0) (λ m t. r.1 s m t))
+    (48 ∷ 32 ∷ r.0, λ s h. sooner (omega arith) (waits_end h.1 (zero_run h.0 at r.0) (λ m t. r.1 s m t)))
 
-awaits_end : {s u x w : List ℕ} {n o i at q p : ℕ} {st : List Frame} {v : Value} →
+awaits_end : {s u x w : List ℕ} {n o i at q p end : ℕ} {st : List Frame} {v : Value} →
     Open s n (tagging o i w ∷ st) at u → Element n at u v q x →
-    ((m : ℕ) (t : List ℕ) → Open s m st o t → Element m o t (tagged i w v) q x → Finished s p) → Finished s p
+    ((m : ℕ) (t : List ℕ) → Open s m st o t → Element m o t (tagged i w v) q x → Finished s p end) → Finished s p end
 awaits_end (awaits {n = n} {t = t} o tg h bs) e use_it = use_it (suc n) t o (tagged_element tg h bs e)
 
 tagged_end : (st : List Frame) → CanPut st → (o i at : ℕ) (w : List ℕ) → CanEnd at (tagging o i w ∷ st) between (outermost o st)
 tagged_end st can o i at w =
     let r = can o (at + 1) (tagged i w (zero_at at)) in
-    (48 ∷ 32 ∷ r.0, λ s h. awaits_end h.1 (zero_run h.0 at r.0) (λ m t. r.1 s m t))
+    (48 ∷ 32 ∷ r.0, λ s h. sooner (omega arith) (awaits_end h.1 (zero_run h.0 at r.0) (λ m t. r.1 s m t)))
 
 frame_end : (f : Frame) (st : List Frame) → CanPut st → CanSkip st → (at : ℕ) → CanEnd at (f ∷ st) between (outermost (place_of f) st)
 frame_end (frame k o vs) st put_on skip_on at = made_case st put_on k o at vs (made k vs) refl
 frame_end (discarding o) st put_on skip_on at = discard_end st skip_on o at
 frame_end (tagging o i w) st put_on skip_on at = tagged_end st put_on o i at w
 
-top_put : {s t u : List ℕ} {n p at : ℕ} {v : Value} → Open s n [] p t → Element n p t v at u → Finished s p
-top_put {at = at} (none_open bs) e = ((at, an_element bs e), reads (long bs) e)
+top_put : {s t u : List ℕ} {n p at : ℕ} {v : Value} → Open s n [] p t → Element n p t v at u → Finished s p at
+top_put {at = at} (none_open bs) e = ((at, omega arith, an_element bs e), reads (long bs) e)
 
-top_skip : {s t : List ℕ} {n p at : ℕ} → Open s n [] p t → Discard n p t at (32 ∷ 48 ∷ 32 ∷ []) → Finished s p
+top_skip : {s t : List ℕ} {n p at : ℕ} → Open s n [] p t → Discard n p t at (32 ∷ 48 ∷ 32 ∷ []) → Finished s p at
 top_skip {at = at} (none_open bs) d = (
-  (at, a_discard bs d),
+  (at, omega arith, a_discard bs d),
   reads (one_more (one_more (long bs) (discarded d)) (space 64 at (48 ∷ 32 ∷ []))) (zero_run 64 (at + 1) []),
 )
 
 put_in : (f : Frame) (st : List Frame) → CanPut st → CanSkip st → CanPut (f ∷ st)
 put_in (frame k o vs) st put_on skip_on = λ p at v.
     let r = frame_end (frame k o (vs ++ v ∷ [])) st put_on skip_on (at + 1) in
-    (r.0, λ s n t h e. r.1 s (n, inner_skip (put_frame h e) (space n at r.0)))
+    (r.0, λ s n t h e. sooner (omega arith) (r.1 s (n, inner_skip (put_frame h e) (space n at r.0))))
 put_in (discarding o) st put_on skip_on = λ p at v.
     let r = skip_on o at in
     (r.0, λ s n t h e. waits_end h e (λ m t2. r.1 s m t2))
@@ -149,7 +151,7 @@ put_in (tagging o i w) st put_on skip_on = λ p at v.
 skip_in : (f : Frame) (st : List Frame) → CanPut st → CanSkip st → CanSkip (f ∷ st)
 skip_in f st put_on skip_on = λ p at.
     let r = frame_end f st put_on skip_on (at + 1) in
-    (r.0, λ s n t h d. r.1 s (n, inner_skip (inner_skip h (discarded d)) (space n at r.0)))
+    (r.0, λ s n t h d. sooner (omega arith) (r.1 s (n, inner_skip (inner_skip h (discarded d)) (space n at r.0))))
 
 can : (st : List Frame) → CanPut st × CanSkip st
 can [] = (λ p at v. ([], λ s n t h e. top_put h e), λ p at. (48 ∷ 32 ∷ [], λ s n t h d. top_skip h d))
@@ -171,38 +173,38 @@ hash_end st at p w =
 backslash_end : (st : List Frame) (at p : ℕ) (w : List ℕ) → CanEnd at st (after_backslash p w) (outermost p st)
 backslash_end st at p w =
     let r = (can st).0 p (at + 1) (run_value p (w ++ 32 ∷ [])) in
-    (32 ∷ 32 ∷ r.0, λ s h. r.1 s h.0 h.1 h.2 (a_run (character h.3) refl))
+    (32 ∷ 32 ∷ r.0, λ s h. sooner (omega arith) (r.1 s h.0 h.1 h.2 (a_run (character h.3) refl)))
 
 tag_end : (st : List Frame) (at p : ℕ) (w : List ℕ) → CanEnd at st (in_tag p w) (outermost p st)
 tag_end st at p w =
     let r = between_end (tagging p (p + 1) w) st (at + 1) in
-    (32 ∷ r.0, λ s h. r.1 s (h.0, inner_skip (awaits h.2 h.3 refl no_blank) (space h.0 at r.0)))
+    (32 ∷ r.0, λ s h. sooner (omega arith) (r.1 s (h.0, inner_skip (awaits h.2 h.3 refl no_blank) (space h.0 at r.0))))
 
 text_end : (st : List Frame) (at p : ℕ) (w : List ℕ) → CanEnd at st (in_text p w) (outermost p st)
 text_end st at p w =
     let r = (can st).0 p (at + 1) (text p (w ++ 34 ∷ [])) in
-    (34 ∷ 32 ∷ r.0, λ s h. r.1 s h.0 h.1 h.2 (whole_text h.3 refl))
+    (34 ∷ 32 ∷ r.0, λ s h. sooner (omega arith) (r.1 s h.0 h.1 h.2 (whole_text h.3 refl)))
 
 escape_end : (st : List Frame) (at p : ℕ) (w : List ℕ) → CanEnd at st (in_escape p w) (outermost p st)
 escape_end st at p w =
     let r = (can st).0 p (at + 1 + 1) (text p ((w ++ 34 ∷ []) ++ 34 ∷ [])) in
-    (34 ∷ 34 ∷ 32 ∷ r.0, λ s h. r.1 s h.0 h.1 h.2 (whole_text (pair h.3) refl))
+    (34 ∷ 34 ∷ 32 ∷ r.0, λ s h. sooner (omega arith) (r.1 s h.0 h.1 h.2 (whole_text (pair h.3) refl)))
 
 comment_end : (f : Frame) (st : List Frame) (at p : ℕ) → CanEnd at (f ∷ st) (in_comment p) (outermost (place_of f) st)
 comment_end f st at p =
     let r = between_end f st (at + 1) in
-    (10 ∷ r.0, λ s h. r.1 s (h.0, inner_skip h.2 (comment h.3 refl)))
+    (10 ∷ r.0, λ s h. sooner (omega arith) (r.1 s (h.0, inner_skip h.2 (comment h.3 refl))))
 
 -- what is read so far leads to a state, whatever follows
 abbrev pub Reached : List ℕ → ℕ → List Frame → Mode → Type 0
 Reached front at st m = (x : List ℕ) → (run longest 0 [] between (front ++ x) ≡ run longest at st m x) × Stands (front ++ x) at st m x
 
--- some bytes after the front make it whole from a place on
-abbrev CanGoOn : List ℕ → ℕ → Type 0
-CanGoOn front p = (x : List ℕ) × (q : ℕ) × Whole (front ++ x) p q
+-- some bytes after the front, which ends at a place, make it whole from another place on
+abbrev CanGoOn : List ℕ → ℕ → ℕ → Type 0
+CanGoOn front at p = (x : List ℕ) × (q : ℕ) × (at ≤ q) × Whole (front ++ x) p q
 
-goes_on_at : (front : List ℕ) (at : ℕ) (st : List Frame) (m : Mode) (p : ℕ) → Reached front at st m → CanEnd at st m p → CanGoOn front p
-goes_on_at front at st m p h r = let f = r.1 (front ++ r.0) (h r.0).1 in (r.0, f.0.0, f.0.1)
+goes_on_at : (front : List ℕ) (at : ℕ) (st : List Frame) (m : Mode) (p : ℕ) → Reached front at st m → CanEnd at st m p → CanGoOn front at p
+goes_on_at front at st m p h r = let f = r.1 (front ++ r.0) (h r.0).1 in (r.0, f.0.0, f.0.1, f.0.2)
 
 ends : (front : List ℕ) (at : ℕ) (st : List Frame) (m : Mode) (p : ℕ) → Reached front at st m → CanEnd at st m p → IsViable front
 ends front at st m p h r = let f = r.1 (front ++ r.0) (h r.0).1 in (r.0, f.1)
@@ -227,35 +229,37 @@ viable front at [] (in_comment p) h =
 viable front at (f ∷ st) (in_comment p) h = ends front at (f ∷ st) (in_comment p) (outermost (place_of f) st) h (comment_end f st at p)
 
 -- what is open can become whole
-whole_thing : (front : List ℕ) (p : ℕ) → CanGoOn front p → (x : List ℕ) × (q : ℕ) × Thing (front ++ x) p q
-whole_thing front p h = (h.0, h.1, element_or_discard h.2)
+abbrev CanBeThing : List ℕ → ℕ → ℕ → Type 0
+CanBeThing front at p = (x : List ℕ) × (q : ℕ) × (at ≤ q) × Thing (front ++ x) p q
+
+whole_thing : (front : List ℕ) (at p : ℕ) → CanGoOn front at p → CanBeThing front at p
+whole_thing front at p h = (h.0, h.1, h.2, element_or_discard h.3)
 
 whole_comment : {s r : List ℕ} {n at p : ℕ} → Open s n [] p r → (u : List ℕ) → Comment p r at u → u ≡ 10 ∷ [] → Thing s p (at + 1)
 whole_comment {r = r} {at = at} {p = p} (none_open bs) u i e = a_comment bs (subst (λ y. Comment p r at y) e i) refl
 
 thing : (front : List ℕ) (at : ℕ) (st : List Frame) (m : Mode) → Reached front at st m → begun at st m < at →
-    (x : List ℕ) × (q : ℕ) × Thing (front ++ x) (begun at st m) q
+    CanBeThing front at (begun at st m)
 thing front at [] between h lt = absurd (omega arith)
-thing front at (f ∷ st) between h lt = whole_thing front _ (goes_on_at front at (f ∷ st) between (outermost (place_of f) st) h (between_end f st at))
-thing front at st (in_run p w) h lt = whole_thing front _ (goes_on_at front at st (in_run p w) (outermost p st) h (run_end st at p w))
-thing front at st (after_hash p w) h lt = whole_thing front _ (goes_on_at front at st (after_hash p w) (outermost p st) h (hash_end st at p w))
-thing front at st (after_backslash p w) h lt = whole_thing front _ (goes_on_at front at st (after_backslash p w) (outermost p st) h (backslash_end st at p w))
-thing front at st (in_tag p w) h lt = whole_thing front _ (goes_on_at front at st (in_tag p w) (outermost p st) h (tag_end st at p w))
-thing front at st (in_text p w) h lt = whole_thing front _ (goes_on_at front at st (in_text p w) (outermost p st) h (text_end st at p w))
-thing front at st (in_escape p w) h lt = whole_thing front _ (goes_on_at front at st (in_escape p w) (outermost p st) h (escape_end st at p w))
+thing front at (f ∷ st) between h lt = whole_thing front at _ (goes_on_at front at (f ∷ st) between (outermost (place_of f) st) h (between_end f st at))
+thing front at st (in_run p w) h lt = whole_thing front at _ (goes_on_at front at st (in_run p w) (outermost p st) h (run_end st at p w))
+thing front at st (after_hash p w) h lt = whole_thing front at _ (goes_on_at front at st (after_hash p w) (outermost p st) h (hash_end st at p w))
+thing front at st (after_backslash p w) h lt = whole_thing front at _ (goes_on_at front at st (after_backslash p w) (outermost p st) h (backslash_end st at p w))
+thing front at st (in_tag p w) h lt = whole_thing front at _ (goes_on_at front at st (in_tag p w) (outermost p st) h (tag_end st at p w))
+thing front at st (in_text p w) h lt = whole_thing front at _ (goes_on_at front at st (in_text p w) (outermost p st) h (text_end st at p w))
+thing front at st (in_escape p w) h lt = whole_thing front at _ (goes_on_at front at st (in_escape p w) (outermost p st) h (escape_end st at p w))
 thing front at [] (in_comment p) h lt =
-    let k = (h (10 ∷ [])).1 in (10 ∷ [], at + 1, whole_comment k.2 (10 ∷ []) k.3 refl)
+    let k = (h (10 ∷ [])).1 in (10 ∷ [], at + 1, omega arith, whole_comment k.2 (10 ∷ []) k.3 refl)
 thing front at (f ∷ st) (in_comment p) h lt =
-    whole_thing front _ (goes_on_at front at (f ∷ st) (in_comment p) (outermost (place_of f) st) h (comment_end f st at p))
+    whole_thing front at _ (goes_on_at front at (f ∷ st) (in_comment p) (outermost (place_of f) st) h (comment_end f st at p))
 
 -- what an answer says of the fronts of the input
 abbrev pub Facts : List ℕ → Answer → Type 0
 Facts s (complete v p q) = Unit {0}
 Facts s (blank q) = Unit {0}
-Facts s (partial p) = (p < length s) × (length s ≤ p + longest) × ((t : List ℕ) × ShortBlanks s p t) × CanGoOn s p
+Facts s (partial p) = (p < length s) × (length s ≤ p + longest) × ((t : List ℕ) × ShortBlanks s p t) × CanGoOn s (length s) p
 Facts s (fault j i k) = IsLeast s j
-Facts s (too_long p) = (p + longest < length s) × ((q : ℕ) → q ≤ p + longest → Thing (take (p + longest + 1) s) p q → ⊥)
-    × (x : List ℕ) × (q : ℕ) × Thing (take (p + longest) s ++ x) p q
+Facts s (too_long p) = (p + longest < length s) × ((t : List ℕ) × ShortBlanks s p t) × CanBeThing (take (p + longest) s) (p + longest) p
 
 run_step : (at : ℕ) (st : List Frame) (m : Mode) (c : ℕ) (x : List ℕ) →
     run longest at st m (c ∷ x) ≡ on_turn (step longest at st m c) (λ st' m'. run longest (at + 1) st' m' x)
@@ -281,7 +285,7 @@ no_clash a at p q i k v e f = cc
 not_read : (s : List ℕ) (j i : ℕ) (k : EdnCause) → run longest 0 [] between s ≡ fault j i k → Reads s → ⊥
 not_read s j i k h (reads {p = p} {q = q} {v = v} bs e) =
     let rises : p < q = element_rises e in
-    no_clash (run (q + longest) 0 [] between s) j p q i k v (wider longest (q + longest) (omega arith) s 0 [] between j i k h)
+    no_clash (run (q + longest) 0 [] between s) j p q i k v (wider longest (q + longest) (omega arith) s 0 [] between (fault j i k) (λ o f. cc) h)
     (long_run (q + longest) bs (omega arith) ∙ element_run (q + longest) e [] (omega arith) (omega arith))
 
 -- the front that ends with the byte of a fault is the least that can't be finished
@@ -301,27 +305,36 @@ pub positive : 0 < longest
 unfolding longest
 positive = omega arith
 
+-- the blanks before what is open
+blanks_before : {n p : ℕ} {s t : List ℕ} {st : List Frame} → Open s n st p t → (u : List ℕ) × ShortBlanks s (outermost p st) u
+blanks_before (none_open {t = t} bs) = (t, bs)
+blanks_before (within o i row) = blanks_before o
+blanks_before (waits o h d bs) = blanks_before o
+blanks_before (awaits o tg h bs) = blanks_before o
+
+blanks_to : (s0 : List ℕ) (at : ℕ) (st : List Frame) (m : Mode) (x : List ℕ) → Stands s0 at st m x → (u : List ℕ) × ShortBlanks s0 (begun at st m) u
+blanks_to s0 at st between x h = blanks_before h.1
+blanks_to s0 at st (in_run p w) x h = blanks_before h.2
+blanks_to s0 at st (after_hash p w) x h = blanks_before h.2
+blanks_to s0 at st (after_backslash p w) x h = blanks_before h.2
+blanks_to s0 at st (in_tag p w) x h = blanks_before h.2
+blanks_to s0 at st (in_text p w) x h = blanks_before h.2
+blanks_to s0 at st (in_escape p w) x h = blanks_before h.2
+blanks_to s0 at st (in_comment p) x h = blanks_before h.2
+
 -- what is too long
 long_front : (s front : List ℕ) (at : ℕ) (st : List Frame) (m : Mode) (c p : ℕ) → Reached front at st m → length front ≡ at → Bound at st m →
-    step longest at st m c ≡ stop (too_long p) → begun at st m ≤ p → p + longest ≤ at → Facts (front ++ c ∷ s) (too_long p)
-long_front s front at st m c p h len le e a b =
+    begun at st m ≤ p → p + longest ≤ at → Facts (front ++ c ∷ s) (too_long p)
+long_front s front at st m c p h len le a b =
     let pos : 0 < longest = positive in
     let here : begun at st m ≡ p = omega arith in
-    let there : length front ≡ p + longest = omega arith in
-    let over : length (front ++ c ∷ []) ≡ p + longest + 1 = simp length-append (omega arith) in
+    let there : at ≡ p + longest = omega arith in
     let shorter : begun at st m < at = omega arith in
-    let t = thing front at st m h shorter in
-    let all : take (p + longest) (front ++ c ∷ s) ≡ front = subst (λ n. take n (front ++ c ∷ s) ≡ front) there (take-append_seam front (c ∷ s)) in
-    let more : take (p + longest + 1) (front ++ c ∷ s) ≡ front ++ c ∷ [] =
-    subst (λ l. take (p + longest + 1) l ≡ front ++ c ∷ []) (append_assoc front (c ∷ []) s)
-    (subst (λ n. take n ((front ++ c ∷ []) ++ s) ≡ front ++ c ∷ []) over (take-append_seam (front ++ c ∷ []) s)) in
-    let stops : run longest 0 [] between (front ++ c ∷ []) ≡ too_long p =
-    (h (c ∷ [])).0 ∙ run_step at st m c [] ∙ ap (λ y. on_turn y (λ st2 m2. run longest (at + 1) st2 m2 [])) e in (
+    let all : take (p + longest) (front ++ c ∷ s) ≡ front =
+    subst (λ n. take n (front ++ c ∷ s) ≡ front) (len ∙ there) (take-append_seam front (c ∷ s)) in (
       simp length-append (omega arith),
-      subst (λ l. (q : ℕ) → q ≤ p + longest → Thing l p q → ⊥) (sym more) (no_long (front ++ c ∷ []) p stops),
-      t.0,
-      t.1,
-      subst (λ l. Thing (l ++ t.0) p t.1) (sym all) (subst (λ n. Thing (front ++ t.0) n t.1) here t.2),
+      subst (λ n. (t : List ℕ) × ShortBlanks (front ++ c ∷ s) n t) here (blanks_to (front ++ c ∷ s) at st m (c ∷ s) (h (c ∷ s)).1),
+      subst (λ l. CanBeThing l (p + longest) p) (sym all) (subst (λ n. CanBeThing front n p) there (subst (CanBeThing front at) here (thing front at st m h shorter))),
     )
 
 turn_facts : (s front : List ℕ) (at : ℕ) (st : List Frame) (m : Mode) (c : ℕ) → Reached front at st m → length front ≡ at → Bound at st m → (t : Turn) →
@@ -337,19 +350,13 @@ turn_facts s front at st m c h len le (stop (complete v p q)) e f ih = tt
 turn_facts s front at st m c h len le (stop (blank q)) e f ih = tt
 turn_facts s front at st m c h len le (stop (partial p)) e f ih = absurd f
 turn_facts s front at st m c h len le (stop (fault j i k)) e f ih = subst (IsLeast (front ++ c ∷ s)) (sym f) (least s front at st m c j i k h len e)
-turn_facts s front at st m c h len le (stop (too_long p)) e f ih = long_front s front at st m c p h len le e f.0 f.1
+turn_facts s front at st m c h len le (stop (too_long p)) e f ih = long_front s front at st m c p h len le f.0 f.1
 
 -- the end of the input
-blanks_before : {n p : ℕ} {s t : List ℕ} {st : List Frame} → Open s n st p t → (u : List ℕ) × ShortBlanks s (outermost p st) u
-blanks_before (none_open {t = t} bs) = (t, bs)
-blanks_before (within o i row) = blanks_before o
-blanks_before (waits o h d bs) = blanks_before o
-blanks_before (awaits o tg h bs) = blanks_before o
-
 partial_facts : (front : List ℕ) (at p : ℕ) → length front ≡ at → at ≤ p + longest → p < at → (t : List ℕ) × ShortBlanks (front ++ []) p t →
-    CanGoOn front p → Facts front (partial p)
+    CanGoOn front at p → Facts front (partial p)
 partial_facts front at p len le lt bs g =
-    (omega arith, omega arith, subst (λ l. (t : List ℕ) × ShortBlanks l p t) (append-nil front) bs, g)
+    (omega arith, omega arith, subst (λ l. (t : List ℕ) × ShortBlanks l p t) (append-nil front) bs, subst (λ n. CanGoOn front n p) (sym len) g)
 
 end_facts : (front : List ℕ) (at : ℕ) (st : List Frame) (m : Mode) → Reached front at st m → length front ≡ at → Bound at st m → Facts front (at_end at m st)
 end_facts front at [] between h len le = tt

@@ -1,14 +1,17 @@
 pub mod Ahead
 pub mod Alone
 pub mod Back
+pub mod Chains
 pub mod Digits
 pub mod Faults
 pub mod Flat
 pub mod Forth
 pub mod Inner
 pub mod Fronts
+pub mod Later
 pub mod Limit
 pub mod Longer
+pub mod Only
 pub mod Order
 pub mod Rising
 pub mod Rows
@@ -16,3 +19,5 @@ pub mod Runs
 pub mod Sizes
 pub mod Skims
 pub mod Sound
+pub mod Unique
+pub mod Wrong

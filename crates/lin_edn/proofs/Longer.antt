@@ -1,12 +1,10 @@
 -- More bytes behind what is spelled leave it so.
-use Rattle.std.proofs.Common.{◌≡◌, ℕ, ◌+◌, ◌≤◌, List, ◌∷◌, ◌++◌, take, sym, ap, ◌∙◌, arith, subst, append_assoc, length-append}
-use Rattle.std.proofs.lemmas.List.{take-append-le}
+use Rattle.std.proofs.Common.{ℕ, List, ◌∷◌, ◌++◌, ap, ◌∙◌, append_assoc}
 use Rattle.lin_edn.specs.Bytes.{Kind, Class}
-use Rattle.lin_edn.specs.Grammar.{One, one, Inside, first, joined, character, next, Tag, first_of_tag, next_of_tag, Text, Escape, opened, opened_by_hash, plain, pair, escape, Comment, starts, goes, Opens, bracket, set_bracket, Discard, discards, Blank, white_byte, comment, discarded, Blanks, no_blank, one_more, Element, run, hash_alone, whole_text, tagged_element, collection, Row, empty, blank, element, longest, ShortBlanks, no_blank_yet, one_more_short, Spells, spells, Thing, Frame, Open, none_open, within, waits, awaits, Faulty, unbalanced, odd_map, too_deep, hash_too_deep, IsLeast, IsInReach, IsTooLong}
-use Rattle.lin_edn.specs.Reading.{IsWrong, Refuses}
+use Rattle.lin_edn.specs.Grammar.{One, one, Inside, first, joined, character, next, Tag, first_of_tag, next_of_tag, Text, Escape, opened, opened_by_hash, plain, pair, escape, Comment, starts, goes, Opens, bracket, set_bracket, Discard, discards, Blank, white_byte, comment, discarded, Blanks, no_blank, one_more, Element, run, hash_alone, whole_text, tagged_element, collection, Row, empty, blank, element, ShortBlanks, no_blank_yet, one_more_short, Spells, spells, Frame, Open, none_open, within, waits, awaits, Faulty, unbalanced, odd_map, too_deep, hash_too_deep, IsLeast, IsInReach}
+use Rattle.lin_edn.specs.Reading.{IsWrong}
 use Rattle.lin_edn.specs.Value.{Value}
 use Rattle.lin_edn.specs.declared.EdnCause.{EdnCause}
-use Rattle.lin_edn.specs.declared.EdnCause.TheVariants.{Unbalanced, OddMap, TooDeep, TooLong, OutOfMemory}
 
 one_longer : {p q : ℕ} {s t w : List ℕ} {k : Class} → One k p s w q t → (x : List ℕ) → One k p (s ++ x) w q (t ++ x)
 one_longer (one h) x = one h
@@ -31,7 +29,7 @@ mutual
   escape_longer : {p q : ℕ} {s t w : List ℕ} → Escape p s w q t → (x : List ℕ) → Escape p (s ++ x) w q (t ++ x)
   escape_longer (escape i h) x = escape (text_longer i x) h
 
-comment_longer : {p q : ℕ} {s t : List ℕ} → Comment p s q t → (x : List ℕ) → Comment p (s ++ x) q (t ++ x)
+pub comment_longer : {p q : ℕ} {s t : List ℕ} → Comment p s q t → (x : List ℕ) → Comment p (s ++ x) q (t ++ x)
 comment_longer (starts i) x = starts (one_longer i x)
 comment_longer (goes i h) x = goes (comment_longer i x) h
 
@@ -43,7 +41,7 @@ mutual
   discard_longer : {n p q : ℕ} {s t : List ℕ} → Discard n p s q t → (x : List ℕ) → Discard n p (s ++ x) q (t ++ x)
   discard_longer (discards h d bs e) x = discards (one_longer h x) d (blanks_longer bs x) (element_longer e x)
 
-  blank_longer : {n p q : ℕ} {s t : List ℕ} → Blank n p s q t → (x : List ℕ) → Blank n p (s ++ x) q (t ++ x)
+  pub blank_longer : {n p q : ℕ} {s t : List ℕ} → Blank n p s q t → (x : List ℕ) → Blank n p (s ++ x) q (t ++ x)
   blank_longer (white_byte i) x = white_byte (one_longer i x)
   blank_longer (comment i h) x = comment (comment_longer i x) h
   blank_longer (discarded d) x = discarded (discard_longer d x)
@@ -52,7 +50,7 @@ mutual
   blanks_longer no_blank x = no_blank
   blanks_longer (one_more bs b) x = one_more (blanks_longer bs x) (blank_longer b x)
 
-  element_longer : {n p q : ℕ} {s t : List ℕ} {v : Value} → Element n p s v q t → (x : List ℕ) → Element n p (s ++ x) v q (t ++ x)
+  pub element_longer : {n p q : ℕ} {s t : List ℕ} {v : Value} → Element n p s v q t → (x : List ℕ) → Element n p (s ++ x) v q (t ++ x)
   element_longer (run i h) x = run (inside_longer i x) h
   element_longer (hash_alone i h) x = hash_alone (one_longer i x) h
   element_longer (whole_text i h) x = whole_text (text_longer i x) h
@@ -89,23 +87,5 @@ least_longer s x j h = (h.0, h.1, h.2 ++ x, ap (λ l. l ++ x) h.3 ∙ append_ass
 reach_longer : (s x : List ℕ) (j : ℕ) → IsInReach s j → IsInReach (s ++ x) j
 reach_longer s x j h = (h.0, h.1 ++ x, blanks_stay h.2 x, h.3, h.4)
 
-wrong_stays : (s x : List ℕ) (at : ℕ) (k : EdnCause) → IsWrong s at k → IsWrong (s ++ x) at k
+pub wrong_stays : (s x : List ℕ) (at : ℕ) (k : EdnCause) → IsWrong s at k → IsWrong (s ++ x) at k
 wrong_stays s x at k h = (h.0, least_longer s x h.0 h.1, reach_longer s x h.0 h.2, faulty_longer h.3 x)
-
-long_stays : (s x : List ℕ) (p : ℕ) → IsTooLong s p → IsTooLong (s ++ x) p
-long_stays s x p h =
-    let first_part : take (p + longest) (s ++ x) ≡ take (p + longest) s = take-append-le (p + longest) s x (omega arith) in
-    let more : take (p + longest + 1) (s ++ x) ≡ take (p + longest + 1) s = take-append-le (p + longest + 1) s x (omega arith) in (
-      simp length-append (omega arith),
-      subst (λ l. (q : ℕ) → q ≤ p + longest → Thing l p q → ⊥) (sym more) h.1,
-      h.2,
-      h.3,
-      subst (λ l. Thing (l ++ h.2) p h.3) (sym first_part) h.4,
-    )
-
-pub fault_stays : (s x : List ℕ) (at : ℕ) (k : EdnCause) → Refuses s at k → Refuses (s ++ x) at k
-fault_stays s x at Unbalanced h = wrong_stays s x at Unbalanced h
-fault_stays s x at OddMap h = wrong_stays s x at OddMap h
-fault_stays s x at TooDeep h = wrong_stays s x at TooDeep h
-fault_stays s x at TooLong h = long_stays s x at h
-fault_stays s x at OutOfMemory h = h

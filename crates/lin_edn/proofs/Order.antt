@@ -1,5 +1,5 @@
 -- What stands at the top begins no later as bytes are taken, and a greater limit answers alike.
-use Rattle.std.proofs.Common.{◌≡◌, ℕ, ◌+◌, ◌<◌, ◌≤◌, Bool, true, false, List, [], ◌∷◌, ◌++◌, length, refl, ap, ◌∙◌, arith, Option, Some, None, nat_le, ◌==◌, if◌then◌else◌, rules, tests}
+use Rattle.std.proofs.Common.{◌≡◌, ℕ, ◌+◌, ◌<◌, ◌≤◌, Bool, true, false, List, [], ◌∷◌, ◌++◌, length, refl, sym, ap, ◌∙◌, subst, arith, Option, Some, None, nat_le, ◌==◌, if◌then◌else◌, rules, tests}
 use Rattle.lin_edn.specs.Bytes.{a_set, Class, white, semicolon, opener, closer, quote, backslash, hash, inside, class, is_stop, is_newline, closing, Behind, behind, opens_set, opens_text, discards, joins, stands_apart, names_tag, Quoted, quoted, ends, escapes, stays}
 use Rattle.lin_edn.specs.Grammar.{Frame, frame, discarding, tagging}
 use Rattle.lin_edn.specs.Machine.{Mode, between, in_run, after_hash, after_backslash, in_tag, in_text, in_escape, in_comment, Answer, complete, blank, partial, fault, too_long, Turn, go, stop, run, step, limited, ended, taken, begun, outermost, on_turn, put, begins, goes_on, quotes, apart, close, closed, at_end}
@@ -15,7 +15,7 @@ IsWithin lo at st m = (lo ≤ begun at st m) × (begun at st m ≤ at)
 -- after what a byte ends before itself
 abbrev EndOrder : ℕ → ℕ → Turn → Type 0
 EndOrder lo at (go st m) = IsWithin lo at st m
-EndOrder lo at (stop (complete v p q)) = Unit {0}
+EndOrder lo at (stop (complete v p q)) = lo ≤ p
 EndOrder lo at (stop (blank q)) = ⊥
 EndOrder lo at (stop (partial p)) = ⊥
 EndOrder lo at (stop (fault j i k)) = ⊥
@@ -24,7 +24,7 @@ EndOrder lo at (stop (too_long p)) = ⊥
 -- after a byte: a fault is at that byte, and too long is told at least so many bytes before it
 abbrev pub TurnOrder : ℕ → ℕ → ℕ → Turn → Type 0
 TurnOrder most lo at (go st m) = IsWithin lo (at + 1) st m
-TurnOrder most lo at (stop (complete v p q)) = Unit {0}
+TurnOrder most lo at (stop (complete v p q)) = lo ≤ p
 TurnOrder most lo at (stop (blank q)) = ⊥
 TurnOrder most lo at (stop (partial p)) = ⊥
 TurnOrder most lo at (stop (fault j i k)) = j ≡ at
@@ -35,14 +35,14 @@ within_here lo o q [] a b = (omega arith, omega arith)
 within_here lo o q (f ∷ st) a b = (a, b)
 
 put_order : (lo : ℕ) (v : Value) (p : ℕ) (st : List Frame) (q : ℕ) → lo ≤ outermost p st → outermost p st ≤ q → EndOrder lo q (put v p st q)
-put_order lo v p [] q a b = tt
+put_order lo v p [] q a b = a
 put_order lo v p (frame k o vs ∷ st) q a b = (a, b)
 put_order lo v p (discarding o ∷ st) q a b = within_here lo o q st a b
 put_order lo v p (tagging o i w ∷ st) q a b = put_order lo (tagged i w v) o st q a b
 
 end_turn : (most lo at : ℕ) (t : Turn) → EndOrder lo (at + 1) t → TurnOrder most lo at t
 end_turn most lo at (go st m) h = h
-end_turn most lo at (stop (complete v p q)) h = tt
+end_turn most lo at (stop (complete v p q)) h = h
 end_turn most lo at (stop (blank q)) h = h
 end_turn most lo at (stop (partial p)) h = h
 end_turn most lo at (stop (fault j i k)) h = absurd h
@@ -153,7 +153,7 @@ limit_if most lo at st m c a b false e = taken_order most lo at st m c a b
 
 limited_order : (most lo at c : ℕ) (t : Turn) → EndOrder lo at t → TurnOrder most lo at (limited most at c t)
 limited_order most lo at c (go st m) h = limit_if most lo at st m c h.0 h.1 (nat_le (begun at st m + most) at) refl
-limited_order most lo at c (stop (complete v p q)) h = tt
+limited_order most lo at c (stop (complete v p q)) h = h
 limited_order most lo at c (stop (blank q)) h = h
 limited_order most lo at c (stop (partial p)) h = h
 limited_order most lo at c (stop (fault j i k)) h = absurd h
@@ -162,16 +162,16 @@ limited_order most lo at c (stop (too_long p)) h = absurd h
 pub step_order : (most lo at : ℕ) (st : List Frame) (m : Mode) (c : ℕ) → lo ≤ begun at st m → begun at st m ≤ at → TurnOrder most lo at (step most at st m c)
 step_order most lo at st m c a b = limited_order most lo at c (ended at st m c) (ended_order lo at st m c a b)
 
--- what is unfinished or too long at the end begins no earlier
+-- what is answered begins no earlier
 abbrev pub AnswerOrder : ℕ → Answer → Type 0
-AnswerOrder lo (complete v p q) = Unit {0}
-AnswerOrder lo (blank q) = Unit {0}
+AnswerOrder lo (complete v p q) = lo ≤ p
+AnswerOrder lo (blank q) = lo ≤ q
 AnswerOrder lo (partial p) = lo ≤ p
-AnswerOrder lo (fault j i k) = Unit {0}
+AnswerOrder lo (fault j i k) = lo ≤ j
 AnswerOrder lo (too_long p) = lo ≤ p
 
 end_order : (lo at : ℕ) (st : List Frame) (m : Mode) → lo ≤ begun at st m → AnswerOrder lo (at_end at m st)
-end_order lo at [] between a = tt
+end_order lo at [] between a = a
 end_order lo at (f ∷ st) between a = a
 end_order lo at st (in_run p w) a = a
 end_order lo at st (after_hash p w) a = a
@@ -179,60 +179,119 @@ end_order lo at st (after_backslash p w) a = a
 end_order lo at st (in_tag p w) a = a
 end_order lo at st (in_text p w) a = a
 end_order lo at st (in_escape p w) a = a
-end_order lo at [] (in_comment p) a = tt
+end_order lo at [] (in_comment p) a = a
 end_order lo at (f ∷ st) (in_comment p) a = a
 
-answer_turn : (most lo at : ℕ) (s : List ℕ) (t : Turn) → TurnOrder most lo at t →
+answer_turn : (most lo at : ℕ) (s : List ℕ) (t : Turn) → lo ≤ at → TurnOrder most lo at t →
     ((st : List Frame) (m : Mode) → IsWithin lo (at + 1) st m → AnswerOrder lo (run most (at + 1) st m s)) →
     AnswerOrder lo (on_turn t (λ st' m'. run most (at + 1) st' m' s))
-answer_turn most lo at s (go st m) h ih = ih st m h
-answer_turn most lo at s (stop (complete v p q)) h ih = tt
-answer_turn most lo at s (stop (blank q)) h ih = tt
-answer_turn most lo at s (stop (partial p)) h ih = absurd h
-answer_turn most lo at s (stop (fault j i k)) h ih = tt
-answer_turn most lo at s (stop (too_long p)) h ih = h.0
+answer_turn most lo at s (go st m) le h ih = ih st m h
+answer_turn most lo at s (stop (complete v p q)) le h ih = h
+answer_turn most lo at s (stop (blank q)) le h ih = absurd h
+answer_turn most lo at s (stop (partial p)) le h ih = absurd h
+answer_turn most lo at s (stop (fault j i k)) le h ih = omega arith
+answer_turn most lo at s (stop (too_long p)) le h ih = h.0
 
 pub run_order : (most lo : ℕ) (s : List ℕ) (at : ℕ) (st : List Frame) (m : Mode) → lo ≤ begun at st m → begun at st m ≤ at → AnswerOrder lo (run most at st m s)
 unfolding run
 run_order most lo [] at st m a b = end_order lo at st m a
 run_order most lo (c ∷ s) at st m a b =
-    answer_turn most lo at s (step most at st m c) (step_order most lo at st m c a b)
+    answer_turn most lo at s (step most at st m c) (omega arith) (step_order most lo at st m c a b)
     (λ st2 m2 h. run_order most lo s (at + 1) st2 m2 h.0 h.1)
 
--- a fault stays where the limit grows
+-- an answer stays where the limit grows, unless it is that something is too long
 is_above : (a b : ℕ) → b < a → nat_le a b ≡ false
 is_above a b h = search (rules, tests)
 
 is_under : (a b : ℕ) → nat_le a b ≡ false → b < a
 is_under a b h = search (rules, tests)
 
-wide_taken : (less most at : ℕ) (s : List ℕ) (t : Turn) (j i : ℕ) (k : EdnCause) →
-    ((st : List Frame) (m : Mode) → run less (at + 1) st m s ≡ fault j i k → run most (at + 1) st m s ≡ fault j i k) →
-    on_turn t (λ st' m'. run less (at + 1) st' m' s) ≡ fault j i k → on_turn t (λ st' m'. run most (at + 1) st' m' s) ≡ fault j i k
-wide_taken less most at s (go st m) j i k ih h = ih st m h
-wide_taken less most at s (stop a) j i k ih h = h
+wide_taken : (less most at : ℕ) (s : List ℕ) (t : Turn) (a : Answer) →
+    ((st : List Frame) (m : Mode) → run less (at + 1) st m s ≡ a → run most (at + 1) st m s ≡ a) →
+    on_turn t (λ st' m'. run less (at + 1) st' m' s) ≡ a → on_turn t (λ st' m'. run most (at + 1) st' m' s) ≡ a
+wide_taken less most at s (go st m) a ih h = ih st m h
+wide_taken less most at s (stop b) a ih h = h
 
-wide_if : (less most : ℕ) → less ≤ most → (at c : ℕ) (s : List ℕ) (st : List Frame) (m : Mode) (j i : ℕ) (k : EdnCause) →
-    ((st : List Frame) (m : Mode) → run less (at + 1) st m s ≡ fault j i k → run most (at + 1) st m s ≡ fault j i k) →
+wide_if : (less most : ℕ) → less ≤ most → (at c : ℕ) (s : List ℕ) (st : List Frame) (m : Mode) (a : Answer) → ((p : ℕ) → a ≡ too_long p → ⊥) →
+    ((st : List Frame) (m : Mode) → run less (at + 1) st m s ≡ a → run most (at + 1) st m s ≡ a) →
     (b : Bool) → nat_le (begun at st m + less) at ≡ b →
-    on_turn (if b then stop (too_long (begun at st m)) else taken at st m c) (λ st' m'. run less (at + 1) st' m' s) ≡ fault j i k →
-    on_turn (limited most at c (go st m)) (λ st' m'. run most (at + 1) st' m' s) ≡ fault j i k
-wide_if less most le at c s st m j i k ih true e h = absurd (cc)
-wide_if less most le at c s st m j i k ih false e h =
+    on_turn (if b then stop (too_long (begun at st m)) else taken at st m c) (λ st' m'. run less (at + 1) st' m' s) ≡ a →
+    on_turn (limited most at c (go st m)) (λ st' m'. run most (at + 1) st' m' s) ≡ a
+wide_if less most le at c s st m a short ih true e h = absurd (short (begun at st m) (sym h))
+wide_if less most le at c s st m a short ih false e h =
     let under : at < begun at st m + less = is_under (begun at st m + less) at e in
     ap (λ b. on_turn (if b then stop (too_long (begun at st m)) else taken at st m c) (λ st2 m2. run most (at + 1) st2 m2 s)) (is_above (begun at st m + most) at (omega arith))
-    ∙ wide_taken less most at s (taken at st m c) j i k ih h
+    ∙ wide_taken less most at s (taken at st m c) a ih h
 
-wide_turn : (less most : ℕ) → less ≤ most → (at c : ℕ) (s : List ℕ) (t : Turn) (j i : ℕ) (k : EdnCause) →
-    ((st : List Frame) (m : Mode) → run less (at + 1) st m s ≡ fault j i k → run most (at + 1) st m s ≡ fault j i k) →
-    on_turn (limited less at c t) (λ st' m'. run less (at + 1) st' m' s) ≡ fault j i k →
-    on_turn (limited most at c t) (λ st' m'. run most (at + 1) st' m' s) ≡ fault j i k
-wide_turn less most le at c s (stop a) j i k ih h = h
-wide_turn less most le at c s (go st m) j i k ih h = wide_if less most le at c s st m j i k ih (nat_le (begun at st m + less) at) refl h
+wide_turn : (less most : ℕ) → less ≤ most → (at c : ℕ) (s : List ℕ) (t : Turn) (a : Answer) → ((p : ℕ) → a ≡ too_long p → ⊥) →
+    ((st : List Frame) (m : Mode) → run less (at + 1) st m s ≡ a → run most (at + 1) st m s ≡ a) →
+    on_turn (limited less at c t) (λ st' m'. run less (at + 1) st' m' s) ≡ a →
+    on_turn (limited most at c t) (λ st' m'. run most (at + 1) st' m' s) ≡ a
+wide_turn less most le at c s (stop b) a short ih h = h
+wide_turn less most le at c s (go st m) a short ih h = wide_if less most le at c s st m a short ih (nat_le (begun at st m + less) at) refl h
 
-pub wider : (less most : ℕ) → less ≤ most → (s : List ℕ) (at : ℕ) (st : List Frame) (m : Mode) (j i : ℕ) (k : EdnCause) →
-    run less at st m s ≡ fault j i k → run most at st m s ≡ fault j i k
+pub wider : (less most : ℕ) → less ≤ most → (s : List ℕ) (at : ℕ) (st : List Frame) (m : Mode) (a : Answer) → ((p : ℕ) → a ≡ too_long p → ⊥) →
+    run less at st m s ≡ a → run most at st m s ≡ a
 unfolding run
-wider less most le [] at st m j i k h = h
-wider less most le (c ∷ s) at st m j i k h =
-    wide_turn less most le at c s (ended at st m c) j i k (λ st2 m2 h2. wider less most le s (at + 1) st2 m2 j i k h2) h
+wider less most le [] at st m a short h = h
+wider less most le (c ∷ s) at st m a short h =
+    wide_turn less most le at c s (ended at st m c) a short (λ st2 m2 h2. wider less most le s (at + 1) st2 m2 a short h2) h
+
+-- an answer that is told at a byte stays with more bytes
+abbrev pub IsEarly : Answer → Type 0
+IsEarly (complete v p q) = Unit {0}
+IsEarly (blank q) = ⊥
+IsEarly (partial p) = ⊥
+IsEarly (fault j i k) = Unit {0}
+IsEarly (too_long p) = Unit {0}
+
+late_end : (at : ℕ) (st : List Frame) (m : Mode) → IsEarly (at_end at m st) → ⊥
+late_end at [] between h = h
+late_end at (f ∷ st) between h = h
+late_end at st (in_run p w) h = h
+late_end at st (after_hash p w) h = h
+late_end at st (after_backslash p w) h = h
+late_end at st (in_tag p w) h = h
+late_end at st (in_text p w) h = h
+late_end at st (in_escape p w) h = h
+late_end at [] (in_comment p) h = h
+late_end at (f ∷ st) (in_comment p) h = h
+
+more_turn : (most at : ℕ) (s x : List ℕ) (t : Turn) (a : Answer) → ((st : List Frame) (m : Mode) → run most at st m s ≡ a → run most at st m (s ++ x) ≡ a) →
+    on_turn t (λ st' m'. run most at st' m' s) ≡ a → on_turn t (λ st' m'. run most at st' m' (s ++ x)) ≡ a
+more_turn most at s x (go st m) a ih h = ih st m h
+more_turn most at s x (stop b) a ih h = h
+
+pub run_more : (most at : ℕ) (s x : List ℕ) (st : List Frame) (m : Mode) (a : Answer) → IsEarly a → run most at st m s ≡ a → run most at st m (s ++ x) ≡ a
+unfolding run
+run_more most at [] x st m a early h = absurd (late_end at st m (subst IsEarly (sym h) early))
+run_more most at (c ∷ s) x st m a early h =
+    more_turn most (at + 1) s x (step most at st m c) a (λ st2 m2 e. run_more most (at + 1) s x st2 m2 a early e) h
+
+-- a fault is told by the bytes up to its own
+later_turn : (most lo at j i : ℕ) (k : EdnCause) (s : List ℕ) (t : Turn) → TurnOrder most lo at t →
+    ((st : List Frame) (m : Mode) → begun (at + 1) st m ≤ at + 1 → run most (at + 1) st m s ≡ fault j i k → at + 1 ≤ j) →
+    on_turn t (λ st' m'. run most (at + 1) st' m' s) ≡ fault j i k → at ≤ j
+later_turn most lo at j i k s (go st m) order ih h = let later : at + 1 ≤ j = ih st m order.1 h in omega arith
+later_turn most lo at j i k s (stop a) order ih h = let here : j ≡ at = subst (λ x. TurnOrder most lo at (stop x)) h order in omega arith
+
+fault_later : (most at j i : ℕ) (k : EdnCause) (s : List ℕ) (st : List Frame) (m : Mode) → begun at st m ≤ at → run most at st m s ≡ fault j i k → at ≤ j
+unfolding run
+fault_later most at j i k [] st m b h = absurd (late_end at st m (subst IsEarly (sym h) tt))
+fault_later most at j i k (c ∷ s) st m b h =
+    later_turn most (begun at st m) at j i k s (step most at st m c) (step_order most (begun at st m) at st m c (omega arith) b)
+    (λ st2 m2 b2 h2. fault_later most (at + 1) j i k s st2 m2 b2 h2) h
+
+less_turn : (most lo at j i : ℕ) (k : EdnCause) (s x : List ℕ) (t : Turn) → TurnOrder most lo at t →
+    ((st : List Frame) (m : Mode) → begun (at + 1) st m ≤ at + 1 → run most (at + 1) st m (s ++ x) ≡ fault j i k → run most (at + 1) st m s ≡ fault j i k) →
+    on_turn t (λ st' m'. run most (at + 1) st' m' (s ++ x)) ≡ fault j i k → on_turn t (λ st' m'. run most (at + 1) st' m' s) ≡ fault j i k
+less_turn most lo at j i k s x (go st m) order ih h = ih st m order.1 h
+less_turn most lo at j i k s x (stop a) order ih h = h
+
+pub fault_less : (most at j i : ℕ) (k : EdnCause) (s x : List ℕ) (st : List Frame) (m : Mode) → begun at st m ≤ at → j < at + length s →
+    run most at st m (s ++ x) ≡ fault j i k → run most at st m s ≡ fault j i k
+unfolding run
+fault_less most at j i k [] x st m b lt h = (let later : at ≤ j = fault_later most at j i k x st m b h in absurd (omega arith))
+fault_less most at j i k (c ∷ s) x st m b lt h =
+    less_turn most (begun at st m) at j i k s x (step most at st m c) (step_order most (begun at st m) at st m c (omega arith) b)
+    (λ st2 m2 b2 h2. fault_less most (at + 1) j i k s x st2 m2 b2 (omega arith) h2) h

@@ -109,16 +109,17 @@ pub data Thing : List ℕ → ℕ → ℕ → Type 0 where
   element_or_discard : {p q : ℕ} {s : List ℕ} → Whole s p q → Thing s p q
   a_comment : {p q c : ℕ} {s t u : List ℕ} → ShortBlanks s p t → Comment p t q (c ∷ u) → is_newline c ≡ true → Thing s p (q + 1)
 
--- Behind short blanks the text is the beginning of a whole element or discard; it isn't whole there, and not too long.
+-- Behind short blanks the text is the beginning of a whole element or discard, which ends no earlier than the text;
+-- it isn't whole there, and not too long.
 abbrev pub IsUnfinished : List ℕ → ℕ → Type 0
 IsUnfinished s p = (p < length s) × (length s ≤ p + longest) × ((q : ℕ) → q ≤ p + longest → Whole s p q → ⊥)
-    × (t : List ℕ) × ShortBlanks s p t × (x : List ℕ) × (q : ℕ) × Whole (s ++ x) p q
+    × (t : List ℕ) × ShortBlanks s p t × (x : List ℕ) × (q : ℕ) × (length s ≤ q) × Whole (s ++ x) p q
 
--- From a place on stand more bytes than the longest has; as many as it has are the beginning of a whole element,
--- discard or comment, and with one byte more none that isn't longer is whole.
+-- Behind short blanks stand more bytes than the longest has. No element, discard or comment there is whole and not longer;
+-- and as many bytes as the longest has are the beginning of a whole one, which ends no earlier.
 abbrev pub IsTooLong : List ℕ → ℕ → Type 0
-IsTooLong s p = (p + longest < length s) × ((q : ℕ) → q ≤ p + longest → Thing (take (p + longest + 1) s) p q → ⊥)
-    × (x : List ℕ) × (q : ℕ) × Thing (take (p + longest) s ++ x) p q
+IsTooLong s p = (p + longest < length s) × ((q : ℕ) → q ≤ p + longest → Thing s p q → ⊥)
+    × (t : List ℕ) × ShortBlanks s p t × (x : List ℕ) × (q : ℕ) × (p + longest ≤ q) × Thing (take (p + longest) s ++ x) p q
 
 -- blanks and a whole element of any length stand in front
 pub data Reads : List ℕ → Type 0 where

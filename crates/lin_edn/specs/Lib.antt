@@ -1,5 +1,6 @@
 pub mod Bytes
 pub mod Grammar
+pub mod Laws
 pub mod Levels
 pub mod Machine
 pub mod Numbers

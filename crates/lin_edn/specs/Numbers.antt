@@ -1,4 +1,4 @@
--- Cited by private functions alone.
+-- How far below 0 the integers of 64 bits go: cited by the contract of a private function alone.
 use Rattle.std.specs.Prelude.{ℕ, ◌^◌, nat_le, if◌then◌else◌, Option, Some, None}
 
 -- a number that an integer of 64 bits has behind a minus

@@ -21,12 +21,37 @@ Refuses s at TooDeep = IsWrong s at TooDeep
 Refuses s at TooLong = IsTooLong s at
 Refuses s at OutOfMemory = at ≡ 0
 
+-- an answer, apart from where its element lies in memory
+pub data Reading : Type 0 where
+  -- an element from one place to another
+  an_element : Value → ℕ → ℕ → Reading
+  -- from a place on something unfinished
+  unfinished : ℕ → Reading
+  -- blanks up to a place
+  blanks : ℕ → Reading
+  -- a fault that a place tells
+  refused : ℕ → EdnCause → Reading
+
+-- what an answer says of the input
+abbrev pub Allows : List ℕ → Reading → Type 0
+Allows s (an_element v at used) = Spells s v at used
+Allows s (unfinished at) = IsUnfinished s at
+Allows s (blanks used) = IsBlankText s used
+Allows s (refused at cause) = Refuses s at cause
+
+abbrev pub reading_of : Result Next EdnFault → Reading
+reading_of (Ok (Complete v at used)) = an_element (view v) at used
+reading_of (Ok (Partial at)) = unfinished at
+reading_of (Ok (Blank used)) = blanks used
+reading_of (Err f) = refused f.at f.cause
+
 -- what each answer says of the input
 abbrev pub Says : List ℕ → Result Next EdnFault → Type 0
-Says s (Ok (Complete v at used)) = Spells s (view v) at used
-Says s (Ok (Partial at)) = IsUnfinished s at
-Says s (Ok (Blank used)) = IsBlankText s used
-Says s (Err f) = Refuses s f.at f.cause
+Says s answer = Allows s (reading_of answer)
+
+-- the fault that says that memory ran out
+abbrev pub out_of_memory : EdnFault
+out_of_memory = record { at = 0; cause = OutOfMemory }
 
 -- memory ran out
 abbrev pub IsOutOfMemory : EdnCause → Type 0
@@ -35,6 +60,13 @@ IsOutOfMemory OddMap = ⊥
 IsOutOfMemory TooDeep = ⊥
 IsOutOfMemory TooLong = ⊥
 IsOutOfMemory OutOfMemory = Unit {0}
+
+-- the answer is that memory ran out
+abbrev pub IsWantOfMemory : Reading → Type 0
+IsWantOfMemory (an_element v at used) = ⊥
+IsWantOfMemory (unfinished at) = ⊥
+IsWantOfMemory (blanks used) = ⊥
+IsWantOfMemory (refused at cause) = IsOutOfMemory cause
 
 -- the answer is this value from one place to another, unless memory runs out
 abbrev pub IsRead : Result Next EdnFault → Value → ℕ → ℕ → Type 0

@@ -1,4 +1,5 @@
--- A list or vector that is read element by element: `IsRow`, `row_value` and `IsNext` are what callers cite.
+-- A list or vector that is read element by element: `IsRow`, `row_value`, `IsNext` and `IsBracketless` are what public
+-- contracts cite; the rest is for these, or is cited by the contracts of private functions alone.
 use Rattle.std.specs.Prelude.{◌≡◌, ◌≢◌, ℕ, ◌<◌, ◌≤◌, Bool, true, false, List, [], ◌∷◌, ◌++◌, length, drop, slice_index, Option, Some, None, Result, Ok, Err}
 use Rattle.lin_edn.specs.Bytes.{Kind, a_list, a_vector, closing}
 use Rattle.lin_edn.specs.Grammar.{frame, tagging, longest, Spells}

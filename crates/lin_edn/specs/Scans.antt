@@ -3,12 +3,13 @@ use Rattle.std.specs.Prelude.{◌≡◌, ℕ, ◌+◌, ◌<◌, ◌≤◌, Bool,
 use Rattle.std.specs.List.{slice_range}
 use Rattle.lin_edn.specs.Bytes.{a_map, Kind, is_white, Class, white, semicolon, opener, closer, quote, backslash, hash, inside}
 use Rattle.lin_edn.specs.Grammar.{Frame, frame, longest}
-use Rattle.lin_edn.specs.Levels.{flat}
+use Rattle.lin_edn.specs.Levels.{flat, frames_of}
 use Rattle.lin_edn.specs.Run.{run_value}
 use Rattle.lin_edn.specs.Value.{Value}
 use Rattle.lin_edn.specs.Machine.{Answer, complete, run, between, outermost}
 use Rattle.lin_edn.specs.Turns.{mode_of, IsBegun, IsFault}
 use Rattle.lin_edn.specs.View.{view}
+use Rattle.lin_edn.specs.declared.levels.Frame.{Frame as CodeFrame}
 use Rattle.lin_edn.specs.declared.reader.Mode.{Mode as CodeMode}
 use Rattle.lin_edn.specs.declared.reader.Went.{Went}
 use Rattle.lin_edn.specs.declared.reader.Went.TheVariants as went
@@ -63,3 +64,7 @@ IsWent s at (went.On m next) st a =
     (a ≡ run longest next st (mode_of s next m) (drop next s)) × IsBegun m next × (at < next) × (next ≤ length s)
 IsWent s at (went.Done e from used) st a = a ≡ complete (view e) from used
 IsWent s at (went.Fault i k) st a = IsFault a i k
+
+-- what the code made of them, with these levels open before and after, where this was open beside them
+abbrev pub GoesFrom : List ℕ → ℕ → CodeMode → List CodeFrame → List CodeFrame → Went → Type 0
+GoesFrom s at m old new w = IsWent s at w (frames_of new) (run longest at (frames_of old) (mode_of s at m) (drop at s))

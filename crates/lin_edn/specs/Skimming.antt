@@ -1,5 +1,5 @@
--- What a reader that keeps no values knows of the text so far: `HasSeen` is all that callers cite;
--- the rest is cited by the contracts of private functions alone.
+-- What a reader that keeps no values knows of the text so far: `HasSeen` and `IsOpenText` are what public contracts cite;
+-- the rest is for these, or is cited by the contracts of private functions alone.
 use Rattle.std.specs.Prelude.{◌≡◌, ℕ, ◌+◌, Bool, true, false, ◌&&◌, ◌==◌, nat_le, if◌then◌else◌, List, [], ◌∷◌, ◌++◌, length, map, reverse, Option, Some, None, option_map, is_some, not}
 use Rattle.lin_edn.specs.Bytes.{Kind, a_list, a_vector, a_set, a_map, Class, class, white, semicolon, opener, closer, quote, backslash, hash, inside, is_stop, is_newline, closing, Behind, behind, opens_set, opens_text, discards, joins, stands_apart, names_tag, Quoted, quoted, ends, escapes, stays}
 use Rattle.lin_edn.specs.Grammar.{Frame, frame, discarding, tagging, longest, IsUnfinished, IsBlankText}

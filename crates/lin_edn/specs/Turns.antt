@@ -80,7 +80,3 @@ Answers a (Ok (next.Complete v from used)) = a ≡ complete (view v) from used
 Answers a (Ok (next.Partial from)) = a ≡ partial from
 Answers a (Ok (next.Blank used)) = a ≡ blank used
 Answers a (Err f) = IsFault a f.at f.cause
-
--- the fault that says that memory ran out
-abbrev pub out_of_memory : EdnFault
-out_of_memory = record { at = 0; cause = OutOfMemory }

@@ -3,9 +3,9 @@
 
 ghost use Rattle.std.specs.Prelude.{◌≡◌, ℕ, List, ◌++◌, ◌<◌, ◌≤◌, length};
 ghost use Rattle.lin_edn.specs.Grammar.{Spells, ShortBlanks, IsBlankText, IsUnfinished};
-ghost use Rattle.lin_edn.specs.Reading.{Says, IsRead, IsBlank, Refuses};
+ghost use Rattle.lin_edn.specs.Laws.{ReadingsAreUnique, ValuesAreUnique, BlanksAreSkipped};
+ghost use Rattle.lin_edn.specs.Reading.{Says, IsRead, IsBlank, Refuses, out_of_memory};
 ghost use Rattle.lin_edn.specs.Rows.{IsRow};
-ghost use Rattle.lin_edn.specs.Turns.{out_of_memory};
 ghost use Rattle.lin_edn.specs.Value.{Value};
 ghost use Rattle.lin_edn.specs.declared.EdnCause.{EdnCause as Cause};
 ghost use Rattle.lin_edn.specs.declared.series.Series.{Series as TheSeries};
@@ -134,6 +134,17 @@ pub fn more_bytes()
     ensures passed { (s : List ℕ) (x : List ℕ) (t : List ℕ) (n : ℕ) → ShortBlanks s n t → ShortBlanks (s ++ x) n (t ++ x) }
     ensures faulty { (s : List ℕ) (x : List ℕ) (at : ℕ) (cause : Cause) → Refuses s at cause → Refuses (s ++ x) at cause }
     ensures row { (r : TheSeries) (s : List ℕ) (x : List ℕ) (vs : List Value) → IsRow r s vs → IsRow r (s ++ x) vs }
+{}
+
+/// A text has at most one reading: what the definition allows `next_element` to answer of it, want of memory aside, is one answer.
+pub fn readings_are_unique()
+    ensures readings { ReadingsAreUnique }
+    ensures values { ValuesAreUnique }
+{}
+
+/// Blanks in front of a text change nothing of what it allows but the places, which count them too.
+pub fn blanks_are_skipped()
+    ensures { BlanksAreSkipped }
 {}
 
 /// Blanks stand before what is unfinished.

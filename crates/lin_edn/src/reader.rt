@@ -7,10 +7,11 @@ ghost use Rattle.lin_edn.specs.Grammar.{longest, discarding};
 ghost use Rattle.lin_edn.specs.Levels.{frame_view, frames_of, flat};
 ghost use Rattle.lin_edn.specs.Machine as machine;
 ghost use Rattle.lin_edn.specs.Run.{run_value};
-ghost use Rattle.lin_edn.specs.Scans.{IsAhead, IsRunTo, ArePairs, AreOpened, IsWent};
+ghost use Rattle.lin_edn.specs.Scans.{IsAhead, IsRunTo, ArePairs, AreOpened, IsWent, GoesFrom};
 ghost use Rattle.lin_edn.specs.Turns.{IsMove, IsEnding, IsBegun, mode_of, behind_of, Answers};
 ghost use Rattle.lin_edn.specs.Value as value;
 ghost use Rattle.lin_edn.specs.View.{view, entry_view};
+ghost use Rattle.lin_edn.specs.declared.reader.Mode.TheVariants as the_mode;
 
 use crate::levels::{
     Frame, Placed, Sequence, closing, depth, entry_of, finish, gathered, map_of, opened_at, pop,
@@ -437,14 +438,21 @@ fn since(mode: Mode, at: usize) -> usize
     }
 }
 
+/// Where the outermost level begins; a given place where none is open.
+fn outermost(stack: &[Frame], at: usize) -> usize
+    ensures { result ≡ machine.outermost at (frames_of stack.now) }
+{
+    match stack.first() {
+        Some(frame) => opened_at(frame),
+        None => at,
+    }
+}
+
 /// Where the top-level element, comment or discard that is open before a place begins; that place where none is.
 fn begun_at(stack: &[Frame], mode: Mode, at: usize) -> usize
     ensures { (s : List ℕ) → result ≡ machine.begun at (frames_of stack.now) (mode_of s at mode) }
 {
-    match stack.first() {
-        Some(frame) => opened_at(frame),
-        None => since(mode, at),
-    }
+    outermost(stack, since(mode, at))
 }
 
 /// Whether the byte at a place would be one too many for what begins at `begun`.
@@ -608,10 +616,9 @@ fn open_map<'a>(
 ) -> Result<Went<'a>, AllocError>
     requires inside { at < length input.now }
     requires opens { slice_index input.now at ≡ 123 }
-    ensures { IfOk result (λ went. IsWent input.now at went (frames_of stack.new.items)
-        (machine.run longest at (frames_of stack.old.items) machine.between (drop at input.now))) }
+    ensures { IfOk result (GoesFrom input.now at the_mode.Between stack.old.items stack.new.items) }
 {
-    let begun = begun_at(stack, Mode::Between, at);
+    let begun = outermost(stack, at);
     if is_over(begun, at) {
         return Ok(Went::Fault(begun, EdnCause::TooLong));
     }
@@ -664,10 +671,9 @@ fn more_pairs<'a>(
     at: usize,
 ) -> Result<Went<'a>, AllocError>
     requires inside { at < length input.now }
-    ensures { IfOk result (λ went. IsWent input.now at went (frames_of stack.new.items)
-        (machine.run longest at (frames_of stack.old.items) machine.between (drop at input.now))) }
+    ensures { IfOk result (GoesFrom input.now at the_mode.Between stack.old.items stack.new.items) }
 {
-    let end = window(begun_at(stack, Mode::Between, at), input.len());
+    let end = window(outermost(stack, at), input.len());
     if end <= at {
         return Ok(one_step(alloc, stack, input, Mode::Between, at)?);
     }
@@ -715,8 +721,7 @@ fn go_from<'a>(
 ) -> Result<Went<'a>, AllocError>
     requires inside { at < length input.now }
     requires begun { IsBegun mode at }
-    ensures { IfOk result (λ went. IsWent input.now at went (frames_of stack.new.items)
-        (machine.run longest at (frames_of stack.old.items) (mode_of input.now at mode) (drop at input.now))) }
+    ensures { IfOk result (GoesFrom input.now at mode stack.old.items stack.new.items) }
 {
     match mode {
         Mode::Between if input[at] == b'{' => Ok(open_map(alloc, stack, input, at)?),
@@ -737,8 +742,7 @@ fn one_step<'a>(
 ) -> Result<Went<'a>, AllocError>
     requires inside { at < length input.now }
     requires begun { IsBegun mode at }
-    ensures { IfOk result (λ went. IsWent input.now at went (frames_of stack.new.items)
-        (machine.run longest at (frames_of stack.old.items) (mode_of input.now at mode) (drop at input.now))) }
+    ensures { IfOk result (GoesFrom input.now at mode stack.old.items stack.new.items) }
 {
     match step(alloc, stack, input, mode, at)? {
         Moved::On(mode) => Ok(Went::On(mode, at + 1)),

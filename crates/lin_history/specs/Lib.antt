@@ -9,3 +9,7 @@ pub mod Stream
 pub mod Sees
 pub mod Reads
 pub mod Rests
+pub mod Meters
+pub mod WellFormed
+pub mod Alternation
+pub mod WellFormedLaws

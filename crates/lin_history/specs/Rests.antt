@@ -1,4 +1,5 @@
--- What is known of the bytes that a follower holds: cited by the contracts of private functions alone.
+-- What is known of the bytes that a follower holds: cited by the contracts of private functions,
+-- and by the invariant of `Follow` over its private fields.
 use Rattle.std.specs.Prelude.{◌≡◌, ℕ, Bool, true, false, List, drop, Option, Some, None, Result, Ok, Err}
 use Rattle.lin_edn.specs.Grammar.{Spells}
 use Rattle.lin_edn.specs.Rows.{IsRow}

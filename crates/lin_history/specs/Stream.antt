@@ -56,3 +56,7 @@ pub data IsStream : Bool → List ℕ → List Event → Result (Unit {0}) Follo
   no_event : {keyed : Bool} {s : List ℕ} {es fs : List Event} {v : Value} {p at used : ℕ} {cause : EventFault} →
       Gives keyed s es p → Spells (drop p s) v at used → told keyed v ≡ record { events = fs; ends = Some cause } →
       IsStream keyed s (es ++ fs) (Err (fault.Event (p + at) cause))
+
+-- a text has one stream
+abbrev pub StreamsAreUnique : Type 0
+StreamsAreUnique = (keyed : Bool) (s : List ℕ) (a b : List Event) (x y : Result (Unit {0}) FollowFault) → IsStream keyed s a x → IsStream keyed s b y → (a ≡ b) × (x ≡ y)

@@ -53,15 +53,18 @@ abbrev pub look_up : {A : Type 0} → List (List ℕ × A) → Value → Option 
 look_up [] v = None
 look_up (row ∷ rows) v = if is_word row.0 v then Some row.1 else look_up rows v
 
-abbrev pub type_of : Value → Option EventType
-type_of = look_up (
+abbrev pub type_words : List (List ℕ × EventType)
+type_words =
     (codes ":invoke", types.Invoke) ∷
     (codes ":ok", types.Ok) ∷
     (codes ":fail", types.Fail) ∷
-    (codes ":info", types.Info) ∷ [])
+    (codes ":info", types.Info) ∷ []
 
-abbrev pub function_of : Value → Option Name
-function_of = look_up (
+abbrev pub type_of : Value → Option EventType
+type_of = look_up type_words
+
+abbrev pub function_words : List (List ℕ × Name)
+function_words =
     (codes ":read", Read) ∷
     (codes ":write", Write) ∷
     (codes ":cas", Cas) ∷
@@ -69,7 +72,10 @@ function_of = look_up (
     (codes ":dequeue", Dequeue) ∷
     (codes ":add", Add) ∷
     (codes ":acquire", Acquire) ∷
-    (codes ":release", Release) ∷ [])
+    (codes ":release", Release) ∷ []
+
+abbrev pub function_of : Value → Option Name
+function_of = look_up function_words
 
 -- an integer of at least 0
 abbrev pub process_of : Value → Option ℕ

@@ -8,7 +8,7 @@ use std::alloc::Global;
 /// What an event says: an invocation, or one of the three completions.
 ///
 /// `Ok` says that the operation took effect, `Fail` that it did not, `Info` that this is unknown.
-#[derive(Drop)]
+#[derive(PartialEq, Eq, Drop)]
 pub enum Body {
     Invoke(Call),
     Ok(Name, Reply),
@@ -17,7 +17,7 @@ pub enum Body {
 }
 
 /// One event of a history (Herlihy and Wing 1990, section 2): an invocation or a completion of a process at an object.
-#[derive(Drop)]
+#[derive(PartialEq, Eq, Drop)]
 pub struct Event {
     pub process: u64,
     pub key: i64,

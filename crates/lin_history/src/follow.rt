@@ -3,7 +3,7 @@ ghost use Rattle.std.specs.Prelude.{◌≡◌, ◌+◌, ◌≤◌, ◌++◌, [],
 ghost use Rattle.lin_edn.specs.Value.{values_of};
 ghost use Rattle.lin_edn.specs.View.{view};
 ghost use Rattle.lin_edn.specs.Skimming.{IsOpenText};
-ghost use Rattle.lin_history.specs.Stream.{told, told_by};
+ghost use Rattle.lin_history.specs.Stream.{told, told_by, StreamsAreUnique};
 ghost use Rattle.lin_history.specs.Sees.{Sees, Takes, TakesAll, Feeds, StaysFaulty, FaultsStay, most};
 ghost use Rattle.lin_history.specs.Reads.{IsTold, IsReadOn, IsReadTo, IsFront, IsStanding, IsRead};
 ghost use Rattle.lin_history.specs.Rests.{IsOpen, IsWhole, IsSeen, Knows, IsUnaware, GoesOn, IsReadHeld};
@@ -14,7 +14,10 @@ use crate::events::Event;
 use crate::numbers::OutOfMemory;
 use crate::row::{Far, Row, begin_row, put_all, read_maps, tell_one};
 use crate::table::{EventFault, bare};
-use lin_edn::{Edn, EdnCause, Next, Skim, blanks_in_front, more_bytes, next_element, places};
+use lin_edn::{
+    Edn, EdnCause, Next, Skim, blanks_are_skipped, blanks_in_front, more_bytes, next_element,
+    places, readings_are_unique,
+};
 use std::alloc::Global;
 use std::collections::VecDeque;
 use std::marker::Model;
@@ -519,6 +522,14 @@ fn read_on(
             }
         }
     }
+}
+
+/// A text has one stream: its events, and how it ends.
+pub fn streams_are_unique()
+    ensures { StreamsAreUnique }
+{
+    readings_are_unique();
+    blanks_are_skipped();
 }
 
 /// More bytes change nothing of a fault, nor of the events before it.

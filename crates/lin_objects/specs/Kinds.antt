@@ -3,8 +3,10 @@ use Rattle.std.specs.Prelude.{◌≡◌, ◌||◌, if◌then◌else◌, ℕ, ℤ
 use Rattle.std.specs.Ordering.{int_cmp, int_eq}
 use Rattle.std.specs.Map.{lookup}
 use Rattle.std.specs.BTreeMap.{insert_entry}
+use Rattle.lin_history.specs.declared.calls.Name.{Name}
 use Rattle.lin_objects.specs.declared.kinds.Kind.{Kind}
 use Rattle.lin_objects.specs.declared.kinds.Kinds.{Kinds}
+use Rattle.lin_objects.specs.Steps.{allows}
 
 -- the kind of a key: its own where it is named, else the default
 abbrev pub kind_of : Kinds → ℤ → Kind
@@ -33,3 +35,7 @@ ChangesOneKind = (kinds : Kinds) (key x : ℤ) (kind : Kind) → kind_of (with_k
 -- naming a key names it and no other key
 abbrev pub NamesOneKey : Type 0
 NamesOneKey = (kinds : Kinds) (key x : ℤ) (kind : Kind) → is_named (with_kind key kind kinds) x ≡ (int_eq key x || is_named kinds x)
+
+-- the functions that the object of a key has
+abbrev pub functions_of : (ℤ → Kind) → ℤ → Name → Bool
+functions_of kinds key = allows (kinds key)

@@ -10,7 +10,7 @@ use Rattle.lin_order.specs.Laws.{EmptyIsLegal}
 no_ok : (at end : ℕ) (reply : Reply) → IsOk [] at end reply → ⊥
 no_ok at end reply ok = let inside = slice_get_within [] end ok.0 ok.1.ends in omega arith
 
-empty_order : (scope : ℕ → Type 0) → IsOrderOf scope [] []
+pub empty_order : (scope : ℕ → Type 0) → IsOrderOf scope [] []
 empty_order scope = record {
   operations = λ k d inside. absurd (omega arith);
   once = λ i j d before inside. absurd (omega arith);

@@ -10,7 +10,7 @@ use Rattle.lin_order.specs.Orders.{IsBefore, IsCall, is_of_key, part_of}
 use Rattle.lin_order.specs.Laws.{PartsAreLegal}
 
 -- what a filter keeps
-in_filter : {A : Type 0} (p : A → Bool) (xs : List A) (x : A) → p x ≡ true → Contains xs x → Contains (filter p xs) x
+pub in_filter : {A : Type 0} (p : A → Bool) (xs : List A) (x : A) → p x ≡ true → Contains xs x → Contains (filter p xs) x
 in_filter p [] x passes there = there
 in_filter {A} p (y ∷ ys) x passes there = by there.0 there.1 there.2 (λ rest. in_filter p ys x passes rest)
   where
@@ -20,7 +20,7 @@ in_filter {A} p (y ∷ ys) x passes there = by there.0 there.1 there.2 (λ rest.
         let rest = more (k, omega arith, is) in
         cond_both (p y) (y ∷ filter p ys) (filter p ys) (λ l. Contains l x) (λ yes'. Contains-append_right (y ∷ []) (filter p ys) x rest) (λ none. rest)
 
-from_filter : {A : Type 0} (p : A → Bool) (xs : List A) (x : A) → Contains (filter p xs) x → Contains xs x × (p x ≡ true)
+pub from_filter : {A : Type 0} (p : A → Bool) (xs : List A) (x : A) → Contains (filter p xs) x → Contains xs x × (p x ≡ true)
 from_filter p xs x there = (
   All-contains (Contains xs) (filter p xs) x (All-filter p (Contains xs) xs (All-contains_itself xs)) there,
   All-contains (λ y. p y ≡ true) (filter p xs) x (filter_passes p xs) there,

@@ -13,12 +13,13 @@ use Rattle.lin_history.specs.Operations.{IsEnd, IsOk, IsFailed}
 use Rattle.lin_objects.specs.Steps.{Step, start}
 use Rattle.lin_order.specs.declared.placed.Placed.{Placed}
 use Rattle.lin_order.specs.Orders.{IsBefore, IsCall, IsOrderOf, Places, is_of_key, part_of}
-use Rattle.lin_order.specs.Linearizable.{Runs}
+use Rattle.lin_order.specs.Linearizable.{Runs, IsRun}
 use Rattle.lin_order.specs.Laws.{PrefixesAreLinearizable, PrefixesAreLinearizableFor}
+use Rattle.lin_order.specs.ConfigurationLaws.{PrefixesAreLinearizableBy}
 use Rattle.lin_order.proofs.Running.{runs_split}
 
 -- what a prefix has at a position, the whole has there
-get_from_take : {A : Type 0} (n : ℕ) (xs : List A) (k : ℕ) (x : A) → slice_get (take n xs) k ≡ Some x → (k < n) × (slice_get xs k ≡ Some x)
+pub get_from_take : {A : Type 0} (n : ℕ) (xs : List A) (k : ℕ) (x : A) → slice_get (take n xs) k ≡ Some x → (k < n) × (slice_get xs k ≡ Some x)
 get_from_take zero xs k x h = cc
 get_from_take (suc n) [] k x h = cc
 get_from_take (suc n) (y ∷ ys) zero x h = (omega arith, h)
@@ -26,7 +27,7 @@ get_from_take (suc n) (y ∷ ys) (suc k) x h =
     let rest = get_from_take n ys k x h in
     (omega arith, rest.1)
 
-get_of_take : {A : Type 0} (n : ℕ) (xs : List A) (k : ℕ) → k < n → slice_get (take n xs) k ≡ slice_get xs k
+pub get_of_take : {A : Type 0} (n : ℕ) (xs : List A) (k : ℕ) → k < n → slice_get (take n xs) k ≡ slice_get xs k
 get_of_take zero xs k l = absurd (omega arith)
 get_of_take (suc n) [] k l = refl
 get_of_take (suc n) (y ∷ ys) zero l = refl
@@ -55,7 +56,7 @@ cut n (p ∷ ps) = elim (cases_lt p.at n) [
     first_or xs (suc k) d below rest l = rest k d (omega arith)
 
 module _ (h : List Event) (n : ℕ) where
-  end_whole : (at end : ℕ) (ending : Event) → IsEnd (take n h) at end ending → (end < n) × IsEnd h at end ending
+  pub end_whole : (at end : ℕ) (ending : Event) → IsEnd (take n h) at end ending → (end < n) × IsEnd h at end ending
   end_whole at end ending e =
       let stop = get_from_take n h end ending e.ends in (
         stop.0,
@@ -71,7 +72,7 @@ module _ (h : List Event) (n : ℕ) where
         },
       )
 
-  ok_whole : (at end : ℕ) (reply : Reply) → IsOk (take n h) at end reply → (end < n) × IsOk h at end reply
+  pub ok_whole : (at end : ℕ) (reply : Reply) → IsOk (take n h) at end reply → (end < n) × IsOk h at end reply
   ok_whole at end reply ok = let e = end_whole at end ok.0 ok.1 in (e.0, (ok.0, e.1, ok.2, ok.3))
 
   call_within : (at : ℕ) (call : Call) → at < n → IsCall h at call → IsCall (take n h) at call
@@ -149,18 +150,25 @@ module _ (h : List Event) (n : ℕ) where
       let halves = runs_split step h s t xs ys run in
       (halves.0, run_within step s halves.0 xs small halves.1)
 
+-- the beginning of a legal order that stands below n is one of the prefix
+module _ {S : Type 0} (start : S) (step : S → Call → S → Reply → Type 0) (h : List Event) (n : ℕ) (scope inner : ℕ → Type 0) (narrow : (at : ℕ) → at < n → scope at → inner at)
+    (widen : (at : ℕ) → inner at → scope at) (o : List Placed) (is : IsOrderOf scope h o) (run : IsRun start step h o) where
+  pub legal_within : (order : List Placed) × IsOrderOf inner (take n h) order × IsRun start step (take n h) order
+  legal_within =
+      let c = cut n o in
+      let ran = subst (λ l. Runs step h start l run.0) (sym (take-append-drop c.0 o)) run.1 in
+      (take c.0 o, order_within h n scope inner narrow widen o is c.0 c.1 c.2 c.3, run_begins h n step start run.0 (take c.0 o) (drop c.0 o) c.2 ran)
+
 pub prefixes_for_lem : PrefixesAreLinearizableFor
 prefixes_for_lem kinds key h n lin =
-    let o = lin.0 in
-    let c = cut n o in
-    let m = c.0 in
-    let ran = subst (λ l. Runs (Step (kinds key)) h (start (kinds key)) l lin.1.legal.0) (sym (take-append-drop m o)) lin.1.legal.1 in (
-      take m o,
-      record {
-        order_of = order_within h n (λ at. IsTrue (is_of_key h key at)) (λ at. IsTrue (is_of_key (take n h) key at)) (λ at below of_it. key_within h n key at below ∙ of_it) (λ at of_it. key_whole h n key at of_it) o lin.1.order_of m c.1 c.2 c.3;
-        legal = run_begins h n (Step (kinds key)) (start (kinds key)) lin.1.legal.0 (take m o) (drop m o) c.2 ran;
-      },
-    )
+    let w = legal_within (start (kinds key)) (Step (kinds key)) h n (λ at. IsTrue (is_of_key h key at)) (λ at. IsTrue (is_of_key (take n h) key at))
+    (λ at below of_it. key_within h n key at below ∙ of_it) (λ at of_it. key_whole h n key at of_it) lin.0 lin.1.order_of lin.1.legal in
+    (w.0, record { order_of = w.1; legal = w.2 })
+
+pub prefixes_by_lem : {S : Type 0} (start : S) (step : S → Call → S → Reply → Type 0) → PrefixesAreLinearizableBy start step
+prefixes_by_lem start step h n lin =
+    let w = legal_within start step h n (λ at. Unit {0}) (λ at. Unit {0}) (λ at below of_it. tt) (λ at of_it. tt) lin.0 lin.1.order_of lin.1.legal in
+    (w.0, record { order_of = w.1; legal = w.2 })
 
 pub prefixes_whole_lem : PrefixesAreLinearizable
 prefixes_whole_lem kinds h n lin =

@@ -4,7 +4,6 @@ use Rattle.lin_history.specs.declared.events.Event.{Event}
 use Rattle.lin_history.specs.declared.calls.Call.{Call}
 use Rattle.lin_history.specs.declared.calls.Reply.{Reply}
 use Rattle.lin_objects.specs.declared.kinds.Kind.{Kind}
-use Rattle.lin_objects.specs.declared.states.State.{State}
 use Rattle.lin_objects.specs.Steps.{Step, start}
 use Rattle.lin_order.specs.declared.placed.Placed.{Placed}
 use Rattle.lin_order.specs.Orders.{IsCall, IsOrder, IsOrderFor, part_of}
@@ -14,9 +13,13 @@ abbrev pub Runs : {S : Type 0} → (S → Call → S → Reply → Type 0) → L
 Runs step h from [] to = from ≡ to
 Runs {S} step h from (p ∷ order) to = (call : Call) × (next : S) × IsCall h p.at call × step from call next p.reply × Runs step h next order to
 
+-- an object that begins here and takes these steps runs through the order
+abbrev pub IsRun : {S : Type 0} → S → (S → Call → S → Reply → Type 0) → List Event → List Placed → Type 0
+IsRun {S} start step h order = (last : S) × Runs step h start order last
+
 -- an object of the kind runs through the order from its start
 abbrev pub IsLegalFor : Kind → List Event → List Placed → Type 0
-IsLegalFor kind h order = (last : State) × Runs (Step kind) h (start kind) order last
+IsLegalFor kind h order = IsRun (start kind) (Step kind) h order
 
 -- each object, of the kind that its key has, runs through its part of the order
 abbrev pub IsLegal : (ℤ → Kind) → List Event → List Placed → Type 0
@@ -39,3 +42,12 @@ IsLinearizable kinds h = (order : List Placed) × IsLegalOrder kinds h order
 -- the history is linearizable for one object
 abbrev pub IsLinearizableFor : (ℤ → Kind) → ℤ → List Event → Type 0
 IsLinearizableFor kinds key h = (order : List Placed) × IsLegalOrderFor kinds key h order
+
+-- a legal order of a history that has one object, which begins here and takes these steps
+pub record IsLegalOrderBy {S : Type 0} (start : S) (step : S → Call → S → Reply → Type 0) (h : List Event) (order : List Placed) : Type 0 where
+  pub order_of : IsOrder h order
+  pub legal : IsRun start step h order
+
+-- a history that has one object, which begins here and takes these steps, is linearizable
+abbrev pub IsLinearizableBy : {S : Type 0} → S → (S → Call → S → Reply → Type 0) → List Event → Type 0
+IsLinearizableBy start step h = (order : List Placed) × IsLegalOrderBy start step h order

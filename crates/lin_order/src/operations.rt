@@ -41,7 +41,11 @@ pub fn ends_of(alloc: Global, events: &[Event]) -> Result<Vec<Option<usize>>, Ou
 }
 
 /// The end of the operation at the position, with the completion that stands there.
-fn end_of<'a>(events: &'a [Event], ends: &[Option<usize>], at: usize) -> Option<(usize, &'a Event)>
+pub fn end_of<'a>(
+    events: &'a [Event],
+    ends: &[Option<usize>],
+    at: usize,
+) -> Option<(usize, &'a Event)>
     requires table { IsNextTable events.now ends.now }
     requires within { at < length events.now }
     ensures { MatchOption result ((end : ℕ) (ending : EventOf) → IsEnd events.now at end ending → ⊥) (λ found. IsEnd events.now at found.0 found.1.now) }

@@ -1,3 +1,5 @@
+mod merging;
+
 use crate::{Placed, check_order};
 use lin_history::{Body, Call, Event, IntSet, Name, OutOfMemory, Reply, Val};
 use lin_objects::{Any, Kind, Kinds, SeqObject};

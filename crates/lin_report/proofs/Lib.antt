@@ -4,5 +4,7 @@ pub mod Pairs
 pub mod PartsOfTexts
 pub mod Reading
 pub mod Rising
+pub mod Searching
 pub mod TooLarge
 pub mod Written
+pub mod Alone

@@ -1,5 +1,5 @@
 -- What is read of a file in several calls.
-use Rattle.std.proofs.Common.{◌≡◌, ◌+◌, ◌<◌, ◌≤◌, ℕ, List, Bool, Option, None, Some, Result, Ok, Err, MatchOption, MatchResult, IfOk, IfSome, length, take, ◌++◌, arith, length-append, append-nil, ap, ◌∙◌, subst}
+use Rattle.std.proofs.Common.{◌≡◌, ◌+◌, ◌<◌, ◌≤◌, ◌^◌, false, ◌∷◌, [], ℕ, List, Bool, Option, None, Some, Result, Ok, Err, MatchOption, MatchResult, IfOk, IfNone, IfSome, length, take, ◌++◌, arith, length-append, append-nil, ap, ◌∙◌, subst}
 use Rattle.std.proofs.KnownBytes.{Consumes-trans}
 use Rattle.std.proofs.lemmas.List.{length-take-le}
 use Rattle.std.specs.Io.KnownBytes.{Consumes, IsAtEnd}
@@ -38,11 +38,11 @@ consumed_end a b c text piece count first last none =
     subst (Consumes a c) (ap (λ n. text ++ take n piece) none ∙ append-nil text) (Consumes-trans a b c text (take count piece) first last)
 
 -- what the end of the file came to
-pub said_at_end : (r : Result History RunFault) (a left : Option (List ℕ)) (read keyed : Bool) (text : List ℕ) → read ≡ keyed
+pub said_at_end : (r : Result History RunFault) (a left : Option (List ℕ)) (read keyed : Bool) (text : List ℕ) → read ≡ keyed → length text ≤ 2 ^ 40
     → Consumes a left text → IsAtEnd left → MatchResult r (IsHistory read text) (λ _. ⊥)
-    → IfOk r (λ h. (x : List ℕ) × Consumes a left x × EndsFor h left × IsHistory keyed x h)
-said_at_end (Ok h) a left read keyed text same consumed end said = (text, consumed, ends_at_end h left end, subst (λ k. IsHistory k text h) same said)
-said_at_end (Err fault) a left read keyed text same consumed end said = tt
+    → IfOk r (λ h. (x : List ℕ) × Consumes a left x × (length x ≤ 2 ^ 40) × EndsFor h left × IsHistory keyed x h)
+said_at_end (Ok h) a left read keyed text same within consumed end said = (text, consumed, within, ends_at_end h left end, subst (λ k. IsHistory k text h) same said)
+said_at_end (Err fault) a left read keyed text same within consumed end said = tt
 
 -- why the file is refused
 pub refused_for : (r : Option Refusal) (refusal : Refusal) (read keyed : Bool) (text : List ℕ) (P : Type 0) → r ≡ Some refusal → read ≡ keyed
@@ -57,3 +57,12 @@ stops_for r refusal left is stops = subst (λ o. IfSome o (λ x. (l : Option (Li
 -- what is known where the file is not refused
 pub not_refused : (r : Option Refusal) (P : Type 0) (Q : Refusal → Type 0) → r ≡ None → MatchOption r P Q → P
 not_refused r P Q none said = subst (λ o. MatchOption o P Q) none said
+
+pub not_refused_so : (r : Option Refusal) (P : Type 0) → r ≡ None → IfNone r P → P
+not_refused_so r P none said = subst (λ o. IfNone o P) none said
+
+-- a first piece is not too long, and a later one was tested
+pub fits : (faulty : Bool) (text piece : List ℕ) → length piece ≤ 65536 → (0 < length text → faulty ≡ false)
+    → (faulty ≡ false → length text + length piece ≤ 2 ^ 40) → (whole : List ℕ) → length text + length piece ≡ length whole → length whole ≤ 2 ^ 40
+fits faulty [] piece small going tested whole same = omega (arith, small, same)
+fits faulty (c ∷ text) piece small going tested whole same = omega (arith, tested (going (omega arith)), same)

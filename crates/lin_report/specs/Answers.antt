@@ -4,8 +4,8 @@ use Rattle.lin_edn.specs.declared.EdnCause.{EdnCause}
 use Rattle.lin_edn.specs.declared.EdnCause.TheVariants as edn
 use Rattle.lin_history.specs.declared.table.EventFault.{EventFault}
 use Rattle.lin_history.specs.declared.table.EventFault.TheVariants as fault
-use Rattle.lin_wellformed.specs.declared.shapes.Cause.{Cause}
-use Rattle.lin_wellformed.specs.declared.shapes.Cause.TheVariants as cause
+use Rattle.lin_history.specs.declared.shapes.Cause.{Cause}
+use Rattle.lin_history.specs.declared.shapes.Cause.TheVariants as cause
 use Rattle.lin_report.specs.declared.answers.Status.{Status}
 use Rattle.lin_report.specs.declared.answers.Status.TheVariants as status
 use Rattle.lin_report.specs.declared.answers.Refusal.{Refusal}

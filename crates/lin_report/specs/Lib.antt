@@ -4,6 +4,9 @@ pub mod Histories
 pub mod Inputs
 pub mod Intakes
 pub mod Integers
+pub mod ObjectAnswers
 pub mod Orders
 pub mod Parts
+pub mod Reports
 pub mod Verdicts
+pub mod Uniqueness

@@ -1,18 +1,20 @@
 -- What is right to answer of a file and an order.
-use Rattle.std.specs.Prelude.{◌≡◌, ◌<◌, ◌^◌, ◌⊎◌, ℕ, ℤ, Bool, true, false, List, Option, Result, Ok, Err, length, take}
+use Rattle.std.specs.Prelude.{◌≡◌, ◌<◌, ◌≤◌, ◌^◌, ◌⊎◌, ℕ, ℤ, Bool, true, false, List, Option, Result, Ok, Err, length, take}
 use Rattle.std.specs.Io.KnownBytes.{Appends, Consumes, IsAtEnd, Keeps}
 use Rattle.lin_history.specs.declared.events.Event.{Event}
 use Rattle.lin_objects.specs.declared.kinds.Kind.{Kind}
-use Rattle.lin_wellformed.specs.declared.shapes.Shape.TheVariants.{Bad}
-use Rattle.lin_wellformed.specs.WellFormed.{IsShape, IsWellFormed}
+use Rattle.lin_objects.specs.Kinds.{functions_of}
+use Rattle.lin_history.specs.declared.shapes.Shape.TheVariants.{Bad}
+use Rattle.lin_history.specs.WellFormed.{IsShape, IsWellFormed}
 use Rattle.lin_order.specs.declared.placed.Placed.{Placed}
 use Rattle.lin_order.specs.Linearizable.{IsLegalOrder}
-use Rattle.lin_report.specs.Answers.{line_of}
+use Rattle.lin_report.specs.Answers.{line_of, status_of}
 use Rattle.lin_report.specs.Inputs.{IsRefused, IsWhole}
 use Rattle.lin_report.specs.Histories.{StopsFor}
 use Rattle.lin_report.specs.Orders.{order_of}
 use Rattle.lin_report.specs.declared.answers.Refusal.{Refusal}
 use Rattle.lin_report.specs.declared.answers.Refusal.TheVariants as refusal
+use Rattle.lin_report.specs.declared.answers.Status.{Status}
 use Rattle.lin_report.specs.declared.answers.Verdict.{Verdict}
 use Rattle.lin_report.specs.declared.answers.Verdict.TheVariants.{Yes, No, IllFormed, Refused}
 use Rattle.lin_report.specs.declared.faults.RunFault.{RunFault}
@@ -27,11 +29,11 @@ all_of kind key = kind
 -- isn't well-formed, with its first bad event; else whether the order is a legal order of the history.
 abbrev pub IsJudged : Kind → List Event → List ℕ → Verdict → Type 0
 IsJudged kind events text Yes =
-    (order : List Placed) × (order_of text ≡ Ok order) × IsWellFormed (all_of kind) events × IsLegalOrder (all_of kind) events order
+    (order : List Placed) × (order_of text ≡ Ok order) × IsWellFormed (functions_of (all_of kind)) events × IsLegalOrder (all_of kind) events order
 IsJudged kind events text No =
-    (order : List Placed) × (order_of text ≡ Ok order) × IsWellFormed (all_of kind) events × (IsLegalOrder (all_of kind) events order → ⊥)
+    (order : List Placed) × (order_of text ≡ Ok order) × IsWellFormed (functions_of (all_of kind)) events × (IsLegalOrder (all_of kind) events order → ⊥)
 IsJudged kind events text (IllFormed at cause) =
-    (order : List Placed) × (order_of text ≡ Ok order) × IsShape (all_of kind) events (Bad at cause)
+    (order : List Placed) × (order_of text ≡ Ok order) × IsShape (functions_of (all_of kind)) events (Bad at cause)
 IsJudged kind events text (Refused (refusal.BadPair at)) = order_of text ≡ Err at
 IsJudged kind events text (Refused (refusal.Edn at cause)) = ⊥
 IsJudged kind events text (Refused (refusal.Event at cause)) = ⊥
@@ -52,10 +54,15 @@ IsReadFor No left = IsAtEnd left
 IsReadFor (IllFormed at cause) left = IsAtEnd left
 IsReadFor (Refused refusal) left = StopsFor refusal left
 
--- what is left of a file went from the one to the other, and this is right to answer of the bytes between and the order
+-- what is left of a file went from the one to the other, the bytes between are not too many, and this is right to answer of
+-- them and the order
 abbrev pub IsVerified : Settings → List ℕ → Option (List ℕ) → Option (List ℕ) → Verdict → Type 0
 IsVerified settings order old new verdict =
-    (bytes : List ℕ) × Consumes old new bytes × IsReadFor verdict new × IsRightFor settings bytes order verdict
+    (bytes : List ℕ) × Consumes old new bytes × (length bytes ≤ 2 ^ 40) × IsReadFor verdict new × IsRightFor settings bytes order verdict
+
+-- more was read than the greatest length of a file
+abbrev pub IsReadTooFar : Option (List ℕ) → Option (List ℕ) → Type 0
+IsReadTooFar old new = (bytes : List ℕ) × Consumes old new bytes × (2 ^ 40 < length bytes)
 
 -- What stands after a run that ended early: after a fault of the writer a beginning of the right line is written, else
 -- nothing. More was read than may be, where that is the fault.
@@ -63,9 +70,15 @@ abbrev pub IsStopped : Settings → List ℕ → Option (List ℕ) → Option (L
 IsStopped settings order old new before after ReadFailed = Keeps before after
 IsStopped settings order old new before after OutOfMemory = Keeps before after
 IsStopped settings order old new before after TooMuch =
-    Keeps before after × ((bytes : List ℕ) × Consumes old new bytes × (2 ^ 40 < length bytes))
+    Keeps before after × IsReadTooFar old new
 IsStopped settings order old new before after WriteFailed =
     (verdict : Verdict) × IsVerified settings order old new verdict × ((n : ℕ) × Appends before after (take n (line_of verdict)))
+
+-- What a run reads and writes, and how it ends: with the status of what is right to answer, and the line of that written; or early.
+abbrev pub IsVerifyRun : Settings → List ℕ → Option (List ℕ) → Option (List ℕ) → Option (List ℕ) → Option (List ℕ) → Result Status RunFault → Type 0
+IsVerifyRun settings order old new before after (Ok status) =
+    (verdict : Verdict) × IsVerified settings order old new verdict × Appends before after (line_of verdict) × (status ≡ status_of verdict)
+IsVerifyRun settings order old new before after (Err fault) = IsStopped settings order old new before after fault
 
 -- whether the run ended because the writer failed
 abbrev pub is_write_failed : {T : Type 0} → Result T RunFault → Bool

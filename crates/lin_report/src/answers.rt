@@ -4,8 +4,7 @@ ghost use Rattle.lin_report.specs.Answers.{edn_cause_text, event_fault_text, cau
 
 use itoa::Buffer;
 use lin_edn::EdnCause;
-use lin_history::EventFault;
-use lin_wellformed::Cause;
+use lin_history::{Cause, EventFault};
 use std::alloc::{AllocError, Global};
 
 /// How a run ends.
@@ -87,7 +86,8 @@ fn event_fault(fault: EventFault) -> &'static str
     }
 }
 
-fn cause_words(cause: Cause) -> &'static str
+/// The number and the name of why an event is bad.
+pub fn cause_words(cause: Cause) -> &'static str
     ensures { result.now ≡ cause_text cause }
 {
     match cause {
@@ -101,7 +101,7 @@ fn cause_words(cause: Cause) -> &'static str
 }
 
 /// Puts a number last.
-fn put_number(line: &mut Vec<u8>, number: u64) -> Result<(), AllocError>
+pub fn put_number(line: &mut Vec<u8>, number: u64) -> Result<(), AllocError>
     ensures { OnOk result (line.new.items ≡ line.old.items ++ decimal number) }
 {
     let mut digits = Buffer::new();
@@ -109,7 +109,7 @@ fn put_number(line: &mut Vec<u8>, number: u64) -> Result<(), AllocError>
 }
 
 /// The text of a refusal.
-fn refusal_words(alloc: Global, refusal: Refusal) -> Result<Vec<u8>, AllocError>
+pub fn refusal_words(alloc: Global, refusal: Refusal) -> Result<Vec<u8>, AllocError>
     ensures { IfOk result (λ line. line.items ≡ refusal_text refusal) }
 {
     match refusal {

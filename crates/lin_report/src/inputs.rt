@@ -1,12 +1,13 @@
 //! Histories read from a file, piece by piece.
-ghost use Rattle.std.specs.Prelude.{◌≡◌, ◌+◌, ◌^◌, ◌<◌, ◌≤◌, ◌++◌, ◌⊎◌, [], ℕ, List, Err, length, Option, IfErr, IfOk, IfSome, IsErrOf, MatchBool, MatchOption, MatchResult};
+ghost use Rattle.std.specs.Prelude.{◌≡◌, ◌+◌, ◌^◌, ◌<◌, ◌≤◌, ◌++◌, ◌⊎◌, [], ℕ, List, Err, length, Option, IfErr, IfNone, IfOk, IfSome, false, IsErrOf, MatchBool, MatchOption, MatchResult};
 ghost use Rattle.std.specs.Io.KnownBytes.{Consumes, IsAtEnd};
 ghost use Rattle.lin_history.specs.declared.events.Event.{Event as EventOf};
-ghost use Rattle.lin_history.specs.Sees.{Sees};
+ghost use Rattle.lin_history.specs.Sees.{is_fault, Sees};
 ghost use Rattle.lin_report.specs.Devices.{device_of, failures_of, Counts};
 ghost use Rattle.lin_report.specs.Intakes.{IsTaken};
 ghost use Rattle.lin_report.specs.Inputs.{limit, IsRefused, IsTooMany};
 ghost use Rattle.lin_report.specs.Inputs as inputs_said;
+ghost use Rattle.lin_report.specs.Verdicts.{IsReadTooFar};
 ghost use Rattle.lin_report.specs.Histories.{EndsFor, IsHistory, StopsFor, is_read_failed};
 
 use crate::answers::Refusal;
@@ -74,6 +75,8 @@ fn take_in(
     ensures taken { IfOk result (λ refusal. (bytes : List ℕ) → IsTaken follow.old bytes events.old.items → MatchOption refusal
         (IsTaken follow.new (bytes ++ piece.now) events.new.items)
         (IsRefused follow.new.keyed (bytes ++ piece.now))) }
+    ensures goes_on { IfOk result (λ refusal. IfNone refusal (is_fault follow.new.outcome ≡ false)) }
+    ensures within { IfOk result (λ _. (bytes : List ℕ) → IsTaken follow.old bytes events.old.items → is_fault follow.old.outcome ≡ false → length bytes + length piece.now ≤ 2 ^ 40) }
     ensures stops { IfOk result (λ refusal. IfSome refusal (λ r. (left : Option (List ℕ)) → StopsFor r left)) }
     ensures faults { IfErr result (λ fault. (fault ≡ RunFault.OutOfMemory) ⊎ (fault ≡ RunFault.TooMuch)) }
     ensures too_much { IsErrOf result RunFault.TooMuch → (bytes : List ℕ) → IsTaken follow.old bytes events.old.items → 2 ^ 40 < length bytes + length piece.now }
@@ -109,11 +112,10 @@ pub fn read_history<R: Read>(
     requires { failures_of file.old < u64.MAX }
     ensures read { IfOk result (λ history. (bytes : List ℕ)
         × Consumes (R.remaining (device_of file.old)) (R.remaining (device_of file.new)) bytes
+        × (length bytes ≤ 2 ^ 40)
         × EndsFor history (R.remaining (device_of file.new))
         × IsHistory keyed bytes history) }
-    ensures too_much { IsErrOf result RunFault.TooMuch → (bytes : List ℕ)
-        × Consumes (R.remaining (device_of file.old)) (R.remaining (device_of file.new)) bytes
-        × (2 ^ 40 < length bytes) }
+    ensures too_much { IsErrOf result RunFault.TooMuch → IsReadTooFar (R.remaining (device_of file.old)) (R.remaining (device_of file.new)) }
     ensures counts { Counts (is_read_failed result) (failures_of file.old) (failures_of file.new) }
     ensures readers { IsErrOf result RunFault.WriteFailed → ⊥ }
 {

@@ -2,19 +2,25 @@
 #![tactic(auto)]
 
 mod answers;
+mod checks;
 mod counted;
 mod faults;
 mod inputs;
 mod integers;
+mod laws;
 mod orders;
 mod parts;
+mod reports;
 mod runs;
+mod search;
 #[cfg(test)]
 mod tests;
 mod writing;
 
 pub use answers::Status;
+pub use checks::check;
 pub use counted::Counted;
 pub use faults::{OrderFault, RunFault};
+pub use laws::{answers_agree, verdicts_are_unique};
 pub use orders::read_order;
 pub use runs::{Settings, verify};

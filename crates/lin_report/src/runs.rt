@@ -4,7 +4,7 @@ ghost use Rattle.std.specs.Io.KnownBytes.{Appends, Consumes};
 ghost use Rattle.lin_report.specs.Answers.{line_of, status_of};
 ghost use Rattle.lin_report.specs.Devices.{device_of, failures_of, Counts};
 ghost use Rattle.lin_report.specs.Histories.{is_read_failed};
-ghost use Rattle.lin_report.specs.Verdicts.{is_write_failed, IsJudged, IsStopped, IsVerified};
+ghost use Rattle.lin_report.specs.Verdicts.{is_write_failed, IsJudged, IsReadTooFar, IsVerified, IsVerifyRun};
 
 use crate::answers::{Refusal, Status, Verdict, line};
 use crate::counted::Counted;
@@ -12,10 +12,10 @@ use crate::faults::{OrderFault, RunFault};
 use crate::inputs::{History, read_history};
 use crate::orders::read_order;
 use crate::writing::write_whole;
-use lin_history::{Event, Meter, OutOfMemory};
+use lin_history::{Event, Meter, OutOfMemory, Shape};
 use lin_objects::{Kind, Kinds};
 use lin_order::check_order;
-use lin_wellformed::{Scan, Shape};
+use lin_wellformed::Scan;
 use std::alloc::Global;
 use std::io::{Read, Write};
 
@@ -62,9 +62,7 @@ fn find_verdict<R: Read>(
 ) -> Result<Verdict, RunFault>
     requires { failures_of file.old < u64.MAX }
     ensures found { IfOk result (IsVerified settings order.now (R.remaining (device_of file.old)) (R.remaining (device_of file.new))) }
-    ensures too_much { IsErrOf result RunFault.TooMuch → (bytes : List ℕ)
-        × Consumes (R.remaining (device_of file.old)) (R.remaining (device_of file.new)) bytes
-        × (2 ^ 40 < length bytes) }
+    ensures too_much { IsErrOf result RunFault.TooMuch → IsReadTooFar (R.remaining (device_of file.old)) (R.remaining (device_of file.new)) }
     ensures counts { Counts (is_read_failed result) (failures_of file.old) (failures_of file.new) }
     ensures readers { IsErrOf result RunFault.WriteFailed → ⊥ }
 {
@@ -94,12 +92,8 @@ pub fn verify<R: Read, W: Write>(
     requires budget { (1 ≤ settings.budget) × (settings.budget ≤ 1000000) }
     requires reads { failures_of file.old < u64.MAX }
     requires writes { failures_of out.old < u64.MAX }
-    ensures answered { IfOk result (λ status. (verdict : Verdict)
-        × IsVerified settings order.now (R.remaining (device_of file.old)) (R.remaining (device_of file.new)) verdict
-        × Appends (W.contents (device_of out.old)) (W.contents (device_of out.new)) (line_of verdict)
-        × (status ≡ status_of verdict)) }
-    ensures stopped { IfErr result (IsStopped settings order.now (R.remaining (device_of file.old)) (R.remaining (device_of file.new))
-        (W.contents (device_of out.old)) (W.contents (device_of out.new))) }
+    ensures ran { IsVerifyRun settings order.now (R.remaining (device_of file.old)) (R.remaining (device_of file.new))
+        (W.contents (device_of out.old)) (W.contents (device_of out.new)) result }
     ensures read_counts { Counts (is_read_failed result) (failures_of file.old) (failures_of file.new) }
     ensures write_counts { Counts (is_write_failed result) (failures_of out.old) (failures_of out.new) }
 {

@@ -1,6 +1,8 @@
-//! Texts of orders and of faults, and devices that fail at some call.
-use crate::{Counted, OrderFault, RunFault, Settings, Status, read_order, verify};
-use lin_history::{Reply, Val};
+//! Texts of orders, of reports and of faults, and devices that fail at some call.
+use crate::answers::Refusal;
+use crate::reports::{Answer, Findings, findings_words};
+use crate::{Counted, OrderFault, RunFault, Settings, Status, check, read_order, verify};
+use lin_history::{Cause, Reply, Val};
 use lin_objects::Kind;
 use std::io;
 use std::io::{ErrorKind, Read, Write};
@@ -170,6 +172,122 @@ fn a_writer_stops_at_each_call(rt: HostRuntime) -> Result<(), Fail> {
             }
         }
     }
+    Ok(())
+}
+
+/// What a run of `check` on `HISTORY` prints.
+const REPORT: &[u8] = b"events 3 objects 1\nobject 0 register: yes\nwhole: yes\n";
+
+#[test]
+fn a_reader_of_check_fails_at_each_call(rt: HostRuntime) {
+    for fails_at in 0..HISTORY.len() + 2 {
+        let mut taken = Vec::new(rt.alloc());
+        let mut file = Counted::new(FailingReader { next: 0, fails_at });
+        let mut out = Counted::new(&mut taken);
+        let outcome = check(rt.alloc(), REGISTER, &mut file, &mut out);
+        let failures = file.failures();
+        if fails_at <= HISTORY.len() {
+            assert_eq!(rt; outcome, Err(RunFault::ReadFailed), "at {fails_at}");
+            assert_eq!(rt; failures, 1);
+            assert!(rt; taken.is_empty());
+        } else {
+            assert_eq!(rt; outcome, Ok(Status::Yes));
+            assert_eq!(rt; failures, 0);
+            assert!(rt; taken.as_slice() == REPORT);
+        }
+    }
+}
+
+#[test]
+fn a_writer_of_check_stops_at_each_call(rt: HostRuntime) {
+    for is_full in [false, true] {
+        for stops_at in 0..REPORT.len() + 1 {
+            let mut writer = FailingWriter {
+                taken: Vec::new(rt.alloc()),
+                stops_at,
+                is_full,
+            };
+            let mut file = Counted::new(HISTORY);
+            let mut out = Counted::new(&mut writer);
+            let outcome = check(rt.alloc(), REGISTER, &mut file, &mut out);
+            let failures = out.failures();
+            assert!(rt; writer.taken.as_slice() == &REPORT[..stops_at]);
+            if stops_at < REPORT.len() {
+                assert_eq!(rt; outcome, Err(RunFault::WriteFailed), "at {stops_at}");
+                assert_eq!(rt; failures, 1);
+            } else {
+                assert_eq!(rt; outcome, Ok(Status::Yes));
+                assert_eq!(rt; failures, 0);
+            }
+        }
+    }
+}
+
+#[test]
+fn reports_of_each_answer(rt: HostRuntime) -> Result<(), Fail> {
+    let reports = [
+        (0, Answer::Yes, "events 0 objects 0\nwhole: yes\n"),
+        (
+            1,
+            Answer::Yes,
+            "events 1 objects 1\nobject 0 set: yes\nwhole: yes\n",
+        ),
+        (
+            7,
+            Answer::No { prefix: 4 },
+            "events 7 objects 1\nobject 0 set: no prefix 4\nwhole: no prefix 4\n",
+        ),
+        (
+            1_000_000,
+            Answer::Undecided { at: 0 },
+            "events 1000000 objects 1\nobject 0 set: undecided at 0\nwhole: undecided at 0\n",
+        ),
+        (
+            12,
+            Answer::IllFormed {
+                at: 10,
+                cause: Cause::OtherCall,
+            },
+            "events 12 objects 1\nwhole: ill-formed at 10 cause 5 OtherCall\n",
+        ),
+    ];
+    for (events, answer, text) in reports {
+        let found = findings_words(rt.alloc(), Kind::Set, Findings::Report { events, answer })?;
+        assert!(rt; found.as_slice() == text.as_bytes(), "{text}");
+    }
+    Ok(())
+}
+
+#[test]
+fn reports_name_the_kind(rt: HostRuntime) -> Result<(), Fail> {
+    for (kind, text) in [
+        (
+            Kind::Register,
+            "events 2 objects 1\nobject 0 register: yes\nwhole: yes\n",
+        ),
+        (
+            Kind::CasRegister,
+            "events 2 objects 1\nobject 0 cas-register: yes\nwhole: yes\n",
+        ),
+        (
+            Kind::Fifo,
+            "events 2 objects 1\nobject 0 fifo: yes\nwhole: yes\n",
+        ),
+        (
+            Kind::Mutex,
+            "events 2 objects 1\nobject 0 mutex: yes\nwhole: yes\n",
+        ),
+    ] {
+        let report = Findings::Report {
+            events: 2,
+            answer: Answer::Yes,
+        };
+        let found = findings_words(rt.alloc(), kind, report)?;
+        assert!(rt; found.as_slice() == text.as_bytes(), "{text}");
+    }
+    let refused = Findings::Refused(Refusal::Truncated { at: 40 });
+    let found = findings_words(rt.alloc(), Kind::Set, refused)?;
+    assert!(rt; found.as_slice() == b"refused input truncated at 40\n".as_slice());
     Ok(())
 }
 

@@ -1,7 +1,4 @@
-pub mod Lists
-pub mod StatusLemmas
-pub mod Causes
-pub mod ShapeLemmas
-pub mod ScanLemmas
-pub mod Deciding
-pub mod Alternating
+mod Lists
+mod StatusLemmas
+mod TableLemmas
+mod ScanLemmas

@@ -1,123 +1,236 @@
 -- Scans that are right, and stay so.
-use Rattle.std.proofs.Common.{◌≡◌, ◌≢◌, ℕ, ℤ, ◌+◌, ◌-◌, ◌^◌, min, ◌<◌, ◌≤◌, zero, suc, Bool, true, false, List, [], ◌∷◌, ◌++◌, length, take, ◌⊎◌, inl, inr, refl, sym, ap, ◌∙◌, subst, arith, cond, true≢false, nat_eq}
+use Rattle.std.proofs.Common.{◌≡◌, ◌≢◌, ℕ, ℤ, ◌+◌, ◌-◌, ◌^◌, min, ◌<◌, ◌≤◌, zero, suc, Bool, true, false, List, [], ◌∷◌, ◌++◌, length, take, ◌⊎◌, inl, inr, refl, sym, ap, ◌∙◌, subst, arith, cond, true≢false, nat_eq, add-one}
 use Rattle.std.proofs.lemmas.Bool.{cases_lt}
 use Rattle.std.proofs.lemmas.Bool.Decides.{Decides-eqb}
 use Rattle.std.proofs.lemmas.List.{take-take, take_all, length-take, length-take-le}
+use Rattle.std.proofs.lemmas.Option.{slice_get_within}
+use Rattle.lin_history.specs.declared.calls.Name.{Name}
 use Rattle.lin_history.specs.declared.events.Event.{Event}
 use Rattle.lin_history.specs.declared.meter.Meter.{Meter}
+use Rattle.lin_history.specs.Meters.{ticked}
 use Rattle.lin_history.specs.Operations.{IsEvent}
+use Rattle.lin_history.specs.WellFormedLaws.{BadWithinBeginnings, EventsDecideStatuses, NoCauseIsGood, OtherStatusesStay, SameFunctionsSameShape}
 use Rattle.lin_objects.specs.declared.kinds.Kind.{Kind}
+use Rattle.lin_objects.specs.Kinds.{functions_of}
+use Rattle.lin_objects.specs.Steps.{allows}
 use Rattle.lin_wellformed.specs.declared.scan.Scan.{Scan}
-use Rattle.lin_wellformed.specs.declared.shapes.Cause.{Cause}
-use Rattle.lin_wellformed.specs.declared.shapes.Shape.{Shape}
-use Rattle.lin_wellformed.specs.declared.shapes.Shape.TheVariants.{Good, Bad}
-use Rattle.lin_wellformed.specs.declared.shapes.Status.{Status}
-use Rattle.lin_wellformed.specs.Scans.{ready_count, IsRight, AgreeBefore, looked_at, ticked}
-use Rattle.lin_wellformed.specs.Tables.{status_in}
-use Rattle.lin_wellformed.specs.WellFormed.{left_by, IsStatus, Holds, IsFirstCause, IsBad, IsShape}
-use Rattle.lin_wellformed.proofs.Lists.{get_taken, get_inside, take_next}
-use Rattle.lin_wellformed.proofs.StatusLemmas.{status_of_last, status_kept}
-use Rattle.lin_wellformed.proofs.ShapeLemmas.{not_bad, bad_longer, bad_shorter, shape_alike}
+use Rattle.lin_history.specs.declared.shapes.Cause.{Cause}
+use Rattle.lin_history.specs.declared.shapes.Shape.{Shape}
+use Rattle.lin_history.specs.declared.shapes.Shape.TheVariants.{Good, Bad}
+use Rattle.lin_history.specs.declared.shapes.Status.{Status}
+use Rattle.lin_wellformed.specs.Scans.{ready_count, IsRight, AgreeBefore, looked_at, good_count}
+use Rattle.lin_wellformed.specs.Tables.{Statuses, count_in, status_at}
+use Rattle.lin_history.specs.WellFormed.{left_by, IsStatus, Holds, IsFirstCause, IsBad, IsShape}
+use Rattle.lin_wellformed.proofs.Lists.{get_taken, take_next}
 
--- a table with one more event lists what each process is after it
-status_next : (h : List Event) (n : ℕ) (event : Event) (table next : List (ℕ × Status)) → IsEvent h n event
-    → ((process : ℕ) → status_in next process ≡ cond (nat_eq event.process process) (left_by event) (status_in table process))
-    → ((process : ℕ) → IsStatus (take n h) process (status_in table process)) → (process : ℕ) → IsStatus (take (suc n) h) process (status_in next process)
-status_next h n event table next stands taken listed process =
-    subst (λ l. IsStatus l process (status_in next process)) (sym (take_next n h event stands)) (by (nat_eq event.process process) refl)
+-- where the loop ends: all events are taken in, or one is bad
+abbrev pub IsOver : List Event → Scan → Type 0
+IsOver h scan = (length h ≤ ready_count scan) ⊎ (scan.shape ≢ Good)
+
+-- the bad event is one of those that were taken in
+bad_taken : (kinds : ℤ → Kind) (h : List Event) (scan : Scan) (at : ℕ) (cause : Cause) → IsRight scan kinds h → scan.shape ≡ Bad at cause → at < ready_count scan
+bad_taken kinds h scan at cause right bad =
+    let was : IsShape (functions_of kinds) (take (ready_count scan) h) (Bad at cause) = subst (IsShape (functions_of kinds) (take (ready_count scan) h)) bad right.shaped in
+    (get_taken (ready_count scan) h at was.0.event was.0.stands).0
+
+-- so the table has no more than those
+table_within : (kinds : ℤ → Kind) (h : List Event) (scan : Scan) → IsRight scan kinds h → count_in scan.table ≤ ready_count scan
+table_within kinds h scan right = by scan.shape refl
   where
-    by : (b : Bool) → nat_eq event.process process ≡ b → IsStatus (take n h ++ event ∷ []) process (status_in next process)
-    by true e =
-        let same : event.process ≡ process = (Decides-eqb event.process process).0 e in
-        let left : status_in next process ≡ left_by event = taken process ∙ ap (λ b. cond b (left_by event) (status_in table process)) e in
-        subst (λ s. IsStatus (take n h ++ event ∷ []) process s) (sym left) (subst (λ p. IsStatus (take n h ++ event ∷ []) p (left_by event)) same (status_of_last (take n h) event))
-    by false e =
-        let kept : status_in next process ≡ status_in table process = taken process ∙ ap (λ b. cond b (left_by event) (status_in table process)) e in
-        let other : event.process ≢ process = λ same. true≢false (sym ((Decides-eqb event.process process).1 same) ∙ e) in
-        subst (λ s. IsStatus (take n h ++ event ∷ []) process s) (sym kept) (status_kept (take n h) event process (status_in table process) other (listed process))
+    by : (shape : Shape) → scan.shape ≡ shape → count_in scan.table ≤ ready_count scan
+    by Good good = let same = right.counted ∙ ap (λ s. good_count s (ready_count scan)) good in omega arith
+    by (Bad at cause) bad =
+        let same = right.counted ∙ ap (λ s. good_count s (ready_count scan)) bad in
+        let inside = bad_taken kinds h scan at cause right bad in
+        omega arith
 
--- one more event, that is not bad
-pub right_next : (kinds : ℤ → Kind) (h : List Event) (old new : Scan) (event : Event) → IsRight old kinds h → old.shape ≡ Good → IsEvent h (ready_count old) event
-    → ((cause : Cause) → Holds kinds (status_in old.table event.process) event cause → ⊥) → ready_count new ≡ suc (ready_count old) → new.shape ≡ Good
-    → ((process : ℕ) → status_in new.table process ≡ cond (nat_eq event.process process) (left_by event) (status_in old.table process)) → IsRight new kinds h
-right_next kinds h old new event right good stands none count shape table = record {
-  within = let inside = get_inside h (ready_count old) event stands in omega arith;
-  shaped = subst (λ n. IsShape kinds (take n h) new.shape) (sym count) (subst (IsShape kinds (take (suc (ready_count old)) h)) (sym shape) good_next);
-  listed = λ _ process. subst (λ n. IsStatus (take n h) process (status_in new.table process)) (sym count)
-      (status_next h (ready_count old) event old.table new.table stands table (right.listed good) process);
-}
-  where
-    good_before : IsShape kinds (take (ready_count old) h) Good
-    good_before = subst (IsShape kinds (take (ready_count old) h)) good right.shaped
+module _ (decided : EventsDecideStatuses) (others : OtherStatusesStay) where
+  -- what a process is after one more event
+  status_next : (h : List Event) (n : ℕ) (event : Event) (process : ℕ) (before after : Status) → IsEvent h n event
+      → after ≡ cond (nat_eq event.process process) (left_by event) before → IsStatus (take n h) process before → IsStatus (take (suc n) h) process after
+  status_next h n event process before after stands taken was =
+      subst (λ l. IsStatus l process after) (sym (take_next n h event stands)) (by (nat_eq event.process process) refl)
+    where
+      by : (b : Bool) → nat_eq event.process process ≡ b → IsStatus (take n h ++ event ∷ []) process after
+      by true e =
+          let same : event.process ≡ process = (Decides-eqb event.process process).0 e in
+          let left : after ≡ left_by event = taken ∙ ap (λ b. cond b (left_by event) before) e in
+          subst (λ s. IsStatus (take n h ++ event ∷ []) process s) (sym left) (subst (λ p. IsStatus (take n h ++ event ∷ []) p (left_by event)) same (decided (take n h) event))
+      by false e =
+          let kept : after ≡ before = taken ∙ ap (λ b. cond b (left_by event) before) e in
+          let other : event.process ≢ process = λ same. true≢false (sym ((Decides-eqb event.process process).1 same) ∙ e) in
+          subst (λ s. IsStatus (take n h ++ event ∷ []) process s) (sym kept) (others (take n h) event process before other was)
 
-    good_next : (k : ℕ) (cause : Cause) → IsBad kinds (take (suc (ready_count old)) h) k cause → ⊥
-    good_next k cause bad = elim (cases_lt k (ready_count old)) [
-      | inl before ↦ good_before k cause (bad_shorter kinds h (ready_count old) k cause before (bad_longer kinds h (suc (ready_count old)) k cause bad))
-      | inr from ↦
-          let below : k < suc (ready_count old) = (get_taken (suc (ready_count old)) h k bad.event bad.stands).0 in
-          let here : k ≡ ready_count old = omega arith in
-          not_bad kinds h (ready_count old) event (status_in old.table event.process) stands (right.listed good event.process) none cause
-          (subst (λ n. IsBad kinds h n cause) here (bad_longer kinds h (suc (ready_count old)) k cause bad))
-    ]
+  -- a table with one more event has what each process was after each of them
+  listed_next : (h : List Event) (event : Event) (old new : Statuses) → IsEvent h (count_in old) event → count_in new ≡ count_in old + 1
+      → ((k process : ℕ) → k ≤ count_in old → status_at new k process ≡ status_at old k process)
+      → ((process : ℕ) → status_at new (count_in old + 1) process ≡ cond (nat_eq event.process process) (left_by event) (status_at old (count_in old) process))
+      → ((k process : ℕ) → k ≤ count_in old → IsStatus (take k h) process (status_at old k process))
+      → (k process : ℕ) → k ≤ count_in new → IsStatus (take k h) process (status_at new k process)
+  listed_next h event old new stands count before after listed k process upto = elim (cases_lt (count_in old) k) [
+    | inl later ↦
+        let last : count_in old + 1 ≡ k = omega arith in
+        let next = status_next h (count_in old) event process (status_at old (count_in old) process) (status_at new (count_in old + 1) process) stands (after process) (listed (count_in old) process (omega arith)) in
+        subst (λ n. IsStatus (take n h) process (status_at new n process)) last (subst (λ n. IsStatus (take n h) process (status_at new (count_in old + 1) process)) (sym (add-one (count_in old))) next)
+    | inr earlier ↦ subst (IsStatus (take k h) process) (sym (before k process earlier)) (listed k process earlier)
+  ]
 
--- one more event, that is bad
-pub right_bad : (kinds : ℤ → Kind) (h : List Event) (old new : Scan) (event : Event) (cause : Cause) → IsRight old kinds h → old.shape ≡ Good → IsEvent h (ready_count old) event
-    → IsFirstCause kinds (status_in old.table event.process) event cause → ready_count new ≡ suc (ready_count old) → new.shape ≡ Bad (ready_count old) cause → IsRight new kinds h
-right_bad kinds h old new event cause right good stands caused count shape = record {
-  within = let inside = get_inside h (ready_count old) event stands in omega arith;
-  shaped = subst (λ n. IsShape kinds (take n h) new.shape) (sym count) (subst (IsShape kinds (take (suc (ready_count old)) h)) (sym shape) (
-    bad_shorter kinds h (suc (ready_count old)) (ready_count old) cause (omega arith) here,
-    λ k other before bad. good_before k other (bad_shorter kinds h (ready_count old) k other before (bad_longer kinds h (suc (ready_count old)) k other bad)),
-  ));
-  listed = λ fine process. absurd (not_good (sym shape ∙ fine));
-}
-  where
-    here : IsBad kinds h (ready_count old) cause
-    here = record { event = event; stands = stands; status = status_in old.table event.process; found = right.listed good event.process; caused = caused }
+module _ (beginnings : BadWithinBeginnings) where
+  -- what is bad in a beginning is bad
+  bad_longer : (functions : ℤ → Name → Bool) (h : List Event) (n at : ℕ) (cause : Cause) → IsBad functions (take n h) at cause → IsBad functions h at cause
+  bad_longer functions h n at cause bad = ((beginnings functions h n at cause).0 bad).1
 
-    good_before : IsShape kinds (take (ready_count old) h) Good
-    good_before = subst (IsShape kinds (take (ready_count old) h)) good right.shaped
+  -- and what is bad inside a beginning is bad in it
+  bad_shorter : (functions : ℤ → Name → Bool) (h : List Event) (n at : ℕ) (cause : Cause) → at < n → IsBad functions h at cause → IsBad functions (take n h) at cause
+  bad_shorter functions h n at cause below bad = (beginnings functions h n at cause).1 (below, bad)
 
-    not_good : Bad (ready_count old) cause ≡ Good → ⊥
-    not_good e = cc
+  -- what the event's process is before it, and that no event so far is bad
+  record Before (kinds : ℤ → Kind) (h : List Event) (scan : Scan) (event : Event) : Type 0 where
+    all : count_in scan.table ≡ ready_count scan
+    good : (k : ℕ) (cause : Cause) → k < ready_count scan → IsBad (functions_of kinds) h k cause → ⊥
+    found : IsStatus (take (ready_count scan) h) event.process (status_at scan.table (count_in scan.table) event.process)
 
--- behind a bad event, any more can be taken in
-pub right_past : (kinds : ℤ → Kind) (h : List Event) (old new : Scan) (at : ℕ) (cause : Cause) → IsRight old kinds h → old.shape ≡ Bad at cause → new.shape ≡ old.shape → ready_count old ≤ ready_count new → ready_count new ≤ length h → IsRight new kinds h
-right_past kinds h old new at cause right bad same grown within = record {
-  within = within;
-  shaped = subst (IsShape kinds (take (ready_count new) h)) (sym shape) (
-    bad_shorter kinds h (ready_count new) at cause (omega (arith, inside)) (bad_longer kinds h (ready_count old) at cause was.0),
-    λ k other before found. was.1 k other before (bad_shorter kinds h (ready_count old) k other (omega (arith, inside)) (bad_longer kinds h (ready_count new) k other found)),
-  );
-  listed = λ fine process. absurd (not_good (sym shape ∙ fine));
-}
-  where
-    was : IsShape kinds (take (ready_count old) h) (Bad at cause)
-    was = subst (IsShape kinds (take (ready_count old) h)) bad right.shaped
+  before_event : (kinds : ℤ → Kind) (h : List Event) (scan : Scan) (event : Event) → IsRight scan kinds h → scan.shape ≡ Good → Before kinds h scan event
+  before_event kinds h scan event right good = record {
+    all = all;
+    good = λ k cause below bad. was k cause (bad_shorter (functions_of kinds) h (ready_count scan) k cause below bad);
+    found = subst (λ n. IsStatus (take n h) event.process (status_at scan.table (count_in scan.table) event.process)) all (right.listed (count_in scan.table) event.process (omega arith));
+  }
+    where
+      all : count_in scan.table ≡ ready_count scan
+      all = right.counted ∙ ap (λ s. good_count s (ready_count scan)) good
 
-    inside : at < ready_count old
-    inside = (get_taken (ready_count old) h at was.0.event was.0.stands).0
+      was : IsShape (functions_of kinds) (take (ready_count scan) h) Good
+      was = subst (IsShape (functions_of kinds) (take (ready_count scan) h)) good right.shaped
 
-    shape : new.shape ≡ Bad at cause
-    shape = same ∙ bad
+  module _ (decided : EventsDecideStatuses) (others : OtherStatusesStay) (good_where : NoCauseIsGood) where
+    -- one more event, that is not bad
+    pub right_next : (kinds : ℤ → Kind) (h : List Event) (old : Scan) (table : Statuses) (event : Event) → IsRight old kinds h → old.shape ≡ Good → IsEvent h (ready_count old) event
+        → ((cause : Cause) → Holds (functions_of kinds) (status_at old.table (count_in old.table) event.process) event cause → ⊥) → count_in table ≡ count_in old.table + 1
+        → ((k process : ℕ) → k ≤ count_in old.table → status_at table k process ≡ status_at old.table k process)
+        → ((process : ℕ) → status_at table (count_in old.table + 1) process ≡ cond (nat_eq event.process process) (left_by event) (status_at old.table (count_in old.table) process))
+        → IsRight (record { ready = ready_count old + 1; shape = old.shape; table = table }) kinds h
+    right_next kinds h old table event right good stands none count before after = record {
+      within = let inside = slice_get_within h (ready_count old) event stands in omega arith;
+      shaped = subst (IsShape (functions_of kinds) (take (ready_count old + 1) h)) (sym good) good_next;
+      counted = count ∙ ap (λ n. n + 1) so_far.all ∙ ap (λ s. good_count s (ready_count old + 1)) (sym good);
+      listed = listed_next decided others h event old.table table (subst (λ n. IsEvent h n event) (sym so_far.all) stands) count before after right.listed;
+    }
+      where
+        so_far : Before kinds h old event
+        so_far = before_event kinds h old event right good
 
-    not_good : Bad at cause ≡ Good → ⊥
-    not_good e = cc
+        good_next : (k : ℕ) (cause : Cause) → IsBad (functions_of kinds) (take (ready_count old + 1) h) k cause → ⊥
+        good_next k cause bad =
+            let there = (beginnings (functions_of kinds) h (ready_count old + 1) k cause).0 bad in
+            elim (cases_lt k (ready_count old)) [
+              | inl before ↦ so_far.good k cause before there.1
+              | inr from ↦
+                  let below : k < ready_count old + 1 = there.0 in
+                  let here : k ≡ ready_count old = omega arith in
+                  good_where (functions_of kinds) h (ready_count old) event (status_at old.table (count_in old.table) event.process) stands so_far.found none cause
+                  (subst (λ n. IsBad (functions_of kinds) h n cause) here there.1)
+            ]
+
+  -- one more event, that is bad
+  pub right_bad : (kinds : ℤ → Kind) (h : List Event) (old : Scan) (event : Event) (cause : Cause) → IsRight old kinds h → old.shape ≡ Good → IsEvent h (ready_count old) event
+      → IsFirstCause (functions_of kinds) (status_at old.table (count_in old.table) event.process) event cause
+      → IsRight (record { ready = ready_count old + 1; shape = Bad (ready_count old) cause; table = old.table }) kinds h
+  right_bad kinds h old event cause right good stands caused = record {
+    within = let inside = slice_get_within h (ready_count old) event stands in omega arith;
+    shaped = (
+      bad_shorter (functions_of kinds) h (ready_count old + 1) (ready_count old) cause (omega arith) (record { event = event; stands = stands; status = _; found = so_far.found; caused = caused }),
+      λ k other below bad. so_far.good k other below (bad_longer (functions_of kinds) h (ready_count old + 1) k other bad),
+    );
+    counted = so_far.all;
+    listed = right.listed;
+  }
+    where
+      so_far : Before kinds h old event
+      so_far = before_event kinds h old event right good
+
+  -- behind a bad event, any more or less can be taken in
+  pub right_past : (kinds : ℤ → Kind) (h : List Event) (scan : Scan) (n at : ℕ) (cause : Cause) → IsRight scan kinds h → scan.shape ≡ Bad at cause → at < n → n ≤ length h → IsRight (record scan { ready = n }) kinds h
+  right_past kinds h scan n at cause right bad behind within = record {
+    within = within;
+    shaped = subst (IsShape (functions_of kinds) (take n h)) (sym bad) (
+      bad_shorter (functions_of kinds) h n at cause behind (bad_longer (functions_of kinds) h (ready_count scan) at cause was.0),
+      λ k other before found. was.1 k other before (bad_shorter (functions_of kinds) h (ready_count scan) k other (omega (arith, inside)) (bad_longer (functions_of kinds) h n k other found)),
+    );
+    counted = right.counted ∙ ap (λ s. good_count s (ready_count scan)) bad ∙ ap (λ s. good_count s n) (sym bad);
+    listed = right.listed;
+  }
+    where
+      was : IsShape (functions_of kinds) (take (ready_count scan) h) (Bad at cause)
+      was = subst (IsShape (functions_of kinds) (take (ready_count scan) h)) bad right.shaped
+
+      inside : at < ready_count scan
+      inside = bad_taken kinds h scan at cause right bad
+
+  -- where the loop ends, the rest may be taken in
+  pub settled_right : (kinds : ℤ → Kind) (h : List Event) (scan : Scan) → IsRight scan kinds h → IsOver h scan → IsRight (record scan { ready = length h }) kinds h
+  settled_right kinds h scan right (inl all) = subst (λ n. IsRight (record scan { ready = n }) kinds h) (omega (arith, right.within)) right
+  settled_right kinds h scan right (inr bad) = by scan.shape refl
+    where
+      by : (shape : Shape) → scan.shape ≡ shape → IsRight (record scan { ready = length h }) kinds h
+      by Good good = absurd (bad good)
+      by (Bad at cause) is = right_past kinds h scan (length h) at cause right is (omega (arith, right.within, bad_taken kinds h scan at cause right is)) (omega arith)
+
+  -- events are taken back as far as the bad one, or further: none is bad then
+  pub right_fewer : (kinds : ℤ → Kind) (h : List Event) (scan : Scan) (n : ℕ) (table : Statuses) → IsRight scan kinds h → n ≤ count_in scan.table → count_in table ≡ n
+      → ((k process : ℕ) → k ≤ n → status_at table k process ≡ status_at scan.table k process) → IsRight (record { ready = n; shape = Good; table = table }) kinds h
+  right_fewer kinds h scan n table right upto count before = record {
+    within = let most = table_within kinds h scan right in omega (arith, right.within);
+    shaped = λ k cause bad.
+        let there = (beginnings (functions_of kinds) h n k cause).0 bad in
+        none_before scan.shape refl k cause there.0 there.1;
+    counted = count;
+    listed = λ k process below.
+        let within : k ≤ n = omega arith in
+        subst (IsStatus (take k h) process) (sym (before k process within)) (right.listed k process (omega arith));
+  }
+    where
+      none_before : (shape : Shape) → scan.shape ≡ shape → (k : ℕ) (cause : Cause) → k < n → IsBad (functions_of kinds) h k cause → ⊥
+      none_before Good good k cause below bad =
+          let was : IsShape (functions_of kinds) (take (ready_count scan) h) Good = subst (IsShape (functions_of kinds) (take (ready_count scan) h)) good right.shaped in
+          let most = table_within kinds h scan right in
+          was k cause (bad_shorter (functions_of kinds) h (ready_count scan) k cause (omega arith) bad)
+      none_before (Bad at other) is k cause below bad =
+          let was : IsShape (functions_of kinds) (take (ready_count scan) h) (Bad at other) = subst (IsShape (functions_of kinds) (take (ready_count scan) h)) is right.shaped in
+          let most = table_within kinds h scan right in
+          let all = right.counted ∙ ap (λ s. good_count s (ready_count scan)) is in
+          was.1 k cause (omega arith) (bad_shorter (functions_of kinds) h (ready_count scan) k cause (omega arith) bad)
+
+  -- or not as far: the bad one stays
+  pub right_behind : (kinds : ℤ → Kind) (h : List Event) (scan : Scan) (n : ℕ) → IsRight scan kinds h → count_in scan.table < n → n ≤ ready_count scan → IsRight (record scan { ready = n }) kinds h
+  right_behind kinds h scan n right behind upto = by scan.shape refl
+    where
+      by : (shape : Shape) → scan.shape ≡ shape → IsRight (record scan { ready = n }) kinds h
+      by Good good = let all = right.counted ∙ ap (λ s. good_count s (ready_count scan)) good in absurd (omega arith)
+      by (Bad at cause) bad =
+          let all = right.counted ∙ ap (λ s. good_count s (ready_count scan)) bad in
+          right_past kinds h scan n at cause right bad (omega arith) (omega (arith, right.within))
 
 -- a scan that took in all events has their shape
-pub right_shape : (kinds : ℤ → Kind) (h : List Event) (scan : Scan) → IsRight scan kinds h → ready_count scan ≡ length h → IsShape kinds h scan.shape
-right_shape kinds h scan right all = subst (λ l. IsShape kinds l scan.shape) (take_all (ready_count scan) h (omega arith)) right.shaped
+pub right_shape : (kinds : ℤ → Kind) (h : List Event) (scan : Scan) → IsRight scan kinds h → ready_count scan ≡ length h → IsShape (functions_of kinds) h scan.shape
+right_shape kinds h scan right all = subst (λ l. IsShape (functions_of kinds) l scan.shape) (take_all (ready_count scan) h (omega arith)) right.shaped
 
 -- a scan is right for what agrees with the events that it took in
-pub right_alike : (at : ℕ) (kinds other : ℤ → Kind) (h edited : List Event) (scan : Scan) → ready_count scan ≤ at → AgreeBefore at kinds other h edited → IsRight scan kinds h → IsRight scan other edited
-right_alike at kinds other h edited scan upto agree right = record {
+pub right_alike : SameFunctionsSameShape → (at : ℕ) (kinds other : ℤ → Kind) (h edited : List Event) (scan : Scan) → ready_count scan ≤ at → AgreeBefore at kinds other h edited → IsRight scan kinds h → IsRight scan other edited
+right_alike same_shape at kinds other h edited scan upto agree right = record {
   within = omega (arith, length-take-le (ready_count scan) h right.within, ap length same, length-take (ready_count scan) edited);
-  shaped = subst (λ l. IsShape other l scan.shape) same (shape_alike kinds other (take (ready_count scan) h) scan.shape alike right.shaped);
-  listed = λ fine process. subst (λ l. IsStatus l process (status_in scan.table process)) same (right.listed fine process);
+  shaped = subst (λ l. IsShape (functions_of other) l scan.shape) same (same_shape (functions_of kinds) (functions_of other) (take (ready_count scan) h) scan.shape (λ k event stands. ap (λ kind. allows kind) (alike k event stands)) right.shaped);
+  counted = right.counted;
+  listed = λ k process upto_table.
+      let most = table_within kinds h scan right in
+      subst (λ l. IsStatus l process (status_at scan.table k process)) (same_to k (omega arith)) (right.listed k process upto_table);
 }
   where
+    same_to : (n : ℕ) → n ≤ at → take n h ≡ take n edited
+    same_to n below = sym (take-take n at h below) ∙ ap (λ l. take n l) agree.events ∙ take-take n at edited below
+
     same : take (ready_count scan) h ≡ take (ready_count scan) edited
-    same = sym (take-take (ready_count scan) at h upto) ∙ ap (λ l. take (ready_count scan) l) agree.events ∙ take-take (ready_count scan) at edited upto
+    same = same_to (ready_count scan) upto
 
     alike : (k : ℕ) (event : Event) → IsEvent (take (ready_count scan) h) k event → kinds event.key ≡ other event.key
     alike k event stands =
@@ -141,12 +254,6 @@ pub record Settling (kinds : ℤ → Kind) (h : List Event) (first now : Scan) (
 pub ticked_most : (count more : ℕ) → ticked count more ≤ count + more
 ticked_most count zero = omega arith
 ticked_most count (suc more) = let rest = ticked_most count more in omega arith
-
--- the bad event is one of those that were taken in
-bad_taken : (kinds : ℤ → Kind) (h : List Event) (scan : Scan) (at : ℕ) (cause : Cause) → IsRight scan kinds h → scan.shape ≡ Bad at cause → at < ready_count scan
-bad_taken kinds h scan at cause right bad =
-    let was : IsShape kinds (take (ready_count scan) h) (Bad at cause) = subst (IsShape kinds (take (ready_count scan) h)) bad right.shaped in
-    (get_taken (ready_count scan) h at was.0.event was.0.stands).0
 
 -- no more is looked at than was taken in
 looked_most : (kinds : ℤ → Kind) (h : List Event) (scan : Scan) → IsRight scan kinds h → looked_at scan.shape (ready_count scan) ≤ ready_count scan
@@ -184,20 +291,7 @@ settling_next kinds h first now new before meter more settling good right count 
         let was : looked_at now.shape (ready_count now) ≡ ready_count now = ap (λ s. looked_at s (ready_count now)) good in
         omega arith
 
--- where the loop ends: all events are taken in, or one is bad
-abbrev pub IsOver : List Event → Scan → Type 0
-IsOver h scan = (length h ≤ ready_count scan) ⊎ (scan.shape ≢ Good)
-
--- and then the rest may be taken in
-pub settled_right : (kinds : ℤ → Kind) (h : List Event) (scan : Scan) → IsRight scan kinds h → IsOver h scan → IsRight (record scan { ready = length h }) kinds h
-settled_right kinds h scan right (inl all) = subst (λ n. IsRight (record scan { ready = n }) kinds h) (omega (arith, right.within)) right
-settled_right kinds h scan right (inr bad) = by scan.shape refl
-  where
-    by : (shape : Shape) → scan.shape ≡ shape → IsRight (record scan { ready = length h }) kinds h
-    by Good good = absurd (bad good)
-    by (Bad at cause) is = right_past kinds h scan (record scan { ready = length h }) at cause right is refl right.within (omega arith)
-
--- nothing more is looked at then
+-- and nothing more is looked at
 pub settled_looked : (kinds : ℤ → Kind) (h : List Event) (scan : Scan) → IsRight scan kinds h → IsOver h scan → looked_at scan.shape (ready_count scan) ≡ looked_at scan.shape (length h)
 settled_looked kinds h scan right (inl all) = ap (λ n. looked_at scan.shape n) (omega (arith, right.within))
 settled_looked kinds h scan right (inr bad) = by scan.shape refl

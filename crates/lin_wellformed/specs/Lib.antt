@@ -1,4 +1,2 @@
-pub mod WellFormed
-pub mod Alternation
 pub mod Tables
 pub mod Scans

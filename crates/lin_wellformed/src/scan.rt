@@ -1,19 +1,20 @@
 //! Well-formedness, kept up to date with a history that grows and is edited.
-ghost use Rattle.std.specs.Prelude.{◌≡◌, ◌+◌, ◌-◌, ◌<◌, ◌≤◌, ℤ, List, length, IfOk, OnOk, OnErr, IsOk};
+ghost use Rattle.std.specs.Prelude.{◌≡◌, ◌+◌, ◌-◌, ◌/◌, ◌<◌, ◌≤◌, min, ℤ, List, length, IfOk, OnOk, OnErr, IsOk};
 ghost use Rattle.lin_history.specs.declared.events.Event.{Event as EventOf};
+ghost use Rattle.lin_history.specs.Meters.{ticked};
 ghost use Rattle.lin_history.specs.Operations.{IsEvent};
+ghost use Rattle.lin_history.specs.WellFormed.{IsShape};
 ghost use Rattle.lin_objects.specs.declared.kinds.Kind.{Kind as KindOf};
-ghost use Rattle.lin_objects.specs.Kinds.{kind_of};
-ghost use Rattle.lin_wellformed.specs.Scans.{ready_count, IsRight, AgreeBefore, looked_at, ticked};
-ghost use Rattle.lin_wellformed.specs.WellFormed.{IsShape};
+ghost use Rattle.lin_objects.specs.Kinds.{kind_of, functions_of};
+ghost use Rattle.lin_wellformed.specs.Scans.{ready_count, IsRight, AgreeBefore, looked_at};
 
-use crate::shapes::Shape;
+use crate::statuses::first_cause;
 use crate::tables::Table;
-use lin_history::{Event, Meter, OutOfMemory};
+use lin_history::{Event, Meter, OutOfMemory, Shape, bad_positions, statuses_after_events};
 use lin_objects::Kinds;
 use std::alloc::Global;
 
-/// How far a history was looked through, and what was found: its first bad event, or what each process is after the events.
+/// How far a history was looked through, and what was found: its first bad event, if there is one, and what each process is after the events before that.
 #[derive(Drop)]
 pub struct Scan {
     ready: usize,
@@ -41,16 +42,31 @@ impl Scan {
         self.ready
     }
 
-    /// Forgets what depends on the events from the position on, and on their keys' kinds: they are about to change.
+    /// How many tables of processes are held: one, whatever was taken in, since `cut` takes events back in it.
+    pub fn kept(&self) -> usize
+        ensures tables { result ≡ 1 }
+        ensures few { result ≤ ready_count self.now / 64 + 2 }
+    {
+        1
+    }
+
+    /// Takes back the events from the position on: they, or the kinds of their keys, are about to change.
+    ///
+    /// The time is linear in the number of events that are taken back. It needs no memory.
     pub fn cut(&mut self, at: usize)
-        ensures back { at < ready_count self.old → ready_count self.new ≤ at }
+        ensures back { ready_count self.new ≡ min at (ready_count self.old) }
         ensures same { ready_count self.old ≤ at → self.new ≡ self.old }
         ensures right { (kinds other : ℤ → KindOf) (h edited : List EventOf) → IsRight self.old kinds h → AgreeBefore at kinds other h edited → IsRight self.new other edited }
     {
-        if at < self.ready {
-            self.ready = 0;
+        bad_positions();
+        if self.ready <= at {
+            return;
+        }
+        self.ready = at;
+        // The table ends where the bad event stands, if there is one.
+        if at <= self.table.count() {
             self.shape = Shape::Good;
-            self.table.clear();
+            self.table.cut(at);
         }
     }
 
@@ -65,7 +81,7 @@ impl Scan {
         meter: &mut Meter,
     ) -> Result<Shape, OutOfMemory>
         requires { IsRight self.old (kind_of kinds.now) events.now }
-        ensures shape { IfOk result (IsShape (kind_of kinds.now) events.now) }
+        ensures shape { IfOk result (IsShape (functions_of (kind_of kinds.now)) events.now) }
         ensures all { OnOk result (ready_count self.new ≡ length events.now) }
         ensures right { IsRight self.new (kind_of kinds.now) events.now }
         ensures no_less { ready_count self.old ≤ ready_count self.new }
@@ -74,6 +90,7 @@ impl Scan {
         ensures bounded { meter.new.scans ≤ meter.old.scans + (length events.now - ready_count self.old) }
         ensures others { (meter.new.steps ≡ meter.old.steps) × (meter.new.tries ≡ meter.old.tries) }
     {
+        bad_positions();
         while self.ready < events.len() && self.shape.is_good() {
             meter.tick_scan();
             self.take_in(&events[self.ready], kinds)?;
@@ -91,7 +108,9 @@ impl Scan {
         ensures right { OnOk result ((h : List EventOf) → IsRight self.old (kind_of kinds.now) h → IsEvent h (ready_count self.old) event.now → IsRight self.new (kind_of kinds.now) h) }
         ensures err { OnErr result (self.new ≡ self.old) }
     {
-        match self.table.status(event.process).first_cause(event, kinds) {
+        bad_positions();
+        statuses_after_events();
+        match first_cause(self.table.status(event.process), event, kinds) {
             Some(cause) => {
                 self.shape = Shape::Bad {
                     at: self.ready,

@@ -1,42 +1,62 @@
-//! What each process is, looked up in near-constant time.
-ghost use Rattle.std.specs.Prelude.{◌≡◌, ℕ, OnOk, OnErr, nat_eq, if◌then◌else◌};
-ghost use Rattle.lin_wellformed.specs.Tables.{status_in};
-ghost use Rattle.lin_wellformed.specs.WellFormed.{left_by};
+//! What each process is, looked up in near-constant time, and taken back event by event.
+ghost use Rattle.std.specs.Prelude.{◌≡◌, ◌+◌, ◌<◌, ◌≤◌, min, ℕ, OnOk, OnErr, nat_eq, if◌then◌else◌};
+ghost use Rattle.lin_history.specs.WellFormed.{left_by};
+ghost use Rattle.lin_wellformed.specs.Tables.{count_in, status_at};
 
-use crate::shapes::Status;
-use lin_history::{Event, OutOfMemory};
+use crate::statuses::status_after;
+use lin_history::{Event, OutOfMemory, Status};
 use std::alloc::Global;
 use std::collections::HashMap;
 use std::marker::Model;
 
-/// What each process is after some events.
+/// What one event changed: its process, and what that was before it.
+#[derive(Clone, Copy)]
+pub(crate) struct Change {
+    process: u64,
+    before: Status,
+}
+
+/// What each process is after some events, and what each of these events changed.
+///
+/// Every process that changed is listed, so that taking events back needs no memory.
 #[derive(Drop)]
 pub(crate) struct Table {
     processes: HashMap<u64, Status>,
+    changes: Vec<Change>,
 }
 
 impl Model for Table {
-    ghost use Rattle.std.specs.Prelude.{ℕ, List};
-    ghost use Rattle.lin_wellformed.specs.declared.shapes.Status.{Status as StatusOf};
+    ghost use Rattle.lin_wellformed.specs.Tables.{Statuses, AreListed};
 
-    ghost Value = { List (ℕ × StatusOf) };
+    ghost Value = { Statuses };
 
-    ghost view = { λ t. t.processes.entries };
+    ghost view = { λ t. record { listed = t.processes.entries; changes = t.changes.items } };
+
+    ghost invariant = { λ t. AreListed t.processes.entries t.changes.items };
 }
 
 impl Table {
     /// Before any event, each process is idle.
     pub(crate) fn new(alloc: Global) -> Table
-        ensures { (process : ℕ) → status_in result process ≡ Status.Idle }
+        ensures count { count_in result ≡ 0 }
+        ensures idle { (process : ℕ) → status_at result 0 process ≡ Status.Idle }
     {
         Table {
             processes: HashMap::new(alloc),
+            changes: Vec::new(alloc),
         }
     }
 
-    /// What the process is.
+    /// How many events were taken in.
+    pub(crate) fn count(&self) -> usize
+        ensures { result ≡ count_in self.now }
+    {
+        self.changes.len()
+    }
+
+    /// What the process is after all of them.
     pub(crate) fn status(&self, process: u64) -> Status
-        ensures { result ≡ status_in self.now process }
+        ensures { result ≡ status_at self.now (count_in self.now) process }
     {
         match self.processes.get(&process) {
             Some(status) => *status,
@@ -46,19 +66,46 @@ impl Table {
 
     /// One more event: its process is what the event leaves it as.
     pub(crate) fn take_in(&mut self, event: &Event) -> Result<(), OutOfMemory>
-        ensures ok { OnOk result ((process : ℕ) → status_in self.new process ≡ (if nat_eq event.now.process process then left_by event.now else status_in self.old process)) }
+        ensures count { OnOk result (count_in self.new ≡ count_in self.old + 1) }
+        ensures before { OnOk result ((k process : ℕ) → k ≤ count_in self.old → status_at self.new k process ≡ status_at self.old k process) }
+        ensures after { OnOk result ((process : ℕ) → status_at self.new (count_in self.old + 1) process ≡ (if nat_eq event.now.process process then left_by event.now else status_at self.old (count_in self.old) process)) }
         ensures err { OnErr result (self.new ≡ self.old) }
     {
-        match self.processes.insert(event.process, Status::after(event)) {
-            Ok(_) => Ok(()),
+        if self.changes.reserve(1).is_err() {
+            return Err(OutOfMemory);
+        }
+        match self.processes.insert(event.process, status_after(event)) {
+            Ok(before) => {
+                self.changes.push_reserved(Change {
+                    process: event.process,
+                    before: before.unwrap_or(Status::Idle),
+                });
+                Ok(())
+            }
             Err(_) => Err(OutOfMemory),
         }
     }
 
-    /// Each process is idle again; the memory is kept.
-    pub(crate) fn clear(&mut self)
-        ensures { (process : ℕ) → status_in self.new process ≡ Status.Idle }
+    /// Takes events back, the last one first, until no more than so many are left.
+    pub(crate) fn cut(&mut self, count: usize)
+        ensures count { count_in self.new ≡ min count (count_in self.old) }
+        ensures before { (k process : ℕ) → k ≤ count → status_at self.new k process ≡ status_at self.old k process }
     {
-        self.processes.clear();
+        while count < self.count() {
+            self.take_back();
+        }
+    }
+
+    /// Takes the last event back: its process is again what it was before it.
+    fn take_back(&mut self)
+        requires { 0 < count_in self.old }
+        ensures count { count_in self.new + 1 ≡ count_in self.old }
+        ensures before { (k process : ℕ) → k < count_in self.old → status_at self.new k process ≡ status_at self.old k process }
+    {
+        if let Some(change) = self.changes.pop() {
+            if let Some(status) = self.processes.get_mut(&change.process) {
+                *status = change.before;
+            }
+        }
     }
 }

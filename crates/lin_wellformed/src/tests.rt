@@ -1,4 +1,4 @@
-ghost use Rattle.std.specs.Prelude.{◌<◌, length};
+ghost use Rattle.std.specs.Prelude.{◌≡◌, ◌<◌, length, vec_len, IfOk};
 ghost use Rattle.lin_objects.specs.Kinds.{kind_of};
 ghost use Rattle.lin_wellformed.specs.Scans.{IsRight};
 
@@ -153,4 +153,115 @@ fn edits_settle(rt: &impl Abort, alloc: Global, kinds: &Kinds) -> Result<(), Fai
 fn an_edit_is_judged_as_from_scratch(rt: HostRuntime) -> Result<(), Fail> {
     let alloc = rt.alloc();
     edits_settle(&rt, alloc, &Kinds::new(alloc, Kind::Register))
+}
+
+/// So many events: each process reads once, and every tenth crashes.
+fn reads(alloc: Global, count: usize) -> Result<Vec<Event>, Fail>
+    ensures { IfOk result (λ history. vec_len history ≡ count) }
+{
+    let mut history = Vec::new(alloc);
+    for at in 0..count {
+        let process = at as u64 / 2;
+        history.push(if at % 2 == 0 {
+            invoke(process, 0, Call::Read)
+        } else if process % 10 == 9 {
+            info(process, 0, Name::Read)
+        } else {
+            ok(process, 0, Name::Read, Reply::Value(Val::Nil))
+        })?;
+    }
+    Ok(history)
+}
+
+/// How many scans it takes to settle again after a cut, which is as a new scan settles.
+fn scans_after_cut(
+    rt: &impl Abort,
+    alloc: Global,
+    kinds: &Kinds,
+    scan: &mut Scan,
+    history: &[Event],
+    at: usize,
+) -> Result<u64, Fail>
+    requires { IsRight scan.old (kind_of kinds.now) history.now }
+    ensures { IsRight scan.new (kind_of kinds.now) history.now }
+{
+    scan.cut(at);
+    assert_eq!(rt; scan.ready(), at);
+    let mut meter = Meter::new();
+    let shape = scan.settle(history, kinds, &mut meter)?;
+    let fresh = Scan::new(alloc).settle(history, kinds, &mut Meter::new())?;
+    assert_eq!(rt; shape, fresh);
+    assert_eq!(rt; scan.ready(), history.len());
+    Ok(meter.scans())
+}
+
+#[test]
+fn a_cut_takes_back_what_is_behind_it_alone(rt: HostRuntime) -> Result<(), Fail> {
+    let alloc = rt.alloc();
+    let kinds = Kinds::new(alloc, Kind::Register);
+    let history = reads(alloc, 200)?;
+    let mut scan = Scan::new(alloc);
+    assert!(rt; scan.settle(&history, &kinds, &mut Meter::new())?.is_good());
+    assert_eq!(rt;
+        scans_after_cut(&rt, alloc, &kinds, &mut scan, &history, 130)?,
+        70
+    );
+    assert_eq!(rt;
+        scans_after_cut(&rt, alloc, &kinds, &mut scan, &history, 199)?,
+        1
+    );
+    assert_eq!(rt;
+        scans_after_cut(&rt, alloc, &kinds, &mut scan, &history, 200)?,
+        0
+    );
+    assert_eq!(rt;
+        scans_after_cut(&rt, alloc, &kinds, &mut scan, &history, 0)?,
+        200
+    );
+    Ok(())
+}
+
+#[test]
+fn a_cut_may_leave_the_bad_event(rt: HostRuntime) -> Result<(), Fail> {
+    let alloc = rt.alloc();
+    let kinds = Kinds::new(alloc, Kind::Register);
+    let mut history = reads(alloc, 100)?;
+    history[70] = invoke(9, 0, Call::Read);
+    let bad = Shape::Bad {
+        at: 70,
+        cause: Cause::RetiredProcess,
+    };
+    let mut scan = Scan::new(alloc);
+    assert_eq!(rt; scan.settle(&history, &kinds, &mut Meter::new())?, bad);
+    assert_eq!(rt;
+        scans_after_cut(&rt, alloc, &kinds, &mut scan, &history, 90)?,
+        0
+    );
+    assert_eq!(rt;
+        scans_after_cut(&rt, alloc, &kinds, &mut scan, &history, 71)?,
+        0
+    );
+    assert_eq!(rt;
+        scans_after_cut(&rt, alloc, &kinds, &mut scan, &history, 70)?,
+        1
+    );
+    assert_eq!(rt;
+        scans_after_cut(&rt, alloc, &kinds, &mut scan, &history, 15)?,
+        56
+    );
+    Ok(())
+}
+
+#[test]
+fn few_tables_are_held(rt: HostRuntime) -> Result<(), Fail> {
+    let alloc = rt.alloc();
+    let kinds = Kinds::new(alloc, Kind::Register);
+    let history = reads(alloc, 1000)?;
+    let mut scan = Scan::new(alloc);
+    assert_eq!(rt; scan.kept(), 1);
+    assert!(rt; scan.settle(&history, &kinds, &mut Meter::new())?.is_good());
+    assert!(rt; scan.kept() <= 1000 / 64 + 2);
+    scan.cut(500);
+    assert!(rt; scan.kept() <= 500 / 64 + 2);
+    Ok(())
 }

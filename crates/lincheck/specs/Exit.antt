@@ -1,14 +1,17 @@
--- The exit status of a run, and the settings of a command line.
-use Rattle.std.specs.Prelude.{ℕ, Result, Ok, Err}
+-- The exit status of a run, and what a line has the program do.
+use Rattle.std.specs.Prelude.{◌≡◌, ◌≤◌, ℕ, List, Option, Some, None, Result, Ok, Err, false}
 use Rattle.clap.specs.declared.error.kind.ErrorKind.{ErrorKind}
 use Rattle.clap.specs.declared.error.kind.ErrorKind.TheVariants as kind
+use Rattle.lin_report.specs.Reports.{IsCheckRun}
+use Rattle.lin_report.specs.Verdicts.{IsVerifyRun}
 use Rattle.lin_report.specs.declared.answers.Status.{Status}
 use Rattle.lin_report.specs.declared.answers.Status.TheVariants.{Yes, No, Undecided, IllFormed, Refused}
 use Rattle.lin_report.specs.declared.faults.RunFault.{RunFault}
 use Rattle.lin_report.specs.declared.faults.RunFault.TheVariants.{ReadFailed, WriteFailed, OutOfMemory, TooMuch}
 use Rattle.lin_report.specs.declared.runs.Settings.{Settings}
+use Rattle.lincheck.specs.declared.endings.Ending.{Ending}
 use Rattle.lincheck.specs.declared.words.Line.{Line}
-use Rattle.lincheck.specs.declared.words.Line.TheVariants.{Verify}
+use Rattle.lincheck.specs.declared.words.Line.TheVariants.{Verify, Check}
 
 -- 0 for a yes, 1 for a no, 2 for undecided, 3 for ill-formed, 4 for refused input, 6 where memory or a device failed
 abbrev pub exit_status : Result Status RunFault → ℕ
@@ -28,6 +31,29 @@ refusal_status kind.DisplayHelp = 0
 refusal_status kind.OutOfMemory = 6
 refusal_status _ = 5
 
--- the settings of the line
-abbrev pub settings_of : Line → Settings
-settings_of (Verify settings file order) = settings
+-- the name of the line's file
+abbrev pub file_of : Line → List ℕ
+file_of (Verify settings file order) = file.now
+file_of (Check settings file) = file.now
+
+abbrev pub HasBudget : Settings → Type 0
+HasBudget settings = (1 ≤ settings.budget) × (settings.budget ≤ 1000000)
+
+-- a run can be made with the line's settings
+abbrev pub IsRunnable : Line → Type 0
+IsRunnable (Verify settings file order) = HasBudget settings
+IsRunnable (Check settings file) = HasBudget settings × (settings.keyed ≡ false)
+
+-- What the line says is done, with its settings: what is left of the file goes from the one to the other, and what is written too.
+abbrev pub IsRunOf : Line → Option (List ℕ) → Option (List ℕ) → Option (List ℕ) → Option (List ℕ) → Result Status RunFault → Type 0
+IsRunOf (Verify settings file order) old new before after outcome = IsVerifyRun settings order.now old new before after outcome
+IsRunOf (Check settings file) old new before after outcome = IsCheckRun settings old new before after outcome
+
+abbrev pub fault_of_run : Result Status RunFault → Option RunFault
+fault_of_run (Ok status) = None
+fault_of_run (Err fault) = Some fault
+
+-- the program ends with the exit status of a run of the line, and tells why that ended early, if it did
+abbrev pub IsEndingOf : Line → Option (List ℕ) → Option (List ℕ) → Option (List ℕ) → Option (List ℕ) → Ending → Type 0
+IsEndingOf line old new before after ending =
+    (outcome : Result Status RunFault) × IsRunOf line old new before after outcome × (ending.status ≡ exit_status outcome) × (ending.fault ≡ fault_of_run outcome)

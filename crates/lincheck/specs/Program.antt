@@ -1,16 +1,18 @@
 -- The command line, as `clap` defines it for this program.
-use Rattle.std.specs.Prelude.{◌≡◌, ◌⊎◌, Bool, List, [], ◌∷◌, Some, None, Option, option_map, map, true, false, codes, if◌then◌else◌}
+use Rattle.std.specs.Prelude.{◌≡◌, ◌⊎◌, ℕ, Bool, List, [], ◌∷◌, Some, None, Option, option_map, map, true, false, codes, if◌then◌else◌}
 use Rattle.std.specs.Str.{bytes_eq}
-use Rattle.clap.specs.Words.{App, Rule, Row, Text, new_app, new_rule, with_rule, with_subcommand, first_of, subcommand_of, HasKind, fault_of, kind_of}
+use Rattle.std.specs.Str.Parse.{digits_value, without_leading_plus}
+use Rattle.clap.specs.Words.{App, Rule, Row, Text, new_app, new_rule, with_rule, with_subcommand, first_of, subcommand_of, HasKind, fault_of, kind_of, IsUnsignedIn}
 use Rattle.clap.specs.declared.builder.action.ArgAction.TheVariants.{Set, SetTrue}
 use Rattle.clap.specs.declared.builder.value_parser.ValueParser.{ValueParser}
-use Rattle.clap.specs.declared.builder.value_parser.ValueParser.TheVariants.{Names}
+use Rattle.clap.specs.declared.builder.value_parser.ValueParser.TheVariants.{Names, Unsigned}
 use Rattle.clap.specs.declared.error.Error.{Error}
 use Rattle.clap.specs.declared.error.kind.ErrorKind.TheVariants.{OutOfMemory}
 use Rattle.lin_objects.specs.declared.kinds.Kind.{Kind}
 use Rattle.lin_objects.specs.declared.kinds.Kind.TheVariants.{Register, CasRegister, Fifo, Set as SetKind, Mutex}
+use Rattle.lin_report.specs.declared.runs.Settings.{Settings}
 use Rattle.lincheck.specs.declared.words.Line.{Line}
-use Rattle.lincheck.specs.declared.words.Line.TheVariants.{Verify}
+use Rattle.lincheck.specs.declared.words.Line.TheVariants.{Verify, Check}
 
 -- the words for the kinds
 abbrev pub kind_words : List Text
@@ -34,15 +36,25 @@ file_rule = record (new_rule (codes "file")) { value_names = 1; action = Some Se
 abbrev pub order_rule : Rule
 order_rule = record (new_rule (codes "order")) { value_names = 1; action = Some Set; required = true }
 
+-- the number that the text spells, with or without a `+` before its digits, where it is 1 to 1,000,000
+abbrev pub IsBudget : Text → ℕ → Type 0
+IsBudget text n = IsUnsignedIn 1 1000000 text × (n ≡ digits_value 10 (without_leading_plus text))
+
+abbrev pub budget_rule : Rule
+budget_rule = record (new_rule (codes "budget")) { value_names = 1; long = Some (codes "budget"); action = Some Set; defaults = codes "65536" ∷ []; parser = Some (Unsigned 1 1000000) }
+
 abbrev pub verify_app : ValueParser → App
 verify_app parser = with_rule (with_rule (with_rule (with_rule (new_app (codes "verify")) file_rule) order_rule) (kind_rule parser)) keyed_rule
+
+abbrev pub check_app : ValueParser → App
+check_app parser = with_rule (with_rule (with_rule (new_app (codes "check")) file_rule) (kind_rule parser)) budget_rule
 
 abbrev pub required : App → App
 required a = record a { top = record a.top { subcommand_required = true } }
 
--- the program, with its one command
+-- the program, with its two commands
 abbrev pub program_app : ValueParser → App
-program_app parser = with_subcommand (required (new_app (codes "lincheck"))) (verify_app parser).top
+program_app parser = with_subcommand (with_subcommand (required (new_app (codes "lincheck"))) (verify_app parser).top) (check_app parser).top
 
 -- the kind that a word names
 abbrev pub kind_of_word : Text → Kind
@@ -58,19 +70,38 @@ abbrev pub is_given : Option Text → Bool
 is_given None = false
 is_given (Some word) = bytes_eq word (codes "true")
 
--- the line has the file, the order and the settings that the matches of `verify` name
-abbrev pub IsVerifyLine : List Row → Line → Type 0
-IsVerifyLine rows (Verify settings file order) = (first_of (codes "file") rows ≡ Some file.now) × (first_of (codes "order") rows ≡ Some order.now)
-    × (option_map kind_of_word (first_of (codes "kind") rows) ≡ Some settings.kind) × (settings.keyed ≡ is_given (first_of (codes "keyed") rows)) × (settings.budget ≡ 65536)
+-- the kind is the one that the matches name
+abbrev pub HasKindOf : List Row → Settings → Type 0
+HasKindOf rows settings = option_map kind_of_word (first_of (codes "kind") rows) ≡ Some settings.kind
+
+-- The line is what a command and its matches say: `verify` with a file, an order, a kind, and whether values are keyed; or `check`
+-- with a file, a kind and a budget.
+abbrev pub Says : Text × List Row → Line → Type 0
+Says found (Verify settings file order) =
+    (found.0 ≡ codes "verify") × (first_of (codes "file") found.1 ≡ Some file.now) × (first_of (codes "order") found.1 ≡ Some order.now)
+    × HasKindOf found.1 settings × (settings.keyed ≡ is_given (first_of (codes "keyed") found.1)) × (settings.budget ≡ 65536)
+Says found (Check settings file) =
+    (found.0 ≡ codes "check") × (first_of (codes "file") found.1 ≡ Some file.now) × HasKindOf found.1 settings × (settings.keyed ≡ false)
+    × ((text : Text) × (first_of (codes "budget") found.1 ≡ Some text) × IsBudget text settings.budget)
+
+-- the matches name no value
+abbrev pub Lacks : List Row → Text → Type 0
+Lacks rows name = first_of name rows ≡ None
 
 -- the matches of `verify` lack a file, an order or a kind
-abbrev pub IsLacking : List Row → Type 0
-IsLacking rows = (first_of (codes "file") rows ≡ None) ⊎ (first_of (codes "order") rows ≡ None) ⊎ (first_of (codes "kind") rows ≡ None)
+abbrev pub LacksForVerify : List Row → Type 0
+LacksForVerify rows = Lacks rows (codes "file") ⊎ Lacks rows (codes "order") ⊎ Lacks rows (codes "kind")
+
+-- the matches of `check` lack a file, a kind or a budget
+abbrev pub LacksForCheck : List Row → Type 0
+LacksForCheck rows = Lacks rows (codes "file") ⊎ Lacks rows (codes "kind")
+    ⊎ ((text : Text) (n : ℕ) → first_of (codes "budget") rows ≡ Some text → IsBudget text n → ⊥)
 
 -- memory ran out, or the error is one that `clap` defines for the program at these words
 abbrev pub IsRefusalOf : List Text → Error → Type 0
 IsRefusalOf words e = (kind_of e ≡ OutOfMemory) ⊎ ((parser : ValueParser) × IsKindParser parser × HasKind (fault_of (program_app parser) words) e)
 
--- the line is what `clap` defines for the program from these words, the program's name first
+-- the line is what `clap` defines for the program from these words, the program's name first, and they have no fault there
 abbrev pub IsLineOf : List Text → Line → Type 0
-IsLineOf words line = (parser : ValueParser) × IsKindParser parser × (found : Text × List Row) × (subcommand_of (program_app parser) words ≡ Some found) × IsVerifyLine found.1 line
+IsLineOf words line = (parser : ValueParser) × IsKindParser parser × (fault_of (program_app parser) words ≡ [])
+    × (found : Text × List Row) × (subcommand_of (program_app parser) words ≡ Some found) × Says found line

@@ -1,11 +1,13 @@
 //! The command line as `clap` knows it.
-ghost use Rattle.std.specs.Prelude.{◌≡◌, IfOk, IfSome, IfNone, true, false, option_map};
+ghost use Rattle.std.specs.Prelude.{◌≡◌, ℕ, codes, IfOk, IfSome, IfNone, true, false, option_map};
 ghost use Rattle.clap.specs.Words.{app_of, first_of, found_of, rows_of, rule_of};
-ghost use Rattle.clap.specs.declared.builder.value_parser.ValueParser.{ValueParser};
+ghost use Rattle.clap.specs.declared.builder.value_parser.ValueParser.{ValueParser as ParserOf};
+ghost use Rattle.clap.specs.declared.builder.value_parser.ValueParser.TheVariants.{Names};
 ghost use Rattle.clap.specs.declared.builder.command.Command.TheViews.{out-Command as fields_of};
-ghost use Rattle.lincheck.specs.Program.{file_rule, keyed_rule, kind_of_word, kind_rule, order_rule, program_app, verify_app, is_given as given, IsKindParser, IsVerifyLine, IsLacking};
+ghost use Rattle.lincheck.specs.Program.{budget_rule, check_app, file_rule, keyed_rule, kind_of_word, kind_rule, order_rule, program_app, verify_app, is_given as given, IsBudget, IsKindParser, LacksForCheck, LacksForVerify, Says};
 
 use crate::words::Line;
+use clap::builder::ValueParser;
 use clap::{Arg, ArgAction, ArgMatches, Command};
 use lin_objects::Kind;
 use lin_report::Settings;
@@ -16,8 +18,18 @@ const KINDS: [&str; 5] = ["register", "cas-register", "fifo", "set", "mutex"];
 /// The budget where none is named.
 const BUDGET: u32 = 65_536;
 
-fn kind_option<'a>(alloc: Global) -> Arg<'a>
-    ensures rule { (parser : ValueParser) × IsKindParser parser × (rule_of result ≡ kind_rule parser) }
+/// The greatest budget.
+const MOST_BUDGET: u32 = 1_000_000;
+
+/// The words of `KINDS`.
+fn kind_words<'a>() -> &'a [&'a str]
+    ensures { IsKindParser (Names result) }
+{
+    KINDS.as_slice()
+}
+
+fn kind_option<'a>(alloc: Global, kinds: &'a [&'a str]) -> Arg<'a>
+    ensures rule { rule_of result ≡ kind_rule (Names kinds.entry) }
     ensures local { (result.required ≡ false) × (result.global ≡ false) }
 {
     Arg::new(alloc, "kind")
@@ -25,8 +37,21 @@ fn kind_option<'a>(alloc: Global) -> Arg<'a>
         .value_name("KIND")
         .help("What the objects are")
         .action(ArgAction::Set)
-        .value_parser(KINDS.as_slice())
+        .value_parser(kinds)
         .default_value("register")
+}
+
+fn budget_option<'a>(alloc: Global) -> Arg<'a>
+    ensures rule { rule_of result ≡ budget_rule }
+    ensures local { (result.required ≡ false) × (result.global ≡ false) }
+{
+    Arg::new(alloc, "budget")
+        .long("budget")
+        .value_name("N")
+        .help("How many configurations are kept for one object")
+        .action(ArgAction::Set)
+        .value_parser(ValueParser::unsigned(1, 1_000_000))
+        .default_value("65536")
 }
 
 fn keyed_option<'a>(alloc: Global) -> Arg<'a>
@@ -61,26 +86,39 @@ fn order_argument<'a>(alloc: Global) -> Arg<'a>
         .action(ArgAction::Set)
 }
 
-fn verify_command<'a>(alloc: Global) -> Result<Command<'a>, AllocError>
-    ensures app { IfOk result (λ command. (parser : ValueParser) × IsKindParser parser × (app_of command ≡ verify_app parser)) }
+fn verify_command<'a>(alloc: Global, kinds: &'a [&'a str]) -> Result<Command<'a>, AllocError>
+    ensures app { IfOk result (λ command. app_of command ≡ verify_app (Names kinds.entry)) }
     ensures local { IfOk result (λ command. (fields_of command).has_globals ≡ false) }
 {
     Command::new(alloc, "verify")
         .about("Tells whether ORDER is a legal order of the history in FILE")
         .arg(file_argument(alloc))?
         .arg(order_argument(alloc))?
-        .arg(kind_option(alloc))?
+        .arg(kind_option(alloc, kinds))?
         .arg(keyed_option(alloc))
+}
+
+fn check_command<'a>(alloc: Global, kinds: &'a [&'a str]) -> Result<Command<'a>, AllocError>
+    ensures app { IfOk result (λ command. app_of command ≡ check_app (Names kinds.entry)) }
+    ensures local { IfOk result (λ command. (fields_of command).has_globals ≡ false) }
+{
+    Command::new(alloc, "check")
+        .about("Tells whether the history in FILE is linearizable")
+        .arg(file_argument(alloc))?
+        .arg(kind_option(alloc, kinds))?
+        .arg(budget_option(alloc))
 }
 
 /// The whole program's command.
 pub fn program<'a>(alloc: Global) -> Result<Command<'a>, AllocError>
-    ensures { IfOk result (λ command. (parser : ValueParser) × IsKindParser parser × (app_of command ≡ program_app parser)) }
+    ensures { IfOk result (λ command. (parser : ParserOf) × IsKindParser parser × (app_of command ≡ program_app parser)) }
 {
+    let kinds = kind_words();
     Command::new(alloc, "lincheck")
         .about("Checks recorded histories for linearizability")
         .subcommand_required(true)
-        .subcommand(verify_command(alloc)?)
+        .subcommand(verify_command(alloc, kinds)?)?
+        .subcommand(check_command(alloc, kinds)?)
 }
 
 /// The kind that a word of `KINDS` names.
@@ -113,10 +151,21 @@ fn is_given(text: Option<&str>) -> bool
     }
 }
 
+/// The budget that a text spells, where it is one.
+fn budget_of(text: &str) -> Option<u32>
+    ensures some { IfSome result (IsBudget text.now) }
+    ensures none { IfNone result ((n : ℕ) → IsBudget text.now n → ⊥) }
+{
+    match text.parse::<u32>() {
+        Ok(budget) if 1 <= budget && budget <= MOST_BUDGET => Some(budget),
+        _ => None,
+    }
+}
+
 /// What the arguments of `verify` say; none where `clap` found no file, order or kind, which it requires.
-pub fn verify_line<'a>(matches: &ArgMatches<'a>) -> Option<Line<'a>>
-    ensures some { IfSome result (IsVerifyLine (rows_of (found_of matches.now))) }
-    ensures none { IfNone result (IsLacking (rows_of (found_of matches.now))) }
+fn verify_line<'a>(matches: &ArgMatches<'a>) -> Option<Line<'a>>
+    ensures some { IfSome result (Says (codes "verify", rows_of (found_of matches.now))) }
+    ensures none { IfNone result (LacksForVerify (rows_of (found_of matches.now))) }
 {
     let Some(file) = text_of(matches, "file") else {
         return None;
@@ -133,4 +182,40 @@ pub fn verify_line<'a>(matches: &ArgMatches<'a>) -> Option<Line<'a>>
         budget: BUDGET,
     };
     Some(Line::Verify(settings, file, order))
+}
+
+/// What the arguments of `check` say; none where `clap` found no file, kind or budget, which it requires.
+fn check_line<'a>(matches: &ArgMatches<'a>) -> Option<Line<'a>>
+    ensures some { IfSome result (Says (codes "check", rows_of (found_of matches.now))) }
+    ensures none { IfNone result (LacksForCheck (rows_of (found_of matches.now))) }
+{
+    let Some(file) = text_of(matches, "file") else {
+        return None;
+    };
+    let Some(kind) = text_of(matches, "kind") else {
+        return None;
+    };
+    let Some(budget) = text_of(matches, "budget") else {
+        return None;
+    };
+    let Some(budget) = budget_of(budget) else {
+        return None;
+    };
+    let settings = Settings {
+        kind: kind_named(kind),
+        keyed: false,
+        budget,
+    };
+    Some(Line::Check(settings, file))
+}
+
+/// What a command and its arguments say.
+pub fn line_of<'a>(command: &str, matches: &ArgMatches<'a>) -> Option<Line<'a>>
+    ensures { IfSome result (Says (command.now, rows_of (found_of matches.now))) }
+{
+    match command {
+        "verify" => verify_line(matches),
+        "check" => check_line(matches),
+        _ => None,
+    }
 }

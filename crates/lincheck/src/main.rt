@@ -2,87 +2,57 @@
 #![tactic(auto)]
 
 ghost use Rattle.std.specs.Prelude.{◌≡◌, IfOk, IfErr, map};
-ghost use Rattle.clap.specs.Words.{kind_of};
-ghost use Rattle.lincheck.specs.Exit.{exit_status, refusal_status, settings_of};
+ghost use Rattle.lincheck.specs.Exit.{IsRunnable};
 ghost use Rattle.lincheck.specs.Program.{IsLineOf, IsRefusalOf};
 
 mod command;
+mod endings;
 mod words;
 
 use clap::Error;
-use clap::error::ErrorKind;
-use lin_report::{Counted, RunFault, Status, verify};
+pub use endings::{Ending, exit_of, exit_of_refusal, run};
+use endings::{FAILED, LINE_REFUSED};
+use lin_report::Counted;
 use std::alloc::{AllocError, Global};
 use std::fs::File;
 use std::process::ExitCode;
 use std::{env, io};
 pub use words::Line;
 
-/// The exit status where the command line is refused.
-const LINE_REFUSED: u8 = 5;
-
-/// The exit status where memory or a device failed, or a file can't be opened.
-const FAILED: u8 = 6;
-
 /// What a command line says, the program's name first.
 ///
 /// Errors: what `clap` refuses, a request for help among it, and want of memory.
 pub fn line<'a>(alloc: Global, words: &'a [&'a str]) -> Result<Line<'a>, Error>
-    // A line is what `clap` defines.
+    // A line is what `clap` defines, and the words have no fault there.
     ensures understood { IfOk result (IsLineOf (map (λ w. w.now) words.entry.now)) }
     // Words that `clap`'s definition takes are refused for want of memory alone, others as it defines.
     ensures refused { IfErr result (IsRefusalOf (map (λ w. w.now) words.entry.now)) }
 {
     let matches = command::program(alloc)?.try_get_matches_from(words)?;
-    let Some((_name, inner)) = matches.subcommand() else {
+    let Some((name, inner)) = matches.subcommand() else {
         return Err(Error::from(AllocError));
     };
-    match command::verify_line(inner) {
+    match command::line_of(name, inner) {
         Some(line) => Ok(line),
         None => Err(Error::from(AllocError)),
     }
 }
 
-/// The exit status of a run: 0 yes, 1 no, 2 undecided, 3 ill-formed, 4 refused, 6 where memory or a device failed.
-pub fn exit_of(outcome: &Result<Status, RunFault>) -> u8
-    ensures { result ≡ exit_status outcome.now }
-{
-    match outcome {
-        Ok(Status::Yes) => 0,
-        Ok(Status::No) => 1,
-        Ok(Status::Undecided) => 2,
-        Ok(Status::IllFormed) => 3,
-        Ok(Status::Refused) | Err(RunFault::TooMuch) => 4,
-        Err(_) => FAILED,
-    }
-}
-
-/// The exit status where `clap` gives no line: 0 where help was asked for.
-fn exit_of_error(error: &Error) -> u8
-    ensures { result ≡ refusal_status (kind_of error.now) }
-{
-    match error.kind() {
-        ErrorKind::DisplayHelp => 0,
-        ErrorKind::OutOfMemory => FAILED,
-        _ => LINE_REFUSED,
-    }
-}
-
+/// Opens the line's file, runs, and tells why the run ended early, if it did.
 fn run_line(rt: HostRuntime, line: Line) -> u8
-    requires { (settings_of line).budget ≡ 65536 }
+    requires { IsRunnable line }
 {
-    let Line::Verify(settings, path, order) = line;
+    let path = line.path();
     let Ok(file) = File::open(&rt, path) else {
         let _printed = println!(rt; "lincheck: cannot open {path}");
         return FAILED;
     };
-    let mut file = Counted::new(file);
     let mut out = Counted::new(io::writer(&rt));
-    let outcome = verify(rt.alloc(), settings, &mut file, order.as_bytes(), &mut out);
-    if let Err(fault) = &outcome {
+    let ending = run(rt.alloc(), line, &mut Counted::new(file), &mut out);
+    if let Some(fault) = ending.fault {
         let _printed = println!(rt; "lincheck: {fault}");
     }
-    exit_of(&outcome)
+    ending.status
 }
 
 /// Tells that memory was refused.
@@ -105,10 +75,8 @@ fn run_words(rt: HostRuntime, words: &[&str]) -> u8 {
     match line(rt.alloc(), words) {
         Ok(line) => run_line(rt, line),
         Err(error) => {
-            if println!(rt; "{error}").is_err() {
-                return FAILED;
-            }
-            exit_of_error(&error)
+            let is_told = println!(rt; "{error}").is_ok();
+            exit_of_refusal(&error, is_told)
         }
     }
 }

@@ -1,47 +1,28 @@
 //! Command lines, and the statuses with which they end.
-use crate::{Line, exit_of_error, line};
+use crate::{Ending, Line, exit_of_refusal, line, run};
 use lin_objects::Kind;
+use lin_report::{Counted, Settings};
 use std::test::Fail;
 
-#[test]
-fn lines_that_are_understood(rt: HostRuntime) -> Result<(), Fail> {
-    let plain = ["lincheck", "verify", "a.edn", "0=done 1=1"];
-    let Line::Verify(settings, file, order) = line(rt.alloc(), plain.as_slice())?;
-    assert_eq!(rt; settings.kind, Kind::Register);
-    assert_eq!(rt; settings.keyed, false);
-    assert_eq!(rt; settings.budget, 65_536);
-    assert_eq!(rt; file, "a.edn");
-    assert_eq!(rt; order, "0=done 1=1");
-    for (word, kind) in [
-        ("register", Kind::Register),
-        ("cas-register", Kind::CasRegister),
-        ("fifo", Kind::Fifo),
-        ("set", Kind::Set),
-        ("mutex", Kind::Mutex),
-    ] {
-        let words = [
-            "lincheck", "verify", "--keyed", "--kind", word, "a.edn", "empty",
-        ];
-        let Line::Verify(settings, file, order) = line(rt.alloc(), words.as_slice())?;
-        assert_eq!(rt; settings.kind, kind, "{word}");
-        assert_eq!(rt; settings.keyed, true);
-        assert_eq!(rt; file, "a.edn");
-        assert_eq!(rt; order, "empty");
+fn plain(kind: Kind) -> Settings {
+    Settings {
+        kind,
+        keyed: false,
+        budget: 65_536,
     }
-    Ok(())
 }
 
 /// The status with which the program ends where the words give no line.
 fn refused(rt: &HostRuntime, words: &[&str]) -> Option<u8> {
     match line(rt.alloc(), words) {
         Ok(_) => None,
-        Err(error) => Some(exit_of_error(&error)),
+        Err(error) => Some(exit_of_refusal(&error, true)),
     }
 }
 
 #[test]
 fn lines_that_are_refused(rt: HostRuntime) {
-    let faults: [(&[&str], u8); 10] = [
+    let faults: [(&[&str], u8); 12] = [
         (&["lincheck"], 5),
         (&["lincheck", "frob"], 5),
         (&["lincheck", "verify"], 5),
@@ -58,9 +39,69 @@ fn lines_that_are_refused(rt: HostRuntime) {
         ),
         (&["lincheck", "--help"], 0),
         (&["lincheck", "help"], 0),
+        (&["lincheck", "verify", "--help"], 0),
+        (&["lincheck", "check", "--help"], 0),
     ];
     for (words, status) in &faults {
         assert_eq!(rt; refused(&rt, words), Some(*status), "{words:?}");
     }
-    assert_eq!(rt; refused(&rt, &["lincheck", "verify", "--help"]), Some(0));
+}
+
+#[test]
+fn lines_of_check_that_are_refused(rt: HostRuntime) {
+    let faults: [&[&str]; 11] = [
+        &["lincheck", "check"],
+        &["lincheck", "check", "a.edn", "empty"],
+        &["lincheck", "check", "--keyed", "a.edn"],
+        &["lincheck", "check", "--kind", "stack", "a.edn"],
+        &["lincheck", "check", "--budget", "0", "a.edn"],
+        &["lincheck", "check", "--budget", "1000001", "a.edn"],
+        &["lincheck", "check", "--budget", "4294967297", "a.edn"],
+        &["lincheck", "check", "--budget", "-1", "a.edn"],
+        &["lincheck", "check", "--budget", "ten", "a.edn"],
+        &["lincheck", "check", "--budget", "", "a.edn"],
+        &["lincheck", "check", "a.edn", "--budget"],
+    ];
+    for words in &faults {
+        assert_eq!(rt; refused(&rt, words), Some(5), "{words:?}");
+    }
+}
+
+#[test]
+fn what_could_not_be_told_failed(rt: HostRuntime) {
+    for words in [["lincheck", "frob"], ["lincheck", "--help"]] {
+        match line(rt.alloc(), words.as_slice()) {
+            Ok(_) => assert!(rt; false, "{words:?}"),
+            Err(error) => assert_eq!(rt; exit_of_refusal(&error, false), 6),
+        }
+    }
+}
+
+#[test]
+fn runs_end_as_the_line_says(rt: HostRuntime) -> Result<(), Fail> {
+    let file = b"#{} {:process".as_slice();
+    let mut printed = Vec::new(rt.alloc());
+    let refused = Ending {
+        status: 4,
+        fault: None,
+    };
+    let verified = Line::Verify(plain(Kind::Mutex), "a.edn", "0=done");
+    let ending = run(
+        rt.alloc(),
+        verified,
+        &mut Counted::new(file),
+        &mut Counted::new(&mut printed),
+    );
+    assert_eq!(rt; ending, refused);
+    let checked = Line::Check(plain(Kind::Mutex), "a.edn");
+    let ending = run(
+        rt.alloc(),
+        checked,
+        &mut Counted::new(file),
+        &mut Counted::new(&mut printed),
+    );
+    assert_eq!(rt; ending, refused);
+    let lines = b"refused input event 1 NotAMap at 0\nrefused input event 1 NotAMap at 0\n";
+    assert!(rt; printed.as_slice() == lines.as_slice());
+    Ok(())
 }

@@ -1,11 +1,12 @@
-use Rattle.std.proofs.Common.{ap, sym, subst, map, refl, ◌≡◌, ◌∙◌, true, inl, inr, Result, Ok, Err}
+use Rattle.std.proofs.Common.{List, [], ap, sym, subst, map, refl, ◌≡◌, ◌∙◌, true, inl, inr, Result, Ok, Err}
 use Rattle.std.specs.Result.{IfErr, IsErrAnd}
-use Rattle.clap.specs.Words.{App, found_of, is_simple, is_simple_and_free, rows_of, subcommand_of, subcommand_rows_of, fault_of, HasKind}
+use Rattle.clap.specs.Words.{App, Row, Text, found_of, is_simple, is_simple_and_free, rows_of, subcommand_of, subcommand_rows_of, fault_of, HasKind}
 use Rattle.clap.specs.declared.builder.value_parser.ValueParser.{ValueParser}
 use Rattle.clap.specs.declared.error.Error.{Error}
 use Rattle.clap.proofs.OnLiterals.{clap_on_literals}
-use Rattle.lincheck.specs.Program.{program_app, IsVerifyLine}
-use Rattle.lincheck.proofs.Found.{pair_behind}
+use Rattle.lincheck.specs.Program.{program_app}
+use Rattle.clap.specs.declared.parser.matches.ArgMatches.TheViews.{out-ArgMatches}
+use Rattle.lincheck.proofs.Found.{mapped_twice, pair_behind}
 use Rattle.lincheck.proofs.line.Goals as goal
 
 plain : (parser : ValueParser) → is_simple (program_app parser) ≡ true
@@ -16,13 +17,17 @@ free : (parser : ValueParser) → is_simple_and_free (program_app parser) ≡ tr
 unfolding clap_on_literals
 free parser = refl
 
-pub returns-in-Some-verify_line-clause-understood : goal.returns-in-Some-verify_line-clause-understood
-returns-in-Some-verify_line-clause-understood c =
+pub returns-in-Some-line_of-clause-understood : goal.returns-in-Some-line_of-clause-understood
+returns-in-Some-line_of-clause-understood c =
     let parser = c.in_ok-program.ensures.0 in
     let app_is = c.in_ok-program.ensures.2 in
-    let rows = (c.in_ok-matches.ensures.matches (ap is_simple app_is ∙ plain parser)).1 ∙ ap (λ (a : App). subcommand_of a (map (λ w. w.now) c.args.words.now)) app_is in
-    let found = pair_behind (subcommand_rows_of c.in_ok-matches.matches) (rows_of (found_of c.in-Some.inner.now)) c.in-Some.ensures.rows in
-    (parser, c.in_ok-program.ensures.1, found.0, sym rows ∙ found.1, subst (λ r. IsVerifyLine r c.in-Some-verify_line.line) (sym found.2) c.in-Some-verify_line.ensures.some)
+    let words = map (λ w. w.now) c.args.words.now in
+    let rows = (c.in_ok-matches.ensures.matches (ap is_simple app_is ∙ plain parser)).1 ∙ ap (λ (a : App). subcommand_of a words) app_is in
+    let name = c.in-Some.ensures.name ∙ mapped_twice _ (λ (p : Text × List Row). p.0) (out-ArgMatches c.in_ok-matches.matches).subcommand in
+    let found = pair_behind (subcommand_rows_of c.in_ok-matches.matches) c.in-Some.name.now (rows_of (found_of c.in-Some.inner.now)) name c.in-Some.ensures.rows in
+    let kinds = c.in_ok-matches.ensures.kinds (ap is_simple_and_free app_is ∙ free parser) in
+    let none : fault_of (program_app parser) words ≡ [] = subst (λ (a : App). fault_of a words ≡ []) app_is kinds in
+    (parser, c.in_ok-program.ensures.1, none, (c.in-Some.name.now, rows_of (found_of c.in-Some.inner.now)), sym rows ∙ found, c.in-Some-line_of.ensures)
 
 err_if : {A B : Type 0} (r : Result A B) (P Q : B → Type 0) → ((e : B) → P e → Q e) → IsErrAnd r P → IfErr r Q
 err_if (Ok x) P Q f h = tt

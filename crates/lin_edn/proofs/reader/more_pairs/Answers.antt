@@ -8,8 +8,7 @@ use Rattle.lin_edn.proofs.reader.more_pairs.Goals as goal
 pub returns-then-next-at : goal.returns-then-next-at
 returns-then-next-at c =
     let s = c.args.input.now in
-    let begun = rw c.deref.ensures.value at c.begun_at.ensures in
-    let e : c.begun_at.result ≡ outermost c.args.at (frames_of c.args.stack.now.items) = begun s in
+    let e : c.outermost.result ≡ outermost c.args.at (frames_of c.args.stack.now.items) = rw c.deref.ensures.value at c.outermost.ensures in
     let short = c.window-end.ensures.short in
     let within = c.window-end.ensures.within in
     let below : c.in_ok-next.next ≤ c.window-end.result = c.in_ok-next.ensures.1 in
@@ -20,8 +19,7 @@ returns c =
     let s = c.args.input.now in
     let at = c.args.at in
     let st = frames_of c.pairs_on_top.new.stack.items in
-    let begun = rw c.deref.ensures.value at c.begun_at.ensures in
-    let e : c.begun_at.result ≡ outermost at (frames_of c.args.stack.now.items) = begun s in
+    let e : c.outermost.result ≡ outermost at (frames_of c.args.stack.now.items) = rw c.deref.ensures.value at c.outermost.ensures in
     let short = c.window-end.ensures.short in
     let from : at ≤ c.in_ok-next.next = c.in_ok-next.ensures.0 in
     let here : c.in_ok-next.next ≡ at = omega arith in

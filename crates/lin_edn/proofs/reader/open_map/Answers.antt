@@ -16,35 +16,30 @@ pub returns-then-is_over : goal.returns-then-is_over
 returns-then-is_over c =
     let s = c.args.input.now in
     let st = frames_of c.args.stack.now.items in
-    let begun = rw c.deref.ensures.value at c.begun_at-begun.ensures in
-    let e : c.begun_at-begun.result ≡ outermost c.args.at st = begun s in
-    let over : true ≡ nat_le (c.begun_at-begun.result + longest) c.args.at = c.if-is_over.ensures in
+    let e : c.outermost-begun.result ≡ outermost c.args.at st = rw c.deref.ensures.value at c.outermost-begun.ensures in
+    let over : true ≡ nat_le (c.outermost-begun.result + longest) c.args.at = c.if-is_over.ensures in
     over_here s c.args.at st c.requires.inside (ap (λ b. nat_le (b + longest) c.args.at) (sym e) ∙ sym over) ∙ ap too_long (sym e)
 
 pub returns-then-depth-ge-DEEPEST : goal.returns-then-depth-ge-DEEPEST
 returns-then-depth-ge-DEEPEST c =
     let s = c.args.input.now in
     let st = frames_of c.args.stack.now.items in
-    let begun = rw c.deref.ensures.value at c.begun_at-begun.ensures in
-    let e : c.begun_at-begun.result ≡ outermost c.args.at st = begun s in
-    let short : c.args.at < c.begun_at-begun.result + longest = under _ _ c.if-is_over.ensures in
-    let depth = rw c.deref-2.ensures.value at c.depth.ensures in
-    let d : c.depth.result ≡ length st = depth in
+    let e : c.outermost-begun.result ≡ outermost c.args.at st = rw c.deref.ensures.value at c.outermost-begun.ensures in
+    let short : c.args.at < c.outermost-begun.result + longest = under _ _ c.if-is_over.ensures in
+    let d : c.depth.result ≡ length st = rw c.deref-2.ensures.value at c.depth.ensures in
     (c.args.at, deep_here s c.args.at st c.requires.inside c.requires.opens (omega arith) (le_true 64 (length st) (omega arith)))
 
 pub returns-then-input-next-eq125 : goal.returns-then-input-next-eq125
 returns-then-input-next-eq125 c =
     let s = c.args.input.now in
     let st = frames_of c.args.stack.now.items in
-    let begun = rw c.deref.ensures.value at c.begun_at-begun.ensures in
-    let e : c.begun_at-begun.result ≡ outermost c.args.at st = begun s in
-    let short : c.args.at < c.begun_at-begun.result + longest = under _ _ c.if-is_over.ensures in
-    let depth = rw c.deref-2.ensures.value at c.depth.ensures in
-    let d : c.depth.result ≡ length st = depth in
+    let e : c.outermost-begun.result ≡ outermost c.args.at st = rw c.deref.ensures.value at c.outermost-begun.ensures in
+    let short : c.args.at < c.outermost-begun.result + longest = under _ _ c.if-is_over.ensures in
+    let d : c.depth.result ≡ length st = rw c.deref-2.ensures.value at c.depth.ensures in
     let es = map entry_view c.open_pairs.new.entries.items in
     let next = c.in_ok-next.next in
     let end_in : c.window-end.result ≤ length s = c.window-end.ensures.within in
-    let end_short : c.window-end.result ≤ c.begun_at-begun.result + longest = c.window-end.ensures.short in
+    let end_short : c.window-end.result ≤ c.outermost-begun.result + longest = c.window-end.ensures.short in
     let opened = c.in_ok-next.ensures in
     let later : c.args.at < next = opened.0 in
     let before_end : next < c.window-end.result = c.if-next-end.true in
@@ -55,14 +50,12 @@ pub returns : goal.returns
 returns c =
     let s = c.args.input.now in
     let st = frames_of c.args.stack.now.items in
-    let begun = rw c.deref.ensures.value at c.begun_at-begun.ensures in
-    let e : c.begun_at-begun.result ≡ outermost c.args.at st = begun s in
-    let short : c.args.at < c.begun_at-begun.result + longest = under _ _ c.if-is_over.ensures in
-    let depth = rw c.deref-2.ensures.value at c.depth.ensures in
-    let d : c.depth.result ≡ length st = depth in
+    let e : c.outermost-begun.result ≡ outermost c.args.at st = rw c.deref.ensures.value at c.outermost-begun.ensures in
+    let short : c.args.at < c.outermost-begun.result + longest = under _ _ c.if-is_over.ensures in
+    let d : c.depth.result ≡ length st = rw c.deref-2.ensures.value at c.depth.ensures in
     let next = c.in_ok-next.next in
     let end_in : c.window-end.result ≤ length s = c.window-end.ensures.within in
-    let end_short : c.window-end.result ≤ c.begun_at-begun.result + longest = c.window-end.ensures.short in
+    let end_short : c.window-end.result ≤ c.outermost-begun.result + longest = c.window-end.ensures.short in
     let opened = c.in_ok-next.ensures in
     let later : c.args.at < next = opened.0 in
     let inside : next ≤ c.window-end.result = opened.1 in (

@@ -8,5 +8,7 @@ use Rattle.lincheck.proofs.command.program.Goals as goal
 pub returns : goal.returns
 returns c =
     let begun : app_of c.subcommand_required.result ≡ required (new_app (codes "lincheck")) = ap app_of_fields c.subcommand_required.ensures ∙ ap required (ap app_of_fields c.about.ensures ∙ c.new.ensures.app) in
-    let verify_is = c.in_ok-verify_command.ensures.app in
-    IfOk-weaker c.subcommand.result _ _ (λ command h. (verify_is.0, verify_is.1, h.shape c.in_ok-verify_command.ensures.local ∙ ap₂ with_subcommand begun (ap (λ (a : App). a.top) verify_is.2))) c.subcommand.ensures
+    let verifies = c.in_ok-verify_command.ensures in
+    let checks = c.in_ok-check_command.ensures in
+    let first = c.in_ok-subcommand.ensures.shape verifies.local ∙ ap₂ with_subcommand begun (ap (λ (a : App). a.top) verifies.app) in
+    IfOk-weaker c.subcommand-2.result _ _ (λ command h. (_, c.kind_words-kinds.ensures, h.shape checks.local ∙ ap₂ with_subcommand first (ap (λ (a : App). a.top) checks.app))) c.subcommand-2.ensures

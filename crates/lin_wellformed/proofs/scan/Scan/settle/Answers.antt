@@ -1,9 +1,10 @@
 use Rattle.std.proofs.Common.{◌≡◌, ◌+◌, ◌-◌, ◌<◌, ◌≤◌, length, inl, inr, refl, ap, ◌∙◌, sym, subst, arith, true≢false}
 use Rattle.std.proofs.lemmas.Option.{slice_get_read}
 use Rattle.lin_history.specs.declared.meter.Meter.{Meter}
+use Rattle.lin_history.specs.Meters.{ticked}
 use Rattle.lin_objects.specs.Kinds.{kind_of}
 use Rattle.lin_wellformed.specs.declared.scan.Scan.{Scan}
-use Rattle.lin_wellformed.specs.Scans.{ready_count, IsRight, ticked}
+use Rattle.lin_wellformed.specs.Scans.{ready_count, IsRight}
 use Rattle.lin_wellformed.proofs.ScanLemmas.{settling_start, settling_next, IsOver, settled_right, settled_looked, settled_most, right_shape}
 use Rattle.lin_wellformed.proofs.scan.Scan.settle.Goals as goal
 use Rattle.lin_wellformed.proofs.scan.Scan.settle.Goals.{then-loop-self-test+else-is_good, else-loop-self-test}
@@ -66,10 +67,10 @@ pub returns-clause-shape : goal.returns-clause-shape
 returns-clause-shape c =
     let kinds = kind_of c.args.kinds.now in
     let h = c.args.events.now in
-    right_shape kinds h (record c.loop-self.self { ready = length h }) (settled_right kinds h c.loop-self.self c.loop-self.invariant.right (over c)) refl
+    right_shape kinds h (record c.loop-self.self { ready = length h }) (settled_right c.bad_positions.ensures.beginnings kinds h c.loop-self.self c.loop-self.invariant.right (over c)) refl
 
 pub returns-clause-right : goal.returns-clause-right
-returns-clause-right c = settled_right (kind_of c.args.kinds.now) c.args.events.now c.loop-self.self c.loop-self.invariant.right (over c)
+returns-clause-right c = settled_right c.bad_positions.ensures.beginnings (kind_of c.args.kinds.now) c.args.events.now c.loop-self.self c.loop-self.invariant.right (over c)
 
 pub returns-clause-counted : goal.returns-clause-counted
 returns-clause-counted c =

@@ -1,0 +1,208 @@
+-- Chains that are right, and stay so.
+use Rattle.std.proofs.Common.{◌≡◌, ◌≢◌, ◌+◌, ◌*◌, ◌/◌, ◌<◌, ◌≤◌, ℕ, zero, suc, List, [], ◌∷◌, length, ◌⊎◌, Some, inl, inr, refl, sym, ap, ◌∙◌, subst, arith, get_or, slice_get, take, All}
+use Rattle.std.specs.List.{cons_option}
+use Rattle.std.proofs.lemmas.List.{length-take, length-take-le, take_all}
+use Rattle.std.proofs.lemmas.List.Elements.{All-take, All-tail, All-head}
+use Rattle.std.proofs.lemmas.Option.{slice_get_within, slice_get-get_or, slice_get_read}
+use Rattle.lin_history.specs.declared.events.Event.{Event}
+use Rattle.lin_history.specs.declared.meter.Meter.{Meter}
+use Rattle.lin_history.specs.Operations.{IsEvent}
+use Rattle.lin_objects.specs.declared.kinds.Kind.{Kind}
+use Rattle.lin_objects.specs.Steps.{Step, start}
+use Rattle.lin_order.specs.Laws.{EmptyIsLegal}
+use Rattle.lin_order.specs.Configurations.{IsConfiguration}
+use Rattle.lin_order.specs.Parts.{events_at}
+use Rattle.lin_frontier.specs.Frontiers.{IsOver}
+use Rattle.lin_chain.specs.declared.chain.Chain.{Chain}
+use Rattle.lin_chain.specs.declared.chain.End.{End}
+use Rattle.lin_chain.specs.declared.chain.End.TheVariants.{Alive, Dead, Over}
+use Rattle.lin_chain.specs.declared.replay.Replay.{Replay}
+use Rattle.lin_chain.specs.Chains.{IsRight, Stands, kind_in, ready_count}
+use Rattle.lin_chain.specs.Ends.{IsDeadAt, IsEndOf, IsFrom, IsOverAt}
+use Rattle.lin_chain.specs.Replays.{IsLinearizableAs, IsReplay}
+use Rattle.lin_chain.proofs.Replaying.{checkpoint_kept, known_same, pairs_take, replay_linearizable, take_alike}
+
+-- what is known of the first events holds of any events that agree on these
+pub replay_alike : (r : Replay) (h edited : List Event) (local : ℕ) → r.reached ≤ local → take local h ≡ take local edited → IsReplay r h → IsReplay r edited
+replay_alike r h edited local below same right = record {
+  within = let long = ap length same in omega (arith, length-take local h, length-take local edited, long, right.within);
+  enough = right.enough;
+  few = right.few;
+  checkpoints = λ k c at.
+      let was = right.checkpoints k c at in
+      let inside = slice_get_within r.checkpoints.items k c at in
+      checkpoint_kept r r h edited (64 * k) c refl (take_alike (64 * k) local h edited (omega (arith, inside, right.few)) same) refl was.nodes refl was.crashed was;
+  rising = right.rising;
+  present = λ f is. known_same r.object.kind _ _ f _ _ _ _ (take_alike r.reached local h edited below same) refl refl (right.present f is);
+  last = right.last;
+}
+
+longer : (h edited : List Event) (local n : ℕ) → n ≤ local → n ≤ length h → take local h ≡ take local edited → n ≤ length edited
+longer h edited local n below inside same = let long = ap length same in omega (arith, length-take local h, length-take local edited, long)
+
+dead_alike : (kind : Kind) (h edited : List Event) (local at : ℕ) → at < local → take local h ≡ take local edited → IsDeadAt kind h at → IsDeadAt kind edited at
+dead_alike kind h edited local at below same dead = record {
+  before = subst (IsLinearizableAs kind) (take_alike at local h edited (omega arith) same) dead.before;
+  failing = λ lin. dead.failing (subst (IsLinearizableAs kind) (sym (take_alike (at + 1) local h edited (omega arith) same)) lin);
+}
+
+over_alike : (kind : Kind) (budget : ℕ) (h edited : List Event) (local at : ℕ) → at < local → take local h ≡ take local edited → IsOverAt kind budget h at → IsOverAt kind budget edited at
+over_alike kind budget h edited local at below same over = record {
+  inside = let long = longer h edited local (at + 1) (omega arith) (omega (arith, over.inside)) same in omega arith;
+  over = subst (λ l. IsOver (start kind) (Step kind) l budget) (take_alike (at + 1) local h edited (omega arith) same) over.over;
+}
+
+-- a chain is right for what agrees with the events that it took in
+pub right_alike : (chain : Chain) (h edited : List Event) (local : ℕ) → ready_count chain ≤ local → take local h ≡ take local edited → IsRight chain h → IsRight chain edited
+right_alike chain h edited local below same right = record {
+  within = longer h edited local chain.ready below right.within same;
+  replay = replay_alike chain.replay h edited local (reached chain.end right.stands) same right.replay;
+  stands = stands chain.end right.stands;
+}
+  where
+    reached : (end : End) → Stands chain h end → chain.replay.reached ≤ local
+    reached Alive stands = omega (arith, stands, below)
+    reached (Dead at) stands = omega (arith, stands.0, stands.1, below)
+    reached (Over at) stands = omega (arith, stands.0, stands.1, below)
+
+    stands : (end : End) → Stands chain h end → Stands chain edited end
+    stands Alive was = was
+    stands (Dead at) was = (was.0, was.1, was.2, dead_alike (kind_in chain) h edited local at (omega (arith, was.1, below)) same was.3)
+    stands (Over at) was = (was.0, was.1, was.2, over_alike (kind_in chain) chain.budget h edited local at (omega (arith, was.1, below)) same was.3)
+
+-- behind a dead or over event, fewer may be taken in
+pub right_fewer : (chain : Chain) (h edited : List Event) (local at : ℕ) → local < ready_count chain → at < local → take local h ≡ take local edited → (chain.end ≡ Dead at) ⊎ (chain.end ≡ Over at) → IsRight chain h
+    → IsRight (record chain { ready = local }) edited
+right_fewer chain h edited local at below before same is right = record {
+  within = longer h edited local local (omega arith) (omega (arith, right.within)) same;
+  replay = replay_alike chain.replay h edited local (omega (arith, known is)) same right.replay;
+  stands = stands is;
+}
+  where
+    known : (chain.end ≡ Dead at) ⊎ (chain.end ≡ Over at) → at ≡ chain.replay.reached
+    known (inl dead) = (subst (Stands chain h) dead right.stands).0
+    known (inr over) = (subst (Stands chain h) over right.stands).0
+
+    stands : (chain.end ≡ Dead at) ⊎ (chain.end ≡ Over at) → Stands (record chain { ready = local }) edited chain.end
+    stands (inl dead) =
+        let was = subst (Stands chain h) dead right.stands in
+        subst (Stands (record chain { ready = local }) edited) (sym dead) (was.0, before, was.2, dead_alike (kind_in chain) h edited local at before same was.3)
+    stands (inr over) =
+        let was = subst (Stands chain h) over right.stands in
+        subst (Stands (record chain { ready = local }) edited) (sym over) (was.0, before, was.2, over_alike (kind_in chain) chain.budget h edited local at before same was.3)
+
+-- there is a checkpoint at or before each event that is known
+pub checkpoint_before : (chain : Chain) (h : List Event) (local : ℕ) → local < ready_count chain → ((at : ℕ) → (chain.end ≡ Dead at) ⊎ (chain.end ≡ Over at) → local ≤ at) → IsRight chain h
+    → local / 64 < length chain.replay.checkpoints.items
+checkpoint_before chain h local below behind right = by chain.end refl
+  where
+    by : (end : End) → chain.end ≡ end → local / 64 < length chain.replay.checkpoints.items
+    by Alive is = let all = subst (Stands chain h) is right.stands in omega (arith, all, right.replay.enough, below)
+    by (Dead at) is = let was = subst (Stands chain h) is right.stands in omega (arith, was.2, behind at (inl is))
+    by (Over at) is = let was = subst (Stands chain h) is right.stands in omega (arith, was.2, behind at (inr is))
+
+-- a chain that is alive has taken in what is known
+pub right_alive : (r : Replay) (count budget : ℕ) (h : List Event) → r.reached ≡ count → IsReplay r h → IsRight (record { replay = r; ready = count; end = Alive; budget = budget }) h
+right_alive r count budget h all replay = record { within = omega (arith, all, replay.within); replay = replay; stands = all }
+
+pub right_dead : EmptyIsLegal → (r : Replay) (n budget : ℕ) (h : List Event) → n ≡ r.reached → IsReplay r h → n < 64 * length r.checkpoints.items → n < length h → (IsLinearizableAs r.object.kind (take (n + 1) h) → ⊥)
+    → IsRight (record { replay = r; ready = n + 1; end = Dead n; budget = budget }) h
+right_dead law r n budget h here replay before inside failing = record {
+  within = omega arith;
+  replay = replay;
+  stands = (here, (let l : n < n + 1 = omega arith in l), before, record { before = subst (λ m. IsLinearizableAs r.object.kind (take m h)) (sym here) (replay_linearizable law r h replay); failing = failing });
+}
+
+pub right_over : (r : Replay) (n budget : ℕ) (h : List Event) → n ≡ r.reached → IsReplay r h → n < 64 * length r.checkpoints.items → n < length h → IsOver (start r.object.kind) (Step r.object.kind) (take (n + 1) h) budget
+    → IsRight (record { replay = r; ready = n + 1; end = Over n; budget = budget }) h
+right_over r n budget h here replay before inside over = record {
+  within = omega arith;
+  replay = replay;
+  stands = (here, (let l : n < n + 1 = omega arith in l), before, record { inside = inside; over = over });
+}
+
+-- what is over a budget is over any smaller one
+over_smaller : (kind : Kind) (h : List Event) (budget smaller : ℕ) → smaller ≤ budget → IsOver (start kind) (Step kind) h budget → IsOver (start kind) (Step kind) h smaller
+over_smaller kind h budget smaller below over = record {
+  found = take (smaller + 1) over.found;
+  many = length-take-le (smaller + 1) over.found (omega (arith, over.many));
+  configurations = All-take (IsConfiguration (start kind) (Step kind) h) (smaller + 1) over.found over.configurations;
+  distinct = pairs_take (λ c d. c ≢ d) (smaller + 1) over.found (omega (arith, over.many)) over.distinct;
+}
+
+-- where all events are taken in, the chain stands as they do
+pub right_end : EmptyIsLegal → (chain : Chain) (h : List Event) (budget : ℕ) → ready_count chain ≡ length h → ((at : ℕ) → chain.end ≡ Over at → budget ≤ chain.budget) → IsRight chain h → IsEndOf (kind_in chain) budget h chain.end
+right_end law chain h budget all over right = by chain.end refl
+  where
+    by : (end : End) → chain.end ≡ end → IsEndOf (kind_in chain) budget h end
+    by Alive is =
+        let known = subst (Stands chain h) is right.stands in
+        subst (IsLinearizableAs (kind_in chain)) (take_all chain.replay.reached h (omega (arith, known, all))) (replay_linearizable law chain.replay h right.replay)
+    by (Dead at) is = (subst (Stands chain h) is right.stands).3
+    by (Over at) is =
+        let was = (subst (Stands chain h) is right.stands).3 in
+        record { inside = was.inside; over = over_smaller (kind_in chain) (take (at + 1) h) chain.budget budget (over at is) was.over }
+
+-- behind a dead or over event, all events may be taken in
+pub right_all : (chain : Chain) (h : List Event) (count : ℕ) → count ≡ length h → (chain.end ≡ Alive → ready_count chain ≡ count) → IsRight chain h → IsRight (record chain { ready = count }) h
+right_all chain h count is all right = record {
+  within = omega (arith, is);
+  replay = right.replay;
+  stands = by chain.end refl;
+}
+  where
+    by : (end : End) → chain.end ≡ end → Stands (record chain { ready = count }) h end
+    by Alive e = subst (Stands chain h) e right.stands ∙ all e
+    by (Dead at) e = let was = subst (Stands chain h) e right.stands in (was.0, omega (arith, was.1, right.within, is), was.2, was.3)
+    by (Over at) e = let was = subst (Stands chain h) e right.stands in (was.0, omega (arith, was.1, right.within, is), was.2, was.3)
+
+-- the events at the picks, one by one
+there_is : (h : List Event) (at : ℕ) → at < length h → (event : Event) × (slice_get h at ≡ Some event)
+there_is [] at inside = absurd (omega arith)
+there_is (e ∷ rest) zero inside = (e, refl)
+there_is (e ∷ rest) (suc at) inside = there_is rest at (omega arith)
+
+picked : (h : List Event) (at : ℕ) (picks : List ℕ) (inside : at < length h) → events_at h (at ∷ picks) ≡ (there_is h at inside).0 ∷ events_at h picks
+picked h at picks inside = ap (λ o. cons_option o (events_at h picks)) (there_is h at inside).1
+
+pub length-events_at : (h : List Event) (picks : List ℕ) → All (λ at. at < length h) picks → length (events_at h picks) ≡ length picks
+length-events_at h [] inside = refl
+length-events_at h (at ∷ picks) inside =
+    let first = All-head (λ n. n < length h) at picks inside in
+    let rest = length-events_at h picks (All-tail (λ n. n < length h) at picks inside) in
+    ap length (picked h at picks first) ∙ ap (λ n. suc n) rest
+
+pub event_picked : (h : List Event) (picks : List ℕ) (k at : ℕ) → All (λ n. n < length h) picks → slice_get picks k ≡ Some at → slice_get (events_at h picks) k ≡ slice_get h at
+event_picked h [] k at inside there = cc
+event_picked h (n ∷ picks) zero at inside there =
+    let first = All-head (λ m. m < length h) n picks inside in
+    ap (λ l. slice_get l 0) (picked h n picks first) ∙ sym (there_is h n first).1 ∙ ap (λ m. slice_get h m) (some_same there)
+  where
+    some_same : Some n ≡ Some at → n ≡ at
+    some_same e = cc
+event_picked h (n ∷ picks) (suc k) at inside there =
+    ap (λ l. slice_get l (suc k)) (picked h n picks (All-head (λ m. m < length h) n picks inside)) ∙ event_picked h picks k at (All-tail (λ m. m < length h) n picks inside) there
+
+-- while a chain goes on: it is right, has taken in no less than at first, and at most one step for each event
+pub record IsGoing (h : List Event) (first now : Chain) (budget : ℕ) (before meter : Meter) : Type 0 where
+  pub right : IsRight now h
+  pub kind : kind_in now ≡ kind_in first
+  pub grown : ready_count first ≤ ready_count now
+  pub found : IsFrom (ready_count first) now.end
+  pub over : (at : ℕ) → now.end ≡ Over at → now.budget ≡ budget
+  pub steps : meter.steps + ready_count first ≤ before.steps + ready_count now
+  pub scans : meter.scans ≡ before.scans
+
+pub from_fewer : (end : End) (m n : ℕ) → n ≤ m → IsFrom m end → IsFrom n end
+from_fewer Alive m n below from = from
+from_fewer (Dead at) m n below from = omega (arith, from)
+from_fewer (Over at) m n below from = omega (arith, from)
+
+-- the event that is read through a pick
+pub event_there : (h : List Event) (picks : List ℕ) (k : ℕ) (event : Event) → All (λ at. at < length h) picks → k < length picks → event ≡ get_or h (get_or picks k 0) event → IsEvent (events_at h picks) k event
+event_there h picks k event inside below is =
+    event_picked h picks k (get_or picks k 0) inside (slice_get-get_or picks k 0 below) ∙ slice_get_read h (length h) (get_or picks k 0) event refl (inside k 0 below) is
+
+-- an alive chain has taken in what it knows
+pub reached_ready : (chain : Chain) (h : List Event) → chain.end ≡ Alive → IsRight chain h → chain.replay.reached ≡ ready_count chain
+reached_ready chain h alive right = subst (Stands chain h) alive right.stands

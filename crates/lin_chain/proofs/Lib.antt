@@ -1,0 +1,5 @@
+pub mod Lists
+pub mod Opening
+pub mod Listing
+pub mod Replaying
+pub mod Chaining

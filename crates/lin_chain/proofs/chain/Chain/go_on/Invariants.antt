@@ -1,0 +1,11 @@
+use Rattle.std.proofs.Common.{◌-◌, length}
+use Rattle.lin_order.specs.Parts.{events_at}
+use Rattle.lin_chain.specs.Chains.{ready_count}
+use Rattle.lin_chain.proofs.Chaining.{IsGoing}
+use Rattle.lin_chain.proofs.chain.Chain.go_on.Given as goal
+
+abbrev pub invariant-loop-event : goal.invariant-loop-event
+invariant-loop-event l = IsGoing (events_at l.events l.picks) l.initial.self l.self l.budget l.initial.meter l.meter
+
+abbrev pub decreases-loop-event : goal.decreases-loop-event
+decreases-loop-event l = length l.picks - ready_count l.self

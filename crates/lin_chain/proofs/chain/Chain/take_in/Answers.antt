@@ -1,0 +1,53 @@
+use Rattle.std.proofs.Common.{◌≡◌, ◌+◌, ◌∙◌, Result, Ok, sym, ap, subst, take, ◌<◌, ◌*◌, length}
+use Rattle.std.proofs.lemmas.Option.{slice_get_within}
+use Rattle.lin_history.specs.declared.numbers.OutOfMemory.{OutOfMemory}
+use Rattle.lin_history.specs.Operations.{IsEvent}
+use Rattle.lin_objects.specs.Steps.{Step, start}
+use Rattle.lin_frontier.specs.Frontiers.{IsOver}
+use Rattle.lin_chain.specs.declared.chain.End.TheVariants.{Dead, Over}
+use Rattle.lin_chain.specs.declared.replay.Replay.{Replay}
+use Rattle.lin_chain.specs.declared.replay.Taken.{Taken}
+use Rattle.lin_chain.specs.declared.replay.Taken.TheVariants.{Next, Empty, Over as Exceeds}
+use Rattle.lin_chain.specs.Chains.{IsRight}
+use Rattle.lin_chain.specs.Replays.{IsLinearizableAs}
+use Rattle.lin_chain.proofs.Chaining.{right_alive, right_dead, right_over}
+use Rattle.lin_chain.proofs.chain.Chain.take_in.Goals as goal
+use Rattle.lin_chain.proofs.chain.Chain.take_in.Goals.{in-Next, in-Empty, in-Over}
+
+not_next : (result : Result Taken OutOfMemory) (taken : Taken) → (taken ≡ Next → ⊥) → result ≡ Ok taken → result ≡ Ok Next → ⊥
+not_next result taken other is next = other cc
+
+pub returns-clause-right : goal.returns-clause-right
+returns-clause-right c = λ functions h well there right.
+    let n = c.args.self.now.replay.reached in
+    let mid = c.prepare.new.self in
+    let prepared = c.in_ok-prepare.ensures.prepared h right.replay in
+    let at_mid = subst (λ m. IsEvent h m c.args.event.now) (sym c.prepare.ensures.reached) there in
+    let inside = slice_get_within h n c.args.event.now there in
+    let before = subst (λ m. m < 64 * length mid.checkpoints.items) c.prepare.ensures.reached prepared.before in
+    elim c.match-branch-3.branch [
+      | in-Next w ↦
+          let taken = c.in_ok-take_in.was ∙ ap Ok w.in-Next.is in
+          subst (λ e. IsRight (record { replay = c.take_in.new.self; ready = n + 1; end = e; budget = c.args.budget }) h) (sym w.self-is)
+          (right_alive c.take_in.new.self (n + 1) c.args.budget h (c.take_in.ensures.next taken ∙ ap (λ m. m + 1) c.prepare.ensures.reached) (c.take_in.ensures.right functions h well at_mid prepared))
+      | in-Empty w ↦
+          let taken = c.in_ok-take_in.was ∙ ap Ok w.in-Empty.is in
+          let stays = c.take_in.ensures.stays (not_next c.take_in.result Empty empty_apart taken) in
+          subst (λ e. IsRight (record { replay = c.take_in.new.self; ready = n + 1; end = e; budget = c.args.budget }) h) (sym w.self-is)
+          (subst (λ (r : Replay). IsRight (record { replay = r; ready = n + 1; end = Dead n; budget = c.args.budget }) h) (sym stays)
+          (right_dead c.empty_is_legal.ensures mid n c.args.budget h (sym c.prepare.ensures.reached) prepared.right before inside
+          (λ lin. c.take_in.ensures.empty taken functions h well at_mid prepared (subst (λ m. IsLinearizableAs mid.object.kind (take (m + 1) h)) (sym c.prepare.ensures.reached) lin))))
+      | in-Over w ↦
+          let taken = c.in_ok-take_in.was ∙ ap Ok w.in-Over.is in
+          let stays = c.take_in.ensures.stays (not_next c.take_in.result Exceeds over_apart taken) in
+          subst (λ e. IsRight (record { replay = c.take_in.new.self; ready = n + 1; end = e; budget = c.args.budget }) h) (sym w.self-is)
+          (subst (λ (r : Replay). IsRight (record { replay = r; ready = n + 1; end = Over n; budget = c.args.budget }) h) (sym stays)
+          (right_over mid n c.args.budget h (sym c.prepare.ensures.reached) prepared.right before inside
+          (subst (λ m. IsOver (start mid.object.kind) (Step mid.object.kind) (take (m + 1) h) c.args.budget) c.prepare.ensures.reached (c.take_in.ensures.over taken functions h well at_mid prepared))))
+    ]
+  where
+    empty_apart : Empty ≡ Next → ⊥
+    empty_apart e = cc
+
+    over_apart : Exceeds ≡ Next → ⊥
+    over_apart e = cc

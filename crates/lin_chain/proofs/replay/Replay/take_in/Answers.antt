@@ -1,0 +1,43 @@
+use Rattle.std.proofs.Common.{ℤ, Bool, List, sym, subst, take}
+use Rattle.lin_history.specs.declared.calls.Name.{Name}
+use Rattle.lin_history.specs.declared.events.Event.{Event}
+use Rattle.lin_history.specs.Operations.{IsEvent}
+use Rattle.lin_history.specs.WellFormed.{IsWellFormed}
+use Rattle.lin_objects.specs.Steps.{Step, start}
+use Rattle.lin_frontier.specs.Frontiers.{IsNextEvent, IsOver}
+use Rattle.lin_chain.specs.Replays.{IsCurrent, IsKnown, IsLinearizableAs, IsPrepared}
+use Rattle.lin_chain.proofs.Replaying.{next_event, event_taken, replay_advanced}
+use Rattle.lin_chain.proofs.replay.Replay.take_in.Goals as goal
+use Rattle.lin_chain.proofs.replay.Replay.take_in.Goals.{In_ok-step}
+
+known : (c : In_ok-step) (h : List Event) → IsPrepared c.args.self.now h → IsKnown c.args.self.now.object.kind (take c.args.self.now.reached h) c.in-Some.frontier.now c.args.self.now.nodes c.args.self.now.pending.operations.items
+known c h prepared = prepared.known c.in-Some.frontier.now (subst (λ l. IsCurrent c.args.self.now.present l c.in-Some.frontier.now) c.deref.ensures.value c.in-Some.ensures.some)
+
+next : (c : In_ok-step) (functions : ℤ → Name → Bool) (h : List Event) → IsWellFormed functions h → IsEvent h c.args.self.now.reached c.args.event.now → IsPrepared c.args.self.now h
+    → IsNextEvent functions (take c.args.self.now.reached h) c.args.self.now.pending.operations.items c.args.self.now.reached c.args.event.now
+next c functions h well there prepared = next_event c.beginnings_are_well_formed.ensures functions h c.args.self.now.reached c.args.event.now c.args.self.now.pending.operations.items well there (known c h prepared).opened
+
+-- the same, of the slice that was passed on
+passed : (c : In_ok-step) (functions : ℤ → Name → Bool) (h : List Event) → IsWellFormed functions h → IsEvent h c.args.self.now.reached c.args.event.now → IsPrepared c.args.self.now h
+    → IsNextEvent functions (take c.args.self.now.reached h) c.as_slice.result.now c.args.self.now.reached c.args.event.now
+passed c functions h well there prepared = subst (λ l. IsNextEvent functions (take c.args.self.now.reached h) l c.args.self.now.reached c.args.event.now) (sym c.as_slice.ensures) (next c functions h well there prepared)
+
+pub returns-in-Next-clause-right : goal.returns-in-Next-clause-right
+returns-in-Next-clause-right c = λ functions h well there prepared.
+    let self = c.args.self.now in
+    let before = take self.reached h in
+    let exact = c.in_ok-step.ensures.next c.in-Next.next c.in-Next.is functions before (passed (goal.at.returns-in-Next-clause-right c).In_ok-step functions h well there prepared) (known (goal.at.returns-in-Next-clause-right c).In_ok-step h prepared).exact in
+    replay_advanced self c.in-Next.next c.take_in.new.self c.advance_all.new.nodes h c.args.event.now prepared there exact (c.in_ok-step.ensures.some c.in-Next.next c.in-Next.is).0
+    (c.take_in.ensures.open functions before (next (goal.at.returns-in-Next-clause-right c).In_ok-step functions h well there prepared)) c.advance_all.ensures.grown c.take_in.ensures.more c.take_in.ensures.front
+
+pub returns-in-Empty-clause-empty : goal.returns-in-Empty-clause-empty
+returns-in-Empty-clause-empty c = λ _ functions h well there prepared lin.
+    let self = c.args.self.now in
+    c.in_ok-step.ensures.empty c.in-Empty.is functions (take self.reached h) (passed (goal.at.returns-in-Empty-clause-empty c).In_ok-step functions h well there prepared) (known (goal.at.returns-in-Empty-clause-empty c).In_ok-step h prepared).exact
+    (subst (IsLinearizableAs self.object.kind) (event_taken h self.reached c.args.event.now there) lin)
+
+pub returns-in-Over-clause-over : goal.returns-in-Over-clause-over
+returns-in-Over-clause-over c = λ _ functions h well there prepared.
+    let self = c.args.self.now in
+    subst (λ l. IsOver (start self.object.kind) (Step self.object.kind) l c.args.budget) (sym (event_taken h self.reached c.args.event.now there))
+    (c.in_ok-step.ensures.over c.in-Over.is functions (take self.reached h) (passed (goal.at.returns-in-Over-clause-over c).In_ok-step functions h well there prepared) (known (goal.at.returns-in-Over-clause-over c).In_ok-step h prepared).exact)

@@ -1,0 +1,31 @@
+-- How the history of one object ends: what is told of its linearizability (Herlihy and Wing 1990, section 3), by the event at which it is lost.
+use Rattle.std.specs.Prelude.{◌+◌, ◌<◌, ◌≤◌, ℕ, List, length, take}
+use Rattle.lin_history.specs.declared.events.Event.{Event}
+use Rattle.lin_objects.specs.declared.kinds.Kind.{Kind}
+use Rattle.lin_objects.specs.Steps.{Step, start}
+use Rattle.lin_frontier.specs.Frontiers.{IsOver}
+use Rattle.lin_chain.specs.declared.chain.End.{End}
+use Rattle.lin_chain.specs.declared.chain.End.TheVariants.{Alive, Dead, Over}
+use Rattle.lin_chain.specs.Replays.{IsLinearizableAs}
+
+-- the shortest beginning without a legal order is the one up to and with this event
+pub record IsDeadAt (kind : Kind) (h : List Event) (at : ℕ) : Type 0 where
+  pub before : IsLinearizableAs kind (take at h)
+  pub failing : IsLinearizableAs kind (take (at + 1) h) → ⊥
+
+-- the beginning up to and with this event has more configurations than the budget
+pub record IsOverAt (kind : Kind) (budget : ℕ) (h : List Event) (at : ℕ) : Type 0 where
+  pub inside : at < length h
+  pub over : IsOver (start kind) (Step kind) (take (at + 1) h) budget
+
+-- what is told is true of the history
+abbrev pub IsEndOf : Kind → ℕ → List Event → End → Type 0
+IsEndOf kind budget h Alive = IsLinearizableAs kind h
+IsEndOf kind budget h (Dead at) = IsDeadAt kind h at
+IsEndOf kind budget h (Over at) = IsOverAt kind budget h at
+
+-- the place that is told, if one is, isn't below the number less one
+abbrev pub IsFrom : ℕ → End → Type 0
+IsFrom count Alive = Unit {0}
+IsFrom count (Dead at) = count ≤ at + 1
+IsFrom count (Over at) = count ≤ at + 1

@@ -1,0 +1,64 @@
+-- What is kept of the first events of an object, so that more can be taken in, and so that it can be gone back to fewer.
+use Rattle.std.specs.Prelude.{◌≡◌, ◌+◌, ◌*◌, ◌<◌, ◌≤◌, ◌++◌, ◌⊎◌, ℕ, List, Option, Some, None, AllPairs, length, take, slice_get, is_some, if◌then◌else◌}
+use Rattle.lin_history.specs.declared.events.Event.{Event}
+use Rattle.lin_history.specs.declared.calls.Reply.{Reply}
+use Rattle.lin_objects.specs.declared.kinds.Kind.{Kind}
+use Rattle.lin_objects.specs.declared.states.State.{State}
+use Rattle.lin_objects.specs.Steps.{Step, start}
+use Rattle.lin_order.specs.declared.placed.Placed.{Placed}
+use Rattle.lin_order.specs.Linearizable.{IsLinearizableBy, IsLegalOrderBy}
+use Rattle.lin_frontier.specs.declared.pending.Open.{Open}
+use Rattle.lin_frontier.specs.Frontiers.{IsFrontier, IsPending}
+use Rattle.lin_chain.specs.declared.replay.Checkpoint.{Checkpoint}
+use Rattle.lin_chain.specs.declared.replay.Replay.{Replay}
+
+-- the order is a legal one of the history, for an object of the kind
+abbrev pub IsLegalOrderAs : Kind → List Event → List Placed → Type 0
+IsLegalOrderAs kind h order = IsLegalOrderBy (start kind) (Step kind) h order
+
+-- an object of the kind has a legal order of the history
+abbrev pub IsLinearizableAs : Kind → List Event → Type 0
+IsLinearizableAs kind h = IsLinearizableBy (start kind) (Step kind) h
+
+-- what a frontier holds
+abbrev pub Entries : Type 0
+Entries = List ((State × List (ℕ × Reply)) × ℕ)
+
+-- how many frontiers are held: those of the checkpoints, and the present one
+abbrev pub held_count : Replay → ℕ
+held_count replay = length replay.checkpoints.items + (if is_some replay.present then 1 else 0)
+
+-- this is the frontier after the events, which isn't empty, and these operations are open then
+pub record IsKnown (kind : Kind) (h : List Event) (frontier : Entries) (nodes : List (ℕ × Placed)) (pending : List Open) : Type 0 where
+  pub exact : IsFrontier (start kind) (Step kind) h frontier nodes
+  pub some : 0 < length frontier
+  pub opened : IsPending h pending
+
+-- the checkpoint is right for the first `place` events
+pub record IsCheckpoint (replay : Replay) (h : List Event) (place : ℕ) (checkpoint : Checkpoint) : Type 0 where
+  pub known : IsKnown replay.object.kind (take place h) checkpoint.frontier (take checkpoint.nodes replay.nodes) (take checkpoint.crashed replay.pending.operations.items ++ checkpoint.live.items)
+  pub nodes : checkpoint.nodes ≤ length replay.nodes
+  pub crashed : checkpoint.crashed ≤ replay.pending.crashed
+
+-- There is a checkpoint at each 64th place before the last of the first `reached` events. What is known after these is what the present frontier
+-- says, and where there is none the last checkpoint.
+pub record IsReplay (replay : Replay) (h : List Event) : Type 0 where
+  pub within : replay.reached ≤ length h
+  pub enough : replay.reached ≤ 64 * length replay.checkpoints.items
+  pub few : 64 * length replay.checkpoints.items ≤ replay.reached + 64
+  pub checkpoints : (k : ℕ) (checkpoint : Checkpoint) → slice_get replay.checkpoints.items k ≡ Some checkpoint → IsCheckpoint replay h (64 * k) checkpoint
+  pub rising : AllPairs (λ c d. (c.nodes ≤ d.nodes) × (c.crashed ≤ d.crashed)) replay.checkpoints.items
+  pub present : (frontier : Entries) → replay.present ≡ Some frontier → IsKnown replay.object.kind (take replay.reached h) frontier replay.nodes replay.pending.operations.items
+  pub last : replay.present ≡ None → (k : ℕ) (checkpoint : Checkpoint) → slice_get replay.checkpoints.items k ≡ Some checkpoint → k + 1 ≡ length replay.checkpoints.items
+      → (64 * k ≡ replay.reached) × (checkpoint.nodes ≡ length replay.nodes)
+
+-- this is the present frontier, or where there is none the last checkpoint's
+abbrev pub IsCurrent : Option Entries → List Checkpoint → Entries → Type 0
+IsCurrent present checkpoints frontier = (present ≡ Some frontier)
+    ⊎ ((present ≡ None) × (k : ℕ) × (checkpoint : Checkpoint) × (slice_get checkpoints k ≡ Some checkpoint) × (k + 1 ≡ length checkpoints) × (checkpoint.frontier ≡ frontier))
+
+-- it is ready for one more event: the present frontier and the open operations are known
+pub record IsPrepared (replay : Replay) (h : List Event) : Type 0 where
+  pub right : IsReplay replay h
+  pub before : replay.reached < 64 * length replay.checkpoints.items
+  pub known : (frontier : Entries) → IsCurrent replay.present replay.checkpoints.items frontier → IsKnown replay.object.kind (take replay.reached h) frontier replay.nodes replay.pending.operations.items

@@ -1,0 +1,237 @@
+//! One object's frontiers over its events, kept right while the events are edited.
+ghost use Rattle.std.specs.Prelude.{◌≡◌, ◌≢◌, ◌≤◌, ◌<◌, ◌+◌, ◌-◌, ◌*◌, ◌/◌, ◌⊎◌, ℕ, ℤ, Bool, List, All, AllPairs, IfOk, OnOk, IsOk, MatchOption, length, take, IsTrue, OnErr, ◌↔◌, Ok};
+ghost use Rattle.lin_history.specs.declared.calls.Name.{Name as NameOf};
+ghost use Rattle.lin_history.specs.declared.events.Event.{Event as EventOf};
+ghost use Rattle.lin_history.specs.Operations.{IsEvent};
+ghost use Rattle.lin_history.specs.WellFormed.{IsWellFormed};
+ghost use Rattle.lin_order.specs.Parts.{events_at};
+ghost use Rattle.lin_chain.specs.Chains.{IsRight, end_before, end_in, end_under, kept_count, kind_in, ready_count, ready_under};
+ghost use Rattle.lin_chain.specs.Ends.{IsEndOf, IsFrom};
+ghost use Rattle.lin_chain.specs.Replays.{IsLegalOrderAs};
+
+use crate::replay::{Replay, SPACING, Taken};
+use lin_history::{Event, Meter, OutOfMemory};
+use lin_objects::Kind;
+use lin_order::{Placed, empty_is_legal};
+use std::alloc::Global;
+
+/// Whether the events of an object have a legal order (Herlihy and Wing 1990, section 3). Places count its events from 0.
+#[derive(Clone, Copy, Debug, PartialEq, Eq)]
+pub enum End {
+    /// They have one.
+    Alive,
+    /// Those up to and with this one have none, those before it have one.
+    Dead(usize),
+    /// Those up to and with this one have more configurations than the budget.
+    Over(usize),
+}
+
+/// What is known of the first events of one object, and whether they have a legal order.
+#[derive(Drop)]
+pub struct Chain {
+    replay: Replay,
+    /// How many events were taken in, those behind a dead or over one included.
+    ready: usize,
+    end: End,
+    /// The budget for which it is over, where it is.
+    budget: u32,
+}
+
+impl Chain {
+    /// No event was taken in.
+    pub fn new(alloc: Global, kind: Kind) -> Chain
+        ensures kind { kind_in result ≡ kind }
+        ensures ready { ready_count result ≡ 0 }
+        ensures end { end_in result ≡ End.Alive }
+        ensures right { (h : List EventOf) → IsRight result h }
+    {
+        Chain {
+            replay: Replay::new(alloc, kind),
+            ready: 0,
+            end: End::Alive,
+            budget: 0,
+        }
+    }
+
+    /// How many events were taken in.
+    pub fn ready(&self) -> usize
+        ensures { result ≡ ready_count self.now }
+    {
+        self.ready
+    }
+
+    /// How many frontiers are held.
+    pub fn kept(&self) -> usize
+        ensures held { result ≡ kept_count self.now }
+        ensures few { (h : List EventOf) → IsRight self.now h → result ≤ ready_count self.now / 64 + 2 }
+    {
+        self.replay.kept()
+    }
+
+    /// Forgets all events: the object is of another kind.
+    pub fn rekind(&mut self, kind: Kind)
+        ensures kind { kind_in self.new ≡ kind }
+        ensures ready { ready_count self.new ≡ 0 }
+        ensures end { end_in self.new ≡ End.Alive }
+        ensures right { (h : List EventOf) → IsRight self.new h }
+    {
+        self.replay.restart(kind);
+        self.ready = 0;
+        self.end = End::Alive;
+    }
+
+    /// Forgets what depends on the events from the place on: they are about to change.
+    ///
+    /// It goes back to the checkpoint at or before the place, and needs no memory. Where an earlier event is dead or over, that stays.
+    pub fn cut(&mut self, local: usize)
+        ensures kind { kind_in self.new ≡ kind_in self.old }
+        ensures same { ready_count self.old ≤ local → self.new ≡ self.old }
+        ensures back { local < ready_count self.old → ready_count self.new ≤ local }
+        ensures near { local < ready_count self.old → local / 64 * 64 ≤ ready_count self.new }
+        ensures end { local < ready_count self.old → end_in self.new ≡ end_before local (end_in self.old) }
+        ensures right { (h edited : List EventOf) → IsRight self.old h → take local h ≡ take local edited → IsRight self.new edited }
+    {
+        if self.ready <= local {
+            return;
+        }
+        match self.end {
+            End::Dead(at) | End::Over(at) if at < local => self.ready = local,
+            _ => {
+                self.replay.go_back(local / SPACING);
+                self.ready = self.replay.reached;
+                self.end = End::Alive;
+            }
+        }
+    }
+
+    /// Takes in the rest of the object's events, which stand at the picks, and answers whether they have a legal order.
+    ///
+    /// Asks that the chain is right for the first `ready()` of them, and that they are well-formed. Each event past these that is taken in
+    /// counts as one step; those behind a dead or over one aren't. A chain that is over for a smaller budget counts as cut there.
+    /// Where memory is refused, the events before the refusal are taken in.
+    pub fn settle(
+        &mut self,
+        events: &[Event],
+        picks: &[usize],
+        budget: u32,
+        meter: &mut Meter,
+    ) -> Result<End, OutOfMemory>
+        requires right { IsRight self.old (events_at events.now picks.now) }
+        requires inside { All (λ at. at < length events.now) picks.now }
+        requires well_formed { (functions : ℤ → NameOf → Bool) × IsWellFormed functions (events_at events.now picks.now) }
+        ensures kind { kind_in self.new ≡ kind_in self.old }
+        ensures end { IfOk result (IsEndOf (kind_in self.old) budget (events_at events.now picks.now)) }
+        ensures told { IfOk result (λ end. end_in self.new ≡ end) }
+        ensures all { OnOk result (ready_count self.new ≡ length picks.now) }
+        ensures right { IsRight self.new (events_at events.now picks.now) }
+        ensures no_less { ready_under budget self.old ≤ ready_count self.new }
+        ensures settled { ready_under budget self.old ≡ length picks.now → IsOk result }
+        ensures stays { end_under budget self.old ≢ End.Alive → result ≡ Ok (end_under budget self.old) }
+        ensures found { end_under budget self.old ≡ End.Alive → IfOk result (IsFrom (ready_under budget self.old)) }
+        ensures steps { meter.new.steps ≤ meter.old.steps + (length picks.now - ready_under budget self.old) }
+        ensures scans { meter.new.scans ≡ meter.old.scans }
+    {
+        empty_is_legal();
+        self.retry(budget);
+        if self.end.is_alive() {
+            self.go_on(events, picks, budget, meter)?;
+        }
+        self.ready = picks.len();
+        Ok(self.end)
+    }
+
+    /// Where the chain is over for a smaller budget, it is alive again with the events before.
+    fn retry(&mut self, budget: u32)
+        ensures kind { kind_in self.new ≡ kind_in self.old }
+        ensures end { end_in self.new ≡ end_under budget self.old }
+        ensures ready { (h : List EventOf) → IsRight self.old h → ready_under budget self.old ≤ ready_count self.new }
+        ensures right { (h : List EventOf) → IsRight self.old h → IsRight self.new h }
+        ensures over { (at : ℕ) → end_in self.new ≡ End.Over at → budget ≤ self.new.budget }
+    {
+        if let End::Over(_) = self.end
+            && self.budget < budget
+        {
+            self.ready = self.replay.reached;
+            self.end = End::Alive;
+        }
+    }
+
+    /// Takes in the rest of the events, up to one at which the chain is dead or over.
+    fn go_on(
+        &mut self,
+        events: &[Event],
+        picks: &[usize],
+        budget: u32,
+        meter: &mut Meter,
+    ) -> Result<(), OutOfMemory>
+        requires alive { end_in self.old ≡ End.Alive }
+        requires right { IsRight self.old (events_at events.now picks.now) }
+        requires inside { All (λ at. at < length events.now) picks.now }
+        requires well_formed { (functions : ℤ → NameOf → Bool) × IsWellFormed functions (events_at events.now picks.now) }
+        ensures kind { kind_in self.new ≡ kind_in self.old }
+        ensures right { IsRight self.new (events_at events.now picks.now) }
+        ensures no_less { ready_count self.old ≤ ready_count self.new }
+        ensures all { OnOk result (end_in self.new ≡ End.Alive → ready_count self.new ≡ length picks.now) }
+        ensures found { IsFrom (ready_count self.old) (end_in self.new) }
+        ensures over { (at : ℕ) → end_in self.new ≡ End.Over at → self.new.budget ≡ budget }
+        ensures settled { ready_count self.old ≡ length picks.now → IsOk result }
+        ensures steps { meter.new.steps ≤ meter.old.steps + (length picks.now - ready_count self.old) }
+        ensures scans { meter.new.scans ≡ meter.old.scans }
+    {
+        while self.end.is_alive() && self.replay.reached < picks.len() {
+            let event = &events[picks[self.replay.reached]];
+            self.take_in(event, budget, meter)?;
+        }
+        Ok(())
+    }
+
+    /// Takes one more event in.
+    fn take_in(&mut self, event: &Event, budget: u32, meter: &mut Meter) -> Result<(), OutOfMemory>
+        requires alive { end_in self.old ≡ End.Alive }
+        requires right { (h : List EventOf) × IsRight self.old h }
+        requires fits { self.old.replay.reached < usize.MAX }
+        ensures kind { kind_in self.new ≡ kind_in self.old }
+        ensures right { (functions : ℤ → NameOf → Bool) (h : List EventOf) → IsWellFormed functions h → IsEvent h self.old.replay.reached event.now → IsRight self.old h → IsRight self.new h }
+        ensures ok { OnOk result (ready_count self.new ≡ self.old.replay.reached + 1) }
+        ensures err { OnErr result ((end_in self.new ≡ End.Alive) × (ready_count self.new ≡ ready_count self.old)) }
+        ensures found { IsFrom (self.old.replay.reached + 1) (end_in self.new) }
+        ensures over { OnOk result (self.new.budget ≡ budget) }
+        ensures steps { meter.new.steps ≤ meter.old.steps + 1 }
+        ensures scans { meter.new.scans ≡ meter.old.scans }
+    {
+        empty_is_legal();
+        let at = self.replay.reached;
+        self.replay.prepare()?;
+        self.end = match self.replay.take_in(event, budget, meter)? {
+            Taken::Next => End::Alive,
+            Taken::Empty => End::Dead(at),
+            Taken::Over => End::Over(at),
+        };
+        self.budget = budget;
+        self.ready = at + 1;
+        Ok(())
+    }
+
+    /// A legal order of the events that were taken in, in places among the object's events, or none where the chain is dead or over.
+    ///
+    /// Asks that the chain is right for some history.
+    pub fn order(&self, alloc: Global) -> Result<Option<Vec<Placed>>, OutOfMemory>
+        requires { (h : List EventOf) × IsRight self.now h }
+        ensures { IfOk result (λ found. MatchOption found (end_in self.now ≢ End.Alive) (λ order. (end_in self.now ≡ End.Alive)
+            × ((h : List EventOf) → IsRight self.now h → IsLegalOrderAs (kind_in self.now) (take (ready_count self.now) h) order.items))) }
+    {
+        if !self.end.is_alive() {
+            return Ok(None);
+        }
+        Ok(Some(self.replay.order(alloc)?))
+    }
+}
+
+impl End {
+    /// Whether the events have a legal order.
+    fn is_alive(self) -> bool
+        ensures { IsTrue result ↔ (self ≡ End.Alive) }
+    {
+        matches!(self, End::Alive)
+    }
+}

@@ -1,0 +1,8 @@
+//! One object's frontiers over its events, with checkpoints to go back to after an edit.
+#![tactic(auto)]
+
+mod chain;
+mod pending;
+mod replay;
+
+pub use chain::{Chain, End};

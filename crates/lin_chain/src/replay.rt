@@ -1,0 +1,297 @@
+//! The frontiers that are kept of an object's events: the present one, and one at each 64th place.
+ghost use Rattle.std.specs.Prelude.{◌≡◌, ◌≢◌, ◌≤◌, ◌<◌, ◌+◌, ◌*◌, [], ℕ, ℤ, Bool, List, None, All, IfOk, IfSome, IfNone, OnOk, OnErr, length, take, min, vec_len, vec_capacity};
+ghost use Rattle.lin_history.specs.declared.calls.Name.{Name as NameOf};
+ghost use Rattle.lin_history.specs.declared.events.Event.{Event as EventOf};
+ghost use Rattle.lin_history.specs.Meters.{ticked};
+ghost use Rattle.lin_history.specs.Operations.{IsEvent};
+ghost use Rattle.lin_history.specs.WellFormed.{IsWellFormed};
+ghost use Rattle.lin_objects.specs.Steps.{Step as StepOf, start as start_of};
+ghost use Rattle.lin_order.specs.declared.placed.Placed.{Placed as PlacedOf};
+ghost use Rattle.lin_frontier.specs.Frontiers.{IsOver};
+ghost use Rattle.lin_frontier.specs.Nodes.{Spells};
+ghost use Rattle.lin_chain.specs.Replays.{IsCurrent, IsLegalOrderAs, IsLinearizableAs, IsPrepared, IsReplay, held_count};
+
+use crate::pending::{Pending, append};
+use lin_frontier::{Frontier, NodeId, Nodes, Open, Step, nothing_is_open_at_first};
+use lin_history::{Event, Meter, OutOfMemory, beginnings_are_well_formed};
+use lin_objects::{Any, Kind};
+use lin_order::{Placed, empty_is_legal};
+use std::alloc::Global;
+
+/// How many events are between two checkpoints.
+pub(crate) const SPACING: usize = 64;
+
+/// What is kept of the events before a place, to go on from there.
+#[derive(Drop)]
+pub(crate) struct Checkpoint {
+    frontier: Frontier<Any>,
+    /// How many nodes there were.
+    nodes: usize,
+    /// How many operations had crashed.
+    crashed: usize,
+    /// The open operations that had not crashed.
+    live: Vec<Open>,
+}
+
+/// What is known after the first events of an object, with checkpoints to go back to.
+#[derive(Drop)]
+pub(crate) struct Replay {
+    alloc: Global,
+    object: Any,
+    /// How many events are known.
+    pub(crate) reached: usize,
+    checkpoints: Vec<Checkpoint>,
+    /// The frontier after them. None where the last checkpoint has it.
+    present: Option<Frontier<Any>>,
+    /// What is open after them. Behind the crashed ones it holds anything where there is no present frontier.
+    pending: Pending,
+    nodes: Nodes,
+}
+
+/// What one more event made of the present frontier.
+#[derive(Clone, Copy)]
+pub(crate) enum Taken {
+    /// The next one: the event is known.
+    Next,
+    /// There is none: the events have no legal order. All is as before.
+    Empty,
+    /// There are more configurations than the budget. All is as before.
+    Over,
+}
+
+impl Replay {
+    /// No event is known.
+    pub(crate) fn new(alloc: Global, kind: Kind) -> Replay
+        ensures kind { result.object.kind ≡ kind }
+        ensures reached { result.reached ≡ 0 }
+        ensures right { (h : List EventOf) → IsReplay result h }
+    {
+        Replay {
+            alloc,
+            object: Any { kind },
+            reached: 0,
+            checkpoints: Vec::new(alloc),
+            present: None,
+            pending: Pending::new(alloc),
+            nodes: Nodes::new(alloc),
+        }
+    }
+
+    /// How many frontiers are held.
+    pub(crate) fn kept(&self) -> usize
+        ensures held { result ≡ held_count self.now }
+        ensures few { (h : List EventOf) → IsReplay self.now h → 64 * result ≤ self.now.reached + 128 }
+    {
+        self.checkpoints.len() + usize::from(self.present.is_some())
+    }
+
+    /// Forgets all events, for an object of another kind.
+    pub(crate) fn restart(&mut self, kind: Kind)
+        ensures kind { self.new.object.kind ≡ kind }
+        ensures reached { self.new.reached ≡ 0 }
+        ensures right { (h : List EventOf) → IsReplay self.new h }
+    {
+        self.object = Any { kind };
+        self.reached = 0;
+        self.checkpoints.clear();
+        self.present = None;
+        self.nodes.cut(0);
+    }
+
+    /// Goes back to the checkpoint with this number.
+    pub(crate) fn go_back(&mut self, number: usize)
+        requires { 64 * number ≤ usize.MAX }
+        ensures object { self.new.object ≡ self.old.object }
+        ensures reached { self.new.reached ≡ 64 * number }
+        ensures right { (h edited : List EventOf) → IsReplay self.old h → number < length self.old.checkpoints.items → take (64 * number) h ≡ take (64 * number) edited → IsReplay self.new edited }
+    {
+        self.reached = number * SPACING;
+        self.checkpoints.truncate(number + 1);
+        self.present = None;
+        if let Some(last) = self.checkpoints.last() {
+            self.nodes.cut(last.nodes);
+        }
+    }
+
+    /// Makes ready for one more event.
+    pub(crate) fn prepare(&mut self) -> Result<(), OutOfMemory>
+        requires { (h : List EventOf) × IsReplay self.old h }
+        ensures object { self.new.object ≡ self.old.object }
+        ensures reached { self.new.reached ≡ self.old.reached }
+        ensures right { (h : List EventOf) → IsReplay self.old h → IsReplay self.new h }
+        ensures prepared { OnOk result ((h : List EventOf) → IsReplay self.old h → IsPrepared self.new h) }
+        ensures some { OnOk result (0 < length self.new.checkpoints.items) }
+        ensures room { OnOk result (vec_len self.new.pending.operations < vec_capacity self.new.pending.operations) }
+    {
+        self.mark()?;
+        self.resume()?;
+        self.pending.reserve()
+    }
+
+    /// Makes a checkpoint, where one is due.
+    fn mark(&mut self) -> Result<(), OutOfMemory>
+        ensures object { self.new.object ≡ self.old.object }
+        ensures reached { self.new.reached ≡ self.old.reached }
+        ensures right { (h : List EventOf) → IsReplay self.old h → IsReplay self.new h }
+        ensures before { OnOk result ((h : List EventOf) → IsReplay self.old h → self.new.reached < 64 * length self.new.checkpoints.items) }
+        ensures some { OnOk result (0 < length self.new.checkpoints.items) }
+    {
+        if self.checkpoints.is_empty() {
+            self.begin()
+        } else if self.checkpoints.len() <= self.reached / SPACING {
+            self.keep()
+        } else {
+            Ok(())
+        }
+    }
+
+    /// Makes the first checkpoint, before any event.
+    fn begin(&mut self) -> Result<(), OutOfMemory>
+        requires { self.old.checkpoints.items ≡ [] }
+        ensures object { self.new.object ≡ self.old.object }
+        ensures reached { self.new.reached ≡ self.old.reached }
+        ensures right { (h : List EventOf) → IsReplay self.old h → IsReplay self.new h }
+        ensures before { OnOk result ((h : List EventOf) → IsReplay self.old h → self.new.reached < 64 * length self.new.checkpoints.items) }
+        ensures some { OnOk result (0 < length self.new.checkpoints.items) }
+    {
+        nothing_is_open_at_first();
+        if self.checkpoints.reserve(1).is_err() {
+            return Err(OutOfMemory);
+        }
+        let frontier = Frontier::start(self.alloc, &self.object, &mut self.nodes)?;
+        self.checkpoints.push_reserved(Checkpoint {
+            frontier,
+            nodes: self.nodes.len(),
+            crashed: 0,
+            live: Vec::new(self.alloc),
+        });
+        Ok(())
+    }
+
+    /// Makes a checkpoint of the present frontier.
+    fn keep(&mut self) -> Result<(), OutOfMemory>
+        requires { 64 * length self.old.checkpoints.items ≤ self.old.reached }
+        ensures object { self.new.object ≡ self.old.object }
+        ensures reached { self.new.reached ≡ self.old.reached }
+        ensures right { (h : List EventOf) → IsReplay self.old h → IsReplay self.new h }
+        ensures some { length self.old.checkpoints.items ≤ length self.new.checkpoints.items }
+        ensures before { OnOk result ((h : List EventOf) → IsReplay self.old h → 0 < length self.old.checkpoints.items → self.new.reached < 64 * length self.new.checkpoints.items) }
+    {
+        if self.checkpoints.reserve(1).is_err() {
+            return Err(OutOfMemory);
+        }
+        let mut live = Vec::new(self.alloc);
+        append(&mut live, self.pending.live())?;
+        if let Some(frontier) = self.present.take() {
+            self.checkpoints.push_reserved(Checkpoint {
+                frontier,
+                nodes: self.nodes.len(),
+                crashed: self.pending.crashed(),
+                live,
+            });
+        }
+        Ok(())
+    }
+
+    /// Lists the operations that are open at the last checkpoint, where that is the present.
+    fn resume(&mut self) -> Result<(), OutOfMemory>
+        requires { All (λ checkpoint. checkpoint.crashed ≤ self.old.pending.crashed) self.old.checkpoints.items }
+        ensures others { self.new ≡ record self.old { pending = self.new.pending } }
+        ensures right { (h : List EventOf) → IsReplay self.old h → IsReplay self.new h }
+        ensures prepared { OnOk result ((h : List EventOf) → IsReplay self.old h → self.old.reached < 64 * length self.old.checkpoints.items → IsPrepared self.new h) }
+    {
+        if self.present.is_some() {
+            return Ok(());
+        }
+        match self.checkpoints.last() {
+            Some(last) => self.pending.restore(last.crashed, &last.live),
+            None => Ok(()),
+        }
+    }
+
+    /// Takes one more event in, after `prepare`.
+    pub(crate) fn take_in(
+        &mut self,
+        event: &Event,
+        budget: u32,
+        meter: &mut Meter,
+    ) -> Result<Taken, OutOfMemory>
+        requires some { 0 < length self.old.checkpoints.items }
+        requires room { vec_len self.old.pending.operations < vec_capacity self.old.pending.operations }
+        requires fits { self.old.reached < usize.MAX }
+        ensures object { self.new.object ≡ self.old.object }
+        ensures next { result ≡ Ok Taken.Next → self.new.reached ≡ self.old.reached + 1 }
+        ensures stays { result ≢ Ok Taken.Next → self.new ≡ self.old }
+        ensures right { (functions : ℤ → NameOf → Bool) (h : List EventOf) → IsWellFormed functions h → IsEvent h self.old.reached event.now → IsPrepared self.old h → IsReplay self.new h }
+        ensures empty { result ≡ Ok Taken.Empty → (functions : ℤ → NameOf → Bool) (h : List EventOf) → IsWellFormed functions h → IsEvent h self.old.reached event.now → IsPrepared self.old h
+            → IsLinearizableAs self.old.object.kind (take (self.old.reached + 1) h) → ⊥ }
+        ensures over { result ≡ Ok Taken.Over → (functions : ℤ → NameOf → Bool) (h : List EventOf) → IsWellFormed functions h → IsEvent h self.old.reached event.now → IsPrepared self.old h
+            → IsOver (start_of self.old.object.kind) (StepOf self.old.object.kind) (take (self.old.reached + 1) h) budget }
+        ensures steps { meter.new.steps ≡ ticked meter.old.steps 1 }
+        ensures scans { meter.new.scans ≡ meter.old.scans }
+    {
+        beginnings_are_well_formed();
+        let Some(frontier) = current(&self.present, &self.checkpoints) else {
+            unreachable!()
+        };
+        let step = frontier.advance_all(
+            self.alloc,
+            &self.object,
+            self.pending.as_slice(),
+            self.reached,
+            event,
+            budget,
+            &mut self.nodes,
+            meter,
+        )?;
+        match step {
+            Step::Next(next) => {
+                self.pending.take_in(self.reached, event);
+                self.present = Some(next);
+                self.reached += 1;
+                Ok(Taken::Next)
+            }
+            Step::Empty => Ok(Taken::Empty),
+            Step::Over => Ok(Taken::Over),
+        }
+    }
+
+    /// A legal order of the events that are known.
+    pub(crate) fn order(&self, alloc: Global) -> Result<Vec<Placed>, OutOfMemory>
+        requires { (h : List EventOf) × IsReplay self.now h }
+        ensures { IfOk result (λ order. (h : List EventOf) → IsReplay self.now h → IsLegalOrderAs self.now.object.kind (take self.now.reached h) order.items) }
+    {
+        self.nodes.order(alloc, self.node())
+    }
+
+    /// The node of a legal order of them.
+    fn node(&self) -> NodeId
+        ensures { (h : List EventOf) → IsReplay self.now h → (order : List PlacedOf) × Spells self.now.nodes result order × IsLegalOrderAs self.now.object.kind (take self.now.reached h) order }
+    {
+        empty_is_legal();
+        let Some(frontier) = current(&self.present, &self.checkpoints) else {
+            return 0;
+        };
+        match frontier.get(0) {
+            Some((_, node)) => node,
+            None => 0,
+        }
+    }
+}
+
+/// The present frontier, or where there is none the last checkpoint's.
+fn current<'a>(
+    present: &'a Option<Frontier<Any>>,
+    checkpoints: &'a [Checkpoint],
+) -> Option<&'a Frontier<Any>>
+    ensures some { IfSome result (λ frontier. IsCurrent present.now checkpoints.now frontier.now) }
+    ensures none { IfNone result (checkpoints.now ≡ []) }
+{
+    match present {
+        Some(frontier) => Some(frontier),
+        None => match checkpoints.last() {
+            Some(last) => Some(&last.frontier),
+            None => None,
+        },
+    }
+}

@@ -1,0 +1,15 @@
+pub mod Absorbing
+pub mod Closing
+pub mod Counting
+pub mod Inserting
+pub mod Trying
+pub mod TriedOnce
+pub mod Outcomes
+pub mod Entries
+pub mod Events
+pub mod AfterEvents
+pub mod Completed
+pub mod Answered
+pub mod Spelling
+pub mod Marking
+pub mod PendingAfter

@@ -1,0 +1,5 @@
+pub mod Sameness
+pub mod Nodes
+pub mod Frontiers
+pub mod Walks
+pub mod Placing

@@ -1,0 +1,210 @@
+//! Configurations: where an object may stand, and which open operations it may have taken.
+ghost use Rattle.std.specs.Prelude.{◌≡◌, ◌↔◌, ◌∷◌, ◌++◌, ◌&&◌, ◌≤◌, [], length, take, drop, Contains, IfOk, OnOk, IsTrue};
+ghost use Rattle.std.specs.Cmp.{on_equiv, and_equiv, partial_equiv_from_equiv, decided};
+ghost use Rattle.std.specs.Cmp.Lexicographic.{pointwise};
+ghost use Rattle.std.specs.Hash as fed;
+ghost use Rattle.std.specs.Hash.{same_Alike, and-Alike, on_Alike};
+ghost use Rattle.lin_history.specs.declared.calls.Reply.{Reply as ReplyOf};
+ghost use Rattle.lin_frontier.specs.Placing.{IsAbsent, insert_pair, without};
+ghost use Rattle.lin_frontier.specs.Sameness.{pair_eq, placed_Decides};
+
+use lin_history::{OutOfMemory, Reply};
+use smallvec::SmallVec;
+use std::alloc::Global;
+use std::hash::{Hash, Hasher};
+use std::marker::Model;
+
+/// A state of the object, and the open operations that were placed on the way to it: each by its process, with the reply
+/// that it took, by rising process.
+#[derive(Drop)]
+pub struct Config<S: Eq + Hash> {
+    state: S,
+    placed: SmallVec<(u64, Reply), 4>,
+}
+
+impl<S: Eq + Hash> Model for Config<S> {
+    ghost use Rattle.std.specs.Prelude.{ℕ, List};
+    ghost use Rattle.lin_history.specs.declared.calls.Reply.{Reply as ReplyOf};
+
+    ghost Value = { S × List (ℕ × ReplyOf) };
+
+    ghost view = { λ c. (c.state, c.placed.items) };
+}
+
+impl<S: Eq + Hash> Config<S> {
+    /// The configuration in which nothing is placed.
+    pub fn new(alloc: Global, state: S) -> Self
+        ensures { result ≡ (state, []) }
+    {
+        Config {
+            state,
+            placed: SmallVec::new(alloc),
+        }
+    }
+
+    /// The object's state.
+    pub fn state(&self) -> &S
+        ensures { result.now ≡ self.now.0 }
+    {
+        &self.state
+    }
+
+    /// The open operations that were placed, by rising process, with their replies.
+    pub fn placed(&self) -> &[(u64, Reply)]
+        ensures { result.now ≡ self.now.1 }
+    {
+        self.placed.as_slice()
+    }
+}
+
+/// Puts a copy of the pair last.
+fn append_pair(
+    alloc: Global,
+    copy: &mut SmallVec<(u64, Reply), 4>,
+    pair: &(u64, Reply),
+) -> Result<(), OutOfMemory>
+    ensures { OnOk result (copy.new.items ≡ copy.old.items ++ pair.now ∷ []) }
+{
+    match copy.push((pair.0, pair.1.copy(alloc)?)) {
+        Ok(()) => Ok(()),
+        Err(_) => Err(OutOfMemory),
+    }
+}
+
+/// Puts copies of the pairs last.
+fn append_pairs(
+    alloc: Global,
+    copy: &mut SmallVec<(u64, Reply), 4>,
+    pairs: &[(u64, Reply)],
+) -> Result<(), OutOfMemory>
+    ensures { OnOk result (copy.new.items ≡ copy.old.items ++ pairs.now) }
+{
+    for pair in pairs {
+        append_pair(alloc, copy, pair)?;
+    }
+    Ok(())
+}
+
+/// Where a pair of the process belongs.
+fn place_of(placed: &[(u64, Reply)], process: u64) -> usize
+    ensures within { result ≤ length placed.now }
+    ensures place { (reply : ReplyOf) → insert_pair process reply placed.now ≡ take result placed.now ++ (process, reply) ∷ drop result placed.now }
+{
+    let mut i = 0;
+    while i < placed.len() {
+        if placed[i].0 >= process {
+            return i;
+        }
+        i += 1;
+    }
+    i
+}
+
+/// Whether no operation of the process is placed.
+pub fn is_absent(placed: &[(u64, Reply)], process: u64) -> bool
+    ensures { IsTrue result ↔ IsAbsent process placed.now }
+{
+    for pair in placed {
+        if pair.0 == process {
+            return false;
+        }
+    }
+    true
+}
+
+/// Whether the pair is of the process, with this reply.
+fn is_pair(pair: &(u64, Reply), process: u64, reply: &Reply) -> bool
+    ensures { IsTrue result ↔ (pair.now ≡ (process, reply.now)) }
+{
+    pair.0 == process && pair.1 == *reply
+}
+
+/// Whether the operation of the process is placed with this reply.
+pub fn is_placed(placed: &[(u64, Reply)], process: u64, reply: &Reply) -> bool
+    ensures { IsTrue result ↔ Contains placed.now (process, reply.now) }
+{
+    for pair in placed {
+        if is_pair(pair, process, reply) {
+            return true;
+        }
+    }
+    false
+}
+
+impl<S: Eq + Hash> Config<S> {
+    /// The configuration with this state and the same operations placed.
+    pub fn with_state(&self, alloc: Global, state: S) -> Result<Config<S>, OutOfMemory>
+    where
+        S: Drop,
+        ensures { IfOk result (λ c. c ≡ (state, self.now.1)) }
+    {
+        let mut placed = SmallVec::new(alloc);
+        append_pairs(alloc, &mut placed, self.placed.as_slice())?;
+        Ok(Config { state, placed })
+    }
+
+    /// The configuration with this state after one more operation is placed.
+    pub fn with_placed(
+        &self,
+        alloc: Global,
+        state: S,
+        process: u64,
+        reply: Reply,
+    ) -> Result<Config<S>, OutOfMemory>
+    where
+        S: Drop,
+        ensures { IfOk result (λ c. c ≡ (state, insert_pair process reply self.now.1)) }
+    {
+        let pairs = self.placed.as_slice();
+        let at = place_of(pairs, process);
+        let mut placed = SmallVec::new(alloc);
+        append_pairs(alloc, &mut placed, &pairs[..at])?;
+        match placed.push((process, reply)) {
+            Ok(()) => {}
+            Err(_) => return Err(OutOfMemory),
+        }
+        append_pairs(alloc, &mut placed, &pairs[at..])?;
+        Ok(Config { state, placed })
+    }
+
+    /// The configuration with this state, and without the operation of the process.
+    pub fn without(&self, alloc: Global, state: S, process: u64) -> Result<Config<S>, OutOfMemory>
+    where
+        S: Drop,
+        ensures { IfOk result (λ c. c ≡ (state, without process self.now.1)) }
+    {
+        let mut placed = SmallVec::new(alloc);
+        for pair in self.placed.as_slice() {
+            if pair.0 == process {
+                continue;
+            }
+            append_pair(alloc, &mut placed, pair)?;
+        }
+        Ok(Config { state, placed })
+    }
+}
+
+impl<S: Eq + Hash> PartialEq for Config<S> {
+    ghost eq = { λ a b. S.eq a.0 b.0 && pointwise pair_eq a.1 b.1 };
+
+    ghost laws = { partial_equiv_from_equiv (and_equiv (on_equiv (λ a. a.0) S.Eq.laws) (on_equiv (λ a. a.1) (decided (pointwise pair_eq) placed_Decides))) };
+
+    fn eq(&self, other: &Self) -> bool {
+        self.state == other.state && self.placed == other.placed
+    }
+}
+
+impl<S: Eq + Hash> Eq for Config<S> {
+    ghost laws = { and_equiv (on_equiv (λ a. a.0) S.Eq.laws) (on_equiv (λ a. a.1) (decided (pointwise pair_eq) placed_Decides)) };
+}
+
+impl<S: Eq + Hash> Hash for Config<S> {
+    ghost hash_input = { λ a. S.hash_input a.0 ++ fed.slice ⟦<(u64, Reply) as Hash>⟧.hash_input a.1 };
+
+    ghost respects_eq = { (and-Alike (on_Alike (λ a. a.0) (record { fed = S.respects_eq })) (on_Alike (λ a. a.1) (same_Alike (fed.slice ⟦<(u64, Reply) as Hash>⟧.hash_input) placed_Decides))).fed };
+
+    fn hash<H: Hasher>(&self, state: &mut H) {
+        self.state.hash(state);
+        self.placed.hash(state);
+    }
+}

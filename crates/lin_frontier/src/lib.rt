@@ -1,0 +1,17 @@
+//! Frontiers of one object: all configurations in which the legal orders of a history end, kept up to date event by event.
+#![tactic(auto)]
+
+mod configs;
+mod frontier;
+mod keeping;
+mod nodes;
+mod pending;
+mod placing;
+mod search;
+#[cfg(test)]
+mod tests;
+
+pub use configs::Config;
+pub use frontier::{Frontier, Step};
+pub use nodes::{NodeId, Nodes};
+pub use pending::{Open, nothing_is_open_at_first, take_in};

@@ -1,0 +1,99 @@
+//! Placing open operations in configurations.
+ghost use Rattle.std.specs.Prelude.{◌∷◌, ◌++◌, ◌+◌, [], length, OnOk};
+ghost use Rattle.lin_frontier.specs.Placing.{IsAbsent, IsTried, PlacesNext, PlacesOne};
+ghost use Rattle.lin_frontier.specs.Sameness.{config_same};
+ghost use Rattle.lin_frontier.specs.Walks.{IsTriedAtMost};
+
+use crate::configs::{Config, is_absent};
+use crate::pending::Open;
+use crate::search::Steps;
+use lin_history::{Meter, OutOfMemory};
+use lin_objects::SeqObject;
+use lin_order::Placed;
+use std::alloc::Global;
+
+/// Places the operation, which has no place in the configuration yet, in each way that the object has.
+fn place<O: SeqObject>(
+    object: &O,
+    alloc: Global,
+    config: &Config<O::State>,
+    operation: &Open,
+    out: &mut Vec<(Config<O::State>, Placed)>,
+    meter: &mut Meter,
+) -> Result<(), OutOfMemory>
+    requires { IsAbsent operation.now.process config.now.1 }
+    ensures placed { OnOk result (IsTried (PlacesOne (O.step object.now) operation.now config.now) out.old.items out.new.items) }
+    ensures tried { IsTriedAtMost 1 meter.old meter.new }
+{
+    meter.tick_try();
+    let mut steps = Vec::new(alloc);
+    object.outcomes(alloc, config.state(), &operation.call, &mut steps)?;
+    while let Some((state, reply)) = steps.pop() {
+        let placed = Placed {
+            at: operation.at,
+            reply: reply.copy(alloc)?,
+        };
+        let next = config.with_placed(alloc, state, operation.process, reply)?;
+        match out.push((next, placed)) {
+            Ok(()) => {}
+            Err(_) => return Err(OutOfMemory),
+        }
+    }
+    Ok(())
+}
+
+/// Places the operation in each way that the object has, if it has no place in the configuration yet.
+fn place_if_absent<O: SeqObject>(
+    object: &O,
+    alloc: Global,
+    config: &Config<O::State>,
+    operation: &Open,
+    out: &mut Vec<(Config<O::State>, Placed)>,
+    meter: &mut Meter,
+) -> Result<(), OutOfMemory>
+    ensures placed { OnOk result (IsTried (PlacesOne (O.step object.now) operation.now config.now) out.old.items out.new.items) }
+    ensures tried { IsTriedAtMost 1 meter.old meter.new }
+{
+    if is_absent(config.placed(), operation.process) {
+        return place(object, alloc, config, operation, out, meter);
+    }
+    Ok(())
+}
+
+/// Placing the operation that was invoked last, and behind it those that were open before.
+///
+/// Nothing else has to be tried after the invocation: what is reached without placing the new operation was reached
+/// before it.
+#[derive(Drop)]
+pub struct Placing<'a, O: SeqObject> {
+    pub object: &'a O,
+    pub pending: &'a [Open],
+    pub new: &'a Open,
+}
+
+impl<'a, O: SeqObject> Steps for Placing<'a, O> {
+    type State = Config<O::State>;
+
+    ghost step = { λ p c l d. PlacesNext (O.step p.object.now) p.pending.now p.new.now c l d };
+
+    ghost most = { λ p. length p.pending.now + 1 };
+
+    fn outcomes(
+        &self,
+        alloc: Global,
+        state: &Config<O::State>,
+        meter: &mut Meter,
+    ) -> Result<Vec<(Config<O::State>, Placed)>, OutOfMemory> {
+        let mut out = Vec::new(alloc);
+        if is_absent(state.placed(), self.new.process) {
+            place(self.object, alloc, state, self.new, &mut out, meter)?;
+            return Ok(out);
+        }
+        for operation in self.pending {
+            place_if_absent(self.object, alloc, state, operation, &mut out, meter)?;
+        }
+        Ok(out)
+    }
+
+    ghost same = { config_same O.same };
+}

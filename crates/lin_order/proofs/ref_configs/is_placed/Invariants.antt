@@ -1,0 +1,5 @@
+use Rattle.std.proofs.Common.{◌≡◌, All, take}
+use Rattle.lin_order.proofs.ref_configs.is_placed.Given as goal
+
+abbrev pub invariant-loop-pair : goal.invariant-loop-pair
+invariant-loop-pair l = All (λ p. p ≡ (l.process, l.reply) → ⊥) (take l.pair-index l.placed)

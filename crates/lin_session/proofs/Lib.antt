@@ -1,0 +1,12 @@
+pub mod Before
+pub mod Keys
+pub mod Lists
+pub mod Changes
+pub mod Picks
+pub mod Around
+pub mod Splits
+pub mod Found
+pub mod Rekinding
+pub mod Asking
+pub mod Scopes
+pub mod Wholes

@@ -1,0 +1,45 @@
+-- What is kept of the objects, where one object changes its kind.
+use Rattle.std.proofs.Common.{◌≡◌, ◌≢◌, ◌≤◌, ℕ, ℤ, Bool, true, false, List, length, take, slice_get, set, Contains, Some, refl, sym, ap, subst, ◌∙◌, if◌then◌else◌}
+use Rattle.std.specs.Ordering.{int_eq}
+use Rattle.std.proofs.lemmas.Bool.Decides.{Decides-int_eq}
+use Rattle.lin_history.specs.declared.events.Event.{Event}
+use Rattle.lin_objects.specs.declared.kinds.Kind.{Kind}
+use Rattle.lin_order.specs.Parts.{part, ArePositionsOf}
+use Rattle.lin_chain.specs.Chains.{kind_in, IsRight}
+use Rattle.lin_session.specs.declared.kept.Object.{Object}
+use Rattle.lin_session.specs.Objects.{IsObject, AreKept}
+use Rattle.lin_session.proofs.Changes.{AreKept-one, AreKept-none}
+
+module _ (kinds other : ℤ → Kind) (key : ℤ) (kind : Kind) (change : (x : ℤ) → other x ≡ (if int_eq key x then kind else kinds x)) where
+  kind_there : other key ≡ kind
+  kind_there = change key ∙ ap (λ b. if b then kind else kinds key) ((Decides-int_eq key key).1 refl)
+
+  kind_elsewhere : (x : ℤ) → x ≢ key → other x ≡ kinds x
+  kind_elsewhere x apart = change x ∙ by (int_eq key x) refl
+    where
+      by : (b : Bool) → int_eq key x ≡ b → (if int_eq key x then kind else kinds x) ≡ kinds x
+      by true e = absurd (apart (sym ((Decides-int_eq key x).0 e)))
+      by false e = ap (λ b. if b then kind else kinds x) e
+
+  stays : (h : List Event) (split : ℕ) (x : ℤ) (o : Object) → x ≢ key → IsObject kinds h split x o → IsObject other h split x o
+  stays h split x o apart is = record {
+    picked = is.picked;
+    kind = is.kind ∙ sym (kind_elsewhere x apart);
+    right = is.right;
+    counted = is.counted;
+  }
+
+  module _ (h : List Event) (split : ℕ) (keys : List ℤ) (objects : List Object) (kept : AreKept kinds h split keys objects) where
+    pub AreKept-rekinded : (i : ℕ) (old object : Object) → slice_get keys i ≡ Some key → slice_get objects i ≡ Some old → object.picks ≡ old.picks → object.count ≡ old.count
+        → kind_in object.chain ≡ kind → ((part' : List Event) → IsRight object.chain part') → AreKept other h split keys (set objects i object)
+    AreKept-rekinded i old object key_at old_at picks count kind_is right =
+        AreKept-one kinds other h h split split keys objects kept kept.within i key object key_at kept.known old old_at (λ is. record {
+          picked = subst (λ p. ArePositionsOf key (take split h) p.items) (sym picks) is.picked;
+          kind = kind_is ∙ sym kind_there;
+          right = right (part key h);
+          counted = subst (λ n. n ≤ length (part key h)) (sym count) is.counted;
+        }) (stays h split)
+
+    pub AreKept-rekinded_unlisted : (Contains keys key → ⊥) → AreKept other h split keys objects
+    AreKept-rekinded_unlisted absent =
+        AreKept-none kinds other h h split split keys objects kept kept.within kept.known (λ x o listed. stays h split x o (λ is. absent (subst (Contains keys) is listed)))

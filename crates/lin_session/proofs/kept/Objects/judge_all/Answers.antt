@@ -1,0 +1,63 @@
+use Rattle.std.proofs.Common.{◌≡◌, ◌<◌, ◌+◌, inl, inr, ℤ, pos, Some, ◌++◌, ◌∷◌, [], length, slice_get, get_or, take, sym, ap, subst, ◌∙◌, arith, add-one}
+use Rattle.std.proofs.lemmas.Bool.{cases_order}
+use Rattle.std.proofs.lemmas.List.{take_all}
+use Rattle.std.proofs.lemmas.Option.{slice_get-get_or}
+use Rattle.lin_session.specs.Judgements.{AreFound, least}
+use Rattle.lin_session.proofs.Lists.{take_next}
+use Rattle.lin_session.proofs.Wholes.{AreFound-more, least_none}
+use Rattle.lin_session.proofs.kept.Objects.judge_all.Goals as goal
+use Rattle.lin_session.proofs.kept.Objects.judge_all.Goals.{In_ok-found}
+
+pub judge-requires-clause-right : goal.judge-requires-clause-right
+judge-requires-clause-right c = let r = c.requires.right in (r.0, c.loop-i.invariant.right r.0 r.1, r.2)
+
+pub returns-in_err-found-clause-right : goal.returns-in_err-found-clause-right
+returns-in_err-found-clause-right c = λ kinds kept. c.judge.ensures.right kinds (c.loop-i.invariant.right kinds kept)
+
+pub loop-i-preserved : goal.loop-i-preserved
+loop-i-preserved c =
+    let inv = c.loop-i.invariant in
+    let i = c.loop-i.i in
+    let h = c.args.events.now in
+    let keys = c.args.self.now.keys.keys in
+    let within : i < length keys = omega (arith, c.loop-i-test.true, c.len-i-end.ensures, c.args.self.now.objects.ok.0, c.args.self.now.aligned) in
+    let key : ℤ = get_or keys i (pos 0) in
+    let key_at : slice_get keys i ≡ Some key = slice_get-get_or keys i (pos 0) within in
+    let f = c.loop-i.failing in
+    let o = c.loop-i.over in
+    record {
+      keys = c.judge.ensures.keys ∙ inv.keys;
+      split = c.judge.ensures.split ∙ inv.split;
+      right = λ kinds kept. c.judge.ensures.right kinds (inv.right kinds kept);
+      found = λ kinds kept fine.
+          let key_now = subst (λ k. slice_get k.keys i ≡ Some key) (sym inv.keys) key_at in
+          let finding = c.in_ok-found.ensures.found kinds key key_now (inv.right kinds kept) fine in
+          let more = AreFound-more kinds c.args.budget h (take i keys) f o c.in_ok-found.found.0 c.in_ok-found.found.1 key (inv.found kinds kept fine) finding in
+          let keys_are : take i keys ++ key ∷ [] ≡ take (i + 1) keys = sym (take_next i keys key key_at) ∙ ap (λ n. take n keys) (sym (add-one i)) in
+          subst (λ a. AreFound kinds c.args.budget h (take (i + 1) keys) a c.least_of-over.result) (sym c.least_of-failing.ensures)
+          (subst (λ b. AreFound kinds c.args.budget h (take (i + 1) keys) (least f c.in_ok-found.found.0) b) (sym c.least_of-over.ensures)
+          (subst (λ k. AreFound kinds c.args.budget h k (least f c.in_ok-found.found.0) (least o c.in_ok-found.found.1)) keys_are more));
+      alive = λ none_failing none_over j object below object_at.
+          let a = least_none f c.in_ok-found.found.0 (sym c.least_of-failing.ensures ∙ none_failing) in
+          let b = least_none o c.in_ok-found.found.1 (sym c.least_of-over.ensures ∙ none_over) in
+          elim (cases_order j i) [
+            | inl here ↦ c.in_ok-found.ensures.alive a.1 b.1 object (ap (slice_get c.judge.new.self.objects.items) (sym here) ∙ object_at)
+            | inr rest ↦ elim rest [
+              | inl before ↦ inv.alive a.0 b.0 j object before (c.judge.ensures.others j object (λ e. omega (arith, e, before)) object_at)
+              | inr after ↦ absurd (omega (arith, after, below))
+            ]
+          ];
+    }
+
+pub returns-clause-found : goal.returns-clause-found
+returns-clause-found c = λ kinds kept fine.
+    let keys = c.args.self.now.keys.keys in
+    let all : take c.loop-i.i keys ≡ keys = take_all c.loop-i.i keys (omega (arith, c.loop-i-test.false, c.len-i-end.ensures, c.args.self.now.objects.ok.0, c.args.self.now.aligned)) in
+    subst (λ k. AreFound kinds c.args.budget c.args.events.now k c.loop-i.failing c.loop-i.over) all (c.loop-i.invariant.found kinds kept fine)
+
+pub returns-clause-alive : goal.returns-clause-alive
+returns-clause-alive c = λ none_failing none_over k d within.
+    let same = ap (λ k. length k.keys) c.loop-i.invariant.keys in
+    c.loop-i.invariant.alive none_failing none_over k (get_or c.loop-i.self.objects.items k d)
+    (omega (arith, within, same, c.loop-i.self.aligned, c.loop-i-test.false, c.len-i-end.ensures, c.args.self.now.objects.ok.0, c.args.self.now.aligned))
+    (slice_get-get_or c.loop-i.self.objects.items k d within)

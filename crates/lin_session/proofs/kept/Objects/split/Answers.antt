@@ -1,0 +1,17 @@
+use Rattle.std.proofs.Common.{◌≡◌, Some, length, slice_get, refl, sym, arith, to_z, of_z, w64, rules}
+use Rattle.std.proofs.lemmas.Int.{to_z-of_z}
+use Rattle.std.proofs.lemmas.Option.{slice_get_read}
+use Rattle.lin_objects.specs.Kinds.{kind_of}
+use Rattle.lin_session.proofs.kept.Objects.split.Goals as goal
+
+pub loop-self-preserved : goal.loop-self-preserved
+loop-self-preserved c =
+    let events = c.args.events.now in
+    let event = c.index-events-self.result in
+    let stands : slice_get events c.loop-self.self.split ≡ Some event =
+    slice_get_read events (length events) c.loop-self.self.split event refl (omega (arith, c.loop-self-test.true)) c.index-events-self.is in
+    let is_key : to_z w64 (of_z w64 event.key) ≡ event.key = to_z-of_z w64 event.key (search rules) in
+    c.in_ok-split_next.ensures.next (kind_of c.args.kinds.now) events event stands (sym is_key) (sym c.of.ensures) c.loop-self.invariant
+
+pub returns-in_err-split_next-clause-right : goal.returns-in_err-split_next-clause-right
+returns-in_err-split_next-clause-right c = c.in_err-split_next.ensures.same (kind_of c.args.kinds.now) c.args.events.now c.loop-self.invariant

@@ -1,0 +1,16 @@
+use Rattle.std.specs.Prelude.{remove}
+use Rattle.lin_session.specs.Objects.{AreRight}
+use Rattle.std.proofs.Common.{arith, sym, subst}
+use Rattle.lin_session.proofs.Before.{AgreeBefore-events, take-removed}
+use Rattle.lin_objects.specs.Kinds.{kind_of}
+use Rattle.lin_session.proofs.session.Session.remove.Goals as goal
+
+pub invariant_of-self : goal.invariant_of-self
+invariant_of-self c = record {
+  few = omega (arith, c.self.invariant.few, c.remove.ensures.len, c.remove.new.self.ok.0, c.self.inside.events.ok.0);
+  budgeted = c.self.invariant.budgeted;
+  scanned = c.cut.ensures.right _ _ _ _ c.self.invariant.scanned (AgreeBefore-events _ _ _ _ (rw c.remove.ensures.items (take-removed c.args.at c.self.inside.events.items (omega (arith, c.self.inside.events.ok.0, c.len.ensures)))));
+  kept = subst (AreRight c.leave.new.self (kind_of c.self.inside.kinds)) (sym c.remove.ensures.items)
+      (subst (λ l. AreRight c.leave.new.self (kind_of c.self.inside.kinds) (remove l c.args.at)) c.deref.ensures.value
+      (c.leave.ensures.right (kind_of c.self.inside.kinds) (subst (AreRight c.self.inside.objects (kind_of c.self.inside.kinds)) (sym c.deref.ensures.value) c.self.invariant.kept)));
+}

@@ -1,0 +1,57 @@
+-- What the answers to questions say of the present history.
+use Rattle.std.specs.Prelude.{◌≡◌, ◌+◌, ◌-◌, ◌≤◌, ℕ, ℤ, List, length, take}
+use Rattle.lin_history.specs.declared.events.Event.{Event}
+use Rattle.lin_history.specs.declared.shapes.Shape.TheVariants.{Bad}
+use Rattle.lin_history.specs.Operations.{IsEvent}
+use Rattle.lin_history.specs.WellFormed.{IsShape, IsWellFormed}
+use Rattle.lin_objects.specs.declared.kinds.Kind.{Kind}
+use Rattle.lin_objects.specs.Kinds.{kind_of, functions_of}
+use Rattle.lin_objects.specs.Steps.{Step, start}
+use Rattle.lin_order.specs.Linearizable.{IsLegalOrder, IsLegalOrderFor, IsLinearizable, IsLinearizableFor}
+use Rattle.lin_order.specs.Parts.{part}
+use Rattle.lin_frontier.specs.Frontiers.{IsOver}
+use Rattle.lin_session.specs.declared.answers.Answer.{Answer}
+use Rattle.lin_session.specs.declared.answers.Answer.TheVariants.{IllFormed, Yes, No, Undecided}
+use Rattle.lin_session.specs.declared.answers.Scope.{Scope}
+use Rattle.lin_session.specs.declared.answers.Scope.TheVariants.{Object, Whole}
+use Rattle.lin_session.specs.Edits.{Present}
+
+-- the kind of each key's object
+abbrev pub kinds_in : Present → ℤ → Kind
+kinds_in now = kind_of now.kinds
+
+-- the shortest prefix of the history that hasn't the property has so many events
+pub record IsShortestWithout (holds : List Event → Type 0) (h : List Event) (n : ℕ) : Type 0 where
+  pub within : n ≤ length h
+  pub fails : holds (take n h) → ⊥
+  pub before : holds (take (n - 1) h)
+
+-- with the event at the position, which is of the key, the object has more configurations than the budget
+pub record IsOverAt (kinds : ℤ → Kind) (budget : ℕ) (h : List Event) (key : ℤ) (at : ℕ) : Type 0 where
+  pub event : Event
+  pub stands : IsEvent h at event
+  pub same : event.key ≡ key
+  pub over : IsOver (start (kinds key)) (Step (kinds key)) (part key (take (at + 1) h)) budget
+
+-- of a well-formed history the answer for one object
+abbrev pub IsObjectAnswer : (ℤ → Kind) → ℕ → List Event → ℤ → Answer → Type 0
+IsObjectAnswer kinds budget h key (IllFormed at cause) = ⊥
+IsObjectAnswer kinds budget h key (Yes order) = IsLegalOrderFor kinds key h order.items
+IsObjectAnswer kinds budget h key (No n) = IsShortestWithout (IsLinearizableFor kinds key) h n
+IsObjectAnswer kinds budget h key (Undecided at) = IsOverAt kinds budget h key at
+
+-- of a well-formed history the answer for the whole. Where it is undecided, no shorter failure is hidden: up to there the history is linearizable
+abbrev pub IsWholeAnswer : (ℤ → Kind) → ℕ → List Event → Answer → Type 0
+IsWholeAnswer kinds budget h (IllFormed at cause) = ⊥
+IsWholeAnswer kinds budget h (Yes order) = IsLegalOrder kinds h order.items
+IsWholeAnswer kinds budget h (No n) = IsShortestWithout (IsLinearizable kinds) h n
+IsWholeAnswer kinds budget h (Undecided at) = IsLinearizable kinds (take (at + 1) h) × (key : ℤ) × IsOverAt kinds budget h key at
+
+abbrev pub IsScopeAnswer : Present → Scope → Answer → Type 0
+IsScopeAnswer now (Object key) answer = IsObjectAnswer (kinds_in now) now.budget now.history key answer
+IsScopeAnswer now Whole answer = IsWholeAnswer (kinds_in now) now.budget now.history answer
+
+-- the answer: that the history isn't well-formed, with its least bad position and the first cause there, or one for the scope
+abbrev pub IsAnswer : Present → Scope → Answer → Type 0
+IsAnswer now scope (IllFormed at cause) = IsShape (functions_of (kinds_in now)) now.history (Bad at cause)
+IsAnswer now scope answer = IsWellFormed (functions_of (kinds_in now)) now.history × IsScopeAnswer now scope answer

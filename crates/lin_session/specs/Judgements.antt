@@ -1,0 +1,47 @@
+-- What is found of the objects of a history, one after the other: the shortest failing prefix, and the first place where one is over the budget.
+use Rattle.std.specs.Prelude.{◌≡◌, ◌≤◌, ◌<◌, ◌⊎◌, ℕ, ℤ, min, List, Option, None, Some, Contains, length}
+use Rattle.lin_history.specs.declared.events.Event.{Event}
+use Rattle.lin_objects.specs.declared.kinds.Kind.{Kind}
+use Rattle.lin_order.specs.Linearizable.{IsLinearizableFor}
+use Rattle.lin_chain.specs.declared.chain.End.TheVariants.{Alive}
+use Rattle.lin_chain.specs.Chains.{end_in, ready_count}
+use Rattle.lin_session.specs.declared.answers.Answer.{Answer}
+use Rattle.lin_session.specs.declared.answers.Answer.TheVariants.{No, Undecided}
+use Rattle.lin_session.specs.declared.kept.Object.{Object}
+use Rattle.lin_session.specs.Answers.{IsShortestWithout, IsOverAt}
+
+-- the lesser of two numbers, where there are two
+abbrev pub least : Option ℕ → Option ℕ → Option ℕ
+least None b = b
+least (Some m) None = Some m
+least (Some m) (Some n) = Some (min m n)
+
+-- what was found of one object: the prefix that fails it, or the place where it is over, or that it is linearizable
+abbrev pub IsFinding : (ℤ → Kind) → ℕ → List Event → ℤ → Option ℕ → Option ℕ → Type 0
+IsFinding kinds budget h key (Some n) over = (over ≡ None) × IsShortestWithout (IsLinearizableFor kinds key) h n
+IsFinding kinds budget h key None (Some at) = IsOverAt kinds budget h key at
+IsFinding kinds budget h key None None = IsLinearizableFor kinds key h
+
+-- an object is linearizable, or fails at no shorter prefix than the one found, or is over at no earlier place than the one found
+abbrev pub IsCovered : (ℤ → Kind) → ℕ → List Event → Option ℕ → Option ℕ → ℤ → Type 0
+IsCovered kinds budget h failing over key = IsLinearizableFor kinds key h
+    ⊎ ((n m : ℕ) × (failing ≡ Some n) × (n ≤ m) × IsShortestWithout (IsLinearizableFor kinds key) h m)
+    ⊎ ((u v : ℕ) × (over ≡ Some u) × (u ≤ v) × IsOverAt kinds budget h key v)
+
+-- what was found of the objects of these keys
+pub record AreFound (kinds : ℤ → Kind) (budget : ℕ) (h : List Event) (keys : List ℤ) (failing over : Option ℕ) : Type 0 where
+  pub fails : (n : ℕ) → failing ≡ Some n → (key : ℤ) × IsShortestWithout (IsLinearizableFor kinds key) h n
+  pub stands_over : (at : ℕ) → over ≡ Some at → (key : ℤ) × IsOverAt kinds budget h key at
+  pub each : (key : ℤ) → Contains keys key → IsCovered kinds budget h failing over key
+
+-- the object's chain took in all its events, and is alive
+pub record IsAlive (object : Object) : Type 0 where
+  pub alive : end_in object.chain ≡ Alive
+  pub all : ready_count object.chain ≡ length object.picks.items
+
+-- the answer for the whole, where it isn't yes: the failing prefix, unless an object is over at an earlier place
+abbrev pub IsTold : Option ℕ → Option ℕ → Option Answer → Type 0
+IsTold None None told = told ≡ None
+IsTold None (Some at) told = told ≡ Some (Undecided at)
+IsTold (Some n) None told = told ≡ Some (No n)
+IsTold (Some n) (Some at) told = ((n ≤ at) × (told ≡ Some (No n))) ⊎ ((at < n) × (told ≡ Some (Undecided at)))

@@ -1,0 +1,5 @@
+pub mod Edits
+pub mod Answers
+pub mod Objects
+pub mod Sessions
+pub mod Judgements

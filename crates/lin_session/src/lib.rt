@@ -1,0 +1,12 @@
+//! A history that is written and corrected, and whether it is linearizable (Herlihy and Wing 1990).
+#![tactic(auto)]
+
+mod answers;
+mod edits;
+mod kept;
+mod objects;
+mod session;
+
+pub use answers::{Answer, Scope};
+pub use edits::{Edit, EditFault};
+pub use session::Session;

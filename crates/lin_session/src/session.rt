@@ -1,0 +1,320 @@
+//! A history that is edited, with what was found of it kept up to date.
+ghost use Rattle.std.specs.Prelude.{◌≡◌, ◌≢◌, ◌↔◌, ◌<◌, ◌≤◌, ◌⊎◌, ◌-◌, ◌∷◌, ◌++◌, [], ℤ, true, false, map, Err, Some, IfOk, IfErr, IfSome, IfNone, OnOk, OnErr, length, slice_get, slice_set, remove, take};
+ghost use Rattle.lin_objects.specs.declared.kinds.Kind.{Kind as KindOf};
+ghost use Rattle.lin_objects.specs.Kinds.{is_named, kind_of, named_count, same_for_all, with_kind};
+ghost use Rattle.lin_session.specs.Edits.{IsBudget, IsRefused, edited};
+ghost use Rattle.lin_session.specs.Answers.{IsAnswer};
+ghost use Rattle.lin_session.specs.Objects.{AreRight, split_in};
+ghost use Rattle.lin_session.specs.Sessions.{AreKeys};
+
+use crate::answers::{Answer, Scope};
+use crate::edits::{Edit, EditFault};
+use crate::kept::Objects;
+use lin_history::{Event, Meter, OutOfMemory, Shape};
+use lin_objects::{Kind, Kinds, KindsFault};
+use lin_wellformed::Scan;
+use std::alloc::Global;
+use std::marker::Model;
+
+/// How many events a history may have.
+const EVENTS: usize = 1_000_000;
+
+/// The greatest budget.
+const BUDGET: u32 = 1_000_000;
+
+/// A history with the kinds of its objects and a budget, edited and asked about in turn.
+///
+/// What was found of the history is kept, and an edit takes back only what it makes uncertain.
+#[derive(Drop)]
+pub struct Session {
+    events: Vec<Event>,
+    kinds: Kinds,
+    budget: u32,
+    scan: Scan,
+    objects: Objects,
+    meter: Meter,
+}
+
+impl Model for Session {
+    ghost use Rattle.lin_session.specs.Sessions.{Standing, IsUpToDate};
+
+    ghost Value = { Standing };
+
+    ghost view = { λ s. record { present = record { history = s.events.items; kinds = s.kinds; budget = s.budget }; meter = s.meter } };
+
+    ghost invariant = { λ s. IsUpToDate (record { history = s.events.items; kinds = s.kinds; budget = s.budget }) s.scan s.objects };
+}
+
+impl Session {
+    /// The empty history, with all objects of one kind.
+    ///
+    /// The budget is how many configurations may be kept for one object: from 1 to 1,000,000, and else `BadBudget`.
+    pub fn new(alloc: Global, default: Kind, budget: u32) -> Result<Session, EditFault>
+        ensures opened { IfOk result (λ session. session.present ≡ record { history = []; kinds = same_for_all default; budget = budget }) }
+        ensures unused { IfOk result (λ session. session.meter ≡ record { scans = 0; steps = 0; tries = 0 }) }
+        ensures refused { (result ≡ Err EditFault.BadBudget) ↔ (IsBudget budget → ⊥) }
+        ensures fault { IfErr result (λ fault. fault ≡ EditFault.BadBudget) }
+    {
+        if !is_budget(budget) {
+            return Err(EditFault::BadBudget);
+        }
+        Ok(Session {
+            events: Vec::new(alloc),
+            kinds: Kinds::new(alloc, default),
+            budget,
+            scan: Scan::new(alloc),
+            objects: Objects::new(alloc),
+            meter: Meter::new(),
+        })
+    }
+
+    /// How many events the history has.
+    pub fn len(&self) -> usize
+        ensures { result ≡ length self.now.present.history }
+    {
+        self.events.len()
+    }
+
+    /// The event at the position, if there is one.
+    pub fn event(&self, at: usize) -> Option<&Event>
+        ensures found { IfSome result (λ event. slice_get self.now.present.history at ≡ Some event.now) }
+        ensures past { IfNone result (length self.now.present.history ≤ at) }
+    {
+        self.events.get(at)
+    }
+
+    /// The kind of the key's object.
+    pub fn kind_of(&self, key: i64) -> Kind
+        ensures { result ≡ kind_of self.now.present.kinds key }
+    {
+        self.kinds.of(key)
+    }
+
+    /// How many configurations may be kept for one object.
+    pub fn budget(&self) -> u32
+        ensures { result ≡ self.now.present.budget }
+    {
+        self.budget
+    }
+
+    /// How much was done so far.
+    pub fn meter(&self) -> &Meter
+        ensures { result.now ≡ self.now.meter }
+    {
+        &self.meter
+    }
+
+    /// The keys of the history, each once, rising. Takes time and memory linear in the number of events, and sorts them.
+    pub fn objects(&self, alloc: Global) -> Result<Vec<i64>, OutOfMemory>
+        ensures { IfOk result (λ keys. AreKeys self.now.present.history keys.items) }
+    {
+        let mut keys = keys_of(alloc, &self.events)?;
+        keys.sort_unstable();
+        keys.dedup();
+        Ok(keys)
+    }
+
+    /// Whether the present history is linearizable, for the scope.
+    ///
+    /// `OutOfMemory` is answered only where memory was refused; then the next question is answered as if this one had not been
+    /// asked.
+    pub fn ask(&mut self, alloc: Global, scope: Scope) -> Result<Answer, OutOfMemory>
+        ensures answer { IfOk result (IsAnswer self.old.present scope) }
+        ensures present { self.new.present ≡ self.old.present }
+    {
+        match self
+            .scan
+            .settle(&self.events, &self.kinds, &mut self.meter)?
+        {
+            Shape::Good => {}
+            Shape::Bad { at, cause } => return Ok(Answer::IllFormed { at, cause }),
+        }
+        self.objects.split(alloc, &self.events, &self.kinds)?;
+        match scope {
+            Scope::Object(key) => self
+                .objects
+                .ask(alloc, key, &self.events, self.budget, &mut self.meter),
+            Scope::Whole => {
+                self.objects
+                    .ask_whole(alloc, &self.events, self.budget, &mut self.meter)
+            }
+        }
+    }
+
+    /// Makes the edit, or hands it back with why it is refused, and then nothing has changed.
+    ///
+    /// `Truncate` keeps at most as many events as there are; `Replace` and `Remove` name a position of the history: else
+    /// `BadPosition`. `Full` is an event more than 1,000,000, or a named key more than 65,536. `BadBudget` is a budget that
+    /// is not from 1 to 1,000,000. Only `Append` and `SetKind` take memory.
+    pub fn apply(&mut self, edit: Edit) -> Result<(), (Edit, EditFault)>
+        ensures made { OnOk result (self.new.present ≡ edited edit self.old.present) }
+        ensures handed_back { IfErr result (λ refused. (refused.0 ≡ edit) × IsRefused edit self.old.present refused.1) }
+        ensures refused { (fault : EditFault) → fault ≢ EditFault.OutOfMemory → IsRefused edit self.old.present fault → result ≡ Err (edit, fault) }
+        ensures same { OnErr result (self.new ≡ self.old) }
+        ensures idle { self.new.meter ≡ self.old.meter }
+    {
+        match edit {
+            Edit::Append(event) => match self.append(event) {
+                Ok(()) => Ok(()),
+                Err((event, fault)) => Err((Edit::Append(event), fault)),
+            },
+            Edit::Truncate(count) => match self.truncate(count) {
+                Ok(()) => Ok(()),
+                Err(fault) => Err((Edit::Truncate(count), fault)),
+            },
+            Edit::Replace(at, event) => match self.replace(at, event) {
+                Ok(()) => Ok(()),
+                Err((event, fault)) => Err((Edit::Replace(at, event), fault)),
+            },
+            Edit::Remove(at) => match self.remove(at) {
+                Ok(()) => Ok(()),
+                Err(fault) => Err((Edit::Remove(at), fault)),
+            },
+            Edit::SetKind(key, kind) => match self.set_kind(key, kind) {
+                Ok(()) => Ok(()),
+                Err(fault) => Err((Edit::SetKind(key, kind), fault)),
+            },
+            Edit::SetBudget(budget) => match self.set_budget(budget) {
+                Ok(()) => Ok(()),
+                Err(fault) => Err((Edit::SetBudget(budget), fault)),
+            },
+        }
+    }
+
+    fn append(&mut self, event: Event) -> Result<(), (Event, EditFault)>
+        ensures made { OnOk result (self.new.present ≡ record self.old.present { history = self.old.present.history ++ event ∷ [] }) }
+        ensures full { (result ≡ Err (event, EditFault.Full)) ↔ (1000000 ≤ length self.old.present.history) }
+        ensures handed_back { IfErr result (λ refused. (refused.0 ≡ event) × ((refused.1 ≡ EditFault.Full) ⊎ (refused.1 ≡ EditFault.OutOfMemory))) }
+        ensures same { OnErr result (self.new ≡ self.old) }
+        ensures idle { self.new.meter ≡ self.old.meter }
+    {
+        if self.events.len() >= EVENTS {
+            return Err((event, EditFault::Full));
+        }
+        if self.events.reserve(1).is_err() {
+            return Err((event, EditFault::OutOfMemory));
+        }
+        self.scan.cut(self.events.len());
+        self.objects.put_in(event.key, &[]);
+        self.events.push_reserved(event);
+        Ok(())
+    }
+
+    fn truncate(&mut self, count: usize) -> Result<(), EditFault>
+        ensures made { OnOk result (self.new.present ≡ record self.old.present { history = take count self.old.present.history }) }
+        ensures refused { (result ≡ Err EditFault.BadPosition) ↔ (length self.old.present.history < count) }
+        ensures fault { IfErr result (λ fault. fault ≡ EditFault.BadPosition) }
+        ensures same { OnErr result (self.new ≡ self.old) }
+        ensures idle { self.new.meter ≡ self.old.meter }
+    {
+        if count > self.events.len() {
+            return Err(EditFault::BadPosition);
+        }
+        self.scan.cut(count);
+        cut_back(&mut self.events, &mut self.objects, count);
+        Ok(())
+    }
+
+    fn replace(&mut self, at: usize, event: Event) -> Result<(), (Event, EditFault)>
+        ensures made { OnOk result (self.new.present ≡ record self.old.present { history = slice_set self.old.present.history at event }) }
+        ensures refused { (result ≡ Err (event, EditFault.BadPosition)) ↔ (length self.old.present.history ≤ at) }
+        ensures handed_back { IfErr result (λ refused. (refused.0 ≡ event) × (refused.1 ≡ EditFault.BadPosition)) }
+        ensures same { OnErr result (self.new ≡ self.old) }
+        ensures idle { self.new.meter ≡ self.old.meter }
+    {
+        if at >= self.events.len() {
+            return Err((event, EditFault::BadPosition));
+        }
+        self.scan.cut(at);
+        self.objects.replace(&self.events, at, &event);
+        self.events[at] = event;
+        Ok(())
+    }
+
+    fn remove(&mut self, at: usize) -> Result<(), EditFault>
+        ensures made { OnOk result (self.new.present ≡ record self.old.present { history = remove self.old.present.history at }) }
+        ensures refused { (result ≡ Err EditFault.BadPosition) ↔ (length self.old.present.history ≤ at) }
+        ensures fault { IfErr result (λ fault. fault ≡ EditFault.BadPosition) }
+        ensures same { OnErr result (self.new ≡ self.old) }
+        ensures idle { self.new.meter ≡ self.old.meter }
+    {
+        if at >= self.events.len() {
+            return Err(EditFault::BadPosition);
+        }
+        self.scan.cut(at);
+        self.objects.leave(&self.events, at);
+        let _ = self.events.remove(at);
+        Ok(())
+    }
+
+    fn set_kind(&mut self, key: i64, kind: Kind) -> Result<(), EditFault>
+        ensures made { OnOk result (self.new.present ≡ record self.old.present { kinds = with_kind key kind self.old.present.kinds }) }
+        ensures full { (result ≡ Err EditFault.Full) ↔ ((named_count self.old.present.kinds ≡ 65536) × (is_named self.old.present.kinds key ≡ false)) }
+        ensures fault { IfErr result (λ fault. (fault ≡ EditFault.Full) ⊎ (fault ≡ EditFault.OutOfMemory)) }
+        ensures same { OnErr result (self.new ≡ self.old) }
+        ensures idle { self.new.meter ≡ self.old.meter }
+    {
+        match self.kinds.set(key, kind) {
+            Ok(()) => {}
+            Err(KindsFault::Full) => return Err(EditFault::Full),
+            Err(KindsFault::OutOfMemory) => return Err(EditFault::OutOfMemory),
+        }
+        // Which functions the object has decides which of its invocations are bad.
+        self.scan.cut(0);
+        self.objects.rekind(key, kind);
+        Ok(())
+    }
+
+    fn set_budget(&mut self, budget: u32) -> Result<(), EditFault>
+        ensures made { OnOk result (self.new.present ≡ record self.old.present { budget = budget }) }
+        ensures refused { (result ≡ Err EditFault.BadBudget) ↔ (IsBudget budget → ⊥) }
+        ensures fault { IfErr result (λ fault. fault ≡ EditFault.BadBudget) }
+        ensures same { OnErr result (self.new ≡ self.old) }
+        ensures idle { self.new.meter ≡ self.old.meter }
+    {
+        if !is_budget(budget) {
+            return Err(EditFault::BadBudget);
+        }
+        self.budget = budget;
+        Ok(())
+    }
+}
+
+/// Takes the last events out, one by one, until no more than so many are left.
+fn cut_back(events: &mut Vec<Event>, objects: &mut Objects, count: usize)
+    requires { split_in objects.old ≤ length events.old.items }
+    ensures left { events.new.items ≡ take count events.old.items }
+    ensures right { (kinds : ℤ → KindOf) → AreRight objects.old kinds events.old.items → AreRight objects.new kinds events.new.items }
+{
+    while events.len() > count {
+        drop_last(events, objects);
+    }
+}
+
+/// Takes the last event out.
+fn drop_last(events: &mut Vec<Event>, objects: &mut Objects)
+    requires some { 0 < length events.old.items }
+    requires within { split_in objects.old ≤ length events.old.items }
+    ensures left { events.new.items ≡ take (length events.old.items - 1) events.old.items }
+    ensures within { split_in objects.new ≤ length events.new.items }
+    ensures right { (kinds : ℤ → KindOf) → AreRight objects.old kinds events.old.items → AreRight objects.new kinds events.new.items }
+{
+    let last = events.len() - 1;
+    objects.leave(events, last);
+    events.truncate(last);
+}
+
+/// The key of each event.
+fn keys_of(alloc: Global, events: &[Event]) -> Result<Vec<i64>, OutOfMemory>
+    ensures { IfOk result (λ keys. keys.items ≡ map (λ event. event.key) events.now) }
+{
+    let keys: Vec<i64> = events.iter().map(|event| event.key).collect(alloc)?;
+    Ok(keys)
+}
+
+/// Whether the budget can be set.
+fn is_budget(budget: u32) -> bool
+    ensures { (result ≡ true) ↔ IsBudget budget }
+{
+    1 <= budget && budget <= BUDGET
+}

@@ -1,0 +1,19 @@
+//! Worked examples, each through `verify` or `check` as a tester calls it: what it prints, and how it ends.
+#![tactic(auto)]
+
+#[cfg(test)]
+mod bad_input;
+#[cfg(test)]
+mod check;
+#[cfg(test)]
+mod check_input;
+#[cfg(test)]
+mod keyed;
+#[cfg(test)]
+mod large;
+#[cfg(test)]
+mod objects;
+#[cfg(test)]
+mod register;
+#[cfg(test)]
+mod table;

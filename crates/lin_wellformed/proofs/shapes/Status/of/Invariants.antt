@@ -1,7 +1,0 @@
-use Rattle.std.proofs.Common.{ℕ, ◌≤◌}
-use Rattle.lin_history.specs.Operations.{IsOf}
-use Rattle.lin_wellformed.proofs.shapes.Status.of.Given as goal
-
--- none of the positions that were passed is of the process
-abbrev pub invariant-loop-at : goal.invariant-loop-at
-invariant-loop-at l = (k : ℕ) → l.at ≤ k → IsOf l.events l.process k → ⊥

@@ -1,0 +1,32 @@
+#!/usr/bin/env bash
+# Generated histories, each with an order that is legal by the way it was made: whatever the spelling (a map a line, one vector, tags
+# and comments between), `verify` has to say yes of that order and no of the empty one, and `check` has to say yes.
+# usage: tests/generated.sh   (the program has to be built)
+set -u
+cd "$(dirname "$0")/.."
+folder=$(mktemp -d)
+trap 'rm -rf "$folder"' EXIT
+passed=0 failed=0
+
+prints() { # wanted, command
+    local wanted=$1 printed
+    shift
+    printed=$("$@" 2>&1)
+    if [ "$printed" = "$wanted" ]; then
+        passed=$((passed + 1))
+    else
+        failed=$((failed + 1))
+        printf 'generated: %s\n  has to print %s, prints %s\n' "${*:0:4}" "$wanted" "$printed"
+    fi
+}
+
+bench/generate.sh 2000 100 lines "$folder/order" > "$folder/lines.edn"
+bench/generate.sh 2000 100 vector > "$folder/vector.edn"
+sed 's/^{/#jepsen.history.Op {/; s/, :time/ ,:time/; s/$/ ; #_ a comment/' "$folder/lines.edn" > "$folder/tagged.edn"
+for spelling in lines vector tagged; do
+    prints yes ./lincheck verify "$folder/$spelling.edn" "$(cat "$folder/order")"
+    prints no ./lincheck verify "$folder/$spelling.edn" empty
+    prints "$(printf 'events 2000 objects 1\nobject 0 register: yes\nwhole: yes')" ./lincheck check "$folder/$spelling.edn"
+done
+printf '%d passed, %d failed\n' "$passed" "$failed"
+[ "$failed" = 0 ]
