@@ -4,14 +4,6 @@ use lin_objects::Kind;
 use lin_report::{Counted, Settings};
 use std::test::Fail;
 
-fn plain(kind: Kind) -> Settings {
-    Settings {
-        kind,
-        keyed: false,
-        budget: 65_536,
-    }
-}
-
 /// The status with which the program ends where the words give no line.
 fn refused(rt: &HostRuntime, words: &[&str]) -> Option<u8> {
     match line(rt.alloc(), words) {
@@ -80,12 +72,17 @@ fn what_could_not_be_told_failed(rt: HostRuntime) {
 #[test]
 fn runs_end_as_the_line_says(rt: HostRuntime) -> Result<(), Fail> {
     let file = b"#{} {:process".as_slice();
+    let settings = Settings {
+        kind: Kind::Mutex,
+        keyed: false,
+        budget: 65_536,
+    };
     let mut printed = Vec::new(rt.alloc());
     let refused = Ending {
         status: 4,
         fault: None,
     };
-    let verified = Line::Verify(plain(Kind::Mutex), "a.edn", "0=done");
+    let verified = Line::Verify(settings, "a.edn", "0=done");
     let ending = run(
         rt.alloc(),
         verified,
@@ -93,7 +90,7 @@ fn runs_end_as_the_line_says(rt: HostRuntime) -> Result<(), Fail> {
         &mut Counted::new(&mut printed),
     );
     assert_eq!(rt; ending, refused);
-    let checked = Line::Check(plain(Kind::Mutex), "a.edn");
+    let checked = Line::Check(settings, "a.edn");
     let ending = run(
         rt.alloc(),
         checked,
