@@ -1,5 +1,5 @@
 //! Back links: how each configuration was come by.
-ghost use Rattle.std.specs.Prelude.{◌≡◌, ◌+◌, ◌<◌, ◌∷◌, ◌++◌, [], List, Some, length, take, slice_get, IfOk, OnOk, OnErr};
+ghost use Rattle.std.specs.Prelude.{◌≡◌, ◌+◌, ◌-◌, ◌<◌, ◌∷◌, ◌++◌, [], List, Some, length, take, slice_get, IfOk, IfSome, IfNone, OnOk, OnErr};
 ghost use Rattle.lin_order.specs.declared.placed.Placed.{Placed as PlacedOf};
 ghost use Rattle.lin_frontier.specs.Nodes.{Spells};
 
@@ -62,31 +62,30 @@ impl Nodes {
         }
     }
 
-    /// The parent of node `k + 1`, and the operation that it adds.
-    pub(crate) fn item(&self, k: usize) -> (NodeId, &Placed)
-        requires { k < length self.now }
-        ensures { slice_get self.now k ≡ Some (result.0, result.1.now) }
+    /// The parent of the node, and the operation that it adds; none for the root and for a number that is no node's.
+    fn link(&self, id: NodeId) -> Option<(NodeId, &Placed)>
+        ensures some { IfSome result (λ link. (0 < id) × (slice_get self.now (id - 1) ≡ Some (link.0, link.1.now))) }
+        ensures none { IfNone result (0 < id → length self.now < id) }
     {
-        let item = &self.items[k];
-        (item.0, &item.1)
+        let (parent, placed) = self.items.get(id.checked_sub(1)?)?;
+        Some((*parent, placed))
     }
 
-    /// The order that the node spells.
+    /// The order that the node spells; for a number that is no node's, some list.
     ///
-    /// Asks that the node is one. Takes time and memory linear in the order.
+    /// Takes time and memory linear in the order.
     pub fn order(&self, alloc: Global, id: NodeId) -> Result<Vec<Placed>, OutOfMemory>
-        requires { (order : List PlacedOf) × Spells self.now id order }
         ensures { IfOk result (λ found. (order : List PlacedOf) → Spells self.now id order → found.items ≡ order) }
     {
         let mut order = Vec::new(alloc);
         let mut at = id;
-        while at > 0 {
-            let (parent, last) = self.item(at - 1);
+        // An order has no more operations than there are nodes.
+        for _ in 0..self.len() {
+            let Some((parent, last)) = self.link(at) else {
+                break;
+            };
             let reply = last.reply.copy(alloc)?;
-            match order.push(Placed { at: last.at, reply }) {
-                Ok(()) => {}
-                Err(_) => return Err(OutOfMemory),
-            }
+            order.push(Placed { at: last.at, reply })?;
             at = parent;
         }
         order.reverse();

@@ -54,29 +54,6 @@ enum Came {
     Over,
 }
 
-/// The operations on the way from the root to the node, up to where there is no node.
-fn way_to(alloc: Global, nodes: &Nodes, id: usize) -> Result<Vec<Placed>, OutOfMemory> {
-    let mut order = Vec::new(alloc);
-    let mut at = id;
-    for _ in 0..nodes.len() {
-        if at == 0 || at > nodes.len() {
-            break;
-        }
-        let (parent, placed) = nodes.item(at - 1);
-        let reply = placed.reply.copy(alloc)?;
-        let copy = Placed {
-            at: placed.at,
-            reply,
-        };
-        if order.push(copy).is_err() {
-            return Err(OutOfMemory);
-        }
-        at = parent;
-    }
-    order.reverse();
-    Ok(order)
-}
-
 /// The order of a node that lies two below the root.
 fn order_of_two(alloc: Global) -> Result<Vec<Placed>, OutOfMemory> {
     let mut nodes = Nodes::new(alloc);
@@ -118,7 +95,7 @@ fn is_sound(
     let kinds = Kinds::new(alloc, kind);
     for i in 0..frontier.len() {
         if let Some((_, node)) = frontier.get(i) {
-            let order = way_to(alloc, nodes, node)?;
+            let order = nodes.order(alloc, node)?;
             if !check_order(alloc, events, &kinds, &order)? {
                 return Ok(false);
             }

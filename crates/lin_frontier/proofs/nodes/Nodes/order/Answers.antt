@@ -1,24 +1,33 @@
-use Rattle.std.proofs.Common.{◌++◌, ◌∷◌, [], ◌∙◌, ap, arith, length, length-append}
+use Rattle.std.proofs.Common.{◌≡◌, ◌++◌, ◌∷◌, [], ◌∙◌, ap, arith, inl, inr, length, length-append}
+use Rattle.std.proofs.lemmas.Bool.{cases_lt}
 use Rattle.lin_history.specs.declared.calls.Reply.{Reply}
 use Rattle.lin_frontier.proofs.Spelling.{reading_start, reading_inside, reading_step, reading_end}
 use Rattle.lin_frontier.proofs.nodes.Nodes.order.Goals as goal
+use Rattle.lin_frontier.proofs.nodes.Nodes.order.Goals.{else-loop-test, then-loop-test+in_default}
 
-pub loop-at-init : goal.loop-at-init
-loop-at-init c = reading_start _ _ _ c.requires.0 c.new-order.ensures.items c.requires.1
+pub loop-init : goal.loop-init
+loop-init c = (ap length c.new-order.ensures.items, λ order spelled. reading_start _ _ _ order c.new-order.ensures.items spelled)
 
-pub item-parent-requires : goal.item-parent-requires
-item-parent-requires c = (reading_inside _ _ _ _ c.loop-at-test.true c.loop-at.invariant).0
-
-pub loop-at-preserved : goal.loop-at-preserved
-loop-at-preserved c =
-    reading_step c.args.self.now c.args.id c.loop-at.at c.loop-at.order.items c.push.new.self.items c.item-parent.result.0 c.item-parent.result.1.now c.loop-at-test.true c.item-parent.ensures
-    (c.in-Ok.ensures.items ∙ ap (λ (r : Reply). c.loop-at.order.items ++ (record { at = c.item-parent.result.1.now.at; reply = r }) ∷ []) c.in_ok-reply.ensures) c.loop-at.invariant
-
-pub loop-at-smaller : goal.loop-at-smaller
-loop-at-smaller c =
-    let inside = (reading_inside _ _ _ _ c.loop-at-test.true c.loop-at.invariant).1 in
-    let more = ap length c.in-Ok.ensures.items ∙ length-append c.loop-at.order.items _ in
-    omega arith
+pub loop-preserved : goal.loop-preserved
+loop-preserved c =
+    let more = ap length c.in_ok-push.ensures.items ∙ length-append c.loop.order.items _ in
+    let link = c.in-Some.ensures.some in (
+      omega (arith, c.loop.invariant.0),
+      λ order spelled. reading_step c.args.self.now c.args.id c.loop.at c.loop.order.items c.push.new.self.items c.in-Some.parent c.in-Some.last.now link.0 link.1
+        (c.in_ok-push.ensures.items ∙ ap (λ (r : Reply). c.loop.order.items ++ (record { at = c.in-Some.last.now.at; reply = r }) ∷ []) c.in_ok-reply.ensures)
+        (c.loop.invariant.1 order spelled),
+    )
 
 pub returns : goal.returns
-returns c order spelled = reading_end c.args.self.now c.args.id c.loop-at.at c.loop-at.order.items _ order (let low = c.loop-at-test.false in omega arith) c.reverse.ensures.items c.loop-at.invariant spelled
+returns c order spelled =
+    let reading = c.loop.invariant.1 order spelled in
+    let at_root : c.loop.at ≡ 0 = elim (cases_lt 0 c.loop.at) [
+      | inl above ↦
+          let inside = reading_inside c.args.self.now c.args.id c.loop.at c.loop.order.items above reading in
+          elim c.loop-test.branch [
+            | else-loop-test w ↦ absurd (let done = w.loop-test.false in let all = c.len-end.ensures in omega (arith, inside.1, c.loop.invariant.0))
+            | then-loop-test+in_default w ↦ absurd (let past = w.in_default.ensures.none above in omega (arith, inside.0))
+          ]
+      | inr root ↦ omega (arith, root)
+    ] in
+    reading_end c.args.self.now c.args.id c.loop.at c.loop.order.items _ order at_root c.reverse.ensures.items reading spelled

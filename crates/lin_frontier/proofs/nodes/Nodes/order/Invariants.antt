@@ -1,9 +1,8 @@
-use Rattle.std.proofs.Common.{◌-◌, length}
+use Rattle.std.proofs.Common.{◌≡◌, List, length}
+use Rattle.lin_order.specs.declared.placed.Placed.{Placed}
+use Rattle.lin_frontier.specs.Nodes.{Spells}
 use Rattle.lin_frontier.proofs.Spelling.{IsReading}
 use Rattle.lin_frontier.proofs.nodes.Nodes.order.Given as goal
 
-abbrev pub invariant-loop-at : goal.invariant-loop-at
-invariant-loop-at l = IsReading l.self l.fn.id l.at l.order.items
-
-abbrev pub decreases-loop-at : goal.decreases-loop-at
-decreases-loop-at l = length l.self - length l.order.items
+abbrev pub invariant-loop : goal.invariant-loop
+invariant-loop l = (length l.order.items ≡ l.counter) × ((order : List Placed) → Spells l.self l.fn.id order → IsReading l.self l.fn.id l.at l.order.items)
