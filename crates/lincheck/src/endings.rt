@@ -58,6 +58,7 @@ pub fn run<R: Read, W: Write>(
     let outcome = match line {
         Line::Verify(settings, _, order) => verify(alloc, settings, file, order.as_bytes(), out),
         Line::Check(settings, _) => check(alloc, settings, file, out),
+        Line::Edit(settings, _) => check(alloc, settings, file, out),
     };
     Ending {
         status: exit_of(&outcome),

@@ -42,7 +42,7 @@ pub fn line<'a>(alloc: Global, words: &'a [&'a str]) -> Result<Line<'a>, Error>
 fn run_line(rt: HostRuntime, line: Line) -> u8
     requires { IsRunnable line }
 {
-    let path = line.path();
+    let path = line.path().unwrap_or("");
     let Ok(file) = File::open(&rt, path) else {
         let _printed = println!(rt; "lincheck: cannot open {path}");
         return FAILED;
