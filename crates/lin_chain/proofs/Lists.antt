@@ -1,41 +1,11 @@
 -- Elements of lists by their places.
-use Rattle.std.proofs.Common.{◌≡◌, ◌≢◌, ◌<◌, ◌≤◌, ℕ, zero, suc, List, [], ◌∷◌, ◌++◌, length, ◌⊎◌, Some, inl, inr, refl, sym, ap, ◌∙◌, subst, arith, set, get_or, slice_get, take, AllPairs, Contains}
+use Rattle.std.proofs.Common.{◌≡◌, ◌≢◌, ◌<◌, ◌≤◌, ℕ, zero, suc, List, [], ◌∷◌, length, ◌⊎◌, Some, inl, inr, refl, sym, ap, ◌∙◌, subst, arith, set, get_or, slice_get, take, AllPairs, Contains}
 use Rattle.std.specs.List.{remove, swap}
 use Rattle.std.proofs.lemmas.Bool.{cases_order}
 use Rattle.std.proofs.lemmas.List.{length-set, take-set-le}
 use Rattle.std.proofs.lemmas.List.Edits.{swap_is}
 use Rattle.std.proofs.lemmas.Option.{slice_get_within, slice_get-get_or, get_or_from_slice_get}
-
--- what a list has, it has with one more
-pub get_left : {A : Type 0} (xs : List A) (y : A) (k : ℕ) (x : A) → slice_get xs k ≡ Some x → slice_get (xs ++ y ∷ []) k ≡ Some x
-get_left [] y k x h = cc
-get_left (z ∷ zs) y zero x h = h
-get_left (z ∷ zs) y (suc k) x h = get_left zs y k x h
-
--- with one more, a list has what it had, and the last
-pub get_cases : {A : Type 0} (xs : List A) (y : A) (k : ℕ) (x : A) → slice_get (xs ++ y ∷ []) k ≡ Some x → (slice_get xs k ≡ Some x) ⊎ ((k ≡ length xs) × (y ≡ x))
-get_cases [] y zero x h = inr (refl, cc)
-get_cases [] y (suc k) x h = cc
-get_cases (z ∷ zs) y zero x h = inl h
-get_cases (z ∷ zs) y (suc k) x h = elim (get_cases zs y k x h) [
-  | inl old ↦ inl old
-  | inr new ↦ inr (omega (arith, new.0), new.1)
-]
-
-pub get_last : {A : Type 0} (xs : List A) (y : A) → slice_get (xs ++ y ∷ []) (length xs) ≡ Some y
-get_last [] y = refl
-get_last (z ∷ zs) y = get_last zs y
-
--- with one replaced, a list has that one and the others
-pub get_set_cases : {A : Type 0} (xs : List A) (i : ℕ) (y : A) (k : ℕ) (x : A) → slice_get (set xs i y) k ≡ Some x → ((k ≡ i) × (y ≡ x)) ⊎ ((k ≢ i) × (slice_get xs k ≡ Some x))
-get_set_cases [] i y k x h = cc
-get_set_cases (z ∷ zs) zero y zero x h = inl (refl, cc)
-get_set_cases (z ∷ zs) zero y (suc k) x h = inr ((λ e. omega (arith, e)), h)
-get_set_cases (z ∷ zs) (suc i) y zero x h = inr ((λ e. omega (arith, e)), h)
-get_set_cases (z ∷ zs) (suc i) y (suc k) x h = elim (get_set_cases zs i y k x h) [
-  | inl here ↦ inl (omega (arith, here.0), here.1)
-  | inr other ↦ inr ((λ e. other.0 (omega (arith, e))), other.1)
-]
+use Rattle.lin_history.proofs.Lists.{get_set_cases}
 
 pub get_set_same : {A : Type 0} (xs : List A) (i : ℕ) (y : A) → i < length xs → slice_get (set xs i y) i ≡ Some y
 get_set_same [] i y l = absurd (omega arith)

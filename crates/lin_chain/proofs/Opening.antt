@@ -12,7 +12,7 @@ use Rattle.lin_history.specs.WellFormed.{Completes}
 use Rattle.lin_history.specs.WellFormedLaws.{EndsAreUnique}
 use Rattle.lin_history.specs.Alternation.{IsAlternating}
 use Rattle.lin_order.specs.ConfigurationLaws.{with_event}
-use Rattle.lin_chain.proofs.Lists.{get_left, get_cases, get_last}
+use Rattle.lin_history.proofs.Lists.{get_left, get_cases, get_last}
 
 module _ (h : List Event) (event : Event) where
   -- ends stay, and a new one is with the event

@@ -23,7 +23,8 @@ use Rattle.lin_chain.specs.declared.pending.Pending.{Pending}
 use Rattle.lin_chain.specs.declared.replay.Checkpoint.{Checkpoint}
 use Rattle.lin_chain.specs.declared.replay.Replay.{Replay}
 use Rattle.lin_chain.specs.Replays.{Entries, IsCheckpoint, IsCurrent, IsKnown, IsLegalOrderAs, IsLinearizableAs, IsPrepared, IsReplay}
-use Rattle.lin_chain.proofs.Lists.{get_cases, one_there}
+use Rattle.lin_history.proofs.Lists.{get_cases}
+use Rattle.lin_chain.proofs.Lists.{one_there}
 
 -- what a beginning has at a place, the whole has there
 get_from_take : {A : Type 0} (n : ℕ) (xs : List A) (k : ℕ) (x : A) → slice_get (take n xs) k ≡ Some x → (k < n) × (slice_get xs k ≡ Some x)

@@ -20,7 +20,7 @@ use Rattle.lin_frontier.specs.Frontiers.{IsFrontier, IsNextEvent, IsOver}
 use Rattle.lin_frontier.specs.Nodes.{Spells}
 use Rattle.lin_frontier.specs.Placing.{IsAbsent, IsKept, IsKeeping, PlacesOne, PlacesNext, insert_pair}
 use Rattle.lin_frontier.specs.Walks.{Walk, here, more, IsBeyond, IsClosure, IsTraced}
-use Rattle.lin_frontier.proofs.Events.{invoked, one_call, one_caller, one_open, open_before, open_kept}
+use Rattle.lin_history.proofs.OneMore.{invoked, one_call, one_caller, one_open, open_before, open_kept}
 use Rattle.lin_frontier.proofs.Inserting.{absent_from, first_or_rest, insert_added, insert_is, none_from}
 
 -- the node of the entry spells a legal order that ends in its configuration

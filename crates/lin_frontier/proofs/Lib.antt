@@ -6,7 +6,6 @@ pub mod Trying
 pub mod TriedOnce
 pub mod Outcomes
 pub mod Entries
-pub mod Events
 pub mod AfterEvents
 pub mod Completed
 pub mod Answered

@@ -15,12 +15,14 @@ use Rattle.lin_history.specs.declared.events.Event.{Event}
 use Rattle.lin_history.specs.Alternation.{IsAlternating}
 use Rattle.lin_history.specs.Operations.{IsCrashed, IsEnd, IsOperation, IsOpen}
 use Rattle.lin_history.specs.WellFormed.{Completes, IsWellFormed}
-use Rattle.lin_history.specs.WellFormedLaws.{BeginningsAreWellFormed, EndsAreUnique, WellFormedIsAlternating}
+use Rattle.lin_history.specs.WellFormedLaws.{BeginningsAreWellFormed, WellFormedIsAlternating}
 use Rattle.lin_order.specs.ConfigurationLaws.{with_event}
 use Rattle.lin_frontier.specs.declared.pending.Open.{Open}
 use Rattle.lin_frontier.specs.Frontiers.{IsNextEvent, IsPending}
 use Rattle.lin_frontier.specs.Placing.{marked}
-use Rattle.lin_frontier.proofs.Events.{completes, end_cases, end_inside, end_kept, get_last, invoked, one_caller, one_event, one_open, open_before, open_kept, open_other, operation_kept}
+use Rattle.lin_history.proofs.OneMore.{completes, end_cases, end_inside, end_kept, invoked, one_caller, one_open, open_before, open_kept, open_other, operation_kept}
+use Rattle.lin_history.proofs.Lists.{get_last}
+use Rattle.lin_history.proofs.StatusLemmas.{one_event}
 use Rattle.lin_frontier.proofs.Inserting.{kept_by, passed_by, other_process, differs}
 
 -- with one more whose position is new, no two have one position
@@ -41,7 +43,7 @@ pairs_push xs x all new i j d below inside = elim (cases_lt j (length xs)) [
     last (y ∷ ys) = last ys
 
 module _ (functions : ℤ → Name → Bool) (h : List Event) (pending : List Open) (at : ℕ) (event : Event) (next : IsNextEvent functions h pending at event)
-    (alternating : WellFormedIsAlternating) (beginnings : BeginningsAreWellFormed) (unique : EndsAreUnique) where
+    (alternating : WellFormedIsAlternating) (beginnings : BeginningsAreWellFormed) where
   opened : IsPending h pending
   opened = next.opened
 
@@ -133,7 +135,7 @@ module _ (functions : ℤ → Name → Bool) (h : List Event) (pending : List Op
 
   module _ (name : Name) (is : Completes event.body name) where
     done : (k : ℕ) × (key : ℤ) × (call : Call) × IsOpen h k event.process key call × IsEnd (with_event h event) k (length h) event
-    done = completes h event unique functions alternates_after name is
+    done = completes h event functions alternates_after name is
 
     -- an operation of the process that is open before its completion is the one that it ends
     ended : (o : Open) → Contains pending o → o.process ≡ event.process → IsEnd (with_event h event) o.at (length h) event

@@ -7,8 +7,7 @@ ghost use Rattle.lin_frontier.specs.Frontiers.{IsNextEvent, IsPending};
 ghost use Rattle.lin_frontier.specs.Placing.{marked};
 
 use lin_history::{
-    Body, Call, Event, OutOfMemory, beginnings_are_well_formed, ends_are_unique,
-    well_formed_is_alternating,
+    Body, Call, Event, OutOfMemory, beginnings_are_well_formed, well_formed_is_alternating,
 };
 
 /// An operation that is open: it has neither returned nor failed.
@@ -50,7 +49,6 @@ pub fn take_in(pending: &mut Vec<Open>, at: usize, event: &Event) -> Result<(), 
 {
     well_formed_is_alternating();
     beginnings_are_well_formed();
-    ends_are_unique();
     match &event.body {
         Body::Invoke(call) => {
             let new = Open {

@@ -1,5 +1,5 @@
 -- Lists: what stands at a place of a beginning, and of a list with one more at its end.
-use Rattle.std.proofs.Common.{◌≡◌, ℕ, ◌<◌, zero, suc, List, [], ◌∷◌, ◌++◌, length, take, ◌⊎◌, inl, inr, refl, arith, Some, slice_get}
+use Rattle.std.proofs.Common.{◌≡◌, ◌≢◌, ℕ, ◌<◌, zero, suc, List, [], ◌∷◌, ◌++◌, length, take, ◌⊎◌, inl, inr, refl, arith, set, Some, slice_get}
 
 -- what a list has, it has with one more
 pub get_left : {A : Type 0} (xs : List A) (y : A) (k : ℕ) (x : A) → slice_get xs k ≡ Some x → slice_get (xs ++ y ∷ []) k ≡ Some x
@@ -46,3 +46,14 @@ pub take_next : {A : Type 0} (n : ℕ) (xs : List A) (x : A) → slice_get xs n 
 take_next n [] x h = cc
 take_next zero (z ∷ zs) x h = cc
 take_next (suc n) (z ∷ zs) x h = let rest : take (suc n) zs ≡ take n zs ++ x ∷ [] = take_next n zs x h in cc
+
+-- with one replaced, a list has that one and the others
+pub get_set_cases : {A : Type 0} (xs : List A) (i : ℕ) (y : A) (k : ℕ) (x : A) → slice_get (set xs i y) k ≡ Some x → ((k ≡ i) × (y ≡ x)) ⊎ ((k ≢ i) × (slice_get xs k ≡ Some x))
+get_set_cases [] i y k x h = cc
+get_set_cases (z ∷ zs) zero y zero x h = inl (refl, cc)
+get_set_cases (z ∷ zs) zero y (suc k) x h = inr ((λ e. omega (arith, e)), h)
+get_set_cases (z ∷ zs) (suc i) y zero x h = inr ((λ e. omega (arith, e)), h)
+get_set_cases (z ∷ zs) (suc i) y (suc k) x h = elim (get_set_cases zs i y k x h) [
+  | inl here ↦ inl (omega (arith, here.0), here.1)
+  | inr other ↦ inr ((λ e. other.0 (omega (arith, e))), other.1)
+]

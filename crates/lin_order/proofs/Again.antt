@@ -13,7 +13,8 @@ use Rattle.lin_order.specs.Configurations.{IsPlacedBy}
 use Rattle.lin_order.specs.ConfigurationLaws.{with_event}
 use Rattle.lin_order.proofs.Assembling.{operation_inside}
 use Rattle.lin_order.proofs.Members.{all_of, first_or_rest}
-use Rattle.lin_order.proofs.OneMore.{call_kept, call_before, ok_kept, failed_kept, open_before}
+use Rattle.lin_history.proofs.OneMore.{ok_kept, failed_kept, open_before}
+use Rattle.lin_order.proofs.OneMore.{call_kept, call_before}
 
 module _ (h : List Event) (o : List Placed) (is : IsOrder h o) where
   pub operation_of : (p : Placed) → Contains o p → (call : Call) × IsCall h p.at call

@@ -14,11 +14,12 @@ use Rattle.lin_order.specs.declared.placed.Placed.{Placed}
 use Rattle.lin_order.specs.Orders.{IsOrder, Places}
 use Rattle.lin_order.specs.Configurations.{EndsIn, IsAdded}
 use Rattle.lin_order.specs.ConfigurationLaws.{with_event, AfterOk}
-use Rattle.lin_order.proofs.Lists.{get_last}
+use Rattle.lin_history.proofs.Lists.{get_last}
 use Rattle.lin_order.proofs.OneEnd.{body_of}
 use Rattle.lin_order.proofs.Assembling.{one_reply}
 use Rattle.lin_order.proofs.Adding.{can_add}
-use Rattle.lin_order.proofs.OneMore.{one_open, operation_kept, call_kept, end_cases, end_before, ok_before, failed_before, open_other, open_until, completes, alternates_before}
+use Rattle.lin_history.proofs.OneMore.{one_open, operation_kept, end_cases, end_before, ok_before, failed_before, open_other, open_until, completes, alternates_before}
+use Rattle.lin_order.proofs.OneMore.{call_kept}
 use Rattle.lin_order.proofs.Again.{operation_of, never_failed, placed_inside, order_again, placed_again, order_before, run_before, run_kept, was_open, none_past}
 use Rattle.lin_order.proofs.Quiet.{info_quiet, ends_kept, ends_before}
 

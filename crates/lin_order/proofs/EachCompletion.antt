@@ -14,7 +14,7 @@ use Rattle.lin_history.specs.Operations.{IsEvent, IsOf, IsOperation, IsEnd, IsOk
 use Rattle.lin_history.specs.WellFormed.{Completes}
 use Rattle.lin_order.specs.ConfigurationExamples.{of_registers, event, two_writes, each_completion}
 use Rattle.lin_order.proofs.OneEnd.{one_event}
-use Rattle.lin_order.proofs.OneMore.{alternates_before}
+use Rattle.lin_history.proofs.OneMore.{alternates_before}
 
 not_of : (h : List Event) (k process : ℕ) (e : Event) → IsEvent h k e → (e.process ≡ process → ⊥) → IsOf h process k → ⊥
 not_of h k process e there other of_it = other (ap (λ (x : Event). x.process) (one_event h k e of_it.0 there of_it.1) ∙ of_it.2)

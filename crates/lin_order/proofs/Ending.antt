@@ -21,7 +21,7 @@ use Rattle.lin_order.proofs.OneEnd.{one_event, one_ending}
 use Rattle.lin_order.proofs.Empty.{empty_order}
 use Rattle.lin_order.proofs.Members.{nothing_in, pairs_left, pairs_last}
 use Rattle.lin_order.proofs.Adding.{can_add}
-use Rattle.lin_order.proofs.OneMore.{one_caller, one_open}
+use Rattle.lin_history.proofs.OneMore.{one_caller, one_open}
 use Rattle.lin_order.proofs.Again.{operation_of}
 use Rattle.lin_order.proofs.Placing.{place_placed}
 use Rattle.lin_order.proofs.Quiet.{IsQuiet, invoke_quiet, info_quiet}

@@ -10,7 +10,7 @@ use Rattle.lin_history.specs.declared.events.Event.{Event}
 use Rattle.lin_order.specs.Orders.{is_of_key}
 use Rattle.lin_order.specs.Parts.{part, ArePositionsOf, IsNth, IsCut}
 use Rattle.lin_order.specs.PartLaws.{NoPositionsAtStart, PartsGrow, PartsOfPrefixes, PrefixesCutPositions, PartsUpToPositions}
-use Rattle.lin_order.proofs.Lists.{get_left, get_cases, get_last}
+use Rattle.lin_history.proofs.Lists.{get_left, get_cases, get_last}
 use Rattle.lin_order.proofs.Prefixes.{get_from_take, get_of_take}
 use Rattle.lin_order.proofs.Positions.{event_of_key, of_key_event, mapped, positions_spell_parts_lem, nth_of_key, nth_found, nth_up, nth_down, nth_one}
 

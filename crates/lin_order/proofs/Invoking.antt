@@ -13,7 +13,7 @@ use Rattle.lin_order.specs.Orders.{IsBefore, IsOrder, Places}
 use Rattle.lin_order.specs.Configurations.{EndsIn, IsConfiguration, IsPlacedOn, none, more}
 use Rattle.lin_order.specs.ConfigurationLaws.{with_event, AfterInvocation}
 use Rattle.lin_order.proofs.Members.{last_of, pairs_last}
-use Rattle.lin_order.proofs.OneMore.{ok_before, end_inside, invoked}
+use Rattle.lin_history.proofs.OneMore.{ok_before, end_inside, invoked}
 use Rattle.lin_order.proofs.Again.{is_placed}
 use Rattle.lin_order.proofs.Quiet.{IsQuiet, ends_kept, ends_before, invoke_quiet}
 use Rattle.lin_order.proofs.Placing.{unplace}

@@ -7,7 +7,8 @@ use Rattle.std.proofs.lemmas.Bool.Decides.{Decides-eqb}
 use Rattle.lin_history.specs.declared.events.Event.{Event}
 use Rattle.lin_history.specs.Operations.{IsOf}
 use Rattle.lin_order.specs.Tables.{IsNext, IsLast, IsNextTable}
-use Rattle.lin_order.proofs.Lists.{get_left, get_cases, get_last, get_set_cases, take_more}
+use Rattle.lin_history.proofs.Lists.{get_left, get_cases, get_last, get_set_cases}
+use Rattle.lin_order.proofs.Lists.{take_more}
 
 -- the function gives each process its latest position
 pub record IsLatest (h : List Event) (latest : ℕ → Option ℕ) : Type 0 where

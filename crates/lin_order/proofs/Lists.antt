@@ -1,37 +1,6 @@
 -- Places of lists, and answers.
 use Rattle.std.proofs.Math.Seq.{take-suc}
-use Rattle.std.proofs.Common.{◌≡◌, ◌≢◌, ℕ, ◌+◌, ◌<◌, zero, suc, List, [], ◌∷◌, ◌++◌, length, ◌⊎◌, ◌↔◌, Bool, true, false, MatchBool, IsTrue, inl, inr, refl, arith, set, Some, slice_get, take, get_or, Option, Result, Ok, Err, IfOk, MatchOption, is_some, None, sym, ap, ◌∙◌, add-one}
-
--- what a list has, it has with one more
-pub get_left : {A : Type 0} (xs : List A) (y : A) (k : ℕ) (x : A) → slice_get xs k ≡ Some x → slice_get (xs ++ y ∷ []) k ≡ Some x
-get_left [] y k x h = cc
-get_left (z ∷ zs) y zero x h = h
-get_left (z ∷ zs) y (suc k) x h = get_left zs y k x h
-
--- with one more, a list has what it had, and the last
-pub get_cases : {A : Type 0} (xs : List A) (y : A) (k : ℕ) (x : A) → slice_get (xs ++ y ∷ []) k ≡ Some x → (slice_get xs k ≡ Some x) ⊎ ((k ≡ length xs) × (y ≡ x))
-get_cases [] y zero x h = inr (refl, cc)
-get_cases [] y (suc k) x h = cc
-get_cases (z ∷ zs) y zero x h = inl h
-get_cases (z ∷ zs) y (suc k) x h = elim (get_cases zs y k x h) [
-  | inl old ↦ inl old
-  | inr new ↦ inr (omega (arith, new.0), new.1)
-]
-
-pub get_last : {A : Type 0} (xs : List A) (y : A) → slice_get (xs ++ y ∷ []) (length xs) ≡ Some y
-get_last [] y = refl
-get_last (z ∷ zs) y = get_last zs y
-
--- with one replaced, a list has that one and the others
-pub get_set_cases : {A : Type 0} (xs : List A) (i : ℕ) (y : A) (k : ℕ) (x : A) → slice_get (set xs i y) k ≡ Some x → ((k ≡ i) × (y ≡ x)) ⊎ ((k ≢ i) × (slice_get xs k ≡ Some x))
-get_set_cases [] i y k x h = cc
-get_set_cases (z ∷ zs) zero y zero x h = inl (refl, cc)
-get_set_cases (z ∷ zs) zero y (suc k) x h = inr ((λ e. omega (arith, e)), h)
-get_set_cases (z ∷ zs) (suc i) y zero x h = inr ((λ e. omega (arith, e)), h)
-get_set_cases (z ∷ zs) (suc i) y (suc k) x h = elim (get_set_cases zs i y k x h) [
-  | inl here ↦ inl (omega (arith, here.0), here.1)
-  | inr other ↦ inr ((λ e. other.0 (omega (arith, e))), other.1)
-]
+use Rattle.std.proofs.Common.{◌≡◌, ℕ, ◌+◌, ◌<◌, List, [], ◌∷◌, ◌++◌, length, ◌↔◌, Bool, true, false, MatchBool, IsTrue, refl, Some, take, get_or, Option, Result, Ok, Err, IfOk, MatchOption, is_some, None, sym, ap, ◌∙◌, add-one}
 
 -- one more of the elements from the left
 pub take_more : {A : Type 0} (xs : List A) (i : ℕ) (x : A) → i < length xs → x ≡ get_or xs i x → take (i + 1) xs ≡ take i xs ++ x ∷ []

@@ -15,7 +15,7 @@ use Rattle.lin_order.specs.Checking.{AreOpen, IsOpenAt, IsReturning}
 use Rattle.lin_order.proofs.Lists.{take_more}
 use Rattle.lin_order.proofs.Members.{nothing_in}
 use Rattle.lin_order.proofs.OneEnd.{one_end, one_ending}
-use Rattle.lin_order.proofs.OneMore.{open_before}
+use Rattle.lin_history.proofs.OneMore.{open_before}
 use Rattle.lin_order.proofs.Prefixes.{get_from_take, get_of_take, end_whole}
 use Rattle.lin_order.proofs.Refuting.{there_is, one_further}
 

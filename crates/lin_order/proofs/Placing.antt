@@ -17,7 +17,7 @@ use Rattle.lin_order.specs.ConfigurationLaws.{PlacingIsLegal}
 use Rattle.lin_order.proofs.Assembling.{one_reply}
 use Rattle.lin_order.proofs.Adding.{one_rising}
 use Rattle.lin_order.proofs.Members.{all_of, pairs_left, pairs_last, in_filter, from_filter, begins_other, other_true, other_from}
-use Rattle.lin_order.proofs.OneMore.{one_caller, one_open}
+use Rattle.lin_history.proofs.OneMore.{one_caller, one_open}
 use Rattle.lin_order.proofs.Running.{runs_push, runs_split}
 
 process_of : {a b : ℕ × Reply} → a ≡ b → a.0 ≡ b.0

@@ -10,7 +10,8 @@ use Rattle.lin_order.specs.declared.placed.Placed.{Placed}
 use Rattle.lin_order.specs.Orders.{Places}
 use Rattle.lin_order.specs.Configurations.{EndsIn}
 use Rattle.lin_order.specs.ConfigurationLaws.{with_event}
-use Rattle.lin_order.proofs.OneMore.{call_kept, ok_before, failed_before, open_kept}
+use Rattle.lin_history.proofs.OneMore.{ok_before, failed_before, open_kept}
+use Rattle.lin_order.proofs.OneMore.{call_kept}
 use Rattle.lin_order.proofs.Again.{never_failed, order_again, placed_again, order_before, run_before, run_kept, was_open, none_past}
 
 -- an event that makes no operation ok or failed

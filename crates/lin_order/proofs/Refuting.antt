@@ -17,7 +17,7 @@ use Rattle.lin_order.specs.Configurations.{IsConfiguration, IsPlacedOn, none, mo
 use Rattle.lin_order.specs.ConfigurationLaws.{with_event}
 use Rattle.lin_order.specs.Refutations.{Config, IsSet, IsClosed, IsLeft, IsRefutation}
 use Rattle.lin_order.proofs.Members.{nothing_in}
-use Rattle.lin_order.proofs.OneMore.{alternates_before}
+use Rattle.lin_history.proofs.OneMore.{alternates_before}
 use Rattle.lin_order.proofs.Invoking.{after_invocation}
 use Rattle.lin_order.proofs.Completing.{ok_lem, fail_lem, info_lem}
 use Rattle.lin_order.proofs.Ending.{start_lem, ends}

@@ -23,7 +23,7 @@ use Rattle.lin_order.proofs.OneEnd.{one_call, one_event}
 use Rattle.lin_order.proofs.Adding.{add_alone, add_first, add_later}
 use Rattle.lin_order.proofs.Again.{placed_inside}
 use Rattle.lin_order.proofs.Ending.{start_lem}
-use Rattle.lin_order.proofs.OneMore.{one_caller}
+use Rattle.lin_history.proofs.OneMore.{one_caller}
 use Rattle.lin_order.proofs.Placing.{one_placed, placing_lem}
 use Rattle.lin_order.proofs.Quiet.{ends_kept, invoke_quiet}
 use Rattle.lin_order.proofs.Running.{runs_one}

@@ -1,4 +1,3 @@
-mod Lists
 mod StatusLemmas
 mod TableLemmas
 mod ScanLemmas

@@ -21,7 +21,7 @@ use Rattle.lin_history.specs.declared.shapes.Status.{Status}
 use Rattle.lin_wellformed.specs.Scans.{ready_count, IsRight, AgreeBefore, looked_at, good_count}
 use Rattle.lin_wellformed.specs.Tables.{Statuses, count_in, status_at}
 use Rattle.lin_history.specs.WellFormed.{left_by, IsStatus, Holds, IsFirstCause, IsBad, IsShape}
-use Rattle.lin_wellformed.proofs.Lists.{get_taken, take_next}
+use Rattle.lin_history.proofs.Lists.{get_taken, take_next}
 
 -- where the loop ends: all events are taken in, or one is bad
 abbrev pub IsOver : List Event → Scan → Type 0

@@ -8,15 +8,15 @@ use Rattle.lin_frontier.proofs.pending.take_in.Goals as goal
 pub returns-in-Ok-push-clause-ok : goal.returns-in-Ok-push-clause-ok
 returns-in-Ok-push-clause-ok c functions h next =
     subst (IsPending (with_event h c.args.event.now)) (sym c.in-Ok-push.ensures.items)
-    (pending_invoked functions h c.args.pending.now.items c.args.at c.args.event.now next c.well_formed_is_alternating.ensures c.beginnings_are_well_formed.ensures c.ends_are_unique.ensures c.in-Invoke.call c.in-Invoke.is)
+    (pending_invoked functions h c.args.pending.now.items c.args.at c.args.event.now next c.well_formed_is_alternating.ensures c.beginnings_are_well_formed.ensures c.in-Invoke.call c.in-Invoke.is)
 
 pub returns-in-Info-clause-ok : goal.returns-in-Info-clause-ok
 returns-in-Info-clause-ok c functions h next =
     subst (IsPending (with_event h c.args.event.now)) (sym c.mark_crashed.ensures)
-    (pending_crashed functions h c.args.pending.now.items c.args.at c.args.event.now next c.well_formed_is_alternating.ensures c.beginnings_are_well_formed.ensures c.ends_are_unique.ensures c.in-Info.field-0
+    (pending_crashed functions h c.args.pending.now.items c.args.at c.args.event.now next c.well_formed_is_alternating.ensures c.beginnings_are_well_formed.ensures c.in-Info.field-0
     (subst (λ b. Completes b c.in-Info.field-0) (sym c.in-Info.is) refl) c.in-Info.is)
 
 pub returns-in-Ok-clause-ok : goal.returns-in-Ok-clause-ok
 returns-in-Ok-clause-ok c functions h next =
     subst (IsPending (with_event h c.args.event.now)) (sym c.close.ensures)
-    (pending_answered functions h c.args.pending.now.items c.args.at c.args.event.now next c.well_formed_is_alternating.ensures c.beginnings_are_well_formed.ensures c.ends_are_unique.ensures c.in-Ok.is)
+    (pending_answered functions h c.args.pending.now.items c.args.at c.args.event.now next c.well_formed_is_alternating.ensures c.beginnings_are_well_formed.ensures c.in-Ok.is)

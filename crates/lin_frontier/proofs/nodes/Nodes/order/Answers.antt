@@ -14,8 +14,8 @@ loop-preserved c =
     let link = c.in-Some.ensures.some in (
       omega (arith, c.loop.invariant.0),
       λ order spelled. reading_step c.args.self.now c.args.id c.loop.at c.loop.order.items c.push.new.self.items c.in-Some.parent c.in-Some.last.now link.0 link.1
-        (c.in_ok-push.ensures.items ∙ ap (λ (r : Reply). c.loop.order.items ++ (record { at = c.in-Some.last.now.at; reply = r }) ∷ []) c.in_ok-reply.ensures)
-        (c.loop.invariant.1 order spelled),
+          (c.in_ok-push.ensures.items ∙ ap (λ (r : Reply). c.loop.order.items ++ (record { at = c.in-Some.last.now.at; reply = r }) ∷ []) c.in_ok-reply.ensures)
+          (c.loop.invariant.1 order spelled),
     )
 
 pub returns : goal.returns

@@ -1,5 +1,5 @@
 -- One more event: which operations begin, end and are open as before.
-use Rattle.std.proofs.Common.{◌≡◌, ℕ, ℤ, zero, suc, ◌<◌, Bool, List, [], ◌∷◌, ◌++◌, length, length-append, Some, slice_get, ◌⊎◌, inl, inr, refl, sym, ap, subst, ◌∙◌, arith}
+use Rattle.std.proofs.Common.{◌≡◌, ℕ, ℤ, ◌<◌, Bool, List, [], ◌∷◌, ◌++◌, length, length-append, Some, ◌⊎◌, inl, inr, sym, ap, subst, ◌∙◌, arith}
 use Rattle.std.proofs.lemmas.Bool.{cases_order}
 use Rattle.std.proofs.lemmas.Option.{slice_get_within}
 use Rattle.lin_history.specs.declared.calls.Call.{Call}
@@ -8,35 +8,11 @@ use Rattle.lin_history.specs.declared.calls.Reply.{Reply}
 use Rattle.lin_history.specs.declared.events.Body.TheVariants.{Invoke, Ok, Fail}
 use Rattle.lin_history.specs.declared.events.Event.{Event}
 use Rattle.lin_history.specs.Alternation.{IsReturn, IsAlternating}
-use Rattle.lin_history.specs.Operations.{IsEvent, IsOperation, IsEnd, IsOk, IsFailed, IsOpen}
+use Rattle.lin_history.specs.Operations.{IsOperation, IsEnd, IsOk, IsFailed, IsOpen}
 use Rattle.lin_history.specs.WellFormed.{Completes}
-use Rattle.lin_history.specs.WellFormedLaws.{EndsAreUnique}
-
-pub get_left : {A : Type 0} (xs : List A) (y : A) (k : ℕ) (x : A) → slice_get xs k ≡ Some x → slice_get (xs ++ y ∷ []) k ≡ Some x
-get_left [] y k x h = cc
-get_left (z ∷ zs) y zero x h = h
-get_left (z ∷ zs) y (suc k) x h = get_left zs y k x h
-
--- with one more, a list has what it had, and the last
-pub get_cases : {A : Type 0} (xs : List A) (y : A) (k : ℕ) (x : A) → slice_get (xs ++ y ∷ []) k ≡ Some x → (slice_get xs k ≡ Some x) ⊎ ((k ≡ length xs) × (y ≡ x))
-get_cases [] y zero x h = inr (refl, cc)
-get_cases [] y (suc k) x h = cc
-get_cases (z ∷ zs) y zero x h = inl h
-get_cases (z ∷ zs) y (suc k) x h = elim (get_cases zs y k x h) [
-  | inl old ↦ inl old
-  | inr new ↦ inr (omega (arith, new.0), new.1)
-]
-
-pub get_last : {A : Type 0} (xs : List A) (y : A) → slice_get (xs ++ y ∷ []) (length xs) ≡ Some y
-get_last [] y = refl
-get_last (z ∷ zs) y = get_last zs y
-
-one_some : {A : Type 0} {x y : A} → Some x ≡ Some y → x ≡ y
-one_some e = cc
-
--- a position is of one event
-pub one_event : (h : List Event) (at : ℕ) (x y : Event) → IsEvent h at x → IsEvent h at y → x ≡ y
-one_event h at x y a b = one_some (sym a ∙ b)
+use Rattle.lin_history.proofs.Alternating.{one_end}
+use Rattle.lin_history.proofs.Lists.{get_left, get_cases, get_last}
+use Rattle.lin_history.proofs.StatusLemmas.{one_event}
 
 one_invoked : {a b : Call} → Invoke a ≡ Invoke b → a ≡ b
 one_invoked e = cc
@@ -118,6 +94,13 @@ module _ (h : List Event) (event : Event) where
     | inr new ↦ inr new
   ]
 
+  -- what ends below the event ended before it
+  pub end_before : (at end : ℕ) (ending : Event) → end < length h → IsEnd (h ++ event ∷ []) at end ending → IsEnd h at end ending
+  end_before at end ending inside e = elim (end_cases at end ending e) [
+    | inl old ↦ old
+    | inr new ↦ absurd (omega (arith, new.0))
+  ]
+
   pub ok_kept : (at end : ℕ) (reply : Reply) → IsOk h at end reply → IsOk (h ++ event ∷ []) at end reply
   ok_kept at end reply ok = (ok.0, end_kept at end _ ok.1, ok.2, ok.3)
 
@@ -172,8 +155,8 @@ module _ (h : List Event) (event : Event) where
           one_caller _ at p e.process key e.key call e.call (operation_kept at p key call o.begins) e.begins ∙ sym (ap (λ (x : Event). x.process) is ∙ e.same)
 
   -- an operation that ends at the event was open before it
-  pub open_until : EndsAreUnique → (at : ℕ) → (e : IsEnd (h ++ event ∷ []) at (length h) event) → IsOpen h at event.process e.key e.call
-  open_until unique at e =
+  pub open_until : (at : ℕ) → (e : IsEnd (h ++ event ∷ []) at (length h) event) → IsOpen h at event.process e.key e.call
+  open_until at e =
       let later : at < length h = e.later in
       record {
         begins = operation_before at event.process e.key e.call (λ same. omega arith) (subst (λ q. IsOperation (h ++ event ∷ []) at q e.key e.call) (sym e.same) e.begins);
@@ -183,17 +166,17 @@ module _ (h : List Event) (event : Event) where
     where
       no_end : (end : ℕ) (ending : Event) → IsEnd h at end ending → ⊥
       no_end end ending f =
-          let same = (unique (h ++ event ∷ []) at (length h) end event ending e (end_kept at end ending f)).0 in
+          let same = (one_end (h ++ event ∷ []) at (length h) end event ending e (end_kept at end ending f)).0 in
           let inside = end_inside h at end ending f in
           omega arith
 
   -- a completion that was added ends an operation that was open
-  pub completes : EndsAreUnique → (functions : ℤ → Name → Bool) → IsAlternating functions (h ++ event ∷ []) → (name : Name) → Completes event.body name
+  pub completes : (functions : ℤ → Name → Bool) → IsAlternating functions (h ++ event ∷ []) → (name : Name) → Completes event.body name
       → (at : ℕ) × (key : ℤ) × (call : Call) × IsOpen h at event.process key call × IsEnd (h ++ event ∷ []) at (length h) event
-  completes unique functions alternates name is =
+  completes functions alternates name is =
       let ended = alternates.completed (length h) event name (get_last h event) is in
       let e = ended.4 in
-      (ended.0, e.key, e.call, open_until unique ended.0 e, e)
+      (ended.0, e.key, e.call, open_until ended.0 e, e)
 
   -- an invocation that was added is open
   pub invoked : (call : Call) → event.body ≡ Invoke call → IsOpen (h ++ event ∷ []) (length h) event.process event.key call
@@ -209,3 +192,22 @@ module _ (h : List Event) (event : Event) where
           let later : length h < end = e.later in
           let many = length-append h (event ∷ []) in
           omega arith
+
+  pub alternates_before : (functions : ℤ → Name → Bool) → IsAlternating functions (h ++ event ∷ []) → IsAlternating functions h
+  alternates_before functions alternates = record {
+    allowed = λ at p key call is. alternates.allowed at p key call (operation_kept at p key call is);
+    returned = λ at later p key other call again below is then.
+        let inside = slice_get_within h later _ then in
+        let ended = alternates.returned at later p key other call again below (operation_kept at p key call is) (operation_kept later p other again then) in
+        (ended.0, ended.1, return_before at ended.0 (omega (arith, ended.1)) ended.2);
+    completed = λ end ending name there is.
+        let inside = slice_get_within h end _ there in
+        let ended = alternates.completed end ending name (get_left h event end _ there) is in
+        let e = end_before ended.0 end ending inside ended.4 in
+        let later : ended.0 < end = e.later in
+        (ended.0, ended.1, operation_before ended.0 ending.process ending.key ended.1 (λ same. omega arith) ended.2, ended.3, e);
+  }
+    where
+      return_before : (at end : ℕ) → end < length h → IsReturn (h ++ event ∷ []) at end → IsReturn h at end
+      return_before at end inside (inl ok) = inl (ok.0, (ok.1.0, end_before at end _ inside ok.1.1, ok.1.2, ok.1.3))
+      return_before at end inside (inr failed) = inr (failed.0, end_before at end _ inside failed.1, failed.2, failed.3)
