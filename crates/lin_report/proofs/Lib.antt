@@ -2,9 +2,9 @@ pub mod Judging
 pub mod Members
 pub mod Pairs
 pub mod PartsOfTexts
+pub mod Putting
 pub mod Reading
 pub mod Rising
-pub mod Searching
 pub mod TooLarge
 pub mod Written
 pub mod Alone

@@ -4,7 +4,6 @@ pub mod Histories
 pub mod Inputs
 pub mod Intakes
 pub mod Integers
-pub mod ObjectAnswers
 pub mod Orders
 pub mod Parts
 pub mod Reports

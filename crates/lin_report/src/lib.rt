@@ -12,9 +12,12 @@ mod orders;
 mod parts;
 mod reports;
 mod runs;
-mod search;
+mod sessions;
 #[cfg(test)]
 mod tests;
+#[cfg(test)]
+mod tests_reports;
+mod verdicts;
 mod writing;
 
 pub use answers::Status;
@@ -23,4 +26,6 @@ pub use counted::Counted;
 pub use faults::{OrderFault, RunFault};
 pub use laws::{answers_agree, verdicts_are_unique};
 pub use orders::read_order;
+pub use reports::write_report;
 pub use runs::{Settings, verify};
+pub use verdicts::write_answer;

@@ -92,3 +92,7 @@ zip_push R [] [] x y all r = (r, tt)
 zip_push R [] (b ∷ bs) x y all r = absurd all
 zip_push R (a ∷ rest) [] x y all r = absurd all
 zip_push R (a ∷ rest) (b ∷ bs) x y all r = (all.0, zip_push R rest bs x y all.1 r)
+
+-- what stands somewhere in a list is in it
+pub there_at : {A : Type 0} (xs : List A) (i : ℕ) (x : A) → slice_get xs i ≡ Some x → Contains xs x
+there_at xs i x at = (i, slice_get_within xs i x at, get_or_from_slice_get xs i x x at)

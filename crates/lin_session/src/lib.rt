@@ -7,6 +7,6 @@ mod kept;
 mod objects;
 mod session;
 
-pub use answers::{Answer, Scope};
+pub use answers::{Answer, Scope, Verdict, answers_are_verdicts};
 pub use edits::{Edit, EditFault};
 pub use session::Session;

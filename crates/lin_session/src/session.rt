@@ -3,11 +3,11 @@ ghost use Rattle.std.specs.Prelude.{◌≡◌, ◌≢◌, ◌↔◌, ◌<◌, �
 ghost use Rattle.lin_objects.specs.declared.kinds.Kind.{Kind as KindOf};
 ghost use Rattle.lin_objects.specs.Kinds.{is_named, kind_of, named_count, same_for_all, with_kind};
 ghost use Rattle.lin_session.specs.Edits.{IsBudget, IsRefused, edited};
-ghost use Rattle.lin_session.specs.Answers.{IsAnswer};
+ghost use Rattle.lin_session.specs.Answers.{IsAnswer, IsVerdict};
 ghost use Rattle.lin_session.specs.Objects.{AreRight, split_in};
 ghost use Rattle.lin_session.specs.Sessions.{AreKeys};
 
-use crate::answers::{Answer, Scope};
+use crate::answers::{Answer, Scope, Verdict};
 use crate::edits::{Edit, EditFault};
 use crate::kept::Objects;
 use lin_history::{Event, Meter, OutOfMemory, Shape};
@@ -126,18 +126,37 @@ impl Session {
             .scan
             .settle(&self.events, &self.kinds, &mut self.meter)?
         {
-            Shape::Good => {}
-            Shape::Bad { at, cause } => return Ok(Answer::IllFormed { at, cause }),
+            Shape::Good => self.objects.ask(
+                alloc,
+                scope,
+                &self.events,
+                &self.kinds,
+                self.budget,
+                &mut self.meter,
+            ),
+            Shape::Bad { at, cause } => Ok(Answer::IllFormed { at, cause }),
         }
-        self.objects.split(alloc, &self.events, &self.kinds)?;
-        match scope {
-            Scope::Object(key) => self
-                .objects
-                .ask(alloc, key, &self.events, self.budget, &mut self.meter),
-            Scope::Whole => {
-                self.objects
-                    .ask_whole(alloc, &self.events, self.budget, &mut self.meter)
-            }
+    }
+
+    /// As `ask`, but without making an order: where nothing changed since the last question, the time is linear in the
+    /// number of objects of the scope.
+    pub fn judge(&mut self, alloc: Global, scope: Scope) -> Result<Verdict, OutOfMemory>
+        ensures verdict { IfOk result (IsVerdict self.old.present scope) }
+        ensures present { self.new.present ≡ self.old.present }
+    {
+        match self
+            .scan
+            .settle(&self.events, &self.kinds, &mut self.meter)?
+        {
+            Shape::Good => self.objects.judge(
+                alloc,
+                scope,
+                &self.events,
+                &self.kinds,
+                self.budget,
+                &mut self.meter,
+            ),
+            Shape::Bad { at, cause } => Ok(Verdict::IllFormed { at, cause }),
         }
     }
 

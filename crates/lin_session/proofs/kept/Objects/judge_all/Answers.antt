@@ -8,11 +8,11 @@ use Rattle.lin_session.proofs.Wholes.{AreFound-more, least_none}
 use Rattle.lin_session.proofs.kept.Objects.judge_all.Goals as goal
 use Rattle.lin_session.proofs.kept.Objects.judge_all.Goals.{In_ok-found}
 
-pub judge-requires-clause-right : goal.judge-requires-clause-right
-judge-requires-clause-right c = let r = c.requires.right in (r.0, c.loop-i.invariant.right r.0 r.1, r.2)
+pub judge_listed-requires-clause-right : goal.judge_listed-requires-clause-right
+judge_listed-requires-clause-right c = let r = c.requires.right in (r.0, c.loop-i.invariant.right r.0 r.1, r.2)
 
 pub returns-in_err-found-clause-right : goal.returns-in_err-found-clause-right
-returns-in_err-found-clause-right c = λ kinds kept. c.judge.ensures.right kinds (c.loop-i.invariant.right kinds kept)
+returns-in_err-found-clause-right c = λ kinds kept. c.judge_listed.ensures.right kinds (c.loop-i.invariant.right kinds kept)
 
 pub loop-i-preserved : goal.loop-i-preserved
 loop-i-preserved c =
@@ -26,9 +26,9 @@ loop-i-preserved c =
     let f = c.loop-i.failing in
     let o = c.loop-i.over in
     record {
-      keys = c.judge.ensures.keys ∙ inv.keys;
-      split = c.judge.ensures.split ∙ inv.split;
-      right = λ kinds kept. c.judge.ensures.right kinds (inv.right kinds kept);
+      keys = c.judge_listed.ensures.keys ∙ inv.keys;
+      split = c.judge_listed.ensures.split ∙ inv.split;
+      right = λ kinds kept. c.judge_listed.ensures.right kinds (inv.right kinds kept);
       found = λ kinds kept fine.
           let key_now = subst (λ k. slice_get k.keys i ≡ Some key) (sym inv.keys) key_at in
           let finding = c.in_ok-found.ensures.found kinds key key_now (inv.right kinds kept) fine in
@@ -41,9 +41,9 @@ loop-i-preserved c =
           let a = least_none f c.in_ok-found.found.0 (sym c.least_of-failing.ensures ∙ none_failing) in
           let b = least_none o c.in_ok-found.found.1 (sym c.least_of-over.ensures ∙ none_over) in
           elim (cases_order j i) [
-            | inl here ↦ c.in_ok-found.ensures.alive a.1 b.1 object (ap (slice_get c.judge.new.self.objects.items) (sym here) ∙ object_at)
+            | inl here ↦ c.in_ok-found.ensures.alive a.1 b.1 object (ap (slice_get c.judge_listed.new.self.objects.items) (sym here) ∙ object_at)
             | inr rest ↦ elim rest [
-              | inl before ↦ inv.alive a.0 b.0 j object before (c.judge.ensures.others j object (λ e. omega (arith, e, before)) object_at)
+              | inl before ↦ inv.alive a.0 b.0 j object before (c.judge_listed.ensures.others j object (λ e. omega (arith, e, before)) object_at)
               | inr after ↦ absurd (omega (arith, after, below))
             ]
           ];

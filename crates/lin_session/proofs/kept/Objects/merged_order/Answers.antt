@@ -1,10 +1,10 @@
 use Rattle.std.proofs.Common.{arith}
 use Rattle.std.proofs.lemmas.Option.{slice_get_within}
 use Rattle.lin_order.specs.Merging.{lists_of, AreLegalParts}
-use Rattle.lin_session.proofs.kept.Objects.ask_merged.Goals as goal
+use Rattle.lin_session.proofs.kept.Objects.merged_order.Goals as goal
 
 pub returns-in-Ok : goal.returns-in-Ok
-returns-in-Ok c = λ kinds budget h kept all fine.
+returns-in-Ok c = λ kinds h kept all fine.
     let parts = lists_of c.in_ok-orders.field-0.items in
     let legal : AreLegalParts kinds h parts = record {
       keys = c.args.self.now.keys.keys;
