@@ -29,7 +29,7 @@ use Rattle.lin_session.specs.declared.answers.Verdict.TheVariants.{Yes, No, Unde
 use Rattle.lin_session.specs.Answers.{IsShortestWithout, IsOverAt, IsWholeVerdict}
 use Rattle.lin_session.specs.Judgements.{least, IsFinding, IsCovered, AreFound, IsTold}
 use Rattle.lin_session.proofs.Around.{part-same}
-use Rattle.lin_session.proofs.Lists.{get_taken, take_next}
+use Rattle.lin_history.proofs.Lists.{get_taken, take_next}
 
 -- what has a configuration is linearizable
 linear_over : {S : Type 0} (start : S) (step : S → Call → S → Reply → Type 0) (h : List Event) (budget : ℕ) (found : List (S × List (ℕ × Reply))) → length found ≡ budget + 1

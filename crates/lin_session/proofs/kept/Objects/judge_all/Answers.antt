@@ -3,7 +3,7 @@ use Rattle.std.proofs.lemmas.Bool.{cases_order}
 use Rattle.std.proofs.lemmas.List.{take_all}
 use Rattle.std.proofs.lemmas.Option.{slice_get-get_or}
 use Rattle.lin_session.specs.Judgements.{AreFound, least}
-use Rattle.lin_session.proofs.Lists.{take_next}
+use Rattle.lin_history.proofs.Lists.{take_next}
 use Rattle.lin_session.proofs.Wholes.{AreFound-more, least_none}
 use Rattle.lin_session.proofs.kept.Objects.judge_all.Goals as goal
 use Rattle.lin_session.proofs.kept.Objects.judge_all.Goals.{In_ok-found}

@@ -12,7 +12,7 @@ use Rattle.lin_session.specs.Judgements.{IsAlive}
 use Rattle.lin_session.proofs.Asking.{IsPlaceIn-end, right_spelled, picks_inside, length_spelled, well_formed_spelled, spelled, IsObject-settled, finding_of, finds_alive}
 use Rattle.lin_session.proofs.Changes.{AreKept-one}
 use Rattle.lin_session.proofs.Found.{object_within}
-use Rattle.lin_session.proofs.Lists.{get_set_cases}
+use Rattle.lin_history.proofs.Lists.{get_set_cases}
 use Rattle.lin_session.proofs.kept.Objects.judge_listed.Goals as goal
 use Rattle.lin_session.proofs.kept.Objects.judge_listed.Goals.{After-index_mut-object}
 
