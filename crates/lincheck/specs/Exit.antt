@@ -1,8 +1,9 @@
 -- The exit status of a run, and what a line has the program do.
-use Rattle.std.specs.Prelude.{◌≡◌, ◌≤◌, ℕ, List, Option, Some, None, option_map, Result, Ok, Err, false}
+use Rattle.std.specs.Prelude.{◌≡◌, ◌≤◌, ℕ, List, Option, Some, None, option_map, Result, Ok, Err}
 use Rattle.clap.specs.declared.error.kind.ErrorKind.{ErrorKind}
 use Rattle.clap.specs.declared.error.kind.ErrorKind.TheVariants as kind
 use Rattle.lin_report.specs.Reports.{IsCheckRun}
+use Rattle.lin_report.specs.Runs.{IsRunOf as IsEditRun}
 use Rattle.lin_report.specs.Verdicts.{IsVerifyRun}
 use Rattle.lin_report.specs.declared.answers.Status.{Status}
 use Rattle.lin_report.specs.declared.answers.Status.TheVariants.{Yes, No, Undecided, IllFormed, Refused}
@@ -46,17 +47,18 @@ IsRunnable (Verify settings file order) = HasBudget settings
 IsRunnable (Check settings file) = HasBudget settings
 IsRunnable (Edit settings file) = HasBudget settings
 
--- What the line says is done, with its settings: what is left of the file goes from the one to the other, and what is written too.
-abbrev pub IsRunOf : Line → Option (List ℕ) → Option (List ℕ) → Option (List ℕ) → Option (List ℕ) → Result Status RunFault → Type 0
-IsRunOf (Verify settings file order) old new before after outcome = IsVerifyRun settings order.now old new before after outcome
-IsRunOf (Check settings file) old new before after outcome = IsCheckRun settings old new before after outcome
-IsRunOf (Edit settings file) old new before after outcome = IsCheckRun settings old new before after outcome
+-- What the line says is done, with its settings: what is left of the file and of the commands goes from the one to the other, and
+-- what is written too. Only `edit` reads commands.
+abbrev pub IsRunOf : Line → Option (List ℕ) → Option (List ℕ) → Option (List ℕ) → Option (List ℕ) → Option (List ℕ) → Option (List ℕ) → Result Status RunFault → Type 0
+IsRunOf (Verify settings file order) old new commands commands' before after outcome = IsVerifyRun settings order.now old new before after outcome
+IsRunOf (Check settings file) old new commands commands' before after outcome = IsCheckRun settings old new before after outcome
+IsRunOf (Edit settings file) old new commands commands' before after outcome = IsEditRun settings old new commands commands' before after outcome
 
 abbrev pub fault_of_run : Result Status RunFault → Option RunFault
 fault_of_run (Ok status) = None
 fault_of_run (Err fault) = Some fault
 
 -- the program ends with the exit status of a run of the line, and tells why that ended early, if it did
-abbrev pub IsEndingOf : Line → Option (List ℕ) → Option (List ℕ) → Option (List ℕ) → Option (List ℕ) → Ending → Type 0
-IsEndingOf line old new before after ending =
-    (outcome : Result Status RunFault) × IsRunOf line old new before after outcome × (ending.status ≡ exit_status outcome) × (ending.fault ≡ fault_of_run outcome)
+abbrev pub IsEndingOf : Line → Option (List ℕ) → Option (List ℕ) → Option (List ℕ) → Option (List ℕ) → Option (List ℕ) → Option (List ℕ) → Ending → Type 0
+IsEndingOf line old new commands commands' before after ending =
+    (outcome : Result Status RunFault) × IsRunOf line old new commands commands' before after outcome × (ending.status ≡ exit_status outcome) × (ending.fault ≡ fault_of_run outcome)
