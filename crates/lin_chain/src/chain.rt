@@ -1,5 +1,5 @@
 //! One object's frontiers over its events, kept right while the events are edited.
-ghost use Rattle.std.specs.Prelude.{◌≡◌, ◌≢◌, ◌≤◌, ◌<◌, ◌+◌, ◌-◌, ◌*◌, ◌/◌, ◌⊎◌, ℕ, ℤ, Bool, List, All, AllPairs, IfOk, OnOk, IsOk, MatchOption, length, take, IsTrue, OnErr, ◌↔◌, Ok};
+ghost use Rattle.std.specs.Prelude.{◌≡◌, ◌≢◌, ◌≤◌, ◌<◌, ◌+◌, ◌-◌, ◌*◌, ◌/◌, ◌⊎◌, ℕ, ℤ, Bool, List, All, AllPairs, IfOk, OnOk, IsOk, MatchOption, length, take, IsTrue, OnErr, ◌↔◌, Ok, min};
 ghost use Rattle.lin_history.specs.declared.calls.Name.{Name as NameOf};
 ghost use Rattle.lin_history.specs.declared.events.Event.{Event as EventOf};
 ghost use Rattle.lin_history.specs.Operations.{IsEvent};
@@ -60,6 +60,13 @@ impl Chain {
         self.ready
     }
 
+    /// Where it stands.
+    pub fn end(&self) -> End
+        ensures { result ≡ end_in self.now }
+    {
+        self.end
+    }
+
     /// How many frontiers are held.
     pub fn kept(&self) -> usize
         ensures held { result ≡ kept_count self.now }
@@ -89,6 +96,7 @@ impl Chain {
         ensures back { local < ready_count self.old → ready_count self.new ≤ local }
         ensures near { local < ready_count self.old → local / 64 * 64 ≤ ready_count self.new }
         ensures end { local < ready_count self.old → end_in self.new ≡ end_before local (end_in self.old) }
+        ensures left { (budget : ℕ) → min (local / 64 * 64) (ready_under budget self.old) ≤ ready_under budget self.new }
         ensures right { (h edited : List EventOf) → IsRight self.old h → take local h ≡ take local edited → IsRight self.new edited }
     {
         if self.ready <= local {
@@ -124,7 +132,9 @@ impl Chain {
         ensures told { IfOk result (λ end. end_in self.new ≡ end) }
         ensures all { OnOk result (ready_count self.new ≡ length picks.now) }
         ensures right { IsRight self.new (events_at events.now picks.now) }
+        ensures under { (end_under budget self.new ≡ end_in self.new) × (ready_under budget self.new ≡ ready_count self.new) }
         ensures no_less { ready_under budget self.old ≤ ready_count self.new }
+        ensures remains { (other : ℕ) → min (ready_under budget self.old) (ready_under other self.old) ≤ ready_under other self.new }
         ensures settled { ready_under budget self.old ≡ length picks.now → IsOk result }
         ensures stays { end_under budget self.old ≢ End.Alive → result ≡ Ok (end_under budget self.old) }
         ensures found { end_under budget self.old ≡ End.Alive → IfOk result (IsFrom (ready_under budget self.old)) }
@@ -145,6 +155,7 @@ impl Chain {
         ensures kind { kind_in self.new ≡ kind_in self.old }
         ensures end { end_in self.new ≡ end_under budget self.old }
         ensures ready { (h : List EventOf) → IsRight self.old h → ready_under budget self.old ≤ ready_count self.new }
+        ensures remains { (other : ℕ) (h : List EventOf) → IsRight self.old h → min (ready_under budget self.old) (ready_under other self.old) ≤ ready_under other self.new }
         ensures right { (h : List EventOf) → IsRight self.old h → IsRight self.new h }
         ensures over { (at : ℕ) → end_in self.new ≡ End.Over at → budget ≤ self.new.budget }
     {
@@ -173,7 +184,7 @@ impl Chain {
         ensures no_less { ready_count self.old ≤ ready_count self.new }
         ensures all { OnOk result (end_in self.new ≡ End.Alive → ready_count self.new ≡ length picks.now) }
         ensures found { IsFrom (ready_count self.old) (end_in self.new) }
-        ensures over { (at : ℕ) → end_in self.new ≡ End.Over at → self.new.budget ≡ budget }
+        ensures over { (at : ℕ) → end_in self.new ≡ End.Over at → (self.new.budget ≡ budget) × (ready_count self.old ≤ at) }
         ensures settled { ready_count self.old ≡ length picks.now → IsOk result }
         ensures steps { meter.new.steps ≤ meter.old.steps + (length picks.now - ready_count self.old) }
         ensures scans { meter.new.scans ≡ meter.old.scans }

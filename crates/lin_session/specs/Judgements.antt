@@ -1,5 +1,5 @@
 -- What is found of the objects of a history, one after the other: the shortest failing prefix, and the first place where one is over the budget.
-use Rattle.std.specs.Prelude.{◌≡◌, ◌≤◌, ◌<◌, ◌⊎◌, ℕ, ℤ, min, List, Option, None, Some, All, Contains, length, slice_get}
+use Rattle.std.specs.Prelude.{◌≡◌, ◌≤◌, ◌<◌, ◌⊎◌, ℕ, ℤ, List, Option, None, Some, All, Contains, length, slice_get}
 use Rattle.lin_history.specs.declared.events.Event.{Event}
 use Rattle.lin_objects.specs.declared.kinds.Kind.{Kind}
 use Rattle.lin_order.specs.Linearizable.{IsLegalOrder, IsLegalOrderFor, IsLinearizableFor}
@@ -13,12 +13,6 @@ use Rattle.lin_session.specs.declared.answers.Verdict.TheVariants.{Yes, No, Unde
 use Rattle.lin_session.specs.declared.kept.Object.{Object}
 use Rattle.lin_session.specs.declared.kept.Objects.{Objects}
 use Rattle.lin_session.specs.Answers.{IsShortestWithout, IsOverAt}
-
--- the lesser of two numbers, where there are two
-abbrev pub least : Option ℕ → Option ℕ → Option ℕ
-least None b = b
-least (Some m) None = Some m
-least (Some m) (Some n) = Some (min m n)
 
 -- what was found of one object: the prefix that fails it, or the place where it is over, or that it is linearizable
 abbrev pub IsFinding : (ℤ → Kind) → ℕ → List Event → ℤ → Option ℕ → Option ℕ → Type 0

@@ -1,4 +1,5 @@
 pub mod Edits
+pub mod Work
 pub mod Answers
 pub mod Objects
 pub mod Sessions

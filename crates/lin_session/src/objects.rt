@@ -16,10 +16,11 @@ ghost use Rattle.lin_chain.specs.Ends.{IsEndOf};
 ghost use Rattle.lin_chain.specs.Replays.{IsLegalOrderAs};
 ghost use Rattle.lin_session.specs.declared.kept.Object.{Object as ObjectOf};
 ghost use Rattle.lin_session.specs.Objects.{AreRight, Finds, IsOrderIn, IsPlaceIn, split_in};
-ghost use Rattle.lin_session.specs.Judgements.{AreAlive, AreFound, IsAlive, IsFinding, IsOrderFor, IsTold, least};
+ghost use Rattle.lin_session.specs.Judgements.{AreAlive, AreFound, IsAlive, IsFinding, IsOrderFor, IsTold};
 
 use crate::answers::{Answer, Scope, Verdict};
 use crate::kept::{Object, Objects};
+use crate::work::least_of;
 use indexmap::IndexSet;
 use lin_chain::{Chain, End};
 use lin_history::{Event, Meter, OutOfMemory, beginnings_are_well_formed};
@@ -141,6 +142,7 @@ impl Objects {
     ) -> Result<(), OutOfMemory>
         requires { AreRight self.old (kind_of kinds.now) events.now }
         ensures all { OnOk result (split_in self.new ≡ length events.now) }
+        ensures apart { split_in self.old ≡ length events.now → split_in self.new ≡ length events.now }
         ensures right { AreRight self.new (kind_of kinds.now) events.now }
     {
         while self.split < events.len() {
@@ -212,7 +214,10 @@ impl Objects {
         requires right { AreRight self.old (kind_of kinds.now) events.now }
         requires well_formed { IsWellFormed (functions_of (kind_of kinds.now)) events.now }
         ensures right { AreRight self.new (kind_of kinds.now) events.now }
+        ensures split { OnOk result (split_in self.new ≡ length events.now) }
+        ensures apart { split_in self.old ≡ length events.now → split_in self.new ≡ length events.now }
         ensures answer { IfOk result (IsAnswer (record { history = events.now; kinds = kinds.now; budget = budget }) scope) }
+        ensures scans { meter.new.scans ≡ meter.old.scans }
     {
         match self.judge(alloc, scope, events, kinds, budget, meter)? {
             Verdict::Yes => Ok(Answer::Yes(self.order(alloc, scope)?)),
@@ -237,8 +242,10 @@ impl Objects {
         requires well_formed { IsWellFormed (functions_of (kind_of kinds.now)) events.now }
         ensures right { AreRight self.new (kind_of kinds.now) events.now }
         ensures split { OnOk result (split_in self.new ≡ length events.now) }
+        ensures apart { split_in self.old ≡ length events.now → split_in self.new ≡ length events.now }
         ensures verdict { IfOk result (IsVerdict (record { history = events.now; kinds = kinds.now; budget = budget }) scope) }
         ensures alive { result ≡ Ok Verdict.Yes → AreAlive self.new scope }
+        ensures scans { meter.new.scans ≡ meter.old.scans }
     {
         self.split(alloc, events, kinds)?;
         match scope {
@@ -274,6 +281,7 @@ impl Objects {
         ensures right { (kinds : ℤ → KindOf) → AreRight self.old kinds events.now → AreRight self.new kinds events.now }
         ensures verdict { IfOk result (λ verdict. (kinds : ℤ → KindOf) → AreRight self.old kinds events.now → IsWellFormed (functions_of kinds) events.now → IsObjectVerdict kinds budget events.now key verdict) }
         ensures alive { result ≡ Ok Verdict.Yes → AreAlive self.new (Scope.Object key) }
+        ensures scans { meter.new.scans ≡ meter.old.scans }
     {
         absent_keys_are_legal();
         match self.find(key) {
@@ -299,6 +307,7 @@ impl Objects {
         ensures right { (kinds : ℤ → KindOf) → AreRight self.old kinds events.now → AreRight self.new kinds events.now }
         ensures verdict { IfOk result (λ verdict. (kinds : ℤ → KindOf) → AreRight self.old kinds events.now → IsWellFormed (functions_of kinds) events.now → IsWholeVerdict kinds budget events.now verdict) }
         ensures alive { result ≡ Ok Verdict.Yes → AreAlive self.new Scope.Whole }
+        ensures scans { meter.new.scans ≡ meter.old.scans }
     {
         absent_keys_are_legal();
         prefixes_are_linearizable();
@@ -324,6 +333,7 @@ impl Objects {
         ensures right { (kinds : ℤ → KindOf) → AreRight self.old kinds events.now → AreRight self.new kinds events.now }
         ensures found { IfOk result (λ r. (kinds : ℤ → KindOf) → AreRight self.old kinds events.now → IsWellFormed (functions_of kinds) events.now → AreFound kinds budget events.now self.old.keys.keys r.0 r.1) }
         ensures alive { IfOk result (λ r. r.0 ≡ None → r.1 ≡ None → All IsAlive self.new.objects.items) }
+        ensures scans { meter.new.scans ≡ meter.old.scans }
     {
         let mut failing = None;
         let mut over = None;
@@ -397,6 +407,7 @@ impl Objects {
         ensures found { IfOk result (λ r. (kinds : ℤ → KindOf) (key : ℤ) → slice_get self.old.keys.keys i ≡ Some key → AreRight self.old kinds events.now → IsWellFormed (functions_of kinds) events.now → IsFinding kinds budget events.now key r.0 r.1) }
         ensures alive { IfOk result (λ r. r.0 ≡ None → r.1 ≡ None → (object : ObjectOf) → slice_get self.new.objects.items i ≡ Some object → IsAlive object) }
         ensures others { (j : ℕ) (object : ObjectOf) → j ≢ i → slice_get self.new.objects.items j ≡ Some object → slice_get self.old.objects.items j ≡ Some object }
+        ensures scans { meter.new.scans ≡ meter.old.scans }
     {
         positions_spell_parts();
         parts_of_prefixes();
@@ -427,6 +438,7 @@ impl Object {
         ensures end { IfOk result (IsEndOf (kind_in self.old.chain) budget (events_at events.now self.old.picks.items)) }
         ensures told { IfOk result (λ end. end_in self.new.chain ≡ end) }
         ensures all { OnOk result (ready_count self.new.chain ≡ length self.old.picks.items) }
+        ensures scans { meter.new.scans ≡ meter.old.scans }
     {
         self.count = self.picks.len();
         self.chain.settle(events, &self.picks, budget, meter)
@@ -507,19 +519,6 @@ fn told(failing: Option<usize>, over: Option<usize>) -> Verdict
         Some(prefix) => match over {
             Some(at) if at < prefix => Verdict::Undecided { at },
             _ => Verdict::No { prefix },
-        },
-    }
-}
-
-/// The lesser of two numbers, where there are two.
-fn least_of(a: Option<usize>, b: Option<usize>) -> Option<usize>
-    ensures { result ≡ least a b }
-{
-    match a {
-        None => b,
-        Some(m) => match b {
-            None => Some(m),
-            Some(n) => Some(m.min(n)),
         },
     }
 }

@@ -2,7 +2,8 @@ use Rattle.std.proofs.Common.{◌≡◌, ◌<◌, ◌+◌, inl, inr, ℤ, pos, S
 use Rattle.std.proofs.lemmas.Bool.{cases_order}
 use Rattle.std.proofs.lemmas.List.{take_all}
 use Rattle.std.proofs.lemmas.Option.{slice_get-get_or}
-use Rattle.lin_session.specs.Judgements.{AreFound, least}
+use Rattle.lin_session.specs.Judgements.{AreFound}
+use Rattle.lin_session.specs.Work.{least}
 use Rattle.lin_history.proofs.Lists.{take_next}
 use Rattle.lin_session.proofs.Wholes.{AreFound-more, least_none}
 use Rattle.lin_session.proofs.kept.Objects.judge_all.Goals as goal
@@ -27,6 +28,7 @@ loop-i-preserved c =
     let o = c.loop-i.over in
     record {
       keys = c.judge_listed.ensures.keys ∙ inv.keys;
+      scans = c.judge_listed.ensures.scans ∙ inv.scans;
       split = c.judge_listed.ensures.split ∙ inv.split;
       right = λ kinds kept. c.judge_listed.ensures.right kinds (inv.right kinds kept);
       found = λ kinds kept fine.
@@ -61,3 +63,9 @@ returns-clause-alive c = λ none_failing none_over k d within.
     c.loop-i.invariant.alive none_failing none_over k (get_or c.loop-i.self.objects.items k d)
     (omega (arith, within, same, c.loop-i.self.aligned, c.loop-i-test.false, c.len-i-end.ensures, c.args.self.now.objects.ok.0, c.args.self.now.aligned))
     (slice_get-get_or c.loop-i.self.objects.items k d within)
+
+pub returns-clause-scans : goal.returns-clause-scans
+returns-clause-scans c = c.loop-i.invariant.scans
+
+pub returns-in_err-found-clause-scans : goal.returns-in_err-found-clause-scans
+returns-in_err-found-clause-scans c = c.judge_listed.ensures.scans ∙ c.loop-i.invariant.scans

@@ -10,6 +10,7 @@ use Rattle.lin_session.proofs.kept.Objects.judge_all.Given as goal
 abbrev pub invariant-loop-i : goal.invariant-loop-i
 invariant-loop-i l = record {
   keys : l.self.keys ≡ l.initial.self.keys;
+  scans : l.meter.scans ≡ l.initial.meter.scans;
   split : split_in l.self ≡ split_in l.initial.self;
   right : (kinds : ℤ → Kind) → AreRight l.initial.self kinds l.events → AreRight l.self kinds l.events;
   found : (kinds : ℤ → Kind) → AreRight l.initial.self kinds l.events → IsWellFormed (functions_of kinds) l.events → AreFound kinds l.budget l.events (take l.i l.initial.self.keys.keys) l.failing l.over;

@@ -1,6 +1,8 @@
-use Rattle.std.proofs.Common.{sym, subst, ◌∙◌}
+use Rattle.std.proofs.Common.{sym, ap, length, subst, ◌∙◌}
 use Rattle.lin_history.specs.WellFormed.{IsShape}
 use Rattle.lin_objects.specs.Kinds.{functions_of, kind_of}
+use Rattle.lin_wellformed.specs.Scans.{IsRight, ready_count}
+use Rattle.lin_session.proofs.Low.{AreTakenIn-more}
 use Rattle.lin_session.proofs.session.Session.judge.Goals as goal
 
 pub judge-requires-clause-well_formed : goal.judge-requires-clause-well_formed
@@ -13,3 +15,28 @@ returns-in-Bad-clause-verdict c =
     let F = functions_of (kind_of c.self.inside.kinds) in
     rw (← c.self.view_is)
     (subst (IsShape F c.self.inside.events.items) c.in-Bad.is (subst (λ l. IsShape F l c.in_ok-settle.field-0) c.deref.ensures.value c.in_ok-settle.ensures.shape))
+
+pub invariant_of-self : goal.invariant_of-self
+invariant_of-self c =
+    let scanned = subst (IsRight c.settle.new.self (kind_of c.self.inside.kinds)) c.deref.ensures.value c.settle.ensures.right in
+    record {
+      few = c.self.invariant.few;
+      budgeted = c.self.invariant.budgeted;
+      scanned = scanned;
+      taken_in = AreTakenIn-more c.self.inside.low (ready_count c.self.inside.scan) (ready_count c.settle.new.self) (length c.self.inside.events.items) c.settle.ensures.no_less scanned.within c.self.invariant.taken_in;
+      kept = c.self.invariant.kept;
+      apart = c.self.invariant.apart;
+    }
+
+pub invariant_of-self-in-Bad : goal.invariant_of-self-in-Bad
+invariant_of-self-in-Bad c =
+    let F = functions_of (kind_of c.self.inside.kinds) in
+    let bad = subst (IsShape F c.self.inside.events.items) c.in-Bad.is (subst (λ l. IsShape F l c.in_ok-settle.field-0) c.deref.ensures.value c.in_ok-settle.ensures.shape) in
+    record {
+      few = c.self.invariant.few;
+      budgeted = c.self.invariant.budgeted;
+      scanned = subst (IsRight c.settle.new.self (kind_of c.self.inside.kinds)) c.deref.ensures.value c.settle.ensures.right;
+      taken_in = c.in_ok-settle.ensures.all ∙ ap length c.deref.ensures.value;
+      kept = c.self.invariant.kept;
+      apart = λ none fine. absurd (fine c.in-Bad.at c.in-Bad.cause bad.0);
+    }
