@@ -4,3 +4,4 @@ pub mod Listing
 pub mod Replaying
 pub mod Budgets
 pub mod Chaining
+pub mod ExactSets

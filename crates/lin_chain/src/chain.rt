@@ -1,18 +1,22 @@
 //! One object's frontiers over its events, kept right while the events are edited.
-ghost use Rattle.std.specs.Prelude.{◌≡◌, ◌≢◌, ◌≤◌, ◌<◌, ◌+◌, ◌-◌, ◌*◌, ◌/◌, ◌⊎◌, ℕ, ℤ, Bool, List, All, AllPairs, IfOk, OnOk, IsOk, MatchOption, length, take, IsTrue, OnErr, ◌↔◌, Ok, min};
+ghost use Rattle.std.specs.Prelude.{◌≡◌, ◌≢◌, ◌≤◌, ◌<◌, ◌+◌, ◌-◌, ◌*◌, ◌/◌, ◌⊎◌, ℕ, ℤ, Bool, List, All, AllPairs, IfOk, OnOk, IsOk, MatchOption, length, take, IsTrue, OnErr, ◌↔◌, Ok, Err, min};
 ghost use Rattle.lin_history.specs.declared.calls.Name.{Name as NameOf};
 ghost use Rattle.lin_history.specs.declared.events.Event.{Event as EventOf};
 ghost use Rattle.lin_history.specs.Operations.{IsEvent};
 ghost use Rattle.lin_history.specs.WellFormed.{IsWellFormed};
+ghost use Rattle.lin_objects.specs.Steps.{Step as StepOf, start as start_of};
 ghost use Rattle.lin_order.specs.Parts.{events_at};
+ghost use Rattle.lin_order.specs.Refutations.{IsRefutation, sets_of};
+ghost use Rattle.lin_frontier.specs.Frontiers.{IsOver};
 ghost use Rattle.lin_chain.specs.Chains.{IsRight, end_before, end_in, end_under, kept_count, kind_in, ready_count, ready_under};
 ghost use Rattle.lin_chain.specs.Ends.{IsEndOf, IsFrom};
 ghost use Rattle.lin_chain.specs.Replays.{IsLegalOrderAs};
 
+use crate::refuting::refutation_of;
 use crate::replay::{Replay, SPACING, Taken};
 use lin_history::{Event, Meter, OutOfMemory};
 use lin_objects::Kind;
-use lin_order::{Placed, empty_is_legal};
+use lin_order::{Placed, Refutation, empty_is_legal};
 use std::alloc::Global;
 
 /// Whether the events of an object have a legal order (Herlihy and Wing 1990, section 3). Places count its events from 0.
@@ -24,6 +28,17 @@ pub enum End {
     Dead(usize),
     /// Those up to and with this one have more configurations than the budget.
     Over(usize),
+}
+
+/// Why there is no refutation.
+#[derive(Clone, Copy, Debug, PartialEq, Eq)]
+pub enum RefuteFault {
+    /// The chain is dead nowhere.
+    NotDead,
+    /// Some beginning of the events has more configurations than the budget.
+    TooLarge,
+    /// Memory that was asked for was refused.
+    OutOfMemory,
 }
 
 /// What is known of the first events of one object, and whether they have a legal order.
@@ -235,6 +250,34 @@ impl Chain {
             return Ok(None);
         }
         Ok(Some(self.replay.order(alloc)?))
+    }
+
+    /// Sets that refute the object's events up to and with the one at which the chain is dead: all configurations of each beginning.
+    ///
+    /// Asks what `settle` asks. `NotDead` exactly where the chain is dead nowhere; `TooLarge` only where some beginning has more
+    /// configurations than the budget.
+    pub fn refute(
+        &self,
+        alloc: Global,
+        events: &[Event],
+        picks: &[usize],
+        budget: u32,
+    ) -> Result<Refutation, RefuteFault>
+        requires right { IsRight self.now (events_at events.now picks.now) }
+        requires inside { All (λ at. at < length events.now) picks.now }
+        requires well_formed { (functions : ℤ → NameOf → Bool) × IsWellFormed functions (events_at events.now picks.now) }
+        ensures refuted { IfOk result (λ refutation. (at : ℕ) × (end_in self.now ≡ End.Dead at) × IsRefutation (take (at + 1) (events_at events.now picks.now)) (kind_in self.now) (sets_of refutation)) }
+        ensures not_dead { (result ≡ Err RefuteFault.NotDead) ↔ ((at : ℕ) → end_in self.now ≡ End.Dead at → ⊥) }
+        ensures too_large { result ≡ Err RefuteFault.TooLarge → (n : ℕ) × IsOver (start_of (kind_in self.now)) (StepOf (kind_in self.now)) (take n (events_at events.now picks.now)) budget }
+    {
+        let End::Dead(at) = self.end else {
+            return Err(RefuteFault::NotDead);
+        };
+        match refutation_of(alloc, self.replay.kind(), events, picks, at, budget) {
+            Ok(Some(refutation)) => Ok(refutation),
+            Ok(None) => Err(RefuteFault::TooLarge),
+            Err(_) => Err(RefuteFault::OutOfMemory),
+        }
     }
 }
 
