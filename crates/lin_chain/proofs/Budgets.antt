@@ -1,10 +1,10 @@
 -- How many events a chain took in, under one budget and another.
-use Rattle.std.proofs.Common.{◌≡◌, ◌*◌, ◌/◌, ◌<◌, ◌≤◌, ◌⊎◌, ℕ, Bool, true, false, nat_lt, min, inl, inr, refl, sym, ap, ◌∙◌, arith, if◌then◌else◌, true≢false}
+use Rattle.std.proofs.Common.{◌≡◌, ◌*◌, ◌/◌, ◌<◌, ◌≤◌, ◌⊎◌, ℕ, Bool, true, false, nat_lt, min, inl, inr, refl, sym, ap, ◌∙◌, arith, if◌then◌else◌}
 use Rattle.std.proofs.lemmas.Bool.Decides.{Decides-ltb}
 use Rattle.lin_chain.specs.declared.chain.Chain.{Chain}
 use Rattle.lin_chain.specs.declared.chain.End.{End}
 use Rattle.lin_chain.specs.declared.chain.End.TheVariants.{Alive, Dead, Over}
-use Rattle.lin_chain.specs.Chains.{end_under, ready_count, ready_under}
+use Rattle.lin_chain.specs.Chains.{end_under, ready_under}
 
 module _ (budget : ℕ) (chain : Chain) where
   ready_is : (end : End) → chain.end ≡ end → ready_under budget chain ≡ ready_under budget (record chain { end = end })
