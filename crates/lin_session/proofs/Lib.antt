@@ -11,3 +11,4 @@ pub mod Asking
 pub mod Scopes
 pub mod Wholes
 pub mod Low
+pub mod Costing

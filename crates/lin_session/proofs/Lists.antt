@@ -1,5 +1,5 @@
 -- Elements of lists that are changed or taken apart.
-use Rattle.std.proofs.Common.{◌≡◌, ◌≢◌, ◌<◌, ◌≤◌, ◌+◌, ℕ, zero, suc, List, [], ◌∷◌, ◌++◌, length, slice_get, take, drop, drop-cons, append-nil, take-append-drop, get_or, AllPairs, Contains, Some, ◌⊎◌, inl, inr, refl, sym, ap, ◌∙◌, arith}
+use Rattle.std.proofs.Common.{◌≡◌, ◌≢◌, ◌<◌, ◌≤◌, ◌+◌, ℕ, zero, suc, List, [], ◌∷◌, ◌++◌, length, slice_get, set, take, drop, drop-cons, append-nil, take-append-drop, get_or, All, AllPairs, Contains, Some, ◌⊎◌, inl, inr, refl, sym, ap, subst, ◌∙◌, arith}
 use Rattle.std.proofs.lemmas.List.{take-append-le, drop_all}
 use Rattle.std.specs.Prelude.{remove}
 use Rattle.std.specs.List.{AllZip}
@@ -69,3 +69,12 @@ zip_push R (a ∷ rest) (b ∷ bs) x y all r = (all.0, zip_push R rest bs x y al
 -- what stands somewhere in a list is in it
 pub there_at : {A : Type 0} (xs : List A) (i : ℕ) (x : A) → slice_get xs i ≡ Some x → Contains xs x
 there_at xs i x at = (i, slice_get_within xs i x at, get_or_from_slice_get xs i x x at)
+
+-- something stands at each place of a list
+pub element_at : {A : Type 0} (xs : List A) (i : ℕ) → i < length xs → (x : A) × (slice_get xs i ≡ Some x)
+element_at [] i within = absurd (omega arith)
+element_at (x ∷ xs) zero within = (x, refl)
+element_at (x ∷ xs) (suc i) within = element_at xs i (omega arith)
+
+pub All-at : {A : Type 0} (P : A → Type 0) (xs : List A) → All P xs → (i : ℕ) (x : A) → slice_get xs i ≡ Some x → P x
+All-at P xs all i x at = subst P (get_or_from_slice_get xs i x x at) (all i x (slice_get_within xs i x at))

@@ -4,3 +4,4 @@ pub mod Answers
 pub mod Objects
 pub mod Sessions
 pub mod Judgements
+pub mod Costs

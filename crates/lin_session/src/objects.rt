@@ -1,5 +1,5 @@
 //! The objects of a history: where the events of each stand in it, and what is known of their legal orders.
-ghost use Rattle.std.specs.Prelude.{◌≡◌, ◌≢◌, ◌↔◌, ◌+◌, ◌<◌, ◌≤◌, ◌∷◌, ◌++◌, [], ℕ, ℤ, List, Bool, All, Contains, IfOk, IfSome, IfNone, OnOk, OnErr, None, Ok, Some, remove, slice_set, if◌then◌else◌, length, slice_get};
+ghost use Rattle.std.specs.Prelude.{◌≡◌, ◌≢◌, ◌↔◌, ◌+◌, ◌<◌, ◌≤◌, ◌∷◌, ◌++◌, [], ℕ, ℤ, List, Bool, All, Contains, min, IsOk, IfOk, IfSome, IfNone, OnOk, OnErr, None, Ok, Some, remove, slice_set, if◌then◌else◌, length, slice_get};
 ghost use Rattle.std.specs.Ordering.{int_eq};
 ghost use Rattle.lin_history.specs.declared.calls.Name.{Name as NameOf};
 ghost use Rattle.lin_history.specs.declared.events.Event.{Event as EventOf};
@@ -11,11 +11,12 @@ ghost use Rattle.lin_order.specs.Linearizable.{IsLegalOrder, IsLegalOrderFor};
 ghost use Rattle.lin_order.specs.Merging.{lists_of};
 ghost use Rattle.std.specs.List.{AllZip};
 ghost use Rattle.lin_session.specs.Answers.{IsAnswer, IsObjectVerdict, IsVerdict, IsWholeVerdict};
-ghost use Rattle.lin_chain.specs.Chains.{end_in, kind_in, ready_count, IsRight as IsRightChain};
+ghost use Rattle.lin_chain.specs.Chains.{end_in, end_under, kind_in, ready_count, ready_under, IsRight as IsRightChain};
 ghost use Rattle.lin_chain.specs.Ends.{IsEndOf};
 ghost use Rattle.lin_chain.specs.Replays.{IsLegalOrderAs};
 ghost use Rattle.lin_session.specs.declared.kept.Object.{Object as ObjectOf};
 ghost use Rattle.lin_session.specs.Objects.{AreRight, Finds, IsOrderIn, IsPlaceIn, split_in};
+ghost use Rattle.lin_session.specs.Costs.{IsSettled, cost_of, cost_of_all};
 ghost use Rattle.lin_session.specs.Judgements.{AreAlive, AreFound, IsAlive, IsFinding, IsOrderFor, IsTold};
 
 use crate::answers::{Answer, Scope, Verdict};
@@ -282,6 +283,9 @@ impl Objects {
         ensures verdict { IfOk result (λ verdict. (kinds : ℤ → KindOf) → AreRight self.old kinds events.now → IsWellFormed (functions_of kinds) events.now → IsObjectVerdict kinds budget events.now key verdict) }
         ensures alive { result ≡ Ok Verdict.Yes → AreAlive self.new (Scope.Object key) }
         ensures scans { meter.new.scans ≡ meter.old.scans }
+        ensures steps { (i : ℕ) (object : ObjectOf) → slice_get self.old.keys.keys i ≡ Some key → slice_get self.old.objects.items i ≡ Some object → meter.new.steps ≤ meter.old.steps + cost_of budget object }
+        ensures idle { (Contains self.old.keys.keys key → ⊥) → meter.new ≡ meter.old }
+        ensures settled { ((i : ℕ) (object : ObjectOf) → slice_get self.old.keys.keys i ≡ Some key → slice_get self.old.objects.items i ≡ Some object → IsSettled budget object) → IsOk result }
     {
         absent_keys_are_legal();
         match self.find(key) {
@@ -308,6 +312,8 @@ impl Objects {
         ensures verdict { IfOk result (λ verdict. (kinds : ℤ → KindOf) → AreRight self.old kinds events.now → IsWellFormed (functions_of kinds) events.now → IsWholeVerdict kinds budget events.now verdict) }
         ensures alive { result ≡ Ok Verdict.Yes → AreAlive self.new Scope.Whole }
         ensures scans { meter.new.scans ≡ meter.old.scans }
+        ensures steps { meter.new.steps ≤ meter.old.steps + cost_of_all budget self.old.objects.items }
+        ensures settled { All (IsSettled budget) self.old.objects.items → IsOk result }
     {
         absent_keys_are_legal();
         prefixes_are_linearizable();
@@ -334,6 +340,8 @@ impl Objects {
         ensures found { IfOk result (λ r. (kinds : ℤ → KindOf) → AreRight self.old kinds events.now → IsWellFormed (functions_of kinds) events.now → AreFound kinds budget events.now self.old.keys.keys r.0 r.1) }
         ensures alive { IfOk result (λ r. r.0 ≡ None → r.1 ≡ None → All IsAlive self.new.objects.items) }
         ensures scans { meter.new.scans ≡ meter.old.scans }
+        ensures steps { meter.new.steps ≤ meter.old.steps + cost_of_all budget self.old.objects.items }
+        ensures settled { All (IsSettled budget) self.old.objects.items → IsOk result }
     {
         let mut failing = None;
         let mut over = None;
@@ -408,6 +416,8 @@ impl Objects {
         ensures alive { IfOk result (λ r. r.0 ≡ None → r.1 ≡ None → (object : ObjectOf) → slice_get self.new.objects.items i ≡ Some object → IsAlive object) }
         ensures others { (j : ℕ) (object : ObjectOf) → j ≢ i → slice_get self.new.objects.items j ≡ Some object → slice_get self.old.objects.items j ≡ Some object }
         ensures scans { meter.new.scans ≡ meter.old.scans }
+        ensures steps { (object : ObjectOf) → slice_get self.old.objects.items i ≡ Some object → meter.new.steps ≤ meter.old.steps + cost_of budget object }
+        ensures settled { (object : ObjectOf) → slice_get self.old.objects.items i ≡ Some object → IsSettled budget object → IsOk result }
     {
         positions_spell_parts();
         parts_of_prefixes();
@@ -439,6 +449,11 @@ impl Object {
         ensures told { IfOk result (λ end. end_in self.new.chain ≡ end) }
         ensures all { OnOk result (ready_count self.new.chain ≡ length self.old.picks.items) }
         ensures scans { meter.new.scans ≡ meter.old.scans }
+        ensures steps { meter.new.steps ≤ meter.old.steps + cost_of budget self.old }
+        ensures settled { IsSettled budget self.old → IsOk result }
+        ensures stays { end_under budget self.old.chain ≢ End.Alive → result ≡ Ok (end_under budget self.old.chain) }
+        ensures under { (end_under budget self.new.chain ≡ end_in self.new.chain) × (ready_under budget self.new.chain ≡ ready_count self.new.chain) }
+        ensures remains { (other : ℕ) → min (ready_under budget self.old.chain) (ready_under other self.old.chain) ≤ ready_under other self.new.chain }
     {
         self.count = self.picks.len();
         self.chain.settle(events, &self.picks, budget, meter)

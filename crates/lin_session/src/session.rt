@@ -1,9 +1,10 @@
 //! A history that is edited, with what was found of it kept up to date.
-ghost use Rattle.std.specs.Prelude.{◌≡◌, ◌≢◌, ◌↔◌, ◌<◌, ◌≤◌, ◌⊎◌, ◌+◌, ◌-◌, ◌∷◌, ◌++◌, [], ℤ, true, false, map, Err, None, Some, IfOk, IfErr, IfSome, IfNone, OnOk, OnErr, length, slice_get, slice_set, remove, take};
+ghost use Rattle.std.specs.Prelude.{◌≡◌, ◌≢◌, ◌↔◌, ◌<◌, ◌≤◌, ◌⊎◌, ◌+◌, ◌-◌, ◌∷◌, ◌++◌, [], ℤ, true, false, map, Err, None, Some, IfOk, IfErr, IfSome, IfNone, IsOk, OnOk, OnErr, length, slice_get, slice_set, remove, take};
+ghost use Rattle.lin_history.specs.WellFormed.{IsWellFormed};
 ghost use Rattle.lin_objects.specs.declared.kinds.Kind.{Kind as KindOf};
-ghost use Rattle.lin_objects.specs.Kinds.{is_named, kind_of, named_count, same_for_all, with_kind};
+ghost use Rattle.lin_objects.specs.Kinds.{functions_of, is_named, kind_of, named_count, same_for_all, with_kind};
 ghost use Rattle.lin_session.specs.Edits.{IsBudget, IsRefused, edited};
-ghost use Rattle.lin_session.specs.Answers.{IsAnswer, IsVerdict};
+ghost use Rattle.lin_session.specs.Answers.{IsAnswer, IsVerdict, kinds_in};
 ghost use Rattle.lin_session.specs.Objects.{AreRight, split_in};
 ghost use Rattle.lin_session.specs.Sessions.{AreKeys};
 ghost use Rattle.lin_session.specs.Work.{anew, low_after};
@@ -130,6 +131,7 @@ impl Session {
         ensures settled { OnOk result (self.new.low ≡ None) }
         ensures unsettled { OnErr result (self.new.low ≡ self.old.low) }
         ensures scans { self.new.meter.scans ≤ self.old.meter.scans + anew self.old.low (length self.old.present.history) }
+        ensures known { self.old.low ≡ None → (IsWellFormed (functions_of (kinds_in self.old.present)) self.old.present.history → ⊥) → IsOk result }
     {
         match self
             .scan
@@ -162,6 +164,7 @@ impl Session {
         ensures settled { OnOk result (self.new.low ≡ None) }
         ensures unsettled { OnErr result (self.new.low ≡ self.old.low) }
         ensures scans { self.new.meter.scans ≤ self.old.meter.scans + anew self.old.low (length self.old.present.history) }
+        ensures known { self.old.low ≡ None → (IsWellFormed (functions_of (kinds_in self.old.present)) self.old.present.history → ⊥) → IsOk result }
     {
         match self
             .scan

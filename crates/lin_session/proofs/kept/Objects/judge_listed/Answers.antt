@@ -1,6 +1,6 @@
 use Rattle.std.specs.Global.{Vec}
 use Rattle.std.proofs.Common.{◌≡◌, ◌<◌, ℕ, ℤ, pos, Some, All, length, slice_get, get_or, set, inl, inr, refl, sym, ap, subst, ◌∙◌, arith}
-use Rattle.std.proofs.lemmas.Option.{slice_get-get_or}
+use Rattle.std.proofs.lemmas.Option.{slice_get-get_or, same_Some}
 use Rattle.lin_objects.specs.declared.kinds.Kind.{Kind}
 use Rattle.lin_objects.specs.Kinds.{functions_of}
 use Rattle.lin_order.specs.Parts.{events_at, part}
@@ -8,10 +8,11 @@ use Rattle.lin_chain.specs.Chains.{kind_in, IsRight}
 use Rattle.lin_chain.specs.Ends.{IsEndOf}
 use Rattle.lin_session.specs.declared.kept.Object.{Object}
 use Rattle.lin_session.specs.Objects.{IsObject, AreKept, Finds}
+use Rattle.lin_session.specs.Costs.{cost_of, IsSettled}
 use Rattle.lin_session.specs.Judgements.{IsAlive}
 use Rattle.lin_session.proofs.Asking.{IsPlaceIn-end, right_spelled, picks_inside, length_spelled, well_formed_spelled, spelled, IsObject-settled, finding_of, finds_alive}
 use Rattle.lin_session.proofs.Changes.{AreKept-one}
-use Rattle.lin_session.proofs.Found.{object_within}
+use Rattle.lin_session.proofs.Found.{object_within, not_ok}
 use Rattle.lin_history.proofs.Lists.{get_set_cases}
 use Rattle.lin_session.proofs.kept.Objects.judge_listed.Goals as goal
 use Rattle.lin_session.proofs.kept.Objects.judge_listed.Goals.{After-index_mut-object}
@@ -136,3 +137,25 @@ returns-in_err-end-clause-others c = λ j object other object_at.
       | inl here ↦ absurd (other here.0)
       | inr elsewhere ↦ elsewhere.1
     ]
+
+-- what stands there is the object that was settled
+one_object : (c : After-index_mut-object) (object : Object) → slice_get c.args.self.now.objects.items c.args.i ≡ Some object → c.index_mut-object.result.now ≡ object
+one_object c object object_at =
+    let s = c.args.self.now in
+    let old = c.index_mut-object.result.now in
+    same_Some old object (sym (object_within s.keys.keys s.objects.items c.args.i old s.aligned c.requires.listed c.index_mut-object.ensures.value) ∙ object_at)
+
+pub returns-clause-steps : goal.returns-clause-steps
+returns-clause-steps c = λ object object_at.
+    let same = one_object (goal.at.returns-clause-steps c).After-index_mut-object object object_at in
+    omega (arith, c.settle.ensures.steps, ap (cost_of c.args.budget) same)
+
+pub returns-in_err-end-clause-steps : goal.returns-in_err-end-clause-steps
+returns-in_err-end-clause-steps c = λ object object_at.
+    let same = one_object (goal.at.returns-in_err-end-clause-steps c).After-index_mut-object object object_at in
+    omega (arith, c.settle.ensures.steps, ap (cost_of c.args.budget) same)
+
+pub returns-in_err-end-clause-settled : goal.returns-in_err-end-clause-settled
+returns-in_err-end-clause-settled c = λ object object_at settled.
+    let same = one_object (goal.at.returns-in_err-end-clause-settled c).After-index_mut-object object object_at in
+    absurd (not_ok c.settle.result c.in_err-end.field-0.0 c.in_err-end.was (c.settle.ensures.settled (subst (IsSettled c.args.budget) (sym same) settled)))

@@ -1,7 +1,10 @@
-use Rattle.std.proofs.Common.{sym, ap, length, subst, ◌∙◌}
-use Rattle.lin_history.specs.WellFormed.{IsShape}
+use Rattle.std.proofs.Common.{◌≡◌, None, sym, ap, length, subst, ◌∙◌}
+use Rattle.lin_history.specs.WellFormed.{IsShape, IsWellFormed}
 use Rattle.lin_objects.specs.Kinds.{functions_of, kind_of}
 use Rattle.lin_wellformed.specs.Scans.{IsRight, ready_count}
+use Rattle.lin_session.specs.Answers.{kinds_in}
+use Rattle.lin_session.specs.Sessions.{AreTakenIn, Standing}
+use Rattle.lin_session.proofs.Found.{not_ok}
 use Rattle.lin_session.proofs.Low.{AreTakenIn-more}
 use Rattle.lin_session.proofs.session.Session.ask.Goals as goal
 
@@ -40,3 +43,15 @@ invariant_of-self-in-Bad c =
       kept = c.self.invariant.kept;
       apart = λ none fine. absurd (fine c.in-Bad.at c.in-Bad.cause bad.0);
     }
+
+pub returns-in_err-settle-clause-known : goal.returns-in_err-settle-clause-known
+returns-in_err-settle-clause-known c = λ none bad.
+    let low : c.self.inside.low ≡ None = ap (λ (s : Standing). s.low) c.self.view_is ∙ none in
+    let all = subst (λ l. AreTakenIn l (ready_count c.self.inside.scan) (length c.self.inside.events.items)) low c.self.invariant.taken_in in
+    absurd (not_ok c.settle.result c.in_err-settle.field-0.0 c.in_err-settle.was (c.settle.ensures.settled (all ∙ ap length (sym c.deref.ensures.value))))
+
+pub returns-in_err-answer-in-Good-clause-known : goal.returns-in_err-answer-in-Good-clause-known
+returns-in_err-answer-in-Good-clause-known c = λ none bad.
+    let F = functions_of (kind_of c.self.inside.kinds) in
+    let fine = subst (IsShape F c.self.inside.events.items) c.in-Good.is (subst (λ l. IsShape F l c.in_ok-settle.field-0) c.deref.ensures.value c.in_ok-settle.ensures.shape) in
+    absurd (bad (subst (λ (s : Standing). IsWellFormed (functions_of (kinds_in s.present)) s.present.history) c.self.view_is fine))
