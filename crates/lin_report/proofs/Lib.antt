@@ -1,7 +1,9 @@
 pub mod Judging
+pub mod Maps
 pub mod Members
 pub mod Pairs
 pub mod PartsOfTexts
+pub mod Putting
 pub mod Reading
 pub mod Rising
 pub mod Searching

@@ -3,6 +3,7 @@
 
 mod answers;
 mod checks;
+mod commands;
 mod counted;
 mod faults;
 mod inputs;
@@ -13,14 +14,20 @@ mod parts;
 mod reports;
 mod runs;
 mod search;
+mod senses;
 #[cfg(test)]
 mod tests;
+#[cfg(test)]
+mod tests_commands;
+mod texts;
 mod writing;
 
 pub use answers::Status;
 pub use checks::check;
+pub use commands::{Command, CommandFault, read_command};
 pub use counted::Counted;
 pub use faults::{OrderFault, RunFault};
 pub use laws::{answers_agree, verdicts_are_unique};
 pub use orders::read_order;
 pub use runs::{Settings, verify};
+pub use texts::write_order;
