@@ -1,5 +1,6 @@
 pub mod Answers
 pub mod Commands
+pub mod CommandLaws
 pub mod Devices
 pub mod Fronts
 pub mod Histories
@@ -8,6 +9,7 @@ pub mod Intakes
 pub mod Integers
 pub mod MapCommands
 pub mod ObjectAnswers
+pub mod OrderLaws
 pub mod Orders
 pub mod Parts
 pub mod Reports

@@ -2,12 +2,13 @@
 ghost use Rattle.std.specs.Prelude.{◌≡◌, ◌⊎◌, ◌+◌, ◌^◌, ◌<◌, ◌≤◌, Err, length, drop};
 ghost use Rattle.lin_edn.specs.View.{view};
 ghost use Rattle.lin_history.specs.Table.{event};
+ghost use Rattle.lin_report.specs.CommandLaws.{CommandsAreUnique};
 ghost use Rattle.lin_report.specs.Commands as said;
 ghost use Rattle.lin_report.specs.Commands.{IsMapCommand, IsRead};
 ghost use Rattle.lin_report.specs.MapCommands.{IsBlankOrNot, IsMade};
 
 use crate::senses::{Sense, Target, sense_of};
-use lin_edn::{Edn, EdnCause, EdnFault, Next, next_element, places};
+use lin_edn::{Edn, EdnCause, EdnFault, Next, next_element, places, readings_are_unique};
 use lin_history::{EventFault, event_of};
 use lin_session::{Edit, Scope};
 use std::alloc::Global;
@@ -162,4 +163,11 @@ pub fn read_command(
         Sense::Plain(command) => Ok(Some(command)),
         Sense::Map(target, from) => read_map(alloc, keyed, target, &line[from..], from),
     }
+}
+
+/// A line says one command, or one reason why it is refused. The function does nothing.
+pub fn commands_are_unique()
+    ensures { CommandsAreUnique }
+{
+    readings_are_unique();
 }

@@ -24,10 +24,10 @@ mod writing;
 
 pub use answers::Status;
 pub use checks::check;
-pub use commands::{Command, CommandFault, read_command};
+pub use commands::{Command, CommandFault, commands_are_unique, read_command};
 pub use counted::Counted;
 pub use faults::{OrderFault, RunFault};
 pub use laws::{answers_agree, verdicts_are_unique};
 pub use orders::read_order;
 pub use runs::{Settings, verify};
-pub use texts::write_order;
+pub use texts::{write_order, written_orders_are_read};

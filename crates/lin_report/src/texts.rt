@@ -3,6 +3,7 @@ ghost use Rattle.std.specs.Prelude.{◌≡◌, ◌++◌, codes, decimal, OnErr, 
 ghost use Rattle.std.specs.Fmt.{signed_decimal};
 ghost use Rattle.std.specs.List.{join_by};
 ghost use Rattle.lin_report.specs.Fronts.{HasFront};
+ghost use Rattle.lin_report.specs.OrderLaws.{WrittenOrdersAreRead};
 ghost use Rattle.lin_report.specs.Texts.{edit_fault_text, fault_text, order_text, placed_text, reply_text};
 
 use crate::answers::{edn_cause, event_fault, put_number};
@@ -147,3 +148,8 @@ pub fn write_order(order: &[Placed], out: &mut Vec<u8>) -> Result<(), OutOfMemor
         }
     }
 }
+
+/// Reading the text of an order gives that order back. The function does nothing.
+pub fn written_orders_are_read()
+    ensures { WrittenOrdersAreRead }
+{}
