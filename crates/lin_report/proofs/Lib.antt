@@ -1,8 +1,12 @@
+pub mod Findings
 pub mod Judging
+pub mod Maps
 pub mod Members
+pub mod OneCommand
 pub mod Pairs
 pub mod PartsOfTexts
 pub mod Putting
+pub mod ReadBack
 pub mod Reading
 pub mod Rising
 pub mod TooLarge

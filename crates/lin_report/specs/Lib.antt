@@ -1,11 +1,17 @@
 pub mod Answers
+pub mod Commands
+pub mod CommandLaws
 pub mod Devices
+pub mod Fronts
 pub mod Histories
 pub mod Inputs
 pub mod Intakes
 pub mod Integers
+pub mod MapCommands
+pub mod OrderLaws
 pub mod Orders
 pub mod Parts
 pub mod Reports
+pub mod Texts
 pub mod Verdicts
 pub mod Uniqueness
