@@ -1,3 +1,4 @@
+pub mod CommandLines
 pub mod Findings
 pub mod Judging
 pub mod Maps
@@ -5,6 +6,7 @@ pub mod Members
 pub mod OneCommand
 pub mod Pairs
 pub mod PartsOfTexts
+pub mod Pulling
 pub mod Putting
 pub mod ReadBack
 pub mod Reading

@@ -11,7 +11,9 @@ pub mod MapCommands
 pub mod OrderLaws
 pub mod Orders
 pub mod Parts
+pub mod Pulls
 pub mod Reports
+pub mod Runs
 pub mod Texts
 pub mod Verdicts
 pub mod Uniqueness

@@ -11,6 +11,8 @@ mod integers;
 mod laws;
 mod orders;
 mod parts;
+mod pulls;
+mod replies;
 mod reports;
 mod runs;
 mod senses;
