@@ -1,9 +1,9 @@
 -- The lines of commands, as their bytes come.
-use Rattle.std.proofs.Common.{◌≡◌, ◌≢◌, ◌==◌, ◌+◌, ◌-◌, ◌<◌, ◌∷◌, ◌++◌, [], ℕ, Bool, false, List, Result, Option, Err, All, length, take, inl, inr, refl, sym, ap, subst, ◌∙◌, arith, ne_eqb, lt-ltb, append-nil}
+use Rattle.std.proofs.Common.{◌≡◌, ◌≢◌, ◌==◌, ◌+◌, ◌-◌, ◌<◌, ◌≤◌, ◌∷◌, ◌++◌, [], ℕ, Bool, false, List, Result, Option, Err, All, length, take, drop, get_or, inl, inr, refl, sym, ap, subst, ◌∙◌, arith, ne_eqb, lt-ltb, append-nil, append_assoc}
 use Rattle.std.specs.Prelude.{if◌then◌else◌}
 use Rattle.std.proofs.lemmas.Bool.{cases_order}
-use Rattle.std.proofs.lemmas.List.{length-take-le, take-append-le, take_all}
-use Rattle.std.proofs.Math.Seq.{take-append-add}
+use Rattle.std.proofs.lemmas.List.{get_or-drop, get_or-take, get_or_default, length-drop, length-take, length-take-le, take-append-drop, take-append-le, take_all, take_more}
+use Rattle.std.proofs.Math.Seq.{take-add, take-append-add}
 use Rattle.std.proofs.lemmas.List.Elements.{All-tail, All-head}
 use Rattle.lin_report.specs.Commands.{IsCommand, IsSaid, longest_line, sense_of, sense_of_line, without_return}
 use Rattle.lin_report.specs.Parts.{words_from}
@@ -50,6 +50,20 @@ kept_more m kept rest more is = elim (cases_order m (length rest)) [
   ]
 ]
 
+-- nothing is kept of no line alone
+pub kept_none : (m : ℕ) (kept rest : List ℕ) → 0 < m → kept ≡ take m rest → length kept ≡ 0 → rest ≡ []
+kept_none m kept [] some is none = refl
+kept_none m kept (c ∷ rest) some is none =
+    let size = length-take m (c ∷ rest) in
+    let same = ap length is in
+    absurd (omega arith)
+
+pub kept_some : (m : ℕ) (kept rest : List ℕ) → kept ≡ take m rest → 0 < length kept → 0 < length rest
+kept_some m kept rest is some =
+    let size = length-take m rest in
+    let same = ap length is in
+    omega arith
+
 -- a line that is too long
 too_long : (line : List ℕ) → longest_line < length line → sense_of_line line ≡ Err LineTooLong
 too_long line long = ap (λ b. if b then Err LineTooLong else sense_of (words_from 0 (without_return line))) (lt-ltb longest_line (length line) long)
@@ -67,3 +81,28 @@ kept_says keyed line kept said is right = elim (cases_order longest_line (length
     | inr short ↦ subst (λ l. IsCommand keyed l said) (is ∙ take_all (longest_line + 1) line (omega arith)) right
   ]
 ]
+
+-- the bytes of a piece up to a place, and from there to the next one
+pub up_to : (piece : List ℕ) (from end : ℕ) → from ≤ end → take from piece ++ take (end - from) (drop from piece) ≡ take end piece
+up_to piece from end order =
+    let sum : from + (end - from) ≡ end = omega arith in
+    sym (take-add from (end - from) piece) ∙ ap (λ n. take n piece) sum
+
+-- no line ends between two places
+pub none_between : (piece : List ℕ) (from end : ℕ) → from ≤ end → end ≤ length piece → ((k : ℕ) → from ≤ k → k < end → get_or piece k 0 ≡ 10 → ⊥)
+    → All (λ c. c ≢ 10) (take (end - from) (drop from piece))
+none_between piece from end order within inner = λ k d inside is.
+    let left : length (drop from piece) ≡ length piece - from = length-drop from piece in
+    let size : length (take (end - from) (drop from piece)) ≡ end - from = length-take-le (end - from) (drop from piece) (omega arith) in
+    inner (from + k) (omega arith) (omega arith)
+    (sym (get_or-drop from piece k 0) ∙ sym (get_or-take (end - from) (drop from piece) k 0 (omega arith))
+    ∙ get_or_default (take (end - from) (drop from piece)) k 0 d inside ∙ is)
+
+-- a line ends at a place
+pub with_end : (piece : List ℕ) (end : ℕ) → end < length piece → get_or piece end 0 ≡ 10 → take end piece ++ 10 ∷ [] ≡ take (end + 1) piece
+with_end piece end inside is = ap (λ c. take end piece ++ c ∷ []) (sym is) ∙ sym (take_more piece end 0 inside)
+
+pub around_end : (piece : List ℕ) (end : ℕ) → end < length piece → get_or piece end 0 ≡ 10 → take end piece ++ 10 ∷ drop (end + 1) piece ≡ piece
+around_end piece end inside is =
+    sym (append_assoc (take end piece) (10 ∷ []) (drop (end + 1) piece)) ∙ ap (λ t. t ++ drop (end + 1) piece) (with_end piece end inside is)
+    ∙ take-append-drop (end + 1) piece

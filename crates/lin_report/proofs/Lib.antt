@@ -11,6 +11,9 @@ pub mod Putting
 pub mod ReadBack
 pub mod Reading
 pub mod Rising
+pub mod Refusals
+pub mod Replying
 pub mod TooLarge
+pub mod UnderWay
 pub mod Written
 pub mod Alone

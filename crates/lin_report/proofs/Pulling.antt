@@ -1,7 +1,7 @@
 -- What a pull takes from a follower, piece by piece.
 use Rattle.std.proofs.Common.{◌≡◌, ◌+◌, ◌-◌, ◌<◌, ◌≤◌, ◌∷◌, ◌++◌, [], ℕ, Bool, List, Option, None, Some, Result, Ok, Err, length, take, refl, sym, ap, subst, ◌∙◌, arith, append_assoc, append-nil, length-append, ◌==◌, ne_eqb, lt-ltb, le-ltb}
 use Rattle.std.specs.Prelude.{if◌then◌else◌}
-use Rattle.std.specs.Io.KnownBytes.{Consumes, IsAtEnd, Keeps}
+use Rattle.std.specs.Io.KnownBytes.{Consumes, IsAtEnd}
 use Rattle.std.proofs.Math.Seq.{take-append_seam}
 use Rattle.std.proofs.lemmas.List.{take_all}
 use Rattle.lin_history.specs.declared.events.Event.{Event}
@@ -197,18 +197,6 @@ pull_ends keyed before now new follow after old left part entered refused stands
         refusal = right.1 ∙ ap (λ n. pull_refusal n (entered ++ after.ready) after.outcome) same;
       },
     )
-
--- nothing is consumed where nothing is read
-pub consumed_none : (a : Option (List ℕ)) → Consumes a a []
-consumed_none None = tt
-consumed_none (Some xs) = refl
-
--- what is consumed stays where nothing more was
-pub consumed_still : (a b c : Option (List ℕ)) (part : List ℕ) → Consumes a b part → Keeps b c → Consumes a c part
-consumed_still None b c part first keeps = tt
-consumed_still (Some xs) None c part first keeps = elim first [ ]
-consumed_still (Some xs) (Some ys) None part first keeps = elim keeps [ ]
-consumed_still (Some xs) (Some ys) (Some zs) part first keeps = first ∙ ap (λ t. part ++ t) (sym keeps)
 
 -- a refusal is one
 pub not_none : (refusal : Refusal) → Some refusal ≡ None → ⊥

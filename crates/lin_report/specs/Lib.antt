@@ -2,6 +2,7 @@ pub mod Answers
 pub mod Commands
 pub mod CommandLaws
 pub mod Devices
+pub mod Engines
 pub mod Fronts
 pub mod Histories
 pub mod Inputs

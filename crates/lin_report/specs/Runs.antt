@@ -161,34 +161,38 @@ pub data IsRun (keyed : Bool) (start : RunState) : List (List ℕ) → RunState 
 abbrev pub start_of : Settings → Option (List ℕ) → RunState
 start_of settings file = record { present = opened settings []; bytes = []; put = []; left = file }
 
--- The lines are read, of the bytes and what is left behind them: the bytes begin with them, whatever comes; or they are all.
-abbrev pub AreRead : List ℕ → Option (List ℕ) → List (List ℕ) → Type 0
-AreRead bytes left lines =
-    ((rest : List ℕ) × ((more : List ℕ) → lines_of (bytes ++ more) ≡ lines ++ lines_of (rest ++ more))) ⊎ (IsAtEnd left × (lines_of bytes ≡ lines))
+-- the bytes begin with these lines, whatever comes behind them
+abbrev pub BeginWith : List ℕ → List (List ℕ) → Type 0
+BeginWith bytes lines = (rest : List ℕ) × ((more : List ℕ) → lines_of (bytes ++ more) ≡ lines ++ lines_of (rest ++ more))
 
--- some first lines were carried out, and this is so of their replies; what was read of the file behind them goes with the next line
-abbrev pub IsBegun : Settings → Option (List ℕ) → Option (List ℕ) → Option (List ℕ) → Option (List ℕ) → (List ℕ → Type 0) → Type 0
-IsBegun settings file file' commands commands' written =
-    (bytes : List ℕ) × Consumes commands commands' bytes
-    × (lines : List (List ℕ)) × AreRead bytes commands' lines
-    × (end : RunState) × (text : List ℕ) × (last : Option Status) × IsRun settings.keyed (start_of settings file) lines end text last
-    × (part : List ℕ) × Consumes end.left file' part
-    × written text
+-- the lines are whole in the bytes: they begin with them, or these are all and nothing comes
+abbrev pub AreRead : List ℕ → Option (List ℕ) → List (List ℕ) → Type 0
+AreRead bytes left lines = BeginWith bytes lines ⊎ (IsAtEnd left × (lines_of bytes ≡ lines))
+
+-- these lines were carried out, and this is so of their replies; what was read of the file behind them goes with the next line
+abbrev pub AreCarriedOut : Bool → RunState → List (List ℕ) → Option (List ℕ) → (List ℕ → Type 0) → Type 0
+AreCarriedOut keyed start lines file written =
+    (end : RunState) × (text : List ℕ) × (last : Option Status) × IsRun keyed start lines end text last
+    × ((part : List ℕ) × Consumes end.left file part) × written text
+
+-- what is written of the replies at a fault: all, but a beginning where the writer failed
+abbrev pub IsWritten : RunFault → Option (List ℕ) → Option (List ℕ) → List ℕ → Type 0
+IsWritten WriteFailed out out' text = (n : ℕ) × Appends out out' (take n text)
+IsWritten ReadFailed out out' text = Appends out out' text
+IsWritten OutOfMemory out out' text = Appends out out' text
+IsWritten TooMuch out out' text = Appends out out' text
 
 -- What a run reads and writes, and how it ends: with all lines carried out, their replies written, and the status of the last
--- answer; or early. After a fault of the writer a beginning of the replies to some first lines is written, after any other fault
--- all of them.
+-- answer; or early, with some first lines carried out.
 abbrev pub IsRunOf : Settings → Option (List ℕ) → Option (List ℕ) → Option (List ℕ) → Option (List ℕ) → Option (List ℕ) → Option (List ℕ) → Result Status RunFault → Type 0
 IsRunOf settings file file' commands commands' out out' (Ok status) =
     (bytes : List ℕ) × Consumes commands commands' bytes × IsAtEnd commands' × (length bytes ≤ 2 ^ 40)
     × (end : RunState) × (text : List ℕ) × (last : Option Status) × IsRun settings.keyed (start_of settings file) (lines_of bytes) end text last
-    × (end.left ≡ file') × Appends out out' text × (status ≡ unwrap_or last status_of.Yes)
-IsRunOf settings file file' commands commands' out out' (Err ReadFailed) = IsBegun settings file file' commands commands' (Appends out out')
-IsRunOf settings file file' commands commands' out out' (Err OutOfMemory) = IsBegun settings file file' commands commands' (Appends out out')
-IsRunOf settings file file' commands commands' out out' (Err TooMuch) =
-    IsBegun settings file file' commands commands' (Appends out out') × (IsReadTooFar file file' ⊎ IsReadTooFar commands commands')
-IsRunOf settings file file' commands commands' out out' (Err WriteFailed) =
-    IsBegun settings file file' commands commands' (λ text. (n : ℕ) × Appends out out' (take n text))
+    × (file' ≡ end.left) × Appends out out' text × (status ≡ unwrap_or last status_of.Yes)
+IsRunOf settings file file' commands commands' out out' (Err fault) =
+    ((bytes : List ℕ) × Consumes commands commands' bytes × (lines : List (List ℕ)) × AreRead bytes commands' lines
+    × AreCarriedOut settings.keyed (start_of settings file) lines file' (IsWritten fault out out'))
+    × (fault ≡ TooMuch → IsReadTooFar file file' ⊎ IsReadTooFar commands commands')
 
 -- just one of two readers failed, and that once, or none did
 abbrev pub CountsOne : Bool → ℕ → ℕ → ℕ → ℕ → Type 0

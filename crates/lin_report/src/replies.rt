@@ -41,13 +41,23 @@ pub fn ok_line(alloc: Global, count: usize) -> Result<Vec<u8>, AllocError>
 }
 
 /// The line of a refused command.
-pub fn fault_line(alloc: Global, fault: CommandFault) -> Result<Vec<u8>, AllocError>
+fn fault_line(alloc: Global, fault: CommandFault) -> Result<Vec<u8>, AllocError>
     ensures { IfOk result (λ line. line.items ≡ fault_text fault ++ codes "\n") }
 {
     let mut line = Vec::new(alloc);
     put_fault(&mut line, fault)?;
     line.push(b'\n')?;
     Ok(line)
+}
+
+/// The reply to a line that is refused.
+pub fn reply_to_fault(alloc: Global, fault: CommandFault) -> Result<Reply, OutOfMemory>
+    ensures { IfOk result (λ reply. (fault ≢ CommandFault.OutOfMemory) × (reply.text.items ≡ fault_text fault ++ codes "\n") × (reply.status ≡ None)) }
+{
+    match fault {
+        CommandFault::OutOfMemory => Err(OutOfMemory),
+        other => Ok(Reply::plain(fault_line(alloc, other)?)),
+    }
 }
 
 /// The line of a refused edit.

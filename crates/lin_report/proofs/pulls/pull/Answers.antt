@@ -1,7 +1,7 @@
 use Rattle.std.proofs.Common.{◌++◌, [], List, ℕ, Err, None, Some, take, inl, inr, refl, sym, ap, ◌∙◌, arith, length-append}
 use Rattle.std.proofs.lemmas.List.{length-take-le}
-use Rattle.std.proofs.KnownBytes.{Consumes-trans}
-use Rattle.lin_report.proofs.Pulling.{consumed_none, goes_on, not_none, pull_ends, pulled_more, pulled_none, pulled_piece}
+use Rattle.std.proofs.KnownBytes.{Consumes-nil, Consumes-trans}
+use Rattle.lin_report.proofs.Pulling.{goes_on, not_none, pull_ends, pulled_more, pulled_none, pulled_piece}
 use Rattle.lin_report.proofs.Reading.{consumed_end, longer}
 use Rattle.lin_report.proofs.pulls.pull.Goals as goal
 
@@ -10,7 +10,7 @@ pieces-init g c = record {
   part = [];
   entered = [];
   pulled = pulled_none c.args.session.now.present c.args.follow.now;
-  consumed = consumed_none _;
+  consumed = Consumes-nil _;
   read_on = λ keyed before stands. inl refl;
   room = refl;
   counted = omega arith;
