@@ -1,6 +1,5 @@
 //! Reports: what is found of a history and of its objects, and its text.
 ghost use Rattle.std.specs.Prelude.{◌≡◌, ◌++◌, [], if◌then◌else◌, ℕ, List, IfOk, OnErr, OnOk, codes};
-ghost use Rattle.std.specs.Fmt.{signed_decimal};
 ghost use Rattle.std.specs.List.{flat_map};
 ghost use Rattle.lin_session.specs.Answers.{IsVerdict, kinds_in};
 ghost use Rattle.lin_session.specs.declared.answers.Scope.TheVariants as scope;
@@ -10,8 +9,8 @@ ghost use Rattle.lin_report.specs.Reports.{AreFindings, Finding, IsReport, answe
 ghost use Rattle.lin_report.specs.declared.answers.Status.{Status as StatusOf};
 
 use crate::answers::{Status, put_number};
+use crate::texts::put_integer;
 use crate::verdicts::{is_ill_formed, status_of, verdict_words};
-use itoa::Buffer;
 use lin_history::OutOfMemory;
 use lin_objects::Kind;
 use lin_session::{Scope, Session, Verdict};
@@ -34,14 +33,6 @@ fn kind_word(kind: Kind) -> &'static str
         Kind::Set => "set",
         Kind::Mutex => "mutex",
     }
-}
-
-/// Puts a number that may be negative last.
-fn put_integer(text: &mut Vec<u8>, number: i64) -> Result<(), AllocError>
-    ensures { OnOk result (text.new.items ≡ text.old.items ++ signed_decimal number) }
-{
-    let mut digits = Buffer::new();
-    text.extend_from_slice(digits.format(number).as_bytes())
 }
 
 /// The line that names so many events and objects.

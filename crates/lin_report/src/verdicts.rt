@@ -10,7 +10,7 @@ use lin_session::{Answer, Verdict};
 use std::alloc::{AllocError, Global};
 
 /// The answer without its order.
-fn verdict_of(answer: &Answer) -> Verdict
+pub fn verdict_of(answer: &Answer) -> Verdict
     ensures { result ≡ asked.verdict_of answer.now }
 {
     match answer {

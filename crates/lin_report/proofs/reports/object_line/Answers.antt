@@ -1,6 +1,6 @@
 use Rattle.std.proofs.Common.{◌≡◌, to_z, of_z, w64}
 use Rattle.std.proofs.lemmas.Int.{to_z-of_z}
-use Rattle.lin_report.proofs.Putting.{line_is}
+use Rattle.lin_report.proofs.Findings.{line_is}
 use Rattle.lin_report.proofs.reports.object_line.Goals as goal
 
 pub returns-clause-line : goal.returns-clause-line

@@ -1,7 +1,7 @@
 use Rattle.std.proofs.Common.{◌≡◌, ◌∙◌, refl, get_or, pos, to_z, of_z, w64, rules}
 use Rattle.std.proofs.lemmas.List.{take_all}
 use Rattle.std.proofs.lemmas.Int.{to_z-of_z}
-use Rattle.lin_report.proofs.Putting.{none_written, one_more_line}
+use Rattle.lin_report.proofs.Findings.{none_written, one_more_line}
 use Rattle.lin_report.proofs.reports.put_objects.Goals as goal
 
 pub loop-key-init : goal.loop-key-init

@@ -1,5 +1,5 @@
 use Rattle.std.proofs.Common.{◌≡◌, take}
-use Rattle.lin_report.proofs.Putting.{AreWritten}
+use Rattle.lin_report.proofs.Findings.{AreWritten}
 use Rattle.lin_report.proofs.reports.put_objects.Given as goal
 
 abbrev pub invariant-loop-key : goal.invariant-loop-key

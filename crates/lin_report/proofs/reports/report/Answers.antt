@@ -1,5 +1,5 @@
 use Rattle.std.proofs.Common.{◌≡◌, length, arith}
-use Rattle.lin_report.proofs.Putting.{report_is}
+use Rattle.lin_report.proofs.Findings.{report_is}
 use Rattle.lin_report.proofs.reports.report.Goals as goal
 
 pub returns-clause-report : goal.returns-clause-report
