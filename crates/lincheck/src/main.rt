@@ -40,7 +40,7 @@ pub fn line<'a>(alloc: Global, words: &'a [&'a str]) -> Result<Line<'a>, Error>
 }
 
 /// Runs on an opened file, and tells why the run ended early, if it did.
-fn run_on<R: Read>(rt: &HostRuntime, line: Line, file: R) -> u8
+fn run_on<R: Read + Drop>(rt: &HostRuntime, line: Line, file: R) -> u8
     requires { IsRunnable line }
 {
     let mut commands = Counted::new(rt.stdin());
