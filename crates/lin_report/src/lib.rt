@@ -24,6 +24,8 @@ mod tests;
 mod tests_commands;
 #[cfg(test)]
 mod tests_reports;
+#[cfg(test)]
+mod tests_runs;
 mod texts;
 mod verdicts;
 mod writing;
