@@ -141,12 +141,17 @@ command_of t (Err fault) = Err (Event fault)
 
 -- What a text says that stands from a place of the line on: one element, and behind it blanks and at most an unfinished comment.
 pub data IsMapCommand (keyed : Bool) (t : Target) (at : ℕ) (text : List ℕ) : Result (Option Command) CommandFault → Type 0 where
+  -- a fault of EDN in the element or before it; its place counts from the line's first byte
   faulty : (p : ℕ) (cause : EdnCause) → Refuses text p cause → cause ≢ edn.OutOfMemory →
       IsMapCommand keyed t at text (Err (Edn (record { at = at + p; cause = cause })))
+  -- an element, or a discard before it, that is not whole
   unfinished : (p : ℕ) → IsUnfinished text p → IsMapCommand keyed t at text (Err NotOneMap)
+  -- no element
   missing : (used : ℕ) → IsBlankText text used → IsMapCommand keyed t at text (Err NotOneMap)
+  -- an element with something behind it
   followed : (v : Value) (p used : ℕ) → Spells text v p used → ((n : ℕ) → IsBlankText (drop used text) n → ⊥) →
       IsMapCommand keyed t at text (Err NotOneMap)
+  -- an element alone
   one_map : (v : Value) (p used n : ℕ) → Spells text v p used → IsBlankText (drop used text) n →
       IsMapCommand keyed t at text (command_of t (event keyed v))
 

@@ -217,16 +217,15 @@ fn command_behind(line: &[u8], verb: Verb, end: usize) -> Result<Sense, CommandF
     let command = match verb {
         Verb::Append => return Ok(Sense::Map(Target::Last, end)),
         Verb::Replace => return replacement(line, end),
-        Verb::Remove => { Command::Edit(Edit::Remove(number_in(line, end, u64::MAX)? as usize)) }
-        Verb::Truncate => {
-            Command::Edit(Edit::Truncate(number_in(line, end, u64::MAX)? as usize))
-        }
+        Verb::Remove => Command::Edit(Edit::Remove(number_in(line, end, u64::MAX)? as usize)),
+        Verb::Truncate => Command::Edit(Edit::Truncate(number_in(line, end, u64::MAX)? as usize)),
         Verb::Kind => {
             let (key, kind) = key_and_kind(line, end)?;
             Command::Edit(Edit::SetKind(key, kind))
         }
         Verb::Budget => {
-            Command::Edit(Edit::SetBudget(number_in(line, end, u64::from(u32::MAX))? as u32))
+            let budget = number_in(line, end, u64::from(u32::MAX))?;
+            Command::Edit(Edit::SetBudget(budget as u32))
         }
         Verb::Ask => Command::Ask(scope_in(line, end)?),
         Verb::Order => Command::Order(scope_in(line, end)?),
