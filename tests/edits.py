@@ -5,8 +5,9 @@ Each script goes through `lincheck edit`: edits of all six kinds, refused ones a
 shares no code with the program. It keeps the history as a list, looks back for well-formedness, and tries every order of every
 prefix, so histories stay small.
 
-usage: tests/edits.py PROGRAM [SCRIPTS] [SEED]   (the last line counts the replies)
+usage: tests/edits.py [SCRIPTS] [SEED] [PROGRAM]   (the program has to be built; the last line counts the replies)
 """
+import os
 import random
 import subprocess
 import sys
@@ -267,13 +268,17 @@ class Script:
         draw, model = self.draw, self.model
         events, count = model.events, len(model.events)
         what = draw.random()
-        if what < 0.55 and count < 9:
+        if what < 0.55 and count < 10:
             event = self.event()
             events.append(event)
             self.edit('append ' + event.text(model.keyed))
         elif what < 0.62:
             at = draw.randrange(count + 2)
             event = self.event()
+            if at < count and draw.random() < 0.8:
+                # the same event with another value, as a recording is corrected
+                was = events[at]
+                event = Event(was.process, was.key, was.type, was.name, self.value(model.kinds(was.key), was.name, was.type))
             if at < count:
                 events[at] = event
             self.edit('replace %d %s' % (at, event.text(model.keyed)), None if at < count else 'refused edit 1 BadPosition')
@@ -288,7 +293,7 @@ class Script:
                 del events[keep:]
             self.edit('truncate %d' % keep, None if keep <= count else 'refused edit 1 BadPosition')
         elif what < 0.76:
-            key, kind = draw.randrange(2) if model.keyed else 0, draw.choice(KINDS)
+            key, kind = draw.randrange(2) if model.keyed else 0, model.default if draw.random() < 0.7 else draw.choice(KINDS)
             model.named[key] = kind
             self.edit('kind %d %s' % (key, kind))
         elif what < 0.80:
@@ -322,7 +327,9 @@ class Script:
 
 
 def main():
-    program, scripts, seed = sys.argv[1], int((sys.argv[2:] or ['200'])[0]), int((sys.argv[3:] or ['1'])[0])
+    given = sys.argv[1:]
+    scripts, seed = int(given[0]) if given else 300, int(given[1]) if given[1:] else 1
+    program = given[2] if given[2:] else os.path.join(os.path.dirname(os.path.abspath(__file__)), '../crates/lincheck/out/lincheck')
     right = wrong = 0
     for number in range(scripts):
         script = Script(random.Random(seed * 1000003 + number))
