@@ -4,6 +4,7 @@
 # usage: tests/readme.sh   (the program has to be built)
 set -u
 cd "$(dirname "$0")/.."
+./lincheck --help > /dev/null 2>&1   # builds what isn't built
 passed=0 failed=0 last=0 command='' wanted=''
 
 finish() { # runs the command that was read, and compares

@@ -189,7 +189,7 @@ pub record IsGoing (h : List Event) (first now : Chain) (budget : ℕ) (before m
   pub kind : kind_in now ≡ kind_in first
   pub grown : ready_count first ≤ ready_count now
   pub found : IsFrom (ready_count first) now.end
-  pub over : (at : ℕ) → now.end ≡ Over at → now.budget ≡ budget
+  pub over : (at : ℕ) → now.end ≡ Over at → (now.budget ≡ budget) × (ready_count first ≤ at)
   pub steps : meter.steps + ready_count first ≤ before.steps + ready_count now
   pub scans : meter.scans ≡ before.scans
 

@@ -1,3 +1,4 @@
 pub mod Replays
 pub mod Ends
 pub mod Chains
+pub mod Refuting

@@ -1,18 +1,22 @@
 //! One object's frontiers over its events, kept right while the events are edited.
-ghost use Rattle.std.specs.Prelude.{◌≡◌, ◌≢◌, ◌≤◌, ◌<◌, ◌+◌, ◌-◌, ◌*◌, ◌/◌, ◌⊎◌, ℕ, ℤ, Bool, List, All, AllPairs, IfOk, OnOk, IsOk, MatchOption, length, take, IsTrue, OnErr, ◌↔◌, Ok};
+ghost use Rattle.std.specs.Prelude.{◌≡◌, ◌≢◌, ◌≤◌, ◌<◌, ◌+◌, ◌-◌, ◌*◌, ◌/◌, ◌⊎◌, ℕ, ℤ, Bool, List, All, AllPairs, IfOk, OnOk, IsOk, MatchOption, length, take, IsTrue, OnErr, ◌↔◌, Ok, Err, min};
 ghost use Rattle.lin_history.specs.declared.calls.Name.{Name as NameOf};
 ghost use Rattle.lin_history.specs.declared.events.Event.{Event as EventOf};
 ghost use Rattle.lin_history.specs.Operations.{IsEvent};
 ghost use Rattle.lin_history.specs.WellFormed.{IsWellFormed};
+ghost use Rattle.lin_objects.specs.Steps.{Step as StepOf, start as start_of};
 ghost use Rattle.lin_order.specs.Parts.{events_at};
+ghost use Rattle.lin_order.specs.Refutations.{IsRefutation, sets_of};
+ghost use Rattle.lin_frontier.specs.Frontiers.{IsOver};
 ghost use Rattle.lin_chain.specs.Chains.{IsRight, end_before, end_in, end_under, kept_count, kind_in, ready_count, ready_under};
 ghost use Rattle.lin_chain.specs.Ends.{IsEndOf, IsFrom};
 ghost use Rattle.lin_chain.specs.Replays.{IsLegalOrderAs};
 
+use crate::refuting::refutation_of;
 use crate::replay::{Replay, SPACING, Taken};
 use lin_history::{Event, Meter, OutOfMemory};
 use lin_objects::Kind;
-use lin_order::{Placed, empty_is_legal};
+use lin_order::{Placed, Refutation, empty_is_legal};
 use std::alloc::Global;
 
 /// Whether the events of an object have a legal order (Herlihy and Wing 1990, section 3). Places count its events from 0.
@@ -24,6 +28,17 @@ pub enum End {
     Dead(usize),
     /// Those up to and with this one have more configurations than the budget.
     Over(usize),
+}
+
+/// Why there is no refutation.
+#[derive(Clone, Copy, Debug, PartialEq, Eq)]
+pub enum RefuteFault {
+    /// The chain is dead nowhere.
+    NotDead,
+    /// Some beginning of the events has more configurations than the budget.
+    TooLarge,
+    /// Memory that was asked for was refused.
+    OutOfMemory,
 }
 
 /// What is known of the first events of one object, and whether they have a legal order.
@@ -60,6 +75,13 @@ impl Chain {
         self.ready
     }
 
+    /// Where it stands.
+    pub fn end(&self) -> End
+        ensures { result ≡ end_in self.now }
+    {
+        self.end
+    }
+
     /// How many frontiers are held.
     pub fn kept(&self) -> usize
         ensures held { result ≡ kept_count self.now }
@@ -89,6 +111,7 @@ impl Chain {
         ensures back { local < ready_count self.old → ready_count self.new ≤ local }
         ensures near { local < ready_count self.old → local / 64 * 64 ≤ ready_count self.new }
         ensures end { local < ready_count self.old → end_in self.new ≡ end_before local (end_in self.old) }
+        ensures left { (budget : ℕ) → min (local / 64 * 64) (ready_under budget self.old) ≤ ready_under budget self.new }
         ensures right { (h edited : List EventOf) → IsRight self.old h → take local h ≡ take local edited → IsRight self.new edited }
     {
         if self.ready <= local {
@@ -124,7 +147,9 @@ impl Chain {
         ensures told { IfOk result (λ end. end_in self.new ≡ end) }
         ensures all { OnOk result (ready_count self.new ≡ length picks.now) }
         ensures right { IsRight self.new (events_at events.now picks.now) }
+        ensures under { (end_under budget self.new ≡ end_in self.new) × (ready_under budget self.new ≡ ready_count self.new) }
         ensures no_less { ready_under budget self.old ≤ ready_count self.new }
+        ensures remains { (other : ℕ) → min (ready_under budget self.old) (ready_under other self.old) ≤ ready_under other self.new }
         ensures settled { ready_under budget self.old ≡ length picks.now → IsOk result }
         ensures stays { end_under budget self.old ≢ End.Alive → result ≡ Ok (end_under budget self.old) }
         ensures found { end_under budget self.old ≡ End.Alive → IfOk result (IsFrom (ready_under budget self.old)) }
@@ -145,6 +170,7 @@ impl Chain {
         ensures kind { kind_in self.new ≡ kind_in self.old }
         ensures end { end_in self.new ≡ end_under budget self.old }
         ensures ready { (h : List EventOf) → IsRight self.old h → ready_under budget self.old ≤ ready_count self.new }
+        ensures remains { (other : ℕ) (h : List EventOf) → IsRight self.old h → min (ready_under budget self.old) (ready_under other self.old) ≤ ready_under other self.new }
         ensures right { (h : List EventOf) → IsRight self.old h → IsRight self.new h }
         ensures over { (at : ℕ) → end_in self.new ≡ End.Over at → budget ≤ self.new.budget }
     {
@@ -173,7 +199,7 @@ impl Chain {
         ensures no_less { ready_count self.old ≤ ready_count self.new }
         ensures all { OnOk result (end_in self.new ≡ End.Alive → ready_count self.new ≡ length picks.now) }
         ensures found { IsFrom (ready_count self.old) (end_in self.new) }
-        ensures over { (at : ℕ) → end_in self.new ≡ End.Over at → self.new.budget ≡ budget }
+        ensures over { (at : ℕ) → end_in self.new ≡ End.Over at → (self.new.budget ≡ budget) × (ready_count self.old ≤ at) }
         ensures settled { ready_count self.old ≡ length picks.now → IsOk result }
         ensures steps { meter.new.steps ≤ meter.old.steps + (length picks.now - ready_count self.old) }
         ensures scans { meter.new.scans ≡ meter.old.scans }
@@ -224,6 +250,34 @@ impl Chain {
             return Ok(None);
         }
         Ok(Some(self.replay.order(alloc)?))
+    }
+
+    /// Sets that refute the object's events up to and with the one at which the chain is dead: all configurations of each beginning.
+    ///
+    /// Asks what `settle` asks. `NotDead` exactly where the chain is dead nowhere; `TooLarge` only where some beginning has more
+    /// configurations than the budget.
+    pub fn refute(
+        &self,
+        alloc: Global,
+        events: &[Event],
+        picks: &[usize],
+        budget: u32,
+    ) -> Result<Refutation, RefuteFault>
+        requires right { IsRight self.now (events_at events.now picks.now) }
+        requires inside { All (λ at. at < length events.now) picks.now }
+        requires well_formed { (functions : ℤ → NameOf → Bool) × IsWellFormed functions (events_at events.now picks.now) }
+        ensures refuted { IfOk result (λ refutation. (at : ℕ) × (end_in self.now ≡ End.Dead at) × IsRefutation (take (at + 1) (events_at events.now picks.now)) (kind_in self.now) (sets_of refutation)) }
+        ensures not_dead { (result ≡ Err RefuteFault.NotDead) ↔ ((at : ℕ) → end_in self.now ≡ End.Dead at → ⊥) }
+        ensures too_large { result ≡ Err RefuteFault.TooLarge → (n : ℕ) × IsOver (start_of (kind_in self.now)) (StepOf (kind_in self.now)) (take n (events_at events.now picks.now)) budget }
+    {
+        let End::Dead(at) = self.end else {
+            return Err(RefuteFault::NotDead);
+        };
+        match refutation_of(alloc, self.replay.kind(), events, picks, at, budget) {
+            Ok(Some(refutation)) => Ok(refutation),
+            Ok(None) => Err(RefuteFault::TooLarge),
+            Err(_) => Err(RefuteFault::OutOfMemory),
+        }
     }
 }
 

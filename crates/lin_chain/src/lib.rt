@@ -3,6 +3,7 @@
 
 mod chain;
 mod pending;
+mod refuting;
 mod replay;
 
-pub use chain::{Chain, End};
+pub use chain::{Chain, End, RefuteFault};

@@ -77,6 +77,13 @@ impl Replay {
         }
     }
 
+    /// What the object is.
+    pub(crate) fn kind(&self) -> Kind
+        ensures { result ≡ self.now.object.kind }
+    {
+        self.object.kind
+    }
+
     /// How many frontiers are held.
     pub(crate) fn kept(&self) -> usize
         ensures held { result ≡ held_count self.now }

@@ -39,3 +39,4 @@ pub mod Carrying
 pub mod Refuting
 pub mod Opening
 pub mod Sets
+pub mod Exact

@@ -1,6 +1,6 @@
 -- Refutations: sets of configurations, one for each prefix of a history of one object, that together show that it has no legal order.
 -- The sets may hold more than the configurations, but have to hold what the conditions below ask for.
-use Rattle.std.specs.Prelude.{◌≡◌, ◌+◌, ℕ, List, [], Some, All, Contains, length, map, slice_get, take}
+use Rattle.std.specs.Prelude.{◌≡◌, ◌↔◌, ◌+◌, ℕ, List, [], Some, All, Contains, length, map, slice_get, take}
 use Rattle.std.specs.Global.{Vec}
 use Rattle.lin_history.specs.declared.events.Body.{Body}
 use Rattle.lin_history.specs.declared.events.Body.TheVariants.{Invoke, Ok, Fail, Info}
@@ -12,7 +12,7 @@ use Rattle.lin_objects.specs.declared.states.State.{State}
 use Rattle.lin_objects.specs.Steps.{Step, start}
 use Rattle.lin_order.specs.declared.placed.Placed.{Placed}
 use Rattle.lin_order.specs.declared.refutations.Refutation.{Refutation}
-use Rattle.lin_order.specs.Configurations.{IsRising, IsAdded, IsPlacing}
+use Rattle.lin_order.specs.Configurations.{IsConfiguration, IsRising, IsAdded, IsPlacing}
 
 -- a state, and open operations that are placed, by process, with their replies
 abbrev pub Config : Type 0
@@ -62,3 +62,7 @@ pub record IsRefutation (h : List Event) (kind : Kind) (sets : List (List Config
   pub kept : (i : ℕ) (event : Event) (before after : List Config) → IsEvent h i event → IsSet sets i before → IsSet sets (i + 1) after → HoldsLeft event before after
   -- the last set is empty
   pub ends : IsSet sets (length h) []
+
+-- exactly the configurations of the history
+abbrev pub AreConfigurations : Kind → List Event → List Config → Type 0
+AreConfigurations kind h set = (c : Config) → Contains set c ↔ IsConfiguration (start kind) (Step kind) h c

@@ -30,4 +30,6 @@ pub use part_laws::{
 };
 pub use placed::Placed;
 pub use ref_configs::RefConfig;
-pub use refutations::{Refutation, check_refutation, refutations_exclude_orders};
+pub use refutations::{
+    Refutation, check_refutation, exact_sets_refute, refutations_exclude_orders,
+};

@@ -6,13 +6,15 @@ ghost use Rattle.lin_history.specs.Operations.{IsEvent};
 ghost use Rattle.lin_objects.specs.Steps.{start};
 ghost use Rattle.lin_order.specs.Checking.{AreOpen, AreSame, Follows, HoldsLeftOf, HoldsPlacing, HoldsSteps, HoldsWith, IsCarried, IsFramed, IsOpenAt, IsReturning};
 ghost use Rattle.lin_order.specs.Configurations.{IsRising};
-ghost use Rattle.lin_order.specs.RefutationLaws.{RefutationsExcludeOrders};
+ghost use Rattle.lin_order.specs.RefutationLaws.{ExactSetsRefute, RefutationsExcludeOrders};
 ghost use Rattle.lin_order.specs.Refutations.{AreRising, HoldsLeft, IsClosed, IsRefutation, lists_of, sets_of};
 ghost use Rattle.lin_order.specs.Tables.{IsNextTable};
 
 use crate::operations::{end_of, ends_of};
 use crate::ref_configs::{RefConfig, is_absent, is_placed, is_rising, with_pair, without_pair};
-use lin_history::{Body, Call, Event, OutOfMemory, Reply, well_formed_is_alternating};
+use lin_history::{
+    Body, Call, Event, OutOfMemory, Reply, beginnings_are_well_formed, well_formed_is_alternating,
+};
 use lin_objects::{Any, Kind, SeqObject, State};
 use std::alloc::Global;
 use std::collections::HashSet;
@@ -399,4 +401,12 @@ pub fn refutations_exclude_orders()
     ensures { RefutationsExcludeOrders }
 {
     well_formed_is_alternating();
+}
+
+/// The configurations of the prefixes of a well-formed history that has no legal order, all of them, are a refutation.
+pub fn exact_sets_refute()
+    ensures { ExactSetsRefute }
+{
+    well_formed_is_alternating();
+    beginnings_are_well_formed();
 }

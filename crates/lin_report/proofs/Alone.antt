@@ -9,12 +9,15 @@ use Rattle.lin_history.specs.declared.shapes.Shape.TheVariants.{Good, Bad}
 use Rattle.lin_history.specs.Stream.{StreamsAreUnique}
 use Rattle.lin_history.specs.WellFormedLaws.{ShapesAreUnique}
 use Rattle.lin_objects.specs.declared.kinds.Kind.{Kind}
-use Rattle.lin_objects.specs.Kinds.{functions_of}
+use Rattle.lin_objects.specs.Kinds.{functions_of, kind_of}
 use Rattle.lin_order.specs.declared.placed.Placed.{Placed}
-use Rattle.lin_order.specs.Linearizable.{IsLegalOrder}
+use Rattle.lin_order.specs.Laws.{PrefixesAreLinearizable, PrefixesAreLinearizableFor}
+use Rattle.lin_order.specs.Linearizable.{IsLegalOrder, IsLinearizable, IsLinearizableFor}
+use Rattle.lin_session.specs.Answers.{IsShortestWithout}
+use Rattle.lin_session.specs.declared.answers.Scope.TheVariants.{Object, Whole}
 use Rattle.lin_report.specs.Inputs.{limit, IsFaulty, IsRefused, IsTooMany, IsWhole}
-use Rattle.lin_report.specs.ObjectAnswers.{IsLinearizableAs, IsShortestFailing}
 use Rattle.lin_report.specs.Orders.{order_of}
+use Rattle.lin_report.specs.Uniqueness.{NoTellsOnePrefix, YesExcludesNo}
 use Rattle.lin_report.specs.Verdicts.{all_of, IsJudged, IsRightFor}
 use Rattle.lin_report.specs.declared.answers.Refusal.{Refusal}
 use Rattle.lin_report.specs.declared.answers.Refusal.TheVariants.{Edn, Event as OfEvent, Truncated, Full, BadPair}
@@ -140,25 +143,34 @@ one_verdict streams shapes settings bytes order v w (inr x) (inr y) =
     let same : y.0 ≡ x.0 = (streams settings.keyed bytes y.0 x.0 (Ok tt) (Ok tt) y.1.0 x.1.0).0 in
     one_judgement shapes settings.kind x.0 order v w x.2 (subst (λ e. IsJudged settings.kind e order w) same y.2)
 
--- each beginning of a history that is linearizable for the kind is so too
-abbrev pub Beginnings : Kind → Type 0
-Beginnings kind = (h : List Event) (n : ℕ) → IsLinearizableAs kind h → IsLinearizableAs kind (take n h)
+-- what holds of a history holds of each of its beginnings
+abbrev pub Beginnings : (List Event → Type 0) → Type 0
+Beginnings holds = (h : List Event) (n : ℕ) → holds h → holds (take n h)
 
-module _ (beginnings : (kind : Kind) → Beginnings kind) where
-  pub yes_no : (kind : Kind) (h : List Event) (n : ℕ) → IsLinearizableAs kind h → IsShortestFailing kind h n → ⊥
-  yes_no kind h n yes' failing = failing.2 (beginnings kind h n yes')
+module _ (holds : List Event → Type 0) (beginnings : Beginnings holds) where
+  yes_no : (h : List Event) (n : ℕ) → holds h → IsShortestWithout holds h n → ⊥
+  yes_no h n yes' failing = failing.fails (beginnings h n yes')
 
   -- the shorter of two can't fail
-  never_shorter : (kind : Kind) (h : List Event) (n m : ℕ) → IsShortestFailing kind h n → IsShortestFailing kind h m → n < m → ⊥
-  never_shorter kind h n m x y below =
+  never_shorter : (h : List Event) (n m : ℕ) → IsShortestWithout holds h n → IsShortestWithout holds h m → n < m → ⊥
+  never_shorter h n m x y below =
       let inside : n ≤ m - 1 = omega arith in
-      x.2 (subst (IsLinearizableAs kind) (take-take n (m - 1) h inside) (beginnings kind (take (m - 1) h) n y.3))
+      x.fails (subst holds (take-take n (m - 1) h inside) (beginnings (take (m - 1) h) n y.before))
 
-  pub one_prefix : (kind : Kind) (h : List Event) (n m : ℕ) → IsShortestFailing kind h n → IsShortestFailing kind h m → n ≡ m
-  one_prefix kind h n m x y = elim (cases_order n m) [
+  one_prefix : (h : List Event) (n m : ℕ) → IsShortestWithout holds h n → IsShortestWithout holds h m → n ≡ m
+  one_prefix h n m x y = elim (cases_order n m) [
     | inl same ↦ same
     | inr differ ↦ elim differ [
-      | inl below ↦ absurd (never_shorter kind h n m x y below)
-      | inr above ↦ absurd (never_shorter kind h m n y x above)
+      | inl below ↦ absurd (never_shorter h n m x y below)
+      | inr above ↦ absurd (never_shorter h m n y x above)
     ]
   ]
+
+module _ (whole : PrefixesAreLinearizable) (object : PrefixesAreLinearizableFor) where
+  pub yes_excludes_no : YesExcludesNo
+  yes_excludes_no h kinds budget other (Object key) n yes' fails = yes_no (IsLinearizableFor (kind_of kinds) key) (object (kind_of kinds) key) h n yes'.1 fails.1
+  yes_excludes_no h kinds budget other Whole n yes' fails = yes_no (IsLinearizable (kind_of kinds)) (whole (kind_of kinds)) h n yes'.1 fails.1
+
+  pub no_tells_one_prefix : NoTellsOnePrefix
+  no_tells_one_prefix h kinds budget other (Object key) n m x y = one_prefix (IsLinearizableFor (kind_of kinds) key) (object (kind_of kinds) key) h n m x.1 y.1
+  no_tells_one_prefix h kinds budget other Whole n m x y = one_prefix (IsLinearizable (kind_of kinds)) (whole (kind_of kinds)) h n m x.1 y.1

@@ -1,22 +1,27 @@
--- The text of a report, and what is right to report of a file.
-use Rattle.std.specs.Prelude.{◌≡◌, ◌==◌, ◌≤◌, ◌^◌, ◌++◌, ◌||◌, if◌then◌else◌, ℕ, min, Bool, true, false, List, [], Option, Result, Ok, Err, codes, decimal, length, take}
+-- The text of a report, and what is right to report of a history and of a file.
+use Rattle.std.specs.Prelude.{◌≡◌, ◌≤◌, ◌^◌, ◌++◌, ◌⊎◌, if◌then◌else◌, ℕ, ℤ, Bool, true, false, List, [], Option, Result, Ok, Err, All, codes, decimal, length, map, take}
+use Rattle.std.specs.Fmt.{signed_decimal}
 use Rattle.std.specs.Io.KnownBytes.{Appends, Consumes, IsAtEnd, Keeps}
+use Rattle.std.specs.List.{flat_map}
 use Rattle.lin_history.specs.declared.events.Event.{Event}
 use Rattle.lin_objects.specs.declared.kinds.Kind.{Kind}
 use Rattle.lin_objects.specs.declared.kinds.Kind.TheVariants as kind
+use Rattle.lin_objects.specs.Kinds.{same_for_all}
+use Rattle.lin_session.specs.Answers.{IsVerdict, kinds_in}
+use Rattle.lin_session.specs.Edits.{Present}
+use Rattle.lin_session.specs.Sessions.{AreKeys}
+use Rattle.lin_session.specs.declared.answers.Scope.TheVariants.{Object, Whole}
+use Rattle.lin_session.specs.declared.answers.Verdict.{Verdict}
+use Rattle.lin_session.specs.declared.answers.Verdict.TheVariants.{IllFormed, Yes, No, Undecided}
 use Rattle.lin_report.specs.Answers.{cause_text, refusal_text}
 use Rattle.lin_report.specs.Histories.{StopsFor}
 use Rattle.lin_report.specs.Inputs.{IsRefused, IsWhole}
-use Rattle.lin_report.specs.ObjectAnswers.{IsAnswer}
 use Rattle.lin_report.specs.Verdicts.{IsReadTooFar}
+use Rattle.lin_report.specs.declared.answers.Refusal.{Refusal}
 use Rattle.lin_report.specs.declared.answers.Status.{Status}
-use Rattle.lin_report.specs.declared.answers.Status.TheVariants as status
+use Rattle.lin_report.specs.declared.answers.Status.TheVariants as ends
 use Rattle.lin_report.specs.declared.faults.RunFault.{RunFault}
 use Rattle.lin_report.specs.declared.faults.RunFault.TheVariants.{ReadFailed, WriteFailed, OutOfMemory, TooMuch}
-use Rattle.lin_report.specs.declared.reports.Answer.{Answer}
-use Rattle.lin_report.specs.declared.reports.Answer.TheVariants.{Yes, No, Undecided, IllFormed}
-use Rattle.lin_report.specs.declared.reports.Findings.{Findings}
-use Rattle.lin_report.specs.declared.reports.Findings.TheVariants.{Report, Refused}
 use Rattle.lin_report.specs.declared.runs.Settings.{Settings}
 
 -- the word for a kind
@@ -27,71 +32,90 @@ kind_text kind.Fifo = codes "fifo"
 kind_text kind.Set = codes "set"
 kind_text kind.Mutex = codes "mutex"
 
--- the text of an answer
-abbrev pub answer_text : Answer → List ℕ
+-- the text of an answer without its order
+abbrev pub answer_text : Verdict → List ℕ
+answer_text (IllFormed at cause) = codes "ill-formed at " ++ decimal at ++ codes " cause " ++ cause_text cause
 answer_text Yes = codes "yes"
 answer_text (No n) = codes "no prefix " ++ decimal n
 answer_text (Undecided at) = codes "undecided at " ++ decimal at
-answer_text (IllFormed at cause) = codes "ill-formed at " ++ decimal at ++ codes " cause " ++ cause_text cause
 
-abbrev pub is_ill_formed : Answer → Bool
+abbrev pub is_ill_formed : Verdict → Bool
+is_ill_formed (IllFormed at cause) = true
 is_ill_formed Yes = false
 is_ill_formed (No n) = false
 is_ill_formed (Undecided at) = false
-is_ill_formed (IllFormed at cause) = true
 
--- the object's line; a history without events and an ill-formed one have none
-abbrev pub object_lines : Kind → ℕ → Answer → List ℕ
-object_lines kind count answer =
-    if count == 0 || is_ill_formed answer then []
-    else codes "object 0 " ++ kind_text kind ++ codes ": " ++ answer_text answer ++ codes "\n"
+-- the status of a run that ends with the answer
+abbrev pub answer_status : Verdict → Status
+answer_status (IllFormed at cause) = ends.IllFormed
+answer_status Yes = ends.Yes
+answer_status (No n) = ends.No
+answer_status (Undecided at) = ends.Undecided
 
--- the report of a history of so many events, with one object
-abbrev pub report_text : Kind → ℕ → Answer → List ℕ
-report_text kind count answer =
-    codes "events " ++ decimal count ++ codes " objects " ++ decimal (min count 1) ++ codes "\n"
-    ++ object_lines kind count answer
-    ++ codes "whole: " ++ answer_text answer ++ codes "\n"
+-- what is found of the object of a key
+pub record Finding : Type 0 where
+  pub key : ℤ
+  pub verdict : Verdict
 
--- what is printed: the report, or one line that refuses the input
-abbrev pub findings_text : Kind → Findings → List ℕ
-findings_text kind (Report count answer) = report_text kind count answer
-findings_text kind (Refused refusal) = refusal_text refusal ++ codes "\n"
+-- what stands before the answer in the line of an object
+abbrev pub name_text : ℤ → Kind → List ℕ
+name_text key kind = codes "object " ++ signed_decimal key ++ codes " " ++ kind_text kind ++ codes ": "
 
-abbrev pub answer_status : Answer → Status
-answer_status Yes = status.Yes
-answer_status (No n) = status.No
-answer_status (Undecided at) = status.Undecided
-answer_status (IllFormed at cause) = status.IllFormed
+-- the line of an object
+abbrev pub line_text : (ℤ → Kind) → Finding → List ℕ
+line_text kinds finding = name_text finding.key (kinds finding.key) ++ answer_text finding.verdict ++ codes "\n"
 
--- the status of a run that found this
-abbrev pub findings_status : Findings → Status
-findings_status (Report count answer) = answer_status answer
-findings_status (Refused refusal) = status.Refused
+-- the line that names so many events and objects
+abbrev pub counts_text : ℕ → ℕ → List ℕ
+counts_text events objects = codes "events " ++ decimal events ++ codes " objects " ++ decimal objects ++ codes "\n"
 
--- this is right to report of the bytes of a file: why they are refused; or, where they are a whole history, an answer about it
-abbrev pub IsRightReport : Settings → List ℕ → Findings → Type 0
-IsRightReport settings bytes (Refused refusal) = IsRefused settings.keyed bytes refusal
-IsRightReport settings bytes (Report count answer) =
-    (events : List Event) × IsWhole settings.keyed bytes events × (count ≡ length events) × IsAnswer settings.kind settings.budget events answer
+-- the report of a history of so many events and so many keys: what is found of its objects, and of the whole
+abbrev pub report_text : ℕ → ℕ → (ℤ → Kind) → List Finding → Verdict → List ℕ
+report_text events keys kinds found whole =
+    counts_text events keys
+    ++ flat_map (line_text kinds) found
+    ++ (codes "whole: " ++ answer_text whole ++ codes "\n")
 
--- how far the file was read: to its end, but for a fault of form and too many events
-abbrev pub IsReadToReport : Findings → Option (List ℕ) → Type 0
-IsReadToReport (Report count answer) left = IsAtEnd left
-IsReadToReport (Refused refusal) left = StopsFor refusal left
+-- what is found of the objects of these keys, one after another; each may be any answer that is right
+pub record AreFindings (now : Present) (keys : List ℤ) (found : List Finding) : Type 0 where
+  pub listed : map (λ f. f.key) found ≡ keys
+  pub each : All (λ f. IsVerdict now (Object f.key) f.verdict) found
 
--- what is left of a file went from the one to the other, the bytes between are not too many, and this is right to report of them
-abbrev pub IsChecked : Settings → Option (List ℕ) → Option (List ℕ) → Findings → Type 0
-IsChecked settings old new findings =
-    (bytes : List ℕ) × Consumes old new bytes × (length bytes ≤ 2 ^ 40) × IsReadToReport findings new × IsRightReport settings bytes findings
+-- What is right to report, and the status of a run that ends with it: of each key of the history, rising, what is found of
+-- its object, and then of the whole. Of a history that isn't well-formed no object is named.
+pub record IsReport (now : Present) (text : List ℕ) (status : Status) : Type 0 where
+  pub keys : List ℤ
+  pub found : List Finding
+  pub whole : Verdict
+  pub are_keys : AreKeys now.history keys
+  pub objects : AreFindings now (if is_ill_formed whole then [] else keys) found
+  pub is_whole : IsVerdict now Whole whole
+  pub says : text ≡ report_text (length now.history) (length keys) (kinds_in now) found whole
+  pub status_is : status ≡ answer_status whole
 
--- What a run reads and writes, and how it ends: with the status of what is right to report, and that written; or early. After a
--- fault of the writer a beginning of what is right to report is written, after any other fault nothing.
+-- these events, with the kind and the budget of the settings
+abbrev pub opened : Settings → List Event → Present
+opened settings events = record { history = events; kinds = same_for_all settings.kind; budget = settings.budget }
+
+-- What is right to print of the bytes of a file, with the status: why they are refused; or, where they are a whole history and no
+-- byte is left, a report of it.
+abbrev pub IsRightReport : Settings → List ℕ → Option (List ℕ) → List ℕ → Status → Type 0
+IsRightReport settings bytes left text status =
+    ((refusal : Refusal) × IsRefused settings.keyed bytes refusal × StopsFor refusal left × (text ≡ refusal_text refusal ++ codes "\n") × (status ≡ ends.Refused))
+    ⊎ ((events : List Event) × IsWhole settings.keyed bytes events × IsAtEnd left × IsReport (opened settings events) text status)
+
+-- what is left of a file went from the one to the other, the bytes between are not too many, and this is right to print of them
+abbrev pub IsChecked : Settings → Option (List ℕ) → Option (List ℕ) → List ℕ → Status → Type 0
+IsChecked settings old new text status =
+    (bytes : List ℕ) × Consumes old new bytes × (length bytes ≤ 2 ^ 40) × IsRightReport settings bytes new text status
+
+-- What a run reads and writes, and how it ends: with what is right to print written, and its status; or early. After a fault of
+-- the writer a beginning of what is right to print is written, after any other fault nothing.
 abbrev pub IsCheckRun : Settings → Option (List ℕ) → Option (List ℕ) → Option (List ℕ) → Option (List ℕ) → Result Status RunFault → Type 0
 IsCheckRun settings old new before after (Ok status) =
-    (findings : Findings) × IsChecked settings old new findings × Appends before after (findings_text settings.kind findings) × (status ≡ findings_status findings)
+    (text : List ℕ) × IsChecked settings old new text status × Appends before after text
 IsCheckRun settings old new before after (Err ReadFailed) = Keeps before after
 IsCheckRun settings old new before after (Err OutOfMemory) = Keeps before after
 IsCheckRun settings old new before after (Err TooMuch) = Keeps before after × IsReadTooFar old new
 IsCheckRun settings old new before after (Err WriteFailed) =
-    (findings : Findings) × IsChecked settings old new findings × ((n : ℕ) × Appends before after (take n (findings_text settings.kind findings)))
+    (text : List ℕ) × (status : Status) × IsChecked settings old new text status × ((n : ℕ) × Appends before after (take n text))

@@ -58,7 +58,7 @@ impl Verdict {
     }
 }
 
-fn edn_cause(cause: EdnCause) -> &'static str
+pub fn edn_cause(cause: EdnCause) -> &'static str
     ensures { result.now ≡ edn_cause_text cause }
 {
     match cause {
@@ -70,7 +70,7 @@ fn edn_cause(cause: EdnCause) -> &'static str
     }
 }
 
-fn event_fault(fault: EventFault) -> &'static str
+pub fn event_fault(fault: EventFault) -> &'static str
     ensures { result.now ≡ event_fault_text fault }
 {
     match fault {

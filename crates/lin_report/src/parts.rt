@@ -1,5 +1,5 @@
 //! The parts into which a byte divides a text, and its words.
-ghost use Rattle.std.specs.Prelude.{◌≡◌, ◌<◌, ◌≤◌, ◌∷◌, [], length, drop, slice_index, slice_range, ◌≢◌, MatchOption};
+ghost use Rattle.std.specs.Prelude.{◌≡◌, ◌<◌, ◌≤◌, ◌∷◌, [], ℕ, length, drop, slice_index, slice_range, ◌≢◌, MatchOption};
 ghost use Rattle.lin_report.specs.Parts.{IsFirstWord, Part, parts_behind, parts_from, words_from};
 
 /// A word of a text, and the place of its first byte.
@@ -15,6 +15,7 @@ pub fn end_of_part(text: &[u8], from: usize, separator: u8) -> usize
     ensures later { from ≤ result }
     ensures within { result ≤ length text.now }
     ensures stops { result < length text.now → slice_index text.now result ≡ separator }
+    ensures inner { (k : ℕ) → from ≤ k → k < result → slice_index text.now k ≢ separator }
     ensures part { parts_from separator from (drop from text.now)
         ≡ (record { at = from; text = slice_range text.now from result }) ∷ parts_behind separator result (drop result text.now) }
 {

@@ -1,62 +1,26 @@
-//! Reports: what is found of a history, and its text.
-ghost use Rattle.std.specs.Prelude.{◌≡◌, ◌++◌, IfOk, OnOk};
-ghost use Rattle.lin_report.specs.Reports.{answer_status, answer_text, findings_status, findings_text, kind_text, object_lines, report_text, is_ill_formed as ill_formed};
+//! Reports: what is found of a history and of its objects, and its text.
+ghost use Rattle.std.specs.Prelude.{◌≡◌, ◌++◌, [], if◌then◌else◌, ℕ, List, IfOk, OnErr, OnOk, codes};
+ghost use Rattle.std.specs.List.{flat_map};
+ghost use Rattle.lin_session.specs.Answers.{IsVerdict, kinds_in};
+ghost use Rattle.lin_session.specs.declared.answers.Scope.TheVariants as scope;
+ghost use Rattle.lin_session.specs.declared.answers.Verdict.{Verdict as VerdictOf};
+ghost use Rattle.lin_report.specs.Reports as said;
+ghost use Rattle.lin_report.specs.Reports.{AreFindings, Finding, IsReport, answer_text, counts_text, kind_text, line_text, name_text};
+ghost use Rattle.lin_report.specs.declared.answers.Status.{Status as StatusOf};
 
-use crate::answers::{Refusal, Status, cause_words, put_number, refusal_words};
-use lin_history::Cause;
+use crate::answers::{Status, put_number};
+use crate::texts::put_integer;
+use crate::verdicts::{is_ill_formed, status_of, verdict_words};
+use lin_history::OutOfMemory;
 use lin_objects::Kind;
+use lin_session::{Scope, Session, Verdict};
 use std::alloc::{AllocError, Global};
 
-/// What is found of a history that has one object.
-#[derive(Clone, Copy, Debug, PartialEq, Eq)]
-pub enum Answer {
-    /// It is linearizable.
-    Yes,
-    /// It isn't: the length of the shortest prefix that isn't.
-    No { prefix: usize },
-    /// After this event it has more configurations than the budget.
-    Undecided { at: usize },
-    /// It isn't well-formed: the first bad event, and why it is bad.
-    IllFormed { at: usize, cause: Cause },
-}
-
-/// What is found of a file.
-#[derive(Clone, Copy, Debug, PartialEq, Eq)]
-pub enum Findings {
-    /// So many events, and what is found of them.
-    Report { events: usize, answer: Answer },
-    Refused(Refusal),
-}
-
-impl Answer {
-    fn is_ill_formed(self) -> bool
-        ensures { result ≡ ill_formed self }
-    {
-        matches!(self, Answer::IllFormed { .. })
-    }
-
-    fn status(self) -> Status
-        ensures { result ≡ answer_status self }
-    {
-        match self {
-            Answer::Yes => Status::Yes,
-            Answer::No { .. } => Status::No,
-            Answer::Undecided { .. } => Status::Undecided,
-            Answer::IllFormed { .. } => Status::IllFormed,
-        }
-    }
-}
-
-impl Findings {
-    /// The status of a run that ends with this.
-    pub fn status(self) -> Status
-        ensures { result ≡ findings_status self }
-    {
-        match self {
-            Findings::Report { events: _, answer } => answer.status(),
-            Findings::Refused(_) => Status::Refused,
-        }
-    }
+/// A text that answers, and the status of a run that ends with it.
+#[derive(Drop)]
+pub struct Answered {
+    pub text: Vec<u8>,
+    pub status: Status,
 }
 
 fn kind_word(kind: Kind) -> &'static str
@@ -71,84 +35,119 @@ fn kind_word(kind: Kind) -> &'static str
     }
 }
 
-/// The text of an answer.
-fn answer_words(alloc: Global, answer: Answer) -> Result<Vec<u8>, AllocError>
-    ensures { IfOk result (λ text. text.items ≡ answer_text answer) }
+/// The line that names so many events and objects.
+fn counts_line(alloc: Global, events: usize, objects: usize) -> Result<Vec<u8>, AllocError>
+    ensures { IfOk result (λ line. line.items ≡ counts_text events objects) }
 {
-    match answer {
-        Answer::Yes => Vec::from_slice(alloc, b"yes"),
-        Answer::No { prefix } => {
-            let mut text = Vec::from_slice(alloc, b"no prefix ")?;
-            put_number(&mut text, prefix as u64)?;
-            Ok(text)
-        }
-        Answer::Undecided { at } => {
-            let mut text = Vec::from_slice(alloc, b"undecided at ")?;
-            put_number(&mut text, at as u64)?;
-            Ok(text)
-        }
-        Answer::IllFormed { at, cause } => {
-            let mut text = Vec::from_slice(alloc, b"ill-formed at ")?;
-            put_number(&mut text, at as u64)?;
-            text.extend_from_slice(b" cause ")?;
-            text.extend_from_slice(cause_words(cause).as_bytes())?;
-            Ok(text)
-        }
-    }
+    let mut line = Vec::from_slice(alloc, b"events ")?;
+    put_number(&mut line, events as u64)?;
+    line.extend_from_slice(b" objects ")?;
+    put_number(&mut line, objects as u64)?;
+    line.push(b'\n')?;
+    Ok(line)
 }
 
-/// Puts the object's line last, where there is one.
-fn put_object(
-    alloc: Global,
-    text: &mut Vec<u8>,
-    kind: Kind,
-    events: usize,
-    answer: Answer,
-) -> Result<(), AllocError>
-    ensures { OnOk result (text.new.items ≡ text.old.items ++ object_lines kind events answer) }
+/// What stands before the answer in the line of an object.
+fn name_words(alloc: Global, key: i64, kind: Kind) -> Result<Vec<u8>, AllocError>
+    ensures { IfOk result (λ text. text.items ≡ name_text key kind) }
 {
-    if events == 0 || answer.is_ill_formed() {
-        return Ok(());
-    }
-    text.extend_from_slice(b"object 0 ")?;
+    let mut text = Vec::from_slice(alloc, b"object ")?;
+    put_integer(&mut text, key)?;
+    text.extend_from_slice(b" ")?;
     text.extend_from_slice(kind_word(kind).as_bytes())?;
     text.extend_from_slice(b": ")?;
-    text.extend_from_slice(answer_words(alloc, answer)?.as_slice())?;
-    text.push(b'\n')?;
-    Ok(())
-}
-
-/// The report of so many events, with one object.
-fn report_words(
-    alloc: Global,
-    kind: Kind,
-    events: usize,
-    answer: Answer,
-) -> Result<Vec<u8>, AllocError>
-    ensures { IfOk result (λ text. text.items ≡ report_text kind events answer) }
-{
-    let mut text = Vec::from_slice(alloc, b"events ")?;
-    put_number(&mut text, events as u64)?;
-    text.extend_from_slice(b" objects ")?;
-    put_number(&mut text, events.min(1) as u64)?;
-    text.push(b'\n')?;
-    put_object(alloc, &mut text, kind, events, answer)?;
-    text.extend_from_slice(b"whole: ")?;
-    text.extend_from_slice(answer_words(alloc, answer)?.as_slice())?;
-    text.push(b'\n')?;
     Ok(text)
 }
 
-/// What is printed of a file where the object is of the kind.
-pub fn findings_words(alloc: Global, kind: Kind, findings: Findings) -> Result<Vec<u8>, AllocError>
-    ensures { IfOk result (λ text. text.items ≡ findings_text kind findings) }
+/// The line of the key's object.
+fn object_line(alloc: Global, session: &mut Session, key: i64) -> Result<Vec<u8>, OutOfMemory>
+    ensures line { IfOk result (λ line. (verdict : VerdictOf) × IsVerdict session.old.present (scope.Object key) verdict
+        × (line.items ≡ line_text (kinds_in session.old.present) (record { key = key; verdict = verdict }))) }
+    ensures present { session.new.present ≡ session.old.present }
 {
-    match findings {
-        Findings::Report { events, answer } => report_words(alloc, kind, events, answer),
-        Findings::Refused(refusal) => {
-            let mut text = refusal_words(alloc, refusal)?;
-            text.push(b'\n')?;
-            Ok(text)
-        }
+    let kind = session.kind_of(key);
+    let verdict = session.judge(alloc, Scope::Object(key))?;
+    let mut line = name_words(alloc, key, kind)?;
+    line.extend_from_slice(verdict_words(alloc, verdict)?.as_slice())?;
+    line.push(b'\n')?;
+    Ok(line)
+}
+
+/// The line of the whole.
+fn whole_line(alloc: Global, whole: Verdict) -> Result<Vec<u8>, AllocError>
+    ensures { IfOk result (λ line. line.items ≡ codes "whole: " ++ answer_text whole ++ codes "\n") }
+{
+    let mut line = Vec::from_slice(alloc, b"whole: ")?;
+    line.extend_from_slice(verdict_words(alloc, whole)?.as_slice())?;
+    line.push(b'\n')?;
+    Ok(line)
+}
+
+/// Puts the lines of the objects of these keys last.
+fn put_objects(
+    alloc: Global,
+    session: &mut Session,
+    keys: &[i64],
+    text: &mut Vec<u8>,
+) -> Result<(), OutOfMemory>
+    ensures lines { OnOk result ((found : List Finding) × AreFindings session.old.present keys.now found
+        × (text.new.items ≡ text.old.items ++ flat_map (line_text (kinds_in session.old.present)) found)) }
+    ensures present { session.new.present ≡ session.old.present }
+{
+    for key in keys {
+        let line = object_line(alloc, session, *key)?;
+        text.extend_from_slice(line.as_slice())?;
     }
+    Ok(())
+}
+
+/// Puts the lines of the objects of these keys last, where the history is well-formed.
+fn put_lines(
+    alloc: Global,
+    session: &mut Session,
+    keys: &[i64],
+    whole: Verdict,
+    text: &mut Vec<u8>,
+) -> Result<(), OutOfMemory>
+    ensures lines { OnOk result ((found : List Finding)
+        × AreFindings session.old.present (if said.is_ill_formed whole then [] else keys.now) found
+        × (text.new.items ≡ text.old.items ++ flat_map (line_text (kinds_in session.old.present)) found)) }
+    ensures present { session.new.present ≡ session.old.present }
+{
+    if is_ill_formed(whole) {
+        return Ok(());
+    }
+    put_objects(alloc, session, keys, text)
+}
+
+/// A report of the present history, and the status of what is found of the whole.
+pub fn report(alloc: Global, session: &mut Session) -> Result<Answered, OutOfMemory>
+    ensures report { IfOk result (λ answered. IsReport session.old.present answered.text.items answered.status) }
+    ensures present { session.new.present ≡ session.old.present }
+{
+    let keys = session.objects(alloc)?;
+    let whole = session.judge(alloc, Scope::Whole)?;
+    let mut text = counts_line(alloc, session.len(), keys.len())?;
+    put_lines(alloc, session, keys.as_slice(), whole, &mut text)?;
+    text.extend_from_slice(whole_line(alloc, whole)?.as_slice())?;
+    Ok(Answered {
+        text,
+        status: status_of(whole),
+    })
+}
+
+/// Puts a report of the present history last: how many events and objects it has, what is found of each object, by rising key,
+/// and of the whole. Of a history that isn't well-formed no object is named. Refused, nothing has changed.
+pub fn write_report(
+    alloc: Global,
+    session: &mut Session,
+    out: &mut Vec<u8>,
+) -> Result<(), OutOfMemory>
+    ensures written { OnOk result ((text : List ℕ) × (status : StatusOf) × IsReport session.old.present text status × (out.new.items ≡ out.old.items ++ text)) }
+    ensures same { OnErr result (out.new.items ≡ out.old.items) }
+    ensures present { session.new.present ≡ session.old.present }
+{
+    let answered = report(alloc, session)?;
+    out.extend_from_slice(answered.text.as_slice())?;
+    Ok(())
 }

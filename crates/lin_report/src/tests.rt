@@ -1,8 +1,6 @@
 //! Texts of orders, of reports and of faults, and devices that fail at some call.
-use crate::answers::Refusal;
-use crate::reports::{Answer, Findings, findings_words};
 use crate::{Counted, OrderFault, RunFault, Settings, Status, check, read_order, verify};
-use lin_history::{Cause, Reply, Val};
+use lin_history::{Reply, Val};
 use lin_objects::Kind;
 use std::io;
 use std::io::{ErrorKind, Read, Write};
@@ -221,74 +219,6 @@ fn a_writer_of_check_stops_at_each_call(rt: HostRuntime) {
             }
         }
     }
-}
-
-#[test]
-fn reports_of_each_answer(rt: HostRuntime) -> Result<(), Fail> {
-    let reports = [
-        (0, Answer::Yes, "events 0 objects 0\nwhole: yes\n"),
-        (
-            1,
-            Answer::Yes,
-            "events 1 objects 1\nobject 0 set: yes\nwhole: yes\n",
-        ),
-        (
-            7,
-            Answer::No { prefix: 4 },
-            "events 7 objects 1\nobject 0 set: no prefix 4\nwhole: no prefix 4\n",
-        ),
-        (
-            1_000_000,
-            Answer::Undecided { at: 0 },
-            "events 1000000 objects 1\nobject 0 set: undecided at 0\nwhole: undecided at 0\n",
-        ),
-        (
-            12,
-            Answer::IllFormed {
-                at: 10,
-                cause: Cause::OtherCall,
-            },
-            "events 12 objects 1\nwhole: ill-formed at 10 cause 5 OtherCall\n",
-        ),
-    ];
-    for (events, answer, text) in reports {
-        let found = findings_words(rt.alloc(), Kind::Set, Findings::Report { events, answer })?;
-        assert!(rt; found.as_slice() == text.as_bytes(), "{text}");
-    }
-    Ok(())
-}
-
-#[test]
-fn reports_name_the_kind(rt: HostRuntime) -> Result<(), Fail> {
-    for (kind, text) in [
-        (
-            Kind::Register,
-            "events 2 objects 1\nobject 0 register: yes\nwhole: yes\n",
-        ),
-        (
-            Kind::CasRegister,
-            "events 2 objects 1\nobject 0 cas-register: yes\nwhole: yes\n",
-        ),
-        (
-            Kind::Fifo,
-            "events 2 objects 1\nobject 0 fifo: yes\nwhole: yes\n",
-        ),
-        (
-            Kind::Mutex,
-            "events 2 objects 1\nobject 0 mutex: yes\nwhole: yes\n",
-        ),
-    ] {
-        let report = Findings::Report {
-            events: 2,
-            answer: Answer::Yes,
-        };
-        let found = findings_words(rt.alloc(), kind, report)?;
-        assert!(rt; found.as_slice() == text.as_bytes(), "{text}");
-    }
-    let refused = Findings::Refused(Refusal::Truncated { at: 40 });
-    let found = findings_words(rt.alloc(), Kind::Set, refused)?;
-    assert!(rt; found.as_slice() == b"refused input truncated at 40\n".as_slice());
-    Ok(())
 }
 
 #[test]

@@ -2,7 +2,7 @@
 use Rattle.std.proofs.Common.{◌≡◌, ◌<◌, ◌-◌, ◌+◌, ℕ, ℤ, List, length, slice_get, slice_index, get_or, take, AllPairs, Option, None, Some, inl, inr, refl, sym, ap, subst, ◌∙◌, arith}
 use Rattle.std.proofs.lemmas.Bool.{cases_order, cases_lt}
 use Rattle.std.proofs.lemmas.List.{take_all}
-use Rattle.std.proofs.lemmas.Option.{same_Some, none-some, slice_get_within, slice_get-get_or, get_or_from_slice_get}
+use Rattle.std.proofs.lemmas.Option.{none-some, slice_get_within, slice_get-get_or, get_or_from_slice_get}
 use Rattle.lin_history.specs.declared.events.Event.{Event}
 use Rattle.lin_history.specs.WellFormed.{IsWellFormed}
 use Rattle.lin_history.specs.WellFormedLaws.{BeginningsAreWellFormed}
@@ -19,10 +19,10 @@ use Rattle.lin_chain.specs.declared.chain.End.TheVariants.{Alive, Dead, Over}
 use Rattle.lin_chain.specs.Chains.{kind_in, IsRight}
 use Rattle.lin_chain.specs.Ends.{IsEndOf}
 use Rattle.lin_chain.specs.Replays.{IsLegalOrderAs, IsLinearizableAs}
-use Rattle.lin_session.specs.declared.answers.Answer.{Answer}
-use Rattle.lin_session.specs.declared.answers.Answer.TheVariants.{No, Undecided}
+use Rattle.lin_session.specs.declared.answers.Verdict.{Verdict}
+use Rattle.lin_session.specs.declared.answers.Verdict.TheVariants.{Yes}
 use Rattle.lin_session.specs.declared.kept.Object.{Object}
-use Rattle.lin_session.specs.Answers.{IsObjectAnswer}
+use Rattle.lin_session.specs.Answers.{IsObjectVerdict}
 use Rattle.lin_session.specs.Objects.{IsObject, IsPlaceIn, Finds, IsOrderIn}
 use Rattle.lin_session.specs.Judgements.{IsFinding, IsTold}
 use Rattle.lin_session.proofs.Picks.{event_of_key}
@@ -133,21 +133,21 @@ finds_alive picks Alive found told none_failing none_over = refl
 finds_alive picks (Dead i) found told none_failing none_over = absurd (none-some (slice_index picks i + 1) (sym none_failing ∙ ap (λ (r : Option ℕ × Option ℕ). r.0) told))
 finds_alive picks (Over i) found told none_failing none_over = absurd (none-some (slice_index picks i) (sym none_over ∙ ap (λ (r : Option ℕ × Option ℕ). r.1) told))
 
--- the answer for one object
-pub answer_told : (kinds : ℤ → Kind) (budget : ℕ) (h : List Event) (key : ℤ) (failing over : Option ℕ) (told : Option Answer) (answer : Answer) → IsFinding kinds budget h key failing over → IsTold failing over told
-    → told ≡ Some answer → IsObjectAnswer kinds budget h key answer
-answer_told kinds budget h key None None told answer is t some = absurd (none-some answer (sym t ∙ some))
-answer_told kinds budget h key None (Some at) told answer is t some = subst (IsObjectAnswer kinds budget h key) (same_Some _ _ (sym t ∙ some)) is
-answer_told kinds budget h key (Some n) None told answer is t some = subst (IsObjectAnswer kinds budget h key) (same_Some _ _ (sym t ∙ some)) is.1
-answer_told kinds budget h key (Some n) (Some at) told answer is t some = absurd (none-some at (sym is.0))
+-- the verdict for one object
+pub verdict_told : (kinds : ℤ → Kind) (budget : ℕ) (h : List Event) (key : ℤ) (failing over : Option ℕ) (told : Verdict) → IsFinding kinds budget h key failing over → IsTold failing over told
+    → IsObjectVerdict kinds budget h key told
+verdict_told kinds budget h key None None told is t = subst (IsObjectVerdict kinds budget h key) (sym t) is
+verdict_told kinds budget h key None (Some at) told is t = subst (IsObjectVerdict kinds budget h key) (sym t) is
+verdict_told kinds budget h key (Some n) None told is t = subst (IsObjectVerdict kinds budget h key) (sym t) is.1
+verdict_told kinds budget h key (Some n) (Some at) told is t = absurd (none-some at (sym is.0))
 
--- findings that give no answer are none
-pub untold : (failing over : Option ℕ) (told : Option Answer) → IsTold failing over told → told ≡ None → (failing ≡ None) × (over ≡ None)
-untold None None told t none = (refl, refl)
-untold None (Some at) told t none = absurd (none-some (Undecided at) (sym none ∙ t))
-untold (Some n) None told t none = absurd (none-some (No n) (sym none ∙ t))
-untold (Some n) (Some at) told (inl t) none = absurd (none-some (No n) (sym none ∙ t.1))
-untold (Some n) (Some at) told (inr t) none = absurd (none-some (Undecided at) (sym none ∙ t.1))
+-- findings that tell a yes are none
+pub untold : (failing over : Option ℕ) (told : Verdict) → IsTold failing over told → told ≡ Yes → (failing ≡ None) × (over ≡ None)
+untold None None told t is_yes = (refl, refl)
+untold None (Some at) told t is_yes = absurd (cc (sym t ∙ is_yes))
+untold (Some n) None told t is_yes = absurd (cc (sym t ∙ is_yes))
+untold (Some n) (Some at) told (inl t) is_yes = absurd (cc (sym t.1 ∙ is_yes))
+untold (Some n) (Some at) told (inr t) is_yes = absurd (cc (sym t.1 ∙ is_yes))
 
 module _ (spell : PositionsSpellParts) (kinds : ℤ → Kind) (h : List Event) (split : ℕ) (key : ℤ) (o : Object) (all : split ≡ length h) (is : IsObject kinds h split key o) where
   part_length : length (part key h) ≡ length o.picks.items

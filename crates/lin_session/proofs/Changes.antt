@@ -6,7 +6,8 @@ use Rattle.lin_history.specs.Operations.{IsEvent}
 use Rattle.lin_objects.specs.declared.kinds.Kind.{Kind}
 use Rattle.lin_session.specs.declared.kept.Object.{Object}
 use Rattle.lin_session.specs.Objects.{IsObject, AreKept}
-use Rattle.lin_session.proofs.Lists.{get_set_cases, get_push_cases, one_place, Contains-slice_get}
+use Rattle.lin_history.proofs.Lists.{get_set_cases}
+use Rattle.lin_session.proofs.Lists.{get_push_cases, one_place, Contains-slice_get}
 
 module _ (kinds other : ℤ → Kind) (h edited : List Event) (split later : ℕ) (keys : List ℤ) (objects : List Object) (kept : AreKept kinds h split keys objects)
     (within : later ≤ length edited) where

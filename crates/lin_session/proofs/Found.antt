@@ -1,6 +1,6 @@
 -- Where keys are listed, and what stands there.
 use Rattle.std.proofs.Common.{◌≡◌, ◌<◌, ℕ, ℤ, Bool, true, false, List, [], ◌∷◌, ◌++◌, length, get_or, position, slice_get, Contains, Option, Some, None, Result, Ok, Err, refl, sym, ap, ◌∙◌, arith, true≢false, if◌then◌else◌, is_some}
-use Rattle.std.specs.Prelude.{IfSome, IfNone, OnErr}
+use Rattle.std.specs.Prelude.{IfSome, IfNone, IsOk, OnErr}
 use Rattle.std.specs.Ordering.{int_eq}
 use Rattle.std.specs.List.{list_any}
 use Rattle.std.proofs.lemmas.Bool.Decides.{Decides-int_eq}
@@ -43,3 +43,8 @@ inserted_last keys key absent = by (list_any (int_eq key) keys) refl
 pub on_err_since : {T E : Type 0} {P : Type 0} (r : Result T E) → P → OnErr r P
 on_err_since (Ok x) p = tt
 on_err_since (Err e) p = p
+
+-- what is an error isn't a success
+pub not_ok : {T E : Type 0} (r : Result T E) (e : E) → r ≡ Err e → IsOk r → ⊥
+not_ok (Ok x) e is ok = cc
+not_ok (Err f) e is ok = cc

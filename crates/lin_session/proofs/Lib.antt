@@ -10,3 +10,5 @@ pub mod Rekinding
 pub mod Asking
 pub mod Scopes
 pub mod Wholes
+pub mod Low
+pub mod Costing

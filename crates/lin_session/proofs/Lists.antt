@@ -1,21 +1,10 @@
 -- Elements of lists that are changed or taken apart.
-use Rattle.std.proofs.Common.{◌≡◌, ◌≢◌, ◌<◌, ◌≤◌, ◌+◌, ℕ, zero, suc, List, [], ◌∷◌, ◌++◌, length, slice_get, set, take, drop, drop-cons, append-nil, take-append-drop, get_or, AllPairs, Contains, Some, ◌⊎◌, inl, inr, refl, sym, ap, ◌∙◌, arith}
+use Rattle.std.proofs.Common.{◌≡◌, ◌≢◌, ◌<◌, ◌≤◌, ◌+◌, ℕ, zero, suc, List, [], ◌∷◌, ◌++◌, length, slice_get, set, take, drop, drop-cons, append-nil, take-append-drop, get_or, All, AllPairs, Contains, Some, ◌⊎◌, inl, inr, refl, sym, ap, subst, ◌∙◌, arith}
 use Rattle.std.proofs.lemmas.List.{take-append-le, drop_all}
 use Rattle.std.specs.Prelude.{remove}
 use Rattle.std.specs.List.{AllZip}
 use Rattle.std.proofs.lemmas.Option.{get_or_from_slice_get, slice_get_within, slice_get-get_or}
 use Rattle.std.proofs.lemmas.Bool.{cases_order}
-
--- with one replaced, a list has that one and the others
-pub get_set_cases : {A : Type 0} (xs : List A) (i : ℕ) (y : A) (k : ℕ) (x : A) → slice_get (set xs i y) k ≡ Some x → ((k ≡ i) × (y ≡ x)) ⊎ ((k ≢ i) × (slice_get xs k ≡ Some x))
-get_set_cases [] i y k x h = cc
-get_set_cases (z ∷ zs) zero y zero x h = inl (refl, cc)
-get_set_cases (z ∷ zs) zero y (suc k) x h = inr ((λ e. omega (arith, e)), h)
-get_set_cases (z ∷ zs) (suc i) y zero x h = inr ((λ e. omega (arith, e)), h)
-get_set_cases (z ∷ zs) (suc i) y (suc k) x h = elim (get_set_cases zs i y k x h) [
-  | inl here ↦ inl (omega (arith, here.0), here.1)
-  | inr other ↦ inr ((λ e. other.0 (omega (arith, e))), other.1)
-]
 
 -- with one more, a list has those from before and that one
 pub get_push_cases : {A : Type 0} (xs : List A) (y : A) (k : ℕ) (x : A) → slice_get (xs ++ y ∷ []) k ≡ Some x → ((k ≡ length xs) × (y ≡ x)) ⊎ ((k < length xs) × (slice_get xs k ≡ Some x))
@@ -36,27 +25,11 @@ get_ahead (x ∷ xs) ys zs (suc k) l = get_ahead xs ys zs k (omega arith)
 pub take_ahead : {A : Type 0} (n : ℕ) (xs ys zs : List A) → n ≤ length xs → take n (xs ++ ys) ≡ take n (xs ++ zs)
 take_ahead n xs ys zs l = take-append-le n xs ys l ∙ sym (take-append-le n xs zs l)
 
--- what a beginning has, the list has there
-pub get_taken : {A : Type 0} (n : ℕ) (xs : List A) (k : ℕ) (x : A) → slice_get (take n xs) k ≡ Some x → (k < n) × (slice_get xs k ≡ Some x)
-get_taken zero xs k x h = cc
-get_taken (suc n) [] k x h = cc
-get_taken (suc n) (y ∷ ys) zero x h = (omega arith, h)
-get_taken (suc n) (y ∷ ys) (suc k) x h =
-    let rest = get_taken n ys k x h in
-    (omega arith, rest.1)
-
 pub get_of_take : {A : Type 0} (n : ℕ) (xs : List A) (k : ℕ) → k < n → slice_get (take n xs) k ≡ slice_get xs k
 get_of_take zero xs k l = absurd (omega arith)
 get_of_take (suc n) [] k l = refl
 get_of_take (suc n) (y ∷ ys) zero l = refl
 get_of_take (suc n) (y ∷ ys) (suc k) l = get_of_take n ys k (omega arith)
-
--- a beginning that is one longer
-pub take_next : {A : Type 0} (n : ℕ) (xs : List A) (x : A) → slice_get xs n ≡ Some x → take (suc n) xs ≡ take n xs ++ x ∷ []
-take_next zero [] x h = cc
-take_next (suc n) [] x h = cc
-take_next zero (y ∷ ys) x h = cc
-take_next (suc n) (y ∷ ys) x h = ap (λ l. y ∷ l) (take_next n ys x h)
 
 -- elements that differ stand at one place at most
 pub one_place : {A : Type 0} (xs : List A) → AllPairs (λ x y. x ≢ y) xs → (i j : ℕ) (x : A) → slice_get xs i ≡ Some x → slice_get xs j ≡ Some x → i ≡ j
@@ -92,3 +65,16 @@ zip_push R [] [] x y all r = (r, tt)
 zip_push R [] (b ∷ bs) x y all r = absurd all
 zip_push R (a ∷ rest) [] x y all r = absurd all
 zip_push R (a ∷ rest) (b ∷ bs) x y all r = (all.0, zip_push R rest bs x y all.1 r)
+
+-- what stands somewhere in a list is in it
+pub there_at : {A : Type 0} (xs : List A) (i : ℕ) (x : A) → slice_get xs i ≡ Some x → Contains xs x
+there_at xs i x at = (i, slice_get_within xs i x at, get_or_from_slice_get xs i x x at)
+
+-- something stands at each place of a list
+pub element_at : {A : Type 0} (xs : List A) (i : ℕ) → i < length xs → (x : A) × (slice_get xs i ≡ Some x)
+element_at [] i within = absurd (omega arith)
+element_at (x ∷ xs) zero within = (x, refl)
+element_at (x ∷ xs) (suc i) within = element_at xs i (omega arith)
+
+pub All-at : {A : Type 0} (P : A → Type 0) (xs : List A) → All P xs → (i : ℕ) (x : A) → slice_get xs i ≡ Some x → P x
+All-at P xs all i x at = subst P (get_or_from_slice_get xs i x x at) (all i x (slice_get_within xs i x at))

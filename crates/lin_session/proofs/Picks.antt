@@ -11,7 +11,8 @@ use Rattle.lin_history.specs.Operations.{IsEvent}
 use Rattle.lin_order.specs.Orders.{is_of_key}
 use Rattle.lin_order.specs.Parts.{ArePositionsOf, IsNth, IsCut}
 use Rattle.lin_order.specs.PartLaws.{PartsOfPrefixes, PartsGrow}
-use Rattle.lin_session.proofs.Lists.{get_taken, get_of_take, take_next}
+use Rattle.lin_history.proofs.Lists.{get_taken, take_next}
+use Rattle.lin_session.proofs.Lists.{get_of_take}
 
 -- an event of the key stands at the position
 pub event_of_key : (h : List Event) (key : ℤ) (at : ℕ) → IsTrue (is_of_key h key at) → (event : Event) × IsEvent h at event × (event.key ≡ key)

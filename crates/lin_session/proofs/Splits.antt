@@ -11,7 +11,7 @@ use Rattle.lin_order.specs.PartLaws.{PartsOfPrefixes, PartsGrow}
 use Rattle.lin_chain.specs.Chains.{kind_in, IsRight}
 use Rattle.lin_session.specs.declared.kept.Object.{Object}
 use Rattle.lin_session.specs.Objects.{IsObject, AreKept}
-use Rattle.lin_session.proofs.Lists.{get_taken}
+use Rattle.lin_history.proofs.Lists.{get_taken}
 use Rattle.lin_session.proofs.Changes.{AreKept-one, AreKept-more}
 use Rattle.lin_session.proofs.Picks.{event_of_key, picks_less, picks_stay, picks_more, picks_same}
 

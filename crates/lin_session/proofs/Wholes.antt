@@ -5,7 +5,7 @@ use Rattle.std.specs.List.{list_any}
 use Rattle.std.proofs.lemmas.Bool.{cases_lt, false≢true}
 use Rattle.std.proofs.lemmas.Bool.Decides.{Decides-int_eq}
 use Rattle.std.proofs.lemmas.Cmp.{int_eq_equiv}
-use Rattle.std.proofs.lemmas.List.{take-take}
+use Rattle.std.proofs.lemmas.List.{take-take, take_all}
 use Rattle.std.proofs.lemmas.List.Elements.{filter-append, Contains-push_cases}
 use Rattle.std.proofs.lemmas.Map.Views.{list_any-from_Contains, Contains-from_any}
 use Rattle.std.proofs.lemmas.Option.{same_Some, none-some}
@@ -24,12 +24,13 @@ use Rattle.lin_order.specs.Merging.{AbsentKeysAreLegal, IsLocal}
 use Rattle.lin_order.specs.Parts.{part}
 use Rattle.lin_order.specs.PartLaws.{LinearizableByPart}
 use Rattle.lin_order.specs.Configurations.{IsConfiguration}
-use Rattle.lin_session.specs.declared.answers.Answer.{Answer}
-use Rattle.lin_session.specs.declared.answers.Answer.TheVariants.{No, Undecided}
-use Rattle.lin_session.specs.Answers.{IsShortestWithout, IsOverAt, IsWholeAnswer}
-use Rattle.lin_session.specs.Judgements.{least, IsFinding, IsCovered, AreFound, IsTold}
+use Rattle.lin_session.specs.declared.answers.Verdict.{Verdict}
+use Rattle.lin_session.specs.declared.answers.Verdict.TheVariants.{Yes, No, Undecided}
+use Rattle.lin_session.specs.Answers.{IsShortestWithout, IsOverAt, IsWholeVerdict}
+use Rattle.lin_session.specs.Judgements.{IsFinding, IsCovered, AreFound, IsTold}
+use Rattle.lin_session.specs.Work.{least}
 use Rattle.lin_session.proofs.Around.{part-same}
-use Rattle.lin_session.proofs.Lists.{get_taken, take_next}
+use Rattle.lin_history.proofs.Lists.{get_taken, take_next}
 
 -- what has a configuration is linearizable
 linear_over : {S : Type 0} (start : S) (step : S → Call → S → Reply → Type 0) (h : List Event) (budget : ℕ) (found : List (S × List (ℕ × Reply))) → length found ≡ budget + 1
@@ -74,7 +75,7 @@ module _ (local : IsLocal) (absent : AbsentKeysAreLegal) (prefix : PrefixesAreLi
 
     module _ (failing over : Option ℕ) (found : AreFound kinds budget h keys failing over) where
       -- no object fails earlier, and none that is over stands in the way
-      pub no_earlier : (n : ℕ) → failing ≡ Some n → ((u : ℕ) → over ≡ Some u → n ≤ u) → IsWholeAnswer kinds budget h (No n)
+      pub no_earlier : (n : ℕ) → failing ≡ Some n → ((u : ℕ) → over ≡ Some u → n ≤ u) → IsWholeVerdict kinds budget h (No n)
       no_earlier n fails behind =
           let f = found.fails n fails in
           record {
@@ -93,7 +94,7 @@ module _ (local : IsLocal) (absent : AbsentKeysAreLegal) (prefix : PrefixesAreLi
               shorter key (v + 1) (n - 1) (omega (arith, l, less)) (up_to_over key v stands)
 
       -- no object fails up to there
-      pub none_hidden : (at : ℕ) → over ≡ Some at → ((n : ℕ) → failing ≡ Some n → at < n) → IsWholeAnswer kinds budget h (Undecided at)
+      pub none_hidden : (at : ℕ) → over ≡ Some at → ((n : ℕ) → failing ≡ Some n → at < n) → IsWholeVerdict kinds budget h (Undecided at)
       none_hidden at is_over ahead = (all_keys (at + 1) (λ key there. by key (found.each key there)), (found.stands_over at is_over).0, (found.stands_over at is_over).1)
         where
           at_place : (key x : ℤ) (b : Bool) → int_eq x key ≡ b → IsOverAt kinds budget h x at → IsLinearizableFor kinds key (take at h) → IsLinearizableFor kinds key (take (at + 1) h)
@@ -113,19 +114,26 @@ module _ (local : IsLocal) (absent : AbsentKeysAreLegal) (prefix : PrefixesAreLi
               let same = same_Some u at (sym is ∙ is_over) in
               shorter key (v + 1) (at + 1) (omega (arith, same, less)) (up_to_over key v stands)
 
-      pub told_is : (told : Option Answer) (answer : Answer) → IsTold failing over told → told ≡ Some answer → IsWholeAnswer kinds budget h answer
-      told_is told answer is some = by failing refl over refl is
+      -- no object fails, and none is over
+      pub all_fine : failing ≡ None → over ≡ None → IsWholeVerdict kinds budget h Yes
+      all_fine fails stands = subst (IsLinearizable kinds) (take_all (length h) h (omega arith)) (all_keys (length h) (λ key there. by key (found.each key there)))
         where
-          by : (f : Option ℕ) → failing ≡ f → (o : Option ℕ) → over ≡ o → IsTold f o told → IsWholeAnswer kinds budget h answer
-          by None f None o t = absurd (none-some answer (sym t ∙ some))
-          by None f (Some at) o t =
-              subst (IsWholeAnswer kinds budget h) (same_Some _ _ (sym t ∙ some)) (none_hidden at o (λ n is. absurd (none-some n (sym f ∙ is))))
-          by (Some n) f None o t =
-              subst (IsWholeAnswer kinds budget h) (same_Some _ _ (sym t ∙ some)) (no_earlier n f (λ u is. absurd (none-some u (sym o ∙ is))))
+          by : (key : ℤ) → IsCovered kinds budget h failing over key → IsLinearizableFor kinds key (take (length h) h)
+          by key (inl lin) = prefix kinds key h (length h) lin
+          by key (inr (inl (n, m, is, less, short))) = absurd (none-some n (sym fails ∙ is))
+          by key (inr (inr (u, v, is, less, over_there))) = absurd (none-some u (sym stands ∙ is))
+
+      pub told_is : (told : Verdict) → IsTold failing over told → IsWholeVerdict kinds budget h told
+      told_is told is = by failing refl over refl is
+        where
+          by : (f : Option ℕ) → failing ≡ f → (o : Option ℕ) → over ≡ o → IsTold f o told → IsWholeVerdict kinds budget h told
+          by None f None o t = subst (IsWholeVerdict kinds budget h) (sym t) (all_fine f o)
+          by None f (Some at) o t = subst (IsWholeVerdict kinds budget h) (sym t) (none_hidden at o (λ n is. absurd (none-some n (sym f ∙ is))))
+          by (Some n) f None o t = subst (IsWholeVerdict kinds budget h) (sym t) (no_earlier n f (λ u is. absurd (none-some u (sym o ∙ is))))
           by (Some n) f (Some at) o (inl t) =
-              subst (IsWholeAnswer kinds budget h) (same_Some _ _ (sym t.1 ∙ some)) (no_earlier n f (λ u is. let e = same_Some at u (sym o ∙ is) in omega (arith, e, t.0)))
+              subst (IsWholeVerdict kinds budget h) (sym t.1) (no_earlier n f (λ u is. let e = same_Some at u (sym o ∙ is) in omega (arith, e, t.0)))
           by (Some n) f (Some at) o (inr t) =
-              subst (IsWholeAnswer kinds budget h) (same_Some _ _ (sym t.1 ∙ some)) (none_hidden at o (λ m is. let e = same_Some n m (sym f ∙ is) in omega (arith, e, t.0)))
+              subst (IsWholeVerdict kinds budget h) (sym t.1) (none_hidden at o (λ m is. let e = same_Some n m (sym f ∙ is) in omega (arith, e, t.0)))
 
 -- one more object
 module _ (kinds : ℤ → Kind) (budget : ℕ) (h : List Event) where

@@ -12,6 +12,8 @@ use Rattle.lin_order.specs.Parts.{part}
 use Rattle.lin_frontier.specs.Frontiers.{IsOver}
 use Rattle.lin_session.specs.declared.answers.Answer.{Answer}
 use Rattle.lin_session.specs.declared.answers.Answer.TheVariants.{IllFormed, Yes, No, Undecided}
+use Rattle.lin_session.specs.declared.answers.Verdict.{Verdict}
+use Rattle.lin_session.specs.declared.answers.Verdict.TheVariants as verdict
 use Rattle.lin_session.specs.declared.answers.Scope.{Scope}
 use Rattle.lin_session.specs.declared.answers.Scope.TheVariants.{Object, Whole}
 use Rattle.lin_session.specs.Edits.{Present}
@@ -55,3 +57,37 @@ IsScopeAnswer now Whole answer = IsWholeAnswer (kinds_in now) now.budget now.his
 abbrev pub IsAnswer : Present → Scope → Answer → Type 0
 IsAnswer now scope (IllFormed at cause) = IsShape (functions_of (kinds_in now)) now.history (Bad at cause)
 IsAnswer now scope answer = IsWellFormed (functions_of (kinds_in now)) now.history × IsScopeAnswer now scope answer
+
+-- an answer without its order
+abbrev pub verdict_of : Answer → Verdict
+verdict_of (IllFormed at cause) = verdict.IllFormed at cause
+verdict_of (Yes order) = verdict.Yes
+verdict_of (No n) = verdict.No n
+verdict_of (Undecided at) = verdict.Undecided at
+
+-- of a well-formed history the verdict for one object
+abbrev pub IsObjectVerdict : (ℤ → Kind) → ℕ → List Event → ℤ → Verdict → Type 0
+IsObjectVerdict kinds budget h key (verdict.IllFormed at cause) = ⊥
+IsObjectVerdict kinds budget h key verdict.Yes = IsLinearizableFor kinds key h
+IsObjectVerdict kinds budget h key (verdict.No n) = IsShortestWithout (IsLinearizableFor kinds key) h n
+IsObjectVerdict kinds budget h key (verdict.Undecided at) = IsOverAt kinds budget h key at
+
+-- of a well-formed history the verdict for the whole
+abbrev pub IsWholeVerdict : (ℤ → Kind) → ℕ → List Event → Verdict → Type 0
+IsWholeVerdict kinds budget h (verdict.IllFormed at cause) = ⊥
+IsWholeVerdict kinds budget h verdict.Yes = IsLinearizable kinds h
+IsWholeVerdict kinds budget h (verdict.No n) = IsShortestWithout (IsLinearizable kinds) h n
+IsWholeVerdict kinds budget h (verdict.Undecided at) = IsLinearizable kinds (take (at + 1) h) × (key : ℤ) × IsOverAt kinds budget h key at
+
+abbrev pub IsScopeVerdict : Present → Scope → Verdict → Type 0
+IsScopeVerdict now (Object key) verdict = IsObjectVerdict (kinds_in now) now.budget now.history key verdict
+IsScopeVerdict now Whole verdict = IsWholeVerdict (kinds_in now) now.budget now.history verdict
+
+-- the verdict: that the history isn't well-formed, with its least bad position and the first cause there, or one for the scope
+abbrev pub IsVerdict : Present → Scope → Verdict → Type 0
+IsVerdict now scope (verdict.IllFormed at cause) = IsShape (functions_of (kinds_in now)) now.history (Bad at cause)
+IsVerdict now scope other = IsWellFormed (functions_of (kinds_in now)) now.history × IsScopeVerdict now scope other
+
+-- an answer without its order is a verdict
+abbrev pub AnswersAreVerdicts : Type 0
+AnswersAreVerdicts = (now : Present) (scope : Scope) (answer : Answer) → IsAnswer now scope answer → IsVerdict now scope (verdict_of answer)

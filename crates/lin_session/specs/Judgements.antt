@@ -1,20 +1,18 @@
 -- What is found of the objects of a history, one after the other: the shortest failing prefix, and the first place where one is over the budget.
-use Rattle.std.specs.Prelude.{◌≡◌, ◌≤◌, ◌<◌, ◌⊎◌, ℕ, ℤ, min, List, Option, None, Some, Contains, length}
+use Rattle.std.specs.Prelude.{◌≡◌, ◌≤◌, ◌<◌, ◌⊎◌, ℕ, ℤ, List, Option, None, Some, All, Contains, length, slice_get}
 use Rattle.lin_history.specs.declared.events.Event.{Event}
 use Rattle.lin_objects.specs.declared.kinds.Kind.{Kind}
-use Rattle.lin_order.specs.Linearizable.{IsLinearizableFor}
+use Rattle.lin_order.specs.Linearizable.{IsLegalOrder, IsLegalOrderFor, IsLinearizableFor}
+use Rattle.lin_order.specs.declared.placed.Placed.{Placed}
 use Rattle.lin_chain.specs.declared.chain.End.TheVariants.{Alive}
 use Rattle.lin_chain.specs.Chains.{end_in, ready_count}
-use Rattle.lin_session.specs.declared.answers.Answer.{Answer}
-use Rattle.lin_session.specs.declared.answers.Answer.TheVariants.{No, Undecided}
+use Rattle.lin_session.specs.declared.answers.Scope.{Scope}
+use Rattle.lin_session.specs.declared.answers.Scope.TheVariants as scope
+use Rattle.lin_session.specs.declared.answers.Verdict.{Verdict}
+use Rattle.lin_session.specs.declared.answers.Verdict.TheVariants.{Yes, No, Undecided}
 use Rattle.lin_session.specs.declared.kept.Object.{Object}
+use Rattle.lin_session.specs.declared.kept.Objects.{Objects}
 use Rattle.lin_session.specs.Answers.{IsShortestWithout, IsOverAt}
-
--- the lesser of two numbers, where there are two
-abbrev pub least : Option ℕ → Option ℕ → Option ℕ
-least None b = b
-least (Some m) None = Some m
-least (Some m) (Some n) = Some (min m n)
 
 -- what was found of one object: the prefix that fails it, or the place where it is over, or that it is linearizable
 abbrev pub IsFinding : (ℤ → Kind) → ℕ → List Event → ℤ → Option ℕ → Option ℕ → Type 0
@@ -39,9 +37,19 @@ pub record IsAlive (object : Object) : Type 0 where
   pub alive : end_in object.chain ≡ Alive
   pub all : ready_count object.chain ≡ length object.picks.items
 
--- the answer for the whole, where it isn't yes: the failing prefix, unless an object is over at an earlier place
-abbrev pub IsTold : Option ℕ → Option ℕ → Option Answer → Type 0
-IsTold None None told = told ≡ None
-IsTold None (Some at) told = told ≡ Some (Undecided at)
-IsTold (Some n) None told = told ≡ Some (No n)
-IsTold (Some n) (Some at) told = ((n ≤ at) × (told ≡ Some (No n))) ⊎ ((at < n) × (told ≡ Some (Undecided at)))
+-- the object of the key is alive, or all are
+abbrev pub AreAlive : Objects → Scope → Type 0
+AreAlive objects (scope.Object key) = (i : ℕ) (object : Object) → slice_get objects.keys.keys i ≡ Some key → slice_get objects.objects.items i ≡ Some object → IsAlive object
+AreAlive objects scope.Whole = All IsAlive objects.objects.items
+
+-- a legal order for the scope
+abbrev pub IsOrderFor : (ℤ → Kind) → List Event → Scope → List Placed → Type 0
+IsOrderFor kinds h (scope.Object key) order = IsLegalOrderFor kinds key h order
+IsOrderFor kinds h scope.Whole order = IsLegalOrder kinds h order
+
+-- the verdict that the findings give: the failing prefix, unless an object is over at an earlier place
+abbrev pub IsTold : Option ℕ → Option ℕ → Verdict → Type 0
+IsTold None None told = told ≡ Yes
+IsTold None (Some at) told = told ≡ Undecided at
+IsTold (Some n) None told = told ≡ No n
+IsTold (Some n) (Some at) told = ((n ≤ at) × (told ≡ No n)) ⊎ ((at < n) × (told ≡ Undecided at))

@@ -1,20 +1,22 @@
 -- What contracts see of a session, and what is always true of one.
-use Rattle.std.specs.Prelude.{◌≡◌, ◌↔◌, ◌≤◌, ℤ, List, Contains, length}
+use Rattle.std.specs.Prelude.{◌≡◌, ◌↔◌, ◌≤◌, ℕ, ℤ, List, Option, None, Some, Contains, length}
 use Rattle.std.specs.Ordering.{int_cmp}
 use Rattle.std.specs.List.Sorted.{IsStrictlySortedBy}
 use Rattle.lin_history.specs.declared.events.Event.{Event}
 use Rattle.lin_history.specs.declared.meter.Meter.{Meter}
-use Rattle.lin_objects.specs.Kinds.{kind_of}
+use Rattle.lin_history.specs.WellFormed.{IsWellFormed}
+use Rattle.lin_objects.specs.Kinds.{functions_of, kind_of}
 use Rattle.lin_wellformed.specs.declared.scan.Scan.{Scan}
-use Rattle.lin_wellformed.specs.Scans.{IsRight}
+use Rattle.lin_wellformed.specs.Scans.{IsRight, ready_count}
 use Rattle.lin_session.specs.declared.kept.Objects.{Objects}
-use Rattle.lin_session.specs.Objects.{AreRight}
+use Rattle.lin_session.specs.Objects.{AreRight, split_in}
 use Rattle.lin_session.specs.Edits.{Present, IsBudget}
 
--- what the session speaks of, and how much it worked for it
+-- what the session speaks of, how much it worked for it, and how many of the first events are still known to be well-formed or not: none, where all are
 pub record Standing : Type 0 where
   pub present : Present
   pub meter : Meter
+  pub low : Option ℕ
 
 -- an event of the history is of the key
 abbrev pub Occurs : List Event → ℤ → Type 0
@@ -25,9 +27,17 @@ pub record AreKeys (h : List Event) (keys : List ℤ) : Type 0 where
   pub rising : IsStrictlySortedBy int_cmp keys
   pub each : (key : ℤ) → Contains keys key ↔ Occurs h key
 
+-- of so many events, so many are taken in: all, or no fewer than the first that stand
+abbrev pub AreTakenIn : Option ℕ → ℕ → ℕ → Type 0
+AreTakenIn None taken count = taken ≡ count
+AreTakenIn (Some first) taken count = first ≤ taken
+
 -- what is kept agrees with the present history and kinds
-pub record IsUpToDate (now : Present) (scan : Scan) (objects : Objects) : Type 0 where
+pub record IsUpToDate (now : Present) (low : Option ℕ) (scan : Scan) (objects : Objects) : Type 0 where
   pub few : length now.history ≤ 1000000
   pub budgeted : IsBudget now.budget
   pub scanned : IsRight scan (kind_of now.kinds) now.history
+  pub taken_in : AreTakenIn low (ready_count scan) (length now.history)
   pub kept : AreRight objects (kind_of now.kinds) now.history
+  -- where nothing changed since a question, all events are told apart, if they are well-formed
+  pub apart : low ≡ None → IsWellFormed (functions_of (kind_of now.kinds)) now.history → split_in objects ≡ length now.history

@@ -1,4 +1,6 @@
 //! What is asked of a history, and what is answered.
+ghost use Rattle.lin_session.specs.Answers.{AnswersAreVerdicts};
+
 use lin_history::Cause;
 use lin_order::Placed;
 
@@ -23,3 +25,21 @@ pub enum Answer {
     /// With the events up to and with this position there are more configurations than the budget.
     Undecided { at: usize },
 }
+
+/// An answer without its order.
+#[derive(Clone, Copy, Debug, PartialEq, Eq)]
+pub enum Verdict {
+    /// The history is not well-formed: its first bad position, and the first cause that makes it bad.
+    IllFormed { at: usize, cause: Cause },
+    /// It is linearizable.
+    Yes,
+    /// It is not: how many events the shortest prefix has that is not.
+    No { prefix: usize },
+    /// With the events up to and with this position there are more configurations than the budget.
+    Undecided { at: usize },
+}
+
+/// Whoever has an answer has the verdict.
+pub fn answers_are_verdicts()
+    ensures { AnswersAreVerdicts }
+{}

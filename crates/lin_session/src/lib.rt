@@ -6,7 +6,12 @@ mod edits;
 mod kept;
 mod objects;
 mod session;
+#[cfg(test)]
+mod tests;
+#[cfg(test)]
+mod tests_work;
+mod work;
 
-pub use answers::{Answer, Scope};
+pub use answers::{Answer, Scope, Verdict, answers_are_verdicts};
 pub use edits::{Edit, EditFault};
 pub use session::Session;

@@ -1,5 +1,5 @@
 //! The objects of a history: where the events of each stand in it, and what is known of their legal orders.
-ghost use Rattle.std.specs.Prelude.{◌≡◌, ◌≢◌, ◌↔◌, ◌+◌, ◌<◌, ◌≤◌, ◌∷◌, ◌++◌, [], ℕ, ℤ, List, Bool, All, Contains, IfOk, IfSome, IfNone, OnOk, OnErr, None, Some, remove, slice_set, if◌then◌else◌, length, slice_get};
+ghost use Rattle.std.specs.Prelude.{◌≡◌, ◌≢◌, ◌↔◌, ◌+◌, ◌<◌, ◌≤◌, ◌∷◌, ◌++◌, [], ℕ, ℤ, List, Bool, All, Contains, min, IsOk, IfOk, IfSome, IfNone, OnOk, OnErr, None, Ok, Some, remove, slice_set, if◌then◌else◌, length, slice_get};
 ghost use Rattle.std.specs.Ordering.{int_eq};
 ghost use Rattle.lin_history.specs.declared.calls.Name.{Name as NameOf};
 ghost use Rattle.lin_history.specs.declared.events.Event.{Event as EventOf};
@@ -7,19 +7,21 @@ ghost use Rattle.lin_history.specs.WellFormed.{IsWellFormed};
 ghost use Rattle.lin_objects.specs.declared.kinds.Kind.{Kind as KindOf};
 ghost use Rattle.lin_objects.specs.Kinds.{functions_of, kind_of};
 ghost use Rattle.lin_order.specs.Parts.{events_at, part, renamed};
-ghost use Rattle.lin_order.specs.Linearizable.{IsLegalOrderFor};
+ghost use Rattle.lin_order.specs.Linearizable.{IsLegalOrder, IsLegalOrderFor};
 ghost use Rattle.lin_order.specs.Merging.{lists_of};
 ghost use Rattle.std.specs.List.{AllZip};
-ghost use Rattle.lin_session.specs.Answers.{IsObjectAnswer, IsWholeAnswer};
-ghost use Rattle.lin_chain.specs.Chains.{end_in, kind_in, ready_count, IsRight as IsRightChain};
+ghost use Rattle.lin_session.specs.Answers.{IsAnswer, IsObjectVerdict, IsVerdict, IsWholeVerdict};
+ghost use Rattle.lin_chain.specs.Chains.{end_in, end_under, kind_in, ready_count, ready_under, IsRight as IsRightChain};
 ghost use Rattle.lin_chain.specs.Ends.{IsEndOf};
 ghost use Rattle.lin_chain.specs.Replays.{IsLegalOrderAs};
 ghost use Rattle.lin_session.specs.declared.kept.Object.{Object as ObjectOf};
 ghost use Rattle.lin_session.specs.Objects.{AreRight, Finds, IsOrderIn, IsPlaceIn, split_in};
-ghost use Rattle.lin_session.specs.Judgements.{AreFound, IsAlive, IsFinding, IsTold, least};
+ghost use Rattle.lin_session.specs.Costs.{IsSettled, cost_of, cost_of_all};
+ghost use Rattle.lin_session.specs.Judgements.{AreAlive, AreFound, IsAlive, IsFinding, IsOrderFor, IsTold};
 
-use crate::answers::Answer;
+use crate::answers::{Answer, Scope, Verdict};
 use crate::kept::{Object, Objects};
+use crate::work::least_of;
 use indexmap::IndexSet;
 use lin_chain::{Chain, End};
 use lin_history::{Event, Meter, OutOfMemory, beginnings_are_well_formed};
@@ -141,6 +143,7 @@ impl Objects {
     ) -> Result<(), OutOfMemory>
         requires { AreRight self.old (kind_of kinds.now) events.now }
         ensures all { OnOk result (split_in self.new ≡ length events.now) }
+        ensures apart { split_in self.old ≡ length events.now → split_in self.new ≡ length events.now }
         ensures right { AreRight self.new (kind_of kinds.now) events.now }
     {
         while self.split < events.len() {
@@ -198,41 +201,119 @@ impl Objects {
         Ok(())
     }
 
-    /// What is answered for the object of the key. All events are told apart, and are well-formed.
+    /// Whether the history is linearizable for the scope, with a legal order if it is. Its events are well-formed.
     pub(crate) fn ask(
         &mut self,
         alloc: Global,
+        scope: Scope,
+        events: &[Event],
+        kinds: &Kinds,
+        budget: u32,
+        meter: &mut Meter,
+    ) -> Result<Answer, OutOfMemory>
+        requires few { length events.now < usize.MAX }
+        requires right { AreRight self.old (kind_of kinds.now) events.now }
+        requires well_formed { IsWellFormed (functions_of (kind_of kinds.now)) events.now }
+        ensures right { AreRight self.new (kind_of kinds.now) events.now }
+        ensures split { OnOk result (split_in self.new ≡ length events.now) }
+        ensures apart { split_in self.old ≡ length events.now → split_in self.new ≡ length events.now }
+        ensures answer { IfOk result (IsAnswer (record { history = events.now; kinds = kinds.now; budget = budget }) scope) }
+        ensures scans { meter.new.scans ≡ meter.old.scans }
+    {
+        match self.judge(alloc, scope, events, kinds, budget, meter)? {
+            Verdict::Yes => Ok(Answer::Yes(self.order(alloc, scope)?)),
+            Verdict::No { prefix } => Ok(Answer::No { prefix }),
+            Verdict::Undecided { at } => Ok(Answer::Undecided { at }),
+            Verdict::IllFormed { at, cause } => Ok(Answer::IllFormed { at, cause }),
+        }
+    }
+
+    /// Whether the history is linearizable for the scope. Its events are well-formed.
+    pub(crate) fn judge(
+        &mut self,
+        alloc: Global,
+        scope: Scope,
+        events: &[Event],
+        kinds: &Kinds,
+        budget: u32,
+        meter: &mut Meter,
+    ) -> Result<Verdict, OutOfMemory>
+        requires few { length events.now < usize.MAX }
+        requires right { AreRight self.old (kind_of kinds.now) events.now }
+        requires well_formed { IsWellFormed (functions_of (kind_of kinds.now)) events.now }
+        ensures right { AreRight self.new (kind_of kinds.now) events.now }
+        ensures split { OnOk result (split_in self.new ≡ length events.now) }
+        ensures apart { split_in self.old ≡ length events.now → split_in self.new ≡ length events.now }
+        ensures verdict { IfOk result (IsVerdict (record { history = events.now; kinds = kinds.now; budget = budget }) scope) }
+        ensures alive { result ≡ Ok Verdict.Yes → AreAlive self.new scope }
+        ensures scans { meter.new.scans ≡ meter.old.scans }
+    {
+        self.split(alloc, events, kinds)?;
+        match scope {
+            Scope::Object(key) => self.judge_object(key, events, budget, meter),
+            Scope::Whole => self.judge_whole(events, budget, meter),
+        }
+    }
+
+    /// A legal order for the scope, which is linearizable.
+    fn order(&self, alloc: Global, scope: Scope) -> Result<Vec<Placed>, OutOfMemory>
+        requires alive { AreAlive self.now scope }
+        requires right { (kinds : ℤ → KindOf) × (h : List EventOf) × AreRight self.now kinds h × (split_in self.now ≡ length h) × IsWellFormed (functions_of kinds) h }
+        ensures { IfOk result (λ order. (kinds : ℤ → KindOf) (h : List EventOf) → AreRight self.now kinds h → split_in self.now ≡ length h → IsWellFormed (functions_of kinds) h → IsOrderFor kinds h scope order.items) }
+    {
+        match scope {
+            Scope::Object(key) => self.order_of(alloc, key),
+            Scope::Whole => self.merged_order(alloc),
+        }
+    }
+
+    /// Whether the object of the key is linearizable. All events are told apart, and are well-formed.
+    fn judge_object(
+        &mut self,
         key: i64,
         events: &[Event],
         budget: u32,
         meter: &mut Meter,
-    ) -> Result<Answer, OutOfMemory>
+    ) -> Result<Verdict, OutOfMemory>
         requires few { length events.now < usize.MAX }
         requires split { split_in self.old ≡ length events.now }
         requires right { (kinds : ℤ → KindOf) × AreRight self.old kinds events.now × IsWellFormed (functions_of kinds) events.now }
+        ensures split { split_in self.new ≡ split_in self.old }
         ensures right { (kinds : ℤ → KindOf) → AreRight self.old kinds events.now → AreRight self.new kinds events.now }
-        ensures answer { IfOk result (λ answer. (kinds : ℤ → KindOf) → AreRight self.old kinds events.now → IsWellFormed (functions_of kinds) events.now → IsObjectAnswer kinds budget events.now key answer) }
+        ensures verdict { IfOk result (λ verdict. (kinds : ℤ → KindOf) → AreRight self.old kinds events.now → IsWellFormed (functions_of kinds) events.now → IsObjectVerdict kinds budget events.now key verdict) }
+        ensures alive { result ≡ Ok Verdict.Yes → AreAlive self.new (Scope.Object key) }
+        ensures scans { meter.new.scans ≡ meter.old.scans }
+        ensures steps { (i : ℕ) (object : ObjectOf) → slice_get self.old.keys.keys i ≡ Some key → slice_get self.old.objects.items i ≡ Some object → meter.new.steps ≤ meter.old.steps + cost_of budget object }
+        ensures idle { (Contains self.old.keys.keys key → ⊥) → meter.new ≡ meter.old }
+        ensures settled { ((i : ℕ) (object : ObjectOf) → slice_get self.old.keys.keys i ≡ Some key → slice_get self.old.objects.items i ≡ Some object → IsSettled budget object) → IsOk result }
     {
         absent_keys_are_legal();
         match self.find(key) {
-            Some(i) => self.ask_listed(alloc, i, events, budget, meter),
-            None => Ok(Answer::Yes(Vec::new(alloc))),
+            Some(i) => {
+                let (failing, over) = self.judge_listed(i, events, budget, meter)?;
+                Ok(told(failing, over))
+            }
+            None => Ok(Verdict::Yes),
         }
     }
 
-    /// What is answered for the whole. All events are told apart, and are well-formed.
-    pub(crate) fn ask_whole(
+    /// Whether the whole is linearizable. All events are told apart, and are well-formed.
+    fn judge_whole(
         &mut self,
-        alloc: Global,
         events: &[Event],
         budget: u32,
         meter: &mut Meter,
-    ) -> Result<Answer, OutOfMemory>
+    ) -> Result<Verdict, OutOfMemory>
         requires few { length events.now < usize.MAX }
         requires split { split_in self.old ≡ length events.now }
         requires right { (kinds : ℤ → KindOf) × AreRight self.old kinds events.now × IsWellFormed (functions_of kinds) events.now }
+        ensures split { split_in self.new ≡ split_in self.old }
         ensures right { (kinds : ℤ → KindOf) → AreRight self.old kinds events.now → AreRight self.new kinds events.now }
-        ensures answer { IfOk result (λ answer. (kinds : ℤ → KindOf) → AreRight self.old kinds events.now → IsWellFormed (functions_of kinds) events.now → IsWholeAnswer kinds budget events.now answer) }
+        ensures verdict { IfOk result (λ verdict. (kinds : ℤ → KindOf) → AreRight self.old kinds events.now → IsWellFormed (functions_of kinds) events.now → IsWholeVerdict kinds budget events.now verdict) }
+        ensures alive { result ≡ Ok Verdict.Yes → AreAlive self.new Scope.Whole }
+        ensures scans { meter.new.scans ≡ meter.old.scans }
+        ensures steps { meter.new.steps ≤ meter.old.steps + cost_of_all budget self.old.objects.items }
+        ensures settled { All (IsSettled budget) self.old.objects.items → IsOk result }
     {
         absent_keys_are_legal();
         prefixes_are_linearizable();
@@ -240,10 +321,7 @@ impl Objects {
         beginnings_are_well_formed();
         linearizability_is_local();
         let (failing, over) = self.judge_all(events, budget, meter)?;
-        match told(failing, over) {
-            Some(answer) => Ok(answer),
-            None => self.ask_merged(alloc),
-        }
+        Ok(told(failing, over))
     }
 
     /// What is found of all objects: the shortest prefix that fails one, and the first position at which one is over.
@@ -261,26 +339,29 @@ impl Objects {
         ensures right { (kinds : ℤ → KindOf) → AreRight self.old kinds events.now → AreRight self.new kinds events.now }
         ensures found { IfOk result (λ r. (kinds : ℤ → KindOf) → AreRight self.old kinds events.now → IsWellFormed (functions_of kinds) events.now → AreFound kinds budget events.now self.old.keys.keys r.0 r.1) }
         ensures alive { IfOk result (λ r. r.0 ≡ None → r.1 ≡ None → All IsAlive self.new.objects.items) }
+        ensures scans { meter.new.scans ≡ meter.old.scans }
+        ensures steps { meter.new.steps ≤ meter.old.steps + cost_of_all budget self.old.objects.items }
+        ensures settled { All (IsSettled budget) self.old.objects.items → IsOk result }
     {
         let mut failing = None;
         let mut over = None;
         for i in 0..self.objects.len() {
-            let found = self.judge(i, events, budget, meter)?;
+            let found = self.judge_listed(i, events, budget, meter)?;
             failing = least_of(failing, found.0);
             over = least_of(over, found.1);
         }
         Ok((failing, over))
     }
 
-    /// That the whole is linearizable, as each object is.
-    fn ask_merged(&self, alloc: Global) -> Result<Answer, OutOfMemory>
+    /// A legal order of the history, as each object has one.
+    fn merged_order(&self, alloc: Global) -> Result<Vec<Placed>, OutOfMemory>
         requires alive { All IsAlive self.now.objects.items }
         requires right { (kinds : ℤ → KindOf) × (h : List EventOf) × AreRight self.now kinds h × (split_in self.now ≡ length h) × IsWellFormed (functions_of kinds) h }
-        ensures { IfOk result (λ answer. (kinds : ℤ → KindOf) (budget : ℕ) (h : List EventOf) → AreRight self.now kinds h → split_in self.now ≡ length h → IsWellFormed (functions_of kinds) h → IsWholeAnswer kinds budget h answer) }
+        ensures { IfOk result (λ order. (kinds : ℤ → KindOf) (h : List EventOf) → AreRight self.now kinds h → split_in self.now ≡ length h → IsWellFormed (functions_of kinds) h → IsLegalOrder kinds h order.items) }
     {
         merged_orders_are_legal();
         match merge(alloc, self.orders(alloc)?) {
-            Ok(order) => Ok(Answer::Yes(order)),
+            Ok(order) => Ok(order),
             Err((_, refused)) => Err(refused),
         }
     }
@@ -301,33 +382,23 @@ impl Objects {
         Ok(parts)
     }
 
-    /// What is answered for the object that is listed here.
-    fn ask_listed(
-        &mut self,
-        alloc: Global,
-        i: usize,
-        events: &[Event],
-        budget: u32,
-        meter: &mut Meter,
-    ) -> Result<Answer, OutOfMemory>
-        requires listed { i < length self.old.keys.keys }
-        requires few { length events.now < usize.MAX }
-        requires split { split_in self.old ≡ length events.now }
-        requires right { (kinds : ℤ → KindOf) × AreRight self.old kinds events.now × IsWellFormed (functions_of kinds) events.now }
-        ensures right { (kinds : ℤ → KindOf) → AreRight self.old kinds events.now → AreRight self.new kinds events.now }
-        ensures answer { IfOk result (λ answer. (kinds : ℤ → KindOf) (key : ℤ) → slice_get self.old.keys.keys i ≡ Some key → AreRight self.old kinds events.now → IsWellFormed (functions_of kinds) events.now → IsObjectAnswer kinds budget events.now key answer) }
+    /// A legal order for the object of the key, which is alive if it is listed.
+    fn order_of(&self, alloc: Global, key: i64) -> Result<Vec<Placed>, OutOfMemory>
+        requires alive { AreAlive self.now (Scope.Object key) }
+        requires right { (kinds : ℤ → KindOf) × (h : List EventOf) × AreRight self.now kinds h × (split_in self.now ≡ length h) × IsWellFormed (functions_of kinds) h }
+        ensures { IfOk result (λ order. (kinds : ℤ → KindOf) (h : List EventOf) → AreRight self.now kinds h → split_in self.now ≡ length h → IsWellFormed (functions_of kinds) h → IsLegalOrderFor kinds key h order.items) }
     {
         positions_spell_parts();
         parts_keep_orders();
-        let (failing, over) = self.judge(i, events, budget, meter)?;
-        match told(failing, over) {
-            Some(answer) => Ok(answer),
-            None => Ok(Answer::Yes(self.objects[i].order(alloc)?)),
+        absent_keys_are_legal();
+        match self.find(key) {
+            Some(i) => self.objects[i].order(alloc),
+            None => Ok(Vec::new(alloc)),
         }
     }
 
     /// What is found of the object that is listed here: the shortest prefix that fails it, or the position at which it is over.
-    fn judge(
+    fn judge_listed(
         &mut self,
         i: usize,
         events: &[Event],
@@ -344,6 +415,9 @@ impl Objects {
         ensures found { IfOk result (λ r. (kinds : ℤ → KindOf) (key : ℤ) → slice_get self.old.keys.keys i ≡ Some key → AreRight self.old kinds events.now → IsWellFormed (functions_of kinds) events.now → IsFinding kinds budget events.now key r.0 r.1) }
         ensures alive { IfOk result (λ r. r.0 ≡ None → r.1 ≡ None → (object : ObjectOf) → slice_get self.new.objects.items i ≡ Some object → IsAlive object) }
         ensures others { (j : ℕ) (object : ObjectOf) → j ≢ i → slice_get self.new.objects.items j ≡ Some object → slice_get self.old.objects.items j ≡ Some object }
+        ensures scans { meter.new.scans ≡ meter.old.scans }
+        ensures steps { (object : ObjectOf) → slice_get self.old.objects.items i ≡ Some object → meter.new.steps ≤ meter.old.steps + cost_of budget object }
+        ensures settled { (object : ObjectOf) → slice_get self.old.objects.items i ≡ Some object → IsSettled budget object → IsOk result }
     {
         positions_spell_parts();
         parts_of_prefixes();
@@ -374,6 +448,12 @@ impl Object {
         ensures end { IfOk result (IsEndOf (kind_in self.old.chain) budget (events_at events.now self.old.picks.items)) }
         ensures told { IfOk result (λ end. end_in self.new.chain ≡ end) }
         ensures all { OnOk result (ready_count self.new.chain ≡ length self.old.picks.items) }
+        ensures scans { meter.new.scans ≡ meter.old.scans }
+        ensures steps { meter.new.steps ≤ meter.old.steps + cost_of budget self.old }
+        ensures settled { IsSettled budget self.old → IsOk result }
+        ensures stays { end_under budget self.old.chain ≢ End.Alive → result ≡ Ok (end_under budget self.old.chain) }
+        ensures under { (end_under budget self.new.chain ≡ end_in self.new.chain) × (ready_under budget self.new.chain ≡ ready_count self.new.chain) }
+        ensures remains { (other : ℕ) → min (ready_under budget self.old.chain) (ready_under other self.old.chain) ≤ ready_under other self.new.chain }
     {
         self.count = self.picks.len();
         self.chain.settle(events, &self.picks, budget, meter)
@@ -442,31 +522,18 @@ impl Object {
     }
 }
 
-/// The answer that the findings give, where they are not all yes: the failing prefix, unless an object is over at an earlier position.
-fn told(failing: Option<usize>, over: Option<usize>) -> Option<Answer>
+/// The verdict that the findings give: the failing prefix, unless an object is over at an earlier position.
+fn told(failing: Option<usize>, over: Option<usize>) -> Verdict
     ensures { IsTold failing over result }
 {
     match failing {
         None => match over {
-            None => None,
-            Some(at) => Some(Answer::Undecided { at }),
+            None => Verdict::Yes,
+            Some(at) => Verdict::Undecided { at },
         },
         Some(prefix) => match over {
-            Some(at) if at < prefix => Some(Answer::Undecided { at }),
-            _ => Some(Answer::No { prefix }),
-        },
-    }
-}
-
-/// The lesser of two numbers, where there are two.
-fn least_of(a: Option<usize>, b: Option<usize>) -> Option<usize>
-    ensures { result ≡ least a b }
-{
-    match a {
-        None => b,
-        Some(m) => match b {
-            None => Some(m),
-            Some(n) => Some(m.min(n)),
+            Some(at) if at < prefix => Verdict::Undecided { at },
+            _ => Verdict::No { prefix },
         },
     }
 }

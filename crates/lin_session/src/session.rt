@@ -1,15 +1,18 @@
 //! A history that is edited, with what was found of it kept up to date.
-ghost use Rattle.std.specs.Prelude.{◌≡◌, ◌≢◌, ◌↔◌, ◌<◌, ◌≤◌, ◌⊎◌, ◌-◌, ◌∷◌, ◌++◌, [], ℤ, true, false, map, Err, Some, IfOk, IfErr, IfSome, IfNone, OnOk, OnErr, length, slice_get, slice_set, remove, take};
+ghost use Rattle.std.specs.Prelude.{◌≡◌, ◌≢◌, ◌↔◌, ◌<◌, ◌≤◌, ◌⊎◌, ◌+◌, ◌-◌, ◌∷◌, ◌++◌, [], ℤ, true, false, map, Err, None, Some, IfOk, IfErr, IfSome, IfNone, IsOk, OnOk, OnErr, length, slice_get, slice_set, remove, take};
+ghost use Rattle.lin_history.specs.WellFormed.{IsWellFormed};
 ghost use Rattle.lin_objects.specs.declared.kinds.Kind.{Kind as KindOf};
-ghost use Rattle.lin_objects.specs.Kinds.{is_named, kind_of, named_count, same_for_all, with_kind};
+ghost use Rattle.lin_objects.specs.Kinds.{functions_of, is_named, kind_of, named_count, same_for_all, with_kind};
 ghost use Rattle.lin_session.specs.Edits.{IsBudget, IsRefused, edited};
-ghost use Rattle.lin_session.specs.Answers.{IsAnswer};
+ghost use Rattle.lin_session.specs.Answers.{IsAnswer, IsVerdict, kinds_in};
 ghost use Rattle.lin_session.specs.Objects.{AreRight, split_in};
 ghost use Rattle.lin_session.specs.Sessions.{AreKeys};
+ghost use Rattle.lin_session.specs.Work.{anew, low_after};
 
-use crate::answers::{Answer, Scope};
+use crate::answers::{Answer, Scope, Verdict};
 use crate::edits::{Edit, EditFault};
 use crate::kept::Objects;
+use crate::work::{least_of, round_down};
 use lin_history::{Event, Meter, OutOfMemory, Shape};
 use lin_objects::{Kind, Kinds, KindsFault};
 use lin_wellformed::Scan;
@@ -33,6 +36,8 @@ pub struct Session {
     scan: Scan,
     objects: Objects,
     meter: Meter,
+    /// How many of the first events the scan need not look at again; none, where it has looked at all.
+    low: Option<usize>,
 }
 
 impl Model for Session {
@@ -40,9 +45,9 @@ impl Model for Session {
 
     ghost Value = { Standing };
 
-    ghost view = { λ s. record { present = record { history = s.events.items; kinds = s.kinds; budget = s.budget }; meter = s.meter } };
+    ghost view = { λ s. record { present = record { history = s.events.items; kinds = s.kinds; budget = s.budget }; meter = s.meter; low = s.low } };
 
-    ghost invariant = { λ s. IsUpToDate (record { history = s.events.items; kinds = s.kinds; budget = s.budget }) s.scan s.objects };
+    ghost invariant = { λ s. IsUpToDate (record { history = s.events.items; kinds = s.kinds; budget = s.budget }) s.low s.scan s.objects };
 }
 
 impl Session {
@@ -51,6 +56,7 @@ impl Session {
     /// The budget is how many configurations may be kept for one object: from 1 to 1,000,000, and else `BadBudget`.
     pub fn new(alloc: Global, default: Kind, budget: u32) -> Result<Session, EditFault>
         ensures opened { IfOk result (λ session. session.present ≡ record { history = []; kinds = same_for_all default; budget = budget }) }
+        ensures settled { IfOk result (λ session. session.low ≡ None) }
         ensures unused { IfOk result (λ session. session.meter ≡ record { scans = 0; steps = 0; tries = 0 }) }
         ensures refused { (result ≡ Err EditFault.BadBudget) ↔ (IsBudget budget → ⊥) }
         ensures fault { IfErr result (λ fault. fault ≡ EditFault.BadBudget) }
@@ -65,6 +71,7 @@ impl Session {
             scan: Scan::new(alloc),
             objects: Objects::new(alloc),
             meter: Meter::new(),
+            low: None,
         })
     }
 
@@ -121,22 +128,63 @@ impl Session {
     pub fn ask(&mut self, alloc: Global, scope: Scope) -> Result<Answer, OutOfMemory>
         ensures answer { IfOk result (IsAnswer self.old.present scope) }
         ensures present { self.new.present ≡ self.old.present }
+        ensures settled { OnOk result (self.new.low ≡ None) }
+        ensures unsettled { OnErr result (self.new.low ≡ self.old.low) }
+        ensures scans { self.new.meter.scans ≤ self.old.meter.scans + anew self.old.low (length self.old.present.history) }
+        ensures known { self.old.low ≡ None → (IsWellFormed (functions_of (kinds_in self.old.present)) self.old.present.history → ⊥) → IsOk result }
     {
         match self
             .scan
             .settle(&self.events, &self.kinds, &mut self.meter)?
         {
-            Shape::Good => {}
-            Shape::Bad { at, cause } => return Ok(Answer::IllFormed { at, cause }),
+            Shape::Good => {
+                let answer = self.objects.ask(
+                    alloc,
+                    scope,
+                    &self.events,
+                    &self.kinds,
+                    self.budget,
+                    &mut self.meter,
+                )?;
+                self.low = None;
+                Ok(answer)
+            }
+            Shape::Bad { at, cause } => {
+                self.low = None;
+                Ok(Answer::IllFormed { at, cause })
+            }
         }
-        self.objects.split(alloc, &self.events, &self.kinds)?;
-        match scope {
-            Scope::Object(key) => self
-                .objects
-                .ask(alloc, key, &self.events, self.budget, &mut self.meter),
-            Scope::Whole => {
-                self.objects
-                    .ask_whole(alloc, &self.events, self.budget, &mut self.meter)
+    }
+
+    /// As `ask`, but without making an order: where nothing changed since the last question, the time is linear in the
+    /// number of objects of the scope.
+    pub fn judge(&mut self, alloc: Global, scope: Scope) -> Result<Verdict, OutOfMemory>
+        ensures verdict { IfOk result (IsVerdict self.old.present scope) }
+        ensures present { self.new.present ≡ self.old.present }
+        ensures settled { OnOk result (self.new.low ≡ None) }
+        ensures unsettled { OnErr result (self.new.low ≡ self.old.low) }
+        ensures scans { self.new.meter.scans ≤ self.old.meter.scans + anew self.old.low (length self.old.present.history) }
+        ensures known { self.old.low ≡ None → (IsWellFormed (functions_of (kinds_in self.old.present)) self.old.present.history → ⊥) → IsOk result }
+    {
+        match self
+            .scan
+            .settle(&self.events, &self.kinds, &mut self.meter)?
+        {
+            Shape::Good => {
+                let verdict = self.objects.judge(
+                    alloc,
+                    scope,
+                    &self.events,
+                    &self.kinds,
+                    self.budget,
+                    &mut self.meter,
+                )?;
+                self.low = None;
+                Ok(verdict)
+            }
+            Shape::Bad { at, cause } => {
+                self.low = None;
+                Ok(Verdict::IllFormed { at, cause })
             }
         }
     }
@@ -152,6 +200,7 @@ impl Session {
         ensures refused { (fault : EditFault) → fault ≢ EditFault.OutOfMemory → IsRefused edit self.old.present fault → result ≡ Err (edit, fault) }
         ensures same { OnErr result (self.new ≡ self.old) }
         ensures idle { self.new.meter ≡ self.old.meter }
+        ensures low { OnOk result (self.new.low ≡ low_after edit self.old.present self.old.low) }
     {
         match edit {
             Edit::Append(event) => match self.append(event) {
@@ -187,6 +236,7 @@ impl Session {
         ensures handed_back { IfErr result (λ refused. (refused.0 ≡ event) × ((refused.1 ≡ EditFault.Full) ⊎ (refused.1 ≡ EditFault.OutOfMemory))) }
         ensures same { OnErr result (self.new ≡ self.old) }
         ensures idle { self.new.meter ≡ self.old.meter }
+        ensures low { OnOk result (self.new.low ≡ low_after (Edit.Append event) self.old.present self.old.low) }
     {
         if self.events.len() >= EVENTS {
             return Err((event, EditFault::Full));
@@ -195,6 +245,7 @@ impl Session {
             return Err((event, EditFault::OutOfMemory));
         }
         self.scan.cut(self.events.len());
+        self.low = least_of(self.low, Some(self.events.len()));
         self.objects.put_in(event.key, &[]);
         self.events.push_reserved(event);
         Ok(())
@@ -206,11 +257,13 @@ impl Session {
         ensures fault { IfErr result (λ fault. fault ≡ EditFault.BadPosition) }
         ensures same { OnErr result (self.new ≡ self.old) }
         ensures idle { self.new.meter ≡ self.old.meter }
+        ensures low { OnOk result (self.new.low ≡ low_after (Edit.Truncate count) self.old.present self.old.low) }
     {
         if count > self.events.len() {
             return Err(EditFault::BadPosition);
         }
         self.scan.cut(count);
+        self.low = least_of(self.low, Some(round_down(count)));
         cut_back(&mut self.events, &mut self.objects, count);
         Ok(())
     }
@@ -221,11 +274,13 @@ impl Session {
         ensures handed_back { IfErr result (λ refused. (refused.0 ≡ event) × (refused.1 ≡ EditFault.BadPosition)) }
         ensures same { OnErr result (self.new ≡ self.old) }
         ensures idle { self.new.meter ≡ self.old.meter }
+        ensures low { OnOk result (self.new.low ≡ low_after (Edit.Replace at event) self.old.present self.old.low) }
     {
         if at >= self.events.len() {
             return Err((event, EditFault::BadPosition));
         }
         self.scan.cut(at);
+        self.low = least_of(self.low, Some(round_down(at)));
         self.objects.replace(&self.events, at, &event);
         self.events[at] = event;
         Ok(())
@@ -237,11 +292,13 @@ impl Session {
         ensures fault { IfErr result (λ fault. fault ≡ EditFault.BadPosition) }
         ensures same { OnErr result (self.new ≡ self.old) }
         ensures idle { self.new.meter ≡ self.old.meter }
+        ensures low { OnOk result (self.new.low ≡ low_after (Edit.Remove at) self.old.present self.old.low) }
     {
         if at >= self.events.len() {
             return Err(EditFault::BadPosition);
         }
         self.scan.cut(at);
+        self.low = least_of(self.low, Some(round_down(at)));
         self.objects.leave(&self.events, at);
         let _ = self.events.remove(at);
         Ok(())
@@ -253,6 +310,7 @@ impl Session {
         ensures fault { IfErr result (λ fault. (fault ≡ EditFault.Full) ⊎ (fault ≡ EditFault.OutOfMemory)) }
         ensures same { OnErr result (self.new ≡ self.old) }
         ensures idle { self.new.meter ≡ self.old.meter }
+        ensures low { OnOk result (self.new.low ≡ low_after (Edit.SetKind key kind) self.old.present self.old.low) }
     {
         match self.kinds.set(key, kind) {
             Ok(()) => {}
@@ -261,6 +319,7 @@ impl Session {
         }
         // Which functions the object has decides which of its invocations are bad.
         self.scan.cut(0);
+        self.low = Some(0);
         self.objects.rekind(key, kind);
         Ok(())
     }
@@ -271,6 +330,7 @@ impl Session {
         ensures fault { IfErr result (λ fault. fault ≡ EditFault.BadBudget) }
         ensures same { OnErr result (self.new ≡ self.old) }
         ensures idle { self.new.meter ≡ self.old.meter }
+        ensures low { OnOk result (self.new.low ≡ low_after (Edit.SetBudget budget) self.old.present self.old.low) }
     {
         if !is_budget(budget) {
             return Err(EditFault::BadBudget);

@@ -1,8 +1,9 @@
 -- The exit status of a run, and what a line has the program do.
-use Rattle.std.specs.Prelude.{◌≡◌, ◌≤◌, ℕ, List, Option, Some, None, Result, Ok, Err, false}
+use Rattle.std.specs.Prelude.{◌≡◌, ◌≤◌, ℕ, List, Option, Some, None, option_map, Result, Ok, Err}
 use Rattle.clap.specs.declared.error.kind.ErrorKind.{ErrorKind}
 use Rattle.clap.specs.declared.error.kind.ErrorKind.TheVariants as kind
 use Rattle.lin_report.specs.Reports.{IsCheckRun}
+use Rattle.lin_report.specs.Runs.{IsRunOf as IsEditRun}
 use Rattle.lin_report.specs.Verdicts.{IsVerifyRun}
 use Rattle.lin_report.specs.declared.answers.Status.{Status}
 use Rattle.lin_report.specs.declared.answers.Status.TheVariants.{Yes, No, Undecided, IllFormed, Refused}
@@ -11,7 +12,7 @@ use Rattle.lin_report.specs.declared.faults.RunFault.TheVariants.{ReadFailed, Wr
 use Rattle.lin_report.specs.declared.runs.Settings.{Settings}
 use Rattle.lincheck.specs.declared.endings.Ending.{Ending}
 use Rattle.lincheck.specs.declared.words.Line.{Line}
-use Rattle.lincheck.specs.declared.words.Line.TheVariants.{Verify, Check}
+use Rattle.lincheck.specs.declared.words.Line.TheVariants.{Verify, Check, Edit}
 
 -- 0 for a yes, 1 for a no, 2 for undecided, 3 for ill-formed, 4 for refused input, 6 where memory or a device failed
 abbrev pub exit_status : Result Status RunFault → ℕ
@@ -31,10 +32,11 @@ refusal_status kind.DisplayHelp = 0
 refusal_status kind.OutOfMemory = 6
 refusal_status _ = 5
 
--- the name of the line's file
-abbrev pub file_of : Line → List ℕ
-file_of (Verify settings file order) = file.now
-file_of (Check settings file) = file.now
+-- the name of the line's file, if there is one
+abbrev pub file_of : Line → Option (List ℕ)
+file_of (Verify settings file order) = Some file.now
+file_of (Check settings file) = Some file.now
+file_of (Edit settings file) = option_map (λ name. name.now) file
 
 abbrev pub HasBudget : Settings → Type 0
 HasBudget settings = (1 ≤ settings.budget) × (settings.budget ≤ 1000000)
@@ -42,18 +44,21 @@ HasBudget settings = (1 ≤ settings.budget) × (settings.budget ≤ 1000000)
 -- a run can be made with the line's settings
 abbrev pub IsRunnable : Line → Type 0
 IsRunnable (Verify settings file order) = HasBudget settings
-IsRunnable (Check settings file) = HasBudget settings × (settings.keyed ≡ false)
+IsRunnable (Check settings file) = HasBudget settings
+IsRunnable (Edit settings file) = HasBudget settings
 
--- What the line says is done, with its settings: what is left of the file goes from the one to the other, and what is written too.
-abbrev pub IsRunOf : Line → Option (List ℕ) → Option (List ℕ) → Option (List ℕ) → Option (List ℕ) → Result Status RunFault → Type 0
-IsRunOf (Verify settings file order) old new before after outcome = IsVerifyRun settings order.now old new before after outcome
-IsRunOf (Check settings file) old new before after outcome = IsCheckRun settings old new before after outcome
+-- What the line says is done, with its settings: what is left of the file and of the commands goes from the one to the other, and
+-- what is written too. Only `edit` reads commands.
+abbrev pub IsRunOf : Line → Option (List ℕ) → Option (List ℕ) → Option (List ℕ) → Option (List ℕ) → Option (List ℕ) → Option (List ℕ) → Result Status RunFault → Type 0
+IsRunOf (Verify settings file order) old new commands commands' before after outcome = IsVerifyRun settings order.now old new before after outcome
+IsRunOf (Check settings file) old new commands commands' before after outcome = IsCheckRun settings old new before after outcome
+IsRunOf (Edit settings file) old new commands commands' before after outcome = IsEditRun settings old new commands commands' before after outcome
 
 abbrev pub fault_of_run : Result Status RunFault → Option RunFault
 fault_of_run (Ok status) = None
 fault_of_run (Err fault) = Some fault
 
 -- the program ends with the exit status of a run of the line, and tells why that ended early, if it did
-abbrev pub IsEndingOf : Line → Option (List ℕ) → Option (List ℕ) → Option (List ℕ) → Option (List ℕ) → Ending → Type 0
-IsEndingOf line old new before after ending =
-    (outcome : Result Status RunFault) × IsRunOf line old new before after outcome × (ending.status ≡ exit_status outcome) × (ending.fault ≡ fault_of_run outcome)
+abbrev pub IsEndingOf : Line → Option (List ℕ) → Option (List ℕ) → Option (List ℕ) → Option (List ℕ) → Option (List ℕ) → Option (List ℕ) → Ending → Type 0
+IsEndingOf line old new commands commands' before after ending =
+    (outcome : Result Status RunFault) × IsRunOf line old new commands commands' before after outcome × (ending.status ≡ exit_status outcome) × (ending.fault ≡ fault_of_run outcome)

@@ -12,7 +12,7 @@ use Rattle.lin_objects.specs.declared.kinds.Kind.{Kind}
 use Rattle.lin_objects.specs.declared.kinds.Kind.TheVariants.{Register, CasRegister, Fifo, Set as SetKind, Mutex}
 use Rattle.lin_report.specs.declared.runs.Settings.{Settings}
 use Rattle.lincheck.specs.declared.words.Line.{Line}
-use Rattle.lincheck.specs.declared.words.Line.TheVariants.{Verify, Check}
+use Rattle.lincheck.specs.declared.words.Line.TheVariants.{Verify, Check, Edit}
 
 -- the words for the kinds
 abbrev pub kind_words : List Text
@@ -33,6 +33,9 @@ keyed_rule = record (new_rule (codes "keyed")) { long = Some (codes "keyed"); ac
 abbrev pub file_rule : Rule
 file_rule = record (new_rule (codes "file")) { value_names = 1; action = Some Set; required = true }
 
+abbrev pub optional_file_rule : Rule
+optional_file_rule = record (new_rule (codes "file")) { value_names = 1; action = Some Set }
+
 abbrev pub order_rule : Rule
 order_rule = record (new_rule (codes "order")) { value_names = 1; action = Some Set; required = true }
 
@@ -43,18 +46,25 @@ IsBudget text n = IsUnsignedIn 1 1000000 text × (n ≡ digits_value 10 (without
 abbrev pub budget_rule : Rule
 budget_rule = record (new_rule (codes "budget")) { value_names = 1; long = Some (codes "budget"); action = Some Set; defaults = codes "65536" ∷ []; parser = Some (Unsigned 1 1000000) }
 
+-- a command with the options that each command has
+abbrev pub with_options : ValueParser → App → App
+with_options parser app = with_rule (with_rule (with_rule app (kind_rule parser)) keyed_rule) budget_rule
+
 abbrev pub verify_app : ValueParser → App
-verify_app parser = with_rule (with_rule (with_rule (with_rule (new_app (codes "verify")) file_rule) order_rule) (kind_rule parser)) keyed_rule
+verify_app parser = with_options parser (with_rule (with_rule (new_app (codes "verify")) file_rule) order_rule)
 
 abbrev pub check_app : ValueParser → App
-check_app parser = with_rule (with_rule (with_rule (new_app (codes "check")) file_rule) (kind_rule parser)) budget_rule
+check_app parser = with_options parser (with_rule (new_app (codes "check")) file_rule)
+
+abbrev pub edit_app : ValueParser → App
+edit_app parser = with_options parser (with_rule (new_app (codes "edit")) optional_file_rule)
 
 abbrev pub required : App → App
 required a = record a { top = record a.top { subcommand_required = true } }
 
--- the program, with its two commands
+-- the program, with its three commands
 abbrev pub program_app : ValueParser → App
-program_app parser = with_subcommand (with_subcommand (required (new_app (codes "lincheck"))) (verify_app parser).top) (check_app parser).top
+program_app parser = with_subcommand (with_subcommand (with_subcommand (required (new_app (codes "lincheck"))) (verify_app parser).top) (check_app parser).top) (edit_app parser).top
 
 -- the kind that a word names
 abbrev pub kind_of_word : Text → Kind
@@ -70,32 +80,27 @@ abbrev pub is_given : Option Text → Bool
 is_given None = false
 is_given (Some word) = bytes_eq word (codes "true")
 
--- the kind is the one that the matches name
-abbrev pub HasKindOf : List Row → Settings → Type 0
-HasKindOf rows settings = option_map kind_of_word (first_of (codes "kind") rows) ≡ Some settings.kind
+-- the settings are what the matches say: a kind, whether values are keyed, and a budget
+abbrev pub HasSettings : List Row → Settings → Type 0
+HasSettings rows settings =
+    (option_map kind_of_word (first_of (codes "kind") rows) ≡ Some settings.kind) × (settings.keyed ≡ is_given (first_of (codes "keyed") rows))
+    × ((text : Text) × (first_of (codes "budget") rows ≡ Some text) × IsBudget text settings.budget)
 
--- The line is what a command and its matches say: `verify` with a file, an order, a kind, and whether values are keyed; or `check`
--- with a file, a kind and a budget.
+-- the text that the matches give for the name
+abbrev pub Gives : List Row → Text → Option Text → Type 0
+Gives rows name text = first_of name rows ≡ text
+
+-- The line is what a command and its matches say: `verify` with a file and an order, `check` with a file, or `edit`, with a file or
+-- none; each with its settings.
 abbrev pub Says : Text × List Row → Line → Type 0
 Says found (Verify settings file order) =
-    (found.0 ≡ codes "verify") × (first_of (codes "file") found.1 ≡ Some file.now) × (first_of (codes "order") found.1 ≡ Some order.now)
-    × HasKindOf found.1 settings × (settings.keyed ≡ is_given (first_of (codes "keyed") found.1)) × (settings.budget ≡ 65536)
-Says found (Check settings file) =
-    (found.0 ≡ codes "check") × (first_of (codes "file") found.1 ≡ Some file.now) × HasKindOf found.1 settings × (settings.keyed ≡ false)
-    × ((text : Text) × (first_of (codes "budget") found.1 ≡ Some text) × IsBudget text settings.budget)
+    (found.0 ≡ codes "verify") × Gives found.1 (codes "file") (Some file.now) × Gives found.1 (codes "order") (Some order.now) × HasSettings found.1 settings
+Says found (Check settings file) = (found.0 ≡ codes "check") × Gives found.1 (codes "file") (Some file.now) × HasSettings found.1 settings
+Says found (Edit settings file) = (found.0 ≡ codes "edit") × Gives found.1 (codes "file") (option_map (λ name. name.now) file) × HasSettings found.1 settings
 
--- the matches name no value
-abbrev pub Lacks : List Row → Text → Type 0
-Lacks rows name = first_of name rows ≡ None
-
--- the matches of `verify` lack a file, an order or a kind
-abbrev pub LacksForVerify : List Row → Type 0
-LacksForVerify rows = Lacks rows (codes "file") ⊎ Lacks rows (codes "order") ⊎ Lacks rows (codes "kind")
-
--- the matches of `check` lack a file, a kind or a budget
-abbrev pub LacksForCheck : List Row → Type 0
-LacksForCheck rows = Lacks rows (codes "file") ⊎ Lacks rows (codes "kind")
-    ⊎ ((text : Text) (n : ℕ) → first_of (codes "budget") rows ≡ Some text → IsBudget text n → ⊥)
+-- the matches lack a kind or a budget
+abbrev pub LacksSettings : List Row → Type 0
+LacksSettings rows = Gives rows (codes "kind") None ⊎ ((text : Text) (n : ℕ) → Gives rows (codes "budget") (Some text) → IsBudget text n → ⊥)
 
 -- memory ran out, or the error is one that `clap` defines for the program at these words
 abbrev pub IsRefusalOf : List Text → Error → Type 0

@@ -1,10 +1,10 @@
 //! The command line as `clap` knows it.
-ghost use Rattle.std.specs.Prelude.{◌≡◌, ℕ, codes, IfOk, IfSome, IfNone, true, false, option_map};
+ghost use Rattle.std.specs.Prelude.{◌≡◌, ◌⊎◌, ℕ, None, codes, IfOk, IfSome, IfNone, true, false, option_map};
 ghost use Rattle.clap.specs.Words.{app_of, first_of, found_of, rows_of, rule_of};
 ghost use Rattle.clap.specs.declared.builder.value_parser.ValueParser.{ValueParser as ParserOf};
 ghost use Rattle.clap.specs.declared.builder.value_parser.ValueParser.TheVariants.{Names};
 ghost use Rattle.clap.specs.declared.builder.command.Command.TheViews.{out-Command as fields_of};
-ghost use Rattle.lincheck.specs.Program.{budget_rule, check_app, file_rule, keyed_rule, kind_of_word, kind_rule, order_rule, program_app, verify_app, is_given as given, IsBudget, IsKindParser, LacksForCheck, LacksForVerify, Says};
+ghost use Rattle.lincheck.specs.Program.{budget_rule, check_app, edit_app, file_rule, keyed_rule, kind_of_word, kind_rule, optional_file_rule, order_rule, program_app, verify_app, is_given as given, with_options as options_of, Gives, HasSettings, IsBudget, IsKindParser, LacksSettings, Says};
 
 use crate::words::Line;
 use clap::builder::ValueParser;
@@ -14,9 +14,6 @@ use lin_report::Settings;
 use std::alloc::{AllocError, Global};
 
 const KINDS: [&str; 5] = ["register", "cas-register", "fifo", "set", "mutex"];
-
-/// The budget where none is named.
-const BUDGET: u32 = 65_536;
 
 /// The greatest budget.
 const MOST_BUDGET: u32 = 1_000_000;
@@ -75,6 +72,16 @@ fn file_argument<'a>(alloc: Global) -> Arg<'a>
         .action(ArgAction::Set)
 }
 
+fn optional_file_argument<'a>(alloc: Global) -> Arg<'a>
+    ensures rule { rule_of result ≡ optional_file_rule }
+    ensures local { (result.required ≡ false) × (result.global ≡ false) }
+{
+    Arg::new(alloc, "file")
+        .value_name("FILE")
+        .help("A recorded history: operation maps in EDN")
+        .action(ArgAction::Set)
+}
+
 fn order_argument<'a>(alloc: Global) -> Arg<'a>
     ensures rule { rule_of result ≡ order_rule }
     ensures local { result.global ≡ false }
@@ -86,27 +93,52 @@ fn order_argument<'a>(alloc: Global) -> Arg<'a>
         .action(ArgAction::Set)
 }
 
+/// The command with the options that each command has.
+fn with_options<'a>(
+    alloc: Global,
+    kinds: &'a [&'a str],
+    command: Command<'a>,
+) -> Result<Command<'a>, AllocError>
+    ensures app { IfOk result (λ all. app_of all ≡ options_of (Names kinds.entry) (app_of command.entry)) }
+    ensures local { IfOk result (λ all. (fields_of all).has_globals ≡ (fields_of command.entry).has_globals) }
+{
+    command
+        .arg(kind_option(alloc, kinds))?
+        .arg(keyed_option(alloc))?
+        .arg(budget_option(alloc))
+}
+
 fn verify_command<'a>(alloc: Global, kinds: &'a [&'a str]) -> Result<Command<'a>, AllocError>
     ensures app { IfOk result (λ command. app_of command ≡ verify_app (Names kinds.entry)) }
     ensures local { IfOk result (λ command. (fields_of command).has_globals ≡ false) }
 {
-    Command::new(alloc, "verify")
+    let command = Command::new(alloc, "verify")
         .about("Tells whether ORDER is a legal order of the history in FILE")
         .arg(file_argument(alloc))?
-        .arg(order_argument(alloc))?
-        .arg(kind_option(alloc, kinds))?
-        .arg(keyed_option(alloc))
+        .arg(order_argument(alloc))?;
+    with_options(alloc, kinds, command)
 }
 
 fn check_command<'a>(alloc: Global, kinds: &'a [&'a str]) -> Result<Command<'a>, AllocError>
     ensures app { IfOk result (λ command. app_of command ≡ check_app (Names kinds.entry)) }
     ensures local { IfOk result (λ command. (fields_of command).has_globals ≡ false) }
 {
-    Command::new(alloc, "check")
+    let command = Command::new(alloc, "check")
         .about("Tells whether the history in FILE is linearizable")
-        .arg(file_argument(alloc))?
-        .arg(kind_option(alloc, kinds))?
-        .arg(budget_option(alloc))
+        .arg(file_argument(alloc))?;
+    with_options(alloc, kinds, command)
+}
+
+fn edit_command<'a>(alloc: Global, kinds: &'a [&'a str]) -> Result<Command<'a>, AllocError>
+    ensures app { IfOk result (λ command. app_of command ≡ edit_app (Names kinds.entry)) }
+    ensures local { IfOk result (λ command. (fields_of command).has_globals ≡ false) }
+{
+    let command = Command::new(alloc, "edit")
+        .about(
+            "Carries out the commands of standard input on a history; pull appends FILE's events",
+        )
+        .arg(optional_file_argument(alloc))?;
+    with_options(alloc, kinds, command)
 }
 
 /// The whole program's command.
@@ -118,7 +150,8 @@ pub fn program<'a>(alloc: Global) -> Result<Command<'a>, AllocError>
         .about("Checks recorded histories for linearizability")
         .subcommand_required(true)
         .subcommand(verify_command(alloc, kinds)?)?
-        .subcommand(check_command(alloc, kinds)?)
+        .subcommand(check_command(alloc, kinds)?)?
+        .subcommand(edit_command(alloc, kinds)?)
 }
 
 /// The kind that a word of `KINDS` names.
@@ -162,36 +195,11 @@ fn budget_of(text: &str) -> Option<u32>
     }
 }
 
-/// What the arguments of `verify` say; none where `clap` found no file, order or kind, which it requires.
-fn verify_line<'a>(matches: &ArgMatches<'a>) -> Option<Line<'a>>
-    ensures some { IfSome result (Says (codes "verify", rows_of (found_of matches.now))) }
-    ensures none { IfNone result (LacksForVerify (rows_of (found_of matches.now))) }
+/// What the options say; none where `clap` found no kind or budget, which have defaults.
+fn settings_of<'a>(matches: &ArgMatches<'a>) -> Option<Settings>
+    ensures some { IfSome result (HasSettings (rows_of (found_of matches.now))) }
+    ensures none { IfNone result (LacksSettings (rows_of (found_of matches.now))) }
 {
-    let Some(file) = text_of(matches, "file") else {
-        return None;
-    };
-    let Some(order) = text_of(matches, "order") else {
-        return None;
-    };
-    let Some(kind) = text_of(matches, "kind") else {
-        return None;
-    };
-    let settings = Settings {
-        kind: kind_named(kind),
-        keyed: is_given(text_of(matches, "keyed")),
-        budget: BUDGET,
-    };
-    Some(Line::Verify(settings, file, order))
-}
-
-/// What the arguments of `check` say; none where `clap` found no file, kind or budget, which it requires.
-fn check_line<'a>(matches: &ArgMatches<'a>) -> Option<Line<'a>>
-    ensures some { IfSome result (Says (codes "check", rows_of (found_of matches.now))) }
-    ensures none { IfNone result (LacksForCheck (rows_of (found_of matches.now))) }
-{
-    let Some(file) = text_of(matches, "file") else {
-        return None;
-    };
     let Some(kind) = text_of(matches, "kind") else {
         return None;
     };
@@ -201,10 +209,34 @@ fn check_line<'a>(matches: &ArgMatches<'a>) -> Option<Line<'a>>
     let Some(budget) = budget_of(budget) else {
         return None;
     };
-    let settings = Settings {
+    Some(Settings {
         kind: kind_named(kind),
-        keyed: false,
+        keyed: is_given(text_of(matches, "keyed")),
         budget,
+    })
+}
+
+/// What the arguments of `verify` say; none where `clap` found no file or order, which it requires.
+fn verify_line<'a>(settings: Settings, matches: &ArgMatches<'a>) -> Option<Line<'a>>
+    ensures some { HasSettings (rows_of (found_of matches.now)) settings → IfSome result (Says (codes "verify", rows_of (found_of matches.now))) }
+    ensures none { IfNone result (Gives (rows_of (found_of matches.now)) (codes "file") None ⊎ Gives (rows_of (found_of matches.now)) (codes "order") None) }
+{
+    let Some(file) = text_of(matches, "file") else {
+        return None;
+    };
+    let Some(order) = text_of(matches, "order") else {
+        return None;
+    };
+    Some(Line::Verify(settings, file, order))
+}
+
+/// What the arguments of `check` say; none where `clap` found no file, which it requires.
+fn check_line<'a>(settings: Settings, matches: &ArgMatches<'a>) -> Option<Line<'a>>
+    ensures some { HasSettings (rows_of (found_of matches.now)) settings → IfSome result (Says (codes "check", rows_of (found_of matches.now))) }
+    ensures none { IfNone result (Gives (rows_of (found_of matches.now)) (codes "file") None) }
+{
+    let Some(file) = text_of(matches, "file") else {
+        return None;
     };
     Some(Line::Check(settings, file))
 }
@@ -213,9 +245,13 @@ fn check_line<'a>(matches: &ArgMatches<'a>) -> Option<Line<'a>>
 pub fn line_of<'a>(command: &str, matches: &ArgMatches<'a>) -> Option<Line<'a>>
     ensures { IfSome result (Says (command.now, rows_of (found_of matches.now))) }
 {
+    let Some(settings) = settings_of(matches) else {
+        return None;
+    };
     match command {
-        "verify" => verify_line(matches),
-        "check" => check_line(matches),
+        "verify" => verify_line(settings, matches),
+        "check" => check_line(settings, matches),
+        "edit" => Some(Line::Edit(settings, text_of(matches, "file"))),
         _ => None,
     }
 }

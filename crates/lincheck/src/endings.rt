@@ -7,7 +7,7 @@ ghost use Rattle.lincheck.specs.Exit.{exit_status, refusal_status, IsEndingOf, I
 use crate::words::Line;
 use clap::Error;
 use clap::error::ErrorKind;
-use lin_report::{Counted, RunFault, Status, check, verify};
+use lin_report::{Counted, RunFault, Status, check, run as edit, verify};
 use std::alloc::Global;
 use std::io::{Read, Write};
 
@@ -40,24 +40,29 @@ pub fn exit_of(outcome: &Result<Status, RunFault>) -> u8
     }
 }
 
-/// Does what the line says with its file, which is open already, and tells how the program is to end.
+/// Does what the line says with its file, which is open already, and with the commands, which only `edit` reads, and tells how the
+/// program is to end.
 ///
 /// Asks that the settings are ones with which such a run can be made, and that no count of failures is at its greatest.
-pub fn run<R: Read, W: Write>(
+pub fn run<R: Read, C: Read, W: Write>(
     alloc: Global,
     line: Line,
     file: &mut Counted<R>,
+    commands: &mut Counted<C>,
     out: &mut Counted<W>,
 ) -> Ending
     requires line { IsRunnable line }
     requires reads { failures_of file.old < u64.MAX }
+    requires commands { failures_of commands.old < u64.MAX }
     requires writes { failures_of out.old < u64.MAX }
     ensures { IsEndingOf line.entry (R.remaining (device_of file.old)) (R.remaining (device_of file.new))
+        (C.remaining (device_of commands.old)) (C.remaining (device_of commands.new))
         (W.contents (device_of out.old)) (W.contents (device_of out.new)) result }
 {
     let outcome = match line {
         Line::Verify(settings, _, order) => verify(alloc, settings, file, order.as_bytes(), out),
         Line::Check(settings, _) => check(alloc, settings, file, out),
+        Line::Edit(settings, _) => edit(alloc, settings, file, commands, out),
     };
     Ending {
         status: exit_of(&outcome),

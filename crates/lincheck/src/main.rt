@@ -15,6 +15,7 @@ use endings::{FAILED, LINE_REFUSED};
 use lin_report::Counted;
 use std::alloc::{AllocError, Global};
 use std::fs::File;
+use std::io::Read;
 use std::process::ExitCode;
 use std::{env, io};
 pub use words::Line;
@@ -38,21 +39,39 @@ pub fn line<'a>(alloc: Global, words: &'a [&'a str]) -> Result<Line<'a>, Error>
     }
 }
 
-/// Opens the line's file, runs, and tells why the run ended early, if it did.
-fn run_line(rt: HostRuntime, line: Line) -> u8
+/// Runs on an opened file, and tells why the run ended early, if it did.
+fn run_on<R: Read + Drop>(rt: &HostRuntime, line: Line, file: R) -> u8
     requires { IsRunnable line }
 {
-    let path = line.path();
-    let Ok(file) = File::open(&rt, path) else {
-        let _printed = println!(rt; "lincheck: cannot open {path}");
-        return FAILED;
-    };
-    let mut out = Counted::new(io::writer(&rt));
-    let ending = run(rt.alloc(), line, &mut Counted::new(file), &mut out);
+    let mut commands = Counted::new(rt.stdin());
+    let mut out = Counted::new(io::writer(rt));
+    let ending = run(
+        rt.alloc(),
+        line,
+        &mut Counted::new(file),
+        &mut commands,
+        &mut out,
+    );
     if let Some(fault) = ending.fault {
         let _printed = println!(rt; "lincheck: {fault}");
     }
     ending.status
+}
+
+/// Opens the line's file, if it names one, and runs.
+fn run_line(rt: &HostRuntime, line: Line) -> u8
+    requires { IsRunnable line }
+{
+    let Some(path) = line.path() else {
+        return run_on(rt, line, b"".as_slice());
+    };
+    match File::open(rt, path) {
+        Ok(file) => run_on(rt, line, file),
+        Err(_) => {
+            let _printed = println!(rt; "lincheck: cannot open {path}");
+            FAILED
+        }
+    }
 }
 
 /// Tells that memory was refused.
@@ -73,7 +92,7 @@ fn tell_no_words(rt: &HostRuntime, error: &io::Error) -> u8 {
 /// Runs what the words say, and gives the exit status.
 fn run_words(rt: HostRuntime, words: &[&str]) -> u8 {
     match line(rt.alloc(), words) {
-        Ok(line) => run_line(rt, line),
+        Ok(line) => run_line(&rt, line),
         Err(error) => {
             let is_told = println!(rt; "{error}").is_ok();
             exit_of_refusal(&error, is_told)

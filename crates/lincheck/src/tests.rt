@@ -26,7 +26,7 @@ fn lines_that_are_refused(rt: HostRuntime) {
             5,
         ),
         (
-            &["lincheck", "verify", "--budget", "5", "a.edn", "empty"],
+            &["lincheck", "verify", "--budget", "0", "a.edn", "empty"],
             5,
         ),
         (&["lincheck", "--help"], 0),
@@ -40,11 +40,11 @@ fn lines_that_are_refused(rt: HostRuntime) {
 }
 
 #[test]
-fn lines_of_check_that_are_refused(rt: HostRuntime) {
+fn lines_of_check_and_edit_that_are_refused(rt: HostRuntime) {
     let faults: [&[&str]; 11] = [
         &["lincheck", "check"],
         &["lincheck", "check", "a.edn", "empty"],
-        &["lincheck", "check", "--keyed", "a.edn"],
+        &["lincheck", "edit", "a.edn", "b.edn"],
         &["lincheck", "check", "--kind", "stack", "a.edn"],
         &["lincheck", "check", "--budget", "0", "a.edn"],
         &["lincheck", "check", "--budget", "1000001", "a.edn"],
@@ -71,7 +71,6 @@ fn what_could_not_be_told_failed(rt: HostRuntime) {
 
 #[test]
 fn runs_end_as_the_line_says(rt: HostRuntime) -> Result<(), Fail> {
-    let file = b"#{} {:process".as_slice();
     let settings = Settings {
         kind: Kind::Mutex,
         keyed: false,
@@ -86,7 +85,8 @@ fn runs_end_as_the_line_says(rt: HostRuntime) -> Result<(), Fail> {
     let ending = run(
         rt.alloc(),
         verified,
-        &mut Counted::new(file),
+        &mut Counted::new(b"#{} {:process".as_slice()),
+        &mut Counted::new(b"ask".as_slice()),
         &mut Counted::new(&mut printed),
     );
     assert_eq!(rt; ending, refused);
@@ -94,11 +94,38 @@ fn runs_end_as_the_line_says(rt: HostRuntime) -> Result<(), Fail> {
     let ending = run(
         rt.alloc(),
         checked,
-        &mut Counted::new(file),
+        &mut Counted::new(b"#{} {:process".as_slice()),
+        &mut Counted::new(b"ask".as_slice()),
         &mut Counted::new(&mut printed),
     );
     assert_eq!(rt; ending, refused);
     let lines = b"refused input event 1 NotAMap at 0\nrefused input event 1 NotAMap at 0\n";
+    assert!(rt; printed.as_slice() == lines.as_slice());
+    Ok(())
+}
+
+#[test]
+fn commands_are_carried_out(rt: HostRuntime) -> Result<(), Fail> {
+    let settings = Settings {
+        kind: Kind::Register,
+        keyed: false,
+        budget: 65_536,
+    };
+    let file = b"{:process 0 :type :invoke :f :read} {:process 0 :type :ok :f :read :value 1} ";
+    let mut printed = Vec::new(rt.alloc());
+    let ending = run(
+        rt.alloc(),
+        Line::Edit(settings, Some("a.edn")),
+        &mut Counted::new(file.as_slice()),
+        &mut Counted::new(b"pull\nask\nfrob".as_slice()),
+        &mut Counted::new(&mut printed),
+    );
+    let wanted = Ending {
+        status: 1,
+        fault: None,
+    };
+    assert_eq!(rt; ending, wanted);
+    let lines = b"ok 2\nno prefix 2\nrefused command 1 UnknownCommand\n";
     assert!(rt; printed.as_slice() == lines.as_slice());
     Ok(())
 }

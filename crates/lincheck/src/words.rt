@@ -1,5 +1,5 @@
 //! What a command line says.
-ghost use Rattle.std.specs.Prelude.{◌≡◌};
+ghost use Rattle.std.specs.Prelude.{◌≡◌, option_map};
 ghost use Rattle.lincheck.specs.Exit.{file_of};
 
 use lin_report::Settings;
@@ -11,16 +11,18 @@ pub enum Line<'a> {
     Verify(Settings, &'a str, &'a str),
     /// Decide whether a file's history is linearizable: the file's name.
     Check(Settings, &'a str),
+    /// Carry out commands on a history: the name of the file that is pulled from, if there is one.
+    Edit(Settings, Option<&'a str>),
 }
 
 impl<'a> Line<'a> {
-    /// The file's name.
-    pub fn path(&self) -> &'a str
-        ensures { result.now ≡ file_of self.now }
+    /// The file's name, if there is one.
+    pub fn path(&self) -> Option<&'a str>
+        ensures { option_map (λ name. name.now) result ≡ file_of self.now }
     {
         match self {
-            Line::Verify(_, path, _) => path,
-            Line::Check(_, path) => path,
+            Line::Verify(_, path, _) | Line::Check(_, path) => Some(*path),
+            Line::Edit(_, path) => *path,
         }
     }
 }

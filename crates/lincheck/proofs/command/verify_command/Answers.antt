@@ -2,16 +2,17 @@ use Rattle.std.proofs.Common.{ap, ap₂, codes, ◌||◌, ◌≡◌, ◌∙◌}
 use Rattle.std.proofs.lemmas.Result.{IfOk-weaker}
 use Rattle.clap.specs.Words.{app_of, new_app, with_rule}
 use Rattle.clap.specs.Simple.{app_of_fields}
+use Rattle.lincheck.specs.Program.{with_options}
+use Rattle.clap.specs.declared.builder.value_parser.ValueParser.TheVariants.{Names}
 use Rattle.lincheck.proofs.command.verify_command.Goals as goal
 
 pub returns : goal.returns
 returns c =
     let begun : app_of c.about.result ≡ new_app (codes "verify") = ap app_of_fields c.about.ensures ∙ c.new.ensures.app in
     let filed = c.in_ok-arg.ensures.shape c.file_argument.ensures.local ∙ ap₂ with_rule begun c.file_argument.ensures.rule in
-    let ordered = c.in_ok-arg-2.ensures.shape c.order_argument.ensures.local ∙ ap₂ with_rule filed c.order_argument.ensures.rule in
-    let kinded = c.in_ok-arg-3.ensures.shape c.kind_option.ensures.local.1 ∙ ap₂ with_rule ordered c.kind_option.ensures.rule in
-    let local = c.in_ok-arg-3.ensures.globals ∙ ap₂ (λ a b. a || b) (c.in_ok-arg-2.ensures.globals ∙ ap₂ (λ a b. a || b) (c.in_ok-arg.ensures.globals ∙ ap₂ (λ a b. a || b) (ap (λ f. f.has_globals) c.about.ensures ∙ c.new.ensures.local) c.file_argument.ensures.local) c.order_argument.ensures.local) c.kind_option.ensures.local.1 in
+    let ordered = c.in_ok-command.ensures.shape c.order_argument.ensures.local ∙ ap₂ with_rule filed c.order_argument.ensures.rule in
+    let local = c.in_ok-command.ensures.globals ∙ ap₂ (λ a b. a || b) (c.in_ok-arg.ensures.globals ∙ ap₂ (λ a b. a || b) (ap (λ f. f.has_globals) c.about.ensures ∙ c.new.ensures.local) c.file_argument.ensures.local) c.order_argument.ensures.local in
     record {
-      app = IfOk-weaker c.arg-4.result _ _ (λ command h. h.shape c.keyed_option.ensures.local.1 ∙ ap₂ with_rule kinded c.keyed_option.ensures.rule) c.arg-4.ensures;
-      local = IfOk-weaker c.arg-4.result _ _ (λ command h. h.globals ∙ ap₂ (λ a b. a || b) local c.keyed_option.ensures.local.1) c.arg-4.ensures;
+      app = IfOk-weaker c.with_options.result _ _ (λ command h. h ∙ ap (with_options (Names c.args.kinds)) ordered) c.with_options.ensures.app;
+      local = IfOk-weaker c.with_options.result _ _ (λ command h. h ∙ local) c.with_options.ensures.local;
     }

@@ -2,6 +2,7 @@ use Rattle.std.proofs.Common.{◌≡◌, ◌*◌, ◌/◌, ◌≤◌, ◌⊎◌,
 use Rattle.lin_chain.specs.declared.chain.End.{End}
 use Rattle.lin_chain.specs.declared.chain.End.TheVariants.{Dead, Over}
 use Rattle.lin_chain.proofs.Replaying.{take_alike}
+use Rattle.lin_chain.proofs.Budgets.{left_fewer}
 use Rattle.lin_chain.proofs.Chaining.{checkpoint_before, right_alike, right_alive, right_fewer}
 use Rattle.lin_chain.proofs.chain.Chain.cut.Goals as goal
 use Rattle.lin_chain.proofs.chain.Chain.cut.Goals.{in_default-via-in_default, in_default-via-in-Dead+else-at-local}
@@ -11,6 +12,9 @@ returns-then-self-local-clause-right c = λ h edited right same. right_alike c.a
 
 pub returns-in-Dead-clause-right : goal.returns-in-Dead-clause-right
 returns-in-Dead-clause-right c = λ h edited right same. right_fewer c.args.self.now h edited c.args.local c.in-Dead.at c.if-self-local.false c.if-at-local.true same c.in-Dead.is right
+
+pub returns-in-Dead-clause-left : goal.returns-in-Dead-clause-left
+returns-in-Dead-clause-left c = λ budget. left_fewer budget c.args.local c.in-Dead.at c.args.self.now c.if-self-local.false c.if-at-local.true c.in-Dead.is
 
 -- a chain is dead or over at one place
 one_place : (end : End) (a b : ℕ) → (end ≡ Dead a) ⊎ (end ≡ Over a) → (end ≡ Dead b) ⊎ (end ≡ Over b) → a ≡ b

@@ -1,13 +1,12 @@
-use Rattle.std.proofs.Common.{◌≡◌, Contains, subst, sym, ◌∙◌, arith, to_z, of_z, w64}
-use Rattle.std.proofs.lemmas.Int.{to_z-of_z}
-use Rattle.std.proofs.lemmas.Option.{slice_get_within}
-use Rattle.lin_order.specs.Linearizable.{IsLegalOrderFor}
+use Rattle.lin_objects.specs.Kinds.{kind_of}
+use Rattle.lin_session.specs.Edits.{Present}
+use Rattle.lin_session.proofs.Scopes.{IsAnswer-yes}
 use Rattle.lin_session.proofs.kept.Objects.ask.Goals as goal
 
-pub returns-in-None-clause-answer : goal.returns-in-None-clause-answer
-returns-in-None-clause-answer c = λ kinds kept fine.
+pub returns-in_ok-order-in-Yes-clause-answer : goal.returns-in_ok-order-in-Yes-clause-answer
+returns-in_ok-order-in-Yes-clause-answer c =
+    let K = kind_of c.args.kinds.now in
     let h = c.args.events.now in
-    let is_key : to_z w64 (of_z w64 c.args.key) ≡ c.args.key = to_z-of_z w64 c.args.key c.ranges.key in
-    subst (IsLegalOrderFor kinds c.args.key h) (sym c.new.ensures.items) (c.absent_keys_are_legal.ensures kinds h c.args.key (λ at event stands same.
-    let below = slice_get_within h at event stands in
-    c.in-None.ensures.none (subst (Contains c.args.self.now.keys.keys) (same ∙ sym is_key) (kept.known at event (omega (arith, below, c.requires.split)) stands))))
+    let now : Present = record { history = h; kinds = c.args.kinds.now; budget = c.args.budget } in
+    IsAnswer-yes now c.args.scope c.in_ok-order-in-Yes.field-0 c.requires.well_formed
+    (c.in_ok-order-in-Yes.ensures K h c.judge.ensures.right c.in_ok-judge.ensures.split c.requires.well_formed)

@@ -1,18 +1,34 @@
-use Rattle.std.proofs.Common.{◌≡◌, ◌<◌, ◌+◌, inl, inr, ℤ, pos, Some, ◌++◌, ◌∷◌, [], length, slice_get, get_or, take, sym, ap, subst, ◌∙◌, arith, add-one}
+use Rattle.std.proofs.Common.{◌≡◌, ◌<◌, ◌+◌, inl, inr, ℤ, pos, Some, ◌++◌, ◌∷◌, [], length, slice_get, get_or, take, sym, ap, subst, ◌∙◌, arith, add-one, suc}
 use Rattle.std.proofs.lemmas.Bool.{cases_order}
 use Rattle.std.proofs.lemmas.List.{take_all}
 use Rattle.std.proofs.lemmas.Option.{slice_get-get_or}
-use Rattle.lin_session.specs.Judgements.{AreFound, least}
-use Rattle.lin_session.proofs.Lists.{take_next}
+use Rattle.lin_session.specs.Judgements.{AreFound}
+use Rattle.lin_session.specs.Work.{least}
+use Rattle.lin_session.specs.declared.kept.Object.{Object}
+use Rattle.lin_session.specs.Costs.{cost_of_all, IsSettled}
+use Rattle.lin_session.proofs.Costing.{cost-next, cost-first}
+use Rattle.lin_session.proofs.Found.{not_ok}
+use Rattle.lin_history.proofs.Lists.{take_next}
+use Rattle.lin_session.proofs.Lists.{element_at, All-at}
 use Rattle.lin_session.proofs.Wholes.{AreFound-more, least_none}
 use Rattle.lin_session.proofs.kept.Objects.judge_all.Goals as goal
-use Rattle.lin_session.proofs.kept.Objects.judge_all.Goals.{In_ok-found}
+use Rattle.lin_session.proofs.kept.Objects.judge_all.Goals.{In_ok-found, In-loop-i}
 
-pub judge-requires-clause-right : goal.judge-requires-clause-right
-judge-requires-clause-right c = let r = c.requires.right in (r.0, c.loop-i.invariant.right r.0 r.1, r.2)
+pub judge_listed-requires-clause-right : goal.judge_listed-requires-clause-right
+judge_listed-requires-clause-right c = let r = c.requires.right in (r.0, c.loop-i.invariant.right r.0 r.1, r.2)
 
 pub returns-in_err-found-clause-right : goal.returns-in_err-found-clause-right
-returns-in_err-found-clause-right c = λ kinds kept. c.judge.ensures.right kinds (c.loop-i.invariant.right kinds kept)
+returns-in_err-found-clause-right c = λ kinds kept. c.judge_listed.ensures.right kinds (c.loop-i.invariant.right kinds kept)
+
+-- the next object stands as it stood at first
+next : (c : In-loop-i) → (o : Object) × (slice_get c.loop-i.self.objects.items c.loop-i.i ≡ Some o) × (slice_get c.args.self.now.objects.items c.loop-i.i ≡ Some o)
+next c =
+    let inv = c.loop-i.invariant in
+    let same = ap (λ k. length k.keys) inv.keys in
+    let within : c.loop-i.i < length c.loop-i.self.objects.items =
+    omega (arith, c.loop-i-test.true, c.len-i-end.ensures, same, c.loop-i.self.aligned, c.args.self.now.objects.ok.0, c.args.self.now.aligned) in
+    let o = element_at c.loop-i.self.objects.items c.loop-i.i within in
+    (o.0, o.1, inv.behind c.loop-i.i o.0 (omega arith) o.1)
 
 pub loop-i-preserved : goal.loop-i-preserved
 loop-i-preserved c =
@@ -26,9 +42,16 @@ loop-i-preserved c =
     let f = c.loop-i.failing in
     let o = c.loop-i.over in
     record {
-      keys = c.judge.ensures.keys ∙ inv.keys;
-      split = c.judge.ensures.split ∙ inv.split;
-      right = λ kinds kept. c.judge.ensures.right kinds (inv.right kinds kept);
+      keys = c.judge_listed.ensures.keys ∙ inv.keys;
+      scans = c.judge_listed.ensures.scans ∙ inv.scans;
+      steps =
+          let n = next (goal.at.loop-i-preserved c).In-loop-i in
+          let more = cost-next c.args.budget c.args.self.now.objects.items i n.0 n.2 in
+          let one = ap (λ m. cost_of_all c.args.budget (take m c.args.self.now.objects.items)) (add-one i) in
+          omega (arith, inv.steps, c.judge_listed.ensures.steps n.0 n.1, more, one);
+      behind = λ j object below object_at. inv.behind j object (omega (arith, below)) (c.judge_listed.ensures.others j object (λ e. omega (arith, e, below)) object_at);
+      split = c.judge_listed.ensures.split ∙ inv.split;
+      right = λ kinds kept. c.judge_listed.ensures.right kinds (inv.right kinds kept);
       found = λ kinds kept fine.
           let key_now = subst (λ k. slice_get k.keys i ≡ Some key) (sym inv.keys) key_at in
           let finding = c.in_ok-found.ensures.found kinds key key_now (inv.right kinds kept) fine in
@@ -41,9 +64,9 @@ loop-i-preserved c =
           let a = least_none f c.in_ok-found.found.0 (sym c.least_of-failing.ensures ∙ none_failing) in
           let b = least_none o c.in_ok-found.found.1 (sym c.least_of-over.ensures ∙ none_over) in
           elim (cases_order j i) [
-            | inl here ↦ c.in_ok-found.ensures.alive a.1 b.1 object (ap (slice_get c.judge.new.self.objects.items) (sym here) ∙ object_at)
+            | inl here ↦ c.in_ok-found.ensures.alive a.1 b.1 object (ap (slice_get c.judge_listed.new.self.objects.items) (sym here) ∙ object_at)
             | inr rest ↦ elim rest [
-              | inl before ↦ inv.alive a.0 b.0 j object before (c.judge.ensures.others j object (λ e. omega (arith, e, before)) object_at)
+              | inl before ↦ inv.alive a.0 b.0 j object before (c.judge_listed.ensures.others j object (λ e. omega (arith, e, before)) object_at)
               | inr after ↦ absurd (omega (arith, after, below))
             ]
           ];
@@ -61,3 +84,25 @@ returns-clause-alive c = λ none_failing none_over k d within.
     c.loop-i.invariant.alive none_failing none_over k (get_or c.loop-i.self.objects.items k d)
     (omega (arith, within, same, c.loop-i.self.aligned, c.loop-i-test.false, c.len-i-end.ensures, c.args.self.now.objects.ok.0, c.args.self.now.aligned))
     (slice_get-get_or c.loop-i.self.objects.items k d within)
+
+pub returns-clause-scans : goal.returns-clause-scans
+returns-clause-scans c = c.loop-i.invariant.scans
+
+pub returns-in_err-found-clause-scans : goal.returns-in_err-found-clause-scans
+returns-in_err-found-clause-scans c = c.judge_listed.ensures.scans ∙ c.loop-i.invariant.scans
+
+pub returns-in_err-found-clause-steps : goal.returns-in_err-found-clause-steps
+returns-in_err-found-clause-steps c =
+    let n = next (goal.at.returns-in_err-found-clause-steps c).In-loop-i in
+    let objects = c.args.self.now.objects.items in
+    let more = cost-next c.args.budget objects c.loop-i.i n.0 n.2 in
+    let all = cost-first c.args.budget objects (suc c.loop-i.i) in
+    omega (arith, c.loop-i.invariant.steps, c.judge_listed.ensures.steps n.0 n.1, more, all)
+
+pub returns-in_err-found-clause-settled : goal.returns-in_err-found-clause-settled
+returns-in_err-found-clause-settled c = λ all.
+    let n = next (goal.at.returns-in_err-found-clause-settled c).In-loop-i in
+    absurd (not_ok c.judge_listed.result c.in_err-found.field-0.0 c.in_err-found.was (c.judge_listed.ensures.settled n.0 n.1 (All-at (IsSettled c.args.budget) c.args.self.now.objects.items all c.loop-i.i n.0 n.2)))
+
+pub returns-clause-steps : goal.returns-clause-steps
+returns-clause-steps c = omega (arith, c.loop-i.invariant.steps, cost-first c.args.budget c.args.self.now.objects.items c.loop-i.i)

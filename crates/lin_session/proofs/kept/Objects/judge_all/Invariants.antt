@@ -1,8 +1,9 @@
-use Rattle.std.proofs.Common.{◌≡◌, ◌<◌, ℕ, ℤ, None, Some, take, slice_get}
+use Rattle.std.proofs.Common.{◌≡◌, ◌<◌, ◌≤◌, ◌+◌, ℕ, ℤ, None, Some, take, slice_get}
 use Rattle.lin_history.specs.WellFormed.{IsWellFormed}
 use Rattle.lin_objects.specs.declared.kinds.Kind.{Kind}
 use Rattle.lin_objects.specs.Kinds.{functions_of}
 use Rattle.lin_session.specs.declared.kept.Object.{Object}
+use Rattle.lin_session.specs.Costs.{cost_of_all}
 use Rattle.lin_session.specs.Judgements.{AreFound, IsAlive}
 use Rattle.lin_session.specs.Objects.{AreRight, split_in}
 use Rattle.lin_session.proofs.kept.Objects.judge_all.Given as goal
@@ -10,6 +11,9 @@ use Rattle.lin_session.proofs.kept.Objects.judge_all.Given as goal
 abbrev pub invariant-loop-i : goal.invariant-loop-i
 invariant-loop-i l = record {
   keys : l.self.keys ≡ l.initial.self.keys;
+  steps : l.meter.steps ≤ l.initial.meter.steps + cost_of_all l.budget (take l.i l.initial.self.objects.items);
+  behind : (j : ℕ) (object : Object) → l.i ≤ j → slice_get l.self.objects.items j ≡ Some object → slice_get l.initial.self.objects.items j ≡ Some object;
+  scans : l.meter.scans ≡ l.initial.meter.scans;
   split : split_in l.self ≡ split_in l.initial.self;
   right : (kinds : ℤ → Kind) → AreRight l.initial.self kinds l.events → AreRight l.self kinds l.events;
   found : (kinds : ℤ → Kind) → AreRight l.initial.self kinds l.events → IsWellFormed (functions_of kinds) l.events → AreFound kinds l.budget l.events (take l.i l.initial.self.keys.keys) l.failing l.over;

@@ -7,7 +7,8 @@ use Rattle.lin_order.specs.declared.placed.Placed.{Placed}
 use Rattle.lin_order.specs.Linearizable.{IsLegalOrderFor}
 use Rattle.lin_order.specs.Merging.{lists_of}
 use Rattle.lin_session.proofs.Asking.{right_for, order_told}
-use Rattle.lin_session.proofs.Lists.{take_next, zip_push}
+use Rattle.lin_history.proofs.Lists.{take_next}
+use Rattle.lin_session.proofs.Lists.{zip_push}
 use Rattle.lin_session.proofs.kept.Objects.orders.Goals as goal
 
 pub order-requires-clause-right : goal.order-requires-clause-right

@@ -11,7 +11,13 @@ loop-self-preserved c =
     let stands : slice_get events c.loop-self.self.split ≡ Some event =
     slice_get_read events (length events) c.loop-self.self.split event refl (omega (arith, c.loop-self-test.true)) c.index-events-self.is in
     let is_key : to_z w64 (of_z w64 event.key) ≡ event.key = to_z-of_z w64 event.key (search rules) in
-    c.in_ok-split_next.ensures.next (kind_of c.args.kinds.now) events event stands (sym is_key) (sym c.of.ensures) c.loop-self.invariant
+    record {
+      right = c.in_ok-split_next.ensures.next (kind_of c.args.kinds.now) events event stands (sym is_key) (sym c.of.ensures) c.loop-self.invariant.right;
+      apart = λ all. absurd (omega (arith, c.loop-self.invariant.apart all, c.loop-self-test.true));
+    }
 
 pub returns-in_err-split_next-clause-right : goal.returns-in_err-split_next-clause-right
-returns-in_err-split_next-clause-right c = c.in_err-split_next.ensures.same (kind_of c.args.kinds.now) c.args.events.now c.loop-self.invariant
+returns-in_err-split_next-clause-right c = c.in_err-split_next.ensures.same (kind_of c.args.kinds.now) c.args.events.now c.loop-self.invariant.right
+
+pub returns-in_err-split_next-clause-apart : goal.returns-in_err-split_next-clause-apart
+returns-in_err-split_next-clause-apart c = λ all. absurd (omega (arith, c.loop-self.invariant.apart all, c.loop-self-test.true))

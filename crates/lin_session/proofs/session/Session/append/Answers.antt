@@ -1,3 +1,8 @@
+use Rattle.std.proofs.Common.{◌∙◌, ap, sym, subst, length, Some, min, arith}
+use Rattle.lin_wellformed.specs.Scans.{ready_count}
+use Rattle.lin_session.specs.Sessions.{AreTakenIn}
+use Rattle.lin_session.specs.Work.{least}
+use Rattle.lin_session.proofs.Low.{some_left, AreTakenIn-edit}
 use Rattle.std.proofs.Common.{◌++◌, ◌∷◌, [], append-nil, ◌∙◌, ap, to_z, of_z, w64, rules}
 use Rattle.std.proofs.lemmas.Int.{to_z-of_z}
 use Rattle.lin_session.specs.Objects.{AreRight}
@@ -21,4 +26,11 @@ invariant_of-self-2 c = record {
       let came : AreRight c.put_in.new.self (kind_of c.self.inside.kinds) (h ++ c.args.event ∷ []) =
       c.put_in.ensures.right (kind_of c.self.inside.kinds) h c.args.event (sym is_key) ahead (subst (AreRight c.self.inside.objects (kind_of c.self.inside.kinds)) (sym (append-nil h)) c.self.invariant.kept) in
       subst (AreRight c.put_in.new.self (kind_of c.self.inside.kinds)) (sym (c.push_reserved.ensures.items ∙ ap (λ l. l ++ c.args.event ∷ []) c.reserve.ensures.items)) came;
+  taken_in =
+      let at_end : c.len-2.result ≡ length c.self.inside.events.items = rw (← c.reserve.ensures.items) (omega (arith, c.len-2.ensures, c.reserve.new.self.ok.0)) in
+      let at_end_too : c.len-3.result ≡ length c.self.inside.events.items = rw (← c.reserve.ensures.items) (omega (arith, c.len-3.ensures, c.reserve.new.self.ok.0)) in
+      subst (λ low. AreTakenIn low (ready_count c.cut.new.self) (length c.push_reserved.new.self.items)) (sym (c.least_of-self-inside.ensures ∙ ap (λ n. least c.self.inside.low (Some n)) at_end_too))
+      (AreTakenIn-edit c.self.inside.low (length c.self.inside.events.items) (length c.self.inside.events.items) (ready_count c.self.inside.scan) (ready_count c.cut.new.self) (length c.self.inside.events.items)
+      (length c.push_reserved.new.self.items) (omega arith) (omega arith) (c.cut.ensures.back ∙ ap (λ n. min n (ready_count c.self.inside.scan)) at_end) c.self.invariant.taken_in);
+  apart = λ none. absurd (some_left c.self.inside.low _ (sym c.least_of-self-inside.ensures ∙ none));
 }

@@ -1,3 +1,8 @@
+use Rattle.std.proofs.Common.{◌∙◌, ap, sym, subst, length, Some, arith}
+use Rattle.lin_wellformed.specs.Scans.{ready_count}
+use Rattle.lin_session.specs.Sessions.{AreTakenIn}
+use Rattle.lin_session.specs.Work.{least, rounded}
+use Rattle.lin_session.proofs.Low.{some_left, AreTakenIn-edit, rounded_below}
 use Rattle.std.specs.Prelude.{remove}
 use Rattle.lin_session.specs.Objects.{AreRight}
 use Rattle.std.proofs.Common.{arith, sym, subst}
@@ -13,4 +18,7 @@ invariant_of-self c = record {
   kept = subst (AreRight c.leave.new.self (kind_of c.self.inside.kinds)) (sym c.remove.ensures.items)
       (subst (λ l. AreRight c.leave.new.self (kind_of c.self.inside.kinds) (remove l c.args.at)) c.deref.ensures.value
       (c.leave.ensures.right (kind_of c.self.inside.kinds) (subst (AreRight c.self.inside.objects (kind_of c.self.inside.kinds)) (sym c.deref.ensures.value) c.self.invariant.kept)));
+  taken_in = subst (λ low. AreTakenIn low (ready_count c.cut.new.self) (length c.remove.new.self.items)) (sym (c.least_of-self-inside.ensures ∙ ap (λ n. least c.self.inside.low (Some n)) c.round_down.ensures))
+      (AreTakenIn-edit c.self.inside.low (rounded c.args.at) c.args.at (ready_count c.self.inside.scan) (ready_count c.cut.new.self) (length c.self.inside.events.items) (length c.remove.new.self.items) (rounded_below c.args.at) (omega (arith, c.if-at-len.false, c.len.ensures, c.self.inside.events.ok.0)) c.cut.ensures.back c.self.invariant.taken_in);
+  apart = λ none. absurd (some_left c.self.inside.low _ (sym c.least_of-self-inside.ensures ∙ none));
 }

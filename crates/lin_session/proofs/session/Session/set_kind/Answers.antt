@@ -1,3 +1,5 @@
+use Rattle.std.proofs.Common.{sym, arith}
+use Rattle.std.proofs.lemmas.Option.{none-some}
 use Rattle.std.proofs.Common.{to_z, of_z, w64, ◌≡◌}
 use Rattle.std.proofs.lemmas.Int.{to_z-of_z}
 use Rattle.lin_session.proofs.Before.{AgreeBefore-none}
@@ -12,4 +14,6 @@ invariant_of-self-2 c = record {
   kept =
       let is_key : to_z w64 (of_z w64 c.args.key) ≡ c.args.key = to_z-of_z w64 c.args.key c.ranges.key in
       c.rekind.ensures (kind_of c.self.inside.kinds) (kind_of c.set.new.self) c.self.inside.events.items (λ x. c.in-Ok.ensures.kinds x) c.self.invariant.kept;
+  taken_in = omega arith;
+  apart = λ none. absurd (none-some 0 (sym none));
 }

@@ -1,0 +1,67 @@
+#!/usr/bin/env bash
+# Measures `lincheck edit` on generated histories of one register with five clients, in processor seconds (user and system, the least of
+# three rounds):
+#   1. a question after each of EVENTS appended events, for 4,000 and 40,000 events: microseconds an event;
+#   2. a question after a replaced event: one of the last 1,000 of 100,000 events is replaced by an equal one and the history asked
+#      again, 1,000 times, against the first question on that history;
+#   3. many keys: 1,000,000 events of 100 keys and of 10,000 keys, read and asked once.
+# usage: bench/edit.sh [appends|replaces|keys ..]   (default all three)
+set -eu
+here=$(cd "$(dirname "$0")" && pwd)
+program=$here/../crates/lincheck/out/lincheck
+folder=$(mktemp -d)
+trap 'rm -rf "$folder"' EXIT
+"$here/../lincheck" --help > "$folder/help" 2> "$folder/build" || { cat "$folder/build"; exit 1; }
+[ $# -gt 0 ] || set -- appends replaces keys
+
+seconds() { # file of commands, then the program's words: the least processor time of three runs
+    local TIMEFORMAT='%U %S' commands=$1
+    shift
+    for _ in 1 2 3; do
+        { time "$program" "$@" < "$commands" > "$folder/printed"; } 2>> "$folder/times" || true
+    done
+    awk '{print $1 + $2}' "$folder/times" | sort -n | head -n 1
+    rm "$folder/times"
+}
+
+appends() {
+    echo "| events appended, each followed by a question | s | microseconds an event |"
+    echo "|---|---|---|"
+    for events in 4000 40000; do
+        "$here/generate.sh" "$events" | sed 's/^/append /; a ask' > "$folder/commands"
+        spent=$(seconds "$folder/commands" edit)
+        echo "| $events | $spent | $(awk -v s="$spent" -v n="$events" 'BEGIN { printf "%.1f", s * 1000000 / n }') |"
+    done
+}
+
+replaces() {
+    local events=100000
+    "$here/generate.sh" "$events" > "$folder/history.edn"
+    echo pull > "$folder/pull"
+    printf 'pull\nask\n' > "$folder/first"
+    { cat "$folder/first"; awk -v n="$events" 'NR > n - 1000 { printf "replace %d %s\nask\n", NR - 1, $0 }' "$folder/history.edn"; } > "$folder/replaces"
+    reading=$(seconds "$folder/pull" edit "$folder/history.edn")
+    first=$(seconds "$folder/first" edit "$folder/history.edn")
+    again=$(seconds "$folder/replaces" edit "$folder/history.edn")
+    echo "| $events events | s |"
+    echo "|---|---|"
+    awk -v r="$reading" -v f="$first" -v a="$again" 'BEGIN {
+        printf "| first question | %.3f |\n| one event replaced and asked again (mean of 1,000) | %.6f |\n| first / again | %.0f |\n", f - r, (a - f) / 1000, (f - r) * 1000 / (a - f) }'
+    tail -n 1 "$folder/printed"
+}
+
+keys() {
+    printf 'pull\nask\n' > "$folder/first"
+    echo pull > "$folder/pull"
+    echo "| 1,000,000 events | read s | first question s |"
+    echo "|---|---|---|"
+    for count in 100 10000; do
+        awk -v keys="$count" 'BEGIN { for (i = 0; i < 500000; i++) { key = i % keys; p = i % 50; v = int(i / keys) % 5
+            printf "{:process %d, :type :invoke, :f :write, :value [%d %d]}\n{:process %d, :type :ok, :f :write, :value [%d %d]}\n", p, key, v, p, key, v } }' > "$folder/keys.edn"
+        reading=$(seconds "$folder/pull" edit --keyed "$folder/keys.edn")
+        all=$(seconds "$folder/first" edit --keyed "$folder/keys.edn")
+        echo "| $count keys | $reading | $(awk -v a="$all" -v r="$reading" 'BEGIN { printf "%.3f", a - r }') |"
+    done
+}
+
+for part in "$@"; do "$part"; done

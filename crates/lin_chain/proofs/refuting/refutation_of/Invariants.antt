@@ -1,0 +1,7 @@
+use Rattle.std.proofs.Common.{◌≡◌}
+use Rattle.lin_order.specs.Parts.{events_at}
+use Rattle.lin_chain.specs.Refuting.{AreBuilt}
+use Rattle.lin_chain.proofs.refuting.refutation_of.Given as goal
+
+abbrev pub invariant-loop-at : goal.invariant-loop-at
+invariant-loop-at l = (l.builder.object.kind ≡ l.fn.kind) × AreBuilt l.builder (events_at l.events l.picks) l.at

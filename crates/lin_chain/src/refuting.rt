@@ -1,0 +1,163 @@
+//! Refutations of histories that have no legal order: all configurations of each beginning.
+ghost use Rattle.std.specs.Prelude.{◌≡◌, ◌+◌, ◌<◌, ℕ, ℤ, Bool, List, All, IfOk, OnOk, Ok, None, Some, length, take};
+ghost use Rattle.std.specs.Map.{keys_of};
+ghost use Rattle.lin_history.specs.declared.calls.Name.{Name as NameOf};
+ghost use Rattle.lin_history.specs.declared.events.Event.{Event as EventOf};
+ghost use Rattle.lin_history.specs.Operations.{IsEvent};
+ghost use Rattle.lin_history.specs.WellFormed.{IsWellFormed};
+ghost use Rattle.lin_objects.specs.Steps.{Step as StepOf, start as start_of};
+ghost use Rattle.lin_order.specs.Parts.{events_at};
+ghost use Rattle.lin_order.specs.Refutations.{IsRefutation, sets_of};
+ghost use Rattle.lin_frontier.specs.Frontiers.{IsOver};
+ghost use Rattle.lin_chain.specs.Ends.{IsDeadAt};
+ghost use Rattle.lin_chain.specs.Refuting.{AreBuilt};
+ghost use Rattle.lin_chain.specs.Replays.{IsLinearizableAs};
+
+use crate::replay::Taken;
+use lin_frontier::{
+    Config, Frontier, Nodes, Open, Step, nothing_is_open_at_first, take_in as take_in_open,
+};
+use lin_history::{Event, Meter, OutOfMemory, Reply, beginnings_are_well_formed};
+use lin_objects::{Any, Kind, SeqObject, State};
+use lin_order::{RefConfig, Refutation, exact_sets_refute, prefixes_are_linearizable_by};
+use std::alloc::Global;
+
+/// All configurations of each beginning of some events, so far.
+#[derive(Drop)]
+pub(crate) struct Builder {
+    object: Any,
+    nodes: Nodes,
+    pending: Vec<Open>,
+    frontier: Frontier<Any>,
+    sets: Vec<Vec<RefConfig>>,
+}
+
+fn copy_of(alloc: Global, pairs: &[(u64, Reply)]) -> Result<Vec<(u64, Reply)>, OutOfMemory>
+    ensures { IfOk result (λ copy. copy.items ≡ pairs.now) }
+{
+    let mut copy = Vec::new(alloc);
+    for pair in pairs {
+        copy.push((pair.0, pair.1.copy(alloc)?))?;
+    }
+    Ok(copy)
+}
+
+fn config_of(alloc: Global, object: &Any, config: &Config<State>) -> Result<RefConfig, OutOfMemory>
+    ensures { IfOk result (λ member. member ≡ config.now) }
+{
+    Ok(RefConfig {
+        state: object.copy_state(alloc, config.state())?,
+        placed: copy_of(alloc, config.placed())?,
+    })
+}
+
+/// The configurations of a frontier, without their nodes.
+fn set_of(
+    alloc: Global,
+    object: &Any,
+    frontier: &Frontier<Any>,
+) -> Result<Vec<RefConfig>, OutOfMemory>
+    ensures { IfOk result (λ set. set.items ≡ keys_of frontier.now) }
+{
+    let mut set = Vec::new(alloc);
+    for i in 0..frontier.len() {
+        let Some((config, _)) = frontier.get(i) else {
+            unreachable!()
+        };
+        set.push(config_of(alloc, object, config)?)?;
+    }
+    Ok(set)
+}
+
+impl Builder {
+    /// Of no event.
+    fn new(alloc: Global, kind: Kind) -> Result<Builder, OutOfMemory>
+        ensures kind { IfOk result (λ builder. builder.object.kind ≡ kind) }
+        ensures built { IfOk result (λ builder. (h : List EventOf) → AreBuilt builder h 0) }
+    {
+        nothing_is_open_at_first();
+        let object = Any { kind };
+        let mut nodes = Nodes::new(alloc);
+        let frontier = Frontier::start(alloc, &object, &mut nodes)?;
+        let mut sets = Vec::new(alloc);
+        sets.push(set_of(alloc, &object, &frontier)?)?;
+        Ok(Builder {
+            object,
+            nodes,
+            pending: Vec::new(alloc),
+            frontier,
+            sets,
+        })
+    }
+
+    /// One more event.
+    fn take_in(
+        &mut self,
+        alloc: Global,
+        at: usize,
+        event: &Event,
+        budget: u32,
+    ) -> Result<Taken, OutOfMemory>
+        ensures kind { self.new.object.kind ≡ self.old.object.kind }
+        ensures next { result ≡ Ok Taken.Next → (functions : ℤ → NameOf → Bool) (h : List EventOf) → IsWellFormed functions h → IsEvent h at event.now → AreBuilt self.old h at → AreBuilt self.new h (at + 1) }
+        ensures empty { result ≡ Ok Taken.Empty → (functions : ℤ → NameOf → Bool) (h : List EventOf) → IsWellFormed functions h → IsEvent h at event.now → AreBuilt self.old h at
+            → IsLinearizableAs self.old.object.kind (take (at + 1) h) → ⊥ }
+        ensures over { result ≡ Ok Taken.Over → (functions : ℤ → NameOf → Bool) (h : List EventOf) → IsWellFormed functions h → IsEvent h at event.now → AreBuilt self.old h at
+            → IsOver (start_of self.old.object.kind) (StepOf self.old.object.kind) (take (at + 1) h) budget }
+    {
+        beginnings_are_well_formed();
+        let mut meter = Meter::new();
+        let step = self.frontier.advance_all(
+            alloc,
+            &self.object,
+            self.pending.as_slice(),
+            at,
+            event,
+            budget,
+            &mut self.nodes,
+            &mut meter,
+        )?;
+        match step {
+            Step::Next(next) => {
+                take_in_open(&mut self.pending, at, event)?;
+                self.sets.push(set_of(alloc, &self.object, &next)?)?;
+                self.frontier = next;
+                Ok(Taken::Next)
+            }
+            Step::Empty => Ok(Taken::Empty),
+            Step::Over => Ok(Taken::Over),
+        }
+    }
+}
+
+/// A refutation of the object's events up to and with the one at which they are dead; none where an earlier beginning has more
+/// configurations than the budget.
+pub(crate) fn refutation_of(
+    alloc: Global,
+    kind: Kind,
+    events: &[Event],
+    picks: &[usize],
+    dead: usize,
+    budget: u32,
+) -> Result<Option<Refutation>, OutOfMemory>
+    requires dead { IsDeadAt kind (events_at events.now picks.now) dead }
+    requires place { dead < length picks.now }
+    requires inside { All (λ at. at < length events.now) picks.now }
+    requires well_formed { (functions : ℤ → NameOf → Bool) × IsWellFormed functions (events_at events.now picks.now) }
+    ensures refuted { (refutation : Refutation) → result ≡ Ok (Some refutation) → IsRefutation (take (dead + 1) (events_at events.now picks.now)) kind (sets_of refutation) }
+    ensures over { result ≡ Ok None → (n : ℕ) × IsOver (start_of kind) (StepOf kind) (take n (events_at events.now picks.now)) budget }
+{
+    exact_sets_refute();
+    beginnings_are_well_formed();
+    prefixes_are_linearizable_by(&Any { kind });
+    let mut builder = Builder::new(alloc, kind)?;
+    for at in 0..dead {
+        match builder.take_in(alloc, at, &events[picks[at]], budget)? {
+            Taken::Next => {}
+            Taken::Over => return Ok(None),
+            Taken::Empty => unreachable!(),
+        }
+    }
+    builder.sets.push(Vec::new(alloc))?;
+    Ok(Some(Refutation { sets: builder.sets }))
+}

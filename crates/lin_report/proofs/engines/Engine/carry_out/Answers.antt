@@ -1,0 +1,22 @@
+use Rattle.std.proofs.Common.{◌∙◌}
+use Rattle.lin_report.proofs.engines.Engine.carry_out.Goals as goal
+
+pub returns-in-Err-clause-cut : goal.returns-in-Err-clause-cut
+returns-in-Err-clause-cut g c = λ before line stands holds.
+    let m = c.in_ok-reply.ensures.reply line (c.as_slice.ensures.value ∙ holds) before stands in
+    let part = rw c.as_slice-2.ensures.value at c.in-Err.ensures.beginning in
+    (m.0, c.in_ok-reply.reply.text.items, c.in_ok-reply.reply.status, m.2, m.1.left_is, part)
+
+pub returns-clause-done : goal.returns-clause-done
+returns-clause-done g c = λ before line stands holds.
+    let m = c.in_ok-reply.ensures.reply line (c.as_slice.ensures.value ∙ holds) before stands in
+    record {
+      after = m.0;
+      reply = c.in_ok-reply.reply.text.items;
+      answer = c.in_ok-reply.reply.status;
+      stands = m.1;
+      replies = m.2;
+      written = rw c.as_slice-2.ensures.value at c.in-Ok.ensures.whole;
+      status = c.or-self.ensures;
+      emptied = c.clear.ensures.items;
+    }

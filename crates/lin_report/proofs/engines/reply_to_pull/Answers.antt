@@ -1,0 +1,16 @@
+use Rattle.std.proofs.Common.{length, ap, ◌∙◌}
+use Rattle.lin_report.specs.Runs.{pull_text}
+use Rattle.lin_report.proofs.engines.reply_to_pull.Goals as goal
+
+pub returns-clause-reply : goal.returns-clause-reply
+returns-clause-reply g c = λ keyed before stands.
+    let p = c.in_ok-refused.ensures.pulled keyed before stands in (
+      p.0,
+      p.1,
+      (
+        c.in_ok-refused.refused,
+        p.2,
+        c.plain.ensures.text ∙ c.in_ok-pull_line.ensures ∙ ap (pull_text c.in_ok-refused.refused) (c.len.ensures ∙ ap (λ n. length n.history) p.1.present_is),
+        c.plain.ensures.status,
+      ),
+    )

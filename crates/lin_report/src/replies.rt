@@ -1,0 +1,147 @@
+//! The replies to commands that read no file.
+ghost use Rattle.std.specs.Prelude.{◌≡◌, ◌≢◌, ◌++◌, None, IfOk, codes};
+ghost use Rattle.lin_report.specs.Runs.{IsCommandReply, IsEditReply, order_answer_text};
+ghost use Rattle.lin_report.specs.Runs as said;
+ghost use Rattle.lin_report.specs.Texts.{edit_fault_text, fault_text};
+
+use crate::answers::{Status, put_number};
+use crate::commands::{Command, CommandFault};
+use crate::reports::report;
+use crate::texts::{put_edit_fault, put_fault, write_order};
+use crate::verdicts::{status_of, verdict_of, verdict_words};
+use lin_history::OutOfMemory;
+use lin_session::{Answer, Edit, EditFault, Scope, Session};
+use std::alloc::{AllocError, Global};
+
+/// What is written for a line, and the status of a run where that is its last answer.
+#[derive(Drop)]
+pub struct Reply {
+    pub text: Vec<u8>,
+    pub status: Option<Status>,
+}
+
+impl Reply {
+    /// A text that is no answer.
+    pub fn plain(text: Vec<u8>) -> Reply
+        ensures text { result.text.items ≡ text.items }
+        ensures status { result.status ≡ None }
+    {
+        Reply { text, status: None }
+    }
+}
+
+/// The line that tells how many events there are.
+pub fn ok_line(alloc: Global, count: usize) -> Result<Vec<u8>, AllocError>
+    ensures { IfOk result (λ line. line.items ≡ said.ok_line count) }
+{
+    let mut line = Vec::from_slice(alloc, b"ok ")?;
+    put_number(&mut line, count as u64)?;
+    line.push(b'\n')?;
+    Ok(line)
+}
+
+/// The line of a refused command.
+fn fault_line(alloc: Global, fault: CommandFault) -> Result<Vec<u8>, AllocError>
+    ensures { IfOk result (λ line. line.items ≡ fault_text fault ++ codes "\n") }
+{
+    let mut line = Vec::new(alloc);
+    put_fault(&mut line, fault)?;
+    line.push(b'\n')?;
+    Ok(line)
+}
+
+/// The reply to a line that is refused.
+pub fn reply_to_fault(alloc: Global, fault: CommandFault) -> Result<Reply, OutOfMemory>
+    ensures { IfOk result (λ reply. (fault ≢ CommandFault.OutOfMemory) × (reply.text.items ≡ fault_text fault ++ codes "\n") × (reply.status ≡ None)) }
+{
+    match fault {
+        CommandFault::OutOfMemory => Err(OutOfMemory),
+        other => Ok(Reply::plain(fault_line(alloc, other)?)),
+    }
+}
+
+/// The line of a refused edit.
+fn edit_fault_line(alloc: Global, fault: EditFault) -> Result<Vec<u8>, AllocError>
+    ensures { IfOk result (λ line. line.items ≡ edit_fault_text fault ++ codes "\n") }
+{
+    let mut line = Vec::new(alloc);
+    put_edit_fault(&mut line, fault)?;
+    line.push(b'\n')?;
+    Ok(line)
+}
+
+/// Makes an edit.
+fn make(alloc: Global, session: &mut Session, edit: Edit) -> Result<Vec<u8>, OutOfMemory>
+    ensures { IfOk result (λ line. IsEditReply edit session.old.present session.new.present line.items) }
+{
+    match session.apply(edit) {
+        Ok(()) => Ok(ok_line(alloc, session.len())?),
+        Err((_, EditFault::OutOfMemory)) => Err(OutOfMemory),
+        Err((_, fault)) => Ok(edit_fault_line(alloc, fault)?),
+    }
+}
+
+/// What is found for the scope.
+fn ask(alloc: Global, session: &mut Session, scope: Scope) -> Result<Reply, OutOfMemory>
+    ensures { IfOk result (λ reply. IsCommandReply (Command.Ask scope) session.old.present session.new.present reply.text.items reply.status) }
+{
+    let verdict = session.judge(alloc, scope)?;
+    let mut text = verdict_words(alloc, verdict)?;
+    text.push(b'\n')?;
+    Ok(Reply {
+        text,
+        status: Some(status_of(verdict)),
+    })
+}
+
+/// The text of an answer, with its order where there is one.
+fn order_words(alloc: Global, answer: &Answer) -> Result<Vec<u8>, OutOfMemory>
+    ensures { IfOk result (λ text. text.items ≡ order_answer_text answer.now) }
+{
+    match answer {
+        Answer::Yes(order) => {
+            let mut text = Vec::from_slice(alloc, b"yes ")?;
+            write_order(order.as_slice(), &mut text)?;
+            Ok(text)
+        }
+        other => Ok(verdict_words(alloc, verdict_of(other))?),
+    }
+}
+
+/// What is found for the scope, with an order.
+fn order(alloc: Global, session: &mut Session, scope: Scope) -> Result<Reply, OutOfMemory>
+    ensures { IfOk result (λ reply. IsCommandReply (Command.Order scope) session.old.present session.new.present reply.text.items reply.status) }
+{
+    let answer = session.ask(alloc, scope)?;
+    let mut text = order_words(alloc, &answer)?;
+    text.push(b'\n')?;
+    Ok(Reply {
+        text,
+        status: Some(status_of(verdict_of(&answer))),
+    })
+}
+
+/// Does what a command says that reads no file.
+pub fn reply_to(
+    alloc: Global,
+    session: &mut Session,
+    command: Command,
+) -> Result<Reply, OutOfMemory>
+    requires { command ≢ Command.Pull }
+    ensures { IfOk result (λ reply. IsCommandReply command session.old.present session.new.present reply.text.items reply.status) }
+{
+    match command {
+        Command::Edit(edit) => Ok(Reply::plain(make(alloc, session, edit)?)),
+        Command::Skipped => Ok(Reply::plain(Vec::from_slice(alloc, b"skipped\n")?)),
+        Command::Ask(scope) => ask(alloc, session, scope),
+        Command::Order(scope) => order(alloc, session, scope),
+        Command::Report => {
+            let answered = report(alloc, session)?;
+            Ok(Reply {
+                text: answered.text,
+                status: Some(answered.status),
+            })
+        }
+        Command::Pull => unreachable!(),
+    }
+}

@@ -1,0 +1,49 @@
+//! Sessions that are told the events of a file.
+ghost use Rattle.std.specs.Prelude.{◌≡◌, ◌<◌, ◌≤◌, ◌∷◌, ◌++◌, [], IfOk, OnOk, length};
+ghost use Rattle.lin_report.specs.Inputs.{limit};
+ghost use Rattle.lin_report.specs.Reports.{opened};
+
+use crate::runs::Settings;
+use lin_history::{Event, OutOfMemory};
+use lin_session::{Edit, EditFault, Session};
+use std::alloc::Global;
+
+/// A session with no event.
+pub fn open(alloc: Global, settings: Settings) -> Session
+    requires { (1 ≤ settings.budget) × (settings.budget ≤ 1000000) }
+    ensures { result.present ≡ opened settings [] }
+{
+    let Ok(session) = Session::new(alloc, settings.kind, settings.budget) else {
+        unreachable!()
+    };
+    session
+}
+
+/// Puts an event last, where there is room.
+pub fn append(session: &mut Session, event: Event) -> Result<(), OutOfMemory>
+    requires { length session.old.present.history < limit }
+    ensures { OnOk result (session.new.present ≡ record session.old.present { history = session.old.present.history ++ event ∷ [] }) }
+{
+    match session.apply(Edit::Append(event)) {
+        Ok(()) => Ok(()),
+        Err((_, EditFault::OutOfMemory)) => Err(OutOfMemory),
+        Err(_) => unreachable!(),
+    }
+}
+
+/// A session with these events.
+pub fn session_of(
+    alloc: Global,
+    settings: Settings,
+    events: Vec<Event>,
+) -> Result<Session, OutOfMemory>
+    requires budget { (1 ≤ settings.budget) × (settings.budget ≤ 1000000) }
+    requires few { length events.items ≤ limit }
+    ensures { IfOk result (λ session. session.present ≡ opened settings events.items) }
+{
+    let mut session = open(alloc, settings);
+    for event in events {
+        append(&mut session, event)?;
+    }
+    Ok(session)
+}

@@ -1,0 +1,80 @@
+use Rattle.std.proofs.Common.{◌≡◌, ℕ, Contains, Some, [], slice_get, subst, sym, ◌∙◌, arith, to_z, of_z, w64}
+use Rattle.std.proofs.lemmas.Int.{to_z-of_z}
+use Rattle.std.proofs.lemmas.Option.{slice_get_within}
+use Rattle.lin_session.specs.declared.answers.Verdict.TheVariants.{Yes}
+use Rattle.lin_session.proofs.Asking.{verdict_told, untold}
+use Rattle.lin_session.proofs.Lists.{element_at, one_place, there_at}
+use Rattle.lin_session.proofs.Found.{not_ok}
+use Rattle.lin_session.specs.declared.kept.Object.{Object}
+use Rattle.lin_session.proofs.kept.Objects.judge_object.Goals as goal
+use Rattle.lin_session.proofs.kept.Objects.judge_object.Goals.{In-Some}
+
+pub returns-in-None-clause-verdict : goal.returns-in-None-clause-verdict
+returns-in-None-clause-verdict c = λ kinds kept fine.
+    let h = c.args.events.now in
+    let is_key : to_z w64 (of_z w64 c.args.key) ≡ c.args.key = to_z-of_z w64 c.args.key c.ranges.key in (
+      [],
+      c.absent_keys_are_legal.ensures kinds h c.args.key (λ at event stands same.
+          let below = slice_get_within h at event stands in
+          c.in-None.ensures.none (subst (Contains c.args.self.now.keys.keys) (same ∙ sym is_key) (kept.known at event (omega (arith, below, c.requires.split)) stands))),
+    )
+
+pub returns-in-None-clause-alive : goal.returns-in-None-clause-alive
+returns-in-None-clause-alive c = λ is_yes i object key_at object_at.
+    let is_key : to_z w64 (of_z w64 c.args.key) ≡ c.args.key = to_z-of_z w64 c.args.key c.ranges.key in
+    absurd (c.in-None.ensures.none (subst (Contains c.args.self.now.keys.keys) (sym is_key) (there_at c.args.self.now.keys.keys i c.args.key key_at)))
+
+pub returns-in_ok-failing-in-Some-clause-verdict : goal.returns-in_ok-failing-in-Some-clause-verdict
+returns-in_ok-failing-in-Some-clause-verdict c = λ kinds kept fine.
+    let is_key : to_z w64 (of_z w64 c.args.key) ≡ c.args.key = to_z-of_z w64 c.args.key c.ranges.key in
+    let key_at = subst (λ k. slice_get c.args.self.now.keys.keys c.in-Some.i ≡ Some k) is_key c.in-Some.ensures.found in
+    verdict_told kinds c.args.budget c.args.events.now c.args.key c.in_ok-failing-in-Some.failing c.in_ok-failing-in-Some.over c.told.result
+    (c.in_ok-failing-in-Some.ensures.found kinds c.args.key key_at kept fine) c.told.ensures
+
+pub returns-in_ok-failing-in-Some-clause-alive : goal.returns-in_ok-failing-in-Some-clause-alive
+returns-in_ok-failing-in-Some-clause-alive c = λ is_yes i object key_at object_at.
+    let keys = c.args.self.now.keys.keys in
+    let is_key : to_z w64 (of_z w64 c.args.key) ≡ c.args.key = to_z-of_z w64 c.args.key c.ranges.key in
+    let found_at = subst (λ k. slice_get keys c.in-Some.i ≡ Some k) is_key c.in-Some.ensures.found in
+    let listed_at = subst (λ k. slice_get k.keys i ≡ Some c.args.key) c.judge_listed.ensures.keys key_at in
+    let here = one_place keys c.requires.right.1.distinct i c.in-Some.i c.args.key listed_at found_at in
+    let told_yes : c.told.result ≡ Yes = cc is_yes in
+    let none = untold c.in_ok-failing-in-Some.failing c.in_ok-failing-in-Some.over c.told.result c.told.ensures told_yes in
+    c.in_ok-failing-in-Some.ensures.alive none.0 none.1 object (subst (λ j. slice_get c.judge_listed.new.self.objects.items j ≡ Some object) here object_at)
+
+-- where the key is listed
+listed_at : (c : In-Some) → slice_get c.args.self.now.keys.keys c.in-Some.i ≡ Some c.args.key
+listed_at c =
+    let is_key : to_z w64 (of_z w64 c.args.key) ≡ c.args.key = to_z-of_z w64 c.args.key c.ranges.key in
+    subst (λ k. slice_get c.args.self.now.keys.keys c.in-Some.i ≡ Some k) is_key c.in-Some.ensures.found
+
+-- an object of the key stands there
+object_there : (c : In-Some) (i : ℕ) (object : Object) → slice_get c.args.self.now.keys.keys i ≡ Some c.args.key → slice_get c.args.self.now.objects.items i ≡ Some object
+    → slice_get c.args.self.now.objects.items c.in-Some.i ≡ Some object
+object_there c i object key_at object_at =
+    let here = one_place c.args.self.now.keys.keys c.requires.right.1.distinct i c.in-Some.i c.args.key key_at (listed_at c) in
+    subst (λ j. slice_get c.args.self.now.objects.items j ≡ Some object) here object_at
+
+pub returns-in_ok-failing-in-Some-clause-steps : goal.returns-in_ok-failing-in-Some-clause-steps
+returns-in_ok-failing-in-Some-clause-steps c = λ i object key_at object_at.
+    c.judge_listed.ensures.steps object (object_there (goal.at.returns-in_ok-failing-in-Some-clause-steps c).In-Some i object key_at object_at)
+
+pub returns-in_err-failing-in-Some-clause-steps : goal.returns-in_err-failing-in-Some-clause-steps
+returns-in_err-failing-in-Some-clause-steps c = λ i object key_at object_at.
+    c.judge_listed.ensures.steps object (object_there (goal.at.returns-in_err-failing-in-Some-clause-steps c).In-Some i object key_at object_at)
+
+pub returns-in_ok-failing-in-Some-clause-idle : goal.returns-in_ok-failing-in-Some-clause-idle
+returns-in_ok-failing-in-Some-clause-idle c = λ absent.
+    absurd (absent (there_at c.args.self.now.keys.keys c.in-Some.i c.args.key (listed_at (goal.at.returns-in_ok-failing-in-Some-clause-idle c).In-Some)))
+
+pub returns-in_err-failing-in-Some-clause-idle : goal.returns-in_err-failing-in-Some-clause-idle
+returns-in_err-failing-in-Some-clause-idle c = λ absent.
+    absurd (absent (there_at c.args.self.now.keys.keys c.in-Some.i c.args.key (listed_at (goal.at.returns-in_err-failing-in-Some-clause-idle c).In-Some)))
+
+pub returns-in_err-failing-in-Some-clause-settled : goal.returns-in_err-failing-in-Some-clause-settled
+returns-in_err-failing-in-Some-clause-settled c = λ all.
+    let s = c.args.self.now in
+    let key_at = listed_at (goal.at.returns-in_err-failing-in-Some-clause-settled c).In-Some in
+    let within = slice_get_within s.keys.keys c.in-Some.i c.args.key key_at in
+    let o = element_at s.objects.items c.in-Some.i (omega (arith, within, s.aligned)) in
+    absurd (not_ok c.judge_listed.result c.in_err-failing-in-Some.field-0.0 c.in_err-failing-in-Some.was (c.judge_listed.ensures.settled o.0 o.1 (all c.in-Some.i o.0 key_at o.1)))

@@ -1,0 +1,57 @@
+use Rattle.std.proofs.Common.{◌≡◌, None, sym, ap, length, subst, ◌∙◌}
+use Rattle.lin_history.specs.WellFormed.{IsShape, IsWellFormed}
+use Rattle.lin_objects.specs.Kinds.{functions_of, kind_of}
+use Rattle.lin_wellformed.specs.Scans.{IsRight, ready_count}
+use Rattle.lin_session.specs.Answers.{kinds_in}
+use Rattle.lin_session.specs.Sessions.{AreTakenIn, Standing}
+use Rattle.lin_session.proofs.Found.{not_ok}
+use Rattle.lin_session.proofs.Low.{AreTakenIn-more}
+use Rattle.lin_session.proofs.session.Session.judge.Goals as goal
+
+pub judge-requires-clause-well_formed : goal.judge-requires-clause-well_formed
+judge-requires-clause-well_formed c =
+    let F = functions_of (kind_of c.self.inside.kinds) in
+    subst (IsShape F c.deref-in-Good.result.now) c.in-Good.is (subst (λ l. IsShape F l c.in_ok-settle.field-0) (c.deref.ensures.value ∙ sym c.deref-in-Good.ensures.value) c.in_ok-settle.ensures.shape)
+
+pub returns-in-Bad-clause-verdict : goal.returns-in-Bad-clause-verdict
+returns-in-Bad-clause-verdict c =
+    let F = functions_of (kind_of c.self.inside.kinds) in
+    rw (← c.self.view_is)
+    (subst (IsShape F c.self.inside.events.items) c.in-Bad.is (subst (λ l. IsShape F l c.in_ok-settle.field-0) c.deref.ensures.value c.in_ok-settle.ensures.shape))
+
+pub invariant_of-self : goal.invariant_of-self
+invariant_of-self c =
+    let scanned = subst (IsRight c.settle.new.self (kind_of c.self.inside.kinds)) c.deref.ensures.value c.settle.ensures.right in
+    record {
+      few = c.self.invariant.few;
+      budgeted = c.self.invariant.budgeted;
+      scanned = scanned;
+      taken_in = AreTakenIn-more c.self.inside.low (ready_count c.self.inside.scan) (ready_count c.settle.new.self) (length c.self.inside.events.items) c.settle.ensures.no_less scanned.within c.self.invariant.taken_in;
+      kept = c.self.invariant.kept;
+      apart = c.self.invariant.apart;
+    }
+
+pub invariant_of-self-in-Bad : goal.invariant_of-self-in-Bad
+invariant_of-self-in-Bad c =
+    let F = functions_of (kind_of c.self.inside.kinds) in
+    let bad = subst (IsShape F c.self.inside.events.items) c.in-Bad.is (subst (λ l. IsShape F l c.in_ok-settle.field-0) c.deref.ensures.value c.in_ok-settle.ensures.shape) in
+    record {
+      few = c.self.invariant.few;
+      budgeted = c.self.invariant.budgeted;
+      scanned = subst (IsRight c.settle.new.self (kind_of c.self.inside.kinds)) c.deref.ensures.value c.settle.ensures.right;
+      taken_in = c.in_ok-settle.ensures.all ∙ ap length c.deref.ensures.value;
+      kept = c.self.invariant.kept;
+      apart = λ none fine. absurd (fine c.in-Bad.at c.in-Bad.cause bad.0);
+    }
+
+pub returns-in_err-settle-clause-known : goal.returns-in_err-settle-clause-known
+returns-in_err-settle-clause-known c = λ none bad.
+    let low : c.self.inside.low ≡ None = ap (λ (s : Standing). s.low) c.self.view_is ∙ none in
+    let all = subst (λ l. AreTakenIn l (ready_count c.self.inside.scan) (length c.self.inside.events.items)) low c.self.invariant.taken_in in
+    absurd (not_ok c.settle.result c.in_err-settle.field-0.0 c.in_err-settle.was (c.settle.ensures.settled (all ∙ ap length (sym c.deref.ensures.value))))
+
+pub returns-in_err-verdict-in-Good-clause-known : goal.returns-in_err-verdict-in-Good-clause-known
+returns-in_err-verdict-in-Good-clause-known c = λ none bad.
+    let F = functions_of (kind_of c.self.inside.kinds) in
+    let fine = subst (IsShape F c.self.inside.events.items) c.in-Good.is (subst (λ l. IsShape F l c.in_ok-settle.field-0) c.deref.ensures.value c.in_ok-settle.ensures.shape) in
+    absurd (bad (subst (λ (s : Standing). IsWellFormed (functions_of (kinds_in s.present)) s.present.history) c.self.view_is fine))

@@ -1,0 +1,132 @@
+//! How much work a question takes after an edit.
+use crate::tests::{make, read, registers, saw, told, write, wrote};
+use crate::{Edit, Scope, Session, Verdict};
+use lin_history::{Event, Val};
+use std::alloc::Global;
+use std::process::Abort;
+use std::test::Fail;
+
+/// So many writes by one client, each with its completion.
+fn writes(
+    rt: &impl Abort,
+    alloc: Global,
+    session: &mut Session,
+    key: i64,
+    count: i64,
+) -> Result<(), Fail> {
+    for value in 0..count {
+        make(rt, session, Edit::Append(write(0, key, value)));
+        make(rt, session, Edit::Append(wrote(0, key)));
+    }
+    let _ = session.judge(alloc, Scope::Whole)?;
+    Ok(())
+}
+
+/// How many steps the next question of the scope takes, and how many scans.
+fn work(alloc: Global, session: &mut Session, scope: Scope) -> Result<(u64, u64), Fail> {
+    let steps = session.meter().steps();
+    let scans = session.meter().scans();
+    let _ = session.ask(alloc, scope)?;
+    Ok((
+        session.meter().steps().saturating_sub(steps),
+        session.meter().scans().saturating_sub(scans),
+    ))
+}
+
+#[test]
+fn what_is_settled_takes_no_work(rt: HostRuntime) -> Result<(), Fail> {
+    let alloc = rt.alloc();
+    let mut session = registers(&rt, alloc, 65_536, &[])?;
+    writes(&rt, alloc, &mut session, 0, 100)?;
+    assert!(rt; work(alloc, &mut session, Scope::Whole)? == (0, 0));
+    assert!(rt; work(alloc, &mut session, Scope::Object(0))? == (0, 0));
+    Ok(())
+}
+
+#[test]
+fn an_event_is_replayed_from_the_checkpoint_before(rt: HostRuntime) -> Result<(), Fail> {
+    let alloc = rt.alloc();
+    let mut session = registers(&rt, alloc, 65_536, &[])?;
+    writes(&rt, alloc, &mut session, 0, 100)?;
+    make(&rt, &mut session, Edit::Replace(130, write(0, 0, 65)));
+    let (steps, scans) = work(alloc, &mut session, Scope::Whole)?;
+    assert!(rt; 0 < steps && steps <= 72);
+    assert!(rt; 0 < scans && scans <= 72);
+    Ok(())
+}
+
+#[test]
+fn one_more_event_is_one_step(rt: HostRuntime) -> Result<(), Fail> {
+    let alloc = rt.alloc();
+    let mut session = registers(&rt, alloc, 65_536, &[])?;
+    writes(&rt, alloc, &mut session, 0, 100)?;
+    make(&rt, &mut session, Edit::Append(write(0, 0, 7)));
+    assert!(rt; work(alloc, &mut session, Scope::Whole)? == (1, 1));
+
+    make(&rt, &mut session, Edit::Truncate(64));
+    make(&rt, &mut session, Edit::Append(write(0, 0, 7)));
+    assert!(rt; work(alloc, &mut session, Scope::Whole)?.0 <= 1);
+    Ok(())
+}
+
+#[test]
+fn an_object_that_is_not_touched_takes_no_step(rt: HostRuntime) -> Result<(), Fail> {
+    let alloc = rt.alloc();
+    let mut session = registers(&rt, alloc, 65_536, &[])?;
+    writes(&rt, alloc, &mut session, 0, 50)?;
+    writes(&rt, alloc, &mut session, 1, 50)?;
+    make(&rt, &mut session, Edit::Replace(70, write(0, 0, 9)));
+    assert!(rt; work(alloc, &mut session, Scope::Object(1))?.0 == 0);
+    assert!(rt; 0 < work(alloc, &mut session, Scope::Object(0))?.0);
+    Ok(())
+}
+
+/// Three writes are open at one object, and another one reads nil after a write.
+fn open_writes_and_a_stale_read() -> [Event; 9] {
+    [
+        write(0, 1, 1),
+        write(1, 1, 2),
+        write(2, 1, 3),
+        write(3, 0, 1),
+        wrote(3, 0),
+        read(3, 0),
+        saw(3, 0, Val::Int(1)),
+        read(3, 0),
+        saw(3, 0, Val::Nil),
+    ]
+}
+
+#[test]
+fn an_object_over_the_budget_hides_a_later_failure(rt: HostRuntime) -> Result<(), Fail> {
+    let alloc = rt.alloc();
+    let mut session = registers(&rt, alloc, 8, &open_writes_and_a_stale_read())?;
+    let undecided = Verdict::Undecided { at: 2 };
+    told(&rt, alloc, &mut session, Scope::Object(1), undecided)?;
+    told(
+        &rt,
+        alloc,
+        &mut session,
+        Scope::Object(0),
+        Verdict::No { prefix: 9 },
+    )?;
+    told(&rt, alloc, &mut session, Scope::Whole, undecided)?;
+    Ok(())
+}
+
+#[test]
+fn a_larger_budget_goes_on_where_it_was_over(rt: HostRuntime) -> Result<(), Fail> {
+    let alloc = rt.alloc();
+    let mut session = registers(&rt, alloc, 8, &open_writes_and_a_stale_read())?;
+    let _ = session.judge(alloc, Scope::Whole)?;
+    make(&rt, &mut session, Edit::SetBudget(13));
+    assert!(rt; work(alloc, &mut session, Scope::Object(1))?.0 <= 3);
+    told(&rt, alloc, &mut session, Scope::Object(1), Verdict::Yes)?;
+    told(
+        &rt,
+        alloc,
+        &mut session,
+        Scope::Whole,
+        Verdict::No { prefix: 9 },
+    )?;
+    Ok(())
+}

@@ -1,0 +1,355 @@
+#!/usr/bin/env python3
+"""Random edit scripts, judged by a plain enumeration of all orders of the present history.
+
+Each script goes through `lincheck edit`: edits of all six kinds, refused ones among them, with questions in between. The model below
+shares no code with the program. It keeps the history as a list, looks back for well-formedness, and tries every order of every
+prefix, so histories stay small.
+
+usage: tests/edits.py [SCRIPTS] [SEED] [PROGRAM]   (the program has to be built; the last line counts the replies)
+"""
+import os
+import random
+import subprocess
+import sys
+
+KINDS = ['register', 'cas-register', 'fifo', 'set', 'mutex']
+NAMES = {'register': ['read', 'write'], 'cas-register': ['read', 'write', 'cas'], 'fifo': ['enqueue', 'dequeue'],
+         'set': ['read', 'add'], 'mutex': ['acquire', 'release']}
+CAUSES = ['RetiredProcess', 'BusyProcess', 'NotOfKind', 'NoInvocation', 'OtherCall', 'OtherKey']
+START = {'register': None, 'cas-register': None, 'fifo': (), 'set': frozenset(), 'mutex': False}
+
+
+def step(kind, state, name, value):
+    """The next state and the reply, or None where the call isn't enabled. Each call has one outcome at most."""
+    if name not in NAMES[kind]:
+        return None
+    if kind in ('register', 'cas-register'):
+        if name == 'read':
+            return state, ('value', state)
+        if name == 'write':
+            return value, 'done'
+        return (value[1], 'done') if state == value[0] else None
+    if kind == 'fifo':
+        if name == 'enqueue':
+            return state + (value,), 'done'
+        return (state[1:], ('value', state[0])) if state else (state, ('value', None))
+    if kind == 'set':
+        return (state | {value}, 'done') if name == 'add' else (state, ('members', state))
+    if name == 'acquire':
+        return (True, 'done') if not state else None
+    return (False, 'done') if state else None
+
+
+class Event:
+    def __init__(self, process, key, kind_of_event, name, value):
+        self.process, self.key, self.type, self.name, self.value = process, key, kind_of_event, name, value
+
+    def text(self, keyed):
+        value = edn(self.value)
+        return '{:process %d, :type :%s, :f :%s, :value %s}' % (
+            self.process, self.type, self.name, '[%d %s]' % (self.key, value) if keyed else value)
+
+    def reply(self):
+        if self.name == 'dequeue':
+            return 'value', self.value
+        if self.name == 'read':
+            return ('members', frozenset(self.value)) if isinstance(self.value, tuple) else ('value', self.value)
+        return 'done'
+
+
+def edn(value):
+    if value is None:
+        return 'nil'
+    if isinstance(value, tuple):
+        return '[' + ' '.join(edn(v) for v in value) + ']'
+    return str(value)
+
+
+def bad_event(events, kinds):
+    """The least bad position and its cause, by looking back from each position."""
+    for at, event in enumerate(events):
+        last = next((e for e in reversed(events[:at]) if e.process == event.process), None)
+        status = 'idle' if last is None or last.type in ('ok', 'fail') else 'busy' if last.type == 'invoke' else 'retired'
+        invokes = event.type == 'invoke'
+        for cause, holds in enumerate([
+                status == 'retired',
+                invokes and status == 'busy',
+                invokes and event.name not in NAMES[kinds(event.key)],
+                not invokes and status == 'idle',
+                not invokes and status == 'busy' and event.name != last.name,
+                not invokes and status == 'busy' and event.key != last.key]):
+            if holds:
+                return at, cause + 1
+    return None
+
+
+def operations(events):
+    """Each operation's position, its end or None, and the type of its end."""
+    found = []
+    for at, event in enumerate(events):
+        if event.type == 'invoke':
+            end = next((i for i in range(at + 1, len(events)) if events[i].process == event.process), None)
+            found.append((at, end, events[end].type if end is not None else 'open'))
+    return found
+
+
+def configurations(kind, events):
+    """Of one object's events: the ends of all legal orders, each a state with the replies of the open operations placed."""
+    ops = [o for o in operations(events) if o[2] != 'fail']
+    ends = set()
+
+    # every order, depth first; the replies of the open operations are part of what is visited
+    seen = set()
+
+    def visit(placed, replies, state):
+        if (placed, replies, state) in seen:
+            return
+        seen.add((placed, replies, state))
+        if all(o[0] in placed or o[2] != 'ok' for o in ops):
+            ends.add((state, replies))
+        for o in ops:
+            if o[0] in placed:
+                continue
+            # what ended ahead of its invocation has to stand before it
+            if any(other[2] == 'ok' and other[1] < o[0] and other[0] not in placed for other in ops):
+                continue
+            # and it must not stand behind what it ended ahead of
+            if o[2] == 'ok' and any(p > o[1] for p in placed):
+                continue
+            outcome = step(kind, state, events[o[0]].name, events[o[0]].value)
+            if outcome is None:
+                continue
+            if o[2] == 'ok':
+                if outcome[1] != events[o[1]].reply():
+                    continue
+                visit(placed | {o[0]}, replies, outcome[0])
+            else:
+                visit(placed | {o[0]}, replies | {(events[o[0]].process, outcome[1])}, outcome[0])
+
+    visit(frozenset(), frozenset(), START[kind])
+    return ends
+
+
+def is_legal_order(kinds, events, order):
+    """Whether pairs of positions and replies are a legal order of the events."""
+    ops = {o[0]: o for o in operations(events)}
+    places = [at for at, _ in order]
+    if len(set(places)) != len(places) or any(at not in ops or ops[at][2] == 'fail' for at in places):
+        return False
+    if any(o[2] == 'ok' and (o[0] not in places or dict(order)[o[0]] != events[o[1]].reply()) for o in ops.values()):
+        return False
+    for i, at in enumerate(places):
+        if any(ops[later][2] == 'ok' and ops[later][1] < at for later in places[i + 1:]):
+            return False
+    states = {}
+    for at, reply in order:
+        event = events[at]
+        kind = kinds(event.key)
+        outcome = step(kind, states.get(event.key, START[kind]), event.name, event.value)
+        if outcome is None or outcome[1] != reply:
+            return False
+        states[event.key] = outcome[0]
+    return True
+
+
+class Model:
+    def __init__(self, keyed, kind, budget):
+        self.keyed, self.default, self.budget = keyed, kind, budget
+        self.events, self.named, self.known = [], {}, {}
+
+    def kinds(self, key):
+        return self.named.get(key, self.default)
+
+    def part(self, key, count):
+        return [(i, e) for i, e in enumerate(self.events[:count]) if e.key == key]
+
+    def ends_of(self, key, count):
+        events = [e for _, e in self.part(key, count)]
+        name = (self.kinds(key), tuple(e.text(False) for e in events))
+        if name not in self.known:
+            self.known[name] = configurations(self.kinds(key), events)
+        return self.known[name]
+
+    def is_linearizable(self, keys, count):
+        return all(self.ends_of(key, count) for key in keys)
+
+    def keys(self):
+        return sorted({e.key for e in self.events})
+
+    def is_right(self, scope, text, order=None):
+        """Whether an answer is one that may be given for the scope: a key, or None for the whole."""
+        bad = bad_event(self.events, self.kinds)
+        if bad is not None:
+            return text == 'ill-formed at %d cause %d %s' % (bad[0], bad[1], CAUSES[bad[1] - 1])
+        keys = self.keys() if scope is None else [scope]
+        count = len(self.events)
+        if text == 'yes':
+            if not self.is_linearizable(keys, count):
+                return False
+            return order is None or self.is_order(scope, order)
+        words = text.split()
+        if words[:2] == ['no', 'prefix']:
+            n = int(words[2])
+            return 0 < n <= count and not self.is_linearizable(keys, n) and self.is_linearizable(keys, n - 1)
+        if words[:2] == ['undecided', 'at']:
+            at = int(words[2])
+            if at >= count or (scope is not None and self.events[at].key != scope):
+                return False
+            over = len(self.ends_of(self.events[at].key, at + 1)) > self.budget
+            return over and (scope is not None or self.is_linearizable(keys, at + 1))
+        return False
+
+    def is_order(self, scope, text):
+        pairs = []
+        for word in [] if text == 'empty' else text.split(' '):
+            at, reply = word.split('=')
+            if reply.startswith('{'):
+                said = ('members', frozenset(int(m) for m in reply[1:-1].split(',') if m))
+            else:
+                said = 'done' if reply == 'done' else ('value', None if reply == 'nil' else int(reply))
+            pairs.append((int(at), said))
+        if scope is None:
+            return is_legal_order(self.kinds, self.events, pairs)
+        part = self.part(scope, len(self.events))
+        places = {i: n for n, (i, _) in enumerate(part)}
+        if any(at not in places for at, _ in pairs):
+            return False
+        return is_legal_order(self.kinds, [e for _, e in part], [(places[at], reply) for at, reply in pairs])
+
+
+class Script:
+    """Random commands with what the model says of each reply."""
+
+    def __init__(self, draw):
+        self.draw = draw
+        self.model = Model(draw.random() < 0.5, draw.choice(KINDS), draw.choice([1, 2, 3, 5, 8, 20, 65536]))
+        self.words = ['edit', '--kind', self.model.default, '--budget', str(self.model.budget)] + (['--keyed'] if self.model.keyed else [])
+        self.lines, self.checks = [], []
+
+    def value(self, kind, name, type_):
+        draw = self.draw
+        if name == 'cas':
+            return (draw.choice([None, 1, 2]), draw.choice([1, 2]))
+        if name in ('enqueue', 'add'):
+            return draw.choice([1, 2])
+        if name == 'write':
+            return draw.choice([1, 2, None])
+        if type_ == 'ok' and name == 'dequeue':
+            return draw.choice([1, 2, None])
+        if type_ == 'ok' and name == 'read':
+            return draw.choice([(), (1,), (2,), (1, 2)]) if kind == 'set' else draw.choice([1, 2, None])
+        return None
+
+    def event(self):
+        """Mostly an event that leaves the history well-formed, at times any."""
+        draw, model = self.draw, self.model
+        process = draw.randrange(4)
+        last = next((e for e in reversed(model.events) if e.process == process), None)
+        if last is not None and last.type == 'info' and draw.random() < 0.9:
+            process += 4
+            last = next((e for e in reversed(model.events) if e.process == process), None)
+        if last is not None and last.type == 'invoke' and draw.random() < 0.95:
+            type_, name, key = draw.choice(['ok', 'ok', 'ok', 'fail', 'info']), last.name, last.key
+        else:
+            key = draw.randrange(2) if model.keyed else 0
+            type_ = 'invoke' if draw.random() < 0.97 else 'ok'
+            name = draw.choice(NAMES[model.kinds(key) if draw.random() < 0.97 else draw.choice(KINDS)])
+        return Event(process, key, type_, name, self.value(model.kinds(key), name, type_))
+
+    def put(self, line, check):
+        self.lines.append(line)
+        self.checks.append((line, check))
+
+    def edit(self, line, refusal=None):
+        text = refusal or 'ok %d' % len(self.model.events)
+        self.put(line, lambda reply, text=text: reply == text)
+
+    def command(self):
+        draw, model = self.draw, self.model
+        events, count = model.events, len(model.events)
+        what = draw.random()
+        if what < 0.55 and count < 10:
+            event = self.event()
+            events.append(event)
+            self.edit('append ' + event.text(model.keyed))
+        elif what < 0.62:
+            at = draw.randrange(count + 2)
+            event = self.event()
+            if at < count and draw.random() < 0.8:
+                # the same event with another value, as a recording is corrected
+                was = events[at]
+                event = Event(was.process, was.key, was.type, was.name, self.value(model.kinds(was.key), was.name, was.type))
+            if at < count:
+                events[at] = event
+            self.edit('replace %d %s' % (at, event.text(model.keyed)), None if at < count else 'refused edit 1 BadPosition')
+        elif what < 0.68:
+            at = draw.randrange(count + 2)
+            if at < count:
+                del events[at]
+            self.edit('remove %d' % at, None if at < count else 'refused edit 1 BadPosition')
+        elif what < 0.72:
+            keep = draw.randrange(count + 2)
+            if keep <= count:
+                del events[keep:]
+            self.edit('truncate %d' % keep, None if keep <= count else 'refused edit 1 BadPosition')
+        elif what < 0.76:
+            key, kind = draw.randrange(2) if model.keyed else 0, model.default if draw.random() < 0.7 else draw.choice(KINDS)
+            model.named[key] = kind
+            self.edit('kind %d %s' % (key, kind))
+        elif what < 0.80:
+            budget = draw.choice([0, 1, 2, 3, 5, 8, 13, 50, 65536, 1000001])
+            if 1 <= budget <= 1000000:
+                model.budget = budget
+            self.edit('budget %d' % budget, None if 1 <= budget <= 1000000 else 'refused edit 3 BadBudget')
+        else:
+            self.question()
+
+    def question(self):
+        """Judged at once, on a copy of what the model holds now."""
+        draw, model = self.draw, self.model
+        now = Model(model.keyed, model.default, model.budget)
+        now.events, now.named, now.known = list(model.events), dict(model.named), model.known
+        scope = None if draw.random() < 0.6 else draw.randrange(3)
+        name = '' if scope is None else ' %d' % scope
+        what = draw.random()
+        if what < 0.5:
+            self.put('ask' + name, lambda reply: now.is_right(scope, reply))
+        elif what < 0.8:
+            self.put('order' + name, lambda reply: now.is_right(scope, 'yes', reply[4:]) if reply.startswith('yes ') else reply != 'yes' and now.is_right(scope, reply))
+        else:
+            keys = now.keys()
+            self.put('report', lambda reply: reply == 'events %d objects %d' % (len(now.events), len(keys)))
+            if bad_event(now.events, now.kinds) is None:
+                for key in keys:
+                    head = 'object %d %s: ' % (key, now.kinds(key))
+                    self.checks.append(('report', lambda reply, head=head, key=key: reply.startswith(head) and now.is_right(key, reply[len(head):])))
+            self.checks.append(('report', lambda reply: reply.startswith('whole: ') and now.is_right(None, reply[len('whole: '):])))
+
+
+def main():
+    given = sys.argv[1:]
+    scripts, seed = int(given[0]) if given else 300, int(given[1]) if given[1:] else 1
+    program = given[2] if given[2:] else os.path.join(os.path.dirname(os.path.abspath(__file__)), '../crates/lincheck/out/lincheck')
+    right = wrong = 0
+    for number in range(scripts):
+        script = Script(random.Random(seed * 1000003 + number))
+        for _ in range(30):
+            script.command()
+        said = subprocess.run([program] + script.words, input='\n'.join(script.lines) + '\n', capture_output=True, text=True).stdout.splitlines()
+        if len(said) != len(script.checks):
+            wrong += 1
+            print('script %d: %d replies, not %d\n%s\n%s' % (number, len(said), len(script.checks), ' '.join(script.words), '\n'.join(script.lines)))
+            continue
+        for (line, check), reply in zip(script.checks, said):
+            if check(reply):
+                right += 1
+            else:
+                wrong += 1
+                print('script %d, %s: %s -> %s\n%s' % (number, ' '.join(script.words), line, reply, '\n'.join(script.lines)))
+                break
+    print('%d passed, %d failed' % (right, wrong))
+    return 1 if wrong or not right else 0
+
+
+if __name__ == '__main__':
+    sys.exit(main())
