@@ -8,6 +8,12 @@ mod check;
 #[cfg(test)]
 mod check_input;
 #[cfg(test)]
+mod devices;
+#[cfg(test)]
+mod edits;
+#[cfg(test)]
+mod faults;
+#[cfg(test)]
 mod keyed;
 #[cfg(test)]
 mod large;
