@@ -8,7 +8,7 @@ trap 'rm -f "$log"' EXIT
 
 rt ci | tee "$log"
 [ "${PIPESTATUS[0]}" = 0 ] || exit 1
-for script in tests/readme.sh tests/generated.sh tests/edits.py; do
+for script in tests/readme.sh tests/generated.sh tests/edits.py tests/growths.py; do
     echo "== $script"
     "$script" | tee -a "$log"
     [ "${PIPESTATUS[0]}" = 0 ] || exit 1

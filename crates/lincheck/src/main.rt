@@ -10,6 +10,7 @@ mod endings;
 mod words;
 
 use clap::Error;
+use clap::error::ErrorKind;
 pub use endings::{Ending, exit_of, exit_of_refusal, run};
 use endings::{FAILED, LINE_REFUSED};
 use lin_report::Counted;
@@ -93,6 +94,7 @@ fn tell_no_words(rt: &HostRuntime, error: &io::Error) -> u8 {
 fn run_words(rt: HostRuntime, words: &[&str]) -> u8 {
     match line(rt.alloc(), words) {
         Ok(line) => run_line(&rt, line),
+        Err(error) if error.kind() == ErrorKind::OutOfMemory => tell_out_of_memory(&rt),
         Err(error) => {
             let is_told = println!(rt; "{error}").is_ok();
             exit_of_refusal(&error, is_told)

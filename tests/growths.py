@@ -1,0 +1,142 @@
+#!/usr/bin/env python3
+"""Refuses each growth of memory of `edit`, `check` and `verify` in turn, and compares what is written with the undisturbed run.
+
+For each session below, growth 1, 2, 3 and so on of the built program is refused, one in each run, until a run meets no refusal.
+A refused run has to write whole replies to some first commands, just those of the undisturbed run, then the fault for want of
+memory, and to end with its status; or, where the program can do without that growth, all that the undisturbed run writes. Needs a C compiler, for the few lines that stand before the C library's allocator.
+usage: tests/growths.py [PROGRAM]
+"""
+import os
+import shutil
+import subprocess
+import sys
+import tempfile
+
+HERE = os.path.dirname(os.path.abspath(__file__))
+PROGRAM = os.path.join(HERE, "..", "crates", "lincheck", "out", "lincheck")
+FAULT = "lincheck: 3 OutOfMemory\n"
+FAILED = 6
+
+# The growth with the number in REFUSED is refused, and that is told on descriptor 2.
+ALLOCATOR = r"""
+#define _GNU_SOURCE
+#include <dlfcn.h>
+#include <stdlib.h>
+#include <unistd.h>
+static long count;
+static int is_refused(void) {
+    const char *wanted = getenv("REFUSED");
+    if (wanted && ++count == atol(wanted)) { ssize_t told = write(2, "refused", 7); (void)told; return 1; }
+    return 0;
+}
+void *malloc(size_t size) {
+    static void *(*next)(size_t);
+    if (!next) next = (void *(*)(size_t))dlsym(RTLD_NEXT, "malloc");
+    return is_refused() ? NULL : next(size);
+}
+void *realloc(void *block, size_t size) {
+    static void *(*next)(void *, size_t);
+    if (!next) next = (void *(*)(void *, size_t))dlsym(RTLD_NEXT, "realloc");
+    return is_refused() ? NULL : next(block, size);
+}
+"""
+
+
+def maps(events):
+    """The operation maps of short forms such as `p0 invoke write 1`, a line each."""
+    lines = []
+    for event in events.split("; "):
+        process, kind, function, *value = event.split(" ", 3)
+        lines.append("{:process %s, :type :%s, :f :%s, :value %s}\n" % (process[1:], kind, function, value[0] if value else "nil"))
+    return "".join(lines)
+
+
+FILE = "FILE"
+READ = "{:process 9, :type :invoke, :f :read, :value %s}"
+TWO_KEYS = (
+    "p0 invoke write [1 7]; p0 ok write [1 7]; p1 invoke write [0 3]; p1 ok write [0 3]; p0 invoke read [1 nil]; p0 ok read [1 7]; "
+    "p1 invoke read [0 nil]; p1 ok read [0 3]"
+)
+# Each run: the words of the command line, the recording, the script.
+RUNS = [
+    (
+        ["edit", FILE],
+        "p0 invoke write 5; p0 info write; p1 invoke read; p1 ok read nil; p1 invoke read; p1 ok read 5",
+        ["pull", "ask", "order", "report", "append " + READ % "nil", "append {:process 9, :type :ok, :f :read, :value nil}", "ask", "order",
+         "replace 7 {:process 9, :type :ok, :f :read, :value 5}", "order 0", "remove 7", "ask 0", "truncate 6", "order", "kind 0 set",
+         "ask", "kind 0 cas-register", "ask", "budget 1", "ask", "budget 65536", "report", "frob", "append {:a}", "append {:process 0}",
+         "append {:type :info, :process :nemesis, :f :kill}", "truncate 99", "pull", "order"],
+    ),
+    (
+        ["edit", "--keyed", FILE],
+        TWO_KEYS,
+        ["pull", "ask", "order 0", "order 1", "order", "report", "append " + READ % "[2 nil]", "ask 2", "kind 1 set", "report", "kind 1 register",
+         "replace 5 {:process 0, :type :ok, :f :read, :value [1 8]}", "ask 1", "report", "remove 4", "ask", "truncate 4", "order"],
+    ),
+    (
+        ["edit", "--keyed", "--budget", "8", FILE],
+        "p0 invoke write [1 1]; p1 invoke write [1 2]; p2 invoke write [1 3]; p3 invoke write [0 1]; p3 ok write [0 1]; "
+        "p3 invoke read [0 nil]; p3 ok read [0 1]; p3 invoke read [0 nil]; p3 ok read [0 nil]",
+        ["pull", "report", "ask 1", "budget 13", "ask 1", "ask", "order 1", "order", "budget 8", "ask 1", "truncate 7", "order 0", "report"],
+    ),
+    (["check", "--keyed", FILE], TWO_KEYS, []),
+    (["verify", "--keyed", FILE, "0=done 2=done 4=7 6=3"], TWO_KEYS, []),
+]
+
+
+def run(program, folder, words, script, number):
+    """What the program writes with this growth refused (0: none), its status, and whether one was refused."""
+    words = [program, *(os.path.join(folder, "recording.edn") if word == FILE else word for word in words)]
+    shim = {"LD_PRELOAD": os.path.join(folder, "refusing.so"), "REFUSED": str(number)}
+    ended = subprocess.run(words, input=script, capture_output=True, text=True, env={**os.environ, **shim}, timeout=60)
+    return ended.stdout, ended.returncode, ended.stderr == "refused"
+
+
+def is_right(ended, whole, replies):
+    """Whether this is what the undisturbed run gives, or whole replies to some first commands and then the fault."""
+    fronts = {"".join(replies[:count]) + FAULT for count in range(max(1, len(replies)))}
+    return ended == whole or ended[1] == FAILED and ended[0] in fronts
+
+
+def replies_to(program, folder, words, script):
+    """The reply to each command: what a run of the first commands writes more than a run of one less."""
+    found, before = [], ""
+    for count in range(1, len(script) + 1):
+        written, _, _ = run(program, folder, words, "".join(line + "\n" for line in script[:count]), 0)
+        found.append(written[len(before):])
+        before = written
+    return found
+
+
+def main():
+    program = os.path.abspath(sys.argv[1] if len(sys.argv) > 1 else PROGRAM)
+    passed = failed = 0
+    with tempfile.TemporaryDirectory() as folder:
+        source = os.path.join(folder, "refusing.c")
+        with open(source, "w", encoding="ascii") as file:
+            file.write(ALLOCATOR)
+        compiler = next(name for name in ("cc", "clang", "gcc") if shutil.which(name))
+        subprocess.run([compiler, "-O1", "-shared", "-fPIC", "-o", os.path.join(folder, "refusing.so"), source, "-ldl"], check=True)
+        for words, events, script in RUNS:
+            with open(os.path.join(folder, "recording.edn"), "w", encoding="ascii") as file:
+                file.write(maps(events))
+            replies = replies_to(program, folder, words, script)
+            text = "".join(line + "\n" for line in script)
+            whole = run(program, folder, words, text, 0)[:2]
+            number, is_refused, stopped = 0, True, 0
+            while is_refused:
+                number += 1
+                written, status, is_refused = run(program, folder, words, text, number)
+                is_passed = is_right((written, status), whole, replies) and (is_refused or (written, status) == whole)
+                stopped += status == FAILED
+                passed += is_passed
+                failed += not is_passed
+                if not is_passed:
+                    print(f"{' '.join(words)}: growth {number} refused: status {status}, wrote {written!r}")
+            print(f"{' '.join(words)}: {number - 1} growths refused in turn, {stopped} runs stopped by it")
+    print(f"{passed} passed, {failed} failed")
+    return 1 if failed else 0
+
+
+if __name__ == "__main__":
+    sys.exit(main())
