@@ -78,7 +78,7 @@ fn optional_file_argument<'a>(alloc: Global) -> Arg<'a>
 {
     Arg::new(alloc, "file")
         .value_name("FILE")
-        .help("A recorded history: operation maps in EDN")
+        .help("A recorded history to pull from: operation maps in EDN")
         .action(ArgAction::Set)
 }
 
