@@ -63,25 +63,25 @@ right_alike chain h edited local below same right = record {
     reached : (end : End) → Stands chain h end → chain.replay.reached ≤ local
     reached Alive stands = omega (arith, stands, below)
     reached (Dead at) stands = omega (arith, stands.0, stands.1, below)
-    reached (Over at) stands = omega (arith, stands.0, stands.1, below)
+    reached (Over at) stands = omega (arith, stands.1, stands.2, below)
 
     stands : (end : End) → Stands chain h end → Stands chain edited end
     stands Alive was = was
     stands (Dead at) was = (was.0, was.1, was.2, dead_alike (kind_in chain) h edited local at (omega (arith, was.1, below)) same was.3)
-    stands (Over at) was = (was.0, was.1, was.2, over_alike (kind_in chain) chain.budget h edited local at (omega (arith, was.1, below)) same was.3)
+    stands (Over at) was = (was.0, was.1, was.2, was.3, over_alike (kind_in chain) chain.budget h edited local at (omega (arith, was.2, below)) same was.4)
 
 -- behind a dead or over event, fewer may be taken in
 pub right_fewer : (chain : Chain) (h edited : List Event) (local at : ℕ) → local < ready_count chain → at < local → take local h ≡ take local edited → (chain.end ≡ Dead at) ⊎ (chain.end ≡ Over at) → IsRight chain h
     → IsRight (record chain { ready = local }) edited
 right_fewer chain h edited local at below before same is right = record {
   within = longer h edited local local (omega arith) (omega (arith, right.within)) same;
-  replay = replay_alike chain.replay h edited local (omega (arith, known is)) same right.replay;
+  replay = replay_alike chain.replay h edited local (omega (arith, known is, before)) same right.replay;
   stands = stands is;
 }
   where
-    known : (chain.end ≡ Dead at) ⊎ (chain.end ≡ Over at) → at ≡ chain.replay.reached
-    known (inl dead) = (subst (Stands chain h) dead right.stands).0
-    known (inr over) = (subst (Stands chain h) over right.stands).0
+    known : (chain.end ≡ Dead at) ⊎ (chain.end ≡ Over at) → chain.replay.reached ≤ at + 1
+    known (inl dead) = omega (arith, (subst (Stands chain h) dead right.stands).0)
+    known (inr over) = (subst (Stands chain h) over right.stands).1
 
     stands : (chain.end ≡ Dead at) ⊎ (chain.end ≡ Over at) → Stands (record chain { ready = local }) edited chain.end
     stands (inl dead) =
@@ -89,7 +89,7 @@ right_fewer chain h edited local at below before same is right = record {
         subst (Stands (record chain { ready = local }) edited) (sym dead) (was.0, before, was.2, dead_alike (kind_in chain) h edited local at before same was.3)
     stands (inr over) =
         let was = subst (Stands chain h) over right.stands in
-        subst (Stands (record chain { ready = local }) edited) (sym over) (was.0, before, was.2, over_alike (kind_in chain) chain.budget h edited local at before same was.3)
+        subst (Stands (record chain { ready = local }) edited) (sym over) (was.0, was.1, before, was.3, over_alike (kind_in chain) chain.budget h edited local at before same was.4)
 
 -- there is a checkpoint at or before each event that is known
 pub checkpoint_before : (chain : Chain) (h : List Event) (local : ℕ) → local < ready_count chain → ((at : ℕ) → (chain.end ≡ Dead at) ⊎ (chain.end ≡ Over at) → local ≤ at) → IsRight chain h
@@ -99,7 +99,7 @@ checkpoint_before chain h local below behind right = by chain.end refl
     by : (end : End) → chain.end ≡ end → local / 64 < length chain.replay.checkpoints.items
     by Alive is = let all = subst (Stands chain h) is right.stands in omega (arith, all, right.replay.enough, below)
     by (Dead at) is = let was = subst (Stands chain h) is right.stands in omega (arith, was.2, behind at (inl is))
-    by (Over at) is = let was = subst (Stands chain h) is right.stands in omega (arith, was.2, behind at (inr is))
+    by (Over at) is = let was = subst (Stands chain h) is right.stands in omega (arith, was.3, behind at (inr is))
 
 -- a chain that is alive has taken in what is known
 pub right_alive : (r : Replay) (count budget : ℕ) (h : List Event) → r.reached ≡ count → IsReplay r h → IsRight (record { replay = r; ready = count; end = Alive; budget = budget }) h
@@ -113,12 +113,13 @@ right_dead law r n budget h here replay before inside failing = record {
   stands = (here, (let l : n < n + 1 = omega arith in l), before, record { before = subst (λ m. IsLinearizableAs r.object.kind (take m h)) (sym here) (replay_linearizable law r h replay); failing = failing });
 }
 
-pub right_over : (r : Replay) (n budget : ℕ) (h : List Event) → n ≡ r.reached → IsReplay r h → n < 64 * length r.checkpoints.items → n < length h → IsOver (start r.object.kind) (Step r.object.kind) (take (n + 1) h) budget
-    → IsRight (record { replay = r; ready = n + 1; end = Over n; budget = budget }) h
-right_over r n budget h here replay before inside over = record {
-  within = omega arith;
+-- it is found to be over with the event that is told, or with the next one
+pub right_over : (r : Replay) (n count budget : ℕ) (h : List Event) → n ≤ r.reached → r.reached ≤ n + 1 → n < count → count ≤ length h → IsReplay r h → n < 64 * length r.checkpoints.items
+    → IsOver (start r.object.kind) (Step r.object.kind) (take (n + 1) h) budget → IsRight (record { replay = r; ready = count; end = Over n; budget = budget }) h
+right_over r n count budget h before after below inside replay held over = record {
+  within = inside;
   replay = replay;
-  stands = (here, (let l : n < n + 1 = omega arith in l), before, record { inside = inside; over = over });
+  stands = (before, after, below, held, record { inside = omega (arith, below, inside); over = over });
 }
 
 -- what is over a budget is over any smaller one
@@ -140,7 +141,7 @@ right_end law chain h budget all over right = by chain.end refl
         subst (IsLinearizableAs (kind_in chain)) (take_all chain.replay.reached h (omega (arith, known, all))) (replay_linearizable law chain.replay h right.replay)
     by (Dead at) is = (subst (Stands chain h) is right.stands).3
     by (Over at) is =
-        let was = (subst (Stands chain h) is right.stands).3 in
+        let was = (subst (Stands chain h) is right.stands).4 in
         record { inside = was.inside; over = over_smaller (kind_in chain) (take (at + 1) h) chain.budget budget (over at is) was.over }
 
 -- behind a dead or over event, all events may be taken in
@@ -154,7 +155,7 @@ right_all chain h count is all right = record {
     by : (end : End) → chain.end ≡ end → Stands (record chain { ready = count }) h end
     by Alive e = subst (Stands chain h) e right.stands ∙ all e
     by (Dead at) e = let was = subst (Stands chain h) e right.stands in (was.0, omega (arith, was.1, right.within, is), was.2, was.3)
-    by (Over at) e = let was = subst (Stands chain h) e right.stands in (was.0, omega (arith, was.1, right.within, is), was.2, was.3)
+    by (Over at) e = let was = subst (Stands chain h) e right.stands in (was.0, was.1, omega (arith, was.2, right.within, is), was.3, was.4)
 
 -- the events at the picks, one by one
 there_is : (h : List Event) (at : ℕ) → at < length h → (event : Event) × (slice_get h at ≡ Some event)
@@ -189,7 +190,7 @@ pub record IsGoing (h : List Event) (first now : Chain) (budget : ℕ) (before m
   pub kind : kind_in now ≡ kind_in first
   pub grown : ready_count first ≤ ready_count now
   pub found : IsFrom (ready_count first) now.end
-  pub over : (at : ℕ) → now.end ≡ Over at → (now.budget ≡ budget) × (ready_count first ≤ at)
+  pub over : (at : ℕ) → now.end ≡ Over at → (now.budget ≡ budget) × (ready_count first ≤ now.replay.reached)
   pub steps : meter.steps + ready_count first ≤ before.steps + ready_count now
   pub scans : meter.scans ≡ before.scans
 

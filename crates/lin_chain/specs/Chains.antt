@@ -1,5 +1,5 @@
 -- What a chain knows of its object's history: its first events, as many as the chain took in.
-use Rattle.std.specs.Prelude.{◌≡◌, ◌*◌, ◌<◌, ◌≤◌, ℕ, List, length, if◌then◌else◌, nat_lt}
+use Rattle.std.specs.Prelude.{◌≡◌, ◌+◌, ◌*◌, ◌<◌, ◌≤◌, ℕ, List, length, if◌then◌else◌, nat_lt}
 use Rattle.lin_history.specs.declared.events.Event.{Event}
 use Rattle.lin_objects.specs.declared.kinds.Kind.{Kind}
 use Rattle.lin_chain.specs.declared.chain.Chain.{Chain}
@@ -33,14 +33,14 @@ end_under budget chain = under chain.end
     under (Dead at) = Dead at
     under (Over at) = if nat_lt chain.budget budget then Alive else Over at
 
--- how many events it took in under a budget: one that is over for a smaller budget counts as cut where it is over
+-- how many events it took in under a budget: one that is over for a smaller budget counts as cut behind the last event that is known
 abbrev pub ready_under : ℕ → Chain → ℕ
 ready_under budget chain = under chain.end
   where
     under : End → ℕ
     under Alive = chain.ready
     under (Dead at) = chain.ready
-    under (Over at) = if nat_lt chain.budget budget then at else chain.ready
+    under (Over at) = if nat_lt chain.budget budget then chain.replay.reached else chain.ready
 
 -- where a chain stands after a cut: a dead or over place before it stays
 abbrev pub end_before : ℕ → End → End
@@ -48,11 +48,13 @@ end_before local Alive = Alive
 end_before local (Dead at) = if nat_lt at local then Dead at else Alive
 end_before local (Over at) = if nat_lt at local then Over at else Alive
 
--- where the chain stands is true of the history, and what it stands on is known
+-- where the chain stands is true of the history, and what it stands on is known: all events before the one that is told, and where it is over perhaps
+-- that one too
 abbrev pub Stands : Chain → List Event → End → Type 0
 Stands chain h Alive = chain.replay.reached ≡ chain.ready
 Stands chain h (Dead at) = (at ≡ chain.replay.reached) × (at < chain.ready) × (at < 64 * length chain.replay.checkpoints.items) × IsDeadAt (kind_in chain) h at
-Stands chain h (Over at) = (at ≡ chain.replay.reached) × (at < chain.ready) × (at < 64 * length chain.replay.checkpoints.items) × IsOverAt (kind_in chain) chain.budget h at
+Stands chain h (Over at) = (at ≤ chain.replay.reached) × (chain.replay.reached ≤ at + 1) × (at < chain.ready) × (at < 64 * length chain.replay.checkpoints.items)
+    × IsOverAt (kind_in chain) chain.budget h at
 
 -- the chain is right for its first `ready` events of the history
 pub record IsRight (chain : Chain) (h : List Event) : Type 0 where

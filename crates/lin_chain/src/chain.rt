@@ -165,7 +165,7 @@ impl Chain {
         Ok(self.end)
     }
 
-    /// Where the chain is over for a smaller budget, it is alive again with the events before.
+    /// Where the chain is over for a smaller budget, it is alive again with the events that are known.
     fn retry(&mut self, budget: u32)
         ensures kind { kind_in self.new ≡ kind_in self.old }
         ensures end { end_in self.new ≡ end_under budget self.old }
@@ -199,7 +199,7 @@ impl Chain {
         ensures no_less { ready_count self.old ≤ ready_count self.new }
         ensures all { OnOk result (end_in self.new ≡ End.Alive → ready_count self.new ≡ length picks.now) }
         ensures found { IsFrom (ready_count self.old) (end_in self.new) }
-        ensures over { (at : ℕ) → end_in self.new ≡ End.Over at → (self.new.budget ≡ budget) × (ready_count self.old ≤ at) }
+        ensures over { (at : ℕ) → end_in self.new ≡ End.Over at → (self.new.budget ≡ budget) × (ready_count self.old ≤ self.new.replay.reached) }
         ensures settled { ready_count self.old ≡ length picks.now → IsOk result }
         ensures steps { meter.new.steps ≤ meter.old.steps + (length picks.now - ready_count self.old) }
         ensures scans { meter.new.scans ≡ meter.old.scans }
@@ -220,7 +220,8 @@ impl Chain {
         ensures right { (functions : ℤ → NameOf → Bool) (h : List EventOf) → IsWellFormed functions h → IsEvent h self.old.replay.reached event.now → IsRight self.old h → IsRight self.new h }
         ensures ok { OnOk result (ready_count self.new ≡ self.old.replay.reached + 1) }
         ensures err { OnErr result ((end_in self.new ≡ End.Alive) × (ready_count self.new ≡ ready_count self.old)) }
-        ensures found { IsFrom (self.old.replay.reached + 1) (end_in self.new) }
+        ensures found { IsFrom self.old.replay.reached (end_in self.new) }
+        ensures known { self.old.replay.reached ≤ self.new.replay.reached }
         ensures over { OnOk result (self.new.budget ≡ budget) }
         ensures steps { meter.new.steps ≤ meter.old.steps + 1 }
         ensures scans { meter.new.scans ≡ meter.old.scans }

@@ -1,8 +1,7 @@
-use Rattle.std.proofs.Common.{◌≡◌, ◌+◌, ◌∙◌, subst, arith}
+use Rattle.std.proofs.Common.{◌≡◌, ◌∙◌, arith}
 use Rattle.lin_chain.specs.declared.chain.End.TheVariants.{Alive}
 use Rattle.lin_order.specs.Parts.{events_at}
 use Rattle.lin_chain.specs.Chains.{IsRight, ready_count}
-use Rattle.lin_chain.specs.Ends.{IsFrom}
 use Rattle.lin_chain.proofs.Chaining.{event_there, from_fewer, length-events_at, reached_ready}
 use Rattle.lin_chain.proofs.chain.Chain.go_on.Goals as goal
 use Rattle.lin_chain.proofs.chain.Chain.go_on.Goals.{After-take_in}
@@ -30,10 +29,8 @@ loop-event-preserved c =
       right = taken_right p;
       kind = c.take_in.ensures.kind ∙ was.kind;
       grown = omega (arith, was.grown, known, ready);
-      found = from_fewer c.take_in.new.self.end (c.loop-event.self.replay.reached + 1) (ready_count c.args.self.now) (omega (arith, was.grown, known)) c.take_in.ensures.found;
-      over = λ at is.
-          let from = subst (IsFrom (c.loop-event.self.replay.reached + 1)) is c.take_in.ensures.found in
-          (c.in_ok-take_in.ensures.over, omega (arith, from, was.grown, known));
+      found = from_fewer c.take_in.new.self.end c.loop-event.self.replay.reached (ready_count c.args.self.now) (omega (arith, was.grown, known)) c.take_in.ensures.found;
+      over = λ at is. (c.in_ok-take_in.ensures.over, omega (arith, was.grown, known, c.take_in.ensures.known));
       steps = omega (arith, was.steps, known, ready, c.take_in.ensures.steps);
       scans = c.take_in.ensures.scans ∙ was.scans;
     }

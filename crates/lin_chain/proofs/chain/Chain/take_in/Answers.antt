@@ -1,4 +1,4 @@
-use Rattle.std.proofs.Common.{◌≡◌, ◌+◌, ◌∙◌, Result, Ok, sym, ap, subst, take, ◌<◌, ◌*◌, length}
+use Rattle.std.proofs.Common.{◌≡◌, ◌+◌, ◌∙◌, arith, Result, Ok, sym, ap, subst, take, ◌<◌, ◌*◌, length}
 use Rattle.std.proofs.lemmas.Option.{slice_get_within}
 use Rattle.lin_history.specs.declared.numbers.OutOfMemory.{OutOfMemory}
 use Rattle.lin_history.specs.Operations.{IsEvent}
@@ -42,7 +42,7 @@ returns-clause-right c = λ functions h well there right.
           let stays = c.take_in.ensures.stays (not_next c.take_in.result Exceeds over_apart taken) in
           subst (λ e. IsRight (record { replay = c.take_in.new.self; ready = n + 1; end = e; budget = c.args.budget }) h) (sym w.self-is)
           (subst (λ (r : Replay). IsRight (record { replay = r; ready = n + 1; end = Over n; budget = c.args.budget }) h) (sym stays)
-          (right_over mid n c.args.budget h (sym c.prepare.ensures.reached) prepared.right before inside
+          (right_over mid n (n + 1) c.args.budget h (omega (arith, c.prepare.ensures.reached)) (omega (arith, c.prepare.ensures.reached)) (omega arith) (omega (arith, inside)) prepared.right before
           (subst (λ m. IsOver (start mid.object.kind) (Step mid.object.kind) (take (m + 1) h) c.args.budget) c.prepare.ensures.reached (c.take_in.ensures.over taken functions h well at_mid prepared))))
     ]
   where
