@@ -20,7 +20,7 @@ use Rattle.lin_chain.specs.declared.replay.Replay.{Replay}
 use Rattle.lin_chain.specs.Chains.{IsRight, Stands, kind_in, ready_count}
 use Rattle.lin_chain.specs.Ends.{IsDeadAt, IsEndOf, IsFrom, IsOverAt}
 use Rattle.lin_chain.specs.Replays.{IsLinearizableAs, IsReplay}
-use Rattle.lin_chain.proofs.Replaying.{checkpoint_kept, known_same, pairs_take, replay_linearizable, take_alike}
+use Rattle.lin_chain.proofs.Replaying.{SpellsOrders, checkpoint_kept, known_same, pairs_take, replay_linearizable, take_alike}
 
 -- what is known of the first events holds of any events that agree on these
 pub replay_alike : (r : Replay) (h edited : List Event) (local : ℕ) → r.reached ≤ local → take local h ≡ take local edited → IsReplay r h → IsReplay r edited
@@ -105,12 +105,12 @@ checkpoint_before chain h local below behind right = by chain.end refl
 pub right_alive : (r : Replay) (count budget : ℕ) (h : List Event) → r.reached ≡ count → IsReplay r h → IsRight (record { replay = r; ready = count; end = Alive; budget = budget }) h
 right_alive r count budget h all replay = record { within = omega (arith, all, replay.within); replay = replay; stands = all }
 
-pub right_dead : EmptyIsLegal → (r : Replay) (n budget : ℕ) (h : List Event) → n ≡ r.reached → IsReplay r h → n < 64 * length r.checkpoints.items → n < length h → (IsLinearizableAs r.object.kind (take (n + 1) h) → ⊥)
+pub right_dead : EmptyIsLegal → SpellsOrders → (r : Replay) (n budget : ℕ) (h : List Event) → n ≡ r.reached → IsReplay r h → n < 64 * length r.checkpoints.items → n < length h → (IsLinearizableAs r.object.kind (take (n + 1) h) → ⊥)
     → IsRight (record { replay = r; ready = n + 1; end = Dead n; budget = budget }) h
-right_dead law r n budget h here replay before inside failing = record {
+right_dead law orders r n budget h here replay before inside failing = record {
   within = omega arith;
   replay = replay;
-  stands = (here, (let l : n < n + 1 = omega arith in l), before, record { before = subst (λ m. IsLinearizableAs r.object.kind (take m h)) (sym here) (replay_linearizable law r h replay); failing = failing });
+  stands = (here, (let l : n < n + 1 = omega arith in l), before, record { before = subst (λ m. IsLinearizableAs r.object.kind (take m h)) (sym here) (replay_linearizable law orders r h replay); failing = failing });
 }
 
 -- it is found to be over with the event that is told, or with the next one
@@ -132,13 +132,13 @@ over_smaller kind h budget smaller below over = record {
 }
 
 -- where all events are taken in, the chain stands as they do
-pub right_end : EmptyIsLegal → (chain : Chain) (h : List Event) (budget : ℕ) → ready_count chain ≡ length h → ((at : ℕ) → chain.end ≡ Over at → budget ≤ chain.budget) → IsRight chain h → IsEndOf (kind_in chain) budget h chain.end
-right_end law chain h budget all over right = by chain.end refl
+pub right_end : EmptyIsLegal → SpellsOrders → (chain : Chain) (h : List Event) (budget : ℕ) → ready_count chain ≡ length h → ((at : ℕ) → chain.end ≡ Over at → budget ≤ chain.budget) → IsRight chain h → IsEndOf (kind_in chain) budget h chain.end
+right_end law orders chain h budget all over right = by chain.end refl
   where
     by : (end : End) → chain.end ≡ end → IsEndOf (kind_in chain) budget h end
     by Alive is =
         let known = subst (Stands chain h) is right.stands in
-        subst (IsLinearizableAs (kind_in chain)) (take_all chain.replay.reached h (omega (arith, known, all))) (replay_linearizable law chain.replay h right.replay)
+        subst (IsLinearizableAs (kind_in chain)) (take_all chain.replay.reached h (omega (arith, known, all))) (replay_linearizable law orders chain.replay h right.replay)
     by (Dead at) is = (subst (Stands chain h) is right.stands).3
     by (Over at) is =
         let was = (subst (Stands chain h) is right.stands).4 in

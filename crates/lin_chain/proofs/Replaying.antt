@@ -17,7 +17,8 @@ use Rattle.lin_order.specs.declared.placed.Placed.{Placed}
 use Rattle.lin_order.specs.ConfigurationLaws.{with_event}
 use Rattle.lin_order.specs.Laws.{EmptyIsLegal}
 use Rattle.lin_frontier.specs.declared.pending.Open.{Open}
-use Rattle.lin_frontier.specs.Frontiers.{IsFrontier, IsPending, IsNextEvent}
+use Rattle.lin_frontier.specs.Covers.{CoversSpellLegalOrders, IsCover}
+use Rattle.lin_frontier.specs.Frontiers.{IsPending, IsNextEvent}
 use Rattle.lin_frontier.specs.Nodes.{Spells, IsGrown}
 use Rattle.lin_chain.specs.declared.pending.Pending.{Pending}
 use Rattle.lin_chain.specs.declared.replay.Checkpoint.{Checkpoint}
@@ -99,9 +100,9 @@ replay_renamed a nodes h same right = subst (λ n. IsReplay (record a { nodes = 
 
 -- the first checkpoint
 pub replay_begun : (a : Replay) (v : Vec Checkpoint Global) (c : Checkpoint) (h : List Event) → a.checkpoints.items ≡ [] → v.items ≡ c ∷ []
-    → c.nodes ≡ length a.nodes → c.crashed ≡ 0 → c.live.items ≡ [] → IsFrontier (start a.object.kind) (Step a.object.kind) [] c.frontier a.nodes → length c.frontier ≡ 1 → IsPending [] []
+    → c.nodes ≡ length a.nodes → c.crashed ≡ 0 → c.live.items ≡ [] → IsCover (start a.object.kind) (Step a.object.kind) [] c.frontier a.nodes → length c.frontier ≡ 1 → IsPending [] []
     → IsReplay a h → (IsReplay (record a { checkpoints = v }) h) × (a.reached < 64 * length v.items)
-replay_begun a v c h none one nodes crashed live exact some opened right = (
+replay_begun a v c h none one nodes crashed live cover some opened right = (
   record {
     within = right.within;
     enough = omega (arith, at_start, len);
@@ -132,7 +133,7 @@ replay_begun a v c h none one nodes crashed live exact some opened right = (
     first : IsCheckpoint (record a { checkpoints = v }) h 0 c
     first = record {
       known = record {
-        exact = subst (IsFrontier (start a.object.kind) (Step a.object.kind) [] c.frontier) (sym (ap (λ n. take n a.nodes) nodes ∙ take_all (length a.nodes) a.nodes (omega arith))) exact;
+        cover = subst (IsCover (start a.object.kind) (Step a.object.kind) [] c.frontier) (sym (ap (λ n. take n a.nodes) nodes ∙ take_all (length a.nodes) a.nodes (omega arith))) cover;
         some = omega (arith, some);
         opened = subst (IsPending []) (sym (ap (λ l. take c.crashed a.pending.operations.items ++ l) live ∙ append-nil (take c.crashed a.pending.operations.items) ∙ ap (λ n. take n a.pending.operations.items) crashed)) opened;
       };
@@ -325,10 +326,10 @@ pub event_taken : (h : List Event) (n : ℕ) (event : Event) → IsEvent h n eve
 event_taken h n event there = ap (λ m. take m h) (add-one n) ∙ take_next n h event there
 
 pub replay_advanced : (a : Replay) (next : Entries) (pending : Pending) (nodes : List (ℕ × Placed)) (h : List Event) (event : Event) → IsPrepared a h → IsEvent h a.reached event
-    → IsFrontier (start a.object.kind) (Step a.object.kind) (with_event (take a.reached h) event) next nodes → 0 < length next → IsPending (with_event (take a.reached h) event) pending.operations.items
+    → IsCover (start a.object.kind) (Step a.object.kind) (with_event (take a.reached h) event) next nodes → 0 < length next → IsPending (with_event (take a.reached h) event) pending.operations.items
     → IsGrown a.nodes nodes → a.pending.crashed ≤ pending.crashed → take a.pending.crashed pending.operations.items ≡ take a.pending.crashed a.pending.operations.items
     → IsReplay (record a { reached = a.reached + 1; present = Some next; pending = pending; nodes = nodes }) h
-replay_advanced a next pending nodes h event prepared there exact some opened grown crashed front = record {
+replay_advanced a next pending nodes h event prepared there cover some opened grown crashed front = record {
   within = let inside = slice_get_within h a.reached event there in omega arith;
   enough = omega (arith, prepared.before);
   few = omega (arith, right.few);
@@ -339,7 +340,7 @@ replay_advanced a next pending nodes h event prepared there exact some opened gr
       (sym (take_alike c.crashed a.pending.crashed pending.operations.items a.pending.operations.items was.crashed front)) (omega (arith, was.crashed)) was;
   rising = right.rising;
   present = λ f is. subst (λ g. IsKnown a.object.kind (take (a.reached + 1) h) g nodes pending.operations.items) (some_same next f is)
-      (subst (λ l. IsKnown a.object.kind l next nodes pending.operations.items) (sym (event_taken h a.reached event there)) (record { exact = exact; some = some; opened = opened }));
+      (subst (λ l. IsKnown a.object.kind l next nodes pending.operations.items) (sym (event_taken h a.reached event there)) (record { cover = cover; some = some; opened = opened }));
   last = λ none k c at end. absurd (never none);
 }
   where
@@ -410,22 +411,23 @@ replay_back a v number place last nodes h edited right inside same made at_last 
           omega (arith, one)
     ]
 
+-- each node of a cover spells a legal order, for each kind
+abbrev pub SpellsOrders : Type 0
+SpellsOrders = (kind : Kind) → CoversSpellLegalOrders (start kind) (Step kind)
+
 -- the first node of a frontier spells a legal order
-pub first_order : (kind : Kind) (h : List Event) (f : Entries) (nodes : List (ℕ × Placed)) (pending : List Open) → IsKnown kind h f nodes pending
+pub first_order : SpellsOrders → (kind : Kind) (h : List Event) (f : Entries) (nodes : List (ℕ × Placed)) (pending : List Open) → IsKnown kind h f nodes pending
     → (config : State × List (ℕ × Reply)) (node : ℕ) → slice_get f 0 ≡ Some (config, node)
     → (order : List Placed) × Spells nodes node order × IsLegalOrderAs kind h order
-first_order kind h f nodes pending known config node at =
+first_order law kind h f nodes pending known config node at =
     let entry = get_or_from_slice_get f 0 (config, node) (config, node) at in
-    let found = known.exact.sound 0 (config, node) known.some in (
-      found.0,
-      subst (λ e. Spells nodes e.1 found.0) entry found.1,
-      record { order_of = found.2.order_of; legal = (_, found.2.runs) },
-    )
+    let found = law kind h f nodes known.cover 0 (config, node) known.some in
+    (found.0, subst (λ e. Spells nodes e.1 found.0) entry found.1, found.2)
 
-pub known_linearizable : (kind : Kind) (h : List Event) (f : Entries) (nodes : List (ℕ × Placed)) (pending : List Open) → IsKnown kind h f nodes pending → IsLinearizableAs kind h
-known_linearizable kind h [] nodes pending known = absurd (let some = known.some in omega arith)
-known_linearizable kind h (e ∷ rest) nodes pending known =
-    let found = first_order kind h (e ∷ rest) nodes pending known e.0 e.1 refl in
+pub known_linearizable : SpellsOrders → (kind : Kind) (h : List Event) (f : Entries) (nodes : List (ℕ × Placed)) (pending : List Open) → IsKnown kind h f nodes pending → IsLinearizableAs kind h
+known_linearizable law kind h [] nodes pending known = absurd (let some = known.some in omega arith)
+known_linearizable law kind h (e ∷ rest) nodes pending known =
+    let found = first_order law kind h (e ∷ rest) nodes pending known e.0 e.1 refl in
     (found.0, found.2)
 
 -- the empty history has the empty order
@@ -433,11 +435,11 @@ pub nothing_legal : EmptyIsLegal → (kind : Kind) (h : List Event) (n : ℕ) �
 nothing_legal law kind h n e = subst (λ m. IsLegalOrderAs kind (take m h) []) (sym e) (record { order_of = (law (λ _. kind)).0.order_of; legal = (start kind, refl) })
 
 -- the events that are known have a legal order
-pub replay_linearizable : EmptyIsLegal → (r : Replay) (h : List Event) → IsReplay r h → IsLinearizableAs r.object.kind (take r.reached h)
-replay_linearizable law r h right = by r.present refl
+pub replay_linearizable : EmptyIsLegal → SpellsOrders → (r : Replay) (h : List Event) → IsReplay r h → IsLinearizableAs r.object.kind (take r.reached h)
+replay_linearizable law orders r h right = by r.present refl
   where
     current : (f : Entries) → IsCurrent r.present r.checkpoints.items f → IsLinearizableAs r.object.kind (take r.reached h)
-    current f is = let known = known_current r h right f is in known_linearizable r.object.kind (take r.reached h) f r.nodes known.0 known.1
+    current f is = let known = known_current r h right f is in known_linearizable orders r.object.kind (take r.reached h) f r.nodes known.0 known.1
 
     from : r.present ≡ None → (items : List Checkpoint) → r.checkpoints.items ≡ items → IsLinearizableAs r.object.kind (take r.reached h)
     from none [] e = let n = ap length e in ([], nothing_legal law r.object.kind h r.reached (omega (arith, right.enough, n)))

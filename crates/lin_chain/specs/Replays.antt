@@ -8,7 +8,8 @@ use Rattle.lin_objects.specs.Steps.{Step, start}
 use Rattle.lin_order.specs.declared.placed.Placed.{Placed}
 use Rattle.lin_order.specs.Linearizable.{IsLinearizableBy, IsLegalOrderBy}
 use Rattle.lin_frontier.specs.declared.pending.Open.{Open}
-use Rattle.lin_frontier.specs.Frontiers.{IsFrontier, IsPending}
+use Rattle.lin_frontier.specs.Covers.{IsCover}
+use Rattle.lin_frontier.specs.Frontiers.{IsPending}
 use Rattle.lin_chain.specs.declared.replay.Checkpoint.{Checkpoint}
 use Rattle.lin_chain.specs.declared.replay.Replay.{Replay}
 
@@ -28,9 +29,9 @@ Entries = List ((State × List (ℕ × Reply)) × ℕ)
 abbrev pub held_count : Replay → ℕ
 held_count replay = length replay.checkpoints.items + (if is_some replay.present then 1 else 0)
 
--- this is the frontier after the events, which isn't empty, and these operations are open then
+-- the frontier covers the configurations of the events, and isn't empty; and these operations are open then
 pub record IsKnown (kind : Kind) (h : List Event) (frontier : Entries) (nodes : List (ℕ × Placed)) (pending : List Open) : Type 0 where
-  pub exact : IsFrontier (start kind) (Step kind) h frontier nodes
+  pub cover : IsCover (start kind) (Step kind) h frontier nodes
   pub some : 0 < length frontier
   pub opened : IsPending h pending
 

@@ -14,8 +14,9 @@ ghost use Rattle.lin_chain.specs.Replays.{IsLegalOrderAs};
 
 use crate::refuting::refutation_of;
 use crate::replay::{Replay, SPACING, Taken};
+use lin_frontier::covers_spell_legal_orders;
 use lin_history::{Event, Meter, OutOfMemory};
-use lin_objects::Kind;
+use lin_objects::{Any, Kind};
 use lin_order::{Placed, Refutation, empty_is_legal};
 use std::alloc::Global;
 
@@ -157,6 +158,7 @@ impl Chain {
         ensures scans { meter.new.scans ≡ meter.old.scans }
     {
         empty_is_legal();
+        covers_spell_legal_orders::<Any>();
         self.retry(budget);
         if self.end.is_alive() {
             self.go_on(events, picks, budget, meter)?;
@@ -227,6 +229,7 @@ impl Chain {
         ensures scans { meter.new.scans ≡ meter.old.scans }
     {
         empty_is_legal();
+        covers_spell_legal_orders::<Any>();
         let at = self.replay.reached;
         self.replay.prepare()?;
         self.end = match self.replay.take_in(event, budget, meter)? {

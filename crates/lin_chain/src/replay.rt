@@ -12,7 +12,9 @@ ghost use Rattle.lin_frontier.specs.Nodes.{Spells};
 ghost use Rattle.lin_chain.specs.Replays.{IsCurrent, IsLegalOrderAs, IsLinearizableAs, IsPrepared, IsReplay, held_count};
 
 use crate::pending::{Pending, append};
-use lin_frontier::{Frontier, NodeId, Nodes, Open, Step, nothing_is_open_at_first};
+use lin_frontier::{
+    Frontier, NodeId, Nodes, Open, Step, covers_spell_legal_orders, nothing_is_open_at_first,
+};
 use lin_history::{Event, Meter, OutOfMemory, beginnings_are_well_formed};
 use lin_objects::{Any, Kind};
 use lin_order::{Placed, empty_is_legal};
@@ -241,7 +243,7 @@ impl Replay {
         let Some(frontier) = current(&self.present, &self.checkpoints) else {
             unreachable!()
         };
-        let step = frontier.advance_all(
+        let step = frontier.advance(
             self.alloc,
             &self.object,
             self.pending.as_slice(),
@@ -276,6 +278,7 @@ impl Replay {
         ensures { (h : List EventOf) → IsReplay self.now h → (order : List PlacedOf) × Spells self.now.nodes result order × IsLegalOrderAs self.now.object.kind (take self.now.reached h) order }
     {
         empty_is_legal();
+        covers_spell_legal_orders::<Any>();
         let Some(frontier) = current(&self.present, &self.checkpoints) else {
             return 0;
         };

@@ -1,6 +1,10 @@
 -- What a call's answer says, carried over to its caller.
 use Rattle.std.proofs.Common.{◌≡◌, subst, Option, Some, None, Result, Ok, Err, IfOk, IfSome, IfNone}
 
+pub if_ok_weaker : {A E : Type 0} (P Q : A → Type 0) → ((a : A) → P a → Q a) → (r : Result A E) → IfOk r P → IfOk r Q
+if_ok_weaker P Q w (Ok a) h = w a h
+if_ok_weaker P Q w (Err e) h = h
+
 pub if_some_weaker : {A E : Type 0} (P Q : A → Type 0) → ((a : A) → P a → Q a) → (r : Result (Option A) E) → IfOk r (λ f. IfSome f P) → IfOk r (λ f. IfSome f Q)
 if_some_weaker P Q w (Ok (Some a)) h = w a h
 if_some_weaker P Q w (Ok None) h = h

@@ -6,7 +6,10 @@ pub mod Trying
 pub mod TriedOnce
 pub mod Outcomes
 pub mod Entries
+pub mod Covered
+pub mod Crashing
 pub mod AfterEvents
+pub mod Pruning
 pub mod Completed
 pub mod Answered
 pub mod Spelling

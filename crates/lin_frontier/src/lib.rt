@@ -2,6 +2,7 @@
 #![tactic(auto)]
 
 mod configs;
+mod covering;
 mod frontier;
 mod keeping;
 mod nodes;
@@ -12,6 +13,7 @@ mod search;
 mod tests;
 
 pub use configs::Config;
+pub use covering::covers_spell_legal_orders;
 pub use frontier::{Frontier, Step};
 pub use nodes::{NodeId, Nodes};
 pub use pending::{Open, nothing_is_open_at_first, take_in};

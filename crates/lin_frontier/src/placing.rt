@@ -1,12 +1,17 @@
 //! Placing open operations in configurations.
-ghost use Rattle.std.specs.Prelude.{◌∷◌, ◌++◌, ◌+◌, [], length, OnOk};
+ghost use Rattle.std.specs.Prelude.{◌∷◌, ◌++◌, ◌+◌, [], Contains, length, OnOk};
+ghost use Rattle.lin_frontier.specs.Covering.{covers_itself};
+ghost use Rattle.lin_frontier.specs.Covers.{Covers};
 ghost use Rattle.lin_frontier.specs.Placing.{IsAbsent, IsTried, PlacesNext, PlacesOne};
 ghost use Rattle.lin_frontier.specs.Sameness.{config_same};
 ghost use Rattle.lin_frontier.specs.Walks.{IsTriedAtMost};
 
 use crate::configs::{Config, is_absent};
+use crate::covering::is_covered;
+use crate::nodes::NodeId;
 use crate::pending::Open;
 use crate::search::Steps;
+use indexmap::IndexMap;
 use lin_history::{Meter, OutOfMemory};
 use lin_objects::SeqObject;
 use lin_order::Placed;
@@ -69,6 +74,8 @@ pub struct Placing<'a, O: SeqObject> {
     pub object: &'a O,
     pub pending: &'a [Open],
     pub new: &'a Open,
+    /// The processes that crashed. Where there is none, no configuration covers another one.
+    pub crashed: &'a [u64],
 }
 
 impl<'a, O: SeqObject> Steps for Placing<'a, O> {
@@ -77,6 +84,8 @@ impl<'a, O: SeqObject> Steps for Placing<'a, O> {
     ghost step = { λ p c l d. PlacesNext (O.step p.object.now) p.pending.now p.new.now c l d };
 
     ghost most = { λ p. length p.pending.now + 1 };
+
+    ghost covers = { λ p c d. Covers (Contains p.crashed.now) c d };
 
     fn outcomes(
         &self,
@@ -95,5 +104,15 @@ impl<'a, O: SeqObject> Steps for Placing<'a, O> {
         Ok(out)
     }
 
+    fn is_covered(
+        &self,
+        found: &IndexMap<Config<O::State>, NodeId>,
+        state: &Config<O::State>,
+    ) -> bool {
+        !self.crashed.is_empty() && is_covered::<O>(found, found.len(), state, self.crashed)
+    }
+
     ghost same = { config_same O.same };
+
+    ghost itself = { λ p c. covers_itself (Contains p.crashed.now) c };
 }

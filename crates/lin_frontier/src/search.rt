@@ -1,7 +1,9 @@
-//! All that steps reach from some starts, in a map that is its own work list.
-ghost use Rattle.std.specs.Prelude.{◌≡◌, ◌≤◌, ◌*◌, ◌++◌, ◌∷◌, ℕ, true, All, Contains, IfOk, IfSome, IfNone, OnOk};
+//! What steps reach from some starts, in a map that is its own work list.
+ghost use Rattle.std.specs.Prelude.{◌≡◌, ◌≤◌, ◌*◌, ◌++◌, ◌∷◌, ℕ, true, All, Contains, IfOk, IfSome, IfNone, IsTrue, OnOk};
+ghost use Rattle.std.specs.Map.{keys_of};
 ghost use Rattle.indexmap.specs.IndexMap.{index_map_len};
 ghost use Rattle.lin_order.specs.declared.placed.Placed.{Placed as PlacedOf};
+ghost use Rattle.lin_frontier.specs.Covering.{IsCoveredBy};
 ghost use Rattle.lin_frontier.specs.Nodes.{IsGrown};
 ghost use Rattle.lin_frontier.specs.Walks.{IsAbsorbed, IsBeyond, IsClosure, IsTriedAtMost};
 
@@ -22,6 +24,9 @@ pub trait Steps {
     /// How many calls may be tried in one state.
     ghost most: { Self → ℕ };
 
+    /// The one state stands in for the other, which then need not be found.
+    ghost covers: { Self → Self.State → Self.State → Type 0 };
+
     /// The states that a step leads to, with the operations placed.
     fn outcomes(
         &self,
@@ -33,23 +38,31 @@ pub trait Steps {
         ensures complete { IfOk result (λ out. (next : Self.State) (p : PlacedOf) → step self.now state.now p next → Contains out.items (next, p)) }
         ensures tried { IsTriedAtMost (most self.now) meter.old meter.new };
 
+    /// Whether a state that was found stands in for this one. It may answer no for one that was found itself.
+    fn is_covered(&self, found: &IndexMap<Self::State, NodeId>, state: &Self::State) -> bool
+        ensures { IsTrue result → IsCoveredBy (covers self.now) (keys_of found.now.entries) state.now };
+
     /// States that compare alike are the same state.
     ghost same: { (x y : Self.State) → Self.State.eq x y ≡ true → x ≡ y };
+
+    /// Each state stands in for itself.
+    ghost itself: { (s : Self) (x : Self.State) → covers s x x };
 }
 
-/// Takes each of `out` into the map that isn't there, with a node under the parent.
+/// Takes each of `out` into the map that isn't covered there, with a node under the parent.
 fn absorb<O: Steps>(
+    object: &O,
     found: &mut IndexMap<O::State, NodeId>,
     nodes: &mut Nodes,
     out: Vec<(O::State, Placed)>,
     parent: NodeId,
 ) -> Result<(), OutOfMemory>
     ensures grown { IsGrown nodes.old nodes.new }
-    ensures taken { OnOk result (IsAbsorbed out.items parent found.old.entries found.new.entries nodes.new) }
+    ensures taken { OnOk result (IsAbsorbed (O.covers object.now) out.items parent found.old.entries found.new.entries nodes.new) }
 {
     let mut rest = out;
     while let Some((state, placed)) = rest.pop() {
-        if !found.contains_key(&state) {
+        if !found.contains_key(&state) && !object.is_covered(found, &state) {
             let id = nodes.push(parent, placed)?;
             match found.insert(state, id) {
                 Ok(_) => {}
@@ -60,7 +73,8 @@ fn absorb<O: Steps>(
     Ok(())
 }
 
-/// All that is reached from the starts, each once with its node, or `None` where that is more than the budget.
+/// What is reached from the starts but for covered ones, each once with its node, or `None` where that is more than the
+/// budget.
 ///
 /// The map grows while it is worked off from its first entry to its last.
 pub fn closure<O: Steps>(
@@ -72,7 +86,7 @@ pub fn closure<O: Steps>(
     meter: &mut Meter,
 ) -> Result<Option<IndexMap<O::State, NodeId>>, OutOfMemory>
     ensures grown { IsGrown nodes.old nodes.new }
-    ensures closure { IfOk result (λ found. IfSome found (λ map. IsClosure (O.step object.now) starts.entries nodes.old nodes.new map.entries)) }
+    ensures closure { IfOk result (λ found. IfSome found (λ map. IsClosure (O.step object.now) (O.covers object.now) starts.entries nodes.old nodes.new map.entries)) }
     ensures small { IfOk result (λ found. IfSome found (λ map. index_map_len map ≤ budget)) }
     ensures over { IfOk result (λ found. IfNone found (IsBeyond (O.step object.now) starts.entries budget)) }
     ensures tried { IsTriedAtMost (budget * O.most object.now) meter.old meter.new }
@@ -85,7 +99,7 @@ pub fn closure<O: Steps>(
     while let Some((state, node)) = found.get_index(at) {
         let parent = *node;
         let out = object.outcomes(alloc, state, meter)?;
-        absorb::<O>(&mut found, nodes, out, parent)?;
+        absorb(object, &mut found, nodes, out, parent)?;
         if found.len() > budget {
             return Ok(None);
         }

@@ -104,8 +104,23 @@ fn is_sound(
     Ok(true)
 }
 
+/// Which form of a step is taken.
+#[derive(Clone, Copy)]
+enum Form {
+    /// All configurations are kept.
+    All,
+    /// Those are kept that no other one covers.
+    Pruned,
+}
+
 /// What comes of the events, one after the other, up to the first that leaves no frontier.
-fn came_of(alloc: Global, kind: Kind, events: &[Event], budget: u32) -> Result<Came, OutOfMemory> {
+fn came_by(
+    alloc: Global,
+    form: Form,
+    kind: Kind,
+    events: &[Event],
+    budget: u32,
+) -> Result<Came, OutOfMemory> {
     let object = Any { kind };
     let mut nodes = Nodes::new(alloc);
     let mut meter = Meter::new();
@@ -114,9 +129,15 @@ fn came_of(alloc: Global, kind: Kind, events: &[Event], budget: u32) -> Result<C
     for at in 0..events.len() {
         let event = &events[at];
         let kept = nodes.len();
-        match frontier.advance_all(
-            alloc, &object, &pending, at, event, budget, &mut nodes, &mut meter,
-        )? {
+        let step = match form {
+            Form::All => frontier.advance_all(
+                alloc, &object, &pending, at, event, budget, &mut nodes, &mut meter,
+            )?,
+            Form::Pruned => frontier.advance(
+                alloc, &object, &pending, at, event, budget, &mut nodes, &mut meter,
+            )?,
+        };
+        match step {
             Step::Next(next) => frontier = next,
             Step::Empty => {
                 return Ok(if nodes.len() == kept {
@@ -140,6 +161,21 @@ fn came_of(alloc: Global, kind: Kind, events: &[Event], budget: u32) -> Result<C
     } else {
         Ok(Came::Unsound(frontier.len()))
     }
+}
+
+/// What comes of the events where all configurations are kept.
+fn came_of(alloc: Global, kind: Kind, events: &[Event], budget: u32) -> Result<Came, OutOfMemory> {
+    came_by(alloc, Form::All, kind, events, budget)
+}
+
+/// What comes of the events where covered configurations are left out.
+fn pruned_of(
+    alloc: Global,
+    kind: Kind,
+    events: &[Event],
+    budget: u32,
+) -> Result<Came, OutOfMemory> {
+    came_by(alloc, Form::Pruned, kind, events, budget)
 }
 
 #[test]
@@ -263,6 +299,144 @@ fn a_budget_holds_so_many_and_no_more(rt: HostRuntime) -> Result<(), Fail> {
     assert_eq!(rt; came_of(alloc, Kind::Fifo, &queue[..1], 1), Ok(Came::Over));
     assert_eq!(rt;
         came_of(alloc, Kind::Fifo, &queue[..1], 2),
+        Ok(Came::Sound(2))
+    );
+    Ok(())
+}
+
+#[test]
+fn a_crashed_write_is_placed_only_where_it_shows(rt: HostRuntime) -> Result<(), Fail> {
+    let alloc = rt.alloc();
+    let kind = Kind::Register;
+    // (nil, {}), (1, {p0}), (2, {p1}) and (1, {p0, p1}) stay; (2, {p1}) covers (2, {p0, p1}).
+    let crashed = [
+        invoke(0, write(1)),
+        info(0, Name::Write),
+        invoke(1, write(2)),
+        info(1, Name::Write),
+    ];
+    assert_eq!(rt;
+        came_of(alloc, kind, &crashed[..3], AMPLE),
+        Ok(Came::Sound(5))
+    );
+    assert_eq!(rt;
+        pruned_of(alloc, kind, &crashed[..2], AMPLE),
+        Ok(Came::Sound(2))
+    );
+    assert_eq!(rt;
+        pruned_of(alloc, kind, &crashed[..3], AMPLE),
+        Ok(Came::Sound(4))
+    );
+    assert_eq!(rt;
+        pruned_of(alloc, kind, &crashed[..3], 4),
+        Ok(Came::Sound(4))
+    );
+    assert_eq!(rt; pruned_of(alloc, kind, &crashed[..3], 3), Ok(Came::Over));
+    // From then on (1, {p0}) covers (1, {p0, p1}) too.
+    assert_eq!(rt; pruned_of(alloc, kind, &crashed, AMPLE), Ok(Came::Sound(3)));
+
+    // The mark alone makes one covered.
+    let marked = [
+        invoke(0, write(1)),
+        invoke(1, write(2)),
+        info(0, Name::Write),
+        ok(1, Name::Write, Reply::Done),
+    ];
+    assert_eq!(rt;
+        pruned_of(alloc, kind, &marked[..2], AMPLE),
+        Ok(Came::Sound(5))
+    );
+    assert_eq!(rt;
+        pruned_of(alloc, kind, &marked[..3], AMPLE),
+        Ok(Came::Sound(4))
+    );
+    // (2, {}) and (1, {p0}).
+    assert_eq!(rt; pruned_of(alloc, kind, &marked, AMPLE), Ok(Came::Sound(2)));
+    assert_eq!(rt; came_of(alloc, kind, &marked, AMPLE), Ok(Came::Sound(3)));
+
+    let same = [
+        invoke(0, write(7)),
+        invoke(1, write(7)),
+        info(0, Name::Write),
+    ];
+    assert_eq!(rt;
+        pruned_of(alloc, kind, &same[..2], AMPLE),
+        Ok(Came::Sound(4))
+    );
+    assert_eq!(rt; pruned_of(alloc, kind, &same, AMPLE), Ok(Came::Sound(3)));
+    Ok(())
+}
+
+#[test]
+fn what_a_crashed_write_explains_stays(rt: HostRuntime) -> Result<(), Fail> {
+    let alloc = rt.alloc();
+    let kind = Kind::Register;
+    let seen = [
+        invoke(0, write(1)),
+        info(0, Name::Write),
+        invoke(1, Call::Read),
+        ok(1, Name::Read, Reply::Value(Val::Int(1))),
+        invoke(1, Call::Read),
+        ok(1, Name::Read, Reply::Value(Val::Nil)),
+    ];
+    // (nil, {}), (nil, {p1 nil}), (1, {p0}), (1, {p0, p1 nil}) and (1, {p0, p1 1}).
+    assert_eq!(rt;
+        pruned_of(alloc, kind, &seen[..3], AMPLE),
+        Ok(Came::Sound(5))
+    );
+    assert_eq!(rt;
+        pruned_of(alloc, kind, &seen[..4], AMPLE),
+        Ok(Came::Sound(1))
+    );
+    assert_eq!(rt; pruned_of(alloc, kind, &seen, AMPLE), Ok(Came::Empty));
+    Ok(())
+}
+
+#[test]
+fn crashed_reads_cost_nothing(rt: HostRuntime) -> Result<(), Fail> {
+    let alloc = rt.alloc();
+    let kind = Kind::Register;
+    let reads = [
+        invoke(0, Call::Read),
+        info(0, Name::Read),
+        invoke(1, Call::Read),
+        info(1, Name::Read),
+        invoke(2, Call::Read),
+        info(2, Name::Read),
+    ];
+    assert_eq!(rt; came_of(alloc, kind, &reads, 3), Ok(Came::Over));
+    assert_eq!(rt; pruned_of(alloc, kind, &reads, 3), Ok(Came::Sound(1)));
+    assert_eq!(rt; pruned_of(alloc, kind, &reads[..1], 1), Ok(Came::Over));
+    Ok(())
+}
+
+#[test]
+fn where_nothing_crashed_all_stay(rt: HostRuntime) -> Result<(), Fail> {
+    let alloc = rt.alloc();
+    let queue = [
+        invoke(0, Call::Enqueue(1)),
+        invoke(1, Call::Enqueue(2)),
+        invoke(2, Call::Enqueue(3)),
+    ];
+    assert_eq!(rt;
+        pruned_of(alloc, Kind::Fifo, &queue, AMPLE),
+        Ok(Came::Sound(16))
+    );
+    let writes = [
+        invoke(0, write(1)),
+        invoke(1, write(2)),
+        fail(0, Name::Write),
+    ];
+    assert_eq!(rt;
+        pruned_of(alloc, Kind::Register, &writes[..2], 5),
+        Ok(Came::Sound(5))
+    );
+    assert_eq!(rt;
+        pruned_of(alloc, Kind::Register, &writes[..2], 4),
+        Ok(Came::Over)
+    );
+    assert_eq!(rt;
+        pruned_of(alloc, Kind::Register, &writes, AMPLE),
         Ok(Came::Sound(2))
     );
     Ok(())
@@ -538,11 +712,12 @@ fn has_legal_order(alloc: Global, kind: Kind, events: &[Event]) -> Result<bool, 
 /// The first prefix of the events of which the frontier says otherwise than the plain search, if there is one.
 fn first_difference(
     alloc: Global,
+    form: Form,
     kind: Kind,
     events: &[Event],
 ) -> Result<Option<usize>, OutOfMemory> {
     for count in 0..events.len() + 1 {
-        let agrees = match came_of(alloc, kind, &events[..count], AMPLE)? {
+        let agrees = match came_by(alloc, form, kind, &events[..count], AMPLE)? {
             Came::Sound(_) => has_legal_order(alloc, kind, &events[..count])?,
             Came::Empty => !has_legal_order(alloc, kind, &events[..count])?,
             Came::Unsound(_) | Came::Over => false,
@@ -570,7 +745,11 @@ fn drawn_histories_have_a_configuration_where_they_have_a_legal_order(
     ] {
         for _ in 0..12 {
             let events = drawn_history(alloc, kind, &mut draw)?;
-            assert_eq!(rt; first_difference(alloc, kind, &events), Ok(None));
+            assert_eq!(rt; first_difference(alloc, Form::All, kind, &events), Ok(None));
+            assert_eq!(rt;
+                first_difference(alloc, Form::Pruned, kind, &events),
+                Ok(None)
+            );
             if !has_legal_order(alloc, kind, &events)? {
                 without = without.saturating_add(1);
             }

@@ -35,7 +35,7 @@ returns-clause-right c = λ functions h well there right.
           let stays = c.take_in.ensures.stays (not_next c.take_in.result Empty empty_apart taken) in
           subst (λ e. IsRight (record { replay = c.take_in.new.self; ready = n + 1; end = e; budget = c.args.budget }) h) (sym w.self-is)
           (subst (λ (r : Replay). IsRight (record { replay = r; ready = n + 1; end = Dead n; budget = c.args.budget }) h) (sym stays)
-          (right_dead c.empty_is_legal.ensures mid n c.args.budget h (sym c.prepare.ensures.reached) prepared.right before inside
+          (right_dead c.empty_is_legal.ensures (λ kind. c.covers_spell_legal_orders.ensures (record { kind = kind })) mid n c.args.budget h (sym c.prepare.ensures.reached) prepared.right before inside
           (λ lin. c.take_in.ensures.empty taken functions h well at_mid prepared (subst (λ m. IsLinearizableAs mid.object.kind (take (m + 1) h)) (sym c.prepare.ensures.reached) lin))))
       | in-Over w ↦
           let taken = c.in_ok-take_in.was ∙ ap Ok w.in-Over.is in

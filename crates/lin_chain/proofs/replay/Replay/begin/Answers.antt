@@ -12,7 +12,7 @@ begun : (c : goal.After-push_reserved) (h : List Event) → IsReplay c.args.self
 begun c h right =
     let checkpoint : Checkpoint = record { frontier = c.in_ok-frontier.frontier; nodes = c.len.result; crashed = 0; live = c.new.result } in
     replay_begun (record c.args.self.now { nodes = c.start.new.nodes }) c.push_reserved.new.self checkpoint h c.requires
-    (c.push_reserved.ensures.items ∙ ap (λ l. l ++ checkpoint ∷ []) (c.reserve.ensures.items ∙ c.requires)) c.len.ensures refl c.new.ensures.items c.in_ok-frontier.ensures.exact
+    (c.push_reserved.ensures.items ∙ ap (λ l. l ++ checkpoint ∷ []) (c.reserve.ensures.items ∙ c.requires)) c.len.ensures refl c.new.ensures.items c.in_ok-frontier.ensures.cover
     c.in_ok-frontier.ensures.one c.nothing_is_open_at_first.ensures (replay_renamed c.args.self.now c.start.new.nodes h c.start.ensures.nodes right)
 
 pub returns-clause-right : goal.returns-clause-right

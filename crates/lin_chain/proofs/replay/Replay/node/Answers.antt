@@ -13,7 +13,7 @@ pub returns-in-Some-get : goal.returns-in-Some-get
 returns-in-Some-get c = λ h right.
     let self = c.args.self.now in
     let known = known_current self h right c.in-Some.frontier.now (subst (λ l. IsCurrent self.present l c.in-Some.frontier.now) c.deref.ensures.value c.in-Some.ensures.some) in
-    first_order self.object.kind (take self.reached h) c.in-Some.frontier.now self.nodes known.0 known.1 c.in-Some-get.field-0-0.now c.in-Some-get.node c.in-Some-get.ensures.found
+    first_order (λ kind. c.covers_spell_legal_orders.ensures (record { kind = kind })) self.object.kind (take self.reached h) c.in-Some.frontier.now self.nodes known.0 known.1 c.in-Some-get.field-0-0.now c.in-Some-get.node c.in-Some-get.ensures.found
 
 pub returns-in-None : goal.returns-in-None
 returns-in-None c = λ h right.

@@ -26,18 +26,18 @@ pub returns-in-Next-clause-right : goal.returns-in-Next-clause-right
 returns-in-Next-clause-right c = λ functions h well there prepared.
     let self = c.args.self.now in
     let before = take self.reached h in
-    let exact = c.in_ok-step.ensures.next c.in-Next.next c.in-Next.is functions before (passed (goal.at.returns-in-Next-clause-right c).In_ok-step functions h well there prepared) (known (goal.at.returns-in-Next-clause-right c).In_ok-step h prepared).exact in
-    replay_advanced self c.in-Next.next c.take_in.new.self c.advance_all.new.nodes h c.args.event.now prepared there exact (c.in_ok-step.ensures.some c.in-Next.next c.in-Next.is).0
-    (c.take_in.ensures.open functions before (next (goal.at.returns-in-Next-clause-right c).In_ok-step functions h well there prepared)) c.advance_all.ensures.grown c.take_in.ensures.more c.take_in.ensures.front
+    let cover = c.in_ok-step.ensures.next c.in-Next.next c.in-Next.is functions before (passed (goal.at.returns-in-Next-clause-right c).In_ok-step functions h well there prepared) (known (goal.at.returns-in-Next-clause-right c).In_ok-step h prepared).cover in
+    replay_advanced self c.in-Next.next c.take_in.new.self c.advance.new.nodes h c.args.event.now prepared there cover (c.in_ok-step.ensures.some c.in-Next.next c.in-Next.is).0
+    (c.take_in.ensures.open functions before (next (goal.at.returns-in-Next-clause-right c).In_ok-step functions h well there prepared)) c.advance.ensures.grown c.take_in.ensures.more c.take_in.ensures.front
 
 pub returns-in-Empty-clause-empty : goal.returns-in-Empty-clause-empty
 returns-in-Empty-clause-empty c = λ _ functions h well there prepared lin.
     let self = c.args.self.now in
-    c.in_ok-step.ensures.empty c.in-Empty.is functions (take self.reached h) (passed (goal.at.returns-in-Empty-clause-empty c).In_ok-step functions h well there prepared) (known (goal.at.returns-in-Empty-clause-empty c).In_ok-step h prepared).exact
+    c.in_ok-step.ensures.empty c.in-Empty.is functions (take self.reached h) (passed (goal.at.returns-in-Empty-clause-empty c).In_ok-step functions h well there prepared) (known (goal.at.returns-in-Empty-clause-empty c).In_ok-step h prepared).cover
     (subst (IsLinearizableAs self.object.kind) (event_taken h self.reached c.args.event.now there) lin)
 
 pub returns-in-Over-clause-over : goal.returns-in-Over-clause-over
 returns-in-Over-clause-over c = λ _ functions h well there prepared.
     let self = c.args.self.now in
     subst (λ l. IsOver (start self.object.kind) (Step self.object.kind) l c.args.budget) (sym (event_taken h self.reached c.args.event.now there))
-    (c.in_ok-step.ensures.over c.in-Over.is functions (take self.reached h) (passed (goal.at.returns-in-Over-clause-over c).In_ok-step functions h well there prepared) (known (goal.at.returns-in-Over-clause-over c).In_ok-step h prepared).exact)
+    (c.in_ok-step.ensures.over c.in-Over.is functions (take self.reached h) (passed (goal.at.returns-in-Over-clause-over c).In_ok-step functions h well there prepared) (known (goal.at.returns-in-Over-clause-over c).In_ok-step h prepared).cover)
