@@ -17,3 +17,4 @@ pub mod TooLarge
 pub mod UnderWay
 pub mod Written
 pub mod Alone
+pub mod Refuted

@@ -9,7 +9,7 @@ use Rattle.lin_report.specs.Runs.{IsCommandReply, IsDone, IsReply, RunState}
 use Rattle.lin_report.specs.Texts.{fault_text}
 use Rattle.lin_report.specs.declared.answers.Status.{Status}
 use Rattle.lin_report.specs.declared.commands.Command.{Command}
-use Rattle.lin_report.specs.declared.commands.Command.TheVariants.{Edit, Skipped, Ask, Order, Report, Pull}
+use Rattle.lin_report.specs.declared.commands.Command.TheVariants.{Edit, Skipped, Ask, Order, Report, Pull, Refute}
 use Rattle.lin_report.specs.declared.commands.CommandFault.{CommandFault}
 use Rattle.lin_report.specs.declared.commands.CommandFault.TheVariants.{OutOfMemory}
 use Rattle.lin_report.proofs.CommandLines.{kept_says}
@@ -52,6 +52,7 @@ done_by keyed Skipped before now new text status same reply = (new, subst (λ p.
 done_by keyed (Ask scope) before now new text status same reply = (new, subst (λ p. IsCommandReply (Ask scope) p new text status) same reply, refl)
 done_by keyed (Order scope) before now new text status same reply = (new, subst (λ p. IsCommandReply (Order scope) p new text status) same reply, refl)
 done_by keyed Report before now new text status same reply = (new, subst (λ p. IsCommandReply Report p new text status) same reply, refl)
+done_by keyed (Refute key) before now new text status same reply = (new, subst (λ p. IsCommandReply (Refute key) p new text status) same reply, refl)
 done_by keyed Pull before now new text status same reply = elim reply [ ]
 
 pub plainly_said : (keyed : Bool) (held line : List ℕ) (before : RunState) (now new : Present) (follow : Followed) (left : Option (List ℕ)) (text : List ℕ) (status : Option Status) (command : Command)

@@ -18,7 +18,7 @@ use Rattle.lin_session.specs.declared.edits.Edit.TheVariants as edit
 use Rattle.lin_report.specs.Integers.{integer_of, number_of}
 use Rattle.lin_report.specs.Parts.{Part, words_from}
 use Rattle.lin_report.specs.declared.commands.Command.{Command}
-use Rattle.lin_report.specs.declared.commands.Command.TheVariants.{Edit, Skipped, Ask, Order, Report, Pull}
+use Rattle.lin_report.specs.declared.commands.Command.TheVariants.{Edit, Skipped, Ask, Order, Report, Pull, Refute}
 use Rattle.lin_report.specs.declared.commands.CommandFault.{CommandFault}
 use Rattle.lin_report.specs.declared.commands.CommandFault.TheVariants.{UnknownCommand, BadWords, BadNumber, BadKind, NotOneMap, LineTooLong, Edn, Event, OutOfMemory}
 use Rattle.lin_report.specs.declared.senses.Sense.{Sense}
@@ -45,7 +45,8 @@ verb_of = look_up (
     (codes "ask", verb.Ask) ∷
     (codes "order", verb.Order) ∷
     (codes "report", verb.Report) ∷
-    (codes "pull", verb.Pull) ∷ [])
+    (codes "pull", verb.Pull) ∷
+    (codes "refute", verb.Refute) ∷ [])
 
 -- the words for kinds
 abbrev pub kind_of : List ℕ → Option Kind
@@ -86,6 +87,12 @@ number_in most words =
     or_fault BadWords (only words) (λ word.
     or_fault BadNumber (number_of most word.text) (λ n. Ok n))
 
+-- the key that the only word writes
+abbrev pub key_in : List Part → Result ℤ CommandFault
+key_in words =
+    or_fault BadWords (only words) (λ word.
+    or_fault BadNumber (integer_of word.text) (λ key. Ok key))
+
 -- what a question is about: the object of the key that the only word writes, or the whole where there is none
 abbrev pub scope_in : List Part → Result Scope CommandFault
 scope_in [] = Ok scope.Whole
@@ -122,6 +129,7 @@ sense_behind verb.Ask end words = plain Ask (scope_in words)
 sense_behind verb.Order end words = plain Order (scope_in words)
 sense_behind verb.Report end words = plain (λ nothing. Report) (no_more words)
 sense_behind verb.Pull end words = plain (λ nothing. Pull) (no_more words)
+sense_behind verb.Refute end words = plain Refute (key_in words)
 
 -- what the words of a line say
 abbrev pub sense_of : List Part → Result Sense CommandFault

@@ -1,16 +1,19 @@
 -- What a run of commands reads and writes.
-use Rattle.std.specs.Prelude.{◌≡◌, ◌≢◌, ◌==◌, ◌≤◌, ◌-◌, ◌^◌, ◌++◌, ◌∷◌, [], ◌⊎◌, if◌then◌else◌, nat_lt, ℕ, Bool, true, false, List, Option, None, Some, Result, Ok, Err, codes, decimal, length, take, unwrap_or}
+use Rattle.std.specs.Prelude.{◌≡◌, ◌≢◌, ◌==◌, ◌≤◌, ◌-◌, ◌^◌, ◌++◌, ◌∷◌, [], ◌⊎◌, if◌then◌else◌, nat_lt, ℕ, ℤ, Bool, true, false, List, Option, None, Some, Result, Ok, Err, codes, decimal, length, take, unwrap_or}
 use Rattle.std.specs.Option.{option_or}
 use Rattle.std.specs.Io.KnownBytes.{Appends, Consumes, IsAtEnd}
 use Rattle.lin_history.specs.declared.events.Event.{Event}
 use Rattle.lin_history.specs.declared.follow.FollowFault.{FollowFault}
 use Rattle.lin_history.specs.declared.follow.FollowFault.TheVariants as fault
 use Rattle.lin_history.specs.Stream.{IsStream}
-use Rattle.lin_session.specs.Answers.{IsAnswer, IsVerdict, verdict_of}
+use Rattle.lin_session.specs.Answers.{IsAnswer, IsVerdict, kinds_in, verdict_of}
 use Rattle.lin_session.specs.Edits.{Present, IsRefused, edited}
 use Rattle.lin_session.specs.declared.answers.Answer.{Answer}
 use Rattle.lin_session.specs.declared.answers.Answer.TheVariants as answer
+use Rattle.lin_session.specs.Refuting.{IsOverSomewhere}
+use Rattle.lin_session.specs.declared.answers.Scope.TheVariants as scope
 use Rattle.lin_session.specs.declared.answers.Verdict.{Verdict}
+use Rattle.lin_session.specs.declared.answers.Verdict.TheVariants as verdict
 use Rattle.lin_session.specs.declared.edits.Edit.{Edit as EditOf}
 use Rattle.lin_session.specs.declared.edits.EditFault.{EditFault}
 use Rattle.lin_session.specs.declared.edits.EditFault.TheVariants as edit_fault
@@ -24,7 +27,7 @@ use Rattle.lin_report.specs.declared.answers.Refusal.TheVariants as refusal
 use Rattle.lin_report.specs.declared.answers.Status.{Status}
 use Rattle.lin_report.specs.declared.answers.Status.TheVariants as status_of
 use Rattle.lin_report.specs.declared.commands.Command.{Command}
-use Rattle.lin_report.specs.declared.commands.Command.TheVariants.{Edit, Skipped, Ask, Order, Report, Pull}
+use Rattle.lin_report.specs.declared.commands.Command.TheVariants.{Edit, Skipped, Ask, Order, Report, Pull, Refute}
 use Rattle.lin_report.specs.declared.commands.CommandFault.{CommandFault}
 use Rattle.lin_report.specs.declared.faults.RunFault.{RunFault}
 use Rattle.lin_report.specs.declared.faults.RunFault.TheVariants.{ReadFailed, WriteFailed, OutOfMemory, TooMuch}
@@ -71,6 +74,17 @@ IsEditReply edit before after text =
     (((fault : EditFault) → IsRefusedFor edit before fault → ⊥) × (after ≡ edited edit before) × (text ≡ ok_line (length after.history)))
     ⊎ ((fault : EditFault) × IsRefusedFor edit before fault × (after ≡ before) × (text ≡ edit_fault_text fault ++ codes "\n"))
 
+-- What is written of the refutation of an object, and the status where that is an answer: how many events the shortest prefix has
+-- that fails it; an answer that isn't a no; or, of a no whose sets the budget may not hold, that they are too large.
+abbrev pub IsRefuteReply : Present → ℤ → List ℕ → Option Status → Type 0
+IsRefuteReply now key text status =
+    ((n : ℕ) × IsVerdict now (scope.Object key) (verdict.No n)
+    × (text ≡ codes "refuted prefix " ++ decimal n ++ codes "\n") × (status ≡ Some status_of.No))
+    ⊎ ((found : Verdict) × IsVerdict now (scope.Object key) found × ((n : ℕ) → found ≢ verdict.No n)
+    × (text ≡ answer_text found ++ codes "\n") × (status ≡ Some (answer_status found)))
+    ⊎ (((n : ℕ) × IsVerdict now (scope.Object key) (verdict.No n)) × IsOverSomewhere (kinds_in now) now.budget now.history key
+    × (text ≡ codes "refused refute 2 TooLarge\n") × (status ≡ None))
+
 -- What a command that reads no file makes of the present state, what is written, and the status where that is an answer. Each
 -- answer may be any that is right.
 abbrev pub IsCommandReply : Command → Present → Present → List ℕ → Option Status → Type 0
@@ -81,6 +95,7 @@ IsCommandReply (Ask scope) before after text status = (after ≡ before) × (ver
 IsCommandReply (Order scope) before after text status = (after ≡ before) × (answer : Answer) × IsAnswer before scope answer
     × (text ≡ order_answer_text answer ++ codes "\n") × (status ≡ Some (answer_status (verdict_of answer)))
 IsCommandReply Report before after text status = (after ≡ before) × (whole : Status) × IsReport before text whole × (status ≡ Some whole)
+IsCommandReply (Refute key) before after text status = (after ≡ before) × IsRefuteReply before key text status
 IsCommandReply Pull before after text status = ⊥
 
 -- why the file is refused, if it is; an element that is unfinished waits

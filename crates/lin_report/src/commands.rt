@@ -32,6 +32,8 @@ pub enum Command {
     Report,
     /// The events that the file has now.
     Pull,
+    /// A refutation of one object.
+    Refute(i64),
 }
 
 /// Why a line is refused: the first of these that holds.

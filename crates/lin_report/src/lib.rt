@@ -13,6 +13,7 @@ mod laws;
 mod orders;
 mod parts;
 mod pulls;
+mod refuting;
 mod replies;
 mod reports;
 mod runs;
@@ -22,6 +23,8 @@ mod sessions;
 mod tests;
 #[cfg(test)]
 mod tests_commands;
+#[cfg(test)]
+mod tests_refutes;
 #[cfg(test)]
 mod tests_reports;
 #[cfg(test)]

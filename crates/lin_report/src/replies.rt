@@ -1,16 +1,18 @@
 //! The replies to commands that read no file.
-ghost use Rattle.std.specs.Prelude.{◌≡◌, ◌≢◌, ◌++◌, None, IfOk, codes};
+ghost use Rattle.std.specs.Prelude.{◌≡◌, ◌≢◌, ◌++◌, None, Some, IfOk, codes};
+ghost use Rattle.lin_report.specs.Reports.{answer_status, answer_text};
 ghost use Rattle.lin_report.specs.Runs.{IsCommandReply, IsEditReply, order_answer_text};
 ghost use Rattle.lin_report.specs.Runs as said;
 ghost use Rattle.lin_report.specs.Texts.{edit_fault_text, fault_text};
 
 use crate::answers::{Status, put_number};
 use crate::commands::{Command, CommandFault};
+use crate::refuting::refute;
 use crate::reports::report;
 use crate::texts::{put_edit_fault, put_fault, write_order};
 use crate::verdicts::{status_of, verdict_of, verdict_words};
 use lin_history::OutOfMemory;
-use lin_session::{Answer, Edit, EditFault, Scope, Session};
+use lin_session::{Answer, Edit, EditFault, Scope, Session, Verdict};
 use std::alloc::{AllocError, Global};
 
 /// What is written for a line, and the status of a run where that is its last answer.
@@ -81,17 +83,24 @@ fn make(alloc: Global, session: &mut Session, edit: Edit) -> Result<Vec<u8>, Out
     }
 }
 
-/// What is found for the scope.
-fn ask(alloc: Global, session: &mut Session, scope: Scope) -> Result<Reply, OutOfMemory>
-    ensures { IfOk result (λ reply. IsCommandReply (Command.Ask scope) session.old.present session.new.present reply.text.items reply.status) }
+/// The reply that tells an answer without an order.
+pub fn answered(alloc: Global, verdict: Verdict) -> Result<Reply, OutOfMemory>
+    ensures { IfOk result (λ reply. (reply.text.items ≡ answer_text verdict ++ codes "\n") × (reply.status ≡ Some (answer_status verdict))) }
 {
-    let verdict = session.judge(alloc, scope)?;
     let mut text = verdict_words(alloc, verdict)?;
     text.push(b'\n')?;
     Ok(Reply {
         text,
         status: Some(status_of(verdict)),
     })
+}
+
+/// What is found for the scope.
+fn ask(alloc: Global, session: &mut Session, scope: Scope) -> Result<Reply, OutOfMemory>
+    ensures { IfOk result (λ reply. IsCommandReply (Command.Ask scope) session.old.present session.new.present reply.text.items reply.status) }
+{
+    let verdict = session.judge(alloc, scope)?;
+    answered(alloc, verdict)
 }
 
 /// The text of an answer, with its order where there is one.
@@ -142,6 +151,7 @@ pub fn reply_to(
                 status: Some(answered.status),
             })
         }
+        Command::Refute(key) => refute(alloc, session, key),
         Command::Pull => unreachable!(),
     }
 }

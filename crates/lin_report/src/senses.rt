@@ -24,6 +24,7 @@ pub enum Verb {
     Order,
     Report,
     Pull,
+    Refute,
 }
 
 /// Where the event of a map is put.
@@ -89,6 +90,9 @@ fn verb_of(word: &[u8]) -> Option<Verb>
     }
     if word == b"pull".as_slice() {
         return Some(Verb::Pull);
+    }
+    if word == b"refute".as_slice() {
+        return Some(Verb::Refute);
     }
     None
 }
@@ -158,6 +162,17 @@ fn number_in(line: &[u8], from: usize, most: u64) -> Result<u64, CommandFault>
         return Err(CommandFault::BadWords);
     };
     number(word.text, most).ok_or(CommandFault::BadNumber)
+}
+
+/// The key that the only word behind a place writes.
+fn key_in(line: &[u8], from: usize) -> Result<i64, CommandFault>
+    requires { from ≤ length line.now }
+    ensures { result ≡ said.key_in (words_from from (drop from line.now)) }
+{
+    let Some(word) = only_word(line, from) else {
+        return Err(CommandFault::BadWords);
+    };
+    integer(word.text).ok_or(CommandFault::BadNumber)
 }
 
 /// The object of the key that the only word behind a place writes, or the whole where there is none.
@@ -237,6 +252,7 @@ fn command_behind(line: &[u8], verb: Verb, end: usize) -> Result<Sense, CommandF
             no_more(line, end)?;
             Command::Pull
         }
+        Verb::Refute => Command::Refute(key_in(line, end)?),
     };
     Ok(Sense::Plain(command))
 }

@@ -17,9 +17,9 @@ fn is_refused(rt: HostRuntime, line: &[u8], fault: CommandFault) -> bool {
 
 #[test]
 fn words_of_commands_are_tested_first(rt: HostRuntime) {
-    let refused: [(&[u8], CommandFault); 12] = [
+    let refused: [(&[u8], CommandFault); 14] = [
         (b"frob", CommandFault::UnknownCommand),
-        (b"refute 0", CommandFault::UnknownCommand),
+        (b"refuted 0", CommandFault::UnknownCommand),
         (b"append{}", CommandFault::UnknownCommand),
         (b"Ask", CommandFault::UnknownCommand),
         (b"remove", CommandFault::BadWords),
@@ -30,6 +30,8 @@ fn words_of_commands_are_tested_first(rt: HostRuntime) {
         (b"ask 0 1", CommandFault::BadWords),
         (b"report 0", CommandFault::BadWords),
         (b"pull x", CommandFault::BadWords),
+        (b"refute", CommandFault::BadWords),
+        (b"refute 0 1", CommandFault::BadWords),
     ];
     for (line, fault) in refused {
         assert!(rt; is_refused(rt, line, fault));
@@ -38,7 +40,7 @@ fn words_of_commands_are_tested_first(rt: HostRuntime) {
 
 #[test]
 fn numbers_and_kinds_are_tested_next(rt: HostRuntime) {
-    let refused: [(&[u8], CommandFault); 11] = [
+    let refused: [(&[u8], CommandFault); 12] = [
         (b"remove x", CommandFault::BadNumber),
         (b"remove -1", CommandFault::BadNumber),
         (b"remove 18446744073709551616", CommandFault::BadNumber),
@@ -48,6 +50,7 @@ fn numbers_and_kinds_are_tested_next(rt: HostRuntime) {
         (b"budget 4294967296", CommandFault::BadNumber),
         (b"ask 9223372036854775808", CommandFault::BadNumber),
         (b"order +5", CommandFault::BadNumber),
+        (b"refute x", CommandFault::BadNumber),
         (b"kind x stack", CommandFault::BadNumber),
         (b"kind 0 stack", CommandFault::BadKind),
     ];
@@ -280,6 +283,12 @@ fn questions(rt: HostRuntime) {
         matches!(
             read_command(rt.alloc(), b"pull", false),
             Ok(Some(Command::Pull))
+        )
+    );
+    assert!(rt;
+        matches!(
+            read_command(rt.alloc(), b"refute  -5\r", false),
+            Ok(Some(Command::Refute(-5)))
         )
     );
 }

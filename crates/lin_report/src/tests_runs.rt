@@ -6,14 +6,14 @@ use lin_objects::Kind;
 use std::io;
 use std::io::Read;
 
-const REGISTER: Settings = Settings {
+pub(crate) const REGISTER: Settings = Settings {
     kind: Kind::Register,
     keyed: false,
     budget: 65_536,
 };
 
 /// Whether a script over a file writes these replies, and ends so.
-fn replies(
+pub(crate) fn replies(
     rt: HostRuntime,
     settings: Settings,
     file: &[u8],
@@ -32,7 +32,7 @@ fn replies(
 }
 
 /// A read of nil behind a write.
-const STALE: &[u8] = b"{:process 0, :type :invoke, :f :write, :value 1}\n\
+pub(crate) const STALE: &[u8] = b"{:process 0, :type :invoke, :f :write, :value 1}\n\
 {:process 0, :type :ok, :f :write, :value nil}\n\
 {:process 1, :type :invoke, :f :read, :value nil}\n\
 {:process 1, :type :ok, :f :read, :value nil}\n";

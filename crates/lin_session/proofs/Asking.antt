@@ -2,7 +2,7 @@
 use Rattle.std.proofs.Common.{◌≡◌, ◌<◌, ◌-◌, ◌+◌, ℕ, ℤ, List, length, slice_get, slice_index, get_or, take, AllPairs, Option, None, Some, inl, inr, refl, sym, ap, subst, ◌∙◌, arith}
 use Rattle.std.proofs.lemmas.Bool.{cases_order, cases_lt}
 use Rattle.std.proofs.lemmas.List.{take_all}
-use Rattle.std.proofs.lemmas.Option.{none-some, slice_get_within, slice_get-get_or, get_or_from_slice_get}
+use Rattle.std.proofs.lemmas.Option.{none-some, same_Some, slice_get_within, slice_get-get_or, get_or_from_slice_get}
 use Rattle.lin_history.specs.declared.events.Event.{Event}
 use Rattle.lin_history.specs.WellFormed.{IsWellFormed}
 use Rattle.lin_history.specs.WellFormedLaws.{BeginningsAreWellFormed}
@@ -20,7 +20,7 @@ use Rattle.lin_chain.specs.Chains.{kind_in, IsRight}
 use Rattle.lin_chain.specs.Ends.{IsEndOf}
 use Rattle.lin_chain.specs.Replays.{IsLegalOrderAs, IsLinearizableAs}
 use Rattle.lin_session.specs.declared.answers.Verdict.{Verdict}
-use Rattle.lin_session.specs.declared.answers.Verdict.TheVariants.{Yes}
+use Rattle.lin_session.specs.declared.answers.Verdict.TheVariants.{Yes, No}
 use Rattle.lin_session.specs.declared.kept.Object.{Object}
 use Rattle.lin_session.specs.Answers.{IsObjectVerdict}
 use Rattle.lin_session.specs.Objects.{IsObject, IsPlaceIn, Finds, IsOrderIn}
@@ -133,6 +133,12 @@ finds_alive picks Alive found told none_failing none_over = refl
 finds_alive picks (Dead i) found told none_failing none_over = absurd (none-some (slice_index picks i + 1) (sym none_failing ∙ ap (λ (r : Option ℕ × Option ℕ). r.0) told))
 finds_alive picks (Over i) found told none_failing none_over = absurd (none-some (slice_index picks i) (sym none_over ∙ ap (λ (r : Option ℕ × Option ℕ). r.1) told))
 
+-- an end that tells a failing prefix is dead at its last event
+pub finds_dead : (picks : List ℕ) (end : End) (found : Option ℕ × Option ℕ) (n : ℕ) → Finds picks end found → found.0 ≡ Some n → (i : ℕ) × (end ≡ Dead i) × (n ≡ slice_index picks i + 1)
+finds_dead picks Alive found n told failing = absurd (none-some n (sym (ap (λ (r : Option ℕ × Option ℕ). r.0) told) ∙ failing))
+finds_dead picks (Dead i) found n told failing = (i, refl, same_Some n (slice_index picks i + 1) (sym failing ∙ ap (λ (r : Option ℕ × Option ℕ). r.0) told))
+finds_dead picks (Over i) found n told failing = absurd (none-some n (sym (ap (λ (r : Option ℕ × Option ℕ). r.0) told) ∙ failing))
+
 -- the verdict for one object
 pub verdict_told : (kinds : ℤ → Kind) (budget : ℕ) (h : List Event) (key : ℤ) (failing over : Option ℕ) (told : Verdict) → IsFinding kinds budget h key failing over → IsTold failing over told
     → IsObjectVerdict kinds budget h key told
@@ -140,6 +146,14 @@ verdict_told kinds budget h key None None told is t = subst (IsObjectVerdict kin
 verdict_told kinds budget h key None (Some at) told is t = subst (IsObjectVerdict kinds budget h key) (sym t) is
 verdict_told kinds budget h key (Some n) None told is t = subst (IsObjectVerdict kinds budget h key) (sym t) is.1
 verdict_told kinds budget h key (Some n) (Some at) told is t = absurd (none-some at (sym is.0))
+
+-- findings that tell a no have its prefix
+pub told_failing : (failing over : Option ℕ) (told : Verdict) (n : ℕ) → IsTold failing over told → told ≡ No n → failing ≡ Some n
+told_failing None None told n t is_no = absurd (cc (sym t ∙ is_no))
+told_failing None (Some at) told n t is_no = absurd (cc (sym t ∙ is_no))
+told_failing (Some m) None told n t is_no = cc (sym t ∙ is_no)
+told_failing (Some m) (Some at) told n (inl t) is_no = cc (sym t.1 ∙ is_no)
+told_failing (Some m) (Some at) told n (inr t) is_no = absurd (cc (sym t.1 ∙ is_no))
 
 -- findings that tell a yes are none
 pub untold : (failing over : Option ℕ) (told : Verdict) → IsTold failing over told → told ≡ Yes → (failing ≡ None) × (over ≡ None)

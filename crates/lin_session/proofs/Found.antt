@@ -1,6 +1,6 @@
 -- Where keys are listed, and what stands there.
-use Rattle.std.proofs.Common.{◌≡◌, ◌<◌, ℕ, ℤ, Bool, true, false, List, [], ◌∷◌, ◌++◌, length, get_or, position, slice_get, Contains, Option, Some, None, Result, Ok, Err, refl, sym, ap, ◌∙◌, arith, true≢false, if◌then◌else◌, is_some}
-use Rattle.std.specs.Prelude.{IfSome, IfNone, IsOk, OnErr}
+use Rattle.std.proofs.Common.{◌≡◌, ◌<◌, ℕ, ℤ, Bool, true, false, List, [], ◌∷◌, ◌++◌, length, get_or, position, slice_get, Contains, Option, Some, None, Result, Ok, Err, refl, sym, ap, subst, ◌∙◌, arith, true≢false, if◌then◌else◌, is_some}
+use Rattle.std.specs.Prelude.{IfErr, IfSome, IfNone, IsErrAnd, IsOk, OnErr}
 use Rattle.std.specs.Ordering.{int_eq}
 use Rattle.std.specs.List.{list_any}
 use Rattle.std.proofs.lemmas.Bool.Decides.{Decides-int_eq}
@@ -48,3 +48,8 @@ on_err_since (Err e) p = p
 pub not_ok : {T E : Type 0} (r : Result T E) (e : E) → r ≡ Err e → IsOk r → ⊥
 not_ok (Ok x) e is ok = cc
 not_ok (Err f) e is ok = cc
+
+-- what holds of a fault holds of it where it is passed on
+pub passed_on : {T E : Type 0} (r : Result T E) (fault : E) (Q : E → Type 0) → IsErrAnd r (λ f. f ≡ fault) → Q fault → IfErr r Q
+passed_on (Ok x) fault Q same q = tt
+passed_on (Err f) fault Q same q = subst Q (sym same) q

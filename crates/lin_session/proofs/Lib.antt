@@ -12,3 +12,4 @@ pub mod Scopes
 pub mod Wholes
 pub mod Low
 pub mod Costing
+pub mod Refuting

@@ -1,10 +1,10 @@
 -- What is found of the objects of a history, one after the other: the shortest failing prefix, and the first place where one is over the budget.
-use Rattle.std.specs.Prelude.{◌≡◌, ◌≤◌, ◌<◌, ◌⊎◌, ℕ, ℤ, List, Option, None, Some, All, Contains, length, slice_get}
+use Rattle.std.specs.Prelude.{◌≡◌, ◌≤◌, ◌<◌, ◌+◌, ◌⊎◌, ℕ, ℤ, List, Option, None, Some, All, Contains, length, slice_get, slice_index}
 use Rattle.lin_history.specs.declared.events.Event.{Event}
 use Rattle.lin_objects.specs.declared.kinds.Kind.{Kind}
 use Rattle.lin_order.specs.Linearizable.{IsLegalOrder, IsLegalOrderFor, IsLinearizableFor}
 use Rattle.lin_order.specs.declared.placed.Placed.{Placed}
-use Rattle.lin_chain.specs.declared.chain.End.TheVariants.{Alive}
+use Rattle.lin_chain.specs.declared.chain.End.TheVariants.{Alive, Dead}
 use Rattle.lin_chain.specs.Chains.{end_in, ready_count}
 use Rattle.lin_session.specs.declared.answers.Scope.{Scope}
 use Rattle.lin_session.specs.declared.answers.Scope.TheVariants as scope
@@ -36,6 +36,18 @@ pub record AreFound (kinds : ℤ → Kind) (budget : ℕ) (h : List Event) (keys
 pub record IsAlive (object : Object) : Type 0 where
   pub alive : end_in object.chain ≡ Alive
   pub all : ready_count object.chain ≡ length object.picks.items
+
+-- the object's chain is dead at the last event of a prefix
+pub record IsDead (n : ℕ) (object : Object) : Type 0 where
+  pub at : ℕ
+  pub dead : end_in object.chain ≡ Dead at
+  pub last : n ≡ slice_index object.picks.items at + 1
+
+-- the object of the key is listed, and dead at the last event of a prefix
+abbrev pub IsDeadFor : Objects → Scope → ℕ → Type 0
+IsDeadFor objects (scope.Object key) n = Contains objects.keys.keys key
+    × ((i : ℕ) (object : Object) → slice_get objects.keys.keys i ≡ Some key → slice_get objects.objects.items i ≡ Some object → IsDead n object)
+IsDeadFor objects scope.Whole n = Unit {0}
 
 -- the object of the key is alive, or all are
 abbrev pub AreAlive : Objects → Scope → Type 0

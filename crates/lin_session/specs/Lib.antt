@@ -5,3 +5,4 @@ pub mod Objects
 pub mod Sessions
 pub mod Judgements
 pub mod Costs
+pub mod Refuting

@@ -2,7 +2,7 @@
 ghost use Rattle.lin_session.specs.Answers.{AnswersAreVerdicts};
 
 use lin_history::Cause;
-use lin_order::Placed;
+use lin_order::{Placed, Refutation};
 
 /// What a question is about.
 #[derive(Clone, Copy, Debug, PartialEq, Eq)]
@@ -37,6 +37,19 @@ pub enum Verdict {
     No { prefix: usize },
     /// With the events up to and with this position there are more configurations than the budget.
     Undecided { at: usize },
+}
+
+/// What comes of refuting an object.
+#[derive(Drop)]
+pub enum Refuted {
+    /// It is not linearizable: how many events the shortest prefix has that is not, and sets that show it of the object's
+    /// events in this prefix.
+    No {
+        prefix: usize,
+        refutation: Refutation,
+    },
+    /// Its answer, which is not a no.
+    Not(Answer),
 }
 
 /// Whoever has an answer has the verdict.

@@ -9,9 +9,12 @@ mod session;
 #[cfg(test)]
 mod tests;
 #[cfg(test)]
+mod tests_refutes;
+#[cfg(test)]
 mod tests_work;
 mod work;
 
-pub use answers::{Answer, Scope, Verdict, answers_are_verdicts};
+pub use answers::{Answer, Refuted, Scope, Verdict, answers_are_verdicts};
 pub use edits::{Edit, EditFault};
+pub use lin_chain::RefuteFault;
 pub use session::Session;

@@ -1,5 +1,5 @@
 //! The objects of a history: where the events of each stand in it, and what is known of their legal orders.
-ghost use Rattle.std.specs.Prelude.{◌≡◌, ◌≢◌, ◌↔◌, ◌+◌, ◌<◌, ◌≤◌, ◌∷◌, ◌++◌, [], ℕ, ℤ, List, Bool, All, Contains, min, IsOk, IfOk, IfSome, IfNone, OnOk, OnErr, None, Ok, Some, remove, slice_set, if◌then◌else◌, length, slice_get};
+ghost use Rattle.std.specs.Prelude.{◌≡◌, ◌≢◌, ◌↔◌, ◌+◌, ◌<◌, ◌≤◌, ◌∷◌, ◌++◌, [], ℕ, ℤ, List, Bool, All, Contains, min, IsOk, IfErr, IfOk, IfSome, IfNone, OnOk, OnErr, None, Ok, Some, remove, slice_set, if◌then◌else◌, length, slice_get, take};
 ghost use Rattle.std.specs.Ordering.{int_eq};
 ghost use Rattle.lin_history.specs.declared.calls.Name.{Name as NameOf};
 ghost use Rattle.lin_history.specs.declared.events.Event.{Event as EventOf};
@@ -9,6 +9,7 @@ ghost use Rattle.lin_objects.specs.Kinds.{functions_of, kind_of};
 ghost use Rattle.lin_order.specs.Parts.{events_at, part, renamed};
 ghost use Rattle.lin_order.specs.Linearizable.{IsLegalOrder, IsLegalOrderFor};
 ghost use Rattle.lin_order.specs.Merging.{lists_of};
+ghost use Rattle.lin_order.specs.Refutations.{IsRefutation, sets_of};
 ghost use Rattle.std.specs.List.{AllZip};
 ghost use Rattle.lin_session.specs.Answers.{IsAnswer, IsObjectVerdict, IsVerdict, IsWholeVerdict};
 ghost use Rattle.lin_chain.specs.Chains.{end_in, end_under, kind_in, ready_count, ready_under, IsRight as IsRightChain};
@@ -17,19 +18,20 @@ ghost use Rattle.lin_chain.specs.Replays.{IsLegalOrderAs};
 ghost use Rattle.lin_session.specs.declared.kept.Object.{Object as ObjectOf};
 ghost use Rattle.lin_session.specs.Objects.{AreRight, Finds, IsOrderIn, IsPlaceIn, split_in};
 ghost use Rattle.lin_session.specs.Costs.{IsSettled, cost_of, cost_of_all};
-ghost use Rattle.lin_session.specs.Judgements.{AreAlive, AreFound, IsAlive, IsFinding, IsOrderFor, IsTold};
+ghost use Rattle.lin_session.specs.Judgements.{AreAlive, AreFound, IsAlive, IsDead, IsDeadFor, IsFinding, IsOrderFor, IsTold};
+ghost use Rattle.lin_session.specs.Refuting.{IsOverSomewhere, IsRefuted, IsUnrefuted};
 
-use crate::answers::{Answer, Scope, Verdict};
+use crate::answers::{Answer, Refuted, Scope, Verdict};
 use crate::kept::{Object, Objects};
 use crate::work::least_of;
 use indexmap::IndexSet;
-use lin_chain::{Chain, End};
+use lin_chain::{Chain, End, RefuteFault};
 use lin_history::{Event, Meter, OutOfMemory, beginnings_are_well_formed};
 use lin_objects::{Kind, Kinds};
 use lin_order::{
-    Placed, absent_keys_are_legal, linearizability_is_local, merge, merged_orders_are_legal,
-    parts_grow, parts_keep_operations, parts_keep_orders, parts_of_prefixes, positions_spell_parts,
-    prefixes_are_linearizable,
+    Placed, Refutation, absent_keys_are_legal, linearizability_is_local, merge,
+    merged_orders_are_legal, parts_grow, parts_keep_operations, parts_keep_orders,
+    parts_of_prefixes, positions_spell_parts, prefixes_are_linearizable,
 };
 use std::alloc::Global;
 
@@ -218,6 +220,7 @@ impl Objects {
         ensures split { OnOk result (split_in self.new ≡ length events.now) }
         ensures apart { split_in self.old ≡ length events.now → split_in self.new ≡ length events.now }
         ensures answer { IfOk result (IsAnswer (record { history = events.now; kinds = kinds.now; budget = budget }) scope) }
+        ensures dead { (n : ℕ) → result ≡ Ok (Answer.No n) → IsDeadFor self.new scope n }
         ensures scans { meter.new.scans ≡ meter.old.scans }
     {
         match self.judge(alloc, scope, events, kinds, budget, meter)? {
@@ -226,6 +229,61 @@ impl Objects {
             Verdict::Undecided { at } => Ok(Answer::Undecided { at }),
             Verdict::IllFormed { at, cause } => Ok(Answer::IllFormed { at, cause }),
         }
+    }
+
+    /// Whether the object of the key is linearizable, with a refutation if it isn't. The events are well-formed.
+    pub(crate) fn refute(
+        &mut self,
+        alloc: Global,
+        key: i64,
+        events: &[Event],
+        kinds: &Kinds,
+        budget: u32,
+        meter: &mut Meter,
+    ) -> Result<Refuted, RefuteFault>
+        requires few { length events.now < usize.MAX }
+        requires right { AreRight self.old (kind_of kinds.now) events.now }
+        requires well_formed { IsWellFormed (functions_of (kind_of kinds.now)) events.now }
+        ensures right { AreRight self.new (kind_of kinds.now) events.now }
+        ensures split { OnOk result (split_in self.new ≡ length events.now) }
+        ensures apart { split_in self.old ≡ length events.now → split_in self.new ≡ length events.now }
+        ensures refuted { IfOk result (IsRefuted (record { history = events.now; kinds = kinds.now; budget = budget }) key) }
+        ensures unrefuted { IfErr result (IsUnrefuted (record { history = events.now; kinds = kinds.now; budget = budget }) key) }
+        ensures scans { meter.new.scans ≡ meter.old.scans }
+    {
+        match self.ask(alloc, Scope::Object(key), events, kinds, budget, meter) {
+            Ok(Answer::No { prefix }) => {
+                let refutation = self.refutation(alloc, key, events, budget)?;
+                Ok(Refuted::No { prefix, refutation })
+            }
+            Ok(answer) => Ok(Refuted::Not(answer)),
+            Err(_) => Err(RefuteFault::OutOfMemory),
+        }
+    }
+
+    /// Sets that refute the object of the key, which is dead. All events are told apart, and are well-formed.
+    fn refutation(
+        &self,
+        alloc: Global,
+        key: i64,
+        events: &[Event],
+        budget: u32,
+    ) -> Result<Refutation, RefuteFault>
+        requires dead { (n : ℕ) × IsDeadFor self.now (Scope.Object key) n }
+        requires split { split_in self.now ≡ length events.now }
+        requires right { (kinds : ℤ → KindOf) × AreRight self.now kinds events.now × IsWellFormed (functions_of kinds) events.now }
+        ensures refuted { IfOk result (λ refutation. (kinds : ℤ → KindOf) (n : ℕ) → AreRight self.now kinds events.now → IsDeadFor self.now (Scope.Object key) n
+            → IsRefutation (part key (take n events.now)) (kinds key) (sets_of refutation)) }
+        ensures unrefuted { IfErr result (λ fault. (fault ≢ RefuteFault.NotDead) × (fault ≡ RefuteFault.TooLarge → (kinds : ℤ → KindOf) → AreRight self.now kinds events.now → IsOverSomewhere kinds budget events.now key)) }
+    {
+        positions_spell_parts();
+        parts_of_prefixes();
+        parts_keep_operations();
+        let Some(i) = self.find(key) else {
+            unreachable!()
+        };
+        let object = &self.objects[i];
+        object.chain.refute(alloc, events, &object.picks, budget)
     }
 
     /// Whether the history is linearizable for the scope. Its events are well-formed.
@@ -246,6 +304,7 @@ impl Objects {
         ensures apart { split_in self.old ≡ length events.now → split_in self.new ≡ length events.now }
         ensures verdict { IfOk result (IsVerdict (record { history = events.now; kinds = kinds.now; budget = budget }) scope) }
         ensures alive { result ≡ Ok Verdict.Yes → AreAlive self.new scope }
+        ensures dead { (n : ℕ) → result ≡ Ok (Verdict.No n) → IsDeadFor self.new scope n }
         ensures scans { meter.new.scans ≡ meter.old.scans }
     {
         self.split(alloc, events, kinds)?;
@@ -282,6 +341,7 @@ impl Objects {
         ensures right { (kinds : ℤ → KindOf) → AreRight self.old kinds events.now → AreRight self.new kinds events.now }
         ensures verdict { IfOk result (λ verdict. (kinds : ℤ → KindOf) → AreRight self.old kinds events.now → IsWellFormed (functions_of kinds) events.now → IsObjectVerdict kinds budget events.now key verdict) }
         ensures alive { result ≡ Ok Verdict.Yes → AreAlive self.new (Scope.Object key) }
+        ensures dead { (n : ℕ) → result ≡ Ok (Verdict.No n) → IsDeadFor self.new (Scope.Object key) n }
         ensures scans { meter.new.scans ≡ meter.old.scans }
         ensures steps { (i : ℕ) (object : ObjectOf) → slice_get self.old.keys.keys i ≡ Some key → slice_get self.old.objects.items i ≡ Some object → meter.new.steps ≤ meter.old.steps + cost_of budget object }
         ensures idle { (Contains self.old.keys.keys key → ⊥) → meter.new ≡ meter.old }
@@ -414,6 +474,7 @@ impl Objects {
         ensures right { (kinds : ℤ → KindOf) → AreRight self.old kinds events.now → AreRight self.new kinds events.now }
         ensures found { IfOk result (λ r. (kinds : ℤ → KindOf) (key : ℤ) → slice_get self.old.keys.keys i ≡ Some key → AreRight self.old kinds events.now → IsWellFormed (functions_of kinds) events.now → IsFinding kinds budget events.now key r.0 r.1) }
         ensures alive { IfOk result (λ r. r.0 ≡ None → r.1 ≡ None → (object : ObjectOf) → slice_get self.new.objects.items i ≡ Some object → IsAlive object) }
+        ensures dead { IfOk result (λ r. (n : ℕ) (object : ObjectOf) → r.0 ≡ Some n → slice_get self.new.objects.items i ≡ Some object → IsDead n object) }
         ensures others { (j : ℕ) (object : ObjectOf) → j ≢ i → slice_get self.new.objects.items j ≡ Some object → slice_get self.old.objects.items j ≡ Some object }
         ensures scans { meter.new.scans ≡ meter.old.scans }
         ensures steps { (object : ObjectOf) → slice_get self.old.objects.items i ≡ Some object → meter.new.steps ≤ meter.old.steps + cost_of budget object }

@@ -6,13 +6,15 @@ ghost use Rattle.lin_objects.specs.Kinds.{functions_of, is_named, kind_of, named
 ghost use Rattle.lin_session.specs.Edits.{IsBudget, IsRefused, edited};
 ghost use Rattle.lin_session.specs.Answers.{IsAnswer, IsVerdict, kinds_in};
 ghost use Rattle.lin_session.specs.Objects.{AreRight, split_in};
+ghost use Rattle.lin_session.specs.Refuting.{IsRefuted, IsUnrefuted};
 ghost use Rattle.lin_session.specs.Sessions.{AreKeys};
 ghost use Rattle.lin_session.specs.Work.{anew, low_after};
 
-use crate::answers::{Answer, Scope, Verdict};
+use crate::answers::{Answer, Refuted, Scope, Verdict};
 use crate::edits::{Edit, EditFault};
 use crate::kept::Objects;
 use crate::work::{least_of, round_down};
+use lin_chain::RefuteFault;
 use lin_history::{Event, Meter, OutOfMemory, Shape};
 use lin_objects::{Kind, Kinds, KindsFault};
 use lin_wellformed::Scan;
@@ -185,6 +187,42 @@ impl Session {
             Shape::Bad { at, cause } => {
                 self.low = None;
                 Ok(Verdict::IllFormed { at, cause })
+            }
+        }
+    }
+
+    /// A refutation of the key's object, or its answer where that isn't a no.
+    ///
+    /// The sets speak of the object's events in the prefix of the answer. `TooLarge` is answered only for an object that is a
+    /// no, and only where some prefix has more configurations of it than the budget; `OutOfMemory` as by `ask`; `NotDead` never.
+    pub fn refute(&mut self, alloc: Global, key: i64) -> Result<Refuted, RefuteFault>
+        ensures refuted { IfOk result (IsRefuted self.old.present key) }
+        ensures unrefuted { IfErr result (IsUnrefuted self.old.present key) }
+        ensures present { self.new.present ≡ self.old.present }
+        ensures settled { OnOk result (self.new.low ≡ None) }
+        ensures unsettled { OnErr result (self.new.low ≡ self.old.low) }
+        ensures scans { self.new.meter.scans ≤ self.old.meter.scans + anew self.old.low (length self.old.present.history) }
+        ensures known { self.old.low ≡ None → (IsWellFormed (functions_of (kinds_in self.old.present)) self.old.present.history → ⊥) → IsOk result }
+    {
+        let Ok(shape) = self.scan.settle(&self.events, &self.kinds, &mut self.meter) else {
+            return Err(RefuteFault::OutOfMemory);
+        };
+        match shape {
+            Shape::Good => {
+                let refuted = self.objects.refute(
+                    alloc,
+                    key,
+                    &self.events,
+                    &self.kinds,
+                    self.budget,
+                    &mut self.meter,
+                )?;
+                self.low = None;
+                Ok(refuted)
+            }
+            Shape::Bad { at, cause } => {
+                self.low = None;
+                Ok(Refuted::Not(Answer::IllFormed { at, cause }))
             }
         }
     }

@@ -1,8 +1,8 @@
 use Rattle.std.proofs.Common.{◌≡◌, ℕ, Contains, Some, [], slice_get, subst, sym, ◌∙◌, arith, to_z, of_z, w64}
 use Rattle.std.proofs.lemmas.Int.{to_z-of_z}
 use Rattle.std.proofs.lemmas.Option.{slice_get_within}
-use Rattle.lin_session.specs.declared.answers.Verdict.TheVariants.{Yes}
-use Rattle.lin_session.proofs.Asking.{verdict_told, untold}
+use Rattle.lin_session.specs.declared.answers.Verdict.TheVariants.{Yes, No}
+use Rattle.lin_session.proofs.Asking.{told_failing, verdict_told, untold}
 use Rattle.lin_session.proofs.Lists.{element_at, one_place, there_at}
 use Rattle.lin_session.proofs.Found.{not_ok}
 use Rattle.lin_session.specs.declared.kept.Object.{Object}
@@ -47,6 +47,18 @@ listed_at : (c : In-Some) → slice_get c.args.self.now.keys.keys c.in-Some.i �
 listed_at c =
     let is_key : to_z w64 (of_z w64 c.args.key) ≡ c.args.key = to_z-of_z w64 c.args.key c.ranges.key in
     subst (λ k. slice_get c.args.self.now.keys.keys c.in-Some.i ≡ Some k) is_key c.in-Some.ensures.found
+
+pub returns-in_ok-failing-in-Some-clause-dead : goal.returns-in_ok-failing-in-Some-clause-dead
+returns-in_ok-failing-in-Some-clause-dead c = λ n is_no.
+    let keys = c.args.self.now.keys.keys in
+    let found_at = listed_at (goal.at.returns-in_ok-failing-in-Some-clause-dead c).In-Some in
+    let told_no : c.told.result ≡ No n = cc is_no in
+    let failing = told_failing c.in_ok-failing-in-Some.failing c.in_ok-failing-in-Some.over c.told.result n c.told.ensures told_no in (
+      subst (λ k. Contains k.keys c.args.key) (sym c.judge_listed.ensures.keys) (there_at keys c.in-Some.i c.args.key found_at),
+      λ i object key_at object_at.
+          let here = one_place keys c.requires.right.1.distinct i c.in-Some.i c.args.key (subst (λ k. slice_get k.keys i ≡ Some c.args.key) c.judge_listed.ensures.keys key_at) found_at in
+          c.in_ok-failing-in-Some.ensures.dead n object failing (subst (λ j. slice_get c.judge_listed.new.self.objects.items j ≡ Some object) here object_at),
+    )
 
 -- an object of the key stands there
 object_there : (c : In-Some) (i : ℕ) (object : Object) → slice_get c.args.self.now.keys.keys i ≡ Some c.args.key → slice_get c.args.self.now.objects.items i ≡ Some object

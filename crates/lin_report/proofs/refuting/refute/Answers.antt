@@ -1,0 +1,37 @@
+use Rattle.std.proofs.Common.{◌≡◌, inr, subst, sym, ◌∙◌, to_z, of_z, w64}
+use Rattle.std.proofs.lemmas.Int.{to_z-of_z}
+use Rattle.lin_history.specs.WellFormed.{IsWellFormed}
+use Rattle.lin_objects.specs.Kinds.{functions_of}
+use Rattle.lin_session.specs.declared.answers.Answer.TheVariants.{No}
+use Rattle.lin_session.specs.declared.answers.Scope.TheVariants.{Object}
+use Rattle.lin_session.specs.Answers.{kinds_in}
+use Rattle.lin_session.specs.Edits.{Present}
+use Rattle.lin_report.specs.Runs.{IsRefuteReply}
+use Rattle.lin_report.proofs.refuting.refute.Goals as goal
+
+pub checked-requires-clause-well_formed : goal.checked-requires-clause-well_formed
+checked-requires-clause-well_formed c =
+    let told = rw c.in-Ok-No.field-0-is at c.in-Ok-No.ensures.refuted in
+    subst (λ (now : Present). IsWellFormed (functions_of (kinds_in now)) now.history) (sym c.refute.ensures.present) told.0.0
+
+pub returns-in-Some : goal.returns-in-Some
+returns-in-Some c =
+    let is_key : to_z w64 (of_z w64 c.args.key) ≡ c.args.key = to_z-of_z w64 c.args.key c.ranges.key in
+    let text = c.in-Some.reply.text.items in
+    let status = c.in-Some.reply.status in
+    let told = rw c.in-Some.is at c.in_ok-reply-in-Ok-No.ensures in (
+      c.refute.ensures.present,
+      subst (λ k. IsRefuteReply c.args.session.now.present k text status) is_key (subst (λ now. IsRefuteReply now (to_z w64 (of_z w64 c.args.key)) text status) c.refute.ensures.present told),
+    )
+
+pub returns-in_ok-text-in-Err-TooLarge : goal.returns-in_ok-text-in-Err-TooLarge
+returns-in_ok-text-in-Err-TooLarge c =
+    let is_key : to_z w64 (of_z w64 c.args.key) ≡ c.args.key = to_z-of_z w64 c.args.key c.ranges.key in
+    let now = c.args.session.now.present in
+    let key = to_z w64 (of_z w64 c.args.key) in
+    let large = rw c.in-Err-TooLarge.field-0-is at c.in-Err-TooLarge.ensures.unrefuted in
+    let verdict = c.answers_are_verdicts.ensures now (Object key) (No large.0.0) large.0.1 in (
+      c.refute.ensures.present,
+      subst (λ k. IsRefuteReply now k c.plain.result.text.items c.plain.result.status) is_key
+          (inr (inr ((large.0.0, verdict), large.1, c.plain.ensures.text ∙ c.in_ok-text-in-Err-TooLarge.ensures.items, c.plain.ensures.status))),
+    )
