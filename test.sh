@@ -1,6 +1,7 @@
 #!/usr/bin/env bash
 # The whole gate: each proof from nothing, each edit that has to be refused, each test and the stored run of the program; then the
-# built program on the README's commands, on generated histories and on random edit scripts. The last line counts all of them.
+# built program on the README's commands, on generated histories, on random edit scripts and with each growth of memory refused, and a
+# plain text of the rules of refutations beside the tests. The last line counts all of them.
 set -u
 cd "$(dirname "$0")"
 log=$(mktemp)
@@ -8,7 +9,7 @@ trap 'rm -f "$log"' EXIT
 
 rt ci | tee "$log"
 [ "${PIPESTATUS[0]}" = 0 ] || exit 1
-for script in tests/readme.sh tests/generated.sh tests/edits.py tests/growths.py; do
+for script in tests/readme.sh tests/generated.sh tests/edits.py tests/growths.py tests/refutations.py; do
     echo "== $script"
     "$script" | tee -a "$log"
     [ "${PIPESTATUS[0]}" = 0 ] || exit 1

@@ -1,9 +1,9 @@
 #!/usr/bin/env python3
 """Random edit scripts, judged by a plain enumeration of all orders of the present history.
 
-Each script goes through `lincheck edit`: edits of all six kinds, refused ones among them, with questions in between. The model below
-shares no code with the program. It keeps the history as a list, looks back for well-formedness, and tries every order of every
-prefix, so histories stay small.
+Each script goes through `lincheck edit`: edits of all six kinds, refused ones among them, with questions and refutations in between.
+The model below shares no code with the program. It keeps the history as a list, looks back for well-formedness, and tries every
+order of every prefix, so histories stay small.
 
 usage: tests/edits.py [SCRIPTS] [SEED] [PROGRAM]   (the program has to be built; the last line counts the replies)
 """
@@ -199,6 +199,16 @@ class Model:
             return over and (scope is not None or self.is_linearizable(keys, at + 1))
         return False
 
+    def is_refuted(self, key, text):
+        """Whether a reply to `refute` may be given."""
+        counts = range(len(self.events) + 1)
+        if text == 'refused refute 2 TooLarge':
+            return (bad_event(self.events, self.kinds) is None and not self.is_linearizable([key], len(self.events))
+                    and any(len(self.ends_of(key, n)) > self.budget for n in counts))
+        if text.startswith('refuted prefix '):
+            return self.is_right(key, 'no' + text[len('refuted'):])
+        return not text.startswith('no') and self.is_right(key, text)
+
     def is_order(self, scope, text):
         pairs = []
         for word in [] if text == 'empty' else text.split(' '):
@@ -312,9 +322,12 @@ class Script:
         scope = None if draw.random() < 0.6 else draw.randrange(3)
         name = '' if scope is None else ' %d' % scope
         what = draw.random()
-        if what < 0.5:
+        if what < 0.4:
             self.put('ask' + name, lambda reply: now.is_right(scope, reply))
-        elif what < 0.8:
+        elif what < 0.6:
+            key = draw.choice(now.keys() or [0]) if draw.random() < 0.9 else draw.randrange(3)
+            self.put('refute %d' % key, lambda reply: now.is_refuted(key, reply))
+        elif what < 0.85:
             self.put('order' + name, lambda reply: now.is_right(scope, 'yes', reply[4:]) if reply.startswith('yes ') else reply != 'yes' and now.is_right(scope, reply))
         else:
             keys = now.keys()

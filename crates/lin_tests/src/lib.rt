@@ -1,8 +1,10 @@
-//! Worked examples, each through `verify` or `check` as a tester calls it: what it prints, and how it ends.
+//! Worked examples, each through `verify` or `check` as a tester calls it: what it prints, and how it ends; and refutations.
 #![tactic(auto)]
 
 #[cfg(test)]
 mod bad_input;
+#[cfg(test)]
+mod chains;
 #[cfg(test)]
 mod check;
 #[cfg(test)]
@@ -19,6 +21,8 @@ mod keyed;
 mod large;
 #[cfg(test)]
 mod objects;
+#[cfg(test)]
+mod refutations;
 #[cfg(test)]
 mod register;
 #[cfg(test)]

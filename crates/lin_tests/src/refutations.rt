@@ -1,0 +1,260 @@
+//! Refutations of histories of one register, in short forms, and what the check says of them.
+use crate::table::recording;
+use lin_history::{Event, Follow, Reply};
+use lin_objects::{Kind, State};
+use lin_order::{RefConfig, Refutation, check_refutation};
+use lin_report::read_order;
+use std::alloc::Global;
+use std::test::Fail;
+
+/// What is placed: `PROCESS=REPLY`, with spaces between two, or `empty`.
+fn placed(alloc: Global, text: &str) -> Result<Vec<(u64, Reply)>, Fail> {
+    let Ok(order) = read_order(alloc, text.as_bytes()) else {
+        return Err(Fail::new(format_args!("{text:?}")));
+    };
+    let mut pairs = Vec::new(alloc);
+    for pair in order {
+        pairs.push((pair.at as u64, pair.reply))?;
+    }
+    Ok(pairs)
+}
+
+/// A member: the register's value, and behind it what is placed, if anything is.
+fn member(alloc: Global, text: &str) -> Result<RefConfig, Fail> {
+    let (value, pairs) = text.split_once(' ').unwrap_or((text, "empty"));
+    let mut word = String::new(alloc);
+    word.push_str("0=")?;
+    word.push_str(value)?;
+    let Some((_, Reply::Value(value))) = placed(alloc, &word)?.pop() else {
+        return Err(Fail::new(format_args!("{text:?}")));
+    };
+    Ok(RefConfig {
+        state: State::Value(value),
+        placed: placed(alloc, pairs)?,
+    })
+}
+
+/// Sets with `|` between two, each of members with `;` between two.
+fn refutation(alloc: Global, text: &str) -> Result<Refutation, Fail> {
+    let mut sets = Vec::new(alloc);
+    for set in text.split('|') {
+        let mut members = Vec::new(alloc);
+        for word in set.split(';') {
+            if !word.trim().is_empty() {
+                members.push(member(alloc, word.trim())?)?;
+            }
+        }
+        sets.push(members)?;
+    }
+    Ok(Refutation { sets })
+}
+
+/// The events of a recording in short form.
+fn events(rt: &HostRuntime, short: &str) -> Result<Vec<Event>, Fail> {
+    let text = recording(rt, short)?;
+    let mut follow = Follow::new(rt.alloc(), false);
+    let mut events = Vec::new(rt.alloc());
+    for _ in 0..follow.feed(text.as_bytes()).unwrap_or(0) {
+        if let Some(event) = follow.take() {
+            events.push(event)?;
+        }
+    }
+    Ok(events)
+}
+
+/// The check says of each example's sets what stands behind them.
+fn all_told(rt: &HostRuntime, examples: &[(&str, &str, bool)]) -> Result<(), Fail> {
+    for (short, sets, wanted) in examples {
+        let events = events(rt, short)?;
+        let refutation = refutation(rt.alloc(), sets)?;
+        let shows = check_refutation(rt.alloc(), &events, Kind::Register, &refutation)?;
+        if shows != *wanted {
+            return Err(Fail::new(format_args!("{short:?} {sets:?}: {shows}")));
+        }
+    }
+    Ok(())
+}
+
+/// A read that begins after a write is done, and doesn't see it.
+const STALE: &str = "p0 invoke write 1; p0 ok write; p1 invoke read; p1 ok read nil";
+
+/// A read of what no one wrote, while a write is open.
+const CROSSED: &str = "p0 invoke write 1; p1 invoke read; p1 ok read 2";
+
+#[test]
+fn one_change_to_the_sets_of_a_stale_read(rt: HostRuntime) -> Result<(), Fail> {
+    all_told(
+        &rt,
+        &[
+            (STALE, "nil | nil; 1 0=done | 1 | 1; 1 1=1 |", true),
+            // more members than there have to be
+            (
+                STALE,
+                "nil | nil; 1 0=done | 1; 9 | 1; 9; 1 1=1; 9 1=9 |",
+                true,
+            ),
+            (STALE, "nil; nil | 1 0=done; nil | 1 | 1 1=1; 1; 1 |", true),
+            // a member that is left out: not closed, or not what the event leaves, or no start
+            (STALE, "nil | nil; 1 0=done | 1 | 1 |", false),
+            (STALE, "nil | nil | 1 | 1; 1 1=1 |", false),
+            (STALE, "nil | nil; 1 0=done | | 1; 1 1=1 |", false),
+            (STALE, " | nil; 1 0=done | 1 | 1; 1 1=1 |", false),
+            // a set that is left out, or one more
+            (STALE, "nil; 1 0=done | 1 | 1; 1 1=1 |", false),
+            (STALE, "nil | nil; 1 0=done | 1 | 1; 1 1=1 | |", false),
+            // a last set that isn't empty
+            (STALE, "nil | nil; 1 0=done | 1 | 1; 1 1=1 | 1", false),
+            // another reply, another process, another state
+            (STALE, "nil | nil; 1 0=done | 1 | 1; 1 1=2 |", false),
+            (STALE, "nil | nil; 1 0=1 | 1 | 1; 1 1=1 |", false),
+            (STALE, "nil | nil; 1 2=done | 1 | 1; 1 1=1 |", false),
+            (STALE, "nil | nil; 1 0=done | 1 | 1; 1 2=1 |", false),
+            (STALE, "nil | nil; 1 0=done | 2 | 2; 2 1=2 |", false),
+            // a state that the write leaves none of
+            (
+                STALE,
+                "nil | nil; 1 0=done | nil; 1 | nil; 1; nil 1=nil; 1 1=1 |",
+                false,
+            ),
+        ],
+    )
+}
+
+#[test]
+fn processes_rise_in_members(rt: HostRuntime) -> Result<(), Fail> {
+    all_told(
+        &rt,
+        &[
+            (
+                CROSSED,
+                "nil | nil; 1 0=done | nil; 1 0=done; nil 1=nil; 1 0=done 1=1; 1 0=done 1=nil |",
+                true,
+            ),
+            (
+                CROSSED,
+                "nil | nil; 1 0=done | nil; 1 0=done; nil 1=nil; 1 1=1 0=done; 1 1=nil 0=done |",
+                false,
+            ),
+            (
+                CROSSED,
+                "nil | nil; 1 0=done | nil; 1 0=done; nil 1=nil; 1 0=done 1=1 |",
+                false,
+            ),
+            (
+                CROSSED,
+                "nil | nil; 1 0=done; 1 0=done 0=done | nil; 1 0=done; nil 1=nil; 1 0=done 1=1; 1 0=done 1=nil |",
+                false,
+            ),
+        ],
+    )
+}
+
+/// By `tests/refutations.py --examples 20 11`, whose plain text of the rules judges them too.
+#[test]
+fn sets_of_random_histories(rt: HostRuntime) -> Result<(), Fail> {
+    all_told(
+        &rt,
+        &[
+            (
+                "p2 invoke read; p1 invoke read; p1 ok read 2; p0 invoke read",
+                "nil | nil 2=nil; nil; nil 1=nil; nil 1=nil 2=nil | nil 1=nil 2=nil; nil 1=nil; nil 2=nil; nil |  | ",
+                true,
+            ),
+            (
+                "p2 invoke read; p0 invoke read; p0 fail read; p2 ok read 1; p2 invoke read",
+                "nil | nil 2=nil; nil | nil 0=nil 2=nil; nil 0=nil; nil 2=nil; nil | nil; nil 2=done |  | ",
+                false,
+            ),
+            (
+                "p2 invoke write 1; p0 invoke write 1; p2 fail write 1; p1 invoke read; p1 ok read 2",
+                "nil | 1 2=done; nil; 1 | 1 0=done 2=done; 1 0=done; 1 2=done; nil; 1 | 1 0=done; nil; 1 | 1 0=done 1=1; 1 0=done 1=nil; 1 0=done; nil 1=nil; nil; 1; 1 1=1 | ",
+                true,
+            ),
+            (
+                "p0 invoke read; p2 invoke read; p2 ok read; p0 ok read 2",
+                "nil | nil 0=nil | nil 0=nil 2=nil; nil 0=nil; nil 2=nil; nil | nil 0=nil; nil | ",
+                false,
+            ),
+            (
+                "p0 invoke write 1; p1 invoke read; p1 ok read; p0 fail write 1; p0 invoke read; p0 ok read 2",
+                "nil | 1 0=done; nil | 1 0=done 1=1; 1 0=done 1=nil; 1 0=done; nil 1=nil; nil | 1 0=done; nil; 1 0=done 1=1 | nil | nil 0=nil; nil | ",
+                true,
+            ),
+            (
+                "p1 invoke read; p1 info read; p2 invoke read; p2 ok read 1",
+                "nil | nil 1=nil; nil | nil 1=nil; nil | nil 1=nil 2=nil; nil 1=nil; nil; nil 5=nil | ",
+                false,
+            ),
+            (
+                "p1 invoke read; p0 invoke read; p0 fail read; p2 invoke write 1; p1 ok read 2",
+                "nil | nil 1=nil; nil | nil 0=nil 1=nil; nil 0=nil; nil 1=nil; nil; nil | nil 1=nil; nil | 1 1=1 2=done; 1 1=nil 2=done; 1 2=done; nil 1=nil; nil | ",
+                true,
+            ),
+            (
+                "p2 invoke read; p2 ok read; p0 invoke read; p0 ok read 2",
+                "nil | nil 2=nil; nil | nil | nil 0=nil; nil | nil 2=nil",
+                false,
+            ),
+            (
+                "p1 invoke write 1; p1 ok write 2; p1 invoke read; p0 invoke read; p1 ok read 2",
+                "nil | 1 1=done; nil; 1 | 1 | 1 1=1; 1 | 1 0=1 1=1; 1 0=1; 1 1=1; 1 | ",
+                true,
+            ),
+            (
+                "p2 invoke read; p0 invoke write 2; p0 fail write 2; p2 ok read 2",
+                "nil | nil 2=nil; nil | 2 0=done 2=2; 2 0=done 2=nil; 2 0=done; nil; nil 5=nil | nil 2=nil; nil | ",
+                false,
+            ),
+            (
+                "p0 invoke read; p1 invoke write 1; p1 fail write 1; p1 invoke read; p1 ok read 2",
+                "nil; nil 0=nil | nil 0=nil; nil | 1 0=1 1=done; 1 0=nil 1=done; 1 1=done; nil 0=nil; nil | nil 0=nil; nil | nil 0=nil 1=nil; nil 0=nil; nil 1=nil; nil | ",
+                true,
+            ),
+            (
+                "p1 invoke write 1; p1 ok write 2; p1 invoke read; p1 ok read 2; p1 invoke read",
+                "nil | nil; 1 4=done | 1 | 1 1=1; 1 |  | ",
+                false,
+            ),
+            (
+                "p2 invoke write 1; p0 invoke write 1; p0 fail write 1; p2 ok write 2; p2 invoke read; p2 ok read",
+                "nil | 1 2=done; nil; 1 0=done 2=done | 1 0=done 2=done; 1 0=done; 1 2=done; nil | 1 2=done; nil | 1 | 1 2=1; 1 | ",
+                true,
+            ),
+            (
+                "p1 invoke read; p1 info read; p0 invoke read; p0 ok read 2; p0 invoke write 1",
+                "nil | nil 1=nil; nil | nil 1=nil; nil | nil 0=nil; nil 1=nil; nil; nil 3=nil 1=nil |  | ",
+                false,
+            ),
+            (
+                "p1 invoke read; p2 invoke read; p2 ok read 2; p1 ok read",
+                "nil | nil 1=nil; nil | nil 1=nil 2=nil; nil 1=nil; nil 2=nil; nil; nil |  | ",
+                true,
+            ),
+            (
+                "p2 invoke write 1; p2 info write 1; p0 invoke read; p0 ok read 2",
+                "nil | 1 2=done; nil | 1 2=done; nil | 1 0=1 2=done; 1 0=nil 2=done; 1 2=done; nil | ",
+                false,
+            ),
+            (
+                "p2 invoke write 1; p2 ok write 2; p2 invoke read; p0 invoke read; p0 ok read 2",
+                "nil; 1 | 1 2=done; nil; 1 | 1 | 1 2=1; 1 | 1 0=1 2=1; 1 0=1; 1 2=1; 1 | ",
+                true,
+            ),
+            (
+                "p0 invoke read; p0 info read; p2 invoke read; p2 ok read 1",
+                " | nil 0=nil; nil | nil 0=nil; nil | nil 0=nil 2=nil; nil 0=nil; nil 2=nil; nil | ",
+                false,
+            ),
+            (
+                "p2 invoke read; p1 invoke write 2; p1 ok write 2; p2 ok read 1",
+                "nil | nil 2=nil; nil | 2 1=done 2=2; 2 1=done 2=nil; 2 1=done; nil 2=nil; nil; 2 1=done 2=nil | 2 2=2; 2 2=nil; 2 | ",
+                true,
+            ),
+            (
+                "p2 invoke write 2; p2 ok write 1; p2 invoke read; p2 ok read 1",
+                "nil | 2 2=done; nil | 2 | 2 | ",
+                false,
+            ),
+        ],
+    )
+}
