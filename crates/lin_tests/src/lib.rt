@@ -10,6 +10,8 @@ mod check;
 #[cfg(test)]
 mod check_input;
 #[cfg(test)]
+mod crashes;
+#[cfg(test)]
 mod devices;
 #[cfg(test)]
 mod edits;
