@@ -4,4 +4,9 @@ pub mod Frontiers
 pub mod Covers
 pub mod Covering
 pub mod Walks
+pub mod Members
+pub mod MemberLaws
+pub mod Rounds
+pub mod RoundLaws
+pub mod MemberExamples
 pub mod Placing

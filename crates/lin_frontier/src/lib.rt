@@ -5,9 +5,12 @@ mod configs;
 mod covering;
 mod frontier;
 mod keeping;
+mod member_examples;
+mod member_laws;
 mod nodes;
 mod pending;
 mod placing;
+mod round_laws;
 mod search;
 #[cfg(test)]
 mod tests;

@@ -1,5 +1,6 @@
 pub mod Kinds
 pub mod Steps
+pub mod Observing
 pub mod OnlySteps
 pub mod States
 pub mod Laws

@@ -2,6 +2,7 @@
 ghost use Rattle.std.specs.Prelude.{◌≡◌, ◌≢◌, true, IfOk, OnOk, Contains, AllPairs};
 ghost use Rattle.lin_history.specs.declared.calls.Reply.{Reply as ReplyOf};
 ghost use Rattle.lin_objects.specs.Steps.{start as start_of, allows as allows_of, Step};
+ghost use Rattle.lin_objects.specs.Observing.{IsObserving, observes as observes_of, observers_keep};
 ghost use Rattle.lin_objects.specs.States.{state_same};
 ghost use Rattle.lin_objects.specs.OnlySteps.{IsOnlyStep};
 
@@ -28,6 +29,10 @@ impl SeqObject for Any {
 
     ghost step = { λ a. Step a.kind };
 
+    ghost observing = { λ a. observes_of a.kind };
+
+    ghost unchanged = { λ a. observers_keep a.kind };
+
     fn start(&self, alloc: Global) -> State {
         match self.kind {
             Kind::Register | Kind::CasRegister => State::Value(Val::Nil),
@@ -44,6 +49,15 @@ impl SeqObject for Any {
             Kind::Fifo => matches!(name, Name::Enqueue | Name::Dequeue),
             Kind::Set => matches!(name, Name::Add | Name::Read),
             Kind::Mutex => matches!(name, Name::Acquire | Name::Release),
+        }
+    }
+
+    /// The reads of registers. The read of a set changes nothing either, but is placed like any other call: a set goes
+    /// through so many states that the replies on offer would outnumber its configurations.
+    fn observes(&self, call: &Call) -> bool {
+        match self.kind {
+            Kind::Register | Kind::CasRegister => matches!(call, Call::Read),
+            Kind::Fifo | Kind::Set | Kind::Mutex => false,
         }
     }
 

@@ -3,6 +3,7 @@ ghost use Rattle.std.specs.Prelude.{◌≡◌, ◌≢◌, Bool, true, IfOk, OnOk
 ghost use Rattle.lin_history.specs.declared.calls.Name.{Name as NameOf};
 ghost use Rattle.lin_history.specs.declared.calls.Call.{Call as CallOf};
 ghost use Rattle.lin_history.specs.declared.calls.Reply.{Reply as ReplyOf};
+ghost use Rattle.lin_objects.specs.Observing.{IsObserving};
 
 use lin_history::{Call, Name, OutOfMemory, Reply};
 use std::alloc::Global;
@@ -24,6 +25,12 @@ pub trait SeqObject {
     /// In the state the object may take the call, go to the next state and give the reply.
     ghost step: { Self → Self.State → CallOf → Self.State → ReplyOf → Type 0 };
 
+    /// Whether the call is treated as one that observes: none of its steps changes the state.
+    ghost observing: { Self → CallOf → Bool };
+
+    /// A call that observes leaves the state as it is.
+    ghost unchanged: { (object : Self) → IsObserving (step object) (observing object) };
+
     /// The state in which the object begins; takes no memory.
     fn start(&self, alloc: Global) -> Self::State
         ensures { result ≡ starts self.now };
@@ -31,6 +38,11 @@ pub trait SeqObject {
     /// Whether the object has the function. A call of another function has no outcome.
     fn allows(&self, name: Name) -> bool
         ensures { result ≡ allowed self.now name };
+
+    /// Whether the call is treated as one that observes. Calls that change no state and aren't treated so are placed like
+    /// any other.
+    fn observes(&self, call: &Call) -> bool
+        ensures { result ≡ observing self.now call.now };
 
     /// An equal state on its own memory.
     fn copy_state(&self, alloc: Global, state: &Self::State) -> Result<Self::State, OutOfMemory>

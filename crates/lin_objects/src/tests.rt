@@ -58,6 +58,18 @@ fn function_count<O: SeqObject>(object: &O) -> usize {
     NAMES.iter().filter(|name| object.allows(**name)).count()
 }
 
+/// Whether exactly the reads among the calls are treated as observers.
+fn observes_reads<O: SeqObject>(object: &O, calls: &[Call]) -> bool {
+    calls
+        .iter()
+        .all(|call| object.observes(call) == matches!(call, Call::Read))
+}
+
+/// Whether none of the calls is treated as an observer.
+fn observes_none<O: SeqObject>(object: &O, calls: &[Call]) -> bool {
+    !calls.iter().any(|call| object.observes(call))
+}
+
 fn int(number: i64) -> Val {
     Val::Int(number)
 }
@@ -141,6 +153,28 @@ fn each_kind_has_its_functions_and_copies(rt: HostRuntime) -> Result<(), Fail> {
         let object = Any { kind: *kind };
         assert_eq!(rt; function_count(&object), count);
         assert!(rt; copies_start(&object, rt.alloc())?);
+    }
+    Ok(())
+}
+
+#[test]
+fn reads_of_registers_observe(rt: HostRuntime) -> Result<(), Fail> {
+    let calls = [
+        Call::Read,
+        Call::Write(int(1)),
+        Call::Cas(int(1), int(2)),
+        Call::Cas(int(1), int(1)),
+        Call::Enqueue(1),
+        Call::Dequeue,
+        Call::Add(1),
+        Call::Acquire,
+        Call::Release,
+    ];
+    for kind in [Kind::Register, Kind::CasRegister] {
+        assert!(rt; observes_reads(&Any { kind }, &calls));
+    }
+    for kind in [Kind::Fifo, Kind::Set, Kind::Mutex] {
+        assert!(rt; observes_none(&Any { kind }, &calls));
     }
     Ok(())
 }
