@@ -22,7 +22,7 @@ pub record IsClosing {S : Type 0} (R : S → Placed → S → Type 0) (C : S →
   pub closed : (k : ℕ) (d t : S) (l : Placed) → k < at → k < length found → R (get_or (keys_of found) k d) l t → IsCoveredBy C (keys_of found) t
 
 -- inside the list the default does not matter
-any_default : {S : Type 0} (xs : List S) (i : ℕ) (d e : S) → i < length xs → get_or xs i d ≡ get_or xs i e
+pub any_default : {S : Type 0} (xs : List S) (i : ℕ) (d e : S) → i < length xs → get_or xs i d ≡ get_or xs i e
 any_default [] i d e h = absurd (omega arith)
 any_default (x ∷ xs) zero d e h = refl
 any_default (x ∷ xs) (suc i) d e h = any_default xs i d e (omega arith)

@@ -15,6 +15,9 @@ pub mod Answered
 pub mod Spelling
 pub mod Marking
 pub mod PendingAfter
+pub mod Offering
+pub mod InRounds
+pub mod Each
 pub mod Choosing
 pub mod Ways
 pub mod Following
@@ -29,9 +32,15 @@ pub mod Spreading
 pub mod Listing
 pub mod Joining
 pub mod Putting
+pub mod Visiting
+pub mod Completing
 pub mod Trailing
 pub mod Sounding
 pub mod ReadReturned
 pub mod ReadEarly
 pub mod Awaiting
 pub mod Leading
+pub mod Making
+pub mod Pruned
+pub mod Onward
+pub mod PruningMembers

@@ -1,35 +1,34 @@
 -- A node spells one order, no longer than there are nodes; and reading it back to the root.
 use Rattle.std.proofs.Common.{◌≡◌, ℕ, zero, suc, ◌+◌, ◌-◌, ◌<◌, ◌≤◌, List, [], ◌∷◌, ◌++◌, length, length-append, get_or, refl, sym, ap, subst, ◌∙◌, append_assoc, arith, Some, slice_get, reverse, inl, inr}
-use Rattle.std.proofs.lemmas.List.{append-nil, get_or_append_left, length-reverse, reverse-append}
+use Rattle.std.proofs.lemmas.List.{append-nil, get_or_append_left, length-reverse, reverse-append, reverse-reverse}
 use Rattle.std.proofs.lemmas.Option.{slice_get_within}
 use Rattle.std.proofs.lemmas.Bool.{cases_lt}
 use Rattle.indexmap.proofs.IndexTableLemmas.Probe.{pigeonhole}
-use Rattle.lin_order.specs.declared.placed.Placed.{Placed}
 use Rattle.lin_frontier.specs.Nodes.{Spells, root, node}
 
 one_some : {A : Type 0} {x y : A} → Some x ≡ Some y → x ≡ y
 one_some e = cc
 
-module _ (nodes : List (ℕ × Placed)) where
-  pub spelled_root : (order : List Placed) → Spells nodes 0 order → order ≡ []
+module _ {A : Type 0} (nodes : List (ℕ × A)) where
+  pub spelled_root : (order : List A) → Spells nodes 0 order → order ≡ []
   spelled_root [] root = refl
   spelled_root (x ∷ xs) s = elim s [ ]
 
-  pub spelled_node : (k : ℕ) (order : List Placed) → Spells nodes (suc k) order
-      → (parent : ℕ) × (p : Placed) × (front : List Placed) × (slice_get nodes k ≡ Some (parent, p)) × Spells nodes parent front × (order ≡ front ++ p ∷ [])
+  pub spelled_node : (k : ℕ) (order : List A) → Spells nodes (suc k) order
+      → (parent : ℕ) × (p : A) × (front : List A) × (slice_get nodes k ≡ Some (parent, p)) × Spells nodes parent front × (order ≡ front ++ p ∷ [])
   spelled_node k order (node {parent = parent} {order = front} {p = p} at rest) = (parent, p, front, at, rest, refl)
 
-  pub one_spelled : (id : ℕ) (a b : List Placed) → Spells nodes id a → Spells nodes id b → a ≡ b
+  pub one_spelled : (id : ℕ) (a b : List A) → Spells nodes id a → Spells nodes id b → a ≡ b
   one_spelled zero [] b root t = sym (spelled_root b t)
   one_spelled id a b (node {k} {parent} {order = front} {p = p} at rest) t =
       let s = spelled_node k b t in
       let e : (parent, p) ≡ (s.0, s.1) = one_some (sym at ∙ s.3) in
-      let f = one_spelled parent front s.2 rest (subst (λ n. Spells nodes n s.2) (sym (ap (λ (x : ℕ × Placed). x.0) e)) s.4) in
+      let f = one_spelled parent front s.2 rest (subst (λ n. Spells nodes n s.2) (sym (ap (λ (x : ℕ × A). x.0) e)) s.4) in
       (λ i. f i ++ (e i).1 ∷ []) ∙ sym s.5
 
   -- the nodes on the way to the root, the first last
-  nodes_of : (id : ℕ) (order : List Placed) → Spells nodes id order
-      → (ks : List ℕ) × (length ks ≡ length order) × ((i : ℕ) → i < length ks → (o : List Placed) × Spells nodes (suc (get_or ks i 0)) o × (length o ≡ i + 1))
+  nodes_of : (id : ℕ) (order : List A) → Spells nodes id order
+      → (ks : List ℕ) × (length ks ≡ length order) × ((i : ℕ) → i < length ks → (o : List A) × Spells nodes (suc (get_or ks i 0)) o × (length o ≡ i + 1))
   nodes_of zero [] root = ([], refl, λ i inside. absurd (omega arith))
   nodes_of id order (node {k} {parent} {order = front} {p = p} at rest) =
       let r = nodes_of parent front rest in
@@ -52,7 +51,7 @@ module _ (nodes : List (ℕ × Placed)) where
       last (x ∷ xs) = last xs
 
   -- an order that is spelled is no longer than there are nodes
-  pub spelled_length : (id : ℕ) (order : List Placed) → Spells nodes id order → length order ≤ length nodes
+  pub spelled_length : (id : ℕ) (order : List A) → Spells nodes id order → length order ≤ length nodes
   spelled_length id order s =
       let r = nodes_of id order s in
       let least = pigeonhole (length r.0) (length nodes) (λ i. get_or r.0 i 0)
@@ -65,14 +64,14 @@ module _ (nodes : List (ℕ × Placed)) where
       omega (arith, r.1)
 
   -- a node in the middle of the way: what is left, and what was read, spell the whole
-  pub IsReading : ℕ → ℕ → List Placed → Type 0
-  IsReading id at read = (rest : List Placed) × Spells nodes at rest × Spells nodes id (rest ++ reverse read)
+  pub IsReading : ℕ → ℕ → List A → Type 0
+  IsReading id at read = (rest : List A) × Spells nodes at rest × Spells nodes id (rest ++ reverse read)
 
-  pub reading_start : (id : ℕ) (read order : List Placed) → read ≡ [] → Spells nodes id order → IsReading id id read
+  pub reading_start : (id : ℕ) (read order : List A) → read ≡ [] → Spells nodes id order → IsReading id id read
   unfolding IsReading
   reading_start id read order none s = (order, s, subst (λ r. Spells nodes id (order ++ reverse r)) (sym none) (subst (Spells nodes id) (sym (append-nil order)) s))
 
-  pub reading_inside : (id at : ℕ) (read : List Placed) → 0 < at → IsReading id at read → (at - 1 < length nodes) × (length read < length nodes)
+  pub reading_inside : (id at : ℕ) (read : List A) → 0 < at → IsReading id at read → (at - 1 < length nodes) × (length read < length nodes)
   unfolding IsReading
   reading_inside id (suc k) read positive r =
       let n = spelled_node k r.0 r.1 in
@@ -82,7 +81,7 @@ module _ (nodes : List (ℕ × Placed)) where
       (let inside = slice_get_within nodes k (n.0, n.1) n.3 in omega arith, omega (arith, length-reverse read))
   reading_inside id zero read positive r = absurd (omega arith)
 
-  pub reading_step : (id at : ℕ) (read now : List Placed) (parent : ℕ) (p : Placed) → 0 < at → slice_get nodes (at - 1) ≡ Some (parent, p) → now ≡ read ++ p ∷ []
+  pub reading_step : (id at : ℕ) (read now : List A) (parent : ℕ) (p : A) → 0 < at → slice_get nodes (at - 1) ≡ Some (parent, p) → now ≡ read ++ p ∷ []
       → IsReading id at read → IsReading id parent now
   unfolding IsReading
   reading_step id zero read now parent p positive is pushed r = absurd (omega arith)
@@ -90,13 +89,17 @@ module _ (nodes : List (ℕ × Placed)) where
       let n = spelled_node k r.0 r.1 in
       let same_place : suc k - 1 ≡ k = omega arith in
       let e : (n.0, n.1) ≡ (parent, p) = one_some (sym n.3 ∙ subst (λ j. slice_get nodes j ≡ Some (parent, p)) same_place is) in
-      let same : n.1 ≡ p = ap (λ (x : ℕ × Placed). x.1) e in
+      let same : n.1 ≡ p = ap (λ (x : ℕ × A). x.1) e in
       let whole : r.0 ++ reverse read ≡ n.2 ++ reverse now =
       ap (λ l. l ++ reverse read) (n.5 ∙ ap (λ q. n.2 ++ q ∷ []) same) ∙ append_assoc n.2 (p ∷ []) (reverse read) ∙ ap (λ x. n.2 ++ x) (sym (ap reverse pushed ∙ reverse-append read (p ∷ []))) in
-      (n.2, subst (λ m. Spells nodes m n.2) (ap (λ (x : ℕ × Placed). x.0) e) n.4, subst (Spells nodes id) whole r.2)
+      (n.2, subst (λ m. Spells nodes m n.2) (ap (λ (x : ℕ × A). x.0) e) n.4, subst (Spells nodes id) whole r.2)
 
-  pub reading_end : (id at : ℕ) (read found order : List Placed) → at ≡ 0 → found ≡ reverse read → IsReading id at read → Spells nodes id order → found ≡ order
+  pub reading_end : (id at : ℕ) (read found order : List A) → at ≡ 0 → found ≡ reverse read → IsReading id at read → Spells nodes id order → found ≡ order
   unfolding IsReading
   reading_end id at read found order none is r s =
       let left = spelled_root r.0 (subst (λ k. Spells nodes k r.0) none r.1) in
       is ∙ ap (λ l. l ++ reverse read) (sym left) ∙ one_spelled id (r.0 ++ reverse read) order r.2 s
+
+  -- what was read, once the root is reached, is the list from its end
+  pub reversed : (id at : ℕ) (read order : List A) → at ≡ 0 → IsReading id at read → Spells nodes id order → read ≡ reverse order
+  reversed id at read order none r s = sym (reverse-reverse read) ∙ ap reverse (reading_end id at read (reverse read) order none refl r s)

@@ -10,3 +10,5 @@ pub mod Rounds
 pub mod RoundLaws
 pub mod MemberExamples
 pub mod Placing
+pub mod Searching
+pub mod Compressed

@@ -113,7 +113,7 @@ pub fn is_absent(placed: &[(u64, Reply)], process: u64) -> bool
 }
 
 /// Whether the pair is of the process, with this reply.
-fn is_pair(pair: &(u64, Reply), process: u64, reply: &Reply) -> bool
+pub fn is_pair(pair: &(u64, Reply), process: u64, reply: &Reply) -> bool
     ensures { IsTrue result ↔ (pair.now ≡ (process, reply.now)) }
 {
     pair.0 == process && pair.1 == *reply

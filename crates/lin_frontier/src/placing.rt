@@ -48,7 +48,7 @@ fn place<O: SeqObject>(
 }
 
 /// Places the operation in each way that the object has, if it has no place in the configuration yet.
-fn place_if_absent<O: SeqObject>(
+pub fn place_if_absent<O: SeqObject>(
     object: &O,
     alloc: Global,
     config: &Config<O::State>,

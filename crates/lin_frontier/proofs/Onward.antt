@@ -1,0 +1,150 @@
+-- Members and their rounds after an invocation, an info and a fail.
+use Rattle.std.proofs.Common.{◌≡◌, ◌⊎◌, ◌≢◌, ℕ, ℤ, zero, suc, ◌+◌, ◌<◌, ◌≤◌, Bool, true, false, List, [], ◌∷◌, ◌++◌, length, Contains, All, map, inl, inr, refl, sym, ap, subst, ◌∙◌, arith, get_or, Option, Some, None}
+use Rattle.lin_history.specs.declared.calls.Call.{Call}
+use Rattle.lin_history.specs.declared.calls.Name.{Name}
+use Rattle.lin_history.specs.declared.calls.Reply.{Reply}
+use Rattle.lin_history.specs.declared.events.Body.{Body}
+use Rattle.lin_history.specs.declared.events.Body.TheVariants.{Invoke, Ok, Fail, Info}
+use Rattle.lin_history.specs.declared.events.Event.{Event}
+use Rattle.lin_history.specs.Alternation.{IsAlternating}
+use Rattle.lin_history.specs.WellFormed.{IsWellFormed}
+use Rattle.lin_history.specs.WellFormedLaws.{EndsAreUnique}
+use Rattle.lin_order.specs.declared.placed.Placed.{Placed}
+use Rattle.lin_order.specs.ConfigurationLaws.{with_event}
+use Rattle.lin_order.specs.Configurations.{IsRising}
+use Rattle.lin_frontier.specs.declared.members.Path.{Path}
+use Rattle.lin_frontier.specs.declared.pending.Open.{Open}
+use Rattle.lin_frontier.specs.Compressed.{IsSpelled, IsCovering}
+use Rattle.lin_frontier.specs.Frontiers.{IsPending}
+use Rattle.lin_frontier.specs.MemberLaws.{DroppingLaw, InvocationKeepsLaw, InfoKeepsLaw, FailKeepsLaw}
+use Rattle.lin_frontier.specs.Members.{Member, IsDominated, Dominates}
+use Rattle.lin_frontier.specs.Nodes.{IsGrown}
+use Rattle.lin_frontier.specs.Placing.{IsAbsent}
+use Rattle.lin_frontier.specs.RoundLaws.{FewerLaw, TrailInvocationLaw, TrailInfoLaw, TrailFailLaw}
+use Rattle.lin_frontier.specs.Rounds.{SpellsRounds, root, begins, puts}
+use Rattle.lin_frontier.specs.Searching.{is_watching, copy_of, IsMade}
+use Rattle.lin_frontier.proofs.Absorbing.{get_more}
+use Rattle.lin_frontier.proofs.Inserting.{passed_by, absent_from, none_from}
+use Rattle.lin_frontier.proofs.Pruned.{copy_dominates, watching_to}
+use Rattle.lin_objects.specs.Observing.{IsObserving}
+
+-- an element makes one of the images, and each image was made of one
+pub in_map : {A B : Type 0} (f : A → B) (xs : List A) (x : A) → Contains xs x → Contains (map f xs) (f x)
+in_map {A} {B} f xs x there = by xs there.0 there.1 there.2
+  where
+    by : (ys : List A) (k : ℕ) → k < length ys → get_or ys k x ≡ x → Contains (map f ys) (f x)
+    by [] k inside is = absurd (omega arith)
+    by (y ∷ ys) zero inside is = (0, omega arith, ap f is)
+    by (y ∷ ys) (suc k) inside is = let r = by ys k (omega arith) is in (suc r.0, omega (arith, r.1), r.2)
+
+pub from_map : {A B : Type 0} (f : A → B) (xs : List A) (y : B) → Contains (map f xs) y → (x : A) × Contains xs x × (f x ≡ y)
+from_map {A} {B} f xs y there = by xs there.0 there.1 there.2
+  where
+    by : (zs : List A) (k : ℕ) → k < length (map f zs) → get_or (map f zs) k y ≡ y → (x : A) × Contains zs x × (f x ≡ y)
+    by [] k inside is = absurd (omega arith)
+    by (z ∷ zs) zero inside is = (z, (0, omega arith, refl), is)
+    by (z ∷ zs) (suc k) inside is = let r = by zs k (omega arith) is in (r.0, (suc r.1.0, omega (arith, r.1.1), r.1.2), r.2)
+
+pub rounds_stay : (nodes now : List (ℕ × (Placed × Option ℕ))) (id : ℕ) (rounds : List (List Placed)) → IsGrown nodes now → SpellsRounds nodes id rounds → SpellsRounds now id rounds
+rounds_stay nodes now id rounds grown s = subst (λ n. SpellsRounds n id rounds) (sym grown.1) (by id rounds s)
+  where
+    by : (id : ℕ) (rounds : List (List Placed)) → SpellsRounds nodes id rounds → SpellsRounds (nodes ++ grown.0) id rounds
+    by zero rounds root = root
+    by id rounds (begins {k} {parent} {rounds = front} {p} at rest) = begins (get_more nodes grown.0 k (parent, (p, None)) at) (by parent front rest)
+    by id rounds (puts {k} {parent} {round} {rounds = front} {p} at rest) = puts (get_more nodes grown.0 k (parent, (p, Some round)) at) (by parent front rest)
+
+module _ {S : Type 0} (start : S) (step : S → Call → S → Reply → Type 0) (observes : Call → Bool) where
+  pub spelled_stays : (h : List Event) (nodes now : List (ℕ × (Placed × Option ℕ))) (m : Member S × Path) → IsGrown nodes now → IsSpelled start step observes h nodes m → IsSpelled start step observes h now m
+  spelled_stays h nodes now m grown s = record { states = s.states; rounds = s.rounds; spelled = rounds_stay nodes now m.1.node s.rounds grown s.spelled; last = s.last; trail = s.trail }
+
+  pub spelled_rising : (h : List Event) (nodes : List (ℕ × (Placed × Option ℕ))) (m : Member S × Path) → IsSpelled start step observes h nodes m → IsRising m.0.placed
+  spelled_rising h nodes m s = s.trail.trail.placed.rising
+
+  -- with fewer offers
+  pub spelled_copy : FewerLaw start step → (h : List Event) (nodes : List (ℕ × (Placed × Option ℕ))) (pending : List Open) (m : Member S × Path) → IsSpelled start step observes h nodes m
+      → IsSpelled start step observes h nodes (copy_of observes pending m)
+  spelled_copy fewer h nodes pending m s = record {
+    states = s.states;
+    rounds = s.rounds;
+    spelled = s.spelled;
+    last = s.last;
+    trail = fewer observes h s.states s.rounds m.0 (copy_of observes pending m).0 refl refl (λ x there. (passed_by (λ (y : ℕ × (ℕ × Reply)). is_watching observes pending y.1.0) m.0.offers x there).0) s.trail;
+  }
+
+  module _ (functions : ℤ → Name → Bool) (h : List Event) (event : Event) (well_formed : IsWellFormed functions (with_event h event)) (unique : EndsAreUnique) (alternates : IsAlternating functions (with_event h event))
+      (pending : List Open) (opened : IsPending (with_event h event) pending) (nodes : List (ℕ × (Placed × Option ℕ))) (members out : List (Member S × Path)) where
+    g : List Event
+    g = with_event h event
+
+    -- each member is dominated by its copy
+    copies_dominate : IsMade (λ m. Unit {0}) (copy_of observes pending) members out → ((m : Member S × Path) → Contains members m → IsRising m.0.placed)
+        → IsDominated observes (with_event h event) (map (λ m. m.0) members) (map (λ m. m.0) out)
+    copies_dominate made rising n there =
+        let m = from_map (λ (x : Member S × Path). x.0) members n there in (
+          (copy_of observes pending m.0).0,
+          in_map (λ (x : Member S × Path). x.0) out (copy_of observes pending m.0) (made.complete m.0 m.1 tt),
+          subst (Dominates observes (with_event h event) (copy_of observes pending m.0).0) m.2 (copy_dominates functions (with_event h event) pending opened unique alternates observes m.0 (rising m.0 m.1)),
+        )
+
+    copies_spelled : FewerLaw start step → IsMade (λ m. Unit {0}) (copy_of observes pending) members out → ((m : Member S × Path) → Contains members m → IsSpelled start step observes (with_event h event) nodes m)
+        → (n : Member S × Path) → Contains out n → IsSpelled start step observes (with_event h event) nodes n
+    copies_spelled fewer made spelled n there =
+        let s = made.sound n there in
+        subst (IsSpelled start step observes (with_event h event) nodes) (sym s.3) (spelled_copy fewer (with_event h event) nodes pending s.0 (spelled s.0 s.1))
+
+    pub invoked : (call : Call) → event.body ≡ Invoke call → IsObserving step observes → InvocationKeepsLaw start step → DroppingLaw start step → TrailInvocationLaw start step → FewerLaw start step
+        → IsMade (λ m. Unit {0}) (copy_of observes pending) members out → IsCovering start step observes h members nodes → IsCovering start step observes (with_event h event) out nodes
+    invoked call body observing keeps dropping trail fewer made c = record {
+      complete = dropping observes (with_event h event) (map (λ m. m.0) members) (map (λ m. m.0) out) (copies_dominate made (λ m there. spelled_rising h nodes m (c.spelled m there)))
+          (keeps observes observing functions h event call body well_formed (map (λ m. m.0) members) c.complete);
+      spelled = copies_spelled fewer made (λ m there. let s = c.spelled m there in record {
+        states = s.states;
+        rounds = s.rounds;
+        spelled = s.spelled;
+        last = s.last;
+        trail = trail observes functions h event call body well_formed s.states s.rounds m.0 s.trail;
+      });
+    }
+
+    pub informed : (name : Name) → event.body ≡ Info name → InfoKeepsLaw start step → TrailInfoLaw start step → FewerLaw start step
+        → IsMade (λ m. Unit {0}) (copy_of observes pending) members out → IsCovering start step observes h members nodes → IsCovering start step observes (with_event h event) out nodes
+    informed name body keeps trail fewer made c = record {
+      complete = keeps observes functions h event name body well_formed (map (λ m. m.0) members) (map (λ m. m.0) out) (copies_dominate made (λ m there. spelled_rising h nodes m (c.spelled m there))) c.complete;
+      spelled = copies_spelled fewer made (λ m there. let s = c.spelled m there in record {
+        states = s.states;
+        rounds = s.rounds;
+        spelled = s.spelled;
+        last = s.last;
+        trail = trail observes functions h event name body well_formed s.states s.rounds m.0 s.trail;
+      });
+    }
+
+    -- nobody waits for an operation of the process
+    pub failed : (name : Name) → event.body ≡ Fail name → (is_watching observes pending event.process ≡ true → ⊥) → FailKeepsLaw start step → TrailFailLaw start step → FewerLaw start step
+        → IsMade (λ m. IsAbsent event.process m.0.placed) (copy_of observes pending) members out → IsCovering start step observes h members nodes → IsCovering start step observes (with_event h event) out nodes
+    failed name body nobody keeps trail fewer made c = record {
+      complete = keeps observes functions h event name body well_formed (map (λ m. m.0) members) (map (λ m. m.0) out) kept c.complete;
+      spelled = λ n there.
+          let s = made.sound n there in
+          subst (IsSpelled start step observes (with_event h event) nodes) (sym s.3) (on s.0 s.2 (spelled_copy fewer h nodes pending s.0 (c.spelled s.0 s.1)));
+    }
+      where
+        kept : (n : Member S) → Contains (map (λ m. m.0) members) n → ((reply : Reply) → Contains n.placed (event.process, reply) → ⊥) → (k : Member S) × Contains (map (λ m. m.0) out) k × Dominates observes (with_event h event) k n
+        kept n there absent =
+            let m = from_map (λ (x : Member S × Path). x.0) members n there in (
+              (copy_of observes pending m.0).0,
+              in_map (λ (x : Member S × Path). x.0) out (copy_of observes pending m.0)
+                  (made.complete m.0 m.1 (subst (λ (k : Member S). IsAbsent event.process k.placed) (sym m.2) (absent_from event.process n.placed absent))),
+              subst (Dominates observes (with_event h event) (copy_of observes pending m.0).0) m.2
+                  (copy_dominates functions (with_event h event) pending opened unique alternates observes m.0 (spelled_rising h nodes m.0 (c.spelled m.0 m.1))),
+            )
+
+        on : (m : Member S × Path) → IsAbsent event.process m.0.placed → IsSpelled start step observes h nodes (copy_of observes pending m) → IsSpelled start step observes (with_event h event) nodes (copy_of observes pending m)
+        on m absent s = record {
+          states = s.states;
+          rounds = s.rounds;
+          spelled = s.spelled;
+          last = s.last;
+          trail = trail observes functions h event name body well_formed s.states s.rounds (copy_of observes pending m).0 (none_from event.process m.0.placed absent)
+              (λ round reply there. nobody (passed_by (λ (y : ℕ × (ℕ × Reply)). is_watching observes pending y.1.0) m.0.offers (round, (event.process, reply)) there).1) s.trail;
+        }

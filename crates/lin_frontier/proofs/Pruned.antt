@@ -1,0 +1,124 @@
+-- What lists of pending operations tell of domination, and members with only the offers that somebody waits for.
+use Rattle.std.proofs.Common.{◌≡◌, ◌⊎◌, ◌&&◌, ◌||◌, ℕ, ℤ, zero, suc, ◌+◌, ◌<◌, ◌≤◌, Bool, true, false, not, nat_eq, List, [], ◌∷◌, ◌++◌, length, Contains, All, AllPairs, map, IsTrue, inl, inr, refl, sym, ap, subst, ◌∙◌, arith, get_or, true≢false, Option}
+use Rattle.std.specs.List.{list_any}
+use Rattle.std.proofs.lemmas.Bool.Decides.{Decides-eqb as Decides-nat_eq}
+use Rattle.std.proofs.lemmas.List.Folds.{list_any_at}
+use Rattle.std.proofs.lemmas.List.Elements.{All-contains, Contains-get_or}
+use Rattle.lin_history.specs.declared.calls.Call.{Call}
+use Rattle.lin_history.specs.declared.calls.Name.{Name}
+use Rattle.lin_history.specs.declared.calls.Reply.{Reply}
+use Rattle.lin_history.specs.declared.events.Event.{Event}
+use Rattle.lin_history.specs.Alternation.{IsAlternating}
+use Rattle.lin_history.specs.WellFormedLaws.{EndsAreUnique}
+use Rattle.lin_order.specs.declared.placed.Placed.{Placed}
+use Rattle.lin_order.specs.Configurations.{IsRising}
+use Rattle.lin_frontier.specs.declared.members.Path.{Path}
+use Rattle.lin_frontier.specs.declared.pending.Open.{Open}
+use Rattle.lin_frontier.specs.Covers.{HasCrashed}
+use Rattle.lin_frontier.specs.Frontiers.{IsPending}
+use Rattle.lin_frontier.specs.Members.{Member, IsOnOffer, IsWatching, DominatesAt, Dominates}
+use Rattle.lin_frontier.specs.Placing.{IsAbsent}
+use Rattle.lin_frontier.specs.Searching.{is_crashed, is_observing, is_watching, copy_of, DominatesIn}
+use Rattle.lin_frontier.proofs.Awaiting.{pending_crashed, crashed_pending, pending_watching, watching_pending}
+use Rattle.lin_frontier.proofs.Inserting.{absent_from, none_from, kept_by}
+
+and_left : (a b : Bool) → (a && b) ≡ true → a ≡ true
+and_left true b h = refl
+and_left false b h = absurd (true≢false (sym h))
+
+and_right : (a b : Bool) → (a && b) ≡ true → b ≡ true
+and_right true b h = h
+and_right false b h = absurd (true≢false (sym h))
+
+and_both : (a b : Bool) → a ≡ true → b ≡ true → (a && b) ≡ true
+and_both true b p q = q
+and_both false b p q = absurd (true≢false (sym p))
+
+not_true : (b : Bool) → (b ≡ true → ⊥) → not b ≡ true
+not_true true h = absurd (h refl)
+not_true false h = refl
+
+true_not : (b : Bool) → not b ≡ true → b ≡ true → ⊥
+true_not true h p = true≢false (sym h)
+true_not false h p = true≢false (sym p)
+
+-- one of which the test is true, and the other way round
+any_true : {A : Type 0} (f : A → Bool) (xs : List A) → list_any f xs ≡ true → (x : A) × Contains xs x × (f x ≡ true)
+any_true f [] h = absurd (true≢false (sym h))
+any_true {A} f (y ∷ ys) h = by (f y) refl (any_true f ys)
+  where
+    by : (b : Bool) → f y ≡ b → (list_any f ys ≡ true → (x : A) × Contains ys x × (f x ≡ true)) → (x : A) × Contains (y ∷ ys) x × (f x ≡ true)
+    by true e more = (y, (0, omega arith, refl), e)
+    by false e more = let r = more (sym (ap (λ b. b || list_any f ys) e) ∙ h) in (r.0, (suc r.1.0, omega (arith, r.1.1), r.1.2), r.2)
+
+true_any : {A : Type 0} (f : A → Bool) (xs : List A) (x : A) → Contains xs x → f x ≡ true → list_any f xs ≡ true
+true_any f xs x there is = list_any_at f xs there.0 x there.1 (ap f there.2 ∙ is)
+
+module _ (functions : ℤ → Name → Bool) (h : List Event) (pending : List Open) (opened : IsPending h pending) (unique : EndsAreUnique) (alternates : IsAlternating functions h) where
+  pub crashed_to : (q : ℕ) → is_crashed pending q ≡ true → HasCrashed h q
+  crashed_to q c =
+      let o = any_true (λ (o : Open). nat_eq o.process q && o.crashed) pending c in
+      let same = (Decides-nat_eq o.0.process q).0 (and_left (nat_eq o.0.process q) o.0.crashed o.2) in
+      subst (HasCrashed h) same (pending_crashed h pending opened o.0 o.1 (and_right (nat_eq o.0.process q) o.0.crashed o.2))
+
+  pub crashed_from : (q : ℕ) → HasCrashed h q → is_crashed pending q ≡ true
+  crashed_from q c =
+      let o = crashed_pending h pending opened unique q c in
+      true_any (λ (o : Open). nat_eq o.process q && o.crashed) pending o.0 o.1 (and_both (nat_eq o.0.process q) o.0.crashed ((Decides-nat_eq o.0.process q).1 o.2) o.3)
+
+  module _ (observes : Call → Bool) where
+    pub watching_to : (q : ℕ) → is_watching observes pending q ≡ true → IsWatching observes h q
+    watching_to q w =
+        let seen = and_left (is_observing observes pending q) (not (is_crashed pending q)) w in
+        let alive = and_right (is_observing observes pending q) (not (is_crashed pending q)) w in
+        let o = any_true (λ (o : Open). nat_eq o.process q && observes o.call) pending seen in
+        let same = (Decides-nat_eq o.0.process q).0 (and_left (nat_eq o.0.process q) (observes o.0.call) o.2) in
+        subst (IsWatching observes h) same (pending_watching h pending opened unique functions alternates observes o.0 o.1 (and_right (nat_eq o.0.process q) (observes o.0.call) o.2)
+            (λ crashed. true_not (is_crashed pending q) alive
+            (true_any (λ (o : Open). nat_eq o.process q && o.crashed) pending o.0 o.1 (and_both (nat_eq o.0.process q) o.0.crashed ((Decides-nat_eq o.0.process q).1 same) crashed))))
+
+    pub watching_from : (q : ℕ) → IsWatching observes h q → is_watching observes pending q ≡ true
+    watching_from q w =
+        let o = watching_pending h pending opened observes q w in
+        and_both (is_observing observes pending q) (not (is_crashed pending q))
+            (true_any (λ (o : Open). nat_eq o.process q && observes o.call) pending o.0 o.1 (and_both (nat_eq o.0.process q) (observes o.0.call) ((Decides-nat_eq o.0.process q).1 o.2) o.3))
+            (not_true (is_crashed pending q) (λ crashed. w.alive (crashed_to q crashed)))
+
+    module _ {S : Type 0} where
+      pub dominates_to : (m : Member S) (state : S) (placed : List (ℕ × Reply)) (offers : List (ℕ × (ℕ × Reply))) → IsRising m.placed → DominatesIn observes pending m state placed offers
+          → DominatesAt observes h m state placed (λ x. (k : ℕ) × Contains offers (k, x))
+      dominates_to m state placed offers rising d = record {
+        sorted = rising;
+        same = d.same;
+        part = λ x there. All-contains (λ (y : ℕ × Reply). Contains placed y) m.placed x d.part there;
+        rest = λ x there. elim (All-contains (λ (y : ℕ × Reply). Contains m.placed y ⊎ (is_crashed pending y.0 ≡ true)) placed x d.rest there) [
+          | inl has ↦ inl has
+          | inr crashed ↦ inr (crashed_to x.0 crashed)
+        ];
+        offered = λ x watching absent o.
+            All-contains (λ (y : ℕ × (ℕ × Reply)). is_watching observes pending y.1.0 ≡ true → IsAbsent y.1.0 m.placed → IsOnOffer m y.1) offers (o.0, x) d.offered o.1
+            (watching_from x.0 watching) (absent_from x.0 m.placed absent);
+      }
+
+      pub dominates_from : (m n : Member S) → Dominates observes h m n → DominatesIn observes pending m n.state n.placed n.offers
+      dominates_from m n d = record {
+        same = d.same;
+        part = λ i e inside. d.part (get_or m.placed i e) (Contains-get_or m.placed i e inside);
+        rest = λ i e inside. elim (d.rest (get_or n.placed i e) (Contains-get_or n.placed i e inside)) [
+          | inl has ↦ inl has
+          | inr crashed ↦ inr (crashed_from (get_or n.placed i e).0 crashed)
+        ];
+        offered = λ i e inside watching absent.
+            let x = get_or n.offers i e in
+            d.offered x.1 (watching_to x.1.0 watching) (none_from x.1.0 m.placed absent) (x.0, Contains-get_or n.offers i e inside);
+      }
+
+      -- a member with the offers that somebody waits for dominates it
+      pub copy_dominates : (m : Member S × Path) → IsRising m.0.placed → Dominates observes h (copy_of observes pending m).0 m.0
+      copy_dominates m rising = record {
+        sorted = rising;
+        same = refl;
+        part = λ x there. there;
+        rest = λ x there. inl there;
+        offered = λ x watching absent o. (o.0, kept_by (λ (y : ℕ × (ℕ × Reply)). is_watching observes pending y.1.0) m.0.offers (o.0, x) (watching_from x.0 watching) o.1);
+      }

@@ -1,0 +1,354 @@
+//! What members lead to when an operation completes: the ways of placing open updates until it can have its reply.
+ghost use Rattle.std.specs.Prelude.{◌≡◌, ◌⊎◌, if◌then◌else◌, ◌∷◌, ◌++◌, ◌+◌, ◌*◌, [], ℕ, true, false, length, Contains, IfOk, IfSome, IfNone, OnOk};
+ghost use Rattle.lin_history.specs.declared.calls.Reply.{Reply as ReplyOf};
+ghost use Rattle.lin_frontier.specs.Members.{Member as MemberOf};
+ghost use Rattle.lin_frontier.specs.declared.members.Path.{Path as PathOf};
+ghost use Rattle.lin_frontier.specs.Nodes.{IsGrown};
+ghost use Rattle.lin_frontier.specs.Placing.{IsTried};
+ghost use Rattle.lin_frontier.specs.Searching.{AreBehind, PlacesIfUpdate, PlacesUpdate, CanTake, IsVisiting, IsFinding, IsDone, IsPassed, IsSearchOf};
+ghost use Rattle.lin_frontier.specs.Walks.{IsTriedAtMost};
+
+use crate::configs::Config;
+use crate::domination::is_dominated;
+use crate::members::{Member, Path, advanced, answered, placed_at};
+use crate::offers::Offers;
+use crate::pending::Open;
+use crate::placing::place_if_absent;
+use crate::rounds::RoundNodes;
+use lin_history::{Meter, OutOfMemory, Reply};
+use lin_objects::SeqObject;
+use lin_order::Placed;
+use std::alloc::Global;
+use std::hash::Hash;
+
+/// An operation that completes with the reply, and the operations that are open beside it.
+#[derive(Drop)]
+pub struct Completion<'a, O: SeqObject> {
+    pub object: &'a O,
+    pub operation: &'a Open,
+    pub reply: &'a Reply,
+    pub pending: &'a [Open],
+}
+
+/// Configurations with the operations that were placed to come to them, and what is on offer in all of them.
+type Found<O> = (Vec<(Config<<O as SeqObject>::State>, Placed)>, Offers);
+
+/// Puts the member last.
+pub fn push_member<S: Eq + Hash + Drop>(
+    members: &mut Vec<Member<S>>,
+    member: Member<S>,
+) -> Result<(), OutOfMemory>
+    ensures { OnOk result (members.new.items ≡ members.old.items ++ member ∷ []) }
+{
+    match members.push(member) {
+        Ok(()) => Ok(()),
+        Err(_) => Err(OutOfMemory),
+    }
+}
+
+/// Puts the value last, if it is wanted.
+fn push_if<S: Drop>(values: &mut Vec<S>, value: S, is_wanted: bool) -> Result<(), OutOfMemory>
+    ensures { OnOk result (values.new.items ≡ (if is_wanted then values.old.items ++ value ∷ [] else values.old.items)) }
+{
+    if is_wanted {
+        match values.push(value) {
+            Ok(()) => {}
+            Err(_) => return Err(OutOfMemory),
+        }
+    }
+    Ok(())
+}
+
+impl<'a, O: SeqObject> Completion<'a, O> {
+    /// What is on offer behind the state of the member.
+    fn offers_behind(
+        &self,
+        alloc: Global,
+        member: &Member<O::State>,
+        meter: &mut Meter,
+    ) -> Result<Offers, OutOfMemory>
+        ensures offered { IfOk result (AreBehind (O.step self.now.object.now) (O.observing self.now.object.now) self.now.pending.now member.now) }
+        ensures tried { IsTriedAtMost (length self.now.pending.now) meter.old meter.new }
+    {
+        let mut offers = member.offers().watched(self.object, alloc, self.pending)?;
+        offers.offer_all(
+            self.object,
+            alloc,
+            member.config(),
+            self.pending,
+            member.path().round,
+            meter,
+        )?;
+        Ok(offers)
+    }
+
+    /// Places the operation in each way that the object has, unless it is treated as an observer.
+    fn place_update(
+        &self,
+        alloc: Global,
+        config: &Config<O::State>,
+        operation: &Open,
+        out: &mut Vec<(Config<O::State>, Placed)>,
+        meter: &mut Meter,
+    ) -> Result<(), OutOfMemory>
+        ensures placed { OnOk result (IsTried (PlacesIfUpdate (O.step self.now.object.now) (O.observing self.now.object.now) operation.now config.now) out.old.items out.new.items) }
+        ensures tried { IsTriedAtMost 1 meter.old meter.new }
+    {
+        if self.object.observes(&operation.call) {
+            return Ok(());
+        }
+        place_if_absent(self.object, alloc, config, operation, out, meter)?;
+        Ok(())
+    }
+
+    /// What placing one open update makes of the configuration.
+    fn updates(
+        &self,
+        alloc: Global,
+        config: &Config<O::State>,
+        meter: &mut Meter,
+    ) -> Result<Vec<(Config<O::State>, Placed)>, OutOfMemory>
+        ensures placed { IfOk result (λ out. IsTried (PlacesUpdate (O.step self.now.object.now) (O.observing self.now.object.now) self.now.pending.now config.now) [] out.items) }
+        ensures tried { IsTriedAtMost (length self.now.pending.now) meter.old meter.new }
+    {
+        let mut out = Vec::new(alloc);
+        for operation in self.pending {
+            self.place_update(alloc, config, operation, &mut out, meter)?;
+        }
+        Ok(out)
+    }
+
+    /// Takes in what no visited member dominates.
+    fn visit(
+        &self,
+        alloc: Global,
+        path: Path,
+        next: Vec<(Config<O::State>, Placed)>,
+        offers: &Offers,
+        visited: &mut Vec<Member<O::State>>,
+        nodes: &mut RoundNodes,
+    ) -> Result<(), OutOfMemory>
+        ensures grown { IsGrown nodes.old nodes.new }
+        ensures visited { OnOk result (IsVisiting (O.observing self.now.object.now) self.now.pending.now next.items offers.now path nodes.new visited.old.items visited.new.items) }
+    {
+        let mut rest = next;
+        while let Some((config, placed)) = rest.pop() {
+            if is_dominated(self.object, self.pending, visited, &config, offers) {
+                continue;
+            }
+            let member = advanced(alloc, config, offers, path, placed, nodes)?;
+            push_member(visited, member)?;
+        }
+        Ok(())
+    }
+
+    /// The states after the operation gives the reply in this state.
+    fn states_after(
+        &self,
+        alloc: Global,
+        state: &O::State,
+        meter: &mut Meter,
+    ) -> Result<Vec<O::State>, OutOfMemory>
+        ensures sound { IfOk result (λ states. (next : O.State) → Contains states.items next → O.step self.now.object.now state.now self.now.operation.now.call next self.now.reply.now) }
+        ensures complete { IfOk result (λ states. (next : O.State) → O.step self.now.object.now state.now self.now.operation.now.call next self.now.reply.now → Contains states.items next) }
+        ensures tried { IsTriedAtMost 1 meter.old meter.new }
+    {
+        meter.tick_try();
+        let mut states = Vec::new(alloc);
+        let mut steps = Vec::new(alloc);
+        self.object
+            .outcomes(alloc, state, &self.operation.call, &mut steps)?;
+        while let Some((next, reply)) = steps.pop() {
+            push_if(&mut states, next, reply == *self.reply)?;
+        }
+        Ok(states)
+    }
+
+    /// A round in which the operation can take the reply, if there is one.
+    fn round_given(
+        &self,
+        alloc: Global,
+        member: &Member<O::State>,
+        meter: &mut Meter,
+    ) -> Result<Option<usize>, OutOfMemory>
+        ensures some { IfOk result (λ found. IfSome found (CanTake (O.step self.now.object.now) self.now.operation.now self.now.reply.now member.now)) }
+        ensures none { IfOk result (λ found. IfNone found ((round : ℕ) → CanTake (O.step self.now.object.now) self.now.operation.now self.now.reply.now member.now round → ⊥)) }
+        ensures tried { IsTriedAtMost 1 meter.old meter.new }
+    {
+        if let Some(round) = member.offers().round_of(self.operation.process, self.reply) {
+            return Ok(Some(round));
+        }
+        let mut states = self.states_after(alloc, member.state(), meter)?;
+        match states.pop() {
+            Some(_) => Ok(Some(member.path().round)),
+            None => Ok(None),
+        }
+    }
+
+    /// Puts in `out` what the operation, an observer, makes of the member with its reply; or, where it can't take it,
+    /// answers what is on offer behind the member.
+    fn observe(
+        &self,
+        alloc: Global,
+        member: &Member<O::State>,
+        out: &mut Vec<Member<O::State>>,
+        nodes: &mut RoundNodes,
+        meter: &mut Meter,
+    ) -> Result<Option<Offers>, OutOfMemory>
+        requires { O.observing self.now.object.now self.now.operation.now.call ≡ true }
+        ensures grown { IsGrown nodes.old nodes.new }
+        ensures found { OnOk result (IsFinding (O.step self.now.object.now) (O.observing self.now.object.now) self.now.operation.now self.now.reply.now self.now.pending.now nodes.new member.now out.old.items out.new.items) }
+        ensures done { IfOk result (λ offers. IfNone offers (IsDone (O.observing self.now.object.now) self.now.operation.now self.now.pending.now out.new.items member.now.0)) }
+        ensures passed { IfOk result (λ offers. IfSome offers (λ _. IsPassed (O.step self.now.object.now) (O.observing self.now.object.now) self.now.operation.now self.now.reply.now self.now.pending.now out.new.items member.now)) }
+        ensures offered { IfOk result (λ offers. IfSome offers (AreBehind (O.step self.now.object.now) (O.observing self.now.object.now) self.now.pending.now member.now)) }
+        ensures tried { IsTriedAtMost (length self.now.pending.now + 1) meter.old meter.new }
+    {
+        match self.round_given(alloc, member, meter)? {
+            Some(round) => {
+                let placed = placed_at(alloc, self.operation.at, self.reply)?;
+                let next = answered(
+                    self.object,
+                    alloc,
+                    self.pending,
+                    member,
+                    round,
+                    placed,
+                    nodes,
+                )?;
+                push_member(out, next)?;
+                Ok(None)
+            }
+            None => {
+                let offers = self.offers_behind(alloc, member, meter)?;
+                Ok(Some(offers))
+            }
+        }
+    }
+
+    /// Puts in `out` what the operation, an update, makes of the member with its reply, and answers what is on offer
+    /// behind the member.
+    fn update(
+        &self,
+        alloc: Global,
+        member: &Member<O::State>,
+        out: &mut Vec<Member<O::State>>,
+        nodes: &mut RoundNodes,
+        meter: &mut Meter,
+    ) -> Result<Offers, OutOfMemory>
+        requires { O.observing self.now.object.now self.now.operation.now.call ≡ false }
+        ensures grown { IsGrown nodes.old nodes.new }
+        ensures found { OnOk result (IsFinding (O.step self.now.object.now) (O.observing self.now.object.now) self.now.operation.now self.now.reply.now self.now.pending.now nodes.new member.now out.old.items out.new.items) }
+        ensures passed { OnOk result (IsPassed (O.step self.now.object.now) (O.observing self.now.object.now) self.now.operation.now self.now.reply.now self.now.pending.now out.new.items member.now) }
+        ensures offered { IfOk result (AreBehind (O.step self.now.object.now) (O.observing self.now.object.now) self.now.pending.now member.now) }
+        ensures tried { IsTriedAtMost (length self.now.pending.now + 1) meter.old meter.new }
+    {
+        let offers = self.offers_behind(alloc, member, meter)?;
+        let mut states = self.states_after(alloc, member.state(), meter)?;
+        while let Some(state) = states.pop() {
+            let placed = placed_at(alloc, self.operation.at, self.reply)?;
+            let config = member.config().with_state(alloc, state)?;
+            let next = advanced(alloc, config, &offers, member.path(), placed, nodes)?;
+            push_member(out, next)?;
+        }
+        Ok(offers)
+    }
+
+    /// Puts in `out` what the operation makes of the member with its reply. Where more can come of the member, answers
+    /// what is on offer behind it.
+    fn complete(
+        &self,
+        alloc: Global,
+        member: &Member<O::State>,
+        out: &mut Vec<Member<O::State>>,
+        nodes: &mut RoundNodes,
+        meter: &mut Meter,
+    ) -> Result<Option<Offers>, OutOfMemory>
+        ensures grown { IsGrown nodes.old nodes.new }
+        ensures found { OnOk result (IsFinding (O.step self.now.object.now) (O.observing self.now.object.now) self.now.operation.now self.now.reply.now self.now.pending.now nodes.new member.now out.old.items out.new.items) }
+        ensures done { IfOk result (λ offers. IfNone offers (IsDone (O.observing self.now.object.now) self.now.operation.now self.now.pending.now out.new.items member.now.0)) }
+        ensures passed { IfOk result (λ offers. IfSome offers (λ _. IsPassed (O.step self.now.object.now) (O.observing self.now.object.now) self.now.operation.now self.now.reply.now self.now.pending.now out.new.items member.now)) }
+        ensures offered { IfOk result (λ offers. IfSome offers (AreBehind (O.step self.now.object.now) (O.observing self.now.object.now) self.now.pending.now member.now)) }
+        ensures tried { IsTriedAtMost (length self.now.pending.now + 1) meter.old meter.new }
+    {
+        if self.object.observes(&self.operation.call) {
+            return self.observe(alloc, member, out, nodes, meter);
+        }
+        let offers = self.update(alloc, member, out, nodes, meter)?;
+        Ok(Some(offers))
+    }
+
+    /// Puts in `out` what the operation makes of the member with its reply. Where more can come of the member, answers
+    /// what placing an update makes of it, and what is on offer behind it.
+    fn work_off(
+        &self,
+        alloc: Global,
+        member: &Member<O::State>,
+        out: &mut Vec<Member<O::State>>,
+        nodes: &mut RoundNodes,
+        meter: &mut Meter,
+    ) -> Result<Option<Found<O>>, OutOfMemory>
+        ensures grown { IsGrown nodes.old nodes.new }
+        ensures found { OnOk result (IsFinding (O.step self.now.object.now) (O.observing self.now.object.now) self.now.operation.now self.now.reply.now self.now.pending.now nodes.new member.now out.old.items out.new.items) }
+        ensures done { IfOk result (λ found. IfNone found (IsDone (O.observing self.now.object.now) self.now.operation.now self.now.pending.now out.new.items member.now.0)) }
+        ensures passed { IfOk result (λ found. IfSome found (λ _. IsPassed (O.step self.now.object.now) (O.observing self.now.object.now) self.now.operation.now self.now.reply.now self.now.pending.now out.new.items member.now)) }
+        ensures offered { IfOk result (λ found. IfSome found (λ f. AreBehind (O.step self.now.object.now) (O.observing self.now.object.now) self.now.pending.now member.now f.1)) }
+        ensures placed { IfOk result (λ found. IfSome found (λ f. IsTried (PlacesUpdate (O.step self.now.object.now) (O.observing self.now.object.now) self.now.pending.now (member.now.0.state, member.now.0.placed)) [] f.0.items)) }
+        ensures tried { IsTriedAtMost (2 * length self.now.pending.now + 1) meter.old meter.new }
+    {
+        match self.complete(alloc, member, out, nodes, meter)? {
+            Some(offers) => {
+                let next = self.updates(alloc, member.config(), meter)?;
+                Ok(Some((next, offers)))
+            }
+            None => Ok(None),
+        }
+    }
+
+    /// Takes in what was found, if anything was.
+    fn visit_found(
+        &self,
+        alloc: Global,
+        path: Path,
+        found: Option<Found<O>>,
+        visited: &mut Vec<Member<O::State>>,
+        nodes: &mut RoundNodes,
+    ) -> Result<(), OutOfMemory>
+        ensures grown { IsGrown nodes.old nodes.new }
+        ensures none { OnOk result (IfNone found ((visited.new.items ≡ visited.old.items) × (nodes.new ≡ nodes.old))) }
+        ensures some { OnOk result (IfSome found (λ f. IsVisiting (O.observing self.now.object.now) self.now.pending.now f.0.items f.1 path nodes.new visited.old.items visited.new.items)) }
+    {
+        if let Some((next, offers)) = found {
+            self.visit(alloc, path, next, &offers, visited, nodes)?;
+        }
+        Ok(())
+    }
+
+    /// What the operation makes of the members with its reply, on all ways from them by placing updates; `None` where
+    /// more members than the limit come up.
+    pub fn search(
+        &self,
+        alloc: Global,
+        starts: Vec<Member<O::State>>,
+        limit: usize,
+        nodes: &mut RoundNodes,
+        meter: &mut Meter,
+    ) -> Result<Option<Vec<Member<O::State>>>, OutOfMemory>
+        ensures grown { IsGrown nodes.old nodes.new }
+        ensures found { IfOk result (λ found. IfSome found (λ out. IsSearchOf (O.step self.now.object.now) (O.observing self.now.object.now) self.now.operation.now self.now.reply.now self.now.pending.now nodes.new starts.items out.items)) }
+        ensures tried { IsTriedAtMost (limit * (2 * length self.now.pending.now + 1)) meter.old meter.new }
+    {
+        let mut visited = starts;
+        let mut out = Vec::new(alloc);
+        let mut at = 0;
+        while let Some(member) = visited.get(at) {
+            if at >= limit {
+                return Ok(None);
+            }
+            let path = member.path();
+            let found = self.work_off(alloc, member, &mut out, nodes, meter)?;
+            self.visit_found(alloc, path, found, &mut visited, nodes)?;
+            at += 1;
+        }
+        Ok(Some(out))
+    }
+}

@@ -1,0 +1,172 @@
+//! When one member leads to all that another leads to.
+ghost use Rattle.std.specs.Prelude.{◌≡◌, ◌⊎◌, ℕ, true, All, AllPairs, Contains, IfOk, IsTrue, ◌↔◌};
+ghost use Rattle.lin_history.specs.declared.calls.Reply.{Reply as ReplyOf};
+ghost use Rattle.lin_frontier.specs.Members.{Member as MemberOf, IsOnOffer};
+ghost use Rattle.lin_frontier.specs.declared.members.Path.{Path as PathOf};
+ghost use Rattle.lin_frontier.specs.Placing.{IsAbsent};
+ghost use Rattle.lin_frontier.specs.Searching.{is_crashed as is_crashed_in, is_watching as is_watching_in, DominatesIn, IsPruned};
+
+use crate::configs::{Config, is_absent, is_placed};
+use crate::members::Member;
+use crate::offers::{Offers, is_crashed, is_watching};
+use crate::pending::Open;
+use lin_history::{OutOfMemory, Reply};
+use lin_objects::SeqObject;
+use std::alloc::Global;
+
+/// Whether each of the pairs is among the others.
+fn is_part(pairs: &[(u64, Reply)], others: &[(u64, Reply)]) -> bool
+    ensures { IsTrue result ↔ All (λ x. Contains others.now x) pairs.now }
+{
+    for pair in pairs {
+        if !is_placed(others, pair.0, &pair.1) {
+            return false;
+        }
+    }
+    true
+}
+
+/// Whether the pair is among the others or of a crashed operation.
+fn is_placed_or_crashed(pending: &[Open], others: &[(u64, Reply)], pair: &(u64, Reply)) -> bool
+    ensures { IsTrue result ↔ (Contains others.now pair.now ⊎ (is_crashed_in pending.now pair.now.0 ≡ true)) }
+{
+    is_placed(others, pair.0, &pair.1) || is_crashed(pending, pair.0)
+}
+
+/// Whether each of the pairs is among the others or of a crashed operation.
+fn is_part_but_crashed(pending: &[Open], pairs: &[(u64, Reply)], others: &[(u64, Reply)]) -> bool
+    ensures { IsTrue result ↔ All (λ x. Contains others.now x ⊎ (is_crashed_in pending.now x.0 ≡ true)) pairs.now }
+{
+    for pair in pairs {
+        if !is_placed_or_crashed(pending, others, pair) {
+            return false;
+        }
+    }
+    true
+}
+
+/// Whether the member has the offer, or nobody waits for it.
+fn has_offer<O: SeqObject>(
+    object: &O,
+    pending: &[Open],
+    member: &Member<O::State>,
+    offer: &(usize, (u64, Reply)),
+) -> bool
+    ensures { IsTrue result ↔ (is_watching_in (O.observing object.now) pending.now offer.now.1.0 ≡ true → IsAbsent offer.now.1.0 member.now.0.placed → IsOnOffer member.now.0 offer.now.1) }
+{
+    let process = offer.1.0;
+    if !is_watching(object, pending, process) {
+        return true;
+    }
+    if !is_absent(member.placed(), process) {
+        return true;
+    }
+    match member.offers().round_of(process, &offer.1.1) {
+        Some(_) => true,
+        None => false,
+    }
+}
+
+/// Whether the member has each of the offers, apart from those that nobody waits for.
+fn has_offers<O: SeqObject>(
+    object: &O,
+    pending: &[Open],
+    member: &Member<O::State>,
+    offers: &Offers,
+) -> bool
+    ensures { IsTrue result ↔ All (λ x. is_watching_in (O.observing object.now) pending.now x.1.0 ≡ true → IsAbsent x.1.0 member.now.0.placed → IsOnOffer member.now.0 x.1) offers.now }
+{
+    for offer in offers.as_slice() {
+        if !has_offer(object, pending, member, offer) {
+            return false;
+        }
+    }
+    true
+}
+
+/// Whether the states are the same.
+fn is_same_state<O: SeqObject>(state: &O::State, other: &O::State) -> bool
+    ensures { IsTrue result ↔ (state.now ≡ other.now) }
+{
+    *state == *other
+}
+
+/// Whether the member has the same state as the configuration, no more placed but for crashed operations, and all of the
+/// offers that matter.
+pub fn dominates<O: SeqObject>(
+    object: &O,
+    pending: &[Open],
+    member: &Member<O::State>,
+    config: &Config<O::State>,
+    offers: &Offers,
+) -> bool
+    ensures { IsTrue result ↔ DominatesIn (O.observing object.now) pending.now member.now.0 config.now.0 config.now.1 offers.now }
+{
+    if !is_same_state::<O>(member.state(), config.state()) {
+        return false;
+    }
+    if !is_part(member.placed(), config.placed()) {
+        return false;
+    }
+    if !is_part_but_crashed(pending, config.placed(), member.placed()) {
+        return false;
+    }
+    has_offers(object, pending, member, offers)
+}
+
+/// Whether one of the members dominates.
+pub fn is_dominated<O: SeqObject>(
+    object: &O,
+    pending: &[Open],
+    members: &[Member<O::State>],
+    config: &Config<O::State>,
+    offers: &Offers,
+) -> bool
+    ensures { IsTrue result ↔ ((m : MemberOf O.State × PathOf) × Contains members.now m × DominatesIn (O.observing object.now) pending.now m.0 config.now.0 config.now.1 offers.now) }
+{
+    for member in members {
+        if dominates(object, pending, member, config, offers) {
+            return true;
+        }
+    }
+    false
+}
+
+/// Whether one of the others dominates the member.
+fn is_below<O: SeqObject>(
+    object: &O,
+    pending: &[Open],
+    rest: &[Member<O::State>],
+    kept: &[Member<O::State>],
+    member: &Member<O::State>,
+) -> bool
+    ensures { IsTrue result ↔ ((m : MemberOf O.State × PathOf) × (Contains rest.now m ⊎ Contains kept.now m) × DominatesIn (O.observing object.now) pending.now m.0 member.now.0.state member.now.0.placed member.now.0.offers) }
+{
+    if is_dominated(object, pending, rest, member.config(), member.offers()) {
+        return true;
+    }
+    is_dominated(object, pending, kept, member.config(), member.offers())
+}
+
+/// The members of which no other one dominates any.
+pub fn pruned<O: SeqObject>(
+    object: &O,
+    alloc: Global,
+    pending: &[Open],
+    members: Vec<Member<O::State>>,
+) -> Result<Vec<Member<O::State>>, OutOfMemory>
+    ensures { IfOk result (λ kept. IsPruned (O.observing object.now) pending.now members.items kept.items) }
+{
+    let mut rest = members;
+    let mut kept: Vec<Member<O::State>> = Vec::new(alloc);
+    while let Some(member) = rest.pop() {
+        if is_below(object, pending, &rest, &kept, &member) {
+            continue;
+        }
+        match kept.push(member) {
+            Ok(()) => {}
+            Err(_) => return Err(OutOfMemory),
+        }
+    }
+    Ok(kept)
+}

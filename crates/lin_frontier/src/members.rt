@@ -1,0 +1,220 @@
+//! Members of a compressed frontier.
+ghost use Rattle.std.specs.Prelude.{◌≡◌, [], ◌∷◌, ◌++◌, ◌+◌, Some, None, length, IfOk, OnOk};
+ghost use Rattle.lin_frontier.specs.Members.{Member as MemberOf};
+ghost use Rattle.lin_frontier.specs.MemberLaws.{first_member};
+ghost use Rattle.lin_frontier.specs.Nodes.{IsGrown};
+ghost use Rattle.lin_frontier.specs.Placing.{without as without_process};
+ghost use Rattle.lin_frontier.specs.Searching.{IsNodeOf, watched};
+
+use crate::configs::Config;
+use crate::nodes::NodeId;
+use crate::offers::Offers;
+use crate::pending::Open;
+use crate::rounds::RoundNodes;
+use lin_history::{OutOfMemory, Reply};
+use lin_objects::SeqObject;
+use lin_order::Placed;
+use std::alloc::Global;
+use std::hash::Hash;
+use std::marker::Model;
+
+/// A state with the open updates placed on the way to it, and the replies that observers were offered on that way.
+///
+/// It stands for each configuration in which some of these observers are placed with a reply on offer to them.
+#[derive(Drop)]
+pub struct Member<S: Eq + Hash> {
+    pub(crate) config: Config<S>,
+    pub(crate) offers: Offers,
+    pub(crate) path: Path,
+}
+
+/// How a member was come by: a node that spells it in rounds, and the last one of these.
+#[derive(Clone, Copy, Debug, PartialEq, Eq)]
+pub struct Path {
+    pub node: NodeId,
+    pub round: usize,
+}
+
+impl<S: Eq + Hash> Model for Member<S> {
+    ghost use Rattle.lin_frontier.specs.Members.{Member as MemberOf};
+    ghost use Rattle.lin_frontier.specs.declared.members.Path.{Path as PathOf};
+
+    ghost Value = { MemberOf S × PathOf };
+
+    ghost view = { λ m. (record { state = m.config.0; placed = m.config.1; offers = m.offers }, m.path) };
+}
+
+impl<S: Eq + Hash> Member<S> {
+    /// The one member before any event.
+    pub fn start(alloc: Global, state: S) -> Self
+        ensures { result ≡ (first_member state, record { node = 0; round = 0 }) }
+    {
+        Member {
+            config: Config::new(alloc, state),
+            offers: Offers::new(alloc),
+            path: Path { node: 0, round: 0 },
+        }
+    }
+
+    /// The state, and the open operations placed on the way to it.
+    pub fn config(&self) -> &Config<S>
+        ensures { result.now ≡ (self.now.0.state, self.now.0.placed) }
+    {
+        &self.config
+    }
+
+    /// The state.
+    pub fn state(&self) -> &S
+        ensures { result.now ≡ self.now.0.state }
+    {
+        self.config.state()
+    }
+
+    /// The open operations that were placed, by rising process, with their replies.
+    pub fn placed(&self) -> &[(u64, Reply)]
+        ensures { result.now ≡ self.now.0.placed }
+    {
+        self.config.placed()
+    }
+
+    /// What was on offer before the state.
+    pub fn offers(&self) -> &Offers
+        ensures { result.now ≡ self.now.0.offers }
+    {
+        &self.offers
+    }
+
+    /// How it was come by.
+    pub fn path(&self) -> Path
+        ensures { result ≡ self.now.1 }
+    {
+        self.path
+    }
+}
+
+/// The same member on its own memory, with the offers that may still be taken.
+pub fn copied<O: SeqObject>(
+    object: &O,
+    alloc: Global,
+    pending: &[Open],
+    member: &Member<O::State>,
+) -> Result<Member<O::State>, OutOfMemory>
+    ensures { IfOk result (λ copy. copy ≡ (
+      record {
+        state = member.now.0.state;
+        placed = member.now.0.placed;
+        offers = watched (O.observing object.now) pending.now member.now.0.offers;
+      },
+      member.now.1,
+    )) }
+{
+    let state = object.copy_state(alloc, member.config.state())?;
+    Ok(Member {
+        config: member.config.with_state(alloc, state)?,
+        offers: member.offers.watched(object, alloc, pending)?,
+        path: member.path,
+    })
+}
+
+/// The member that placed the operation of the process, without it.
+pub fn taken_out<O: SeqObject>(
+    object: &O,
+    alloc: Global,
+    pending: &[Open],
+    member: &Member<O::State>,
+    process: u64,
+) -> Result<Member<O::State>, OutOfMemory>
+    ensures { IfOk result (λ rest. rest ≡ (
+      record {
+        state = member.now.0.state;
+        placed = without_process process member.now.0.placed;
+        offers = watched (O.observing object.now) pending.now member.now.0.offers;
+      },
+      member.now.1,
+    )) }
+{
+    let state = object.copy_state(alloc, member.config.state())?;
+    Ok(Member {
+        config: member.config.without(alloc, state, process)?,
+        offers: member.offers.watched(object, alloc, pending)?,
+        path: member.path,
+    })
+}
+
+/// The member after the observer took the reply in the round.
+pub fn answered<O: SeqObject>(
+    object: &O,
+    alloc: Global,
+    pending: &[Open],
+    member: &Member<O::State>,
+    round: usize,
+    placed: Placed,
+    nodes: &mut RoundNodes,
+) -> Result<Member<O::State>, OutOfMemory>
+    ensures grown { IsGrown nodes.old nodes.new }
+    ensures same { IfOk result (λ next. next.0 ≡ (record {
+      state = member.now.0.state;
+      placed = member.now.0.placed;
+      offers = watched (O.observing object.now) pending.now member.now.0.offers;
+    })) }
+    ensures round { IfOk result (λ next. next.1.round ≡ member.now.1.round) }
+    ensures node { IfOk result (λ next. IsNodeOf nodes.new next.1.node member.now.1.node (placed, Some round)) }
+{
+    let state = object.copy_state(alloc, member.config.state())?;
+    let config = member.config.with_state(alloc, state)?;
+    let offers = member.offers.watched(object, alloc, pending)?;
+    let node = nodes.push(member.path.node, placed, Some(round))?;
+    let round = member.path.round;
+    Ok(Member {
+        config,
+        offers,
+        path: Path { node, round },
+    })
+}
+
+/// The path with a new round, which the operation begins.
+fn in_next_round(path: Path, placed: Placed, nodes: &mut RoundNodes) -> Result<Path, OutOfMemory>
+    ensures grown { IsGrown nodes.old nodes.new }
+    ensures round { IfOk result (λ next. next.round ≡ path.round + 1) }
+    ensures node { IfOk result (λ next. IsNodeOf nodes.new next.node path.node (placed, None)) }
+{
+    // No more rounds than fit into memory.
+    let Some(round) = path.round.checked_add(1) else {
+        return Err(OutOfMemory);
+    };
+    let node = nodes.push(path.node, placed, None)?;
+    Ok(Path { node, round })
+}
+
+/// The member of these, whose path goes on from this one by a round, which the operation begins.
+pub fn advanced<S: Eq + Hash + Drop>(
+    alloc: Global,
+    config: Config<S>,
+    offers: &Offers,
+    path: Path,
+    placed: Placed,
+    nodes: &mut RoundNodes,
+) -> Result<Member<S>, OutOfMemory>
+    ensures grown { IsGrown nodes.old nodes.new }
+    ensures same { IfOk result (λ next. next.0 ≡ record { state = config.0; placed = config.1; offers = offers.now }) }
+    ensures round { IfOk result (λ next. next.1.round ≡ path.round + 1) }
+    ensures node { IfOk result (λ next. IsNodeOf nodes.new next.1.node path.node (placed, None)) }
+{
+    let offers = offers.copy(alloc)?;
+    let path = in_next_round(path, placed, nodes)?;
+    Ok(Member {
+        config,
+        offers,
+        path,
+    })
+}
+
+/// The reply, placed at the position.
+pub fn placed_at(alloc: Global, at: usize, reply: &Reply) -> Result<Placed, OutOfMemory>
+    ensures { IfOk result (λ placed. placed ≡ record { at = at; reply = reply.now }) }
+{
+    Ok(Placed {
+        at,
+        reply: reply.copy(alloc)?,
+    })
+}

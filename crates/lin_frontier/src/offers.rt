@@ -1,0 +1,219 @@
+//! What is on offer: the replies that observers may still be given, each with a round whose state gave it.
+ghost use Rattle.std.specs.Prelude.{◌≡◌, ◌&&◌, nat_eq, [], ◌∷◌, ◌++◌, ℕ, IfOk, IfSome, IfNone, OnOk, Contains, length};
+ghost use Rattle.lin_history.specs.declared.calls.Reply.{Reply as ReplyOf};
+ghost use Rattle.lin_frontier.specs.Searching.{is_crashed as is_crashed_in, is_observing as is_observing_in, is_watching as is_watching_in, watched as watched_of, Gives, GivesOne, GivesAny, IsOffering};
+ghost use Rattle.lin_frontier.specs.Walks.{IsTriedAtMost};
+
+use crate::configs::{Config, is_absent, is_pair};
+use crate::pending::Open;
+use lin_history::{Meter, OutOfMemory, Reply};
+use lin_objects::SeqObject;
+use smallvec::SmallVec;
+use std::alloc::Global;
+use std::marker::Model;
+
+/// Offers in the order in which they were made: each is a round, and a process with the reply that the round's state gave
+/// to its pending call.
+#[derive(Drop)]
+pub struct Offers {
+    items: SmallVec<(usize, (u64, Reply)), 4>,
+}
+
+impl Model for Offers {
+    ghost use Rattle.std.specs.Prelude.{ℕ, List};
+    ghost use Rattle.lin_history.specs.declared.calls.Reply.{Reply as ReplyOf};
+
+    ghost Value = { List (ℕ × (ℕ × ReplyOf)) };
+
+    ghost view = { λ o. o.items.items };
+}
+
+/// Whether the operation is of the process, and has crashed.
+fn has_crashed(operation: &Open, process: u64) -> bool
+    ensures { result ≡ (nat_eq operation.now.process process && operation.now.crashed) }
+{
+    operation.process == process && operation.crashed
+}
+
+/// Whether the operation is of the process, and observes.
+fn does_observe<O: SeqObject>(object: &O, operation: &Open, process: u64) -> bool
+    ensures { result ≡ (nat_eq operation.now.process process && O.observing object.now operation.now.call) }
+{
+    operation.process == process && object.observes(&operation.call)
+}
+
+/// Whether an operation of the process has crashed.
+pub fn is_crashed(pending: &[Open], process: u64) -> bool
+    ensures { result ≡ is_crashed_in pending.now process }
+{
+    for operation in pending {
+        if has_crashed(operation, process) {
+            return true;
+        }
+    }
+    false
+}
+
+/// Whether an operation of the process observes.
+fn is_observing<O: SeqObject>(object: &O, pending: &[Open], process: u64) -> bool
+    ensures { result ≡ is_observing_in (O.observing object.now) pending.now process }
+{
+    for operation in pending {
+        if does_observe(object, operation, process) {
+            return true;
+        }
+    }
+    false
+}
+
+/// Whether the process waits for the reply of an operation that observes, and has not crashed.
+pub fn is_watching<O: SeqObject>(object: &O, pending: &[Open], process: u64) -> bool
+    ensures { result ≡ is_watching_in (O.observing object.now) pending.now process }
+{
+    is_observing(object, pending, process) && !is_crashed(pending, process)
+}
+
+impl Offers {
+    /// Nothing on offer.
+    pub fn new(alloc: Global) -> Self
+        ensures { result ≡ [] }
+    {
+        Offers {
+            items: SmallVec::new(alloc),
+        }
+    }
+
+    pub fn as_slice(&self) -> &[(usize, (u64, Reply))]
+        ensures { result.now ≡ self.now }
+    {
+        self.items.as_slice()
+    }
+
+    /// One more offer.
+    fn push(&mut self, round: usize, process: u64, reply: Reply) -> Result<(), OutOfMemory>
+        ensures { OnOk result (self.new ≡ self.old ++ (round, (process, reply)) ∷ []) }
+    {
+        match self.items.push((round, (process, reply))) {
+            Ok(()) => Ok(()),
+            Err(_) => Err(OutOfMemory),
+        }
+    }
+
+    /// The same offers on their own memory.
+    pub fn copy(&self, alloc: Global) -> Result<Offers, OutOfMemory>
+        ensures { IfOk result (λ copy. copy ≡ self.now) }
+    {
+        let mut copy = Offers::new(alloc);
+        for offer in self.items.as_slice() {
+            copy.push(offer.0, offer.1.0, offer.1.1.copy(alloc)?)?;
+        }
+        Ok(copy)
+    }
+
+    /// The offers that may still be taken: those to processes that watch.
+    pub fn watched<O: SeqObject>(
+        &self,
+        object: &O,
+        alloc: Global,
+        pending: &[Open],
+    ) -> Result<Offers, OutOfMemory>
+        ensures { IfOk result (λ kept. kept ≡ watched_of (O.observing object.now) pending.now self.now) }
+    {
+        let mut kept = Offers::new(alloc);
+        for offer in self.items.as_slice() {
+            if is_watching(object, pending, offer.1.0) {
+                kept.push(offer.0, offer.1.0, offer.1.1.copy(alloc)?)?;
+            }
+        }
+        Ok(kept)
+    }
+
+    /// The first round in which the process was offered the reply.
+    pub fn round_of(&self, process: u64, reply: &Reply) -> Option<usize>
+        ensures some { IfSome result (λ round. Contains self.now (round, (process, reply.now))) }
+        ensures none { IfNone result ((round : ℕ) → Contains self.now (round, (process, reply.now)) → ⊥) }
+    {
+        for offer in self.items.as_slice() {
+            if is_pair(&offer.1, process, reply) {
+                return Some(offer.0);
+            }
+        }
+        None
+    }
+
+    /// Offers the reply in the round, unless it was offered before.
+    fn offer(&mut self, round: usize, process: u64, reply: Reply) -> Result<(), OutOfMemory>
+        ensures { OnOk result (IsOffering (λ x. x ≡ (process, reply)) round self.old self.new) }
+    {
+        if self.round_of(process, &reply).is_some() {
+            return Ok(());
+        }
+        self.push(round, process, reply)
+    }
+
+    /// Offers in the round what the state gives to the operation.
+    fn offer_given<O: SeqObject>(
+        &mut self,
+        object: &O,
+        alloc: Global,
+        state: &O::State,
+        operation: &Open,
+        round: usize,
+        meter: &mut Meter,
+    ) -> Result<(), OutOfMemory>
+        ensures offered { OnOk result (IsOffering (Gives (O.step object.now) state.now operation.now) round self.old self.new) }
+        ensures tried { IsTriedAtMost 1 meter.old meter.new }
+    {
+        meter.tick_try();
+        let mut steps = Vec::new(alloc);
+        object.outcomes(alloc, state, &operation.call, &mut steps)?;
+        while let Some((_, reply)) = steps.pop() {
+            self.offer(round, operation.process, reply)?;
+        }
+        Ok(())
+    }
+
+    /// Offers in the round what the configuration's state gives to the operation, if its process watches and has no place
+    /// in the configuration.
+    fn offer_one<O: SeqObject>(
+        &mut self,
+        object: &O,
+        alloc: Global,
+        config: &Config<O::State>,
+        pending: &[Open],
+        operation: &Open,
+        round: usize,
+        meter: &mut Meter,
+    ) -> Result<(), OutOfMemory>
+        ensures offered { OnOk result (IsOffering (GivesOne (O.step object.now) (O.observing object.now) pending.now config.now operation.now) round self.old self.new) }
+        ensures tried { IsTriedAtMost 1 meter.old meter.new }
+    {
+        if !is_watching(object, pending, operation.process) {
+            return Ok(());
+        }
+        if !is_absent(config.placed(), operation.process) {
+            return Ok(());
+        }
+        self.offer_given(object, alloc, config.state(), operation, round, meter)?;
+        Ok(())
+    }
+
+    /// Offers in the round what the configuration's state gives to the operations.
+    pub fn offer_all<O: SeqObject>(
+        &mut self,
+        object: &O,
+        alloc: Global,
+        config: &Config<O::State>,
+        pending: &[Open],
+        round: usize,
+        meter: &mut Meter,
+    ) -> Result<(), OutOfMemory>
+        ensures offered { OnOk result (IsOffering (GivesAny (O.step object.now) (O.observing object.now) pending.now config.now) round self.old self.new) }
+        ensures tried { IsTriedAtMost (length pending.now) meter.old meter.new }
+    {
+        for operation in pending {
+            self.offer_one(object, alloc, config, pending, operation, round, meter)?;
+        }
+        Ok(())
+    }
+}
