@@ -62,6 +62,11 @@ abbrev pub or_fault : {A B : Type 0} → CommandFault → Option A → (A → Re
 or_fault fault None more = Err fault
 or_fault fault (Some x) more = more x
 
+-- what is made of what was read; a fault stays
+abbrev pub made : {A B : Type 0} → (A → B) → Result A CommandFault → Result B CommandFault
+made make (Ok x) = Ok (make x)
+made make (Err fault) = Err fault
+
 -- the place behind a word
 abbrev pub end_of : Part → ℕ
 end_of word = word.at + length word.text
@@ -96,9 +101,7 @@ key_in words =
 -- what a question is about: the object of the key that the only word writes, or the whole where there is none
 abbrev pub scope_in : List Part → Result Scope CommandFault
 scope_in [] = Ok scope.Whole
-scope_in (first ∷ words) =
-    or_fault BadWords (only (first ∷ words)) (λ word.
-    or_fault BadNumber (integer_of word.text) (λ key. Ok (scope.Object key)))
+scope_in (first ∷ words) = made scope.Object (key_in (first ∷ words))
 
 -- a key and its kind
 abbrev pub key_and_kind : List Part → Result (ℤ × Kind) CommandFault
@@ -114,8 +117,7 @@ replacement (word ∷ words) = or_fault BadNumber (number_of (2 ^ 64 - 1) word.t
 
 -- a command made of what was read
 abbrev pub plain : {A : Type 0} → (A → Command) → Result A CommandFault → Result Sense CommandFault
-plain make (Ok x) = Ok (sense.Plain (make x))
-plain make (Err fault) = Err fault
+plain make read = made (λ x. sense.Plain (make x)) read
 
 -- what the words behind the first one say, which ends at a place: first their number is tested, then each from left to right
 abbrev pub sense_behind : Verb → ℕ → List Part → Result Sense CommandFault

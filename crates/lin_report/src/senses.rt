@@ -183,13 +183,7 @@ fn scope_in(line: &[u8], from: usize) -> Result<Scope, CommandFault>
     if next_word(line, from).is_none() {
         return Ok(Scope::Whole);
     }
-    let Some(word) = only_word(line, from) else {
-        return Err(CommandFault::BadWords);
-    };
-    match integer(word.text) {
-        Some(key) => Ok(Scope::Object(key)),
-        None => Err(CommandFault::BadNumber),
-    }
+    Ok(Scope::Object(key_in(line, from)?))
 }
 
 fn key_and_kind(line: &[u8], from: usize) -> Result<(i64, Kind), CommandFault>
