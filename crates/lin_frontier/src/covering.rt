@@ -49,7 +49,7 @@ pub fn crashed_after(
 }
 
 /// Whether the process is one of these.
-fn is_among(processes: &[u64], process: u64) -> bool
+pub fn is_among(processes: &[u64], process: u64) -> bool
     ensures { IsTrue result ↔ Contains processes.now process }
 {
     for other in processes {
@@ -119,8 +119,25 @@ fn covers_from<O: SeqObject>(
     }
 }
 
+/// Whether a configuration at one of these places covers this one.
+pub fn is_covered_at<O: SeqObject>(
+    found: &IndexMap<Config<O::State>, NodeId>,
+    places: &[usize],
+    config: &Config<O::State>,
+    crashed: &[u64],
+) -> bool
+    ensures { IsTrue result → IsCoveredBy (Covers (Contains crashed.now)) (keys_of found.now.entries) config.now }
+{
+    for at in places {
+        if covers_from::<O>(found, *at, config, crashed) {
+            return true;
+        }
+    }
+    false
+}
+
 /// Whether a configuration of the map covers this one, that at the place `here` aside.
-pub fn is_covered<O: SeqObject>(
+fn is_covered<O: SeqObject>(
     found: &IndexMap<Config<O::State>, NodeId>,
     here: usize,
     config: &Config<O::State>,

@@ -7,6 +7,7 @@ mod configs;
 mod covering;
 mod domination;
 mod frontier;
+mod groups;
 mod keeping;
 mod member_examples;
 mod member_laws;

@@ -7,7 +7,7 @@ ghost use Rattle.lin_frontier.specs.Sameness.{config_same};
 ghost use Rattle.lin_frontier.specs.Walks.{IsTriedAtMost};
 
 use crate::configs::{Config, is_absent};
-use crate::covering::is_covered;
+use crate::covering::is_covered_at;
 use crate::nodes::NodeId;
 use crate::pending::Open;
 use crate::search::Steps;
@@ -81,6 +81,8 @@ pub struct Placing<'a, O: SeqObject> {
 impl<'a, O: SeqObject> Steps for Placing<'a, O> {
     type State = Config<O::State>;
 
+    type Key = Config<O::State>;
+
     ghost step = { λ p c l d. PlacesNext (O.step p.object.now) p.pending.now p.new.now c l d };
 
     ghost most = { λ p. length p.pending.now + 1 };
@@ -104,12 +106,25 @@ impl<'a, O: SeqObject> Steps for Placing<'a, O> {
         Ok(out)
     }
 
+    fn key(
+        &self,
+        alloc: Global,
+        state: &Config<O::State>,
+    ) -> Result<Option<Config<O::State>>, OutOfMemory> {
+        if self.crashed.is_empty() {
+            return Ok(None);
+        }
+        let key = self.object.copy_state(alloc, state.state())?;
+        Ok(Some(state.without_all(alloc, key, self.crashed)?))
+    }
+
     fn is_covered(
         &self,
         found: &IndexMap<Config<O::State>, NodeId>,
+        places: &[usize],
         state: &Config<O::State>,
     ) -> bool {
-        !self.crashed.is_empty() && is_covered::<O>(found, found.len(), state, self.crashed)
+        is_covered_at::<O>(found, places, state, self.crashed)
     }
 
     ghost same = { config_same O.same };

@@ -7,6 +7,7 @@ ghost use Rattle.lin_frontier.specs.Covering.{IsCoveredBy};
 ghost use Rattle.lin_frontier.specs.Nodes.{IsGrown};
 ghost use Rattle.lin_frontier.specs.Walks.{IsAbsorbed, IsBeyond, IsClosure, IsTriedAtMost};
 
+use crate::groups::Groups;
 use crate::nodes::{NodeId, Nodes};
 use indexmap::IndexMap;
 use lin_history::{Meter, OutOfMemory};
@@ -17,6 +18,9 @@ use std::hash::Hash;
 /// Steps that each place one operation, finitely many from each state.
 pub trait Steps {
     type State: Eq + Hash + Drop;
+
+    /// What states have in common where one covers the other.
+    type Key: Eq + Hash + Drop;
 
     /// From the one state, a step that places the operation leads to the other.
     ghost step: { Self → Self.State → PlacedOf → Self.State → Type 0 };
@@ -38,8 +42,16 @@ pub trait Steps {
         ensures complete { IfOk result (λ out. (next : Self.State) (p : PlacedOf) → step self.now state.now p next → Contains out.items (next, p)) }
         ensures tried { IsTriedAtMost (most self.now) meter.old meter.new };
 
-    /// Whether a state that was found stands in for this one. It may answer no for one that was found itself.
-    fn is_covered(&self, found: &IndexMap<Self::State, NodeId>, state: &Self::State) -> bool
+    /// What the state has in common with those that cover it; none where it covers itself alone.
+    fn key(&self, alloc: Global, state: &Self::State) -> Result<Option<Self::Key>, OutOfMemory>;
+
+    /// Whether a state that was found at one of these places stands in for this one.
+    fn is_covered(
+        &self,
+        found: &IndexMap<Self::State, NodeId>,
+        places: &[usize],
+        state: &Self::State,
+    ) -> bool
         ensures { IsTrue result → IsCoveredBy (covers self.now) (keys_of found.now.entries) state.now };
 
     /// States that compare alike are the same state.
@@ -49,9 +61,56 @@ pub trait Steps {
     ghost itself: { (s : Self) (x : Self.State) → covers s x x };
 }
 
+/// Whether a state that was found, and is in the group, covers this one.
+fn is_covered<O: Steps>(
+    object: &O,
+    found: &IndexMap<O::State, NodeId>,
+    groups: &Groups<O::Key>,
+    key: &Option<O::Key>,
+    state: &O::State,
+) -> bool
+    ensures { IsTrue result → IsCoveredBy (O.covers object.now) (keys_of found.now.entries) state.now }
+{
+    match key {
+        Some(key) => object.is_covered(found, groups.get(key), state),
+        None => false,
+    }
+}
+
+/// Puts the place into the group.
+fn group<K: Eq + Hash + Drop>(
+    groups: &mut Groups<K>,
+    alloc: Global,
+    key: Option<K>,
+    place: usize,
+) -> Result<(), OutOfMemory> {
+    match key {
+        Some(key) => groups.add(alloc, key, place),
+        None => Ok(()),
+    }
+}
+
+/// Puts each place of the map into its group.
+fn group_all<O: Steps>(
+    object: &O,
+    alloc: Global,
+    found: &IndexMap<O::State, NodeId>,
+) -> Result<Groups<O::Key>, OutOfMemory> {
+    let mut groups = Groups::new(alloc);
+    for at in 0..found.len() {
+        if let Some((state, _)) = found.get_index(at) {
+            let key = object.key(alloc, state)?;
+            group(&mut groups, alloc, key, at)?;
+        }
+    }
+    Ok(groups)
+}
+
 /// Takes each of `out` into the map that isn't covered there, with a node under the parent.
 fn absorb<O: Steps>(
     object: &O,
+    alloc: Global,
+    groups: &mut Groups<O::Key>,
     found: &mut IndexMap<O::State, NodeId>,
     nodes: &mut Nodes,
     out: Vec<(O::State, Placed)>,
@@ -62,8 +121,10 @@ fn absorb<O: Steps>(
 {
     let mut rest = out;
     while let Some((state, placed)) = rest.pop() {
-        if !found.contains_key(&state) && !object.is_covered(found, &state) {
+        let key = object.key(alloc, &state)?;
+        if !found.contains_key(&state) && !is_covered(object, found, groups, &key, &state) {
             let id = nodes.push(parent, placed)?;
+            group(groups, alloc, key, found.len())?;
             match found.insert(state, id) {
                 Ok(_) => {}
                 Err(_) => return Err(OutOfMemory),
@@ -95,11 +156,12 @@ pub fn closure<O: Steps>(
     if found.len() > budget {
         return Ok(None);
     }
+    let mut groups = group_all(object, alloc, &found)?;
     let mut at = 0;
     while let Some((state, node)) = found.get_index(at) {
         let parent = *node;
         let out = object.outcomes(alloc, state, meter)?;
-        absorb(object, &mut found, nodes, out, parent)?;
+        absorb(object, alloc, &mut groups, &mut found, nodes, out, parent)?;
         if found.len() > budget {
             return Ok(None);
         }
