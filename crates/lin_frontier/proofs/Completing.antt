@@ -258,6 +258,7 @@ module _ {S : Type 0} (step : S → Call → S → Reply → Type 0) (observes :
       working_end nodes at visited out past h = record {
         visited = visited;
         begins = h.begins;
+        reached = λ m there. All-contains (IsReached step observes pending nodes starts) visited m h.reached there;
         each = λ m there. let inside = there.1 in subst (IsWorkedOff visited out) there.2 (h.each there.0 m (omega arith) inside);
         sound = h.sound;
       }

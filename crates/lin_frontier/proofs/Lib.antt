@@ -44,3 +44,4 @@ pub mod Making
 pub mod Pruned
 pub mod Onward
 pub mod PruningMembers
+pub mod Returned

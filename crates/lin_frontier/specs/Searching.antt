@@ -162,6 +162,7 @@ IsSearchedIn {S} step observes pending visited m = (p : Placed) (d : S × List (
 pub record IsSearchOf {S : Type 0} (step : S → Call → S → Reply → Type 0) (observes : Call → Bool) (operation : Open) (reply : Reply) (pending : List Open) (nodes : List (ℕ × (Placed × Option ℕ))) (starts out : List (Member S × Path)) : Type 0 where
   pub visited : List (Member S × Path)
   pub begins : (m : Member S × Path) → Contains starts m → Contains visited m
+  pub reached : (m : Member S × Path) → Contains visited m → IsReached step observes pending nodes starts m
   pub each : (m : Member S × Path) → Contains visited m → IsDone observes operation pending out m.0 ⊎ (IsPassed step observes operation reply pending out m × IsSearchedIn step observes pending visited m.0)
   pub sound : (n : Member S × Path) → Contains out n → (m : Member S × Path) × IsReached step observes pending nodes starts m × IsCompleted step observes operation reply pending nodes m n
 
