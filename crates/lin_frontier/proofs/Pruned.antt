@@ -74,15 +74,15 @@ module _ (functions : ℤ → Name → Bool) (h : List Event) (pending : List Op
         let o = any_true (λ (o : Open). nat_eq o.process q && observes o.call) pending seen in
         let same = (Decides-nat_eq o.0.process q).0 (and_left (nat_eq o.0.process q) (observes o.0.call) o.2) in
         subst (IsWatching observes h) same (pending_watching h pending opened unique functions alternates observes o.0 o.1 (and_right (nat_eq o.0.process q) (observes o.0.call) o.2)
-            (λ crashed. true_not (is_crashed pending q) alive
-            (true_any (λ (o : Open). nat_eq o.process q && o.crashed) pending o.0 o.1 (and_both (nat_eq o.0.process q) o.0.crashed ((Decides-nat_eq o.0.process q).1 same) crashed))))
+        (λ crashed. true_not (is_crashed pending q) alive
+        (true_any (λ (o : Open). nat_eq o.process q && o.crashed) pending o.0 o.1 (and_both (nat_eq o.0.process q) o.0.crashed ((Decides-nat_eq o.0.process q).1 same) crashed))))
 
     pub watching_from : (q : ℕ) → IsWatching observes h q → is_watching observes pending q ≡ true
     watching_from q w =
         let o = watching_pending h pending opened observes q w in
         and_both (is_observing observes pending q) (not (is_crashed pending q))
-            (true_any (λ (o : Open). nat_eq o.process q && observes o.call) pending o.0 o.1 (and_both (nat_eq o.0.process q) (observes o.0.call) ((Decides-nat_eq o.0.process q).1 o.2) o.3))
-            (not_true (is_crashed pending q) (λ crashed. w.alive (crashed_to q crashed)))
+        (true_any (λ (o : Open). nat_eq o.process q && observes o.call) pending o.0 o.1 (and_both (nat_eq o.0.process q) (observes o.0.call) ((Decides-nat_eq o.0.process q).1 o.2) o.3))
+        (not_true (is_crashed pending q) (λ crashed. w.alive (crashed_to q crashed)))
 
     module _ {S : Type 0} where
       pub dominates_to : (m : Member S) (state : S) (placed : List (ℕ × Reply)) (offers : List (ℕ × (ℕ × Reply))) → IsRising m.placed → DominatesIn observes pending m state placed offers

@@ -27,7 +27,7 @@ use Rattle.lin_frontier.specs.Placing.{IsAbsent, insert_pair, without}
 use Rattle.lin_frontier.specs.RoundLaws.{FewerLaw, OffersFrom, TrailPlacesLaw, TrailOkLaw, TrailObserverLaw, TrailReturnLaw}
 use Rattle.lin_frontier.specs.Rounds.{SpellsRounds, begin_round, put, begins, puts}
 use Rattle.lin_frontier.specs.Searching.{is_watching, watched, copy_of, rest_of, GivesAny, IsAnswered, IsCompleted, IsFromBehind, IsMade, IsReached, start, next, IsReturned, IsReturnOf, IsSuccessor}
-use Rattle.lin_frontier.proofs.Crashing.{crash_kept, crash_before, ok_no_info, passes_ok}
+use Rattle.lin_frontier.proofs.Passing.{crash_kept, crash_before, ok_no_info, passes_ok}
 use Rattle.lin_frontier.proofs.Following.{Passes}
 use Rattle.lin_frontier.proofs.Inserting.{absent_from, none_from, passed_by, insert_added, taken_out}
 use Rattle.lin_frontier.proofs.Joining.{put_many}
@@ -204,4 +204,4 @@ module _ (observes : Call → Bool) (functions : ℤ → Name → Bool) (h : Lis
           begun m within =
               let s = r.begun.sound m within in
               subst (λ k. IsSpelled begin step observes h nodes k × IsAbsent event.process k.0.placed) (sym s.3)
-                  (spelled_copy begin step observes fewer h nodes before s.0 (each s.0 s.1), subst (λ q. IsAbsent q s.0.0.placed) o_of s.2)
+              (spelled_copy begin step observes fewer h nodes before s.0 (each s.0 s.1), subst (λ q. IsAbsent q s.0.0.placed) o_of s.2)

@@ -179,13 +179,7 @@ fn next_members<O: SeqObject>(
     match &event.body {
         Body::Invoke(_) => Ok(Some(all_copied(object, alloc, pending, members)?)),
         Body::Info(_) => Ok(Some(all_copied(object, alloc, pending, members)?)),
-        Body::Fail(_) => Ok(Some(all_absent(
-            object,
-            alloc,
-            pending,
-            members,
-            event.process,
-        )?)),
+        Body::Fail(_) => Ok(Some(all_absent(object, alloc, pending, members, event.process)?)),
         Body::Ok(_, reply) => {
             let Some(operation) = operation_of(before, event.process) else {
                 return Ok(Some(Vec::new(alloc)));
