@@ -1,10 +1,10 @@
-//! Recordings with crashed operations, which `check` decides within small budgets.
+//! Recordings with crashed operations that are decided within the budget.
 ghost use Rattle.std.specs.Prelude.{◌≤◌};
 
 use crate::table::{BUDGET, prints, recording};
 use lin_objects::Kind;
-use lin_report::Status;
 use lin_report::Status::{No, Undecided, Yes};
+use lin_report::{Counted, Settings, Status, run};
 use std::alloc::AllocError;
 use std::test::Fail;
 
@@ -42,32 +42,77 @@ fn three_crashed_reads(rt: HostRuntime) -> Result<(), Fail> {
     answers(&rt, 1, reads, "undecided at 0", Undecided)
 }
 
-/// One write each of 1 to 40, by as many processes, all crashed.
-fn crashed_writes(rt: &HostRuntime) -> Result<String, AllocError> {
-    let mut events = String::new(rt.alloc());
-    for i in 0..40u64 {
-        if i > 0 {
-            events.push_str("; ")?;
+/// Commands, and the replies that are wanted.
+#[derive(Drop)]
+struct Script {
+    commands: String,
+    replies: String,
+    events: u64,
+}
+
+impl Script {
+    /// Appends the events, one after the other.
+    fn append(&mut self, rt: &HostRuntime, events: &str) -> Result<(), AllocError> {
+        for event in events.split("; ") {
+            self.events = self.events.saturating_add(1);
+            let count = self.events;
+            let map = recording(rt, event)?;
+            self.commands.push_str("append ")?;
+            self.commands.push_str(map.as_str())?;
+            let reply = format!(in rt.alloc(); "ok {count}\n")?;
+            self.replies.push_str(reply.as_str())?;
         }
+        Ok(())
+    }
+
+    /// Asks, and wants this answer.
+    fn ask(&mut self, answer: &str) -> Result<(), AllocError> {
+        self.commands.push_str("ask\n")?;
+        self.replies.push_str(answer)?;
+        self.replies.push_str("\n")
+    }
+}
+
+/// One write each of 1 to 40, by as many processes, all crashed; then reads of 1, 2 and 1 again.
+fn crashed_writes(rt: &HostRuntime) -> Result<Script, AllocError> {
+    let mut script = Script {
+        commands: String::new(rt.alloc()),
+        replies: String::new(rt.alloc()),
+        events: 0,
+    };
+    for i in 0..40u64 {
         let value = i + 1;
         let write = format!(in rt.alloc(); "p{i} invoke write {value}; p{i} info write")?;
-        events.push_str(write.as_str())?;
+        script.append(rt, write.as_str())?;
     }
-    Ok(events)
+    script.ask("yes")?;
+    script.append(rt, "p100 invoke read; p100 ok read 1")?;
+    script.append(rt, "p100 invoke read; p100 ok read 2")?;
+    script.ask("yes")?;
+    // The write of 1 took effect once.
+    script.append(rt, "p100 invoke read; p100 ok read 1")?;
+    script.ask("no prefix 86")?;
+    Ok(script)
 }
 
 #[test]
 fn forty_crashed_writes(rt: HostRuntime) -> Result<(), Fail> {
-    let mut events = crashed_writes(&rt)?;
-    answers(&rt, BUDGET, events.as_str(), "yes", Yes)?;
-    for read in [
-        "; p100 invoke read; p100 ok read 1",
-        "; p100 invoke read; p100 ok read 2",
-    ] {
-        events.push_str(read)?;
+    let script = crashed_writes(&rt)?;
+    let settings = Settings {
+        kind: Kind::Register,
+        keyed: false,
+        budget: BUDGET,
+    };
+    let mut printed = Vec::new(rt.alloc());
+    let nothing: &[u8] = b"";
+    let mut file = Counted::new(nothing);
+    let mut commands = Counted::new(script.commands.as_bytes());
+    let mut out = Counted::new(&mut printed);
+    let ended = run(rt.alloc(), settings, &mut file, &mut commands, &mut out);
+    let found = std::str::from_utf8(printed.as_slice())?;
+    let ends_so = found == script.replies.as_str() && ended == Ok(No);
+    if ends_so {
+        return Ok(());
     }
-    answers(&rt, BUDGET, events.as_str(), "yes", Yes)?;
-    // The write of 1 took effect once.
-    events.push_str("; p100 invoke read; p100 ok read 1")?;
-    answers(&rt, BUDGET, events.as_str(), "no prefix 86", No)
+    Err(Fail::new(format_args!("got {found:?}")))
 }
