@@ -65,10 +65,11 @@ impl Script {
         Ok(())
     }
 
-    /// Asks, and wants this answer.
-    fn ask(&mut self, answer: &str) -> Result<(), AllocError> {
-        self.commands.push_str("ask\n")?;
-        self.replies.push_str(answer)?;
+    /// Gives the command, and wants this reply.
+    fn give(&mut self, command: &str, reply: &str) -> Result<(), AllocError> {
+        self.commands.push_str(command)?;
+        self.commands.push_str("\n")?;
+        self.replies.push_str(reply)?;
         self.replies.push_str("\n")
     }
 }
@@ -85,13 +86,15 @@ fn crashed_writes(rt: &HostRuntime) -> Result<Script, AllocError> {
         let write = format!(in rt.alloc(); "p{i} invoke write {value}; p{i} info write")?;
         script.append(rt, write.as_str())?;
     }
-    script.ask("yes")?;
+    script.give("ask", "yes")?;
     script.append(rt, "p100 invoke read; p100 ok read 1")?;
     script.append(rt, "p100 invoke read; p100 ok read 2")?;
-    script.ask("yes")?;
+    script.give("ask", "yes")?;
     // The write of 1 took effect once.
     script.append(rt, "p100 invoke read; p100 ok read 1")?;
-    script.ask("no prefix 86")?;
+    script.give("ask", "no prefix 86")?;
+    // Its sets hold every configuration, of which there are more than the budget after some of the writes.
+    script.give("refute 0", "refused refute 2 TooLarge")?;
     Ok(script)
 }
 
