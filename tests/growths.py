@@ -62,7 +62,7 @@ RUNS = [
     (
         ["edit", FILE],
         "p0 invoke write 5; p0 info write; p1 invoke read; p1 ok read nil; p1 invoke read; p1 ok read 5",
-        ["pull", "ask", "order", "report", "append " + READ % "nil", "append {:process 9, :type :ok, :f :read, :value nil}", "ask", "order",
+        ["pull", "ask", "order", "report", "append " + READ % "nil", "append {:process 9, :type :ok, :f :read, :value nil}", "ask", "refute 0", "order",
          "replace 7 {:process 9, :type :ok, :f :read, :value 5}", "order 0", "remove 7", "ask 0", "truncate 6", "order", "kind 0 set",
          "ask", "kind 0 cas-register", "ask", "budget 1", "ask", "budget 65536", "report", "frob", "append {:a}", "append {:process 0}",
          "append {:type :info, :process :nemesis, :f :kill}", "truncate 99", "pull", "order"],
@@ -77,7 +77,7 @@ RUNS = [
         ["edit", "--keyed", "--budget", "8", FILE],
         "p0 invoke write [1 1]; p1 invoke write [1 2]; p2 invoke write [1 3]; p3 invoke write [0 1]; p3 ok write [0 1]; "
         "p3 invoke read [0 nil]; p3 ok read [0 1]; p3 invoke read [0 nil]; p3 ok read [0 nil]",
-        ["pull", "report", "ask 1", "budget 13", "ask 1", "ask", "order 1", "order", "budget 8", "ask 1", "truncate 7", "order 0", "report"],
+        ["pull", "report", "refute 0", "refute 1", "ask 1", "budget 13", "ask 1", "ask", "order 1", "order", "budget 8", "ask 1", "truncate 7", "order 0", "report"],
     ),
     (["check", "--keyed", FILE], TWO_KEYS, []),
     (["verify", "--keyed", FILE, "0=done 2=done 4=7 6=3"], TWO_KEYS, []),
