@@ -18,3 +18,4 @@ pub mod UnderWay
 pub mod Written
 pub mod Alone
 pub mod Refuted
+pub mod Answered

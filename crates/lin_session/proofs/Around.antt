@@ -2,17 +2,25 @@
 use Rattle.std.proofs.Common.{◌≡◌, ◌≢◌, ◌<◌, ◌≤◌, ◌+◌, ◌-◌, ℕ, ℤ, Bool, true, false, cond, List, ◌∷◌, ◌++◌, length, length-append, slice_get, set, take, Contains, Some, refl, sym, ap, subst, ◌∙◌, arith}
 use Rattle.std.specs.Ordering.{int_eq}
 use Rattle.std.proofs.lemmas.Bool.Decides.{Decides-int_eq}
+use Rattle.std.specs.Prelude.{not}
 use Rattle.std.proofs.lemmas.List.Elements.{filter-append}
+use Rattle.std.proofs.lemmas.List.Filters.{length-filter_both}
 use Rattle.lin_history.specs.declared.events.Event.{Event}
 use Rattle.lin_history.specs.Operations.{IsEvent}
 use Rattle.lin_objects.specs.declared.kinds.Kind.{Kind}
 use Rattle.lin_order.specs.Parts.{ArePositionsOf, part}
 use Rattle.lin_chain.specs.declared.chain.Chain.{Chain}
 use Rattle.lin_chain.specs.Chains.{kind_in, IsRight}
+use Rattle.lin_chain.specs.declared.chain.End.TheVariants.{Over}
+use Rattle.lin_chain.specs.Ends.{IsEndOf}
 use Rattle.lin_session.specs.declared.kept.Object.{Object}
-use Rattle.lin_session.specs.Objects.{IsObject, AreKept}
+use Rattle.lin_session.specs.Objects.{IsMarkRight, IsObject, AreKept}
+use Rattle.lin_session.specs.Work.{rounded}
 use Rattle.lin_session.proofs.Lists.{get_ahead, take_ahead}
 use Rattle.lin_session.proofs.Changes.{AreKept-one, AreKept-none}
+use Rattle.lin_session.proofs.Low.{rounded_below}
+use Rattle.lin_session.proofs.Marking.{IsMarkRight-touched, IsTouched, touched_over}
+use Rattle.lin_session.proofs.Overs.{IsEndOf-ahead}
 
 pub part-more : (key : ℤ) (event : Event) (h : List Event) → event.key ≡ key → part key (event ∷ h) ≡ event ∷ part key h
 part-more key event h same = ap (λ b. cond b (event ∷ part key h) (part key h)) ((Decides-int_eq event.key key).1 same)
@@ -24,21 +32,26 @@ part-same key event h other = by (int_eq event.key key) refl
     by true e = absurd (other ((Decides-int_eq event.key key).0 e))
     by false e = ap (λ b. cond b (event ∷ part key h) (part key h)) e
 
+pub part_few : (key : ℤ) (h : List Event) → length (part key h) ≤ length h
+part_few key h = omega (arith, length-filter_both (λ (e : Event). int_eq e.key key) (λ e. not (int_eq e.key key)) (λ e. refl) h)
+
 -- an object whose part and picks stay
-pub IsObject-same : (kinds : ℤ → Kind) (h edited : List Event) (split : ℕ) (x : ℤ) (o : Object) → take split h ≡ take split edited → part x h ≡ part x edited
-    → IsObject kinds h split x o → IsObject kinds edited split x o
-IsObject-same kinds h edited split x o front same is = record {
+pub IsObject-same : (kinds : ℤ → Kind) (budget : ℕ) (h edited : List Event) (split : ℕ) (x : ℤ) (o : Object) → take split h ≡ take split edited → part x h ≡ part x edited
+    → IsObject kinds budget h split x o → IsObject kinds budget edited split x o
+IsObject-same kinds budget h edited split x o front same is = record {
   picked = subst (λ l. ArePositionsOf x l o.picks.items) front is.picked;
   kind = is.kind;
   right = subst (IsRight o.chain) same is.right;
   counted = subst (λ l. o.count ≤ length l) same is.counted;
+  marked = subst (λ l. IsMarkRight budget (length l) o) same is.marked;
+  over = λ at e. subst (λ l. IsEndOf (kinds x) budget l (Over at)) same (is.over at e);
 }
 
 -- what a chain that was cut ahead of some events is right for
 abbrev pub StaysAhead : ℤ → List Event → ℕ → Chain → Chain → Type 0
 StaysAhead key behind count old new = (ahead h edited : List Event) → count ≤ length ahead + length (part key behind) → IsRight old (ahead ++ h) → IsRight new (ahead ++ edited)
 
-module _ (kinds : ℤ → Kind) (before behind : List Event) (event : Event) (key : ℤ) (same : event.key ≡ key) (split : ℕ) (ahead : split ≤ length before) (keys : List ℤ) (objects : List Object) where
+module _ (kinds : ℤ → Kind) (budget : ℕ) (before behind : List Event) (event : Event) (key : ℤ) (same : event.key ≡ key) (split : ℕ) (ahead : split ≤ length before) (keys : List ℤ) (objects : List Object) where
   abbrev with_it : List Event
   with_it = before ++ event ∷ behind
 
@@ -63,24 +76,25 @@ module _ (kinds : ℤ → Kind) (before behind : List Event) (event : Event) (ke
   own_without : part key without ≡ part key before ++ part key behind
   own_without = filter-append (λ (e : Event). int_eq e.key key) before behind
 
-  known_without : AreKept kinds with_it split keys objects → (at : ℕ) (e : Event) → at < split → IsEvent without at e → Contains keys e.key
+  known_without : AreKept kinds budget with_it split keys objects → (at : ℕ) (e : Event) → at < split → IsEvent without at e → Contains keys e.key
   known_without kept at e below stands = kept.known at e below (get_ahead before (event ∷ behind) behind at (omega arith) ∙ stands)
 
-  known_with : AreKept kinds without split keys objects → (at : ℕ) (e : Event) → at < split → IsEvent with_it at e → Contains keys e.key
+  known_with : AreKept kinds budget without split keys objects → (at : ℕ) (e : Event) → at < split → IsEvent with_it at e → Contains keys e.key
   known_with kept at e below stands = kept.known at e below (get_ahead before behind (event ∷ behind) at (omega arith) ∙ stands)
 
-  other_without : (x : ℤ) (o : Object) → x ≢ key → IsObject kinds with_it split x o → IsObject kinds without split x o
-  other_without x o other = IsObject-same kinds with_it without split x o (take_ahead split before (event ∷ behind) behind ahead) (others_part x other)
+  other_without : (x : ℤ) (o : Object) → x ≢ key → IsObject kinds budget with_it split x o → IsObject kinds budget without split x o
+  other_without x o other = IsObject-same kinds budget with_it without split x o (take_ahead split before (event ∷ behind) behind ahead) (others_part x other)
 
-  other_with : (x : ℤ) (o : Object) → x ≢ key → IsObject kinds without split x o → IsObject kinds with_it split x o
-  other_with x o other = IsObject-same kinds without with_it split x o (take_ahead split before behind (event ∷ behind) ahead) (sym (others_part x other))
+  other_with : (x : ℤ) (o : Object) → x ≢ key → IsObject kinds budget without split x o → IsObject kinds budget with_it split x o
+  other_with x o other = IsObject-same kinds budget without with_it split x o (take_ahead split before behind (event ∷ behind) ahead) (sym (others_part x other))
 
   -- the event leaves
-  pub AreKept-without : AreKept kinds with_it split keys objects → (i : ℕ) (old object : Object) → slice_get keys i ≡ Some key → slice_get objects i ≡ Some old
+  pub AreKept-without : AreKept kinds budget with_it split keys objects → (i : ℕ) (old object : Object) → slice_get keys i ≡ Some key → slice_get objects i ≡ Some old
       → object.picks ≡ old.picks → object.count ≡ old.count - 1 → kind_in object.chain ≡ kind_in old.chain → StaysAhead key behind (old.count - 1) old.chain object.chain
-      → AreKept kinds without split keys (set objects i object)
-  AreKept-without kept i old object key_at old_at picks count kind stays =
-      AreKept-one kinds kinds with_it without split split keys objects kept within_without i key object key_at (known_without kept) old old_at (λ is.
+      → IsTouched (old.count - 1 - length (part key behind)) (rounded (old.count - 1 - length (part key behind))) old object
+      → AreKept kinds budget without split keys (set objects i object)
+  AreKept-without kept i old object key_at old_at picks count kind stays touch =
+      AreKept-one kinds kinds budget budget with_it without split split keys objects kept within_without i key object key_at (known_without kept) old old_at (λ is.
       let counted : old.count ≤ length (part key before) + (length (part key behind) + 1) = omega (arith, is.counted, ap length own_with, length-append (part key before) (event ∷ part key behind)) in
       record {
         picked = subst (λ p. ArePositionsOf key (take split without) p.items) (sym picks)
@@ -88,18 +102,40 @@ module _ (kinds : ℤ → Kind) (before behind : List Event) (event : Event) (ke
         kind = kind ∙ is.kind;
         right = subst (IsRight object.chain) (sym own_without) (stays (part key before) (event ∷ part key behind) (part key behind) (omega arith) (subst (IsRight old.chain) own_with is.right));
         counted = omega (arith, counted, count, ap length own_without, length-append (part key before) (part key behind));
+        marked =
+            let place = old.count - 1 - length (part key behind) in
+            IsMarkRight-touched budget (length (part key with_it)) (length (part key without)) place (rounded place) old object is.marked (rounded_below place) (omega (arith, is.counted)) touch
+            (λ exact. omega (arith, exact, count, ap length own_with, length-append (part key before) (event ∷ part key behind), ap length own_without, length-append (part key before) (part key behind)));
+        over = λ at e.
+            let place = old.count - 1 - length (part key behind) in
+            let t = touched_over place (rounded place) old.mark object.mark at touch.mark e in
+            subst (λ l. IsEndOf (kinds key) budget l (Over at)) (sym own_without)
+            (IsEndOf-ahead (kinds key) budget (part key before) (event ∷ part key behind) (part key behind) at (omega (arith, t.0, counted)) (subst (λ l. IsEndOf (kinds key) budget l (Over at)) own_with (is.over at t.1)));
       }) other_without
 
-  pub AreKept-without_unlisted : AreKept kinds with_it split keys objects → (Contains keys key → ⊥) → AreKept kinds without split keys objects
+  pub AreKept-without_unlisted : AreKept kinds budget with_it split keys objects → (Contains keys key → ⊥) → AreKept kinds budget without split keys objects
   AreKept-without_unlisted kept absent =
-      AreKept-none kinds kinds with_it without split split keys objects kept within_without (known_without kept) (λ x o listed. other_without x o (λ is. absent (subst (Contains keys) is listed)))
+      AreKept-none kinds kinds budget budget with_it without split split keys objects kept within_without (known_without kept) (λ x o listed. other_without x o (λ is. absent (subst (Contains keys) is listed)))
+
+  -- the number of the events of the key, with the event and without it
+  pub one_with : length (part key with_it) ≡ length (part key without) + 1
+  one_with = omega (arith, ap length own_with, length-append (part key before) (event ∷ part key behind), ap length own_without, length-append (part key before) (part key behind))
+
+  pub IsMarkRight-with : (old object : Object) → object.count ≡ old.count + 1 → IsTouched (old.count - length (part key behind)) (rounded (old.count - length (part key behind))) old object
+      → IsObject kinds budget without split key old → IsMarkRight budget (length (part key with_it)) object
+  IsMarkRight-with old object count touch is =
+      let place = old.count - length (part key behind) in
+      IsMarkRight-touched budget (length (part key without)) (length (part key with_it)) place (rounded place) old object is.marked (rounded_below place) (omega (arith, is.counted)) touch
+      (λ exact. omega (arith, exact, count, one_with))
 
   -- the event comes
-  pub AreKept-with : AreKept kinds without split keys objects → (i : ℕ) (old object : Object) → slice_get keys i ≡ Some key → slice_get objects i ≡ Some old
+  pub AreKept-with : AreKept kinds budget without split keys objects → (i : ℕ) (old object : Object) → slice_get keys i ≡ Some key → slice_get objects i ≡ Some old
       → object.picks ≡ old.picks → object.count ≤ old.count + 1 → kind_in object.chain ≡ kind_in old.chain → StaysAhead key behind old.count old.chain object.chain
-      → AreKept kinds with_it split keys (set objects i object)
-  AreKept-with kept i old object key_at old_at picks count kind stays =
-      AreKept-one kinds kinds without with_it split split keys objects kept within_with i key object key_at (known_with kept) old old_at (λ is.
+      → (IsObject kinds budget without split key old → IsMarkRight budget (length (part key with_it)) object)
+      → ((at : ℕ) → object.mark.over ≡ Some at → (at + length (part key behind) < old.count) × (old.mark.over ≡ Some at))
+      → AreKept kinds budget with_it split keys (set objects i object)
+  AreKept-with kept i old object key_at old_at picks count kind stays marked over =
+      AreKept-one kinds kinds budget budget without with_it split split keys objects kept within_with i key object key_at (known_with kept) old old_at (λ is.
       let counted : old.count ≤ length (part key before) + length (part key behind) = omega (arith, is.counted, ap length own_without, length-append (part key before) (part key behind)) in
       record {
         picked = subst (λ p. ArePositionsOf key (take split with_it) p.items) (sym picks)
@@ -107,8 +143,13 @@ module _ (kinds : ℤ → Kind) (before behind : List Event) (event : Event) (ke
         kind = kind ∙ is.kind;
         right = subst (IsRight object.chain) (sym own_with) (stays (part key before) (part key behind) (event ∷ part key behind) counted (subst (IsRight old.chain) own_without is.right));
         counted = omega (arith, counted, count, ap length own_with, length-append (part key before) (event ∷ part key behind));
+        marked = marked is;
+        over = λ at e.
+            let t = over at e in
+            subst (λ l. IsEndOf (kinds key) budget l (Over at)) (sym own_with)
+            (IsEndOf-ahead (kinds key) budget (part key before) (part key behind) (event ∷ part key behind) at (omega (arith, t.0, counted)) (subst (λ l. IsEndOf (kinds key) budget l (Over at)) own_without (is.over at t.1)));
       }) other_with
 
-  pub AreKept-with_unlisted : AreKept kinds without split keys objects → (Contains keys key → ⊥) → AreKept kinds with_it split keys objects
+  pub AreKept-with_unlisted : AreKept kinds budget without split keys objects → (Contains keys key → ⊥) → AreKept kinds budget with_it split keys objects
   AreKept-with_unlisted kept absent =
-      AreKept-none kinds kinds without with_it split split keys objects kept within_with (known_with kept) (λ x o listed. other_with x o (λ is. absent (subst (Contains keys) is listed)))
+      AreKept-none kinds kinds budget budget without with_it split split keys objects kept within_with (known_with kept) (λ x o listed. other_with x o (λ is. absent (subst (Contains keys) is listed)))

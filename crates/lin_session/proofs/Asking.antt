@@ -22,8 +22,9 @@ use Rattle.lin_chain.specs.Replays.{IsLegalOrderAs, IsLinearizableAs}
 use Rattle.lin_session.specs.declared.answers.Verdict.{Verdict}
 use Rattle.lin_session.specs.declared.answers.Verdict.TheVariants.{Yes, No}
 use Rattle.lin_session.specs.declared.kept.Object.{Object}
+use Rattle.lin_session.specs.declared.work.Mark.{Mark}
 use Rattle.lin_session.specs.Answers.{IsObjectVerdict}
-use Rattle.lin_session.specs.Objects.{IsObject, IsPlaceIn, Finds, IsOrderIn}
+use Rattle.lin_session.specs.Objects.{IsMarkRight, IsObject, IsPlaceIn, Finds, IsOrderIn}
 use Rattle.lin_session.specs.Judgements.{IsFinding, IsTold}
 use Rattle.lin_session.proofs.Picks.{event_of_key}
 
@@ -54,12 +55,12 @@ cut_at picks i at rising here k p there =
     )
 
 -- where all events are told apart, an object's picks are just its positions
-pub whole_picked : (kinds : ℤ → Kind) (h : List Event) (split : ℕ) (key : ℤ) (o : Object) → split ≡ length h → IsObject kinds h split key o → ArePositionsOf key h o.picks.items
-whole_picked kinds h split key o all is = subst (λ l. ArePositionsOf key l o.picks.items) (take_all split h (omega arith)) is.picked
+pub whole_picked : (kinds : ℤ → Kind) (budget : ℕ) (h : List Event) (split : ℕ) (key : ℤ) (o : Object) → split ≡ length h → IsObject kinds budget h split key o → ArePositionsOf key h o.picks.items
+whole_picked kinds budget h split key o all is = subst (λ l. ArePositionsOf key l o.picks.items) (take_all split h (omega arith)) is.picked
 
-module _ (spell : PositionsSpellParts) (kinds : ℤ → Kind) (h : List Event) (split : ℕ) (key : ℤ) (old : Object) (all : split ≡ length h) (is : IsObject kinds h split key old) where
+module _ (spell : PositionsSpellParts) (kinds : ℤ → Kind) (budget : ℕ) (h : List Event) (split : ℕ) (key : ℤ) (old : Object) (all : split ≡ length h) (is : IsObject kinds budget h split key old) where
   picked : ArePositionsOf key h old.picks.items
-  picked = whole_picked kinds h split key old all is
+  picked = whole_picked kinds budget h split key old all is
 
   pub spelled : events_at h old.picks.items ≡ part key h
   spelled = (spell key h old.picks.items picked).events_of
@@ -80,16 +81,18 @@ module _ (spell : PositionsSpellParts) (kinds : ℤ → Kind) (h : List Event) (
 
   -- the object after it was settled
   pub IsObject-settled : (object : Object) → object.picks ≡ old.picks → object.count ≡ length old.picks.items → kind_in object.chain ≡ kind_in old.chain → IsRight object.chain (events_at h old.picks.items)
-      → IsObject kinds h split key object
-  IsObject-settled object picks count kind right = record {
+      → IsMarkRight budget (length (part key h)) object → object.mark ≡ old.mark → IsObject kinds budget h split key object
+  IsObject-settled object picks count kind right marked mark = record {
     picked = subst (λ p. ArePositionsOf key (take split h) p.items) (sym picks) is.picked;
     kind = kind ∙ is.kind;
     right = subst (IsRight object.chain) spelled right;
     counted = omega (arith, count, (spell key h old.picks.items picked).length_of);
+    marked = marked;
+    over = λ at e. is.over at (ap (λ (m : Mark). m.over) (sym mark) ∙ e);
   }
 
   module _ (beginnings : BeginningsAreWellFormed) (prefixes : PartsOfPrefixes) (up_to : PartsUpToPositions) (linear : LinearizableByPart)
-      (fine : IsWellFormed (functions_of kinds) h) (budget : ℕ) where
+      (fine : IsWellFormed (functions_of kinds) h) where
     pub finding_of : (end : End) (found : Option ℕ × Option ℕ) → IsPlaceIn (length old.picks.items) end → IsEndOf (kinds key) budget (part key h) end
         → Finds old.picks.items end found → IsFinding kinds budget h key found.0 found.1
     finding_of Alive found place ended told = subst (λ (r : Option ℕ × Option ℕ). IsFinding kinds budget h key r.0 r.1) (sym told) ((linear (functions_of kinds) kinds key h fine).1 ended)
@@ -163,9 +166,9 @@ untold (Some n) None told t is_yes = absurd (cc (sym t ∙ is_yes))
 untold (Some n) (Some at) told (inl t) is_yes = absurd (cc (sym t.1 ∙ is_yes))
 untold (Some n) (Some at) told (inr t) is_yes = absurd (cc (sym t.1 ∙ is_yes))
 
-module _ (spell : PositionsSpellParts) (kinds : ℤ → Kind) (h : List Event) (split : ℕ) (key : ℤ) (o : Object) (all : split ≡ length h) (is : IsObject kinds h split key o) where
+module _ (spell : PositionsSpellParts) (kinds : ℤ → Kind) (budget : ℕ) (h : List Event) (split : ℕ) (key : ℤ) (o : Object) (all : split ≡ length h) (is : IsObject kinds budget h split key o) where
   part_length : length (part key h) ≡ length o.picks.items
-  part_length = sym (spell key h o.picks.items (whole_picked kinds h split key o all is)).length_of
+  part_length = sym (spell key h o.picks.items (whole_picked kinds budget h split key o all is)).length_of
 
   -- a history for which its chain is right
   pub right_for : (h' : List Event) × IsRight o.chain h' × (length h' ≡ length o.picks.items)
@@ -174,5 +177,5 @@ module _ (spell : PositionsSpellParts) (kinds : ℤ → Kind) (h : List Event) (
   pub order_told : RenamedOrdersAreLegal → OrdersCanBeRenamed → IsWellFormed (functions_of kinds) h → (order : List Placed)
       → ((h' : List Event) → IsRight o.chain h' → length h' ≡ length o.picks.items → IsOrderIn (IsLegalOrderAs (kind_in o.chain) h') o.picks.items order) → IsLegalOrderFor kinds key h order
   order_told renames can fine order told =
-      order_of spell kinds h split key o all is renames can fine order
+      order_of spell kinds budget h split key o all is renames can fine order
       (subst (λ k. IsOrderIn (IsLegalOrderAs k (part key h)) o.picks.items order) is.kind (told (part key h) is.right part_length))

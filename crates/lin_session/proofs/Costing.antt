@@ -1,7 +1,25 @@
 -- What it costs to judge the first of some objects.
-use Rattle.std.proofs.Common.{◌≡◌, ◌+◌, ◌≤◌, ℕ, zero, suc, List, [], ◌∷◌, Some, slice_get, take, arith, ap}
+use Rattle.std.proofs.Common.{◌≡◌, ◌+◌, ◌-◌, ◌≤◌, ℕ, zero, suc, ℤ, List, [], ◌∷◌, Option, None, Some, length, slice_get, take, inl, inr, refl, sym, ◌∙◌, arith, ap}
+use Rattle.std.specs.List.{sum_by}
+use Rattle.std.proofs.lemmas.Bool.{cases_lt}
+use Rattle.lin_history.specs.declared.events.Event.{Event}
+use Rattle.lin_objects.specs.declared.kinds.Kind.{Kind}
+use Rattle.lin_order.specs.PartLaws.{PositionsSpellParts}
+use Rattle.lin_order.specs.Parts.{part}
+use Rattle.lin_chain.specs.Chains.{ready_under}
+use Rattle.lin_session.specs.declared.answers.Scope.{Scope}
+use Rattle.lin_session.specs.declared.answers.Scope.TheVariants as scope
+use Rattle.lin_session.specs.declared.work.Mark.{Mark}
+use Rattle.lin_session.specs.Marks.{IsNothingDue, IsOf}
+use Rattle.lin_session.specs.Objects.{AreKept, listed_marks, stands_for}
+use Rattle.lin_session.specs.Work.{AreSameMarks, anew, cost, cost_in, keys_of, mark_of}
+use Rattle.lin_session.proofs.Asking.{whole_picked}
+use Rattle.lin_session.proofs.Listed.{mark_listed}
+use Rattle.lin_session.proofs.Lists.{one_place}
+use Rattle.lin_session.proofs.Marking.{ready_at_most}
+use Rattle.lin_session.proofs.Sums.{in_keys, sum_head, sum_within}
 use Rattle.lin_session.specs.declared.kept.Object.{Object}
-use Rattle.lin_session.specs.Costs.{cost_of, cost_of_all}
+use Rattle.lin_session.specs.Costs.{IsSettled, cost_of, cost_of_all}
 
 -- one more costs as much more
 pub cost-next : (budget : ℕ) (objects : List Object) (i : ℕ) (object : Object) → slice_get objects i ≡ Some object
@@ -16,3 +34,61 @@ cost-first budget [] zero = omega arith
 cost-first budget [] (suc n) = omega arith
 cost-first budget (o ∷ objects) zero = omega arith
 cost-first budget (o ∷ objects) (suc n) = omega (arith, cost-first budget objects n)
+
+-- where no more is taken in than stands
+behind_due : (due : Option ℕ) (count ready : ℕ) → stands_for due count ≤ ready → count - ready ≤ anew due count
+behind_due None count ready l = omega (arith, l)
+behind_due (Some first) count ready l = omega (arith, l)
+
+anew_none : (due : Option ℕ) → anew due 0 ≡ 0
+anew_none None = refl
+anew_none (Some first) = omega arith
+
+-- objects that cost no more than their keys do
+sum_listed : (budget : ℕ) (f : ℤ → ℕ) (keys : List ℤ) (objects : List Object) → length objects ≡ length keys
+    → ((i : ℕ) (key : ℤ) (o : Object) → slice_get keys i ≡ Some key → slice_get objects i ≡ Some o → cost_of budget o ≤ f key) → cost_of_all budget objects ≤ sum_by f keys
+sum_listed budget f [] [] aligned each = omega arith
+sum_listed budget f [] (o ∷ objects) aligned each = absurd (omega (arith, aligned))
+sum_listed budget f (key ∷ keys) [] aligned each = absurd (omega (arith, aligned))
+sum_listed budget f (key ∷ keys) (o ∷ objects) aligned each =
+    omega (arith, sum_head f key keys, each 0 key o refl refl, sum_listed budget f keys objects (omega (arith, aligned)) (λ i x p x_at p_at. each (suc i) x p x_at p_at))
+
+module _ (spell : PositionsSpellParts) (kinds : ℤ → Kind) (budget : ℕ) (h : List Event) (split : ℕ) (keys : List ℤ) (objects : List Object) (kept : AreKept kinds budget h split keys objects)
+    (aligned : length objects ≡ length keys) (all : split ≡ length h) (marks : ℤ → Mark) (same : AreSameMarks marks (mark_of (listed_marks keys objects))) where
+  pub number_of_picks : (i : ℕ) (key : ℤ) (o : Object) → slice_get keys i ≡ Some key → slice_get objects i ≡ Some o → length o.picks.items ≡ length (part key h)
+  number_of_picks i key o key_at o_at = (spell key h o.picks.items (whole_picked kinds budget h split key o all (kept.each i key o key_at o_at))).length_of
+
+  pub mark_there : (i : ℕ) (key : ℤ) (o : Object) → slice_get keys i ≡ Some key → slice_get objects i ≡ Some o → marks key ≡ o.mark
+  mark_there i key o key_at o_at = sym (same key) ∙ mark_listed keys objects (one_place keys kept.distinct) i key o key_at o_at
+
+  pub listed_cost : (i : ℕ) (key : ℤ) (o : Object) → slice_get keys i ≡ Some key → slice_get objects i ≡ Some o → cost_of budget o ≤ cost marks h key
+  listed_cost i key o key_at o_at =
+      let is = (kept.each i key o key_at o_at).marked in
+      let picks = number_of_picks i key o key_at o_at in
+      omega (arith, picks, behind_due o.mark.due (length (part key h)) (ready_under budget o.chain) is.ready, ap (λ (m : Mark). anew m.due (length (part key h))) (mark_there i key o key_at o_at))
+
+  pub whole_cost : cost_of_all budget objects ≤ cost_in marks h scope.Whole
+  whole_cost =
+      let listed = sum_listed budget (cost marks h) keys objects aligned listed_cost in
+      let within = sum_within (cost marks h) keys (keys_of h) (one_place keys kept.distinct) (λ i x at. elim (cases_lt 0 (length (part x h))) [
+        | inl some ↦ inr (in_keys h x some)
+        | inr none ↦
+            let zero_events : length (part x h) ≡ 0 = omega (arith, none) in
+            inl (ap (anew (marks x).due) zero_events ∙ anew_none (marks x).due)
+      ]) in
+      omega (arith, listed, within)
+
+  -- where nothing is due, all was taken in
+  pub settled_there : (asked : Scope) → IsNothingDue h asked marks → (i : ℕ) (key : ℤ) (o : Object) → IsOf asked key → slice_get keys i ≡ Some key → slice_get objects i ≡ Some o → IsSettled budget o
+  settled_there asked nothing i key o of_scope key_at o_at =
+      let is = kept.each i key o key_at o_at in
+      let picks = number_of_picks i key o key_at o_at in
+      let most = ready_at_most o.chain (part key h) is.right budget in
+      elim (cases_lt 0 (length (part key h))) [
+        | inl some ↦
+            let none : o.mark.due ≡ None = ap (λ (m : Mark). m.due) (sym (mark_there i key o key_at o_at)) ∙ nothing key (of_scope, some) in
+            let ready = is.marked.ready in
+            let due = ap (λ d. stands_for d (length (part key h))) none in
+            omega (arith, picks, most, is.right.within, ready, due)
+        | inr none ↦ omega (arith, picks, most, is.right.within, none)
+      ]

@@ -11,5 +11,14 @@ pub mod Asking
 pub mod Scopes
 pub mod Wholes
 pub mod Low
+pub mod Sums
 pub mod Costing
+pub mod Present
+pub mod Settling
+pub mod Raising
+pub mod Ready
 pub mod Refuting
+pub mod Marking
+pub mod Overs
+pub mod Listed
+pub mod Touching

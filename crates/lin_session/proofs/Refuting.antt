@@ -41,15 +41,15 @@ IsUnrefuted-fault now key n answer OutOfMemory other large = tt
 one_dead : (at i : ℕ) → Dead at ≡ Dead i → at ≡ i
 one_dead at i e = cc e
 
-module _ (spell : PositionsSpellParts) (up_to : PartsUpToPositions) (kinds : ℤ → Kind) (h : List Event) (split : ℕ) (key : ℤ) (o : Object) (all : split ≡ length h) (is : IsObject kinds h split key o) where
+module _ (spell : PositionsSpellParts) (up_to : PartsUpToPositions) (kinds : ℤ → Kind) (budget : ℕ) (h : List Event) (split : ℕ) (key : ℤ) (o : Object) (all : split ≡ length h) (is : IsObject kinds budget h split key o) where
   picked : ArePositionsOf key h o.picks.items
-  picked = whole_picked kinds h split key o all is
+  picked = whole_picked kinds budget h split key o all is
 
   spells : events_at h o.picks.items ≡ part key h
-  spells = spelled spell kinds h split key o all is
+  spells = spelled spell kinds budget h split key o all is
 
   part_length : length (part key h) ≡ length o.picks.items
-  part_length = ap length (sym spells) ∙ length_spelled spell kinds h split key o all is
+  part_length = ap length (sym spells) ∙ length_spelled spell kinds budget h split key o all is
 
   -- up to and with one of its positions
   up_to_nth : (i : ℕ) → i < length o.picks.items → part key (take (slice_index o.picks.items i + 1) h) ≡ take (i + 1) (part key h)
@@ -78,8 +78,8 @@ module _ (spell : PositionsSpellParts) (up_to : PartsUpToPositions) (kinds : ℤ
     | inr past ↦ (length h, ap (part key) (take_all (length h) h (omega arith)) ∙ sym (take_all (suc i) (part key h) (omega (arith, part_length))))
   ]
 
-  pub over_in : (budget : ℕ) → (n : ℕ) × IsOver (start (kind_in o.chain)) (Step (kind_in o.chain)) (take n (events_at h o.picks.items)) budget → IsOverSomewhere kinds budget h key
-  over_in budget (n, over) =
+  pub over_in : (n : ℕ) × IsOver (start (kind_in o.chain)) (Step (kind_in o.chain)) (take n (events_at h o.picks.items)) budget → IsOverSomewhere kinds budget h key
+  over_in (n, over) =
       let m = prefix_of n in
       let events : take n (events_at h o.picks.items) ≡ part key (take m.0 h) = ap (take n) spells ∙ sym m.1 in
       (m.0, subst (λ l. IsOver (start (kinds key)) (Step (kinds key)) l budget) events (subst (λ k. IsOver (start k) (Step k) (take n (events_at h o.picks.items)) budget) is.kind over))

@@ -8,6 +8,10 @@ use Rattle.lin_order.specs.Parts.{part, ArePositionsOf}
 use Rattle.lin_chain.specs.Chains.{kind_in, IsRight}
 use Rattle.lin_session.specs.declared.kept.Object.{Object}
 use Rattle.lin_session.specs.Objects.{IsObject, AreKept}
+use Rattle.lin_session.specs.Work.{unasked}
+use Rattle.lin_session.proofs.Marking.{IsMarkRight-unasked, unasked_over}
+use Rattle.lin_chain.specs.declared.chain.End.TheVariants.{Over}
+use Rattle.lin_chain.specs.Ends.{IsEndOf}
 use Rattle.lin_session.proofs.Changes.{AreKept-one, AreKept-none}
 
 module _ (kinds other : ℤ → Kind) (key : ℤ) (kind : Kind) (change : (x : ℤ) → other x ≡ (if int_eq key x then kind else kinds x)) where
@@ -21,25 +25,29 @@ module _ (kinds other : ℤ → Kind) (key : ℤ) (kind : Kind) (change : (x : �
       by true e = absurd (apart (sym ((Decides-int_eq key x).0 e)))
       by false e = ap (λ b. if b then kind else kinds x) e
 
-  stays : (h : List Event) (split : ℕ) (x : ℤ) (o : Object) → x ≢ key → IsObject kinds h split x o → IsObject other h split x o
-  stays h split x o apart is = record {
+  stays : (budget : ℕ) (h : List Event) (split : ℕ) (x : ℤ) (o : Object) → x ≢ key → IsObject kinds budget h split x o → IsObject other budget h split x o
+  stays budget h split x o apart is = record {
     picked = is.picked;
     kind = is.kind ∙ sym (kind_elsewhere x apart);
     right = is.right;
     counted = is.counted;
+    marked = is.marked;
+    over = λ at e. subst (λ k. IsEndOf k budget (part x h) (Over at)) (sym (kind_elsewhere x apart)) (is.over at e);
   }
 
-  module _ (h : List Event) (split : ℕ) (keys : List ℤ) (objects : List Object) (kept : AreKept kinds h split keys objects) where
+  module _ (budget : ℕ) (h : List Event) (split : ℕ) (keys : List ℤ) (objects : List Object) (kept : AreKept kinds budget h split keys objects) where
     pub AreKept-rekinded : (i : ℕ) (old object : Object) → slice_get keys i ≡ Some key → slice_get objects i ≡ Some old → object.picks ≡ old.picks → object.count ≡ old.count
-        → kind_in object.chain ≡ kind → ((part' : List Event) → IsRight object.chain part') → AreKept other h split keys (set objects i object)
-    AreKept-rekinded i old object key_at old_at picks count kind_is right =
-        AreKept-one kinds other h h split split keys objects kept kept.within i key object key_at kept.known old old_at (λ is. record {
+        → object.mark ≡ unasked → kind_in object.chain ≡ kind → ((part' : List Event) → IsRight object.chain part') → AreKept other budget h split keys (set objects i object)
+    AreKept-rekinded i old object key_at old_at picks count mark kind_is right =
+        AreKept-one kinds other budget budget h h split split keys objects kept kept.within i key object key_at kept.known old old_at (λ is. record {
           picked = subst (λ p. ArePositionsOf key (take split h) p.items) (sym picks) is.picked;
           kind = kind_is ∙ sym kind_there;
           right = right (part key h);
           counted = subst (λ n. n ≤ length (part key h)) (sym count) is.counted;
-        }) (stays h split)
+          marked = IsMarkRight-unasked budget (length (part key h)) object mark;
+          over = λ at e. absurd (unasked_over object.mark at mark e);
+        }) (stays budget h split)
 
-    pub AreKept-rekinded_unlisted : (Contains keys key → ⊥) → AreKept other h split keys objects
+    pub AreKept-rekinded_unlisted : (Contains keys key → ⊥) → AreKept other budget h split keys objects
     AreKept-rekinded_unlisted absent =
-        AreKept-none kinds other h h split split keys objects kept kept.within kept.known (λ x o listed. stays h split x o (λ is. absent (subst (Contains keys) is listed)))
+        AreKept-none kinds other budget budget h h split split keys objects kept kept.within kept.known (λ x o listed. stays budget h split x o (λ is. absent (subst (Contains keys) is listed)))

@@ -11,45 +11,49 @@ use Rattle.lin_order.specs.PartLaws.{PartsOfPrefixes, PartsGrow}
 use Rattle.lin_chain.specs.Chains.{kind_in, IsRight}
 use Rattle.lin_session.specs.declared.kept.Object.{Object}
 use Rattle.lin_session.specs.Objects.{IsObject, AreKept}
+use Rattle.lin_session.specs.Work.{unasked}
+use Rattle.lin_session.proofs.Marking.{IsMarkRight-same, IsMarkRight-unasked, same_over, unasked_over}
 use Rattle.lin_history.proofs.Lists.{get_taken}
 use Rattle.lin_session.proofs.Changes.{AreKept-one, AreKept-more}
 use Rattle.lin_session.proofs.Picks.{event_of_key, picks_less, picks_stay, picks_more, picks_same}
 
 -- the picks change alone
-picked_anew : (kinds : ℤ → Kind) (h : List Event) (split later : ℕ) (key : ℤ) (old object : Object) → object.count ≡ old.count → object.chain ≡ old.chain
-    → IsObject kinds h split key old → ArePositionsOf key (take later h) object.picks.items → IsObject kinds h later key object
-picked_anew kinds h split later key old object count chain is picked = record {
+picked_anew : (kinds : ℤ → Kind) (budget : ℕ) (h : List Event) (split later : ℕ) (key : ℤ) (old object : Object) → object.count ≡ old.count → object.chain ≡ old.chain → object.mark ≡ old.mark
+    → IsObject kinds budget h split key old → ArePositionsOf key (take later h) object.picks.items → IsObject kinds budget h later key object
+picked_anew kinds budget h split later key old object count chain mark is picked = record {
   picked = picked;
   kind = ap kind_in chain ∙ is.kind;
   right = subst (λ k. IsRight k (part key h)) (sym chain) is.right;
   counted = subst (λ n. n ≤ length (part key h)) (sym count) is.counted;
+  marked = IsMarkRight-same budget (length (part key h)) old object count chain mark is.marked;
+  over = λ at e. is.over at (same_over old.mark object.mark at mark e);
 }
 
-module _ (kinds : ℤ → Kind) (h : List Event) (last : ℕ) (event : Event) (stands : IsEvent h last event) (keys : List ℤ) (objects : List Object) where
-  module _ (law : PartsOfPrefixes) (kept : AreKept kinds h (suc last) keys objects) where
+module _ (kinds : ℤ → Kind) (budget : ℕ) (h : List Event) (last : ℕ) (event : Event) (stands : IsEvent h last event) (keys : List ℤ) (objects : List Object) where
+  module _ (law : PartsOfPrefixes) (kept : AreKept kinds budget h (suc last) keys objects) where
     known_less : (at : ℕ) (e : Event) → at < last → IsEvent h at e → Contains keys e.key
     known_less at e below there = kept.known at e (omega arith) there
 
-    other_less : (x : ℤ) (o : Object) → x ≢ event.key → IsObject kinds h (suc last) x o → IsObject kinds h last x o
-    other_less x o other is = picked_anew kinds h (suc last) last x o o refl refl is (picks_stay h x last event stands o.picks.items is.picked law (λ same. other (sym same)))
+    other_less : (x : ℤ) (o : Object) → x ≢ event.key → IsObject kinds budget h (suc last) x o → IsObject kinds budget h last x o
+    other_less x o other is = picked_anew kinds budget h (suc last) last x o o refl refl refl is (picks_stay h x last event stands o.picks.items is.picked law (λ same. other (sym same)))
 
     within_less : last ≤ length h
     within_less = omega (arith, kept.within)
 
     pub AreKept-less : (i : ℕ) (old object : Object) → slice_get keys i ≡ Some event.key → slice_get objects i ≡ Some old
-        → object.picks.items ≡ take (length old.picks.items - 1) old.picks.items → object.count ≡ old.count → object.chain ≡ old.chain
-        → AreKept kinds h last keys (set objects i object)
-    AreKept-less i old object key_at old_at picks count chain =
-        AreKept-one kinds kinds h h (suc last) last keys objects kept within_less i event.key object key_at known_less old old_at (λ is.
-        picked_anew kinds h (suc last) last event.key old object count chain is
+        → object.picks.items ≡ take (length old.picks.items - 1) old.picks.items → object.count ≡ old.count → object.chain ≡ old.chain → object.mark ≡ old.mark
+        → AreKept kinds budget h last keys (set objects i object)
+    AreKept-less i old object key_at old_at picks count chain mark =
+        AreKept-one kinds kinds budget budget h h (suc last) last keys objects kept within_less i event.key object key_at known_less old old_at (λ is.
+        picked_anew kinds budget h (suc last) last event.key old object count chain mark is
         (subst (ArePositionsOf event.key (take last h)) (sym picks) (picks_less h event.key last event stands old.picks.items is.picked law refl))) other_less
 
-    pub AreKept-less_unlisted : (Contains keys event.key → ⊥) → AreKept kinds h last keys objects
+    pub AreKept-less_unlisted : (Contains keys event.key → ⊥) → AreKept kinds budget h last keys objects
     AreKept-less_unlisted absent = absurd (absent (kept.known last event (omega arith) stands))
 
-  module _ (law : PartsGrow) (kept : AreKept kinds h last keys objects) where
-    other_more : (x : ℤ) (o : Object) → x ≢ event.key → IsObject kinds h last x o → IsObject kinds h (suc last) x o
-    other_more x o other is = picked_anew kinds h last (suc last) x o o refl refl is (picks_same law h x last event stands o.picks.items is.picked (λ same. other (sym same)))
+  module _ (law : PartsGrow) (kept : AreKept kinds budget h last keys objects) where
+    other_more : (x : ℤ) (o : Object) → x ≢ event.key → IsObject kinds budget h last x o → IsObject kinds budget h (suc last) x o
+    other_more x o other is = picked_anew kinds budget h last (suc last) x o o refl refl refl is (picks_same law h x last event stands o.picks.items is.picked (λ same. other (sym same)))
 
     within_more : suc last ≤ length h
     within_more = slice_get_within h last event stands
@@ -64,11 +68,11 @@ module _ (kinds : ℤ → Kind) (h : List Event) (last : ℕ) (event : Event) (s
     ]
 
     pub AreKept-next : (i : ℕ) (old object : Object) → slice_get keys i ≡ Some event.key → Contains keys event.key → slice_get objects i ≡ Some old
-        → object.picks.items ≡ old.picks.items ++ last ∷ [] → object.count ≡ old.count → object.chain ≡ old.chain
-        → AreKept kinds h (suc last) keys (set objects i object)
-    AreKept-next i old object key_at listed old_at picks count chain =
-        AreKept-one kinds kinds h h last (suc last) keys objects kept within_more i event.key object key_at (known_more keys (λ x there. there) listed) old old_at (λ is.
-        picked_anew kinds h last (suc last) event.key old object count chain is
+        → object.picks.items ≡ old.picks.items ++ last ∷ [] → object.count ≡ old.count → object.chain ≡ old.chain → object.mark ≡ old.mark
+        → AreKept kinds budget h (suc last) keys (set objects i object)
+    AreKept-next i old object key_at listed old_at picks count chain mark =
+        AreKept-one kinds kinds budget budget h h last (suc last) keys objects kept within_more i event.key object key_at (known_more keys (λ x there. there) listed) old old_at (λ is.
+        picked_anew kinds budget h last (suc last) event.key old object count chain mark is
         (subst (ArePositionsOf event.key (take (suc last) h)) (sym picks) (picks_more law h event.key last event stands old.picks.items is.picked refl))) other_more
 
     -- none of the events told apart so far is of a key that isn't listed
@@ -83,35 +87,37 @@ module _ (kinds : ℤ → Kind) (h : List Event) (last : ℕ) (event : Event) (s
     }
 
     pub AreKept-added : (object : Object) → length objects ≡ length keys → AllPairs (λ x y. x ≢ y) (keys ++ event.key ∷ []) → (Contains keys event.key → ⊥)
-        → object.picks.items ≡ last ∷ [] → object.count ≡ 0 → kind_in object.chain ≡ kinds event.key → ((part' : List Event) → IsRight object.chain part')
-        → AreKept kinds h (suc last) (keys ++ event.key ∷ []) (objects ++ object ∷ [])
-    AreKept-added object aligned distinct absent picks count kind right =
-        AreKept-more kinds kinds h h last (suc last) keys objects kept within_more event.key object aligned distinct
+        → object.picks.items ≡ last ∷ [] → object.count ≡ 0 → object.mark ≡ unasked → kind_in object.chain ≡ kinds event.key → ((part' : List Event) → IsRight object.chain part')
+        → AreKept kinds budget h (suc last) (keys ++ event.key ∷ []) (objects ++ object ∷ [])
+    AreKept-added object aligned distinct absent picks count mark kind right =
+        AreKept-more kinds kinds budget budget h h last (suc last) keys objects kept within_more event.key object aligned distinct
         (known_more (keys ++ event.key ∷ []) (λ x there. Contains-append_left keys (event.key ∷ []) x there) (Contains-push keys event.key))
         (record {
           picked = subst (ArePositionsOf event.key (take (suc last) h)) (sym picks) (picks_more law h event.key last event stands [] (none_picked absent) refl);
           kind = kind;
           right = right (part event.key h);
           counted = omega (arith, count);
+          marked = IsMarkRight-unasked budget (length (part event.key h)) object mark;
+          over = λ at e. absurd (unasked_over object.mark at mark e);
         }) other_more absent
 
 -- a refused pick leaves what is kept
-pub AreKept-refused : (kinds : ℤ → Kind) (h : List Event) (split : ℕ) (keys : List ℤ) (objects : List Object) → AreKept kinds h split keys objects
+pub AreKept-refused : (kinds : ℤ → Kind) (budget : ℕ) (h : List Event) (split : ℕ) (keys : List ℤ) (objects : List Object) → AreKept kinds budget h split keys objects
     → (i : ℕ) (key : ℤ) (old object : Object) → slice_get keys i ≡ Some key → slice_get objects i ≡ Some old
-    → object.picks.items ≡ old.picks.items → object.count ≡ old.count → object.chain ≡ old.chain → AreKept kinds h split keys (set objects i object)
-AreKept-refused kinds h split keys objects kept i key old object key_at old_at picks count chain =
-    AreKept-one kinds kinds h h split split keys objects kept kept.within i key object key_at kept.known old old_at (λ is.
-    picked_anew kinds h split split key old object count chain is (subst (ArePositionsOf key (take split h)) (sym picks) is.picked)) (λ x o other is. is)
+    → object.picks.items ≡ old.picks.items → object.count ≡ old.count → object.chain ≡ old.chain → object.mark ≡ old.mark → AreKept kinds budget h split keys (set objects i object)
+AreKept-refused kinds budget h split keys objects kept i key old object key_at old_at picks count chain mark =
+    AreKept-one kinds kinds budget budget h h split split keys objects kept kept.within i key object key_at kept.known old old_at (λ is.
+    picked_anew kinds budget h split split key old object count chain mark is (subst (ArePositionsOf key (take split h)) (sym picks) is.picked)) (λ x o other is. is)
 
 -- the same, of the lists as they are found
-pub AreKept-listed : (law : PartsGrow) (kinds : ℤ → Kind) (h : List Event) (last later : ℕ) (event : Event) (key : ℤ) (keys keys' : List ℤ) (objects objects' : List Object) (object : Object)
-    → IsEvent h last event → event.key ≡ key → AreKept kinds h last keys objects → later ≡ last + 1 → keys' ≡ keys ++ key ∷ [] → objects' ≡ objects ++ object ∷ []
-    → length objects ≡ length keys → AllPairs (λ x y. x ≢ y) keys' → (Contains keys key → ⊥) → object.picks.items ≡ last ∷ [] → object.count ≡ 0 → kind_in object.chain ≡ kinds key
-    → ((part' : List Event) → IsRight object.chain part') → AreKept kinds h later keys' objects'
-AreKept-listed law kinds h last later event key keys keys' objects objects' object stands same kept one listed added aligned distinct absent picks count kind right =
+pub AreKept-listed : (law : PartsGrow) (kinds : ℤ → Kind) (budget : ℕ) (h : List Event) (last later : ℕ) (event : Event) (key : ℤ) (keys keys' : List ℤ) (objects objects' : List Object) (object : Object)
+    → IsEvent h last event → event.key ≡ key → AreKept kinds budget h last keys objects → later ≡ last + 1 → keys' ≡ keys ++ key ∷ [] → objects' ≡ objects ++ object ∷ []
+    → length objects ≡ length keys → AllPairs (λ x y. x ≢ y) keys' → (Contains keys key → ⊥) → object.picks.items ≡ last ∷ [] → object.count ≡ 0 → object.mark ≡ unasked → kind_in object.chain ≡ kinds key
+    → ((part' : List Event) → IsRight object.chain part') → AreKept kinds budget h later keys' objects'
+AreKept-listed law kinds budget h last later event key keys keys' objects objects' object stands same kept one listed added aligned distinct absent picks count mark kind right =
     let keys_are : keys' ≡ keys ++ event.key ∷ [] = listed ∙ ap (λ k. keys ++ k ∷ []) (sym same) in
-    subst (λ n. AreKept kinds h n keys' objects') (sym (one ∙ add-one last))
-    (subst (λ k. AreKept kinds h (suc last) k objects') (sym keys_are)
-    (subst (AreKept kinds h (suc last) (keys ++ event.key ∷ [])) (sym added)
-    (AreKept-added kinds h last event stands keys objects law kept object aligned (subst (AllPairs (λ x y. x ≢ y)) keys_are distinct) (λ there. absent (subst (Contains keys) same there)) picks count
+    subst (λ n. AreKept kinds budget h n keys' objects') (sym (one ∙ add-one last))
+    (subst (λ k. AreKept kinds budget h (suc last) k objects') (sym keys_are)
+    (subst (AreKept kinds budget h (suc last) (keys ++ event.key ∷ [])) (sym added)
+    (AreKept-added kinds budget h last event stands keys objects law kept object aligned (subst (AllPairs (λ x y. x ≢ y)) keys_are distinct) (λ there. absent (subst (Contains keys) same there)) picks count mark
     (kind ∙ ap kinds (sym same)) right)))

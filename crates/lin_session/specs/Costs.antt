@@ -1,7 +1,14 @@
 -- What it costs to judge objects whose events are told apart.
-use Rattle.std.specs.Prelude.{◌≡◌, ◌+◌, ◌-◌, ℕ, List, [], ◌∷◌, length}
-use Rattle.lin_chain.specs.Chains.{ready_under}
+use Rattle.std.specs.Prelude.{◌≡◌, ◌+◌, ◌-◌, ℕ, ℤ, List, [], ◌∷◌, Some, length, slice_get}
+use Rattle.lin_history.specs.declared.events.Event.{Event}
+use Rattle.lin_objects.specs.declared.kinds.Kind.{Kind}
+use Rattle.lin_order.specs.Parts.{part}
+use Rattle.lin_chain.specs.Chains.{end_in, end_under, ready_under}
+use Rattle.lin_chain.specs.Ends.{IsEndOf}
+use Rattle.lin_session.specs.declared.answers.Scope.{Scope}
 use Rattle.lin_session.specs.declared.kept.Object.{Object}
+use Rattle.lin_session.specs.declared.kept.Objects.{Objects}
+use Rattle.lin_session.specs.Marks.{IsOf}
 
 -- how many of the object's events its chain has still to take in
 abbrev pub cost_of : ℕ → Object → ℕ
@@ -15,3 +22,15 @@ cost_of_all budget (object ∷ objects) = cost_of budget object + cost_of_all bu
 -- the object's chain took in all its events
 abbrev pub IsSettled : ℕ → Object → Type 0
 IsSettled budget object = ready_under budget object.chain ≡ length object.picks.items
+
+-- the object was judged: its chain took in all its events, and tells how they end
+pub record IsJudged (kinds : ℤ → Kind) (budget : ℕ) (h : List Event) (key : ℤ) (object : Object) : Type 0 where
+  pub settled : IsSettled budget object
+  pub stands : end_under budget object.chain ≡ end_in object.chain
+  pub counted : object.count ≡ length object.picks.items
+  pub ended : IsEndOf (kinds key) budget (part key h) (end_in object.chain)
+
+-- those of the scope were
+abbrev pub AreJudged : (ℤ → Kind) → ℕ → List Event → Objects → Scope → Type 0
+AreJudged kinds budget h objects scope = (i : ℕ) (key : ℤ) (object : Object) → IsOf scope key → slice_get objects.keys.keys i ≡ Some key → slice_get objects.objects.items i ≡ Some object
+    → IsJudged kinds budget h key object

@@ -1,5 +1,6 @@
 pub mod Edits
 pub mod Work
+pub mod Marks
 pub mod Answers
 pub mod Objects
 pub mod Sessions

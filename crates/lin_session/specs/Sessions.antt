@@ -9,14 +9,17 @@ use Rattle.lin_objects.specs.Kinds.{functions_of, kind_of}
 use Rattle.lin_wellformed.specs.declared.scan.Scan.{Scan}
 use Rattle.lin_wellformed.specs.Scans.{IsRight, ready_count}
 use Rattle.lin_session.specs.declared.kept.Objects.{Objects}
+use Rattle.lin_session.specs.declared.work.Mark.{Mark}
 use Rattle.lin_session.specs.Objects.{AreRight, split_in}
 use Rattle.lin_session.specs.Edits.{Present, IsBudget}
 
--- what the session speaks of, how much it worked for it, and how many of the first events are still known to be well-formed or not: none, where all are
+-- What the session speaks of, and how much it worked for it; how many of the first events are still known to be well-formed or not, none where all
+-- are; and the marks of the objects that are listed, with their keys.
 pub record Standing : Type 0 where
   pub present : Present
   pub meter : Meter
   pub low : Option ℕ
+  pub marks : List (ℤ × Mark)
 
 -- an event of the history is of the key
 abbrev pub Occurs : List Event → ℤ → Type 0
@@ -38,6 +41,6 @@ pub record IsUpToDate (now : Present) (low : Option ℕ) (scan : Scan) (objects 
   pub budgeted : IsBudget now.budget
   pub scanned : IsRight scan (kind_of now.kinds) now.history
   pub taken_in : AreTakenIn low (ready_count scan) (length now.history)
-  pub kept : AreRight objects (kind_of now.kinds) now.history
+  pub kept : AreRight objects (kind_of now.kinds) now.budget now.history
   -- where nothing changed since a question, all events are told apart, if they are well-formed
   pub apart : low ≡ None → IsWellFormed (functions_of (kind_of now.kinds)) now.history → split_in objects ≡ length now.history

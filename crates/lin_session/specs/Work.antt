@@ -1,7 +1,17 @@
 -- What a question costs after edits: how many of the first events still stand as they were found.
-use Rattle.std.specs.Prelude.{◌-◌, ◌*◌, ◌/◌, ℕ, min, Option, None, Some, length}
+use Rattle.std.specs.Prelude.{◌≡◌, ◌-◌, ◌*◌, ◌/◌, ◌||◌, ℕ, ℤ, min, not, nat_lt, List, [], ◌∷◌, Option, None, Some, filter, length, take, if◌then◌else◌}
+use Rattle.std.specs.List.{sum_by}
+use Rattle.std.specs.Ordering.{int_eq}
+use Rattle.lin_history.specs.declared.events.Event.{Event}
+use Rattle.lin_order.specs.Orders.{is_of_key}
+use Rattle.lin_order.specs.Parts.{part}
+use Rattle.lin_chain.specs.declared.chain.End.{End}
+use Rattle.lin_chain.specs.declared.chain.End.TheVariants.{Alive, Dead, Over}
+use Rattle.lin_session.specs.declared.answers.Scope.{Scope}
+use Rattle.lin_session.specs.declared.answers.Scope.TheVariants.{Object, Whole}
 use Rattle.lin_session.specs.declared.edits.Edit.{Edit}
 use Rattle.lin_session.specs.declared.edits.Edit.TheVariants.{Append, Truncate, Replace, Remove, SetKind, SetBudget}
+use Rattle.lin_session.specs.declared.work.Mark.{Mark}
 use Rattle.lin_session.specs.Edits.{Present}
 
 -- the lesser of two numbers, where there are two
@@ -13,6 +23,10 @@ least (Some m) (Some n) = Some (min m n)
 -- the greatest multiple of 64 that is at most the number
 abbrev pub rounded : ℕ → ℕ
 rounded n = n / 64 * 64
+
+abbrev pub rounded_too : Option ℕ → Option ℕ
+rounded_too None = None
+rounded_too (Some n) = Some (rounded n)
 
 -- how many of so many events are looked at anew: those behind the first ones that stand, or where nothing changed none
 abbrev pub anew : Option ℕ → ℕ → ℕ
@@ -27,3 +41,78 @@ low_after (Replace at event) now low = least low (Some (rounded at))
 low_after (Remove at) now low = least low (Some (rounded at))
 low_after (SetKind key kind) now low = Some 0
 low_after (SetBudget budget) now low = low
+
+-- A mark says how much of what was found of an object stands: for how many of its first events (`due`), none where for all; and the place among its
+-- events where it stands over the budget (`over`), if it does.
+
+-- of an object that no question was about yet
+abbrev pub unasked : Mark
+unasked = record { due = Some 0; over = None }
+
+-- of an object whose events were found to end so
+abbrev pub settled_at : End → Mark
+settled_at Alive = record { due = None; over = None }
+settled_at (Dead at) = record { due = None; over = None }
+settled_at (Over at) = record { due = None; over = Some at }
+
+-- a place, if it is ahead of the other one
+abbrev pub ahead_of : ℕ → Option ℕ → Option ℕ
+ahead_of place None = None
+ahead_of place (Some over) = if nat_lt over place then Some over else None
+
+-- an edit touches the object at the place, and leaves so many of its events as they were found
+abbrev pub touched : ℕ → ℕ → Mark → Mark
+touched place left mark = record { due = least mark.due (Some left); over = ahead_of place mark.over }
+
+-- a larger budget touches an object that is over where it is over, and what stands of any is a multiple of 64
+abbrev pub raised : Mark → Mark
+raised mark = record { due = rounded_too (least mark.due (rounded_too mark.over)); over = None }
+
+-- how many of the first events are of the key
+abbrev pub count_before : List Event → ℤ → ℕ → ℕ
+count_before h key at = length (part key (take at h))
+
+-- an edit at the position touches the key's object at the number of its events before that; what stands is a multiple of 64
+abbrev pub touched_at : List Event → ℤ → ℕ → Mark → Mark
+touched_at h key at mark = touched (count_before h key at) (rounded (count_before h key at)) mark
+
+-- where only the first events stay, an object that loses one is touched
+abbrev pub truncated : List Event → ℤ → ℕ → Mark → Mark
+truncated h key count mark = if nat_lt (count_before h key count) (length (part key h)) then touched_at h key count mark else mark
+
+-- What an edit makes of the mark of the key's object. It touches the object of an event that it puts in, takes out or replaces. An event that is put
+-- last leaves all those before as they were found.
+abbrev pub mark_after : Edit → Present → ℤ → Mark → Mark
+mark_after (Append event) now key mark = if int_eq event.key key then touched (length (part key now.history)) (length (part key now.history)) mark else mark
+mark_after (Truncate count) now key mark = truncated now.history key count mark
+mark_after (Replace at event) now key mark = if int_eq event.key key || is_of_key now.history key at then touched_at now.history key at mark else mark
+mark_after (Remove at) now key mark = if is_of_key now.history key at then touched_at now.history key at mark else mark
+mark_after (SetKind named kind) now key mark = if int_eq named key then touched 0 0 mark else mark
+mark_after (SetBudget budget) now key mark = if nat_lt now.budget budget then raised mark else mark
+
+-- the keys of the history, each once
+abbrev pub keys_of : List Event → List ℤ
+keys_of [] = []
+keys_of (event ∷ h) = event.key ∷ filter (λ key. not (int_eq event.key key)) (keys_of h)
+
+-- what a question about the object costs: as many steps as it has events behind those that stand
+abbrev pub cost : (ℤ → Mark) → List Event → ℤ → ℕ
+cost marks h key = anew (marks key).due (length (part key h))
+
+-- and one about the scope
+abbrev pub cost_in : (ℤ → Mark) → List Event → Scope → ℕ
+cost_in marks h (Object key) = cost marks h key
+cost_in marks h Whole = sum_by (cost marks h) (keys_of h)
+
+-- the mark of the key's object among those that are listed; about any other object no question was
+abbrev pub mark_of : List (ℤ × Mark) → ℤ → Mark
+mark_of [] key = unasked
+mark_of ((x, mark) ∷ marks) key = if int_eq x key then mark else mark_of marks key
+
+-- all marks are the same
+abbrev pub AreSameMarks : (ℤ → Mark) → (ℤ → Mark) → Type 0
+AreSameMarks old new = (key : ℤ) → new key ≡ old key
+
+-- the object of the key is touched, and no other one
+abbrev pub AreTouched : ℤ → ℕ → ℕ → (ℤ → Mark) → (ℤ → Mark) → Type 0
+AreTouched key place left old new = (x : ℤ) → new x ≡ (if int_eq key x then touched place left (old x) else old x)

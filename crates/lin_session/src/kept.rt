@@ -1,6 +1,7 @@
 //! What is kept of the objects of a history.
 ghost use Rattle.std.specs.Prelude.{◌≡◌, length};
 
+use crate::work::Mark;
 use indexmap::IndexSet;
 use lin_chain::Chain;
 
@@ -12,6 +13,7 @@ pub(crate) struct Object {
     /// At most as many as the history has of its events, and just as many from its first question on.
     pub(crate) count: usize,
     pub(crate) chain: Chain,
+    pub(crate) mark: Mark,
 }
 
 /// What is kept of the objects of a history: of each key that was met.

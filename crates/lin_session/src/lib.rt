@@ -4,6 +4,7 @@
 mod answers;
 mod edits;
 mod kept;
+mod object;
 mod objects;
 mod session;
 #[cfg(test)]

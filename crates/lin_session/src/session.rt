@@ -1,20 +1,24 @@
 //! A history that is edited, with what was found of it kept up to date.
-ghost use Rattle.std.specs.Prelude.{◌≡◌, ◌≢◌, ◌↔◌, ◌<◌, ◌≤◌, ◌⊎◌, ◌+◌, ◌-◌, ◌∷◌, ◌++◌, [], ℤ, true, false, map, Err, None, Some, IfOk, IfErr, IfSome, IfNone, IsOk, OnOk, OnErr, length, slice_get, slice_set, remove, take};
+ghost use Rattle.std.specs.Prelude.{◌≡◌, ◌≢◌, ◌↔◌, ◌<◌, ◌≤◌, ◌⊎◌, ◌+◌, ◌-◌, ◌∷◌, ◌++◌, [], ℕ, ℤ, true, false, map, Err, None, Some, IfOk, IfErr, IfSome, IfNone, IsOk, OnOk, OnErr, length, slice_get, slice_set, remove, take, if◌then◌else◌};
 ghost use Rattle.lin_history.specs.WellFormed.{IsWellFormed};
 ghost use Rattle.lin_objects.specs.declared.kinds.Kind.{Kind as KindOf};
 ghost use Rattle.lin_objects.specs.Kinds.{functions_of, is_named, kind_of, named_count, same_for_all, with_kind};
 ghost use Rattle.lin_session.specs.Edits.{IsBudget, IsRefused, edited};
 ghost use Rattle.lin_session.specs.Answers.{IsAnswer, IsVerdict, kinds_in};
-ghost use Rattle.lin_session.specs.Objects.{AreRight, split_in};
+ghost use Rattle.lin_session.specs.Objects.{AreRight, marks_in, split_in};
+ghost use Rattle.lin_order.specs.Orders.{is_of_key};
+ghost use Rattle.lin_order.specs.Parts.{part};
+ghost use Rattle.lin_chain.specs.Ends.{IsEndOf};
+ghost use Rattle.lin_session.specs.Marks.{AreMarked, IsNothingDue, IsWithoutOrder};
 ghost use Rattle.lin_session.specs.Refuting.{IsRefuted, IsUnrefuted};
 ghost use Rattle.lin_session.specs.Sessions.{AreKeys};
-ghost use Rattle.lin_session.specs.Work.{anew, low_after};
+ghost use Rattle.lin_session.specs.Work.{AreSameMarks, anew, cost_in, low_after, mark_after, mark_of, touched_at, truncated, unasked};
 
 use crate::answers::{Answer, Refuted, Scope, Verdict};
 use crate::edits::{Edit, EditFault};
 use crate::kept::Objects;
 use crate::work::{least_of, round_down};
-use lin_chain::RefuteFault;
+use lin_chain::{End, RefuteFault};
 use lin_history::{Event, Meter, OutOfMemory, Shape};
 use lin_objects::{Kind, Kinds, KindsFault};
 use lin_wellformed::Scan;
@@ -43,11 +47,12 @@ pub struct Session {
 }
 
 impl Model for Session {
+    ghost use Rattle.lin_session.specs.Objects.{marked_keys};
     ghost use Rattle.lin_session.specs.Sessions.{Standing, IsUpToDate};
 
     ghost Value = { Standing };
 
-    ghost view = { λ s. record { present = record { history = s.events.items; kinds = s.kinds; budget = s.budget }; meter = s.meter; low = s.low } };
+    ghost view = { λ s. record { present = record { history = s.events.items; kinds = s.kinds; budget = s.budget }; meter = s.meter; low = s.low; marks = marked_keys s.objects } };
 
     ghost invariant = { λ s. IsUpToDate (record { history = s.events.items; kinds = s.kinds; budget = s.budget }) s.low s.scan s.objects };
 }
@@ -59,6 +64,7 @@ impl Session {
     pub fn new(alloc: Global, default: Kind, budget: u32) -> Result<Session, EditFault>
         ensures opened { IfOk result (λ session. session.present ≡ record { history = []; kinds = same_for_all default; budget = budget }) }
         ensures settled { IfOk result (λ session. session.low ≡ None) }
+        ensures marks { IfOk result (λ session. (key : ℤ) → mark_of session.marks key ≡ unasked) }
         ensures unused { IfOk result (λ session. session.meter ≡ record { scans = 0; steps = 0; tries = 0 }) }
         ensures refused { (result ≡ Err EditFault.BadBudget) ↔ (IsBudget budget → ⊥) }
         ensures fault { IfErr result (λ fault. fault ≡ EditFault.BadBudget) }
@@ -113,6 +119,13 @@ impl Session {
         &self.meter
     }
 
+    /// Where an object is marked as over, its events up to there have more configurations than the budget.
+    pub fn overs_are_right(&self)
+        ensures { (key : ℤ) (at : ℕ) → (mark_of self.now.marks key).over ≡ Some at → IsEndOf (kinds_in self.now.present key) self.now.present.budget (part key self.now.present.history) (End.Over at) }
+    {
+        let _budget = self.budget;
+    }
+
     /// The keys of the history, each once, rising. Takes time and memory linear in the number of events, and sorts them.
     pub fn objects(&self, alloc: Global) -> Result<Vec<i64>, OutOfMemory>
         ensures { IfOk result (λ keys. AreKeys self.now.present.history keys.items) }
@@ -125,6 +138,9 @@ impl Session {
 
     /// Whether the present history is linearizable, for the scope.
     ///
+    /// An event of the scope's objects is a step, unless it stands as it was found. Where nothing changed since a question
+    /// of the scope, and there is no order to be made, no memory is taken.
+    ///
     /// `OutOfMemory` is answered only where memory was refused; then the next question is answered as if this one had not been
     /// asked.
     pub fn ask(&mut self, alloc: Global, scope: Scope) -> Result<Answer, OutOfMemory>
@@ -134,6 +150,11 @@ impl Session {
         ensures unsettled { OnErr result (self.new.low ≡ self.old.low) }
         ensures scans { self.new.meter.scans ≤ self.old.meter.scans + anew self.old.low (length self.old.present.history) }
         ensures known { self.old.low ≡ None → (IsWellFormed (functions_of (kinds_in self.old.present)) self.old.present.history → ⊥) → IsOk result }
+        ensures marked { OnOk result (IsWellFormed (functions_of (kinds_in self.old.present)) self.old.present.history → AreMarked (kinds_in self.old.present) self.old.present.budget self.old.present.history scope (mark_of self.old.marks) (mark_of self.new.marks)) }
+        ensures unmarked { OnErr result (AreSameMarks (mark_of self.old.marks) (mark_of self.new.marks)) }
+        ensures ill_formed { (IsWellFormed (functions_of (kinds_in self.old.present)) self.old.present.history → ⊥) → AreSameMarks (mark_of self.old.marks) (mark_of self.new.marks) }
+        ensures steps { self.new.meter.steps ≤ self.old.meter.steps + cost_in (mark_of self.old.marks) self.old.present.history scope }
+        ensures ready { self.old.low ≡ None → IsNothingDue self.old.present.history scope (mark_of self.old.marks) → IsWithoutOrder self.old.present scope (mark_of self.old.marks) → IsOk result }
     {
         match self
             .scan
@@ -148,6 +169,7 @@ impl Session {
                     self.budget,
                     &mut self.meter,
                 )?;
+                self.objects.mark(scope);
                 self.low = None;
                 Ok(answer)
             }
@@ -158,8 +180,8 @@ impl Session {
         }
     }
 
-    /// As `ask`, but without making an order: where nothing changed since the last question, the time is linear in the
-    /// number of objects of the scope.
+    /// As `ask`, but without making an order: where nothing changed since a question of the scope, no memory is taken, and
+    /// the time is linear in the number of objects of the scope.
     pub fn judge(&mut self, alloc: Global, scope: Scope) -> Result<Verdict, OutOfMemory>
         ensures verdict { IfOk result (IsVerdict self.old.present scope) }
         ensures present { self.new.present ≡ self.old.present }
@@ -167,6 +189,11 @@ impl Session {
         ensures unsettled { OnErr result (self.new.low ≡ self.old.low) }
         ensures scans { self.new.meter.scans ≤ self.old.meter.scans + anew self.old.low (length self.old.present.history) }
         ensures known { self.old.low ≡ None → (IsWellFormed (functions_of (kinds_in self.old.present)) self.old.present.history → ⊥) → IsOk result }
+        ensures marked { OnOk result (IsWellFormed (functions_of (kinds_in self.old.present)) self.old.present.history → AreMarked (kinds_in self.old.present) self.old.present.budget self.old.present.history scope (mark_of self.old.marks) (mark_of self.new.marks)) }
+        ensures unmarked { OnErr result (AreSameMarks (mark_of self.old.marks) (mark_of self.new.marks)) }
+        ensures ill_formed { (IsWellFormed (functions_of (kinds_in self.old.present)) self.old.present.history → ⊥) → AreSameMarks (mark_of self.old.marks) (mark_of self.new.marks) }
+        ensures steps { self.new.meter.steps ≤ self.old.meter.steps + cost_in (mark_of self.old.marks) self.old.present.history scope }
+        ensures ready { self.old.low ≡ None → IsNothingDue self.old.present.history scope (mark_of self.old.marks) → IsOk result }
     {
         match self
             .scan
@@ -181,6 +208,7 @@ impl Session {
                     self.budget,
                     &mut self.meter,
                 )?;
+                self.objects.mark(scope);
                 self.low = None;
                 Ok(verdict)
             }
@@ -203,6 +231,10 @@ impl Session {
         ensures unsettled { OnErr result (self.new.low ≡ self.old.low) }
         ensures scans { self.new.meter.scans ≤ self.old.meter.scans + anew self.old.low (length self.old.present.history) }
         ensures known { self.old.low ≡ None → (IsWellFormed (functions_of (kinds_in self.old.present)) self.old.present.history → ⊥) → IsOk result }
+        ensures marked { OnOk result (IsWellFormed (functions_of (kinds_in self.old.present)) self.old.present.history → AreMarked (kinds_in self.old.present) self.old.present.budget self.old.present.history (Scope.Object key) (mark_of self.old.marks) (mark_of self.new.marks)) }
+        ensures unmarked { OnErr result (AreSameMarks (mark_of self.old.marks) (mark_of self.new.marks)) }
+        ensures ill_formed { (IsWellFormed (functions_of (kinds_in self.old.present)) self.old.present.history → ⊥) → AreSameMarks (mark_of self.old.marks) (mark_of self.new.marks) }
+        ensures steps { self.new.meter.steps ≤ self.old.meter.steps + cost_in (mark_of self.old.marks) self.old.present.history (Scope.Object key) }
     {
         let Ok(shape) = self.scan.settle(&self.events, &self.kinds, &mut self.meter) else {
             return Err(RefuteFault::OutOfMemory);
@@ -217,6 +249,7 @@ impl Session {
                     self.budget,
                     &mut self.meter,
                 )?;
+                self.objects.mark(Scope::Object(key));
                 self.low = None;
                 Ok(refuted)
             }
@@ -239,6 +272,7 @@ impl Session {
         ensures same { OnErr result (self.new ≡ self.old) }
         ensures idle { self.new.meter ≡ self.old.meter }
         ensures low { OnOk result (self.new.low ≡ low_after edit self.old.present self.old.low) }
+        ensures marks { OnOk result ((x : ℤ) → mark_of self.new.marks x ≡ mark_after edit self.old.present x (mark_of self.old.marks x)) }
     {
         match edit {
             Edit::Append(event) => match self.append(event) {
@@ -275,6 +309,7 @@ impl Session {
         ensures same { OnErr result (self.new ≡ self.old) }
         ensures idle { self.new.meter ≡ self.old.meter }
         ensures low { OnOk result (self.new.low ≡ low_after (Edit.Append event) self.old.present self.old.low) }
+        ensures marks { OnOk result ((x : ℤ) → mark_of self.new.marks x ≡ mark_after (Edit.Append event) self.old.present x (mark_of self.old.marks x)) }
     {
         if self.events.len() >= EVENTS {
             return Err((event, EditFault::Full));
@@ -284,7 +319,7 @@ impl Session {
         }
         self.scan.cut(self.events.len());
         self.low = least_of(self.low, Some(self.events.len()));
-        self.objects.put_in(event.key, &[]);
+        self.objects.put_last(event.key);
         self.events.push_reserved(event);
         Ok(())
     }
@@ -296,6 +331,7 @@ impl Session {
         ensures same { OnErr result (self.new ≡ self.old) }
         ensures idle { self.new.meter ≡ self.old.meter }
         ensures low { OnOk result (self.new.low ≡ low_after (Edit.Truncate count) self.old.present self.old.low) }
+        ensures marks { OnOk result ((x : ℤ) → mark_of self.new.marks x ≡ mark_after (Edit.Truncate count) self.old.present x (mark_of self.old.marks x)) }
     {
         if count > self.events.len() {
             return Err(EditFault::BadPosition);
@@ -313,6 +349,7 @@ impl Session {
         ensures same { OnErr result (self.new ≡ self.old) }
         ensures idle { self.new.meter ≡ self.old.meter }
         ensures low { OnOk result (self.new.low ≡ low_after (Edit.Replace at event) self.old.present self.old.low) }
+        ensures marks { OnOk result ((x : ℤ) → mark_of self.new.marks x ≡ mark_after (Edit.Replace at event) self.old.present x (mark_of self.old.marks x)) }
     {
         if at >= self.events.len() {
             return Err((event, EditFault::BadPosition));
@@ -331,6 +368,7 @@ impl Session {
         ensures same { OnErr result (self.new ≡ self.old) }
         ensures idle { self.new.meter ≡ self.old.meter }
         ensures low { OnOk result (self.new.low ≡ low_after (Edit.Remove at) self.old.present self.old.low) }
+        ensures marks { OnOk result ((x : ℤ) → mark_of self.new.marks x ≡ mark_after (Edit.Remove at) self.old.present x (mark_of self.old.marks x)) }
     {
         if at >= self.events.len() {
             return Err(EditFault::BadPosition);
@@ -349,6 +387,7 @@ impl Session {
         ensures same { OnErr result (self.new ≡ self.old) }
         ensures idle { self.new.meter ≡ self.old.meter }
         ensures low { OnOk result (self.new.low ≡ low_after (Edit.SetKind key kind) self.old.present self.old.low) }
+        ensures marks { OnOk result ((x : ℤ) → mark_of self.new.marks x ≡ mark_after (Edit.SetKind key kind) self.old.present x (mark_of self.old.marks x)) }
     {
         match self.kinds.set(key, kind) {
             Ok(()) => {}
@@ -369,10 +408,12 @@ impl Session {
         ensures same { OnErr result (self.new ≡ self.old) }
         ensures idle { self.new.meter ≡ self.old.meter }
         ensures low { OnOk result (self.new.low ≡ low_after (Edit.SetBudget budget) self.old.present self.old.low) }
+        ensures marks { OnOk result ((x : ℤ) → mark_of self.new.marks x ≡ mark_after (Edit.SetBudget budget) self.old.present x (mark_of self.old.marks x)) }
     {
         if !is_budget(budget) {
             return Err(EditFault::BadBudget);
         }
+        self.objects.rebudget(self.budget, budget);
         self.budget = budget;
         Ok(())
     }
@@ -382,7 +423,8 @@ impl Session {
 fn cut_back(events: &mut Vec<Event>, objects: &mut Objects, count: usize)
     requires { split_in objects.old ≤ length events.old.items }
     ensures left { events.new.items ≡ take count events.old.items }
-    ensures right { (kinds : ℤ → KindOf) → AreRight objects.old kinds events.old.items → AreRight objects.new kinds events.new.items }
+    ensures right { (kinds : ℤ → KindOf) (budget : ℕ) → AreRight objects.old kinds budget events.old.items → AreRight objects.new kinds budget events.new.items }
+    ensures marks { (kinds : ℤ → KindOf) (budget : ℕ) → AreRight objects.old kinds budget events.old.items → (x : ℤ) → marks_in objects.new x ≡ truncated events.old.items x count (marks_in objects.old x) }
 {
     while events.len() > count {
         drop_last(events, objects);
@@ -395,7 +437,9 @@ fn drop_last(events: &mut Vec<Event>, objects: &mut Objects)
     requires within { split_in objects.old ≤ length events.old.items }
     ensures left { events.new.items ≡ take (length events.old.items - 1) events.old.items }
     ensures within { split_in objects.new ≤ length events.new.items }
-    ensures right { (kinds : ℤ → KindOf) → AreRight objects.old kinds events.old.items → AreRight objects.new kinds events.new.items }
+    ensures right { (kinds : ℤ → KindOf) (budget : ℕ) → AreRight objects.old kinds budget events.old.items → AreRight objects.new kinds budget events.new.items }
+    ensures marks { (kinds : ℤ → KindOf) (budget : ℕ) → AreRight objects.old kinds budget events.old.items
+        → (x : ℤ) → marks_in objects.new x ≡ (if is_of_key events.old.items x (length events.old.items - 1) then touched_at events.old.items x (length events.old.items - 1) (marks_in objects.old x) else marks_in objects.old x) }
 {
     let last = events.len() - 1;
     objects.leave(events, last);

@@ -1,4 +1,4 @@
-use Rattle.std.proofs.Common.{◌≡◌, inr, subst, sym, ◌∙◌, to_z, of_z, w64}
+use Rattle.std.proofs.Common.{◌≡◌, inl, inr, subst, sym, ◌∙◌, to_z, of_z, w64}
 use Rattle.std.proofs.lemmas.Int.{to_z-of_z}
 use Rattle.lin_history.specs.WellFormed.{IsWellFormed}
 use Rattle.lin_objects.specs.Kinds.{functions_of}
@@ -7,6 +7,8 @@ use Rattle.lin_session.specs.declared.answers.Scope.TheVariants.{Object}
 use Rattle.lin_session.specs.Answers.{kinds_in}
 use Rattle.lin_session.specs.Edits.{Present}
 use Rattle.lin_report.specs.Runs.{IsRefuteReply}
+use Rattle.lin_report.proofs.Answered.{if_ok, never_no}
+use Rattle.lin_session.specs.Answers.{verdict_of}
 use Rattle.lin_report.proofs.refuting.refute.Goals as goal
 
 pub checked-requires-clause-well_formed : goal.checked-requires-clause-well_formed
@@ -35,3 +37,15 @@ returns-in_ok-text-in-Err-TooLarge c =
       subst (λ k. IsRefuteReply now k c.plain.result.text.items c.plain.result.status) is_key
           (inr (inr ((large.0.0, verdict), large.1, c.plain.ensures.text ∙ c.in_ok-text-in-Err-TooLarge.ensures.items, c.plain.ensures.status))),
     )
+
+pub returns-in-Ok-Not : goal.returns-in-Ok-Not
+returns-in-Ok-Not c =
+    let is_key : to_z w64 (of_z w64 c.args.key) ≡ c.args.key = to_z-of_z w64 c.args.key c.ranges.key in
+    let now = c.args.session.now.present in
+    let found = c.in-Ok-Not.answer in
+    let told = rw c.in-Ok-Not.field-0-is at c.in-Ok-Not.ensures.refuted in
+    let verdict = c.answers_are_verdicts.ensures now (Object (to_z w64 (of_z w64 c.args.key))) found told.0 in
+    if_ok c.answered.result (λ reply is. (
+      c.refute.ensures.present,
+      subst (λ k. IsRefuteReply now k reply.text.items reply.status) is_key (inr (inl (verdict_of found, verdict, never_no found told.1, is.0, is.1))),
+    )) (rw c.verdict_of.ensures at c.answered.ensures)

@@ -1,5 +1,14 @@
-use Rattle.std.proofs.Common.{◌≡◌, ◌≤◌, ◌-◌, ◌+◌, List, length, take, sym, ap, ◌∙◌, arith}
+use Rattle.std.proofs.Common.{◌≡◌, ◌<◌, ◌≤◌, ◌-◌, ◌+◌, List, length, take, sym, ap, subst, ◌∙◌, arith, if◌then◌else◌}
 use Rattle.std.proofs.lemmas.List.{length-take, length-take-le, take-take}
+use Rattle.lin_order.specs.Orders.{is_of_key}
+use Rattle.lin_session.specs.Objects.{marks_in}
+use Rattle.std.proofs.Common.{inl, inr, nat_lt}
+use Rattle.std.proofs.lemmas.Bool.{cases_lt}
+use Rattle.std.proofs.lemmas.List.{take_all}
+use Rattle.lin_order.specs.Parts.{part}
+use Rattle.lin_session.specs.Work.{rounded, touched, touched_at, truncated}
+use Rattle.lin_session.proofs.Lists.{element_at}
+use Rattle.lin_session.proofs.Touching.{truncated_next}
 use Rattle.lin_session.proofs.session.cut_back.Goals as goal
 
 -- a beginning without its last element
@@ -21,5 +30,27 @@ loop-events-preserved c =
       left = shorter all h c.drop_last.new.events.items c.loop-events.invariant.left d.left;
       enough = λ fits. omega (arith, few, above);
       few = λ short. absurd (omega (arith, above, inside, short));
-      right = λ kinds kept. d.right kinds (c.loop-events.invariant.right kinds kept);
+      marks = λ kinds budget kept x.
+          let m = length h in
+          let some : 0 < m = omega (arith, above) in
+          let e = element_at all (m - 1) (omega (arith, above, inside)) in
+          let was = c.loop-events.invariant.marks kinds budget kept x in
+          let mid = marks_in c.loop-events.objects x in
+          let new = marks_in c.drop_last.new.objects x in
+          let now = subst (λ l. new ≡ (if is_of_key l x (m - 1) then touched_at l x (m - 1) mid else mid)) c.loop-events.invariant.left (d.marks kinds budget (c.loop-events.invariant.right kinds budget kept) x) in
+          truncated_next all x m e.0 (marks_in c.args.objects.now x) mid new some inside e.1 was now ∙ ap (λ n. truncated all x n (marks_in c.args.objects.now x)) (sym few);
+      right = λ kinds budget kept. d.right kinds budget (c.loop-events.invariant.right kinds budget kept);
     }
+
+pub returns-clause-marks : goal.returns-clause-marks
+returns-clause-marks c = λ kinds budget kept x.
+    let h = c.loop-events.events.items in
+    let all = c.args.events.now.items in
+    let inv = c.loop-events.invariant in
+    let old = marks_in c.args.objects.now x in
+    let ends : length h ≤ c.args.count = omega (arith, c.loop-events-test.false, c.len.ensures, c.loop-events.events.ok.0) in
+    let front : take (length h) all ≡ take c.args.count all = elim (cases_lt c.args.count (length all)) [
+      | inl fewer ↦ ap (λ n. take n all) (omega (arith, ends, inv.enough (omega (arith, fewer))))
+      | inr short ↦ sym inv.left ∙ inv.few short ∙ sym (take_all c.args.count all short)
+    ] in
+    inv.marks kinds budget kept x ∙ ap (λ l. if nat_lt (length (part x l)) (length (part x all)) then touched (length (part x l)) (rounded (length (part x l))) old else old) front

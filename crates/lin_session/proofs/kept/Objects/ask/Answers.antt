@@ -1,6 +1,10 @@
 use Rattle.lin_objects.specs.Kinds.{kind_of}
 use Rattle.lin_session.specs.Edits.{Present}
 use Rattle.lin_session.proofs.Scopes.{IsAnswer-yes}
+use Rattle.std.proofs.Common.{Ok, ap, subst, ◌∙◌}
+use Rattle.lin_session.specs.Answers.{IsVerdict}
+use Rattle.lin_session.specs.Objects.{marks_in}
+use Rattle.lin_session.proofs.Ready.{no_order}
 use Rattle.lin_session.proofs.kept.Objects.ask.Goals as goal
 
 pub returns-in_ok-order-in-Yes-clause-answer : goal.returns-in_ok-order-in-Yes-clause-answer
@@ -9,4 +13,10 @@ returns-in_ok-order-in-Yes-clause-answer c =
     let h = c.args.events.now in
     let now : Present = record { history = h; kinds = c.args.kinds.now; budget = c.args.budget } in
     IsAnswer-yes now c.args.scope c.in_ok-order-in-Yes.field-0 c.requires.well_formed
-    (c.in_ok-order-in-Yes.ensures K h c.judge.ensures.right c.in_ok-judge.ensures.split c.requires.well_formed)
+    (c.in_ok-order-in-Yes.ensures K c.args.budget h c.judge.ensures.right c.in_ok-judge.ensures.split c.requires.well_formed)
+
+pub returns-in_err-order-in-Yes-clause-ready : goal.returns-in_err-order-in-Yes-clause-ready
+returns-in_err-order-in-Yes-clause-ready c = λ apart nothing without.
+    let now : Present = record { history = c.args.events.now; kinds = c.args.kinds.now; budget = c.args.budget } in
+    absurd (no_order c.linearizability_is_local.ensures now c.judge.new.self c.in_ok-judge.ensures.split c.judge.ensures.right c.args.scope (marks_in c.args.self.now) c.judge.ensures.marks nothing without
+    (subst (IsVerdict now c.args.scope) c.in-Yes.is c.in_ok-judge.ensures.verdict) (c.judge.ensures.alive (c.in_ok-judge.was ∙ ap Ok c.in-Yes.is)))

@@ -8,19 +8,31 @@ use Rattle.lin_session.specs.Answers.{IsObjectVerdict, IsWholeVerdict, IsVerdict
 use Rattle.lin_session.specs.Edits.{Present}
 use Rattle.lin_session.specs.Objects.{AreRight}
 use Rattle.lin_session.proofs.Scopes.{IsVerdict-object, IsVerdict-whole}
+use Rattle.std.proofs.Common.{Some, Contains, inl, inr, ap, ◌∙◌, arith}
+use Rattle.std.proofs.lemmas.Option.{slice_get_within, slice_get-get_or}
+use Rattle.std.proofs.lemmas.Result.{on_ok_weaker}
+use Rattle.lin_session.specs.declared.answers.Scope.TheVariants as scope
+use Rattle.lin_session.specs.Costs.{AreJudged}
+use Rattle.lin_session.specs.Objects.{marks_in}
+use Rattle.lin_session.specs.Marks.{IsNothingDue}
+use Rattle.lin_session.specs.Work.{cost, cost_in}
+use Rattle.lin_session.proofs.Costing.{listed_cost, settled_there, whole_cost}
+use Rattle.lin_session.proofs.Found.{not_ok}
+use Rattle.lin_session.proofs.Listed.{is_listed}
+use Rattle.lin_session.proofs.Lists.{element_at}
 use Rattle.lin_session.proofs.kept.Objects.judge.Goals as goal
 
 pub judge_object-requires-clause-right : goal.judge_object-requires-clause-right
-judge_object-requires-clause-right c = (kind_of c.args.kinds.now, c.in_ok-split.ensures.right, c.requires.well_formed)
+judge_object-requires-clause-right c = (kind_of c.args.kinds.now, c.split.ensures.right c.args.budget c.requires.right, c.requires.well_formed)
 
 pub judge_whole-requires-clause-right : goal.judge_whole-requires-clause-right
-judge_whole-requires-clause-right c = (kind_of c.args.kinds.now, c.in_ok-split.ensures.right, c.requires.well_formed)
+judge_whole-requires-clause-right c = (kind_of c.args.kinds.now, c.split.ensures.right c.args.budget c.requires.right, c.requires.well_formed)
 
 pub returns-in-Object-clause-right : goal.returns-in-Object-clause-right
-returns-in-Object-clause-right c = c.judge_object.ensures.right (kind_of c.args.kinds.now) c.in_ok-split.ensures.right
+returns-in-Object-clause-right c = c.judge_object.ensures.right (kind_of c.args.kinds.now) (c.split.ensures.right c.args.budget c.requires.right)
 
 pub returns-in-Whole-clause-right : goal.returns-in-Whole-clause-right
-returns-in-Whole-clause-right c = c.judge_whole.ensures.right (kind_of c.args.kinds.now) c.in_ok-split.ensures.right
+returns-in-Whole-clause-right c = c.judge_whole.ensures.right (kind_of c.args.kinds.now) (c.split.ensures.right c.args.budget c.requires.right)
 
 pub returns-in-Object-clause-verdict : goal.returns-in-Object-clause-verdict
 returns-in-Object-clause-verdict c =
@@ -30,10 +42,10 @@ returns-in-Object-clause-verdict c =
     let now : Present = record { history = h; kinds = c.args.kinds.now; budget = c.args.budget } in
     let is_key : to_z w64 (of_z w64 key) ≡ key = to_z-of_z w64 key (search rules) in
     IfOk-weaker c.judge_object.result
-    (λ verdict. (kinds : ℤ → Kind) → AreRight c.split.new.self kinds h → IsWellFormed (functions_of kinds) h → IsObjectVerdict kinds c.args.budget h (to_z w64 (of_z w64 key)) verdict)
+    (λ verdict. (kinds : ℤ → Kind) → AreRight c.split.new.self kinds c.args.budget h → IsWellFormed (functions_of kinds) h → IsObjectVerdict kinds c.args.budget h (to_z w64 (of_z w64 key)) verdict)
     (IsVerdict now c.args.scope)
     (λ verdict told.
-    let is = subst (λ k. IsObjectVerdict K c.args.budget h k verdict) is_key (told K c.in_ok-split.ensures.right c.requires.well_formed) in
+    let is = subst (λ k. IsObjectVerdict K c.args.budget h k verdict) is_key (told K (c.split.ensures.right c.args.budget c.requires.right) c.requires.well_formed) in
     subst (λ s. IsVerdict now s verdict) (sym c.in-Object.is) (IsVerdict-object now key verdict c.requires.well_formed is)) c.judge_object.ensures.verdict
 
 pub returns-in-Whole-clause-verdict : goal.returns-in-Whole-clause-verdict
@@ -42,8 +54,79 @@ returns-in-Whole-clause-verdict c =
     let h = c.args.events.now in
     let now : Present = record { history = h; kinds = c.args.kinds.now; budget = c.args.budget } in
     IfOk-weaker c.judge_whole.result
-    (λ verdict. (kinds : ℤ → Kind) → AreRight c.split.new.self kinds h → IsWellFormed (functions_of kinds) h → IsWholeVerdict kinds c.args.budget h verdict)
+    (λ verdict. (kinds : ℤ → Kind) → AreRight c.split.new.self kinds c.args.budget h → IsWellFormed (functions_of kinds) h → IsWholeVerdict kinds c.args.budget h verdict)
     (IsVerdict now c.args.scope)
     (λ verdict told.
-    let is = told K c.in_ok-split.ensures.right c.requires.well_formed in
+    let is = told K (c.split.ensures.right c.args.budget c.requires.right) c.requires.well_formed in
     subst (λ s. IsVerdict now s verdict) (sym c.in-Whole.is) (IsVerdict-whole now verdict c.requires.well_formed is)) c.judge_whole.ensures.verdict
+
+pub returns-in_err-split-clause-right : goal.returns-in_err-split-clause-right
+returns-in_err-split-clause-right c = c.split.ensures.right c.args.budget c.requires.right
+
+pub returns-in-Object-clause-judged : goal.returns-in-Object-clause-judged
+returns-in-Object-clause-judged c =
+    let K = kind_of c.args.kinds.now in
+    let key = c.in-Object.key in
+    let is_key : to_z w64 (of_z w64 key) ≡ key = to_z-of_z w64 key (search rules) in
+    on_ok_weaker c.judge_object.result
+    (λ judged. subst (AreJudged K c.args.budget c.args.events.now c.judge_object.new.self) (ap scope.Object is_key ∙ sym c.in-Object.is) (judged K (c.split.ensures.right c.args.budget c.requires.right)))
+    c.judge_object.ensures.judged
+
+pub returns-in-Whole-clause-judged : goal.returns-in-Whole-clause-judged
+returns-in-Whole-clause-judged c =
+    let K = kind_of c.args.kinds.now in
+    on_ok_weaker c.judge_whole.result
+    (λ judged. subst (AreJudged K c.args.budget c.args.events.now c.judge_whole.new.self) (sym c.in-Whole.is) (judged K (c.split.ensures.right c.args.budget c.requires.right)))
+    c.judge_whole.ensures.judged
+
+pub returns-in-Object-clause-steps : goal.returns-in-Object-clause-steps
+returns-in-Object-clause-steps c =
+    let s = c.split.new.self in
+    let K = kind_of c.args.kinds.now in
+    let h = c.args.events.now in
+    let key = c.in-Object.key in
+    let marks = marks_in c.args.self.now in
+    let is_key : to_z w64 (of_z w64 key) ≡ key = to_z-of_z w64 key (search rules) in
+    let scoped : cost_in marks h c.args.scope ≡ cost marks h key = ap (cost_in marks h) c.in-Object.is in
+    elim (is_listed s.keys.keys key) [
+      | inl at ↦
+          let within = slice_get_within s.keys.keys at.0 key at.1 in
+          let o = element_at s.objects.items at.0 (omega (arith, within, s.aligned)) in
+          let steps = c.judge_object.ensures.steps at.0 o.0 (at.1 ∙ ap Some (sym is_key)) o.1 in
+          let bound = listed_cost c.positions_spell_parts.ensures K c.args.budget h s.split s.keys.keys s.objects.items (c.split.ensures.right c.args.budget c.requires.right) s.aligned c.in_ok-split.ensures.all marks c.split.ensures.marks at.0 key o.0 at.1 o.1 in
+          omega (arith, steps, bound, scoped)
+      | inr absent ↦
+          let idle = c.judge_object.ensures.idle (λ there. absent (subst (Contains s.keys.keys) is_key there)) in
+          omega (arith, ap (λ m. m.steps) idle)
+    ]
+
+pub returns-in-Whole-clause-steps : goal.returns-in-Whole-clause-steps
+returns-in-Whole-clause-steps c =
+    let s = c.split.new.self in
+    let marks = marks_in c.args.self.now in
+    let scoped : cost_in marks c.args.events.now c.args.scope ≡ cost_in marks c.args.events.now scope.Whole = ap (cost_in marks c.args.events.now) c.in-Whole.is in
+    let bound = whole_cost c.positions_spell_parts.ensures (kind_of c.args.kinds.now) c.args.budget c.args.events.now s.split s.keys.keys s.objects.items (c.split.ensures.right c.args.budget c.requires.right) s.aligned
+    c.in_ok-split.ensures.all marks c.split.ensures.marks in
+    omega (arith, c.judge_whole.ensures.steps, bound, scoped)
+
+pub returns-in-Object-clause-ready : goal.returns-in-Object-clause-ready
+returns-in-Object-clause-ready c = λ apart nothing.
+    let s = c.split.new.self in
+    let K = kind_of c.args.kinds.now in
+    let key = c.in-Object.key in
+    let is_key : to_z w64 (of_z w64 key) ≡ key = to_z-of_z w64 key (search rules) in
+    c.judge_object.ensures.settled (λ i o key_at o_at.
+    settled_there c.positions_spell_parts.ensures K c.args.budget c.args.events.now s.split s.keys.keys s.objects.items (c.split.ensures.right c.args.budget c.requires.right) s.aligned c.in_ok-split.ensures.all
+    (marks_in c.args.self.now) c.split.ensures.marks (scope.Object key) (subst (λ q. IsNothingDue c.args.events.now q (marks_in c.args.self.now)) c.in-Object.is nothing) i _ o is_key key_at o_at)
+
+pub returns-in-Whole-clause-ready : goal.returns-in-Whole-clause-ready
+returns-in-Whole-clause-ready c = λ apart nothing.
+    let s = c.split.new.self in
+    let K = kind_of c.args.kinds.now in
+    c.judge_whole.ensures.settled (λ i d within.
+    let o = element_at s.keys.keys i (omega (arith, within, s.aligned)) in
+    settled_there c.positions_spell_parts.ensures K c.args.budget c.args.events.now s.split s.keys.keys s.objects.items (c.split.ensures.right c.args.budget c.requires.right) s.aligned c.in_ok-split.ensures.all
+    (marks_in c.args.self.now) c.split.ensures.marks scope.Whole (subst (λ q. IsNothingDue c.args.events.now q (marks_in c.args.self.now)) c.in-Whole.is nothing) i o.0 _ tt o.1 (slice_get-get_or s.objects.items i d within))
+
+pub returns-in_err-split-clause-ready : goal.returns-in_err-split-clause-ready
+returns-in_err-split-clause-ready c = λ apart nothing. absurd (not_ok c.split.result c.in_err-split.field-0.0 c.in_err-split.was (c.split.ensures.settled apart))

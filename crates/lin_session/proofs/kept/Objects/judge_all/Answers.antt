@@ -1,7 +1,7 @@
 use Rattle.std.proofs.Common.{◌≡◌, ◌<◌, ◌+◌, inl, inr, ℤ, pos, Some, ◌++◌, ◌∷◌, [], length, slice_get, get_or, take, sym, ap, subst, ◌∙◌, arith, add-one, suc}
 use Rattle.std.proofs.lemmas.Bool.{cases_order}
 use Rattle.std.proofs.lemmas.List.{take_all}
-use Rattle.std.proofs.lemmas.Option.{slice_get-get_or}
+use Rattle.std.proofs.lemmas.Option.{slice_get-get_or, slice_get_within}
 use Rattle.lin_session.specs.Judgements.{AreFound}
 use Rattle.lin_session.specs.Work.{least}
 use Rattle.lin_session.specs.declared.kept.Object.{Object}
@@ -60,6 +60,15 @@ loop-i-preserved c =
           subst (λ a. AreFound kinds c.args.budget h (take (i + 1) keys) a c.least_of-over.result) (sym c.least_of-failing.ensures)
           (subst (λ b. AreFound kinds c.args.budget h (take (i + 1) keys) (least f c.in_ok-found.found.0) b) (sym c.least_of-over.ensures)
           (subst (λ k. AreFound kinds c.args.budget h k (least f c.in_ok-found.found.0) (least o c.in_ok-found.found.1)) keys_are more));
+      marks = λ x. c.judge_listed.ensures.marks x ∙ inv.marks x;
+      judged = λ kinds kept j x object below x_at object_at. elim (cases_order j i) [
+        | inl here ↦ c.in_ok-found.ensures.judged kinds x object (subst (λ k. slice_get k.keys i ≡ Some x) (sym inv.keys) (ap (slice_get keys) (sym here) ∙ x_at)) (inv.right kinds kept)
+            (ap (slice_get c.judge_listed.new.self.objects.items) (sym here) ∙ object_at)
+        | inr rest ↦ elim rest [
+          | inl before ↦ inv.judged kinds kept j x object before x_at (c.judge_listed.ensures.others j object (λ e. omega (arith, e, before)) object_at)
+          | inr after ↦ absurd (omega (arith, after, below))
+        ]
+      ];
       alive = λ none_failing none_over j object below object_at.
           let a = least_none f c.in_ok-found.found.0 (sym c.least_of-failing.ensures ∙ none_failing) in
           let b = least_none o c.in_ok-found.found.1 (sym c.least_of-over.ensures ∙ none_over) in
@@ -106,3 +115,17 @@ returns-in_err-found-clause-settled c = λ all.
 
 pub returns-clause-steps : goal.returns-clause-steps
 returns-clause-steps c = omega (arith, c.loop-i.invariant.steps, cost-first c.args.budget c.args.self.now.objects.items c.loop-i.i)
+
+pub returns-in_err-found-clause-marks : goal.returns-in_err-found-clause-marks
+returns-in_err-found-clause-marks c = λ key. c.judge_listed.ensures.marks key ∙ c.loop-i.invariant.marks key
+
+pub returns-clause-marks : goal.returns-clause-marks
+returns-clause-marks c = c.loop-i.invariant.marks
+
+pub returns-clause-judged : goal.returns-clause-judged
+returns-clause-judged c = λ kinds kept j key object of_scope key_at object_at.
+    let same = ap (λ k. length k.keys) c.loop-i.invariant.keys in
+    let within = slice_get_within c.loop-i.self.objects.items j object object_at in
+    c.loop-i.invariant.judged kinds kept j key object
+    (omega (arith, within, same, c.loop-i.self.aligned, c.loop-i-test.false, c.len-i-end.ensures, c.args.self.now.objects.ok.0, c.args.self.now.aligned))
+    (subst (λ k. slice_get k.keys j ≡ Some key) c.loop-i.invariant.keys key_at) object_at

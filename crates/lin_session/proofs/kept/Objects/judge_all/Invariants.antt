@@ -3,9 +3,10 @@ use Rattle.lin_history.specs.WellFormed.{IsWellFormed}
 use Rattle.lin_objects.specs.declared.kinds.Kind.{Kind}
 use Rattle.lin_objects.specs.Kinds.{functions_of}
 use Rattle.lin_session.specs.declared.kept.Object.{Object}
-use Rattle.lin_session.specs.Costs.{cost_of_all}
+use Rattle.lin_session.specs.Costs.{IsJudged, cost_of_all}
+use Rattle.lin_session.specs.Work.{AreSameMarks}
 use Rattle.lin_session.specs.Judgements.{AreFound, IsAlive}
-use Rattle.lin_session.specs.Objects.{AreRight, split_in}
+use Rattle.lin_session.specs.Objects.{AreRight, marks_in, split_in}
 use Rattle.lin_session.proofs.kept.Objects.judge_all.Given as goal
 
 abbrev pub invariant-loop-i : goal.invariant-loop-i
@@ -15,7 +16,10 @@ invariant-loop-i l = record {
   behind : (j : ℕ) (object : Object) → l.i ≤ j → slice_get l.self.objects.items j ≡ Some object → slice_get l.initial.self.objects.items j ≡ Some object;
   scans : l.meter.scans ≡ l.initial.meter.scans;
   split : split_in l.self ≡ split_in l.initial.self;
-  right : (kinds : ℤ → Kind) → AreRight l.initial.self kinds l.events → AreRight l.self kinds l.events;
-  found : (kinds : ℤ → Kind) → AreRight l.initial.self kinds l.events → IsWellFormed (functions_of kinds) l.events → AreFound kinds l.budget l.events (take l.i l.initial.self.keys.keys) l.failing l.over;
+  right : (kinds : ℤ → Kind) → AreRight l.initial.self kinds l.budget l.events → AreRight l.self kinds l.budget l.events;
+  found : (kinds : ℤ → Kind) → AreRight l.initial.self kinds l.budget l.events → IsWellFormed (functions_of kinds) l.events → AreFound kinds l.budget l.events (take l.i l.initial.self.keys.keys) l.failing l.over;
+  marks : AreSameMarks (marks_in l.initial.self) (marks_in l.self);
+  judged : (kinds : ℤ → Kind) → AreRight l.initial.self kinds l.budget l.events → (j : ℕ) (key : ℤ) (object : Object) → j < l.i → slice_get l.initial.self.keys.keys j ≡ Some key
+      → slice_get l.self.objects.items j ≡ Some object → IsJudged kinds l.budget l.events key object;
   alive : l.failing ≡ None → l.over ≡ None → (j : ℕ) (object : Object) → j < l.i → slice_get l.self.objects.items j ≡ Some object → IsAlive object;
 }

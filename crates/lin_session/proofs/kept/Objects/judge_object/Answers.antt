@@ -1,4 +1,4 @@
-use Rattle.std.proofs.Common.{◌≡◌, ℕ, Contains, Some, [], slice_get, subst, sym, ◌∙◌, arith, to_z, of_z, w64}
+use Rattle.std.proofs.Common.{◌≡◌, ℕ, Contains, Some, [], slice_get, subst, sym, ap, ◌∙◌, arith, to_z, of_z, w64}
 use Rattle.std.proofs.lemmas.Int.{to_z-of_z}
 use Rattle.std.proofs.lemmas.Option.{slice_get_within}
 use Rattle.lin_session.specs.declared.answers.Verdict.TheVariants.{Yes, No}
@@ -90,3 +90,16 @@ returns-in_err-failing-in-Some-clause-settled c = λ all.
     let within = slice_get_within s.keys.keys c.in-Some.i c.args.key key_at in
     let o = element_at s.objects.items c.in-Some.i (omega (arith, within, s.aligned)) in
     absurd (not_ok c.judge_listed.result c.in_err-failing-in-Some.field-0.0 c.in_err-failing-in-Some.was (c.judge_listed.ensures.settled o.0 o.1 (all c.in-Some.i o.0 key_at o.1)))
+
+pub returns-in_ok-failing-in-Some-clause-judged : goal.returns-in_ok-failing-in-Some-clause-judged
+returns-in_ok-failing-in-Some-clause-judged c = λ kinds kept i key object same key_at object_at.
+    let found_at = listed_at (goal.at.returns-in_ok-failing-in-Some-clause-judged c).In-Some in
+    let key_now = subst (λ k. slice_get k.keys i ≡ Some key) c.judge_listed.ensures.keys key_at in
+    let here = one_place c.args.self.now.keys.keys c.requires.right.1.distinct i c.in-Some.i key key_now (found_at ∙ ap Some (sym same)) in
+    c.in_ok-failing-in-Some.ensures.judged kinds key object (ap (slice_get c.args.self.now.keys.keys) (sym here) ∙ key_now) kept
+    (ap (slice_get c.judge_listed.new.self.objects.items) (sym here) ∙ object_at)
+
+pub returns-in-None-clause-judged : goal.returns-in-None-clause-judged
+returns-in-None-clause-judged c = λ kinds kept i key object same key_at object_at.
+    let is_key : to_z w64 (of_z w64 c.args.key) ≡ c.args.key = to_z-of_z w64 c.args.key c.ranges.key in
+    absurd (c.in-None.ensures.none (subst (Contains c.args.self.now.keys.keys) (same ∙ sym is_key) (there_at c.args.self.now.keys.keys i key key_at)))

@@ -26,18 +26,18 @@ pub order-requires-clause-right : goal.order-requires-clause-right
 order-requires-clause-right c =
     let b = (goal.at.order-requires-clause-right c).After-index in
     let r = c.requires.right in
-    right_for c.positions_spell_parts.ensures r.0 r.1 c.args.self.now.split c.args.key c.index.result.now r.3 (r.2.each c.in-Some.i c.args.key c.index.result.now (key_at b) (stands b))
+    right_for c.positions_spell_parts.ensures r.0 r.1 r.2 c.args.self.now.split c.args.key c.index.result.now r.4 (r.3.each c.in-Some.i c.args.key c.index.result.now (key_at b) (stands b))
 
 pub returns-in-Some : goal.returns-in-Some
 returns-in-Some c =
     let b = (goal.at.returns-in-Some c).After-index in
     IfOk-weaker c.order.result _ _
-    (λ order told kinds h kept all fine.
-    order_told c.positions_spell_parts.ensures kinds h c.args.self.now.split c.args.key c.index.result.now all (kept.each c.in-Some.i c.args.key c.index.result.now (key_at b) (stands b))
+    (λ order told kinds budget h kept all fine.
+    order_told c.positions_spell_parts.ensures kinds budget h c.args.self.now.split c.args.key c.index.result.now all (kept.each c.in-Some.i c.args.key c.index.result.now (key_at b) (stands b))
     c.parts_keep_orders.ensures.renamed c.parts_keep_orders.ensures.all fine order.items told) c.order.ensures
 
 pub returns-in-None : goal.returns-in-None
-returns-in-None c = λ kinds h kept all fine.
+returns-in-None c = λ kinds budget h kept all fine.
     let is_key : to_z w64 (of_z w64 c.args.key) ≡ c.args.key = to_z-of_z w64 c.args.key c.ranges.key in
     subst (IsLegalOrderFor kinds c.args.key h) (sym c.new.ensures.items) (c.absent_keys_are_legal.ensures kinds h c.args.key (λ at event stands same.
     let below = slice_get_within h at event stands in

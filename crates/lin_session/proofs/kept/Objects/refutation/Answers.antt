@@ -25,26 +25,26 @@ stands c =
     object_at s.keys.keys s.objects.items c.in-Some.i c.args.key c.index-object.result.now s.aligned (key_at c) c.index-object.ensures
 
 -- the object, for the kinds that the caller knows
-there : (c : After-deref) → IsObject c.requires.right.0 c.args.events.now c.args.self.now.split c.args.key c.index-object.result.now
+there : (c : After-deref) → IsObject c.requires.right.0 c.args.budget c.args.events.now c.args.self.now.split c.args.key c.index-object.result.now
 there c = c.requires.right.1.each c.in-Some.i c.args.key c.index-object.result.now (key_at c) (stands c)
 
 pub refute-requires-clause-right : goal.refute-requires-clause-right
 refute-requires-clause-right c =
     subst (λ l. IsRight c.index-object.result.now.chain (events_at c.args.events.now l)) (sym c.deref.ensures.value)
-    (right_spelled c.positions_spell_parts.ensures c.requires.right.0 c.args.events.now c.args.self.now.split c.args.key c.index-object.result.now c.requires.split
+    (right_spelled c.positions_spell_parts.ensures c.requires.right.0 c.args.budget c.args.events.now c.args.self.now.split c.args.key c.index-object.result.now c.requires.split
     (there (goal.at.refute-requires-clause-right c).After-deref))
 
 pub refute-requires-clause-inside : goal.refute-requires-clause-inside
 refute-requires-clause-inside c =
     subst (λ l. (k : ℕ) (d : ℕ) → k < length l → get_or l k d < length c.args.events.now) (sym c.deref.ensures.value)
-    (picks_inside c.positions_spell_parts.ensures c.requires.right.0 c.args.events.now c.args.self.now.split c.args.key c.index-object.result.now c.requires.split
+    (picks_inside c.positions_spell_parts.ensures c.requires.right.0 c.args.budget c.args.events.now c.args.self.now.split c.args.key c.index-object.result.now c.requires.split
     (there (goal.at.refute-requires-clause-inside c).After-deref))
 
 pub refute-requires-clause-well_formed : goal.refute-requires-clause-well_formed
 refute-requires-clause-well_formed c =
     subst (λ l. (functions : ℤ → Name → Bool) × IsWellFormed functions (events_at c.args.events.now l)) (sym c.deref.ensures.value) (
       functions_of c.requires.right.0,
-      well_formed_spelled c.positions_spell_parts.ensures c.requires.right.0 c.args.events.now c.args.self.now.split c.args.key c.index-object.result.now c.requires.split
+      well_formed_spelled c.positions_spell_parts.ensures c.requires.right.0 c.args.budget c.args.events.now c.args.self.now.split c.args.key c.index-object.result.now c.requires.split
           (there (goal.at.refute-requires-clause-well_formed c).After-deref) c.parts_keep_operations.ensures.well_formed c.requires.right.2,
     )
 
@@ -54,7 +54,7 @@ returns-clause-refuted c =
     let o = c.index-object.result.now in
     IfOk-weaker c.refute.result _ _
     (λ refutation refutes kinds n kept dead.
-    refuted_in c.positions_spell_parts.ensures c.parts_of_prefixes.ensures.up_to kinds c.args.events.now c.args.self.now.split c.args.key o c.requires.split
+    refuted_in c.positions_spell_parts.ensures c.parts_of_prefixes.ensures.up_to kinds c.args.budget c.args.events.now c.args.self.now.split c.args.key o c.requires.split
     (kept.each c.in-Some.i c.args.key o (key_at b) (stands b)) n _ (dead.1 c.in-Some.i o (key_at b) (stands b))
     (rw (← c.deref.ensures.value) refutes)) c.refute.ensures.refuted
 
@@ -65,5 +65,5 @@ returns-clause-unrefuted c =
     let dead = c.requires.dead.1.1 c.in-Some.i o (key_at b) (stands b) in
     refused_for c.refute.result _ (λ is. (c.refute.ensures.not_dead.0 is) dead.at dead.dead)
     (λ is kinds kept.
-    over_in c.positions_spell_parts.ensures c.parts_of_prefixes.ensures.up_to kinds c.args.events.now c.args.self.now.split c.args.key o c.requires.split
-    (kept.each c.in-Some.i c.args.key o (key_at b) (stands b)) c.args.budget (rw (← c.deref.ensures.value) (c.refute.ensures.too_large is)))
+    over_in c.positions_spell_parts.ensures c.parts_of_prefixes.ensures.up_to kinds c.args.budget c.args.events.now c.args.self.now.split c.args.key o c.requires.split
+    (kept.each c.in-Some.i c.args.key o (key_at b) (stands b)) (rw (← c.deref.ensures.value) (c.refute.ensures.too_large is)))

@@ -1,4 +1,4 @@
-use Rattle.std.proofs.Common.{◌≡◌, Ok, ap, subst, take, ◌∙◌, to_z, of_z, w64}
+use Rattle.std.proofs.Common.{◌≡◌, Ok, ap, sym, subst, take, ◌∙◌, to_z, of_z, w64}
 use Rattle.std.proofs.lemmas.Int.{to_z-of_z}
 use Rattle.lin_objects.specs.Kinds.{kind_of}
 use Rattle.lin_order.specs.Parts.{part}
@@ -35,3 +35,13 @@ returns-in_ok-refutation-in-Ok-No-clause-refuted c =
       subst (λ key. IsAnswer now (Object key) (No n)) is_key answer,
       subst (λ key. IsRefutation (part key (take n c.args.events.now)) (K key) (sets_of c.in_ok-refutation-in-Ok-No.refutation)) is_key refutes,
     )
+
+pub returns-in_ok-refutation-in-Ok-No-clause-judged : goal.returns-in_ok-refutation-in-Ok-No-clause-judged
+returns-in_ok-refutation-in-Ok-No-clause-judged c = λ i key object same key_at object_at.
+    let is_key : to_z w64 (of_z w64 c.args.key) ≡ c.args.key = to_z-of_z w64 c.args.key c.ranges.key in
+    c.in-Ok-No.ensures.judged i key object (same ∙ sym is_key) key_at object_at
+
+pub returns-in-Ok-clause-judged : goal.returns-in-Ok-clause-judged
+returns-in-Ok-clause-judged c = λ i key object same key_at object_at.
+    let is_key : to_z w64 (of_z w64 c.args.key) ≡ c.args.key = to_z-of_z w64 c.args.key c.ranges.key in
+    c.in-Ok.ensures.judged i key object (same ∙ sym is_key) key_at object_at

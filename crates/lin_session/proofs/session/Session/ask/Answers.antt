@@ -6,6 +6,13 @@ use Rattle.lin_session.specs.Answers.{kinds_in}
 use Rattle.lin_session.specs.Sessions.{AreTakenIn, Standing}
 use Rattle.lin_session.proofs.Found.{not_ok}
 use Rattle.lin_session.proofs.Low.{AreTakenIn-more}
+use Rattle.std.proofs.Common.{List}
+use Rattle.lin_history.specs.declared.events.Event.{Event}
+use Rattle.lin_session.specs.Edits.{Present}
+use Rattle.lin_session.specs.Marks.{AreMarked, IsNothingDue, IsWithoutOrder}
+use Rattle.lin_session.specs.Objects.{AreRight, marks_in}
+use Rattle.lin_session.specs.Work.{mark_of}
+use Rattle.lin_session.proofs.Settling.{AreMarked-since}
 use Rattle.lin_session.proofs.session.Session.ask.Goals as goal
 
 pub ask-requires-clause-well_formed : goal.ask-requires-clause-well_formed
@@ -55,3 +62,54 @@ returns-in_err-answer-in-Good-clause-known c = λ none bad.
     let F = functions_of (kind_of c.self.inside.kinds) in
     let fine = subst (IsShape F c.self.inside.events.items) c.in-Good.is (subst (λ l. IsShape F l c.in_ok-settle.field-0) c.deref.ensures.value c.in_ok-settle.ensures.shape) in
     absurd (bad (subst (λ (s : Standing). IsWellFormed (functions_of (kinds_in s.present)) s.present.history) c.self.view_is fine))
+
+pub invariant_of-self-in-Good : goal.invariant_of-self-in-Good
+invariant_of-self-in-Good c =
+    let K = kind_of c.self.inside.kinds in
+    let split = c.in_ok-answer-in-Good.ensures.split in
+    record {
+      few = c.self.invariant.few;
+      budgeted = c.self.invariant.budgeted;
+      scanned = subst (IsRight c.settle.new.self K) c.deref.ensures.value c.settle.ensures.right;
+      taken_in = c.in_ok-settle.ensures.all ∙ ap length c.deref.ensures.value;
+      kept = subst (AreRight c.mark.new.self K c.self.inside.budget) c.deref-in-Good.ensures.value (c.mark.ensures.right K c.self.inside.budget c.deref-in-Good.result.now split c.ask.ensures.right c.in_ok-answer-in-Good.ensures.judged);
+      apart = λ none fine. c.mark.ensures.split ∙ split ∙ ap length c.deref-in-Good.ensures.value;
+    }
+
+pub returns-in_ok-answer-in-Good-clause-marked : goal.returns-in_ok-answer-in-Good-clause-marked
+returns-in_ok-answer-in-Good-clause-marked c = λ fine.
+    let K = kind_of c.self.inside.kinds in
+    let h = c.deref-in-Good.result.now in
+    let old = marks_in c.self.inside.objects in
+    let new = marks_in c.mark.new.self in
+    let are = c.mark.ensures.marks K c.self.inside.budget h c.in_ok-answer-in-Good.ensures.split c.ask.ensures.right c.in_ok-answer-in-Good.ensures.judged in
+    subst (λ (s : Standing). AreMarked (kinds_in s.present) s.present.budget s.present.history c.args.scope (mark_of s.marks) new) c.self.view_is
+    (subst (λ l. AreMarked K c.self.inside.budget l c.args.scope old new) c.deref-in-Good.ensures.value
+    (AreMarked-since K c.self.inside.budget h c.args.scope old (marks_in c.ask.new.self) new c.ask.ensures.marks are))
+
+pub returns-in_ok-answer-in-Good-clause-ill_formed : goal.returns-in_ok-answer-in-Good-clause-ill_formed
+returns-in_ok-answer-in-Good-clause-ill_formed c = λ bad.
+    let F = functions_of (kind_of c.self.inside.kinds) in
+    let fine = subst (IsShape F c.self.inside.events.items) c.in-Good.is (subst (λ l. IsShape F l c.in_ok-settle.field-0) c.deref.ensures.value c.in_ok-settle.ensures.shape) in
+    absurd (bad (subst (λ (s : Standing). IsWellFormed (functions_of (kinds_in s.present)) s.present.history) c.self.view_is fine))
+
+pub returns-in-Bad-clause-marked : goal.returns-in-Bad-clause-marked
+returns-in-Bad-clause-marked c = λ fine.
+    let F = functions_of (kind_of c.self.inside.kinds) in
+    let bad = subst (IsShape F c.self.inside.events.items) c.in-Bad.is (subst (λ l. IsShape F l c.in_ok-settle.field-0) c.deref.ensures.value c.in_ok-settle.ensures.shape) in
+    let fine_inside = subst (λ (s : Standing). IsWellFormed (functions_of (kinds_in s.present)) s.present.history) (sym c.self.view_is) fine in
+    absurd (fine_inside c.in-Bad.at c.in-Bad.cause bad.0)
+
+pub returns-in_err-answer-in-Good-clause-ready : goal.returns-in_err-answer-in-Good-clause-ready
+returns-in_err-answer-in-Good-clause-ready c = λ none nothing without.
+    let F = functions_of (kind_of c.self.inside.kinds) in
+    let h = c.self.inside.events.items in
+    let old = marks_in c.self.inside.objects in
+    let low : c.self.inside.low ≡ None = ap (λ (s : Standing). s.low) c.self.view_is ∙ none in
+    let fine = subst (IsShape F h) c.in-Good.is (subst (λ l. IsShape F l c.in_ok-settle.field-0) c.deref.ensures.value c.in_ok-settle.ensures.shape) in
+    let there = sym c.deref-in-Good.ensures.value in
+    let apart = c.self.invariant.apart low fine ∙ ap length there in
+    let nothing_inside = subst (λ l. IsNothingDue l c.args.scope old) there (subst (λ (s : Standing). IsNothingDue s.present.history c.args.scope (mark_of s.marks)) (sym c.self.view_is) nothing) in
+    let present_of : List Event → Present = λ l. record { history = l; kinds = c.self.inside.kinds; budget = c.self.inside.budget } in
+    let without_inside = subst (λ l. IsWithoutOrder (present_of l) c.args.scope old) there (subst (λ (s : Standing). IsWithoutOrder s.present c.args.scope (mark_of s.marks)) (sym c.self.view_is) without) in
+    absurd (not_ok c.ask.result c.in_err-answer-in-Good.field-0.0 c.in_err-answer-in-Good.was (c.ask.ensures.ready apart nothing_inside without_inside))

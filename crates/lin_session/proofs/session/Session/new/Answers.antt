@@ -7,7 +7,7 @@ invariant_of-result c = record {
   few = rw c.new.ensures.items (omega arith);
   budgeted = search rules;
   scanned = c.new-3.ensures.right _ _;
-  kept = c.new-4.ensures _ _;
+  kept = c.new-4.ensures.right _ _ _;
   taken_in = omega (arith, c.new-3.ensures.ready, ap length c.new.ensures.items);
-  apart = λ none fine. let within = (c.new-4.ensures (kind_of c.new-2.result) c.new.result.items).within in omega (arith, within, ap length c.new.ensures.items);
+  apart = λ none fine. let within = (c.new-4.ensures.right (kind_of c.new-2.result) 0 c.new.result.items).within in omega (arith, within, ap length c.new.ensures.items);
 }

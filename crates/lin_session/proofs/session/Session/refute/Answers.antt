@@ -7,6 +7,11 @@ use Rattle.lin_session.specs.Answers.{kinds_in}
 use Rattle.lin_session.specs.Refuting.{IsUnrefuted}
 use Rattle.lin_session.specs.Sessions.{Standing}
 use Rattle.lin_session.proofs.Found.{passed_on}
+use Rattle.lin_session.specs.declared.answers.Scope.TheVariants.{Object}
+use Rattle.lin_session.specs.Marks.{AreMarked}
+use Rattle.lin_session.specs.Objects.{AreRight, marks_in}
+use Rattle.lin_session.specs.Work.{mark_of}
+use Rattle.lin_session.proofs.Settling.{AreMarked-since}
 use Rattle.lin_session.proofs.session.Session.refute.Goals as goal
 
 pub refute-requires-clause-well_formed : goal.refute-requires-clause-well_formed
@@ -48,3 +53,42 @@ returns-in-Bad-clause-refuted c =
           (subst (IsShape F c.self.inside.events.items) c.in-Bad.is (subst (λ l. IsShape F l c.in-Ok.shape) c.deref.ensures.value c.in-Ok.ensures.shape)),
       λ n same. cc same,
     )
+
+pub invariant_of-self-in-Good : goal.invariant_of-self-in-Good
+invariant_of-self-in-Good c =
+    let K = kind_of c.self.inside.kinds in
+    let split = c.in_ok-refuted-in-Good.ensures.split in
+    record {
+      few = c.self.invariant.few;
+      budgeted = c.self.invariant.budgeted;
+      scanned = subst (IsRight c.settle.new.self K) c.deref.ensures.value c.settle.ensures.right;
+      taken_in = c.in-Ok.ensures.all ∙ ap length c.deref.ensures.value;
+      kept = subst (AreRight c.mark.new.self K c.self.inside.budget) c.deref-in-Good.ensures.value (c.mark.ensures.right K c.self.inside.budget c.deref-in-Good.result.now split c.refute.ensures.right c.in_ok-refuted-in-Good.ensures.judged);
+      apart = λ none fine. c.mark.ensures.split ∙ split ∙ ap length c.deref-in-Good.ensures.value;
+    }
+
+pub returns-in_ok-refuted-in-Good-clause-marked : goal.returns-in_ok-refuted-in-Good-clause-marked
+returns-in_ok-refuted-in-Good-clause-marked c = λ fine.
+    let is_key : to_z w64 (of_z w64 c.args.key) ≡ c.args.key = to_z-of_z w64 c.args.key c.ranges.key in
+    let K = kind_of c.self.inside.kinds in
+    let h = c.deref-in-Good.result.now in
+    let old = marks_in c.self.inside.objects in
+    let new = marks_in c.mark.new.self in
+    let are = c.mark.ensures.marks K c.self.inside.budget h c.in_ok-refuted-in-Good.ensures.split c.refute.ensures.right c.in_ok-refuted-in-Good.ensures.judged in
+    subst (λ (s : Standing). AreMarked (kinds_in s.present) s.present.budget s.present.history (Object c.args.key) (mark_of s.marks) new) c.self.view_is
+    (subst (λ l. AreMarked K c.self.inside.budget l (Object c.args.key) old new) c.deref-in-Good.ensures.value
+    (subst (λ k. AreMarked K c.self.inside.budget h (Object k) old new) is_key
+    (AreMarked-since K c.self.inside.budget h _ old (marks_in c.refute.new.self) new c.refute.ensures.marks are)))
+
+pub returns-in_ok-refuted-in-Good-clause-ill_formed : goal.returns-in_ok-refuted-in-Good-clause-ill_formed
+returns-in_ok-refuted-in-Good-clause-ill_formed c = λ bad.
+    let F = functions_of (kind_of c.self.inside.kinds) in
+    let fine = subst (IsShape F c.self.inside.events.items) c.in-Good.is (subst (λ l. IsShape F l c.in-Ok.shape) c.deref.ensures.value c.in-Ok.ensures.shape) in
+    absurd (bad (subst (λ (s : Standing). IsWellFormed (functions_of (kinds_in s.present)) s.present.history) c.self.view_is fine))
+
+pub returns-in-Bad-clause-marked : goal.returns-in-Bad-clause-marked
+returns-in-Bad-clause-marked c = λ fine.
+    let F = functions_of (kind_of c.self.inside.kinds) in
+    let bad = subst (IsShape F c.self.inside.events.items) c.in-Bad.is (subst (λ l. IsShape F l c.in-Ok.shape) c.deref.ensures.value c.in-Ok.ensures.shape) in
+    let fine_inside = subst (λ (s : Standing). IsWellFormed (functions_of (kinds_in s.present)) s.present.history) (sym c.self.view_is) fine in
+    absurd (fine_inside c.in-Bad.at c.in-Bad.cause bad.0)

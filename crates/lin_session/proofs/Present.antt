@@ -1,0 +1,20 @@
+-- An object that has an event.
+use Rattle.std.proofs.Common.{◌≡◌, ◌<◌, ℕ, suc, ℤ, Bool, true, false, List, [], ◌∷◌, length, refl, sym, ap, ◌∙◌, arith}
+use Rattle.std.specs.Ordering.{int_eq}
+use Rattle.std.proofs.lemmas.Bool.{false≢true}
+use Rattle.std.proofs.lemmas.Bool.Decides.{Decides-int_eq}
+use Rattle.lin_history.specs.declared.events.Event.{Event}
+use Rattle.lin_history.specs.Operations.{IsEvent}
+use Rattle.lin_order.specs.Parts.{part}
+use Rattle.lin_session.proofs.Around.{part-same}
+
+pub event_there : (h : List Event) (key : ℤ) → 0 < length (part key h) → (at : ℕ) × (event : Event) × IsEvent h at event × (event.key ≡ key)
+event_there [] key some = absurd (omega (arith, some))
+event_there (event ∷ h) key some = by (λ more. event_there h key more) (int_eq event.key key) refl
+  where
+    by : (0 < length (part key h) → (at : ℕ) × (e : Event) × IsEvent h at e × (e.key ≡ key)) → (b : Bool) → int_eq event.key key ≡ b → (at : ℕ) × (e : Event) × IsEvent (event ∷ h) at e × (e.key ≡ key)
+    by rest true e = (0, event, refl, (Decides-int_eq event.key key).0 e)
+    by rest false e =
+        let more : 0 < length (part key h) = omega (arith, some, ap length (part-same key event h (λ same. false≢true (sym e ∙ (Decides-int_eq event.key key).1 same)))) in
+        let r = rest more in
+        (suc r.0, r.1, r.2, r.3)

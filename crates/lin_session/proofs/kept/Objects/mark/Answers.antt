@@ -1,0 +1,63 @@
+use Rattle.std.proofs.Common.{◌≡◌, ◌∙◌, length, map, set, ap, sym, subst, slice_get, Some, Contains, to_z, of_z, w64, rules}
+use Rattle.std.proofs.lemmas.Int.{to_z-of_z}
+use Rattle.std.proofs.lemmas.List.{length-set, length-map}
+use Rattle.lin_session.specs.Objects.{AreKept, listed_marks, settled_object}
+use Rattle.lin_session.specs.Marks.{AreMarked}
+use Rattle.lin_session.specs.Work.{mark_of}
+use Rattle.lin_session.proofs.Found.{object_at}
+use Rattle.lin_session.proofs.Settling.{AreSet, AreKept-marked, AreMarked-set, AreSet-all, AreSet-none, AreSet-one}
+use Rattle.lin_session.proofs.kept.Objects.mark.Goals as goal
+use Rattle.lin_session.proofs.kept.Objects.mark.Goals.{After-mark}
+
+key_at : (c : After-mark) → slice_get c.args.self.now.keys.keys c.in-Some.i ≡ Some c.in-Object.key
+key_at c =
+    let is_key : to_z w64 (of_z w64 c.in-Object.key) ≡ c.in-Object.key = to_z-of_z w64 c.in-Object.key (search rules) in
+    c.in-Some.ensures.found ∙ ap Some is_key
+
+old_at : (c : After-mark) → slice_get c.args.self.now.objects.items c.in-Some.i ≡ Some c.index_mut.result.now
+old_at c =
+    let s = c.args.self.now in
+    object_at s.keys.keys s.objects.items c.in-Some.i c.in-Object.key c.index_mut.result.now s.aligned (key_at c) c.index_mut.ensures.value
+
+long : (c : After-mark) → length (set c.args.self.now.objects.items c.in-Some.i c.mark.new.self) ≡ length c.args.self.now.keys.keys
+long c = length-set c.args.self.now.objects.items c.in-Some.i c.mark.new.self ∙ c.args.self.now.aligned
+
+pub returns-in-Some-clause-right : goal.returns-in-Some-clause-right
+returns-in-Some-clause-right c = λ kinds budget h all kept judged.
+    let b = (goal.at.returns-in-Some-clause-right c).After-mark in
+    let s = c.args.self.now in
+    let are = AreSet-one s.keys.keys s.objects.items kept.distinct s.aligned c.in-Some.i c.in-Object.key c.index_mut.result.now c.mark.new.self (key_at b) (old_at b) c.mark.ensures in
+    AreKept-marked c.positions_spell_parts.ensures kinds budget h s.split s.keys.keys s.objects.items _ c.args.scope all kept s.aligned (long b)
+    (subst (λ q. AreSet q s.keys.keys s.objects.items (set s.objects.items c.in-Some.i c.mark.new.self)) (sym c.in-Object.is) are) judged
+
+pub returns-in-Some-clause-marks : goal.returns-in-Some-clause-marks
+returns-in-Some-clause-marks c = λ kinds budget h all kept judged.
+    let b = (goal.at.returns-in-Some-clause-marks c).After-mark in
+    let s = c.args.self.now in
+    let are = AreSet-one s.keys.keys s.objects.items kept.distinct s.aligned c.in-Some.i c.in-Object.key c.index_mut.result.now c.mark.new.self (key_at b) (old_at b) c.mark.ensures in
+    AreMarked-set c.positions_spell_parts.ensures kinds budget h s.split s.keys.keys s.objects.items _ c.args.scope all kept s.aligned (long b)
+    (subst (λ q. AreSet q s.keys.keys s.objects.items (set s.objects.items c.in-Some.i c.mark.new.self)) (sym c.in-Object.is) are) judged
+
+pub returns-in_default-clause-marks : goal.returns-in_default-clause-marks
+returns-in_default-clause-marks c = λ kinds budget h all kept judged.
+    let s = c.args.self.now in
+    let is_key : to_z w64 (of_z w64 c.in-Object.key) ≡ c.in-Object.key = to_z-of_z w64 c.in-Object.key (search rules) in
+    let are = AreSet-none s.keys.keys s.objects.items c.in-Object.key (λ there. c.in_default.ensures.none (subst (Contains s.keys.keys) (sym is_key) there)) in
+    AreMarked-set c.positions_spell_parts.ensures kinds budget h s.split s.keys.keys s.objects.items s.objects.items c.args.scope all kept s.aligned s.aligned
+    (subst (λ q. AreSet q s.keys.keys s.objects.items s.objects.items) (sym c.in-Object.is) are) judged
+
+pub returns-in-Whole-clause-right : goal.returns-in-Whole-clause-right
+returns-in-Whole-clause-right c = λ kinds budget h all kept judged.
+    let s = c.args.self.now in
+    subst (AreKept kinds budget h s.split s.keys.keys) (sym c.mark_all.ensures)
+    (AreKept-marked c.positions_spell_parts.ensures kinds budget h s.split s.keys.keys s.objects.items (map settled_object s.objects.items) c.args.scope all kept s.aligned
+    (length-map s.objects.items settled_object ∙ s.aligned)
+    (subst (λ q. AreSet q s.keys.keys s.objects.items (map settled_object s.objects.items)) (sym c.in-Whole.is) (AreSet-all s.keys.keys s.objects.items)) judged)
+
+pub returns-in-Whole-clause-marks : goal.returns-in-Whole-clause-marks
+returns-in-Whole-clause-marks c = λ kinds budget h all kept judged.
+    let s = c.args.self.now in
+    subst (λ l. AreMarked kinds budget h c.args.scope (mark_of (listed_marks s.keys.keys s.objects.items)) (mark_of (listed_marks s.keys.keys l))) (sym c.mark_all.ensures)
+    (AreMarked-set c.positions_spell_parts.ensures kinds budget h s.split s.keys.keys s.objects.items (map settled_object s.objects.items) c.args.scope all kept s.aligned
+    (length-map s.objects.items settled_object ∙ s.aligned)
+    (subst (λ q. AreSet q s.keys.keys s.objects.items (map settled_object s.objects.items)) (sym c.in-Whole.is) (AreSet-all s.keys.keys s.objects.items)) judged)

@@ -1,0 +1,6 @@
+use Rattle.std.proofs.Common.{◌≡◌, ◌++◌, map, take, drop}
+use Rattle.lin_session.specs.Objects.{raised_object}
+use Rattle.lin_session.proofs.object.raise_all.Given as goal
+
+abbrev pub invariant-loop-object : goal.invariant-loop-object
+invariant-loop-object l = l.object-items ≡ map raised_object (take l.object-index l.fn.objects.items) ++ drop l.object-index l.fn.objects.items
