@@ -12,3 +12,4 @@ pub mod MemberExamples
 pub mod Placing
 pub mod Searching
 pub mod Compressed
+pub mod Listed
