@@ -1,6 +1,6 @@
 -- Members with nothing on offer, gathered from the choices of members one after the other, and what placing operations makes of them.
 use Rattle.std.proofs.Common.{◌≡◌, ◌⊎◌, ℕ, ℤ, zero, suc, ◌+◌, ◌<◌, ◌≤◌, Bool, true, false, List, [], ◌∷◌, ◌++◌, length, map, take, Contains, All, get_or, inl, inr, refl, sym, subst, arith, Option}
-use Rattle.std.proofs.lemmas.List.Elements.{All-contains, All-weaker, All-append, Contains-append_left, Contains-get_or}
+use Rattle.std.proofs.lemmas.List.Elements.{All-contains, All-append, Contains-append_left, Contains-get_or}
 use Rattle.lin_history.specs.declared.calls.Call.{Call}
 use Rattle.lin_history.specs.declared.calls.Name.{Name}
 use Rattle.lin_history.specs.declared.calls.Reply.{Reply}
@@ -25,10 +25,6 @@ use Rattle.lin_frontier.proofs.Awaiting.{open_pending, placing_pending}
 use Rattle.lin_frontier.proofs.Choices.{choices_lead}
 use Rattle.lin_frontier.proofs.Dominating.{complete_within, covers_on, passes_itself}
 use Rattle.lin_frontier.proofs.Expanding.{extended_keeps, extended_bare}
-use Rattle.lin_frontier.proofs.Choosing.{all_from}
-use Rattle.lin_frontier.proofs.Visiting.{grown_grown}
-use Rattle.lin_frontier.proofs.Expanding.{extended_bare, extended_keeps}
-use Rattle.lin_frontier.proofs.Merging.{alone_spelled}
 use Rattle.lin_frontier.proofs.Inserting.{absent_from, insert_is}
 use Rattle.lin_frontier.proofs.Onward.{from_map, in_map, spelled_rising, spelled_stays}
 use Rattle.lin_frontier.proofs.Pruned.{dominates_to}
@@ -99,61 +95,3 @@ module _ {S : Type 0} (start : S) (step : S → Call → S → Reply → Type 0)
           let n = held.0 in
           let e = dominates_to functions h pending opened unique ((alternating functions h).0 well_formed) observes n.0 d.0 d.1 [] (spelled_rising start step observes h nodes n (spelled n held.1)) held.2 in
           (n.0, in_map (λ (k : Member S × Path). k.0) out n held.1, covers_from (HasCrashed h) (config_of n) d e.same e.part e.rest)
-
-  -- the choices of the member are held
-  abbrev pub AreChosen : List (ℕ × (Placed × Option ℕ)) → List (Member S × Path) → Member S × Path → Type 0
-  AreChosen first all m = (found : List (Member S × Path)) × Contains found (with_offers [] m) × AreWorkedOff step observes pending m.0.offers false found
-      × ((functions : ℤ → Name → Bool) (h : List Event) → IsWellFormed functions h → IsPending h pending → IsSpelled start step observes h first m
-      → (n : Member S × Path) → Contains found n → (nodes : List (ℕ × (Placed × Option ℕ))) × IsSpelled start step observes h nodes (with_offers m.0.offers n))
-      × ((n : Member S × Path) → Contains found n → IsHeld observes pending all (config_of n))
-
-  -- those of the first members are
-  pub record IsGathering (first nodes : List (ℕ × (Placed × Option ℕ))) (members firsts all : List (Member S × Path)) : Type 0 where
-    pub nodes_grown : IsGrown first nodes
-    pub bare : All (λ m. m.0.offers ≡ []) all
-    pub different : AreDifferent all
-    pub spelled : (functions : ℤ → Name → Bool) (h : List Event) → IsWellFormed functions h → IsPending h pending → ((m : Member S × Path) → Contains members m → IsSpelled start step observes h first m)
-        → All (λ n. IsSpelled start step observes h nodes (with_offers [] n)) all
-    pub chosen : All (AreChosen first all) firsts
-
-  module _ (first mid after : List (ℕ × (Placed × Option ℕ))) (members firsts all then' found : List (Member S × Path)) (m : Member S × Path) (m_there : Contains members m)
-      (e : IsExtended start step observes pending m.0.offers mid after (with_offers [] m ∷ []) found) (w : AreWorkedOff step observes pending m.0.offers false found) (g : IsMerged observes pending found all then')
-      (h : IsGathering first mid members firsts all) where
-    ways : (functions : ℤ → Name → Bool) (h' : List Event) → IsWellFormed functions h' → IsPending h' pending → IsSpelled start step observes h' first m → All (λ n. IsSpelled start step observes h' after (with_offers m.0.offers n)) found
-    ways functions h' well_formed opened s = e.spelled functions h' well_formed opened (alone_spelled start step observes h' mid m (with_offers [] m ∷ []) refl (spelled_stays start step observes h' first mid m h.nodes_grown s))
-
-    still : (k : Member S × Path) → AreChosen first all k → AreChosen first then' k
-    still k a = (a.0, a.1, a.2, a.3, λ n there. let held = a.4 n there in (held.0, g.kept held.0 held.1, held.2))
-
-    this : AreChosen first then' m
-    this = (
-      found,
-      extended_keeps start step observes pending m.0.offers mid after (with_offers [] m ∷ []) found e (with_offers [] m) (0, omega arith, refl),
-      w,
-      λ functions h' well_formed opened s n there. (after, All-contains (λ (n : Member S × Path). IsSpelled start step observes h' after (with_offers m.0.offers n)) found n (ways functions h' well_formed opened s) there),
-      g.held,
-    )
-
-    pub chosen_next : All (AreChosen first then') firsts × AreChosen first then' m
-    chosen_next = (All-weaker (AreChosen first all) (AreChosen first then') still firsts h.chosen, this)
-
-    one_bare : All (λ n. n.0.offers ≡ []) (with_offers [] m ∷ [])
-    one_bare zero d inside = refl
-    one_bare (suc i) d inside = absurd (omega arith)
-
-    pub gathering_next : (firsts' : List (Member S × Path)) → All (AreChosen first then') firsts' → IsGathering first after members firsts' then'
-    gathering_next firsts' chosen = record {
-      nodes_grown = grown_grown first mid after h.nodes_grown e.nodes_grown;
-      bare = all_from (λ (n : Member S × Path). n.0.offers ≡ []) then' (λ n there. elim (g.from n there) [
-        | inl old ↦ All-contains (λ (n : Member S × Path). n.0.offers ≡ []) all n h.bare old
-        | inr new ↦ All-contains (λ (n : Member S × Path). n.0.offers ≡ []) found n (extended_bare start step observes pending m.0.offers mid after (with_offers [] m ∷ []) found e one_bare) new
-      ]);
-      different = g.different h.different;
-      spelled = λ functions h' well_formed opened each. all_from (λ (n : Member S × Path). IsSpelled start step observes h' after (with_offers [] n)) then' (λ n there. elim (g.from n there) [
-        | inl old ↦ spelled_stays start step observes h' mid after (with_offers [] n) e.nodes_grown
-            (All-contains (λ (n : Member S × Path). IsSpelled start step observes h' mid (with_offers [] n)) all n (h.spelled functions h' well_formed opened each) old)
-        | inr new ↦ spelled_bare h' after m.0.offers n
-            (All-contains (λ (n : Member S × Path). IsSpelled start step observes h' after (with_offers m.0.offers n)) found n (ways functions h' well_formed opened (each m m_there)) new)
-      ]);
-      chosen = chosen;
-    }

@@ -1,24 +1,22 @@
 //! All configurations that members lead to, each as a member of its own with nothing on offer.
-ghost use Rattle.std.specs.Prelude.{◌≡◌, ◌≤◌, ◌*◌, ◌∷◌, [], ℤ, length, false, All, Bool, List, IfOk, IfSome, IfNone, OnOk};
+ghost use Rattle.std.specs.Prelude.{◌≡◌, ◌∷◌, [], ℤ, false, All, Bool, List, IfOk, IfSome, IfNone, OnOk};
 ghost use Rattle.lin_history.specs.declared.calls.Name.{Name as NameOf};
 ghost use Rattle.lin_history.specs.declared.events.Event.{Event as EventOf};
 ghost use Rattle.lin_history.specs.WellFormed.{IsWellFormed};
-ghost use Rattle.lin_frontier.specs.Compressed.{IsCovering, IsSpelled};
+ghost use Rattle.lin_frontier.specs.Compressed.{IsSpelled};
 ghost use Rattle.lin_frontier.specs.Frontiers.{IsOver, IsPending};
-ghost use Rattle.lin_frontier.specs.Listed.{with_offers, AreDifferent, AreWorkedOff, IsExtended, IsListingOf, IsMerged};
+ghost use Rattle.lin_frontier.specs.Listed.{with_offers, AreWorkedOff, IsExtended, IsMerged};
 ghost use Rattle.lin_frontier.specs.Nodes.{IsGrown};
 ghost use Rattle.lin_frontier.specs.Walks.{IsTriedAtMost};
 
 use crate::completions::push_member;
 use crate::domination::is_dominated;
 use crate::expansion::Expansion;
-use crate::member_laws::members_cover_configurations;
 use crate::members::{Member, bare};
 use crate::offers::Offers;
 use crate::pending::Open;
-use crate::round_laws::rounds_spell_members;
 use crate::rounds::RoundNodes;
-use lin_history::{Meter, OutOfMemory, ends_are_unique, well_formed_is_alternating};
+use lin_history::{Meter, OutOfMemory};
 use lin_objects::SeqObject;
 use std::alloc::Global;
 
@@ -69,51 +67,4 @@ fn merge<O: SeqObject>(
         push_member(members, member)?;
     }
     Ok(())
-}
-
-/// Each configuration that the members lead to, but for covered ones, or `None` where these are more than the budget.
-pub fn listed<O: SeqObject>(
-    object: &O,
-    alloc: Global,
-    pending: &[Open],
-    members: &[Member<O::State>],
-    budget: usize,
-    nodes: &mut RoundNodes,
-    meter: &mut Meter,
-) -> Result<Option<Vec<Member<O::State>>>, OutOfMemory>
-    ensures grown { IsGrown nodes.old nodes.new }
-    ensures listing { IfOk result (λ found. IfSome found (λ out. (functions : ℤ → NameOf → Bool) (h : List EventOf) → IsWellFormed functions h → IsPending h pending.now
-        → IsCovering (O.starts object.now) (O.step object.now) (O.observing object.now) h members.now nodes.old
-        → IsListingOf (O.starts object.now) (O.step object.now) (O.observing object.now) h out.items nodes.new)) }
-    ensures bare { IfOk result (λ found. IfSome found (λ out. All (λ m. m.0.offers ≡ []) out.items)) }
-    ensures different { IfOk result (λ found. IfSome found (λ out. AreDifferent out.items)) }
-    ensures small { IfOk result (λ found. IfSome found (λ out. length out.items ≤ budget)) }
-    ensures over { IfOk result (λ found. IfNone found ((functions : ℤ → NameOf → Bool) (h : List EventOf) → IsWellFormed functions h → IsPending h pending.now
-        → IsCovering (O.starts object.now) (O.step object.now) (O.observing object.now) h members.now nodes.old
-        → IsOver (O.starts object.now) (O.step object.now) h budget)) }
-    ensures tried { IsTriedAtMost (budget * length pending.now) meter.old meter.new }
-{
-    well_formed_is_alternating();
-    ends_are_unique();
-    members_cover_configurations(object);
-    rounds_spell_members(object);
-    let mut all = Vec::new(alloc);
-    for member in members {
-        let Some(found) = spread(object, alloc, pending, member, budget, nodes, meter)? else {
-            return Ok(None);
-        };
-        merge(object, pending, found, &mut all)?;
-        if all.len() > budget {
-            return Ok(None);
-        }
-    }
-    let none = Offers::new(alloc);
-    let placing = Expansion {
-        object,
-        pending,
-        offers: &none,
-        places: true,
-    };
-    let found = placing.reach(alloc, all, budget, nodes, meter)?;
-    Ok(found)
 }
