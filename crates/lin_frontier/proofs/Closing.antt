@@ -212,9 +212,9 @@ pub longer : {A : Type 0} (at : ℕ) (xs ys added : List A) → at < length xs �
 longer at xs ys added below e = let long = ap length e ∙ length-append xs added in omega arith
 
 -- nodes that were only added can be cut off again
-pub cut_back : {A : Type 0} (before now : List A) → IsGrown before now → take (length before) now ≡ before
-cut_back {A} before now grown = ap (take (length before)) grown.1 ∙ by before
+pub cut_back : (before now : List (ℕ × Placed)) → IsGrown before now → take (length before) now ≡ before
+cut_back before now grown = ap (take (length before)) grown.1 ∙ by before
   where
-    by : (xs : List A) → take (length xs) (xs ++ grown.0) ≡ xs
+    by : (xs : List (ℕ × Placed)) → take (length xs) (xs ++ grown.0) ≡ xs
     by [] = refl
     by (x ∷ xs) = ap (λ l. x ∷ l) (by xs)

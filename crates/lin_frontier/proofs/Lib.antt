@@ -16,14 +16,13 @@ pub mod Spelling
 pub mod Marking
 pub mod PendingAfter
 pub mod Offering
-pub mod Undominated
 pub mod InRounds
 pub mod Each
 pub mod Choosing
 pub mod Ways
 pub mod Following
 pub mod Dominating
-pub mod Crashes
+pub mod Passing
 pub mod Lasting
 pub mod Taking
 pub mod Returning
@@ -44,10 +43,5 @@ pub mod Leading
 pub mod Making
 pub mod Pruned
 pub mod Onward
+pub mod PruningMembers
 pub mod Returned
-pub mod Answering
-pub mod Compressing
-pub mod Expanding
-pub mod Merging
-pub mod Choices
-pub mod Gathering

@@ -1,12 +1,12 @@
 -- The rounds of members after an ok.
-use Rattle.std.proofs.Common.{◌≡◌, ◌⊎◌, ◌≢◌, ℕ, ℤ, suc, Bool, true, List, [], ◌∷◌, ◌++◌, length, length-append, Contains, inl, inr, refl, sym, ap, subst, ◌∙◌, arith, Option}
+use Rattle.std.proofs.Common.{◌≡◌, ◌⊎◌, ◌≢◌, ℕ, ℤ, zero, suc, ◌+◌, ◌<◌, ◌≤◌, Bool, true, false, List, [], ◌∷◌, ◌++◌, length, length-append, Contains, All, inl, inr, refl, sym, ap, subst, ◌∙◌, arith, Option, Some, None}
 use Rattle.std.proofs.lemmas.List.Elements.{Contains-append_cases}
 use Rattle.std.proofs.lemmas.Option.{slice_get_within}
 use Rattle.lin_history.specs.declared.calls.Call.{Call}
 use Rattle.lin_history.specs.declared.calls.Name.{Name}
 use Rattle.lin_history.specs.declared.calls.Reply.{Reply}
 use Rattle.lin_history.specs.declared.events.Body.{Body}
-use Rattle.lin_history.specs.declared.events.Body.TheVariants.{Invoke, Ok}
+use Rattle.lin_history.specs.declared.events.Body.TheVariants.{Invoke, Ok, Fail, Info}
 use Rattle.lin_history.specs.declared.events.Event.{Event}
 use Rattle.lin_history.specs.Alternation.{IsAlternating}
 use Rattle.lin_history.specs.Operations.{IsOpen}
@@ -16,17 +16,18 @@ use Rattle.lin_history.proofs.Lists.{get_cases}
 use Rattle.lin_history.proofs.OneMore.{open_before}
 use Rattle.lin_order.specs.declared.placed.Placed.{Placed}
 use Rattle.lin_order.specs.ConfigurationLaws.{with_event}
-use Rattle.lin_order.specs.Configurations.{IsAdded}
+use Rattle.lin_order.specs.Configurations.{IsRising, IsAdded, IsPlacing}
 use Rattle.lin_frontier.specs.declared.members.Path.{Path}
 use Rattle.lin_frontier.specs.declared.pending.Open.{Open}
 use Rattle.lin_frontier.specs.Compressed.{IsSpelled}
+use Rattle.lin_frontier.specs.Covers.{HasCrashed}
 use Rattle.lin_frontier.specs.Frontiers.{IsPending}
 use Rattle.lin_frontier.specs.Members.{Member, IsWatching, IsGiven}
-use Rattle.lin_frontier.specs.Placing.{IsAbsent, insert_pair}
+use Rattle.lin_frontier.specs.Placing.{IsAbsent, insert_pair, without}
 use Rattle.lin_frontier.specs.RoundLaws.{FewerLaw, OffersFrom, TrailPlacesLaw, TrailOkLaw, TrailObserverLaw, TrailReturnLaw}
 use Rattle.lin_frontier.specs.Rounds.{SpellsRounds, begin_round, put, begins, puts}
-use Rattle.lin_frontier.specs.Searching.{is_watching, rest_of, GivesAny, IsAnswered, IsFromBehind, IsReached, start, next, IsReturned, IsReturnOf}
-use Rattle.lin_frontier.proofs.Crashes.{crash_kept, passes_ok}
+use Rattle.lin_frontier.specs.Searching.{is_watching, watched, copy_of, rest_of, GivesAny, IsAnswered, IsCompleted, IsFromBehind, IsMade, IsReached, start, next, IsReturned, IsReturnOf, IsSuccessor}
+use Rattle.lin_frontier.proofs.Passing.{crash_kept, crash_before, ok_no_info, passes_ok}
 use Rattle.lin_frontier.proofs.Following.{Passes}
 use Rattle.lin_frontier.proofs.Inserting.{absent_from, none_from, passed_by, insert_added, taken_out}
 use Rattle.lin_frontier.proofs.Joining.{put_many}

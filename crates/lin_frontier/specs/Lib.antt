@@ -12,4 +12,3 @@ pub mod MemberExamples
 pub mod Placing
 pub mod Searching
 pub mod Compressed
-pub mod Listed

@@ -1,5 +1,5 @@
 -- Searching the ways of members for a reply: words of private contracts. The operations are those that are open beside the one that completes.
-use Rattle.std.specs.Prelude.{◌≡◌, ◌≢◌, ◌⊎◌, ◌&&◌, ℕ, suc, ◌+◌, Bool, true, false, not, nat_eq, List, [], ◌∷◌, ◌++◌, All, AllPairs, Contains, Option, Some, None, slice_get, filter}
+use Rattle.std.specs.Prelude.{◌≡◌, ◌≢◌, ◌⊎◌, ◌&&◌, ℕ, suc, ◌+◌, ◌<◌, Bool, true, false, not, nat_eq, List, [], ◌∷◌, ◌++◌, All, AllPairs, Contains, Option, Some, None, slice_get, filter}
 use Rattle.std.specs.List.{list_any}
 use Rattle.lin_history.specs.declared.calls.Call.{Call}
 use Rattle.lin_history.specs.declared.calls.Name.{Name}

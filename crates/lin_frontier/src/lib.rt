@@ -6,11 +6,9 @@ mod compressed;
 mod configs;
 mod covering;
 mod domination;
-mod expansion;
 mod frontier;
 mod groups;
 mod keeping;
-mod listed;
 mod member_examples;
 mod member_laws;
 mod members;
@@ -23,10 +21,7 @@ mod rounds;
 mod search;
 #[cfg(test)]
 mod tests;
-#[cfg(test)]
-mod tests_compressed;
 
-pub use compressed::{Advance, Compressed};
 pub use configs::Config;
 pub use covering::covers_spell_legal_orders;
 pub use frontier::{Frontier, Step};

@@ -1,5 +1,5 @@
 -- Domination among the members of a list, and taking out of it what others dominate.
-use Rattle.std.proofs.Common.{◌≡◌, ◌⊎◌, ℕ, true, false, Bool, List, [], ◌∷◌, ◌++◌, length, Contains, AllPairs, inl, inr, refl, sym, ap, subst, ◌∙◌, arith, get_or, true≢false, not, ◌&&◌}
+use Rattle.std.proofs.Common.{◌≡◌, ◌⊎◌, ℕ, ◌+◌, ◌<◌, ◌≤◌, true, false, Bool, List, [], ◌∷◌, ◌++◌, length, Contains, All, AllPairs, inl, inr, refl, sym, ap, subst, ◌∙◌, arith, Some, get_or, take, true≢false, not, ◌&&◌}
 use Rattle.std.proofs.lemmas.List.Elements.{All-contains, Contains-get_or, Contains-push, Contains-push_cases, Contains-append_left}
 use Rattle.std.proofs.lemmas.List.Quantifiers.{all_pairs_push}
 use Rattle.lin_history.specs.declared.calls.Call.{Call}
