@@ -64,7 +64,7 @@ plain_if true b h = absurd (cc)
 plain_if false true h = absurd (cc)
 plain_if false false h = (refl, refl)
 
-stays_of : (c : ℕ) → is_quoting c ≡ false → quoted c ≡ stays
+pub stays_of : (c : ℕ) → is_quoting c ≡ false → quoted c ≡ stays
 stays_of c h = let e = plain_if (c == 34) (c == 92) h in rw (e.0, e.1) refl
 
 pub text_row : (s : List ℕ) (at next p : ℕ) (st : List Frame) → p ≤ at → at ≤ next → next ≤ length s → next ≤ outermost p st + longest →
@@ -87,11 +87,11 @@ comment_row s at next p st le within short h =
     ap (run longest i st (in_comment p)) (at_byte s i lt)
     ∙ comment_goes longest i st p (get_or s i 0) (drop (i + 1) s) (h i a b) (omega arith))
 
-lit : (b : Bool) → not b ≡ false → b ≡ true
+pub lit : (b : Bool) → not b ≡ false → b ≡ true
 lit true h = refl
 lit false h = absurd (cc)
 
-white_class : (c : ℕ) → is_white c ≡ true → class c ≡ white
+pub white_class : (c : ℕ) → is_white c ≡ true → class c ≡ white
 white_class c h = rw h refl
 
 room : (i p : ℕ) (st : List Frame) → i < outermost p st + longest → i < outermost i st + longest
@@ -109,7 +109,7 @@ white_row s at next p st le within short h =
     ∙ begins_run longest i st (get_or s i 0) (drop (i + 1) s) white (go st between)
     (white_class (get_or s i 0) (lit (is_white (get_or s i 0)) (h i a b))) (room i p st fits) refl)
 
-inside_of : (k : Class) → is_inside k ≡ true → k ≡ inside
+pub inside_of : (k : Class) → is_inside k ≡ true → k ≡ inside
 inside_of white h = absurd (cc)
 inside_of semicolon h = absurd (cc)
 inside_of (opener k) h = absurd (cc)

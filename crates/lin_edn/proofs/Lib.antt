@@ -2,6 +2,7 @@ pub mod Ahead
 pub mod Alone
 pub mod Back
 pub mod Chains
+pub mod Clear
 pub mod Digits
 pub mod Faults
 pub mod Flat
@@ -19,5 +20,6 @@ pub mod Runs
 pub mod Sizes
 pub mod Skims
 pub mod Sound
+pub mod Standing
 pub mod Unique
 pub mod Wrong

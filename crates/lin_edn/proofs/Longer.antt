@@ -57,7 +57,7 @@ mutual
   element_longer (tagged_element tg h bs e) x = tagged_element (tag_longer tg x) h (blanks_longer bs x) (element_longer e x)
   element_longer (collection i row m) x = collection (opens_longer i x) (row_longer row x) m
 
-  row_longer : {n p q : ℕ} {s t : List ℕ} {vs : List Value} → Row n p s vs q t → (x : List ℕ) → Row n p (s ++ x) vs q (t ++ x)
+  pub row_longer : {n p q : ℕ} {s t : List ℕ} {vs : List Value} → Row n p s vs q t → (x : List ℕ) → Row n p (s ++ x) vs q (t ++ x)
   row_longer empty x = empty
   row_longer (blank row b) x = blank (row_longer row x) (blank_longer b x)
   row_longer (element row e) x = element (row_longer row x) (element_longer e x)

@@ -1,9 +1,9 @@
 -- A list or vector that is read element by element.
-use Rattle.std.proofs.Common.{◌≡◌, ℕ, ◌+◌, ◌-◌, ◌≤◌, ◌<◌, ◌⊎◌, inl, inr, Bool, true, false, List, [], ◌∷◌, ◌++◌, length, drop, get_or, nat_le, Option, Some, None, Ok, MatchOption, refl, sym, ap, ◌∙◌, subst, arith, rules, tests, append_assoc, append-nil, length-append, length-drop}
+use Rattle.std.proofs.Common.{◌≡◌, ℕ, suc, ◌+◌, ◌-◌, ◌≤◌, ◌<◌, ◌⊎◌, inl, inr, Bool, true, false, List, [], ◌∷◌, ◌++◌, length, drop, get_or, nat_le, Option, Some, None, Ok, MatchOption, refl, sym, ap, ◌∙◌, subst, arith, rules, tests, append_assoc, append-nil, length-append, length-drop}
 use Rattle.std.proofs.lemmas.Bool.{cases_lt}
 use Rattle.std.proofs.lemmas.List.{drop-append-le, drop-drop, get_or_append_left}
-use Rattle.lin_edn.specs.Bytes.{class, opener, closing}
-use Rattle.lin_edn.specs.Grammar.{frame, tagging, longest, Spells}
+use Rattle.lin_edn.specs.Bytes.{Kind, class, opener, closing}
+use Rattle.lin_edn.specs.Grammar.{frame, tagging, longest, Spells, Row, empty, blank, element}
 use Rattle.lin_edn.specs.Machine.{run, between, go, complete}
 use Rattle.lin_edn.specs.Rows.{IsRow, IsBehindTag, IsNoneBehindTag, IsFound, IsAtNothing, bracket_of, value_in, row_value}
 use Rattle.lin_edn.specs.Scans.{IsStopAt, is_dark}
@@ -13,9 +13,11 @@ use Rattle.lin_edn.specs.declared.Edn.{Edn}
 use Rattle.lin_edn.specs.declared.series.Series.{Series}
 use Rattle.lin_edn.proofs.Ahead.{at_byte, white_row, over_here}
 use Rattle.lin_edn.proofs.Back.{What, what}
-use Rattle.lin_edn.proofs.Forth.{begins_run, close_run, enters}
+use Rattle.lin_edn.proofs.Forth.{begins_run, close_run, enters, blank_run, element_run}
 use Rattle.lin_edn.proofs.Fronts.{positive}
 use Rattle.lin_edn.proofs.Inner.{inner}
+use Rattle.lin_edn.proofs.Longer.{row_longer}
+use Rattle.lin_edn.proofs.Rising.{blank_rises, element_rises}
 use Rattle.lin_edn.proofs.Runs.{ends}
 
 -- more bytes behind the text
@@ -96,6 +98,25 @@ row_element r s vs v used row tag =
       λ x. row.1 x ∙ h.4 x ∙ ap (λ l. run longest used (frame k 0 (vs ++ h.0 ∷ []) ∷ []) between (l ++ x)) rest
           ∙ ap (λ w. run longest used (frame k 0 (vs ++ w ∷ []) ∷ []) between (drop used s ++ x)) same,
     )
+
+-- blanks and elements behind those of a frame
+row_behind : {n p q : ℕ} {s t : List ℕ} {ws : List Value} → Row n p s ws q t → (k : Kind) (vs : List Value) → suc n ≤ 64 → q ≤ longest →
+    run longest p (frame k 0 vs ∷ []) between s ≡ run longest q (frame k 0 (vs ++ ws) ∷ []) between t
+row_behind (empty {p = p} {s = s}) k vs fits le = ap (λ l. run longest p (frame k 0 l ∷ []) between s) (sym (append-nil vs))
+row_behind (blank {n = n} {q = q} {r = r} {vs = ws} row b) k vs fits le =
+    let a : q < r = blank_rises b in
+    row_behind row k vs fits (omega arith) ∙ blank_run longest b (frame k 0 (vs ++ ws) ∷ []) (omega arith) (omega arith)
+row_behind (element {n = n} {q = q} {r = r} {u = u} {vs = ws} {v = v} row e) k vs fits le =
+    let a : q < r = element_rises e in
+    row_behind row k vs fits (omega arith) ∙ element_run longest e (frame k 0 (vs ++ ws) ∷ []) (omega arith) (omega arith)
+    ∙ ap (λ l. run longest r (frame k 0 l ∷ []) between u) (append_assoc vs ws (v ∷ []))
+
+pub row_passed : (r : Series) (s : List ℕ) (vs ws : List Value) (until : ℕ) → IsRow r s vs → until ≤ length s → until ≤ longest →
+    Row 63 r.at (drop r.at s) ws until (drop until s) → IsRow (record { is_vector = r.is_vector; at = until }) s (vs ++ ws)
+row_passed r s vs ws until row within short passed = (
+  within,
+  λ x. row.1 x ∙ row_behind (row_longer passed x) (bracket_of r.is_vector) vs (omega arith) short,
+)
 
 -- what the machine says behind a tag
 pub found_if : (s : List ℕ) (from : ℕ) (r : Option (Edn × ℕ)) → MatchOption r

@@ -1,6 +1,6 @@
 -- Laws of what stands in front of a text.
-use Rattle.std.specs.Prelude.{◌≡◌, ℕ, ◌+◌, List, drop}
-use Rattle.lin_edn.specs.Grammar.{ShortBlanks, Spells}
+use Rattle.std.specs.Prelude.{◌≡◌, ℕ, ◌+◌, ◌≤◌, List, drop}
+use Rattle.lin_edn.specs.Grammar.{Element, ShortBlanks, Spells}
 use Rattle.lin_edn.specs.Reading.{Reading, an_element, unfinished, blanks, refused, Allows, IsWantOfMemory}
 use Rattle.lin_edn.specs.Value.{Value, nil, bool, int, atom, keyword, text, list, vector, set, map, tagged, Values, no_values, value, Entries, no_entries, entry}
 
@@ -11,6 +11,10 @@ ReadingsAreUnique = (s : List ℕ) (a b : Reading) → Allows s a → Allows s b
 -- a text spells one value, from one place to another
 abbrev pub ValuesAreUnique : Type 0
 ValuesAreUnique = (s : List ℕ) (v w : Value) (at from used until : ℕ) → Spells s v at used → Spells s w from until → (v ≡ w) × (at ≡ from) × (used ≡ until)
+
+-- whatever stands behind it, at a place stands one element
+abbrev pub ElementsAreUnique : Type 0
+ElementsAreUnique = (n m p q r : ℕ) (s t u : List ℕ) (v w : Value) → n ≤ 64 → m ≤ 64 → Element n p s v q t → Element m p s w r u → (v ≡ w) × (q ≡ r)
 
 -- a value whose bytes stand so many places later
 abbrev mutual

@@ -3,13 +3,14 @@
 
 ghost use Rattle.std.specs.Prelude.{◌≡◌, ℕ, List, ◌++◌, ◌<◌, ◌≤◌, length};
 ghost use Rattle.lin_edn.specs.Grammar.{Spells, ShortBlanks, IsBlankText, IsUnfinished};
-ghost use Rattle.lin_edn.specs.Laws.{ReadingsAreUnique, ValuesAreUnique, BlanksAreSkipped};
+ghost use Rattle.lin_edn.specs.Laws.{ReadingsAreUnique, ValuesAreUnique, ElementsAreUnique, BlanksAreSkipped};
 ghost use Rattle.lin_edn.specs.Reading.{Says, IsRead, IsBlank, Refuses, out_of_memory};
 ghost use Rattle.lin_edn.specs.Rows.{IsRow};
 ghost use Rattle.lin_edn.specs.Value.{Value};
 ghost use Rattle.lin_edn.specs.declared.EdnCause.{EdnCause as Cause};
 ghost use Rattle.lin_edn.specs.declared.series.Series.{Series as TheSeries};
 
+mod found;
 mod levels;
 mod reader;
 mod run;
@@ -19,6 +20,9 @@ mod skim;
 #[cfg(test)]
 mod tests;
 
+pub use crate::found::{run_until, tag_until, text_until, white_until};
+pub use crate::reader::window;
+pub use crate::run::{integer, run_element};
 pub use crate::series::{Inside, Series};
 pub use crate::skim::Skim;
 use std::alloc::{AllocError, Global};
@@ -140,6 +144,11 @@ pub fn more_bytes()
 pub fn readings_are_unique()
     ensures readings { ReadingsAreUnique }
     ensures values { ValuesAreUnique }
+{}
+
+/// At a place stands one element at most.
+pub fn elements_are_unique()
+    ensures { ElementsAreUnique }
 {}
 
 /// Blanks in front of a text change nothing of what it allows but the places, which count them too.

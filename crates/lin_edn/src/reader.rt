@@ -516,8 +516,8 @@ fn at_end<'a>(stack: &[Frame], mode: Mode, at: usize) -> Next<'a>
     }
 }
 
-/// How far the bytes go that are among the longest from `begun` on.
-pub(crate) fn window(begun: usize, len: usize) -> usize
+/// How far the bytes of a text of a length go that an element, comment or discard can have that begins at `begun`.
+pub fn window(begun: usize, len: usize) -> usize
     ensures within { result ≤ len }
     ensures short { result ≤ begun + longest }
     ensures whole { (i : ℕ) → i < begun + longest → i < len → i < result }

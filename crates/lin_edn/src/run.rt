@@ -11,8 +11,8 @@ use crate::{Edn, Span};
 // The greatest number that an integer of 64 bits has, behind a minus.
 const MOST: u64 = 9_223_372_036_854_775_808;
 
-/// The element that the run at a place spells.
-pub(crate) fn run_element<'a>(at: usize, text: &'a [u8]) -> Edn<'a>
+/// The element that a run spells, whose first byte stands at a place.
+pub fn run_element<'a>(at: usize, text: &'a [u8]) -> Edn<'a>
     ensures { view result ≡ run.run_value at text.entry.now }
 {
     if text == b"nil".as_slice() {
@@ -48,8 +48,8 @@ fn is_keyword(text: &[u8]) -> bool
     }
 }
 
-/// The integer of 64 bits that a run spells.
-fn integer(text: &[u8]) -> Option<i64>
+/// The integer of 64 bits that a run spells, if it spells one.
+pub fn integer(text: &[u8]) -> Option<i64>
     ensures { result ≡ run.integer text.now }
 {
     let digits = unmarked(unsigned(text));

@@ -50,6 +50,32 @@ pub(crate) fn run_end(input: &[u8], from: usize, end: usize) -> usize
     requires inside { end ≤ length input.now }
     ensures { IsStopAt bytes.is_stop input.now from end result }
 {
+    // Four bytes a turn, since most runs are that long, and a turn costs as much as a byte.
+    let mut at = from;
+    while end - at >= 4 {
+        if is_stop(input[at]) {
+            return at;
+        }
+        if is_stop(input[at + 1]) {
+            return at + 1;
+        }
+        if is_stop(input[at + 2]) {
+            return at + 2;
+        }
+        if is_stop(input[at + 3]) {
+            return at + 3;
+        }
+        at += 4;
+    }
+    last_run_end(input, at, end)
+}
+
+/// Where the bytes of a run from a place near the end on end.
+fn last_run_end(input: &[u8], from: usize, end: usize) -> usize
+    requires begun { from ≤ end }
+    requires inside { end ≤ length input.now }
+    ensures { IsStopAt bytes.is_stop input.now from end result }
+{
     for at in from..end {
         if is_stop(input[at]) {
             return at;

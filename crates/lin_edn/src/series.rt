@@ -1,8 +1,8 @@
 //! A list or vector that is read element by element.
 
-ghost use Rattle.std.specs.Prelude.{◌≡◌, ℕ, ◌<◌, ◌≤◌, [], List, Ok, IfSome, IfNone, MatchOption, length, map};
+ghost use Rattle.std.specs.Prelude.{◌≡◌, ℕ, ◌<◌, ◌≤◌, ◌++◌, [], List, Ok, IfSome, IfNone, MatchOption, length, drop, map};
 ghost use Rattle.lin_edn.specs.Bytes as bytes;
-ghost use Rattle.lin_edn.specs.Grammar.{longest, tagging};
+ghost use Rattle.lin_edn.specs.Grammar.{longest, tagging, Row};
 ghost use Rattle.lin_edn.specs.Levels.{frame_view};
 ghost use Rattle.lin_edn.specs.Machine.{Answer, complete};
 ghost use Rattle.lin_edn.specs.Rows.{IsRow, IsNext, IsFound, IsBracketless, bracket_of, row_end};
@@ -101,6 +101,22 @@ impl Series {
                 _ => Inside::Unknown,
             },
         }
+    }
+
+    /// Where it is read on from.
+    pub fn place(&self) -> usize
+        ensures { result ≡ row_end self.now }
+    {
+        self.at
+    }
+
+    /// Reads on over blanks and elements that are known to stand up to a place.
+    pub fn pass(&mut self, until: usize)
+        ensures end { row_end self.new ≡ until }
+        ensures row { (s : List ℕ) (vs : List Value) (ws : List Value) → IsRow self.old s vs → until ≤ length s → until ≤ longest
+            → Row 63 (row_end self.old) (drop (row_end self.old) s) ws until (drop until s) → IsRow self.new s (vs ++ ws) }
+    {
+        self.at = until;
     }
 
     /// The byte that closes it.

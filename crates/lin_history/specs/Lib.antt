@@ -9,6 +9,7 @@ pub mod Stream
 pub mod Sees
 pub mod Reads
 pub mod Rests
+pub mod Usual
 pub mod Meters
 pub mod WellFormed
 pub mod Alternation

@@ -12,8 +12,9 @@ ghost use Rattle.lin_history.specs.declared.follow.FollowFault.{FollowFault as T
 
 use crate::events::Event;
 use crate::numbers::OutOfMemory;
-use crate::row::{Far, Row, begin_row, put_all, read_maps, tell_one};
+use crate::row::{Far, Row, begin_row, put_all, put_event, read_maps, tell_one};
 use crate::table::{EventFault, bare};
+use crate::usual::next_usual;
 use lin_edn::{
     Edn, EdnCause, Next, Skim, blanks_are_skipped, blanks_in_front, more_bytes, next_element,
     places, readings_are_unique,
@@ -448,6 +449,27 @@ fn tell(
 
 /// Reads what stands in front of a text, which stands from a place of the stream on.
 fn read_front(
+    alloc: Global,
+    keyed: bool,
+    text: &[u8],
+    place: u64,
+    ready: &mut VecDeque<Event>,
+) -> Result<Front, OutOfMemory>
+    requires { place + length text.now ≤ most }
+    ensures { IsFront keyed text.now place ready.old.items ready.new.items result }
+{
+    match next_usual(keyed, text, 0) {
+        Some(taken) => {
+            put_event(ready, taken.event)?;
+            Ok(Front::Element(taken.used))
+        }
+        None => read_element(alloc, keyed, text, place, ready),
+    }
+}
+
+/// Reads what stands in front of a text with its elements, whatever they are.
+#[inline(never)]
+fn read_element(
     alloc: Global,
     keyed: bool,
     text: &[u8],

@@ -11,6 +11,7 @@ mod numbers;
 mod row;
 mod shapes;
 mod table;
+mod usual;
 
 pub use calls::{Call, Name, Reply, Val};
 pub use events::{Body, Event};

@@ -1,14 +1,18 @@
 //! A list or vector that is read map by map while it is unfinished.
-ghost use Rattle.std.specs.Prelude.{◌≡◌, ◌++◌, [], ◌∷◌, Bool, List, OnOk, OnErr};
+ghost use Rattle.std.specs.Prelude.{◌≡◌, ◌<◌, ◌++◌, [], ◌∷◌, Bool, ℕ, List, Ok, OnOk, OnErr};
+ghost use Rattle.lin_edn.specs.Rows.{row_end};
 ghost use Rattle.lin_edn.specs.Value.{Value, values_of};
 ghost use Rattle.lin_edn.specs.View.{view};
 ghost use Rattle.lin_history.specs.Stream.{told_by};
 ghost use Rattle.lin_history.specs.Reads.{IsTold};
 ghost use Rattle.lin_history.specs.Rests.{told_of, IsOpen, IsWaiting, IsFar};
+ghost use Rattle.lin_history.specs.Table.{event as told_in};
+ghost use Rattle.lin_history.specs.Usual.{IsTaken, events_of};
 
 use crate::events::Event;
 use crate::numbers::OutOfMemory;
 use crate::table::{EventFault, event_of};
+use crate::usual::{Taken, next_usual};
 use lin_edn::{Edn, Entry, Inside, Series};
 use std::alloc::Global;
 use std::collections::VecDeque;
@@ -57,16 +61,45 @@ pub(crate) fn read_maps(
     let mut more = false;
     let mut spare = Vec::new(alloc);
     'maps: loop {
-        match row.series.next(alloc, text, spare) {
-            Inside::Element(element) => {
-                spare = take_map(alloc, keyed, element, row)?;
+        match next_usual(keyed, text, row.series.place()) {
+            Some(taken) => {
+                pass_usual(row, taken)?;
                 more = true;
             }
-            Inside::Closed(used) => return Ok(Far::Closed(used)),
-            Inside::Unknown => return Ok(Far::Open(more)),
-            Inside::OutOfMemory => return Err(OutOfMemory),
+            None => match row.series.next(alloc, text, spare) {
+                Inside::Element(element) => {
+                    spare = take_map(alloc, keyed, element, row)?;
+                    more = true;
+                }
+                Inside::Closed(used) => return Ok(Far::Closed(used)),
+                Inside::Unknown => return Ok(Far::Open(more)),
+                Inside::OutOfMemory => return Err(OutOfMemory),
+            },
         }
     }
+}
+
+/// Takes a usual map that comes next.
+fn pass_usual(row: &mut Row, taken: Taken) -> Result<(), OutOfMemory>
+    ensures { OnOk result ((keyed : Bool) (s : List ℕ) → IsTaken keyed s (row_end row.old.series) taken → IsOpen keyed row.old s
+        → IsOpen keyed row.new s × (row_end row.old.series < row_end row.new.series)) }
+{
+    let used = taken.used;
+    wait_for(row, taken.event)?;
+    row.series.pass(used);
+    Ok(())
+}
+
+/// Lets the event of a usual map, if it says one, wait behind those before it, unless a fault stands there.
+fn wait_for(row: &mut Row, event: Option<Event>) -> Result<(), OutOfMemory>
+    ensures series { row.new.series ≡ row.old.series }
+    ensures told { OnOk result ((k : Bool) (vs : List Value) (v : Value) → told_in k v ≡ Ok event → told_by k (values_of vs) ≡ told_of row.old
+        → told_by k (values_of (vs ++ v ∷ [])) ≡ told_of row.new) }
+{
+    if row.ends.is_some() {
+        return Ok(());
+    }
+    put_event(&mut row.waiting, event)
 }
 
 /// Takes a map that is read, and gives its entries back for their room.
@@ -136,6 +169,20 @@ fn put_back(ready: &mut VecDeque<Event>, event: Event) -> Result<(), OutOfMemory
 {
     ready.push_back(event)?;
     Ok(())
+}
+
+/// Puts the event that a usual map says, if any, behind those that are ready; refused, they are as they were.
+pub(crate) fn put_event(
+    ready: &mut VecDeque<Event>,
+    event: Option<Event>,
+) -> Result<(), OutOfMemory>
+    ensures ok { OnOk result (ready.new.items ≡ ready.old.items ++ events_of event) }
+    ensures err { OnErr result (ready.new.items ≡ ready.old.items) }
+{
+    match event {
+        Some(event) => put_back(ready, event),
+        None => Ok(()),
+    }
 }
 
 /// Puts the event of a map behind those that are ready.

@@ -357,7 +357,7 @@ fn event_with(
     Ok(Some(Event { process, key, body }))
 }
 
-fn is_keyword(element: &Edn) -> bool
+pub(crate) fn is_keyword(element: &Edn) -> bool
     ensures { result ≡ table.is_named (view element.now ∷ []) }
 {
     match element {

@@ -283,6 +283,166 @@ fn a_fault_of_edn_comes_before_that_of_a_map(rt: HostRuntime) -> Result<(), Fail
     Ok(())
 }
 
+/// What follows from a text that is fed in two pieces.
+fn followed(alloc: Global, keyed: bool, text: &[u8], cut: usize) -> Result<Follow, Fail> {
+    let mut follow = Follow::new(alloc, keyed);
+    let mut first = Vec::new(alloc);
+    let mut second = Vec::new(alloc);
+    for byte in text {
+        if first.len() < cut {
+            first.push(*byte)?;
+        } else {
+            second.push(*byte)?;
+        }
+    }
+    let _fed = follow.feed(first.as_slice());
+    let _fed = follow.feed(second.as_slice());
+    Ok(follow)
+}
+
+/// The text with a discard in each map, so that none is usual.
+fn unusual(alloc: Global, text: &[u8]) -> Result<Vec<u8>, Fail> {
+    let mut longer = Vec::new(alloc);
+    for byte in text {
+        longer.push(*byte)?;
+        if *byte == b'{' {
+            longer.extend_from_slice(b"#_0 ")?;
+        }
+    }
+    Ok(longer)
+}
+
+/// Whether two outcomes are the same, places set aside.
+fn are_alike(a: Result<(), FollowFault>, b: Result<(), FollowFault>) -> bool {
+    match (a, b) {
+        (
+            Err(FollowFault::Event { cause: a, at: _ }),
+            Err(FollowFault::Event { cause: b, at: _ }),
+        ) => a == b,
+        (Err(FollowFault::Edn { cause: a, at: _ }), Err(FollowFault::Edn { cause: b, at: _ })) => a
+            == b,
+        (Err(FollowFault::Truncated { at: _ }), Err(FollowFault::Truncated { at: _ })) => true,
+        (a, b) => a == b,
+    }
+}
+
+/// A text tells the same whether its maps are usual or not, and wherever it is cut.
+fn tells_the_same(
+    rt: &impl Abort,
+    alloc: Global,
+    keyed: bool,
+    text: &[u8],
+    count: usize,
+) -> Result<(), Fail> {
+    let mut whole = followed(alloc, keyed, text, text.len())?;
+    let outcome = whole.finish();
+    let events = taken(alloc, &mut whole)?;
+    assert_eq!(rt; events.len(), count);
+    let longer = unusual(alloc, text)?;
+    let mut other = followed(alloc, keyed, longer.as_slice(), longer.len())?;
+    assert!(rt; are_alike(other.finish(), outcome));
+    assert!(rt; taken(alloc, &mut other)? == events);
+    for cut in 0..text.len() {
+        let mut cut = followed(alloc, keyed, text, cut)?;
+        assert_eq!(rt; cut.finish(), outcome);
+        assert!(rt; taken(alloc, &mut cut)? == events);
+    }
+    Ok(())
+}
+
+#[test]
+fn usual_maps_say_what_other_maps_say(rt: HostRuntime) -> Result<(), Fail> {
+    let alloc = rt.alloc();
+    for (text, count) in [
+        (
+            b"{:type :invoke, :f :read, :value nil, :process 0, :time 3291485317, :index 0}\n".as_slice(),
+            1,
+        ),
+        (
+            b"{:process 0, :type :invoke, :f :write, :value 3, :process 1}",
+            0,
+        ),
+        (
+            b"{:process 0 :type :ok :f :read :value 5 :value 5} {:process 1 :type :invoke :f :read}",
+            0,
+        ),
+        (
+            b"{:process 2 :type :invoke :f :cas :value [1 nil]}{:process 2 :type :ok :f :cas :value [1 nil]}",
+            2,
+        ),
+        (b"{:process 2 :type :invoke :f :cas :value 5} ", 0),
+        (
+            b"{:process 3 :type :ok :f :read :value [ -2,+1 ]} {:process 3 :type :ok :f :read :value #{}}",
+            2,
+        ),
+        (
+            b"{:type :info, :f :start, :process :nemesis, :value \"a {b}\", :error \"c\"}{:process 1 :type :invoke :f :read}",
+            1,
+        ),
+        (b"{:process :nemesis :process 1}", 0),
+        (
+            b"{:process 0 :type :invoke :f :write :value 12345678901234567890}",
+            0,
+        ),
+        (b"{:process 12345678901234567890 :type :invoke :f :read}", 0),
+        (
+            b"{:process 9223372036854775807 :type :invoke :f :enqueue :value -9223372036854775808}",
+            1,
+        ),
+        (b"{:process -1 :type :invoke :f :read :value nil}", 0),
+        (b"{:process 0 :type :invoke :f :add :value 007}", 0),
+        (
+            b"{:process 0 :type :invoke :f :add :value 7N :error \"a\\\"b}\"}",
+            1,
+        ),
+        (b"{:process 0 :type :invoke :f :read :value}", 0),
+        (b"{:process 0 :type :invoke :f :read :value nil", 0),
+        (b"{:process 0 :type :invoke :f :rea :value nil}", 0),
+        (b"{:process 0 :type :fine :f :read :value nil}", 0),
+        (
+            b"{:process 0 :type :info :f :dequeue :value [1]}{:process 0 :type :fail :f :dequeue :value a}",
+            2,
+        ),
+        (
+            b"[{:process 0 :type :invoke :f :read} {:process 0 :type :ok :f :read :value :b} {:process 1 :type :invoke :f :read}]",
+            1,
+        ),
+        (
+            b"({:process 0 :type :invoke :f :release} ;{\n {:process 0 :type :ok :f :release :value nil})",
+            2,
+        ),
+        (b"[{:process 0 :type :invoke :f :acquire :value nil} ] }", 1),
+        (
+            b"#jepsen.history.Op{:index 0, :process 0, :type :invoke, :f :read, :value nil}\n#a #b{:process 0 :type :ok :f :read}#_{:process 1}{}".as_slice(),
+            2,
+        ),
+        (
+            b"[#jepsen.history.Op{:process 0 :type :invoke :f :read}, #a{:process 0 :type :ok :f :read :value #b 1} #c {:process :nemesis}]".as_slice(),
+            2,
+        ),
+    ] {
+        tells_the_same(&rt, alloc, false, text, count)?;
+    }
+    for (text, count) in [
+        (
+            b"{:process 0, :type :ok, :f :read, :value [7 5], :index 3}\n{:process 0 :type :invoke :f :cas :value [7 [1 2]]}".as_slice(),
+            2,
+        ),
+        (b"{:process 0 :type :invoke :f :write :value [-7, nil]}", 1),
+        (b"{:process 0 :type :invoke :f :write :value [nil 7]}", 0),
+        (b"{:process 0 :type :invoke :f :write :value [7 :a]}", 0),
+        (b"{:process 0 :type :invoke :f :read :value [7 nil 1]}", 0),
+        (b"{:process 0 :type :invoke :f :read}", 0),
+        (
+            b"[{:process 0 :type :invoke :f :read :value [1 nil]} {:process 0 :type :ok :f :read :value 1}]",
+            1,
+        ),
+    ] {
+        tells_the_same(&rt, alloc, true, text, count)?;
+    }
+    Ok(())
+}
+
 /// The event of a text that holds one element.
 fn event_in(
     rt: &impl Abort,

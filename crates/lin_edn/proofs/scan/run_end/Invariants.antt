@@ -1,6 +1,9 @@
-use Rattle.std.proofs.Common.{◌≡◌, ℕ, ◌≤◌, ◌<◌, false, get_or}
-use Rattle.lin_edn.specs.Bytes.{is_stop}
+use Rattle.std.proofs.Common.{◌≤◌, ◌-◌}
+use Rattle.lin_edn.proofs.Clear.{IsClear}
 use Rattle.lin_edn.proofs.scan.run_end.Given as goal
 
 abbrev pub invariant-loop-at : goal.invariant-loop-at
-invariant-loop-at l = (i : ℕ) → l.from ≤ i → i < l.at → is_stop (get_or l.input i 0) ≡ false
+invariant-loop-at l = (l.fn.from ≤ l.at) × (l.at ≤ l.end) × IsClear l.input l.fn.from l.at
+
+abbrev pub decreases-loop-at : goal.decreases-loop-at
+decreases-loop-at l = l.end - l.at

@@ -1,0 +1,119 @@
+-- What the scans of rows of bytes find, in words of the grammar.
+use Rattle.std.proofs.Common.{◌≡◌, ℕ, zero, suc, ◌+◌, ◌-◌, ◌<◌, ◌≤◌, true, false, not, List, [], ◌∷◌, length, drop, get_or, refl, sym, ap, subst, arith, ◌∙◌}
+use Rattle.std.specs.List.{slice_range}
+use Rattle.lin_edn.specs.Bytes.{Class, class, white, inside, quote, hash, is_white, is_stop, quoted, ends, behind, names_tag}
+use Rattle.lin_edn.specs.Grammar.{One, one, Inside, first, next, Tag, first_of_tag, next_of_tag, tagged_element, no_blank, Text, opened, plain, Blank, white_byte, Element, run as a_run, whole_text, Row, blank, ShortBlanks, one_more_short, longest}
+use Rattle.lin_edn.specs.Run.{run_value}
+use Rattle.lin_edn.specs.Scans.{IsStopAt, is_dark, is_quoting, is_inside}
+use Rattle.lin_edn.specs.Value.{Value, tagged, text as text_value}
+use Rattle.lin_edn.proofs.Ahead.{at_byte, lit, white_class, inside_of, stays_of}
+use Rattle.lin_edn.specs.Machine.{complete}
+use Rattle.lin_edn.proofs.Forth.{element_run}
+use Rattle.lin_edn.proofs.Fronts.{positive}
+use Rattle.lin_edn.proofs.Runs.{range_more, range_one}
+
+along : (P : ℕ → Type 0) (k at : ℕ) → ((i : ℕ) → at ≤ i → i < at + k → P i → P (i + 1)) → P at → P (at + k)
+along P zero at h p = subst P (omega arith) p
+along P (suc k) at h p =
+    let e : at + 1 + k ≡ at + suc k = omega arith in
+    subst P e (along P k (at + 1) (λ i a b. h i (omega arith) (omega arith)) (h at (omega arith) (omega arith) p))
+
+-- what holds at a place, and at each next one, holds at a later one
+along_to : (P : ℕ → Type 0) (at until : ℕ) → at ≤ until → ((i : ℕ) → at ≤ i → i < until → P i → P (i + 1)) → P at → P until
+along_to P at until le h p =
+    let e : at + (until - at) ≡ until = omega arith in
+    subst P e (along P (until - at) at (λ i a b. h i a (omega arith)) p)
+
+-- one byte of a text
+pub one_at : (s : List ℕ) (i : ℕ) (k : Class) → i < length s → class (get_or s i 0) ≡ k → One k i (drop i s) (get_or s i 0 ∷ []) (i + 1) (drop (i + 1) s)
+one_at s i k lt h = subst (λ l. One k i l (get_or s i 0 ∷ []) (i + 1) (drop (i + 1) s)) (sym (at_byte s i lt)) (one h)
+
+blank_at : (n i : ℕ) (s : List ℕ) → i < length s → is_dark (get_or s i 0) ≡ false → Blank n i (drop i s) (i + 1) (drop (i + 1) s)
+blank_at n i s lt h = white_byte (one_at s i white lt (white_class (get_or s i 0) (lit (is_white (get_or s i 0)) h)))
+
+-- one white byte
+light : (c : ℕ) → true ≡ is_white c → is_dark c ≡ false
+light c h = ap not (sym h)
+
+pub short_byte : (s : List ℕ) (i : ℕ) → i < length s → true ≡ is_white (get_or s i 0) → ShortBlanks s i (drop i s) → ShortBlanks s (i + 1) (drop (i + 1) s)
+short_byte s i lt h bs = one_more_short bs (blank_at 64 i s lt (light (get_or s i 0) h)) (let z : 0 < longest = positive in omega arith)
+
+pub row_byte : (s : List ℕ) (i : ℕ) → i < length s → true ≡ is_white (get_or s i 0) → (n p : ℕ) (t : List ℕ) (vs : List Value) →
+    Row n p t vs i (drop i s) → Row n p t vs (i + 1) (drop (i + 1) s)
+row_byte s i lt h n p t vs row = blank row (blank_at n i s lt (light (get_or s i 0) h))
+
+-- white bytes
+pub white_short : (s : List ℕ) (at until end : ℕ) → IsStopAt is_dark s at end until → end ≤ length s → ShortBlanks s at (drop at s) → ShortBlanks s until (drop until s)
+white_short s at until end h within =
+    let before : until ≤ end = h.1 in
+    along_to (λ i. ShortBlanks s i (drop i s)) at until h.0 (λ i a b bs.
+    one_more_short bs (blank_at 64 i s (omega arith) (h.2 i a b)) (let z : 0 < longest = positive in omega arith))
+
+pub white_more : (s : List ℕ) (at until end : ℕ) → IsStopAt is_dark s at end until → end ≤ length s →
+    (n p : ℕ) (t : List ℕ) (vs : List Value) → Row n p t vs at (drop at s) → Row n p t vs until (drop until s)
+white_more s at until end h within n p t vs =
+    let before : until ≤ end = h.1 in
+    along_to (λ i. Row n p t vs i (drop i s)) at until h.0 (λ i a b row. blank row (blank_at n i s (omega arith) (h.2 i a b)))
+
+-- a run that a stop byte ends
+pub run_stands : (s : List ℕ) (from until end : ℕ) → from < length s → is_inside (class (get_or s from 0)) ≡ true → IsStopAt is_stop s (from + 1) end until →
+    end ≤ length s → until < end → (n : ℕ) → Element n from (drop from s) (run_value from (slice_range s from until)) until (drop until s)
+run_stands s from until end lt begins h within before n =
+    let byte = get_or s from 0 in
+    let start : Inside from (drop from s) (slice_range s from (from + 1)) (from + 1) (drop (from + 1) s) =
+    subst (λ w. Inside from (drop from s) w (from + 1) (drop (from + 1) s)) (sym (range_one s from lt)) (first (one_at s from inside lt (inside_of (class byte) begins))) in
+    let whole : Inside from (drop from s) (slice_range s from until) until (drop until s) =
+    along_to (λ i. Inside from (drop from s) (slice_range s from i) i (drop i s)) (from + 1) until h.0 (λ i a b so_far.
+    subst (λ w. Inside from (drop from s) w (i + 1) (drop (i + 1) s)) (sym (range_more s from i (omega arith) (omega arith)))
+    (next (subst (λ l. Inside from (drop from s) (slice_range s from i) i l) (at_byte s i (omega arith)) so_far) (h.2 i a b))) start in
+    subst (λ l. Element n from (drop from s) (run_value from (slice_range s from until)) until l) (sym (at_byte s until (omega arith)))
+    (a_run (subst (λ l. Inside from (drop from s) (slice_range s from until) until l) (at_byte s until (omega arith)) whole) (h.3 before))
+
+quotes : (c : ℕ) → c ≡ 34 → class c ≡ quote
+quotes c h = rw h refl
+
+ends_of : (c : ℕ) → c ≡ 34 → quoted c ≡ ends
+ends_of c h = rw h refl
+
+-- a text without backslash
+pub text_stands : (s : List ℕ) (from until end : ℕ) → from < length s → get_or s from 0 ≡ 34 → IsStopAt is_quoting s (from + 1) end until →
+    end ≤ length s → until < end → get_or s until 0 ≡ 34 → (n : ℕ) →
+    Element n from (drop from s) (text_value from (slice_range s from (until + 1))) (until + 1) (drop (until + 1) s)
+text_stands s from until end lt begins h within before stops n =
+    let start : Text from (drop from s) (slice_range s from (from + 1)) (from + 1) (drop (from + 1) s) =
+    subst (λ w. Text from (drop from s) w (from + 1) (drop (from + 1) s)) (sym (range_one s from lt)) (opened (one_at s from quote lt (quotes (get_or s from 0) begins))) in
+    let whole : Text from (drop from s) (slice_range s from until) until (drop until s) =
+    along_to (λ i. Text from (drop from s) (slice_range s from i) i (drop i s)) (from + 1) until h.0 (λ i a b so_far.
+    subst (λ w. Text from (drop from s) w (i + 1) (drop (i + 1) s)) (sym (range_more s from i (omega arith) (omega arith)))
+    (plain (subst (λ l. Text from (drop from s) (slice_range s from i) i l) (at_byte s i (omega arith)) so_far) (stays_of (get_or s i 0) (h.2 i a b)))) start in
+    let later : from + 1 ≤ until = h.0 in
+    subst (λ w. Element n from (drop from s) (text_value from w) (until + 1) (drop (until + 1) s)) (sym (range_more s from until (omega arith) (omega arith)))
+    (whole_text (subst (λ l. Text from (drop from s) (slice_range s from until) until l) (at_byte s until (omega arith)) whole) (ends_of (get_or s until 0) stops))
+
+hashes : (c : ℕ) → c ≡ 35 → class c ≡ hash
+hashes c h = rw h refl
+
+-- a tag directly in front of an element
+pub tag_stands : (s : List ℕ) (from until end : ℕ) → from + 1 < length s → get_or s from 0 ≡ 35 → behind (get_or s (from + 1) 0) ≡ names_tag →
+    IsStopAt is_stop s (from + 2) end until → end ≤ length s → until < end →
+    (n q : ℕ) (v : Value) (t : List ℕ) → Element n until (drop until s) v q t →
+    Element (suc n) from (drop from s) (tagged (from + 1) (slice_range s (from + 1) until) v) q t
+tag_stands s from until end lt begins names h within before n q v t e =
+    let place : from + 1 + 1 ≡ from + 2 = omega arith in
+    let opened_tag : One hash from (drop from s) (get_or s from 0 ∷ []) (from + 1) (get_or s (from + 1) 0 ∷ drop (from + 1 + 1) s) =
+    subst (λ l. One hash from (drop from s) (get_or s from 0 ∷ []) (from + 1) l) (at_byte s (from + 1) lt) (one_at s from hash (omega arith) (hashes (get_or s from 0) begins)) in
+    let start : Tag from (drop from s) (slice_range s (from + 1) (from + 1 + 1)) (from + 1 + 1) (drop (from + 1 + 1) s) =
+    subst (λ w. Tag from (drop from s) w (from + 1 + 1) (drop (from + 1 + 1) s)) (sym (range_one s (from + 1) lt)) (first_of_tag opened_tag names) in
+    let whole : Tag from (drop from s) (slice_range s (from + 1) until) until (drop until s) =
+    along_to (λ i. Tag from (drop from s) (slice_range s (from + 1) i) i (drop i s)) (from + 2) until h.0 (λ i a b so_far.
+    subst (λ w. Tag from (drop from s) w (i + 1) (drop (i + 1) s)) (sym (range_more s (from + 1) i (omega arith) (omega arith)))
+    (next_of_tag (subst (λ l. Tag from (drop from s) (slice_range s (from + 1) i) i l) (at_byte s i (omega arith)) so_far) (h.2 i a b)))
+    (subst (λ i. Tag from (drop from s) (slice_range s (from + 1) i) i (drop i s)) place start) in
+    tagged_element (subst (λ l. Tag from (drop from s) (slice_range s (from + 1) until) until l) (at_byte s until (omega arith)) whole) (h.3 before) no_blank
+    (subst (λ l. Element n until l v q t) (at_byte s until (omega arith)) e)
+
+-- two elements at a place are one
+pub one_element : {n m p q r : ℕ} {s t u : List ℕ} {v w : Value} → n ≤ 64 → m ≤ 64 → Element n p s v q t → Element m p s w r u → (v ≡ w) × (q ≡ r)
+one_element {n = n} {m = m} {p = p} {q = q} {r = r} {v = v} {w = w} a b e f =
+    let same : complete v p q ≡ complete w p r = sym (element_run (q + r) e [] (omega arith) (omega arith)) ∙ element_run (q + r) f [] (omega arith) (omega arith) in
+    (cc, cc)

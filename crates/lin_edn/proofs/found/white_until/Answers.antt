@@ -1,0 +1,49 @@
+use Rattle.std.proofs.Common.{◌≡◌, ℕ, ◌+◌, ◌<◌, ◌≤◌, drop, subst, arith}
+use Rattle.lin_edn.specs.Grammar.{ShortBlanks, Row}
+use Rattle.lin_edn.proofs.Standing.{short_byte, row_byte, white_short, white_more}
+use Rattle.lin_edn.proofs.found.white_until.Goals as goal
+
+two : (n : ℕ) → n + 1 + 1 ≡ n + 2
+two n = omega arith
+
+room : (from end size : ℕ) → (from ≡ end → ⊥) → from ≤ end → end ≤ size → from < size
+room from end size ne le within = omega arith
+
+next_room : (from end size : ℕ) → (from ≡ end → ⊥) → (from + 1 ≡ end → ⊥) → from ≤ end → end ≤ size → from + 1 < size
+next_room from end size ne more le within = omega arith
+
+pub returns-then-from-end-2-clause-short : goal.returns-then-from-end-2-clause-short
+returns-then-from-end-2-clause-short c = λ bs.
+    let s = c.args.input.now in
+    subst (λ i. ShortBlanks s i (drop i s)) c.if-from-end-2.true
+    (short_byte s c.args.from (room _ _ _ c.if-from-end.false c.requires.begun c.requires.inside) c.if-not-is_white.ensures bs)
+
+pub returns-then-from-end-2-clause-row : goal.returns-then-from-end-2-clause-row
+returns-then-from-end-2-clause-row c = λ n p t vs row.
+    let s = c.args.input.now in
+    subst (λ i. Row n p t vs i (drop i s)) c.if-from-end-2.true
+    (row_byte s c.args.from (room _ _ _ c.if-from-end.false c.requires.begun c.requires.inside) c.if-not-is_white.ensures n p t vs row)
+
+pub returns-then-not-is_white-2-clause-short : goal.returns-then-not-is_white-2-clause-short
+returns-then-not-is_white-2-clause-short c =
+    short_byte c.args.input.now c.args.from (room _ _ _ c.if-from-end.false c.requires.begun c.requires.inside) c.if-not-is_white.ensures
+
+pub returns-then-not-is_white-2-clause-row : goal.returns-then-not-is_white-2-clause-row
+returns-then-not-is_white-2-clause-row c =
+    row_byte c.args.input.now c.args.from (room _ _ _ c.if-from-end.false c.requires.begun c.requires.inside) c.if-not-is_white.ensures
+
+pub returns-clause-short : goal.returns-clause-short
+returns-clause-short c = λ bs.
+    let s = c.args.input.now in
+    let first = short_byte s c.args.from (room _ _ _ c.if-from-end.false c.requires.begun c.requires.inside) c.if-not-is_white.ensures bs in
+    let second = short_byte s (c.args.from + 1) (next_room _ _ _ c.if-from-end.false c.if-from-end-2.false c.requires.begun c.requires.inside) c.if-not-is_white-2.ensures first in
+    white_short s (c.args.from + 2) c.white_end.result c.args.end c.white_end.ensures c.requires.inside
+    (subst (λ i. ShortBlanks s i (drop i s)) (two c.args.from) second)
+
+pub returns-clause-row : goal.returns-clause-row
+returns-clause-row c = λ n p t vs row.
+    let s = c.args.input.now in
+    let first = row_byte s c.args.from (room _ _ _ c.if-from-end.false c.requires.begun c.requires.inside) c.if-not-is_white.ensures n p t vs row in
+    let second = row_byte s (c.args.from + 1) (next_room _ _ _ c.if-from-end.false c.if-from-end-2.false c.requires.begun c.requires.inside) c.if-not-is_white-2.ensures n p t vs first in
+    white_more s (c.args.from + 2) c.white_end.result c.args.end c.white_end.ensures c.requires.inside n p t vs
+    (subst (λ i. Row n p t vs i (drop i s)) (two c.args.from) second)

@@ -1,0 +1,6 @@
+use Rattle.std.proofs.Common.{◌≡◌, ℕ, ◌≤◌, ◌<◌, false, get_or}
+use Rattle.lin_edn.specs.Bytes.{is_stop}
+use Rattle.lin_edn.proofs.scan.last_run_end.Given as goal
+
+abbrev pub invariant-loop-at : goal.invariant-loop-at
+invariant-loop-at l = (i : ℕ) → l.from ≤ i → i < l.at → is_stop (get_or l.input i 0) ≡ false

@@ -1,0 +1,102 @@
+//! White, runs, texts and tags of an input, found in place.
+
+ghost use Rattle.std.specs.Prelude.{◌≡◌, ℕ, suc, ◌+◌, ◌<◌, ◌≤◌, List, length, drop};
+ghost use Rattle.std.specs.List.{slice_range};
+ghost use Rattle.lin_edn.specs.Grammar.{ShortBlanks, Row, Element};
+ghost use Rattle.lin_edn.specs.Run.{run_value};
+ghost use Rattle.lin_edn.specs.Value.{Value, tagged, text as text_value};
+
+use crate::reader::{Behind, behind_hash};
+use crate::scan::{is_plain, is_white, plain_end, run_end, white_end};
+
+/// Where the white from a place on ends, or `end`.
+#[inline(always)]
+pub fn white_until(input: &[u8], from: usize, end: usize) -> usize
+    requires begun { from ≤ end }
+    requires inside { end ≤ length input.now }
+    ensures within { (from ≤ result) × (result ≤ end) }
+    ensures short { ShortBlanks input.now from (drop from input.now) → ShortBlanks input.now result (drop result input.now) }
+    ensures row { (n : ℕ) (p : ℕ) (s : List ℕ) (vs : List Value) →
+        Row n p s vs from (drop from input.now) → Row n p s vs result (drop result input.now) }
+{
+    if from == end {
+        return from;
+    }
+    if !is_white(input[from]) {
+        return from;
+    }
+    // One white byte is usual, or two.
+    if from + 1 == end {
+        return end;
+    }
+    if !is_white(input[from + 1]) {
+        return from + 1;
+    }
+    white_end(input, from + 2, end)
+}
+
+/// Where the run at a place ends; that place where none stands there that ends before `end`.
+#[inline(always)]
+pub fn run_until(input: &[u8], from: usize, end: usize) -> usize
+    requires begun { from ≤ end }
+    requires inside { end ≤ length input.now }
+    ensures within { (from ≤ result) × (result ≤ end) }
+    ensures run { from < result → (n : ℕ) →
+        Element n from (drop from input.now) (run_value from (slice_range input.now from result)) result (drop result input.now) }
+{
+    if from == end {
+        return from;
+    }
+    if !is_plain(input[from]) {
+        return from;
+    }
+    let until = run_end(input, from + 1, end);
+    if until == end { from } else { until }
+}
+
+/// Where the text at a place ends; that place where none stands there without a backslash that ends before `end`.
+pub fn text_until(input: &[u8], from: usize, end: usize) -> usize
+    requires begun { from ≤ end }
+    requires inside { end ≤ length input.now }
+    ensures within { (from ≤ result) × (result ≤ end) }
+    ensures text { from < result → (n : ℕ) →
+        Element n from (drop from input.now) (text_value from (slice_range input.now from result)) result (drop result input.now) }
+{
+    if from == end {
+        return from;
+    }
+    if input[from] != b'"' {
+        return from;
+    }
+    let until = plain_end(input, from + 1, end);
+    if until == end {
+        return from;
+    }
+    if input[until] == b'"' {
+        until + 1
+    } else {
+        from
+    }
+}
+
+/// Where the tag at a place ends; that place where none stands there that ends before `end`.
+pub fn tag_until(input: &[u8], from: usize, end: usize) -> usize
+    requires begun { from ≤ end }
+    requires inside { end ≤ length input.now }
+    ensures within { (from ≤ result) × (result ≤ end) }
+    ensures tag { from < result → (n : ℕ) (q : ℕ) (v : Value) (t : List ℕ) → Element n result (drop result input.now) v q t →
+        Element (suc n) from (drop from input.now) (tagged (from + 1) (slice_range input.now (from + 1) result) v) q t }
+{
+    if end - from < 2 {
+        return from;
+    }
+    if input[from] != b'#' {
+        return from;
+    }
+    match behind_hash(input[from + 1]) {
+        Behind::Tag => {}
+        _ => return from,
+    }
+    let until = run_end(input, from + 2, end);
+    if until == end { from } else { until }
+}

@@ -1,0 +1,84 @@
+-- Usual maps in streams, and in lists and vectors.
+use Rattle.std.proofs.Common.{◌≡◌, ℕ, suc, ◌+◌, ◌<◌, ◌≤◌, Bool, false, inl, inr, List, [], ◌∷◌, ◌++◌, Option, Some, None, Result, Ok, Err, OnOk, length, drop, refl, sym, ap, subst, ◌∙◌, arith}
+use Rattle.std.specs.List.{slice_range}
+use Rattle.std.specs.Option.{is_some}
+use Rattle.std.proofs.lemmas.Bool.{cases_lt}
+use Rattle.lin_edn.specs.Grammar.{Element, Row, empty, element, longest, spells, no_blank_yet}
+use Rattle.lin_edn.specs.Rows.{IsRow, row_end}
+use Rattle.lin_edn.specs.Value.{Value, map, tagged, Entries, values_of}
+use Rattle.lin_edn.specs.declared.series.Series.{Series}
+use Rattle.lin_history.specs.Reads.{IsTold, IsElement}
+use Rattle.lin_history.specs.Stream.{Told, before, told_by, maps_in}
+use Rattle.lin_history.specs.Table.{event, event_in, bare}
+use Rattle.lin_history.specs.Usual.{IsTaken, events_of}
+use Rattle.lin_history.specs.declared.events.Event.{Event}
+use Rattle.lin_history.specs.declared.numbers.OutOfMemory.{OutOfMemory}
+use Rattle.lin_history.specs.declared.table.EventFault.{EventFault}
+use Rattle.lin_history.specs.declared.usual.Taken.{Taken}
+use Rattle.lin_history.proofs.Waiting.{waits_more}
+
+-- what a map tells that says an event, or none
+told_case : (o : Option Event) → before (Ok o) (record { events = []; ends = None }) ≡ record { events = events_of o; ends = None }
+told_case None = refl
+told_case (Some e) = refl
+
+pub told_one : (k : Bool) (v : Value) (o : Option Event) → event k v ≡ Ok o → told_by k (values_of (v ∷ [])) ≡ record { events = events_of o; ends = None }
+told_one k v o h = ap (λ (r : Result (Option Event) EventFault). before r (record { events = []; ends = None })) h ∙ told_case o
+
+tells : (k : Bool) (v : Value) (o : Option Event) (old new : List Event) → event k v ≡ Ok o → new ≡ old ++ events_of o →
+    IsTold (told_by k (values_of (v ∷ []))) old new (Ok tt)
+tells k v o old new h put =
+    let told = told_one k v o h in
+    (ap (λ (t : Told). t.ends) told, put ∙ ap (λ (t : Told). old ++ t.events) (sym told))
+
+pub waits_one : (r : Result (Unit {0}) OutOfMemory) (o : Option Event) (es fs : List Event) (ends : Option EventFault) → OnOk r (fs ≡ es ++ events_of o) → is_some ends ≡ false →
+    OnOk r ((k : Bool) (vs : List Value) (v : Value) → event k v ≡ Ok o → told_by k (values_of vs) ≡ record { events = es; ends = ends } →
+    told_by k (values_of (vs ++ v ∷ [])) ≡ record { events = fs; ends = ends })
+waits_one (Ok u) o es fs ends put n = λ k vs v h told. waits_more k vs v es fs ends n (tells k v o es fs h put) told
+waits_one (Err e) o es fs ends put n = tt
+
+-- a map with a tag or none says what it says without
+pub said_so : (k : Bool) (s : List ℕ) (from : ℕ) (taken : Taken) (t : IsTaken k s from taken) → event k t.value ≡ Ok taken.event
+said_so k s from taken t = ap (event_in k) t.is_map ∙ t.told
+
+-- a map with a tag directly in front of it, or none
+abbrev pub IsTagged : List ℕ → ℕ → Entries → ℕ → Type 0
+IsTagged s at es used = (v : Value) × (bare v ≡ map es) × ((n : ℕ) → Element (suc (suc (suc n))) at (drop at s) v used (drop used s))
+
+pub tagged_or_not : (s : List ℕ) (at begun used : ℕ) (es : Entries) → at ≤ begun →
+    (at < begun → (n q : ℕ) (v : Value) (t : List ℕ) → Element n begun (drop begun s) v q t → Element (suc n) at (drop at s) (tagged (at + 1) (slice_range s (at + 1) begun) v) q t) →
+    ((n : ℕ) → Element (suc (suc n)) begun (drop begun s) (map es) used (drop used s)) → IsTagged s at es used
+tagged_or_not s at begun used es le tag e = elim (cases_lt at begun) [
+  | inl lt ↦ (tagged (at + 1) (slice_range s (at + 1) begun) (map es), refl, λ n. tag lt (suc (suc n)) used (map es) (drop used s) (e n))
+  | inr ge ↦
+      let same : begun ≡ at = omega arith in
+      (map es, refl, λ n. subst (λ i. Element (suc (suc (suc n))) i (drop i s) (map es) used (drop used s)) same (e (suc n)))
+]
+
+-- the row up to the end of a usual map
+row_taken : (k : Bool) (s : List ℕ) (from : ℕ) (taken : Taken) (t : IsTaken k s from taken) → Row 63 from (drop from s) (t.value ∷ []) taken.used (drop taken.used s)
+row_taken k s from taken t = element (t.row 63 from (drop from s) [] empty) (t.element 60)
+
+pub passed : (k : Bool) (s : List ℕ) (vs : List Value) (old mid new : Series) (taken : Taken) (t : IsTaken k s (row_end old) taken) → mid ≡ old →
+    ((z : List ℕ) (xs ws : List Value) → IsRow mid z xs → taken.used ≤ length z → taken.used ≤ longest →
+    Row 63 (row_end mid) (drop (row_end mid) z) ws taken.used (drop taken.used z) → IsRow new z (xs ++ ws)) →
+    IsRow old s vs → IsRow new s (vs ++ t.value ∷ [])
+passed k s vs old mid new taken t same pass row =
+    pass s vs (t.value ∷ []) (subst (λ r. IsRow r s vs) (sym same) row) t.inside t.reached
+    (subst (λ (r : Series). Row 63 (row_end r) (drop (row_end r) s) (t.value ∷ []) taken.used (drop taken.used s)) (sym same) (row_taken k s (row_end old) taken t))
+
+-- a usual map in front of a text
+pub in_front : (k : Bool) (s : List ℕ) (taken : Taken) (old new : List Event) → IsTaken k s 0 taken → new ≡ old ++ events_of taken.event → IsElement k s old new taken.used
+in_front k s taken old new t put =
+    let a = t.some in
+    let b = t.reached in
+    record {
+      events = events_of taken.event;
+      value = t.value;
+      at = t.at;
+      put = put;
+      some = omega arith;
+      inside = t.inside;
+      spelled = spells (t.short no_blank_yet) (t.element 61) (omega arith);
+      told = ap (λ v. told_by k (maps_in v)) t.is_map ∙ told_one k (map t.entries) taken.event t.told;
+    }

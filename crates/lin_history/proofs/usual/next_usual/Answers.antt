@@ -1,0 +1,28 @@
+use Rattle.std.proofs.Common.{◌≤◌, length, arith}
+use Rattle.lin_history.proofs.Taking.{tagged_or_not}
+use Rattle.lin_history.proofs.usual.next_usual.Goals as goal
+
+pub returns : goal.returns
+returns c =
+    let map = c.in_ok-places.ensures.map in
+    let a : c.in_ok-places.used ≤ c.window-end.result = c.in_ok-places.ensures.within.1 in
+    let b : c.window-end.result ≤ length c.args.text.now = c.window-end.ensures.within in
+    let d = c.window-end.ensures.short in
+    let e = c.in_ok-places.ensures.within.0 in
+    let f = c.tag_until-begun.ensures.within.0 in
+    let at = c.white_until-at.result in
+    let here = tagged_or_not c.args.text.now at c.tag_until-begun.result c.in_ok-places.used map.0 f c.tag_until-begun.ensures.tag map.2 in
+    record {
+      entries = map.0;
+      at = at;
+      begun = c.white_until-at.ensures.within.0;
+      some = omega arith;
+      inside = omega arith;
+      reached = omega arith;
+      short = c.white_until-at.ensures.short;
+      row = c.white_until-at.ensures.row;
+      value = here.0;
+      is_map = here.1;
+      element = here.2;
+      told = c.in_ok-event.ensures map.0 map.1;
+    }

@@ -1,0 +1,83 @@
+-- What is read of a usual map without its elements: cited by the contracts of private functions alone.
+use Rattle.std.specs.Prelude.{◌≡◌, ℕ, suc, ◌+◌, ◌<◌, ◌≤◌, Bool, true, false, List, [], ◌∷◌, length, drop, Option, Some, None, Ok, codes}
+use Rattle.lin_edn.specs.Grammar.{Element, Row, ShortBlanks, longest}
+use Rattle.lin_edn.specs.Run.{run_value}
+use Rattle.lin_edn.specs.Value.{Value, vector, map, no_values, value as one_value, Entries, entries_of}
+use Rattle.lin_history.specs.Table.{bare, is_word, under, parts_of, body_of, event}
+use Rattle.lin_history.specs.declared.calls.Name.{Name}
+use Rattle.lin_history.specs.declared.table.EventType.{EventType}
+use Rattle.lin_history.specs.declared.usual.Pair.{Pair}
+use Rattle.lin_history.specs.declared.usual.Places.{Places}
+use Rattle.lin_history.specs.declared.usual.Said.{Said}
+use Rattle.lin_history.specs.declared.usual.Taken.{Taken}
+use Rattle.lin_history.specs.declared.events.Event.{Event}
+
+-- the value of a vector of two runs
+abbrev pub pair_view : Pair → Value
+pair_view p = vector (one_value (run_value p.first_at p.first.now) (one_value (run_value p.second_at p.second.now) no_values))
+
+-- a value says the object's key and the body
+abbrev pub IsBodyOf : Bool → EventType → Name → Value → Said → Type 0
+IsBodyOf keyed t f v said = (inner : Value) × (parts_of keyed v ≡ Some (said.key, inner)) × (body_of t f inner ≡ Some said.body)
+
+-- from one place to another stands an element without a tag and with one more level at most
+abbrev pub IsValueAt : List ℕ → ℕ → Value → ℕ → Type 0
+IsValueAt s from v until = (bare v ≡ v) × ((n : ℕ) → Element (suc n) from (drop from s) v until (drop until s))
+
+-- these are the values under a key, whose place is kept
+abbrev pub IsPlaced : List ℕ → List Value → Option ℕ → Type 0
+IsPlaced s vs None = vs ≡ []
+IsPlaced s vs (Some at) = (v : Value) × (until : ℕ) × (vs ≡ v ∷ []) × IsValueAt s at v until
+
+-- the places of the values under the four keys of a map are kept
+pub record ArePlaced (s : List ℕ) (es : Entries) (ps : Places) : Type 0 where
+  pub process : IsPlaced s (under (codes ":process") es) ps.process
+  pub types : IsPlaced s (under (codes ":type") es) ps.event_type
+  pub function : IsPlaced s (under (codes ":f") es) ps.function
+  pub values : IsPlaced s (under (codes ":value") es) ps.value
+
+-- a place is kept where none was, if the key is the one that counts
+abbrev pub IsPut : Bool → Option ℕ → ℕ → Option ℕ → Type 0
+IsPut true old at new = (old ≡ None) × (new ≡ Some at)
+IsPut false old at new = new ≡ old
+
+-- the place of the value of a key is kept, if the key counts
+pub record IsAdded (old : Places) (k : Value) (at : ℕ) (new : Places) : Type 0 where
+  pub process : IsPut (is_word (codes ":process") k) old.process at new.process
+  pub types : IsPut (is_word (codes ":type") k) old.event_type at new.event_type
+  pub function : IsPut (is_word (codes ":f") k) old.function at new.function
+  pub values : IsPut (is_word (codes ":value") k) old.value at new.value
+
+-- keys and values in reading order
+abbrev pub in_turn : List (Value × Value) → List Value
+in_turn [] = []
+in_turn (e ∷ es) = e.0 ∷ e.1 ∷ in_turn es
+
+-- between an opening byte and a place stand entries, and the places of the values that count are kept
+abbrev pub IsUpTo : List ℕ → ℕ → ℕ → Places → Type 0
+IsUpTo s from at ps = (es : List (Value × Value)) × ArePlaced s (entries_of es) ps ×
+    ((n : ℕ) → Row (suc n) (from + 1) (drop (from + 1) s) (in_turn es) at (drop at s))
+
+-- from one place to another stands a map, and the places of the values that count are kept
+abbrev pub IsMapAt : List ℕ → ℕ → Places → ℕ → Type 0
+IsMapAt s from ps until = (es : Entries) × ArePlaced s es ps × ((n : ℕ) → Element (suc (suc n)) from (drop from s) (map es) until (drop until s))
+
+-- behind white a map stands, with a tag or none, that tells this
+pub record IsTaken (keyed : Bool) (s : List ℕ) (from : ℕ) (taken : Taken) : Type 0 where
+  pub entries : Entries
+  pub at : ℕ
+  pub begun : from ≤ at
+  pub some : at < taken.used
+  pub inside : taken.used ≤ length s
+  pub reached : taken.used ≤ longest
+  pub short : ShortBlanks s from (drop from s) → ShortBlanks s at (drop at s)
+  pub row : (n p : ℕ) (t : List ℕ) (vs : List Value) → Row n p t vs from (drop from s) → Row n p t vs at (drop at s)
+  pub value : Value
+  pub is_map : bare value ≡ map entries
+  pub element : (n : ℕ) → Element (suc (suc (suc n))) at (drop at s) value taken.used (drop taken.used s)
+  pub told : event keyed (map entries) ≡ Ok taken.event
+
+-- the event that is told, if any
+abbrev pub events_of : Option Event → List Event
+events_of None = []
+events_of (Some e) = e ∷ []
