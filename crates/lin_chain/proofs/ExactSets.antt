@@ -16,9 +16,13 @@ use Rattle.lin_order.specs.Refutations.{AreConfigurations, Config, IsRefutation,
 use Rattle.lin_order.specs.RefutationLaws.{ExactSetsRefute}
 use Rattle.lin_frontier.specs.Frontiers.{IsFrontier}
 use Rattle.lin_frontier.specs.Nodes.{Spells}
-use Rattle.lin_chain.specs.Replays.{Entries, IsLinearizableAs}
+use Rattle.lin_chain.specs.Replays.{IsLinearizableAs}
 use Rattle.lin_history.proofs.Lists.{get_cases}
 use Rattle.lin_chain.proofs.Lists.{contains_from_get, get_from_contains}
+
+-- what an exact frontier holds
+abbrev Entries : Type 0
+Entries = List (Config × ℕ)
 
 -- a key is of an entry
 key_of_entry : (es : Entries) (c : Config) → Contains (keys_of es) c → (e : Config × ℕ) × Contains es e × (e.0 ≡ c)

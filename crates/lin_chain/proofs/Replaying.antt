@@ -1,5 +1,5 @@
 -- What is kept of the first events, after each of the steps that change it.
-use Rattle.std.proofs.Common.{◌≡◌, ◌+◌, ◌-◌, ◌*◌, ◌<◌, ◌≤◌, ℕ, ℤ, zero, suc, Bool, List, [], ◌∷◌, ◌++◌, length, Option, Some, None, inl, inr, refl, sym, ap, ◌∙◌, subst, arith, get_or, slice_get, take, All, AllPairs, Vec, Global, add-one}
+use Rattle.std.proofs.Common.{◌≡◌, ◌+◌, ◌-◌, ◌*◌, ◌<◌, ◌≤◌, ℕ, ℤ, zero, suc, Bool, List, [], ◌∷◌, ◌++◌, length, Contains, Option, Some, None, inl, inr, refl, sym, ap, ◌∙◌, subst, arith, get_or, slice_get, take, All, AllPairs, Vec, Global, add-one}
 use Rattle.std.proofs.lemmas.Bool.{cases_lt, cases_order}
 use Rattle.std.proofs.lemmas.List.{length-take, length-take-le, get_or-take, take_all, take-take, take-append-le, length_push, append-nil}
 use Rattle.std.proofs.lemmas.List.Quantifiers.{all_pairs_push}
@@ -12,20 +12,24 @@ use Rattle.lin_history.specs.WellFormedLaws.{BeginningsAreWellFormed}
 use Rattle.lin_objects.specs.declared.kinds.Kind.{Kind}
 use Rattle.lin_objects.specs.declared.states.State.{State}
 use Rattle.lin_history.specs.declared.calls.Reply.{Reply}
+use Rattle.lin_objects.specs.Observing.{observes}
 use Rattle.lin_objects.specs.Steps.{Step, start}
 use Rattle.lin_order.specs.declared.placed.Placed.{Placed}
 use Rattle.lin_order.specs.ConfigurationLaws.{with_event}
 use Rattle.lin_order.specs.Laws.{EmptyIsLegal}
+use Rattle.lin_frontier.specs.declared.members.Path.{Path}
 use Rattle.lin_frontier.specs.declared.pending.Open.{Open}
-use Rattle.lin_frontier.specs.Covers.{CoversSpellLegalOrders, IsCover}
+use Rattle.lin_frontier.specs.Compressed.{CompressedSpellLegalOrders, IsCompressed}
 use Rattle.lin_frontier.specs.Frontiers.{IsPending, IsNextEvent}
-use Rattle.lin_frontier.specs.Nodes.{Spells, IsGrown}
+use Rattle.lin_frontier.specs.Members.{Member}
+use Rattle.lin_frontier.specs.Nodes.{IsGrown}
+use Rattle.lin_frontier.specs.Rounds.{joined, SpellsRounds}
 use Rattle.lin_chain.specs.declared.pending.Pending.{Pending}
 use Rattle.lin_chain.specs.declared.replay.Checkpoint.{Checkpoint}
 use Rattle.lin_chain.specs.declared.replay.Replay.{Replay}
-use Rattle.lin_chain.specs.Replays.{Entries, IsCheckpoint, IsCurrent, IsKnown, IsLegalOrderAs, IsLinearizableAs, IsPrepared, IsReplay}
+use Rattle.lin_chain.specs.Replays.{Links, Members, IsCheckpoint, IsCurrent, IsKnown, IsLegalOrderAs, IsLinearizableAs, IsPrepared, IsReplay}
 use Rattle.lin_history.proofs.Lists.{get_cases}
-use Rattle.lin_chain.proofs.Lists.{one_there}
+use Rattle.lin_chain.proofs.Lists.{contains_from_get, one_there}
 
 -- what a beginning has at a place, the whole has there
 get_from_take : {A : Type 0} (n : ℕ) (xs : List A) (k : ℕ) (x : A) → slice_get (take n xs) k ≡ Some x → (k < n) × (slice_get xs k ≡ Some x)
@@ -64,7 +68,7 @@ take_alike m n xs ys below same = sym (take-take m n xs below) ∙ ap (λ l. tak
 take_grown : {A : Type 0} (m : ℕ) (xs ys added : List A) → m ≤ length xs → ys ≡ xs ++ added → take m xs ≡ take m ys
 take_grown m xs ys added below grown = sym (ap (λ l. take m l) grown ∙ take-append-le m xs added below)
 
-pub known_same : (kind : Kind) (h g : List Event) (frontier : Entries) (nodes others : List (ℕ × Placed)) (pending open' : List Open) → h ≡ g → nodes ≡ others → pending ≡ open' → IsKnown kind h frontier nodes pending → IsKnown kind g frontier others open'
+pub known_same : (kind : Kind) (h g : List Event) (frontier : Members) (nodes others : Links) (pending open' : List Open) → h ≡ g → nodes ≡ others → pending ≡ open' → IsKnown kind h frontier nodes pending → IsKnown kind g frontier others open'
 known_same kind h g frontier nodes others pending open' a b c known =
     subst (λ l. IsKnown kind l frontier others open') a (subst (λ n. IsKnown kind h frontier n open') b (subst (IsKnown kind h frontier nodes) c known))
 
@@ -95,12 +99,12 @@ replay_moved a v h same right = record {
     was k c there = right.checkpoints k c (ap (λ l. slice_get l k) (sym same) ∙ there)
 
 -- the same nodes
-pub replay_renamed : (a : Replay) (nodes : List (ℕ × Placed)) (h : List Event) → nodes ≡ a.nodes → IsReplay a h → IsReplay (record a { nodes = nodes }) h
+pub replay_renamed : (a : Replay) (nodes : Links) (h : List Event) → nodes ≡ a.nodes → IsReplay a h → IsReplay (record a { nodes = nodes }) h
 replay_renamed a nodes h same right = subst (λ n. IsReplay (record a { nodes = n }) h) (sym same) right
 
 -- the first checkpoint
 pub replay_begun : (a : Replay) (v : Vec Checkpoint Global) (c : Checkpoint) (h : List Event) → a.checkpoints.items ≡ [] → v.items ≡ c ∷ []
-    → c.nodes ≡ length a.nodes → c.crashed ≡ 0 → c.live.items ≡ [] → IsCover (start a.object.kind) (Step a.object.kind) [] c.frontier a.nodes → length c.frontier ≡ 1 → IsPending [] []
+    → c.nodes ≡ length a.nodes → c.crashed ≡ 0 → c.live.items ≡ [] → IsCompressed (start a.object.kind) (Step a.object.kind) (observes a.object.kind) [] c.frontier a.nodes → length c.frontier ≡ 1 → IsPending [] []
     → IsReplay a h → (IsReplay (record a { checkpoints = v }) h) × (a.reached < 64 * length v.items)
 replay_begun a v c h none one nodes crashed live cover some opened right = (
   record {
@@ -133,7 +137,7 @@ replay_begun a v c h none one nodes crashed live cover some opened right = (
     first : IsCheckpoint (record a { checkpoints = v }) h 0 c
     first = record {
       known = record {
-        cover = subst (IsCover (start a.object.kind) (Step a.object.kind) [] c.frontier) (sym (ap (λ n. take n a.nodes) nodes ∙ take_all (length a.nodes) a.nodes (omega arith))) cover;
+        compressed = subst (IsCompressed (start a.object.kind) (Step a.object.kind) (observes a.object.kind) [] c.frontier) (sym (ap (λ n. take n a.nodes) nodes ∙ take_all (length a.nodes) a.nodes (omega arith))) cover;
         some = omega (arith, some);
         opened = subst (IsPending []) (sym (ap (λ l. take c.crashed a.pending.operations.items ++ l) live ∙ append-nil (take c.crashed a.pending.operations.items) ∙ ap (λ n. take n a.pending.operations.items) crashed)) opened;
       };
@@ -142,7 +146,7 @@ replay_begun a v c h none one nodes crashed live cover some opened right = (
     }
 
 -- a checkpoint of the present frontier
-marked : (a : Replay) (v : Vec Checkpoint Global) (frontier : Entries) (c : Checkpoint) (h : List Event) → a.present ≡ Some frontier → 64 * length a.checkpoints.items ≤ a.reached
+marked : (a : Replay) (v : Vec Checkpoint Global) (frontier : Members) (c : Checkpoint) (h : List Event) → a.present ≡ Some frontier → 64 * length a.checkpoints.items ≤ a.reached
     → v.items ≡ a.checkpoints.items ++ c ∷ [] → c.frontier ≡ frontier → c.nodes ≡ length a.nodes → c.crashed ≡ a.pending.crashed
     → take c.crashed a.pending.operations.items ++ c.live.items ≡ a.pending.operations.items
     → IsReplay a h → IsReplay (record a { checkpoints = v; present = None }) h
@@ -171,7 +175,7 @@ marked a v frontier c h is due made same nodes crashed all right = record {
     len : length v.items ≡ length a.checkpoints.items + 1
     len = ap length made ∙ length_push a.checkpoints.items c
 
-    none : (f : Entries) → None ≡ Some f → ⊥
+    none : (f : Members) → None ≡ Some f → ⊥
     none f e = cc
 
     place : (k : ℕ) → k ≡ length a.checkpoints.items → 64 * k ≡ a.reached
@@ -185,7 +189,7 @@ marked a v frontier c h is due made same nodes crashed all right = record {
       crashed = omega (arith, crashed);
     }
 
-pub replay_marked : (a : Replay) (v : Vec Checkpoint Global) (left : Option Entries) (frontier : Entries) (c : Checkpoint) (h : List Event) → left ≡ None → a.present ≡ Some frontier → 64 * length a.checkpoints.items ≤ a.reached
+pub replay_marked : (a : Replay) (v : Vec Checkpoint Global) (left : Option Members) (frontier : Members) (c : Checkpoint) (h : List Event) → left ≡ None → a.present ≡ Some frontier → 64 * length a.checkpoints.items ≤ a.reached
     → v.items ≡ a.checkpoints.items ++ c ∷ [] → c.frontier ≡ frontier → c.nodes ≡ length a.nodes → c.crashed ≡ a.pending.crashed
     → take c.crashed a.pending.operations.items ++ c.live.items ≡ a.pending.operations.items
     → IsReplay a h → IsReplay (record a { checkpoints = v; present = left }) h
@@ -193,7 +197,7 @@ replay_marked a v left frontier c h none is due made same nodes crashed all righ
     subst (λ p. IsReplay (record a { checkpoints = v; present = p }) h) (sym none) (marked a v frontier c h is due made same nodes crashed all right)
 
 -- what is present stays so
-pub replay_presents : (a : Replay) (left : Option Entries) (h : List Event) → left ≡ a.present → IsReplay a h → IsReplay (record a { present = left }) h
+pub replay_presents : (a : Replay) (left : Option Members) (h : List Event) → left ≡ a.present → IsReplay a h → IsReplay (record a { present = left }) h
 replay_presents a left h same right = subst (λ p. IsReplay (record a { present = p }) h) (sym same) right
 
 -- with no present frontier, the place of the last checkpoint is the present one
@@ -227,7 +231,7 @@ replay_listed a pending n h none c there end crashed front right = record {
     b : Replay
     b = record a { pending = pending }
 
-    never : (f : Entries) → None ≡ Some f → ⊥
+    never : (f : Members) → None ≡ Some f → ⊥
     never f e = cc
 
     most : (k : ℕ) (d : Checkpoint) → slice_get a.checkpoints.items k ≡ Some d → d.crashed ≤ c.crashed
@@ -242,7 +246,7 @@ replay_listed a pending n h none c there end crashed front right = record {
         ]
 
 -- what the present frontier is, is known
-pub known_current : (r : Replay) (h : List Event) → IsReplay r h → (f : Entries) → IsCurrent r.present r.checkpoints.items f → (pending : List Open) × IsKnown r.object.kind (take r.reached h) f r.nodes pending
+pub known_current : (r : Replay) (h : List Event) → IsReplay r h → (f : Members) → IsCurrent r.present r.checkpoints.items f → (pending : List Open) × IsKnown r.object.kind (take r.reached h) f r.nodes pending
 known_current r h right f (inl is) = (r.pending.operations.items, right.present f is)
 known_current r h right f (inr at) =
     let none = at.0 in
@@ -264,10 +268,10 @@ prepared_listed a n h none c there end all before right = record {
   known = λ f current. by f current;
 }
   where
-    never : (f : Entries) → None ≡ Some f → ⊥
+    never : (f : Members) → None ≡ Some f → ⊥
     never f e = cc
 
-    by : (f : Entries) → IsCurrent a.present a.checkpoints.items f → IsKnown a.object.kind (take a.reached h) f a.nodes a.pending.operations.items
+    by : (f : Members) → IsCurrent a.present a.checkpoints.items f → IsKnown a.object.kind (take a.reached h) f a.nodes a.pending.operations.items
     by f (inl is) = absurd (never f (sym none ∙ is))
     by f (inr at) =
         let same : at.1 ≡ n = omega (arith, end, at.4) in
@@ -284,7 +288,7 @@ prepared_present a h some before right = record {
   known = λ f current. by f current;
 }
   where
-    by : (f : Entries) → IsCurrent a.present a.checkpoints.items f → IsKnown a.object.kind (take a.reached h) f a.nodes a.pending.operations.items
+    by : (f : Members) → IsCurrent a.present a.checkpoints.items f → IsKnown a.object.kind (take a.reached h) f a.nodes a.pending.operations.items
     by f (inl is) = right.present f is
     by f (inr at) = absurd (some at.0)
 
@@ -325,8 +329,8 @@ next_event beginnings functions h n event pending well there opened = record {
 pub event_taken : (h : List Event) (n : ℕ) (event : Event) → IsEvent h n event → take (n + 1) h ≡ with_event (take n h) event
 event_taken h n event there = ap (λ m. take m h) (add-one n) ∙ take_next n h event there
 
-pub replay_advanced : (a : Replay) (next : Entries) (pending : Pending) (nodes : List (ℕ × Placed)) (h : List Event) (event : Event) → IsPrepared a h → IsEvent h a.reached event
-    → IsCover (start a.object.kind) (Step a.object.kind) (with_event (take a.reached h) event) next nodes → 0 < length next → IsPending (with_event (take a.reached h) event) pending.operations.items
+pub replay_advanced : (a : Replay) (next : Members) (pending : Pending) (nodes : Links) (h : List Event) (event : Event) → IsPrepared a h → IsEvent h a.reached event
+    → IsCompressed (start a.object.kind) (Step a.object.kind) (observes a.object.kind) (with_event (take a.reached h) event) next nodes → 0 < length next → IsPending (with_event (take a.reached h) event) pending.operations.items
     → IsGrown a.nodes nodes → a.pending.crashed ≤ pending.crashed → take a.pending.crashed pending.operations.items ≡ take a.pending.crashed a.pending.operations.items
     → IsReplay (record a { reached = a.reached + 1; present = Some next; pending = pending; nodes = nodes }) h
 replay_advanced a next pending nodes h event prepared there cover some opened grown crashed front = record {
@@ -340,7 +344,7 @@ replay_advanced a next pending nodes h event prepared there cover some opened gr
       (sym (take_alike c.crashed a.pending.crashed pending.operations.items a.pending.operations.items was.crashed front)) (omega (arith, was.crashed)) was;
   rising = right.rising;
   present = λ f is. subst (λ g. IsKnown a.object.kind (take (a.reached + 1) h) g nodes pending.operations.items) (some_same next f is)
-      (subst (λ l. IsKnown a.object.kind l next nodes pending.operations.items) (sym (event_taken h a.reached event there)) (record { cover = cover; some = some; opened = opened }));
+      (subst (λ l. IsKnown a.object.kind l next nodes pending.operations.items) (sym (event_taken h a.reached event there)) (record { compressed = cover; some = some; opened = opened }));
   last = λ none k c at end. absurd (never none);
 }
   where
@@ -350,7 +354,7 @@ replay_advanced a next pending nodes h event prepared there cover some opened gr
     b : Replay
     b = record a { reached = a.reached + 1; present = Some next; pending = pending; nodes = nodes }
 
-    some_same : (x y : Entries) → Some x ≡ Some y → x ≡ y
+    some_same : (x y : Members) → Some x ≡ Some y → x ≡ y
     some_same x y e = cc
 
     never : Some next ≡ None → ⊥
@@ -362,7 +366,7 @@ replay_advanced a next pending nodes h event prepared there cover some opened gr
         omega (arith, length-take-le m a.nodes below, length-take m nodes, taken)
 
 -- back at a checkpoint
-pub replay_back : (a : Replay) (v : Vec Checkpoint Global) (number place : ℕ) (last : Checkpoint) (nodes : List (ℕ × Placed)) (h edited : List Event) → IsReplay a h → number < length a.checkpoints.items
+pub replay_back : (a : Replay) (v : Vec Checkpoint Global) (number place : ℕ) (last : Checkpoint) (nodes : Links) (h edited : List Event) → IsReplay a h → number < length a.checkpoints.items
     → take (64 * number) h ≡ take (64 * number) edited → v.items ≡ take (number + 1) a.checkpoints.items → slice_get v.items (length v.items - 1) ≡ Some last → nodes ≡ take last.nodes a.nodes → place ≡ 64 * number
     → IsReplay (record a { reached = place; checkpoints = v; present = None; nodes = nodes }) edited
 replay_back a v number place last nodes h edited right inside same made at_last cut is = record {
@@ -387,7 +391,7 @@ replay_back a v number place last nodes h edited right inside same made at_last 
     b : Replay
     b = record a { reached = place; checkpoints = v; present = None; nodes = nodes }
 
-    never : (f : Entries) → None ≡ Some f → ⊥
+    never : (f : Members) → None ≡ Some f → ⊥
     never f e = cc
 
     len : length v.items ≡ number + 1
@@ -411,24 +415,22 @@ replay_back a v number place last nodes h edited right inside same made at_last 
           omega (arith, one)
     ]
 
--- each node of a cover spells a legal order, for each kind
+-- each node of a member spells a legal order, for each kind
 abbrev pub SpellsOrders : Type 0
-SpellsOrders = (kind : Kind) → CoversSpellLegalOrders (start kind) (Step kind)
+SpellsOrders = (kind : Kind) → CompressedSpellLegalOrders (start kind) (Step kind) (observes kind)
 
--- the first node of a frontier spells a legal order
-pub first_order : SpellsOrders → (kind : Kind) (h : List Event) (f : Entries) (nodes : List (ℕ × Placed)) (pending : List Open) → IsKnown kind h f nodes pending
-    → (config : State × List (ℕ × Reply)) (node : ℕ) → slice_get f 0 ≡ Some (config, node)
-    → (order : List Placed) × Spells nodes node order × IsLegalOrderAs kind h order
-first_order law kind h f nodes pending known config node at =
-    let entry = get_or_from_slice_get f 0 (config, node) (config, node) at in
-    let found = law kind h f nodes known.cover 0 (config, node) known.some in
-    (found.0, subst (λ e. Spells nodes e.1 found.0) entry found.1, found.2)
+-- the node of a member spells a legal order
+pub member_order : SpellsOrders → (kind : Kind) (h : List Event) (f : Members) (nodes : Links) (pending : List Open) → IsKnown kind h f nodes pending → (node : ℕ) (i : ℕ) → (m : Member State × Path) × (slice_get f i ≡ Some m) × (m.1.node ≡ node)
+    → (rounds : List (List Placed)) × SpellsRounds nodes node rounds × IsLegalOrderAs kind h (joined rounds)
+member_order law kind h f nodes pending known node i m =
+    let found = law kind h f nodes known.compressed m.0 (contains_from_get f i m.0 m.1) in
+    (found.0, subst (λ n. SpellsRounds nodes n found.0) m.2 found.1, found.2)
 
-pub known_linearizable : SpellsOrders → (kind : Kind) (h : List Event) (f : Entries) (nodes : List (ℕ × Placed)) (pending : List Open) → IsKnown kind h f nodes pending → IsLinearizableAs kind h
+pub known_linearizable : SpellsOrders → (kind : Kind) (h : List Event) (f : Members) (nodes : Links) (pending : List Open) → IsKnown kind h f nodes pending → IsLinearizableAs kind h
 known_linearizable law kind h [] nodes pending known = absurd (let some = known.some in omega arith)
-known_linearizable law kind h (e ∷ rest) nodes pending known =
-    let found = first_order law kind h (e ∷ rest) nodes pending known e.0 e.1 refl in
-    (found.0, found.2)
+known_linearizable law kind h (m ∷ rest) nodes pending known =
+    let found = law kind h (m ∷ rest) nodes known.compressed m (0, omega arith, refl) in
+    (joined found.0, found.2)
 
 -- the empty history has the empty order
 pub nothing_legal : EmptyIsLegal → (kind : Kind) (h : List Event) (n : ℕ) → n ≡ 0 → IsLegalOrderAs kind (take n h) []
@@ -438,7 +440,7 @@ nothing_legal law kind h n e = subst (λ m. IsLegalOrderAs kind (take m h) []) (
 pub replay_linearizable : EmptyIsLegal → SpellsOrders → (r : Replay) (h : List Event) → IsReplay r h → IsLinearizableAs r.object.kind (take r.reached h)
 replay_linearizable law orders r h right = by r.present refl
   where
-    current : (f : Entries) → IsCurrent r.present r.checkpoints.items f → IsLinearizableAs r.object.kind (take r.reached h)
+    current : (f : Members) → IsCurrent r.present r.checkpoints.items f → IsLinearizableAs r.object.kind (take r.reached h)
     current f is = let known = known_current r h right f is in known_linearizable orders r.object.kind (take r.reached h) f r.nodes known.0 known.1
 
     from : r.present ≡ None → (items : List Checkpoint) → r.checkpoints.items ≡ items → IsLinearizableAs r.object.kind (take r.reached h)
@@ -446,6 +448,6 @@ replay_linearizable law orders r h right = by r.present refl
     from none (c ∷ rest) e = current (get_or (c ∷ rest) (length rest) c).frontier
         (inr (none, length rest, get_or (c ∷ rest) (length rest) c, ap (λ l. slice_get l (length rest)) e ∙ slice_get-get_or (c ∷ rest) (length rest) c (omega arith), (let n = ap length e in omega arith), refl))
 
-    by : (present : Option Entries) → r.present ≡ present → IsLinearizableAs r.object.kind (take r.reached h)
+    by : (present : Option Members) → r.present ≡ present → IsLinearizableAs r.object.kind (take r.reached h)
     by None is = from is r.checkpoints.items refl
     by (Some f) is = current f (inl is)

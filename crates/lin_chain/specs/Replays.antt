@@ -1,15 +1,17 @@
 -- What is kept of the first events of an object, so that more can be taken in, and so that it can be gone back to fewer.
 use Rattle.std.specs.Prelude.{◌≡◌, ◌+◌, ◌*◌, ◌<◌, ◌≤◌, ◌++◌, ◌⊎◌, ℕ, List, Option, Some, None, AllPairs, length, take, slice_get, is_some, if◌then◌else◌}
 use Rattle.lin_history.specs.declared.events.Event.{Event}
-use Rattle.lin_history.specs.declared.calls.Reply.{Reply}
 use Rattle.lin_objects.specs.declared.kinds.Kind.{Kind}
 use Rattle.lin_objects.specs.declared.states.State.{State}
+use Rattle.lin_objects.specs.Observing.{observes}
 use Rattle.lin_objects.specs.Steps.{Step, start}
 use Rattle.lin_order.specs.declared.placed.Placed.{Placed}
 use Rattle.lin_order.specs.Linearizable.{IsLinearizableBy, IsLegalOrderBy}
+use Rattle.lin_frontier.specs.declared.members.Path.{Path}
 use Rattle.lin_frontier.specs.declared.pending.Open.{Open}
-use Rattle.lin_frontier.specs.Covers.{IsCover}
+use Rattle.lin_frontier.specs.Compressed.{IsCompressed}
 use Rattle.lin_frontier.specs.Frontiers.{IsPending}
+use Rattle.lin_frontier.specs.Members.{Member}
 use Rattle.lin_chain.specs.declared.replay.Checkpoint.{Checkpoint}
 use Rattle.lin_chain.specs.declared.replay.Replay.{Replay}
 
@@ -22,16 +24,20 @@ abbrev pub IsLinearizableAs : Kind → List Event → Type 0
 IsLinearizableAs kind h = IsLinearizableBy (start kind) (Step kind) h
 
 -- what a frontier holds
-abbrev pub Entries : Type 0
-Entries = List ((State × List (ℕ × Reply)) × ℕ)
+abbrev pub Members : Type 0
+Members = List (Member State × Path)
+
+-- the nodes that spell its members in rounds
+abbrev pub Links : Type 0
+Links = List (ℕ × (Placed × Option ℕ))
 
 -- how many frontiers are held: those of the checkpoints, and the present one
 abbrev pub held_count : Replay → ℕ
 held_count replay = length replay.checkpoints.items + (if is_some replay.present then 1 else 0)
 
--- the frontier covers the configurations of the events, and isn't empty; and these operations are open then
-pub record IsKnown (kind : Kind) (h : List Event) (frontier : Entries) (nodes : List (ℕ × Placed)) (pending : List Open) : Type 0 where
-  pub cover : IsCover (start kind) (Step kind) h frontier nodes
+-- the frontier is one of the events, and isn't empty; and these operations are open then
+pub record IsKnown (kind : Kind) (h : List Event) (frontier : Members) (nodes : Links) (pending : List Open) : Type 0 where
+  pub compressed : IsCompressed (start kind) (Step kind) (observes kind) h frontier nodes
   pub some : 0 < length frontier
   pub opened : IsPending h pending
 
@@ -49,12 +55,12 @@ pub record IsReplay (replay : Replay) (h : List Event) : Type 0 where
   pub few : 64 * length replay.checkpoints.items ≤ replay.reached + 64
   pub checkpoints : (k : ℕ) (checkpoint : Checkpoint) → slice_get replay.checkpoints.items k ≡ Some checkpoint → IsCheckpoint replay h (64 * k) checkpoint
   pub rising : AllPairs (λ c d. (c.nodes ≤ d.nodes) × (c.crashed ≤ d.crashed)) replay.checkpoints.items
-  pub present : (frontier : Entries) → replay.present ≡ Some frontier → IsKnown replay.object.kind (take replay.reached h) frontier replay.nodes replay.pending.operations.items
+  pub present : (frontier : Members) → replay.present ≡ Some frontier → IsKnown replay.object.kind (take replay.reached h) frontier replay.nodes replay.pending.operations.items
   pub last : replay.present ≡ None → (k : ℕ) (checkpoint : Checkpoint) → slice_get replay.checkpoints.items k ≡ Some checkpoint → k + 1 ≡ length replay.checkpoints.items
       → (64 * k ≡ replay.reached) × (checkpoint.nodes ≡ length replay.nodes)
 
 -- this is the present frontier, or where there is none the last checkpoint's
-abbrev pub IsCurrent : Option Entries → List Checkpoint → Entries → Type 0
+abbrev pub IsCurrent : Option Members → List Checkpoint → Members → Type 0
 IsCurrent present checkpoints frontier = (present ≡ Some frontier)
     ⊎ ((present ≡ None) × (k : ℕ) × (checkpoint : Checkpoint) × (slice_get checkpoints k ≡ Some checkpoint) × (k + 1 ≡ length checkpoints) × (checkpoint.frontier ≡ frontier))
 
@@ -62,4 +68,4 @@ IsCurrent present checkpoints frontier = (present ≡ Some frontier)
 pub record IsPrepared (replay : Replay) (h : List Event) : Type 0 where
   pub right : IsReplay replay h
   pub before : replay.reached < 64 * length replay.checkpoints.items
-  pub known : (frontier : Entries) → IsCurrent replay.present replay.checkpoints.items frontier → IsKnown replay.object.kind (take replay.reached h) frontier replay.nodes replay.pending.operations.items
+  pub known : (frontier : Members) → IsCurrent replay.present replay.checkpoints.items frontier → IsKnown replay.object.kind (take replay.reached h) frontier replay.nodes replay.pending.operations.items

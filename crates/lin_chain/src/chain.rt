@@ -14,7 +14,7 @@ ghost use Rattle.lin_chain.specs.Replays.{IsLegalOrderAs};
 
 use crate::refuting::refutation_of;
 use crate::replay::{Replay, SPACING, Taken};
-use lin_frontier::covers_spell_legal_orders;
+use lin_frontier::members_spell_legal_orders;
 use lin_history::{Event, Meter, OutOfMemory};
 use lin_objects::{Any, Kind};
 use lin_order::{Placed, Refutation, empty_is_legal};
@@ -158,7 +158,7 @@ impl Chain {
         ensures scans { meter.new.scans ≡ meter.old.scans }
     {
         empty_is_legal();
-        covers_spell_legal_orders::<Any>();
+        members_spell_legal_orders::<Any>();
         self.retry(budget);
         if self.end.is_alive() {
             self.go_on(events, picks, budget, meter)?;
@@ -229,13 +229,14 @@ impl Chain {
         ensures scans { meter.new.scans ≡ meter.old.scans }
     {
         empty_is_legal();
-        covers_spell_legal_orders::<Any>();
+        members_spell_legal_orders::<Any>();
         let at = self.replay.reached;
         self.replay.prepare()?;
         self.end = match self.replay.take_in(event, budget, meter)? {
             Taken::Next => End::Alive,
             Taken::Empty => End::Dead(at),
             Taken::Over => End::Over(at),
+            Taken::OverBefore => End::Over(at.saturating_sub(1)),
         };
         self.budget = budget;
         self.ready = at + 1;

@@ -104,6 +104,7 @@ impl Builder {
             → IsLinearizableAs self.old.object.kind (take (at + 1) h) → ⊥ }
         ensures over { result ≡ Ok Taken.Over → (functions : ℤ → NameOf → Bool) (h : List EventOf) → IsWellFormed functions h → IsEvent h at event.now → AreBuilt self.old h at
             → IsOver (start_of self.old.object.kind) (StepOf self.old.object.kind) (take (at + 1) h) budget }
+        ensures before { result ≡ Ok Taken.OverBefore → ⊥ }
     {
         beginnings_are_well_formed();
         let mut meter = Meter::new();
@@ -156,6 +157,7 @@ pub(crate) fn refutation_of(
             Taken::Next => {}
             Taken::Over => return Ok(None),
             Taken::Empty => unreachable!(),
+            Taken::OverBefore => unreachable!(),
         }
     }
     builder.sets.push(Vec::new(alloc))?;

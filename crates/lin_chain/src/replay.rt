@@ -1,5 +1,5 @@
 //! The frontiers that are kept of an object's events: the present one, and one at each 64th place.
-ghost use Rattle.std.specs.Prelude.{◌≡◌, ◌≢◌, ◌≤◌, ◌<◌, ◌+◌, ◌*◌, [], ℕ, ℤ, Bool, List, None, All, IfOk, IfSome, IfNone, OnOk, OnErr, length, take, min, vec_len, vec_capacity};
+ghost use Rattle.std.specs.Prelude.{◌≡◌, ◌≢◌, ◌≤◌, ◌<◌, ◌+◌, ◌*◌, [], ℕ, ℤ, Bool, List, None, Some, All, IfOk, IfSome, IfNone, OnOk, OnErr, length, take, min, vec_len, vec_capacity};
 ghost use Rattle.lin_history.specs.declared.calls.Name.{Name as NameOf};
 ghost use Rattle.lin_history.specs.declared.events.Event.{Event as EventOf};
 ghost use Rattle.lin_history.specs.Meters.{ticked};
@@ -7,13 +7,15 @@ ghost use Rattle.lin_history.specs.Operations.{IsEvent};
 ghost use Rattle.lin_history.specs.WellFormed.{IsWellFormed};
 ghost use Rattle.lin_objects.specs.Steps.{Step as StepOf, start as start_of};
 ghost use Rattle.lin_order.specs.declared.placed.Placed.{Placed as PlacedOf};
-ghost use Rattle.lin_frontier.specs.Frontiers.{IsOver};
-ghost use Rattle.lin_frontier.specs.Nodes.{Spells};
-ghost use Rattle.lin_chain.specs.Replays.{IsCurrent, IsLegalOrderAs, IsLinearizableAs, IsPrepared, IsReplay, held_count};
+ghost use Rattle.lin_order.specs.ConfigurationLaws.{with_event};
+ghost use Rattle.lin_frontier.specs.Frontiers.{IsNextEvent, IsOver, IsPending};
+ghost use Rattle.lin_frontier.specs.Rounds.{joined, SpellsRounds};
+ghost use Rattle.lin_chain.specs.Replays.{IsCurrent, IsLegalOrderAs, IsLinearizableAs, IsPrepared, IsReplay, Members, held_count};
 
 use crate::pending::{Pending, append};
 use lin_frontier::{
-    Frontier, NodeId, Nodes, Open, Step, covers_spell_legal_orders, nothing_is_open_at_first,
+    Advance, Compressed, NodeId, Open, RoundNodes, members_spell_legal_orders,
+    nothing_is_open_at_first,
 };
 use lin_history::{Event, Meter, OutOfMemory, beginnings_are_well_formed};
 use lin_objects::{Any, Kind};
@@ -26,7 +28,7 @@ pub(crate) const SPACING: usize = 64;
 /// What is kept of the events before a place, to go on from there.
 #[derive(Drop)]
 pub(crate) struct Checkpoint {
-    frontier: Frontier<Any>,
+    frontier: Compressed<Any>,
     /// How many nodes there were.
     nodes: usize,
     /// How many operations had crashed.
@@ -44,10 +46,10 @@ pub(crate) struct Replay {
     pub(crate) reached: usize,
     checkpoints: Vec<Checkpoint>,
     /// The frontier after them. None where the last checkpoint has it.
-    present: Option<Frontier<Any>>,
+    present: Option<Compressed<Any>>,
     /// What is open after them. Behind the crashed ones it holds anything where there is no present frontier.
     pending: Pending,
-    nodes: Nodes,
+    nodes: RoundNodes,
 }
 
 /// What one more event made of the present frontier.
@@ -59,6 +61,8 @@ pub(crate) enum Taken {
     Empty,
     /// There are more configurations than the budget. All is as before.
     Over,
+    /// There were more before the event. All is as before.
+    OverBefore,
 }
 
 impl Replay {
@@ -75,7 +79,7 @@ impl Replay {
             checkpoints: Vec::new(alloc),
             present: None,
             pending: Pending::new(alloc),
-            nodes: Nodes::new(alloc),
+            nodes: RoundNodes::new(alloc),
         }
     }
 
@@ -167,7 +171,7 @@ impl Replay {
         if self.checkpoints.reserve(1).is_err() {
             return Err(OutOfMemory);
         }
-        let frontier = Frontier::start(self.alloc, &self.object, &mut self.nodes)?;
+        let frontier = Compressed::start(self.alloc, &self.object, &self.nodes)?;
         self.checkpoints.push_reserved(Checkpoint {
             frontier,
             nodes: self.nodes.len(),
@@ -236,6 +240,8 @@ impl Replay {
             → IsLinearizableAs self.old.object.kind (take (self.old.reached + 1) h) → ⊥ }
         ensures over { result ≡ Ok Taken.Over → (functions : ℤ → NameOf → Bool) (h : List EventOf) → IsWellFormed functions h → IsEvent h self.old.reached event.now → IsPrepared self.old h
             → IsOver (start_of self.old.object.kind) (StepOf self.old.object.kind) (take (self.old.reached + 1) h) budget }
+        ensures before { result ≡ Ok Taken.OverBefore → (functions : ℤ → NameOf → Bool) (h : List EventOf) → IsWellFormed functions h → IsEvent h self.old.reached event.now → IsPrepared self.old h
+            → (0 < self.old.reached) × IsOver (start_of self.old.object.kind) (StepOf self.old.object.kind) (take self.old.reached h) budget }
         ensures steps { meter.new.steps ≡ ticked meter.old.steps 1 }
         ensures scans { meter.new.scans ≡ meter.old.scans }
     {
@@ -254,15 +260,57 @@ impl Replay {
             meter,
         )?;
         match step {
-            Step::Next(next) => {
+            Advance::Same => {
+                self.stay(event)?;
+                Ok(Taken::Next)
+            }
+            Advance::Next(next) => {
                 self.pending.take_in(self.reached, event);
                 self.present = Some(next);
                 self.reached += 1;
                 Ok(Taken::Next)
             }
-            Step::Empty => Ok(Taken::Empty),
-            Step::Over => Ok(Taken::Over),
+            Advance::Empty => Ok(Taken::Empty),
+            Advance::Over => Ok(Taken::Over),
+            Advance::OverBefore => Ok(Taken::OverBefore),
         }
+    }
+
+    /// Takes one more event in that leaves the frontier as it is.
+    fn stay(&mut self, event: &Event) -> Result<(), OutOfMemory>
+        requires some { 0 < length self.old.checkpoints.items }
+        requires room { vec_len self.old.pending.operations < vec_capacity self.old.pending.operations }
+        requires fits { self.old.reached < usize.MAX }
+        ensures others { OnOk result (self.new ≡ record self.old { reached = self.old.reached + 1; present = self.new.present; pending = self.new.pending }) }
+        ensures held { OnOk result ((frontier : Members) → IsCurrent self.old.present self.old.checkpoints.items frontier → self.new.present ≡ Some frontier) }
+        ensures open { OnOk result ((functions : ℤ → NameOf → Bool) (h : List EventOf) → IsNextEvent functions h self.old.pending.operations.items self.old.reached event.now
+            → IsPending (with_event h event.now) self.new.pending.operations.items) }
+        ensures more { OnOk result (self.old.pending.crashed ≤ self.new.pending.crashed) }
+        ensures front { OnOk result (take self.old.pending.crashed self.new.pending.operations.items ≡ take self.old.pending.crashed self.old.pending.operations.items) }
+        ensures refused { OnErr result (self.new ≡ self.old) }
+    {
+        self.hold()?;
+        self.pending.take_in(self.reached, event);
+        self.reached += 1;
+        Ok(())
+    }
+
+    /// Makes the current frontier the present one, on its own memory.
+    fn hold(&mut self) -> Result<(), OutOfMemory>
+        requires { 0 < length self.old.checkpoints.items }
+        ensures others { self.new ≡ record self.old { present = self.new.present } }
+        ensures held { OnOk result ((frontier : Members) → IsCurrent self.old.present self.old.checkpoints.items frontier → self.new.present ≡ Some frontier) }
+        ensures refused { OnErr result (self.new ≡ self.old) }
+    {
+        if self.present.is_some() {
+            return Ok(());
+        }
+        let Some(frontier) = current(&self.present, &self.checkpoints) else {
+            unreachable!()
+        };
+        let copy = frontier.copy(self.alloc, &self.object)?;
+        self.present = Some(copy);
+        Ok(())
     }
 
     /// A legal order of the events that are known.
@@ -275,15 +323,15 @@ impl Replay {
 
     /// The node of a legal order of them.
     fn node(&self) -> NodeId
-        ensures { (h : List EventOf) → IsReplay self.now h → (order : List PlacedOf) × Spells self.now.nodes result order × IsLegalOrderAs self.now.object.kind (take self.now.reached h) order }
+        ensures { (h : List EventOf) → IsReplay self.now h → (rounds : List (List PlacedOf)) × SpellsRounds self.now.nodes result rounds × IsLegalOrderAs self.now.object.kind (take self.now.reached h) (joined rounds) }
     {
         empty_is_legal();
-        covers_spell_legal_orders::<Any>();
+        members_spell_legal_orders::<Any>();
         let Some(frontier) = current(&self.present, &self.checkpoints) else {
             return 0;
         };
-        match frontier.get(0) {
-            Some((_, node)) => node,
+        match frontier.node(0) {
+            Some(node) => node,
             None => 0,
         }
     }
@@ -291,9 +339,9 @@ impl Replay {
 
 /// The present frontier, or where there is none the last checkpoint's.
 fn current<'a>(
-    present: &'a Option<Frontier<Any>>,
+    present: &'a Option<Compressed<Any>>,
     checkpoints: &'a [Checkpoint],
-) -> Option<&'a Frontier<Any>>
+) -> Option<&'a Compressed<Any>>
     ensures some { IfSome result (λ frontier. IsCurrent present.now checkpoints.now frontier.now) }
     ensures none { IfNone result (checkpoints.now ≡ []) }
 {

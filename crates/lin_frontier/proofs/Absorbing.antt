@@ -4,18 +4,17 @@ use Rattle.std.proofs.lemmas.List.{append-nil}
 use Rattle.std.proofs.lemmas.List.Elements.{All-push, All-pop, All-weaker, All-contains_itself, Contains-push, Contains-push_cases, Contains-append_left}
 use Rattle.std.specs.Map.{keys_of}
 use Rattle.lin_order.specs.declared.placed.Placed.{Placed}
-use Rattle.lin_frontier.specs.Covering.{IsCoveredBy}
 use Rattle.lin_frontier.specs.Nodes.{IsGrown}
 use Rattle.lin_frontier.specs.Walks.{IsNode, IsAbsorbed}
 
 -- of the outcomes, `rest` are still to be taken
-pub record IsAbsorbing {S : Type 0} (C : S → S → Type 0) (out rest : List (S × Placed)) (parent : ℕ) (before now : List (S × ℕ)) (first nodes : List (ℕ × Placed)) : Type 0 where
+pub record IsAbsorbing {S : Type 0} (out rest : List (S × Placed)) (parent : ℕ) (before now : List (S × ℕ)) (first nodes : List (ℕ × Placed)) : Type 0 where
   pub added : List (S × ℕ)
   pub kept : now ≡ before ++ added
   pub grown : IsGrown first nodes
   pub from_out : All (λ e. (l : Placed) × Contains out (e.0, l) × IsNode nodes e.1 parent l) added
   pub rest_of : All (Contains out) rest
-  pub taken : (p : S × Placed) → Contains out p → IsCoveredBy C (keys_of now) p.0 ⊎ Contains rest p
+  pub taken : (p : S × Placed) → Contains out p → Contains (keys_of now) p.0 ⊎ Contains rest p
 
 -- what nodes had they have with more
 pub get_more : {A : Type 0} (xs ys : List A) (k : ℕ) (x : A) → slice_get xs k ≡ Some x → slice_get (xs ++ ys) k ≡ Some x
@@ -32,8 +31,8 @@ pub keys_push : {K X : Type 0} (es : List (K × X)) (k : K) (v : X) → keys_of 
 keys_push [] k v = refl
 keys_push (e ∷ es) k v = ap (λ l. e.0 ∷ l) (keys_push es k v)
 
-pub absorbing_start : {S : Type 0} (C : S → S → Type 0) (out : List (S × Placed)) (parent : ℕ) (before : List (S × ℕ)) (nodes : List (ℕ × Placed)) → IsAbsorbing C out out parent before before nodes nodes
-absorbing_start C out parent before nodes = record {
+pub absorbing_start : {S : Type 0} (out : List (S × Placed)) (parent : ℕ) (before : List (S × ℕ)) (nodes : List (ℕ × Placed)) → IsAbsorbing out out parent before before nodes nodes
+absorbing_start out parent before nodes = record {
   added = [];
   kept = sym (append-nil before);
   grown = ([], sym (append-nil nodes));
@@ -42,9 +41,9 @@ absorbing_start C out parent before nodes = record {
   taken = λ s h. inr h;
 }
 
-module _ {S : Type 0} (C : S → S → Type 0) (out more rest : List (S × Placed)) (parent : ℕ) (before now : List (S × ℕ)) (first nodes : List (ℕ × Placed)) (x : S × Placed) (popped : more ≡ rest ++ x ∷ []) where
-  -- the last of the rest was covered already
-  pub absorbing_skip : IsCoveredBy C (keys_of now) x.0 → IsAbsorbing C out more parent before now first nodes → IsAbsorbing C out rest parent before now first nodes
+module _ {S : Type 0} (out more rest : List (S × Placed)) (parent : ℕ) (before now : List (S × ℕ)) (first nodes : List (ℕ × Placed)) (x : S × Placed) (popped : more ≡ rest ++ x ∷ []) where
+  -- the last of the rest was there already
+  pub absorbing_skip : Contains (keys_of now) x.0 → IsAbsorbing out more parent before now first nodes → IsAbsorbing out rest parent before now first nodes
   absorbing_skip there a = record {
     added = a.added;
     kept = a.kept;
@@ -55,15 +54,15 @@ module _ {S : Type 0} (C : S → S → Type 0) (out more rest : List (S × Place
       | inl in_now ↦ inl in_now
       | inr in_more ↦ elim (Contains-push_cases rest x s (subst (λ l. Contains l s) popped in_more)) [
         | inl in_rest ↦ inr in_rest
-        | inr same ↦ inl (subst (λ p. IsCoveredBy C (keys_of now) p.0) same there)
+        | inr same ↦ inl (subst (λ p. Contains (keys_of now) p.0) same there)
       ]
     ];
   }
 
   -- the last of the rest was new, and was put at the end with a node of its own
-  pub absorbing_push : C x.0 x.0 → (then' : List (S × ℕ)) (grown : List (ℕ × Placed)) (id : ℕ) → then' ≡ now ++ (x.0, id) ∷ [] → grown ≡ nodes ++ (parent, x.1) ∷ [] → id ≡ length nodes + 1
-      → IsAbsorbing C out more parent before now first nodes → IsAbsorbing C out rest parent before then' first grown
-  absorbing_push itself then' grown id put pushed is a =
+  pub absorbing_push : (then' : List (S × ℕ)) (grown : List (ℕ × Placed)) (id : ℕ) → then' ≡ now ++ (x.0, id) ∷ [] → grown ≡ nodes ++ (parent, x.1) ∷ [] → id ≡ length nodes + 1
+      → IsAbsorbing out more parent before now first nodes → IsAbsorbing out rest parent before then' first grown
+  absorbing_push then' grown id put pushed is a =
       let parts = All-pop (Contains out) more rest (Some x) popped a.rest_of in
       let keys = ap keys_of put ∙ keys_push now x.0 id in
       record {
@@ -76,18 +75,18 @@ module _ {S : Type 0} (C : S → S → Type 0) (out more rest : List (S × Place
             (x.1, parts.1, (length nodes, is ∙ add-one (length nodes), subst (λ l. slice_get l (length nodes) ≡ Some (parent, x.1)) (sym pushed) (get_last nodes (parent, x.1))));
         rest_of = parts.0;
         taken = λ s h. elim (a.taken s h) [
-          | inl in_now ↦ inl (in_now.0, subst (λ l. Contains l in_now.0) (sym keys) (Contains-append_left (keys_of now) (x.0 ∷ []) in_now.0 in_now.1), in_now.2)
+          | inl in_now ↦ inl (subst (λ l. Contains l s.0) (sym keys) (Contains-append_left (keys_of now) (x.0 ∷ []) s.0 in_now))
           | inr in_more ↦ elim (Contains-push_cases rest x s (subst (λ l. Contains l s) popped in_more)) [
             | inl in_rest ↦ inr in_rest
-            | inr same ↦ inl (x.0, subst (λ l. Contains l x.0) (sym keys) (Contains-push (keys_of now) x.0), subst (λ p. C x.0 p.0) same itself)
+            | inr same ↦ inl (subst (λ l. Contains l s.0) (sym keys) (subst (λ p. Contains (keys_of now ++ x.0 ∷ []) p.0) same (Contains-push (keys_of now) x.0)))
           ]
         ];
       }
 
--- in the end each outcome is covered
-pub absorbing_end : {S : Type 0} (C : S → S → Type 0) (out rest : List (S × Placed)) (parent : ℕ) (before now : List (S × ℕ)) (first nodes : List (ℕ × Placed)) → rest ≡ []
-    → IsAbsorbing C out rest parent before now first nodes → IsAbsorbed C out parent before now nodes
-absorbing_end C out rest parent before now first nodes e a = record {
+-- in the end each outcome is among the keys
+pub absorbing_end : {S : Type 0} (out rest : List (S × Placed)) (parent : ℕ) (before now : List (S × ℕ)) (first nodes : List (ℕ × Placed)) → rest ≡ []
+    → IsAbsorbing out rest parent before now first nodes → IsAbsorbed out parent before now nodes
+absorbing_end out rest parent before now first nodes e a = record {
   added = a.added;
   kept = a.kept;
   from_out = a.from_out;

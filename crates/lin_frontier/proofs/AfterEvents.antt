@@ -1,5 +1,5 @@
--- What an invocation makes of configurations that cover all.
-use Rattle.std.proofs.Common.{◌≡◌, ℕ, ℤ, zero, suc, ◌<◌, Bool, false, List, [], ◌∷◌, ◌++◌, length, All, Contains, ◌⊎◌, inl, inr, refl, sym, ap, subst, ◌∙◌, append_assoc, arith, get_or}
+-- What an event makes of a frontier is the frontier after the event.
+use Rattle.std.proofs.Common.{◌≡◌, ℕ, ℤ, zero, suc, ◌<◌, Bool, false, List, [], ◌∷◌, ◌++◌, length, Contains, ◌⊎◌, inl, inr, refl, sym, ap, subst, ◌∙◌, append_assoc, arith, get_or}
 use Rattle.std.specs.Map.{keys_of}
 use Rattle.std.proofs.lemmas.List.{append-nil}
 use Rattle.std.proofs.lemmas.List.Elements.{All-contains, All-weaker, Contains-append_right}
@@ -16,17 +16,19 @@ use Rattle.lin_order.specs.declared.placed.Placed.{Placed}
 use Rattle.lin_order.specs.Configurations.{EndsIn, IsAdded, IsConfiguration, IsPlacing, IsPlacedOn, none, more as further}
 use Rattle.lin_order.specs.ConfigurationLaws.{with_event, AfterInvocation, InvocationLaw, PlacingIsLegal}
 use Rattle.lin_frontier.specs.declared.pending.Open.{Open}
-use Rattle.lin_frontier.specs.Covering.{AreCovering, IsCoveredBy}
-use Rattle.lin_frontier.specs.Covers.{Covers}
-use Rattle.lin_frontier.specs.Frontiers.{IsNextEvent, IsOver}
+use Rattle.lin_frontier.specs.Frontiers.{IsFrontier, IsNextEvent, IsOver}
+use Rattle.lin_frontier.specs.Nodes.{Spells}
 use Rattle.lin_frontier.specs.Placing.{IsAbsent, IsKept, IsKeeping, PlacesOne, PlacesNext, insert_pair}
 use Rattle.lin_frontier.specs.Walks.{Walk, here, more, IsBeyond, IsClosure, IsTraced}
 use Rattle.lin_history.proofs.OneMore.{invoked, one_call, one_caller, one_open, open_before, open_kept}
-use Rattle.lin_frontier.proofs.Covered.{IsNoted, covered_further, covers_added, part_of}
 use Rattle.lin_frontier.proofs.Inserting.{absent_from, first_or_rest, insert_added, insert_is, none_from}
 
+-- the node of the entry spells a legal order that ends in its configuration
+abbrev pub IsNoted : {S : Type 0} → S → (S → Call → S → Reply → Type 0) → List Event → List (ℕ × Placed) → (S × List (ℕ × Reply)) × ℕ → Type 0
+IsNoted start step h nodes e = (order : List Placed) × Spells nodes e.1 order × EndsIn start step h order e.0
+
 -- a key has an entry
-pub entry_of : {K : Type 0} (es : List (K × ℕ)) (k : K) → Contains (keys_of es) k → (id : ℕ) × Contains es (k, id)
+entry_of : {K : Type 0} (es : List (K × ℕ)) (k : K) → Contains (keys_of es) k → (id : ℕ) × Contains es (k, id)
 entry_of {K} es k there = by es there.0 there.1 there.2
   where
     by : (es : List (K × ℕ)) (i : ℕ) → i < length (keys_of es) → get_or (keys_of es) i k ≡ k → (id : ℕ) × Contains es (k, id)
@@ -49,8 +51,8 @@ absent_or process (x ∷ xs) = elim (cases_eq x.0 process) [
 ]
 
 module _ {S : Type 0} (start : S) (step : S → Call → S → Reply → Type 0) (functions : ℤ → Name → Bool) (h : List Event) (pending : List Open) (at : ℕ) (event : Event)
-    (next : IsNextEvent functions h pending at event) (crashed : ℕ → Type 0) (entries : List ((S × List (ℕ × Reply)) × ℕ)) (before : List (ℕ × Placed)) (covering : AreCovering crashed start step h entries before) where
-  -- what is reached from the configurations by placing the new operation, and behind it any that is open
+    (next : IsNextEvent functions h pending at event) (entries : List ((S × List (ℕ × Reply)) × ℕ)) (before : List (ℕ × Placed)) (frontier : IsFrontier start step h entries before) where
+  -- an invocation: what is reached from the configurations by placing the new operation, and behind it any that is open
   module _ (call : Call) (is : event.body ≡ Invoke call) (alternating : WellFormedIsAlternating) (placing : PlacingIsLegal start step) (law : InvocationLaw start step)
       (starts : List ((S × List (ℕ × Reply)) × ℕ)) (kept : IsKeeping event.process event.body entries starts) where
     abbrev pub new : Open
@@ -79,13 +81,11 @@ module _ {S : Type 0} (start : S) (step : S → Call → S → Reply → Type 0)
     start_noted e there =
         let s = kept.sound e there in
         let same : e.0 ≡ s.0 = subst (λ b. IsKept event.process b s.0 e.0) is s.2 in
-        let n = All-contains (IsNoted start step h before) entries (s.0, e.1) covering.sound s.1 in
+        let n = All-contains (IsNoted start step h before) entries (s.0, e.1) frontier.sound s.1 in
         (n.0, n.1, after.stays n.0 e.0 (subst (EndsIn start step h n.0) (sym same) n.2))
 
-    start_has : (b : S × List (ℕ × Reply)) → IsConfiguration start step h b → IsCoveredBy (Covers crashed) (keys_of starts) b
-    start_has b config =
-        let by = covering.complete b config in
-        (by.0, kept.complete by.0 by.0 by.1 (subst (λ x. IsKept event.process x by.0 by.0) (sym is) refl), by.2)
+    start_has : (b : S × List (ℕ × Reply)) → IsConfiguration start step h b → Contains (keys_of starts) b
+    start_has b config = kept.complete b b (frontier.complete b config) (subst (λ x. IsKept event.process x b b) (sym is) refl)
 
     -- a step of the work list is a placing
     step_placing : (o : Open) (key : ℤ) (b d : S × List (ℕ × Reply)) (p : Placed) → IsOpen (with_event h event) o.at o.process key o.call → (order : List Placed)
@@ -114,18 +114,7 @@ module _ {S : Type 0} (start : S) (step : S → Call → S → Reply → Type 0)
         subst (λ l. EndsIn start step (with_event h event) l d) (append_assoc base front (p ∷ [])) (by_step (base ++ front) c d p (by_walk base b ends front c walk) places)
 
     -- a placing is a step of the work list, or leads to a configuration from before
-    module _ (now : List (ℕ × Placed)) (found : List ((S × List (ℕ × Reply)) × ℕ)) (closed : IsClosure (PlacesNext step pending new) (Covers crashed) starts before now found) where
-      found_noted : All (IsNoted start step (with_event h event) now) found
-      found_noted = All-weaker (IsTraced (PlacesNext step pending new) starts before now) (IsNoted start step (with_event h event) now) (λ e t.
-          let s = start_noted t.from t.begins in
-          (s.0 ++ t.order, t.spelled s.0 s.1, by_walk s.0 t.from.0 s.2 t.order e.0 t.walk)) found closed.traced
-
-      found_config : (b : S × List (ℕ × Reply)) → Contains (keys_of found) b → IsConfiguration start step (with_event h event) b
-      found_config b there =
-          let e = entry_of found b there in
-          let n = All-contains (IsNoted start step (with_event h event) now) found (b, e.0) found_noted e.1 in
-          (n.0, n.2)
-
+    module _ (now : List (ℕ × Placed)) (found : List ((S × List (ℕ × Reply)) × ℕ)) (closed : IsClosure (PlacesNext step pending new) starts before now found) where
       places_one : (o : Open) (b d : S × List (ℕ × Reply)) (p : Placed) (pl : IsPlacing step (with_event h event) b p d) → o.at ≡ p.at → pl.process ≡ o.process → pl.call ≡ o.call → PlacesOne step o b p d
       places_one o b d p pl same who what = record {
         absent = absent_from o.process b.1 (λ other there. pl.added.absent other (subst (λ n. Contains b.1 (n, other)) (sym who) there));
@@ -134,10 +123,7 @@ module _ {S : Type 0} (start : S) (step : S → Call → S → Reply → Type 0)
         placed = insert_is pl.process p.reply b.1 d.1 pl.added ∙ ap (λ n. insert_pair n p.reply b.1) who;
       }
 
-      begun : (b : S × List (ℕ × Reply)) → IsConfiguration start step h b → IsCoveredBy (Covers crashed) (keys_of found) b
-      begun b config = let by = start_has b config in (by.0, closed.begins by.0 by.1, by.2)
-
-      goes_on : (b d : S × List (ℕ × Reply)) (p : Placed) → Contains (keys_of found) b → IsConfiguration start step (with_event h event) d → IsPlacing step (with_event h event) b p d → IsCoveredBy (Covers crashed) (keys_of found) d
+      goes_on : (b d : S × List (ℕ × Reply)) (p : Placed) → Contains (keys_of found) b → IsConfiguration start step (with_event h event) d → IsPlacing step (with_event h event) b p d → Contains (keys_of found) d
       goes_on b d p there config pl = elim (cases_eq p.at (length h)) [
         | inl same ↦
             let begins = subst (λ k. IsOperation (with_event h event) k pl.process pl.key pl.call) same pl.is_open.begins in
@@ -156,45 +142,28 @@ module _ {S : Type 0} (start : S) (step : S → Call → S → Reply → Type 0)
                     | inl was ↦ none_from event.process b.1 absent reply was
                     | inr same ↦ other (ap (λ (x : ℕ × Reply). x.0) same)
                   ] in
-                  begun d (after.old d config none')
+                  closed.begins d (start_has d (after.old d config none'))
               | inr present ↦ closed.closed b d p there (inr ((λ absent. none_from event.process b.1 absent present.0 present.1), o.0, o.1, places))
             ]
       ]
 
-      -- what is placed on a configuration is placed on one that covers it
-      placed_below : (b c d : S × List (ℕ × Reply)) (p : Placed) → IsConfiguration start step (with_event h event) b → Covers crashed b c → IsPlacing step (with_event h event) c p d
-          → (e : S × List (ℕ × Reply)) × IsPlacing step (with_event h event) b p e × Covers crashed e d
-      placed_below b c d p config covers pl =
-          let e : S × List (ℕ × Reply) = (d.0, insert_pair pl.process p.reply b.1) in
-          let added = insert_added pl.process p.reply b.1 config.1.placed.rising (λ other there. pl.added.absent other (part_of crashed b c covers (pl.process, other) there)) in (
-            e,
-            record {
-              process = pl.process;
-              key = pl.key;
-              call = pl.call;
-              is_open = pl.is_open;
-              steps = subst (λ s. step s pl.call d.0 p.reply) (sym covers.state) pl.steps;
-              added = added;
-            },
-            covers_added crashed pl.process p.reply b c e d covers refl added pl.added,
-          )
-
       reaches : (b : S × List (ℕ × Reply)) → IsConfiguration start step h b → (order : List Placed) (d : S × List (ℕ × Reply)) → IsPlacedOn step (with_event h event) b order d
-          → IsCoveredBy (Covers crashed) (keys_of found) d
-      reaches b config [] d none = begun b config
+          → IsConfiguration start step (with_event h event) d × Contains (keys_of found) d
+      reaches b config [] d none = ((config.0, after.stays config.0 b config.1), closed.begins b (start_has b config))
       reaches b config order d (further {order = front} {d = c} {p = p} rest pl) =
           let first = reaches b config front c rest in
-          let one = found_config first.0 first.1 in
-          let next = placed_below first.0 c d p one first.2 pl in
-          let ends : IsConfiguration start step (with_event h event) next.0 = (one.0 ++ p ∷ [], placing (with_event h event) one.0 first.0 next.0 p one.1 next.1) in
-          covered_further crashed (keys_of found) next.0 d (goes_on first.0 next.0 p first.1 ends next.1) next.2
+          let one : IsConfiguration start step (with_event h event) d = (first.0.0 ++ p ∷ [], placing (with_event h event) first.0.0 c d p first.0.1 pl) in
+          (one, goes_on c d p first.1 one pl)
 
-      pub covering_invoked : AreCovering crashed start step (with_event h event) found now
-      covering_invoked = record {
-        sound = found_noted;
+      pub frontier_invoked : IsFrontier start step (with_event h event) found now
+      frontier_invoked = record {
+        sound = All-weaker (IsTraced (PlacesNext step pending new) starts before now) (IsNoted start step (with_event h event) now) (λ e t.
+            let s = start_noted t.from t.begins in
+            (s.0 ++ t.order, t.spelled s.0 s.1, by_walk s.0 t.from.0 s.2 t.order e.0 t.walk)) found closed.traced;
         complete = λ c config.
             let from = after.reached c config in
-            reaches from.0 from.2 from.1 c from.3;
+            (reaches from.0 from.2 from.1 c from.3).1;
+        distinct = closed.distinct;
       }
 
     pub over_invoked : (budget : ℕ) → IsBeyond (PlacesNext step pending new) starts budget → IsOver start step (with_event h event) budget

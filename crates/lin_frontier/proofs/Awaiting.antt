@@ -14,7 +14,7 @@ use Rattle.lin_frontier.specs.declared.pending.Open.{Open}
 use Rattle.lin_frontier.specs.Covers.{HasCrashed}
 use Rattle.lin_frontier.specs.Frontiers.{IsPending}
 use Rattle.lin_frontier.specs.Members.{IsGiven, IsUpdate, IsWatching}
-use Rattle.lin_frontier.proofs.Passing.{crashed_open}
+use Rattle.lin_frontier.proofs.Crashes.{crashed_open}
 
 module _ (h : List Event) (pending : List Open) (opened : IsPending h pending) where
   -- each open operation is pending

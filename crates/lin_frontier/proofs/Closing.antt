@@ -9,17 +9,16 @@ use Rattle.std.proofs.lemmas.Map.Entries.{length-keys_of}
 use Rattle.std.proofs.lemmas.Map.Made.{AllPairs-from_IsDistinct}
 use Rattle.std.proofs.lemmas.Bool.{cases_lt}
 use Rattle.lin_order.specs.declared.placed.Placed.{Placed}
-use Rattle.lin_frontier.specs.Covering.{IsCoveredBy}
 use Rattle.lin_frontier.specs.Nodes.{Spells, root, node, IsGrown}
 use Rattle.lin_frontier.specs.Walks.{Walk, here, more, IsNode, IsAbsorbed, IsTraced, IsBeyond}
 use Rattle.lin_frontier.proofs.Absorbing.{get_more}
 
--- each entry so far is traced, and each step from one below `at` leads to what one of them covers
-pub record IsClosing {S : Type 0} (R : S → Placed → S → Type 0) (C : S → S → Type 0) (starts : List (S × ℕ)) (before now : List (ℕ × Placed)) (at : ℕ) (found : List (S × ℕ)) : Type 0 where
+-- each entry so far is traced, and each step from one below `at` leads to one of them
+pub record IsClosing {S : Type 0} (R : S → Placed → S → Type 0) (starts : List (S × ℕ)) (before now : List (ℕ × Placed)) (at : ℕ) (found : List (S × ℕ)) : Type 0 where
   pub grown : IsGrown before now
   pub begins : (added : List (S × ℕ)) × (found ≡ starts ++ added)
   pub traced : All (IsTraced R starts before now) found
-  pub closed : (k : ℕ) (d t : S) (l : Placed) → k < at → k < length found → R (get_or (keys_of found) k d) l t → IsCoveredBy C (keys_of found) t
+  pub closed : (k : ℕ) (d t : S) (l : Placed) → k < at → k < length found → R (get_or (keys_of found) k d) l t → Contains (keys_of found) t
 
 -- inside the list the default does not matter
 pub any_default : {S : Type 0} (xs : List S) (i : ℕ) (d e : S) → i < length xs → get_or xs i d ≡ get_or xs i e
@@ -57,8 +56,8 @@ module _ {S : Type 0} (R : S → Placed → S → Type 0) (starts : List (S × �
     spelled = λ base s. subst (Spells before (get_or starts k d).1) (sym (append-nil base)) s;
   }
 
-  pub closing_start : (C : S → S → Type 0) → IsClosing R C starts before before 0 starts
-  closing_start C = record {
+  pub closing_start : IsClosing R starts before before 0 starts
+  closing_start = record {
     grown = ([], sym (append-nil before));
     begins = ([], sym (append-nil starts));
     traced = traced_start;
@@ -89,11 +88,11 @@ module _ {S : Type 0} (R : S → Placed → S → Type 0) (starts : List (S × �
   }
 
   -- the outcomes at `at` are taken in
-  pub closing_step : (C : S → S → Type 0) (at : ℕ) (found : List (S × ℕ)) (out : List (S × Placed)) (then' : List (S × ℕ)) (now after : List (ℕ × Placed)) (entry : S × ℕ) → slice_get found at ≡ Some entry
-      → IsGrown now after → IsAbsorbed C out entry.1 found then' after
+  pub closing_step : (at : ℕ) (found : List (S × ℕ)) (out : List (S × Placed)) (then' : List (S × ℕ)) (now after : List (ℕ × Placed)) (entry : S × ℕ) → slice_get found at ≡ Some entry
+      → IsGrown now after → IsAbsorbed out entry.1 found then' after
       → All (λ p. R entry.0 p.1 p.0) out → ((t : S) (l : Placed) → R entry.0 l t → Contains out (t, l))
-      → IsClosing R C starts before now at found → IsClosing R C starts before after (at + 1) then'
-  closing_step C at found out then' now after entry is grown absorbed sound complete c = record {
+      → IsClosing R starts before now at found → IsClosing R starts before after (at + 1) then'
+  closing_step at found out then' now after entry is grown absorbed sound complete c = record {
     grown = (c.grown.0 ++ grown.0, grown.1 ∙ ap (λ l. l ++ grown.0) c.grown.1 ∙ append_assoc before c.grown.0 grown.0);
     begins = (c.begins.0 ++ absorbed.added, absorbed.kept ∙ ap (λ l. l ++ absorbed.added) c.begins.1 ∙ append_assoc starts c.begins.0 absorbed.added);
     traced = subst (All (IsTraced R starts before after)) (sym absorbed.kept)
@@ -106,8 +105,7 @@ module _ {S : Type 0} (R : S → Placed → S → Type 0) (starts : List (S × �
           | inl earlier ↦
               let old = get_or_append_left (keys_of found) (keys_of absorbed.added) d k (omega (arith, place.0)) in
               let step' = subst (λ s. R s l t) (ap (λ es. get_or es k d) keys ∙ old) step in
-              let covered = c.closed k d t l earlier (omega (arith, place.0, length-keys_of found)) step' in
-              (covered.0, subst (λ es. Contains es covered.0) (sym keys) (Contains-append_left (keys_of found) (keys_of absorbed.added) covered.0 covered.1), covered.2)
+              subst (λ es. Contains es t) (sym keys) (Contains-append_left (keys_of found) (keys_of absorbed.added) t (c.closed k d t l earlier (omega (arith, place.0, length-keys_of found)) step'))
           | inr now' ↦
               let same : k ≡ at = omega arith in
               let old = get_or_append_left (keys_of found) (keys_of absorbed.added) d at place.0 in
@@ -139,16 +137,16 @@ module _ {S : Type 0} (R : S → Placed → S → Type 0) (starts : List (S × �
       this : IsTraced R starts before now entry
       this = All-contains (IsTraced R starts before now) found entry c.traced (in_list found at is)
 
-  keys_begin : (C : S → S → Type 0) (now : List (ℕ × Placed)) (at : ℕ) (found : List (S × ℕ)) → (c : IsClosing R C starts before now at found) → keys_of found ≡ keys_of starts ++ keys_of c.begins.0
-  keys_begin C now at found c = ap keys_of c.begins.1 ∙ keys_append starts c.begins.0
+  keys_begin : (now : List (ℕ × Placed)) (at : ℕ) (found : List (S × ℕ)) → (c : IsClosing R starts before now at found) → keys_of found ≡ keys_of starts ++ keys_of c.begins.0
+  keys_begin now at found c = ap keys_of c.begins.1 ∙ keys_append starts c.begins.0
 
-  pub begins_in : (C : S → S → Type 0) (now : List (ℕ × Placed)) (at : ℕ) (found : List (S × ℕ)) → IsClosing R C starts before now at found → (a : S) → Contains (keys_of starts) a → Contains (keys_of found) a
-  begins_in C now at found c a there = subst (λ es. Contains es a) (sym (keys_begin C now at found c)) (Contains-append_left (keys_of starts) (keys_of c.begins.0) a there)
+  pub begins_in : (now : List (ℕ × Placed)) (at : ℕ) (found : List (S × ℕ)) → IsClosing R starts before now at found → (a : S) → Contains (keys_of starts) a → Contains (keys_of found) a
+  begins_in now at found c a there = subst (λ es. Contains es a) (sym (keys_begin now at found c)) (Contains-append_left (keys_of starts) (keys_of c.begins.0) a there)
 
   -- once each entry is worked through, the entries are closed
-  pub closing_end : (C : S → S → Type 0) (at : ℕ) (now : List (ℕ × Placed)) (found : List (S × ℕ)) → length found ≤ at → IsClosing R C starts before now at found
-      → (a b : S) (p : Placed) → Contains (keys_of found) a → R a p b → IsCoveredBy C (keys_of found) b
-  closing_end C at now found done c a b p there step =
+  pub closing_end : (at : ℕ) (now : List (ℕ × Placed)) (found : List (S × ℕ)) → length found ≤ at → IsClosing R starts before now at found
+      → (a b : S) (p : Placed) → Contains (keys_of found) a → R a p b → Contains (keys_of found) b
+  closing_end at now found done c a b p there step =
       let many = length-keys_of found in
       let inside = there.1 in
       c.closed there.0 a b p (omega arith) (omega arith) (subst (λ x. R x p b) (sym there.2) step)
@@ -212,9 +210,9 @@ pub longer : {A : Type 0} (at : ℕ) (xs ys added : List A) → at < length xs �
 longer at xs ys added below e = let long = ap length e ∙ length-append xs added in omega arith
 
 -- nodes that were only added can be cut off again
-pub cut_back : (before now : List (ℕ × Placed)) → IsGrown before now → take (length before) now ≡ before
-cut_back before now grown = ap (take (length before)) grown.1 ∙ by before
+pub cut_back : {A : Type 0} (before now : List A) → IsGrown before now → take (length before) now ≡ before
+cut_back {A} before now grown = ap (take (length before)) grown.1 ∙ by before
   where
-    by : (xs : List (ℕ × Placed)) → take (length xs) (xs ++ grown.0) ≡ xs
+    by : (xs : List A) → take (length xs) (xs ++ grown.0) ≡ xs
     by [] = refl
     by (x ∷ xs) = ap (λ l. x ∷ l) (by xs)

@@ -1,5 +1,5 @@
--- What a completion leaves of configurations that cover all; and what such configurations say of their history.
-use Rattle.std.proofs.Common.{◌≡◌, ℕ, ℤ, zero, suc, ◌+◌, ◌<◌, Bool, true, ◌&&◌, List, [], ◌∷◌, length, take, Contains, All, refl, sym, ap, subst, arith, get_or, inl, inr}
+-- What a completion leaves of a frontier is the frontier after it; and what a frontier says of its history.
+use Rattle.std.proofs.Common.{◌≡◌, ◌≢◌, ℕ, ℤ, zero, suc, ◌+◌, ◌<◌, Bool, true, ◌&&◌, List, [], ◌∷◌, length, take, Contains, All, AllPairs, refl, sym, ap, subst, arith, get_or}
 use Rattle.std.specs.Map.{keys_of}
 use Rattle.std.specs.List.{IsDistinct}
 use Rattle.std.specs.Cmp.{IsEquivalence, on_equiv, and_equiv, decided}
@@ -16,13 +16,11 @@ use Rattle.lin_order.specs.declared.placed.Placed.{Placed}
 use Rattle.lin_order.specs.Linearizable.{IsLinearizableBy}
 use Rattle.lin_order.specs.Configurations.{EndsIn, IsAdded, IsConfiguration}
 use Rattle.lin_order.specs.ConfigurationLaws.{with_event, AfterOk, AtStart, FailLaw, InfoLaw, LegalOrdersEnd, OkLaw}
-use Rattle.lin_frontier.specs.Covering.{AreCovering, IsSpared, covers_itself}
-use Rattle.lin_frontier.specs.Covers.{Covers, IsCover}
 use Rattle.lin_frontier.specs.Frontiers.{IsFrontier, IsOver}
 use Rattle.lin_frontier.specs.Nodes.{root}
 use Rattle.lin_frontier.specs.Placing.{IsKeeping, without}
 use Rattle.lin_frontier.specs.Sameness.{pair_eq, placed_Decides}
-use Rattle.lin_frontier.proofs.Covered.{IsNoted, covers_without, part_of, rest_of}
+use Rattle.lin_frontier.proofs.AfterEvents.{IsNoted}
 use Rattle.lin_frontier.proofs.Closing.{first_keys}
 use Rattle.lin_frontier.proofs.Inserting.{absent_from, none_from, taken_out, without_is}
 
@@ -31,12 +29,12 @@ pub configs_equivalent : {S : Type 0} {eq : S → S → Bool} → IsEquivalence 
 configs_equivalent laws = and_equiv (on_equiv (λ (a : _ × _). a.0) laws) (on_equiv (λ (a : _ × _). a.1) (decided (pointwise pair_eq) placed_Decides))
 
 module _ {S : Type 0} (start : S) (step : S → Call → S → Reply → Type 0) (functions : ℤ → Name → Bool) (h : List Event) (event : Event)
-    (well_formed : IsWellFormed functions (with_event h event)) (crashed : List ℕ) (entries new : List ((S × List (ℕ × Reply)) × ℕ)) (nodes : List (ℕ × Placed)) (covering : AreCovering (Contains crashed) start step h entries nodes)
-    (spared : IsSpared crashed event) where
+    (well_formed : IsWellFormed functions (with_event h event)) (entries new : List ((S × List (ℕ × Reply)) × ℕ)) (nodes : List (ℕ × Placed)) (frontier : IsFrontier start step h entries nodes)
+    (distinct : AllPairs (λ a b. a.0 ≢ b.0) new) where
   noted : (c : S × List (ℕ × Reply)) (id : ℕ) → Contains entries (c, id) → IsNoted start step h nodes (c, id)
-  noted c id there = All-contains (IsNoted start step h nodes) entries (c, id) covering.sound there
+  noted c id there = All-contains (IsNoted start step h nodes) entries (c, id) frontier.sound there
 
-  completed_ok : (name : Name) (reply : Reply) → event.body ≡ Ok name reply → OkLaw start step → IsKeeping event.process (Ok name reply) entries new → AreCovering (Contains crashed) start step (with_event h event) new nodes
+  completed_ok : (name : Name) (reply : Reply) → event.body ≡ Ok name reply → OkLaw start step → IsKeeping event.process (Ok name reply) entries new → IsFrontier start step (with_event h event) new nodes
   completed_ok name reply is law kept = record {
     sound = λ k d inside.
         let e = get_or new k d in
@@ -48,26 +46,17 @@ module _ {S : Type 0} (start : S) (step : S → Call → S → Reply → Type 0)
         (n.0, n.1, after.kept n.0 e.0 s.0.1 ends added);
     complete = λ c config.
         let was = after.was config.0 c config.1 in
-        let by = covering.complete (c.0, was.0) (config.0, was.1) in
-        let less : (S × List (ℕ × Reply)) = (by.0.0, without event.process by.0.1) in
-        let same : (c.0, without event.process was.0) ≡ c = λ i. (c.0, sym (without_is event.process reply c.1 was.0 was.2) i) in
-        (less, kept.complete by.0 less by.1 (has_it by.0 (c.0, was.0) by.2 was.2.has, refl), subst (Covers (Contains crashed) less) same (covers_without (Contains crashed) event.process by.0 (c.0, was.0) by.2));
+        kept.complete (c.0, was.0) c (frontier.complete (c.0, was.0) (config.0, was.1)) (was.2.has, λ i. (c.0, without_is event.process reply c.1 was.0 was.2 i));
+    distinct = distinct;
   }
     where
       after : AfterOk start step h event reply
       after = law functions h event name reply is well_formed
 
-      -- the operation that returned hasn't crashed, so what covers has placed it too
-      has_it : (b c : S × List (ℕ × Reply)) → Covers (Contains crashed) b c → Contains c.1 (event.process, reply) → Contains b.1 (event.process, reply)
-      has_it b c covers there = elim (rest_of (Contains crashed) b c covers (event.process, reply) there) [
-        | inl placed ↦ placed
-        | inr gone ↦ absurd (spared name reply is gone)
-      ]
-
       whole : (c d : S × List (ℕ × Reply)) → d ≡ (c.0, without event.process c.1) → c ≡ (d.0, c.1)
       whole c d e = λ i. (sym (ap (λ (x : S × List (ℕ × Reply)). x.0) e) i, c.1)
 
-  completed_fail : (name : Name) → event.body ≡ Fail name → FailLaw start step → IsKeeping event.process (Fail name) entries new → AreCovering (Contains crashed) start step (with_event h event) new nodes
+  completed_fail : (name : Name) → event.body ≡ Fail name → FailLaw start step → IsKeeping event.process (Fail name) entries new → IsFrontier start step (with_event h event) new nodes
   completed_fail name is law kept = record {
     sound = λ k d inside.
         let e = get_or new k d in
@@ -80,12 +69,11 @@ module _ {S : Type 0} (start : S) (step : S → Call → S → Reply → Type 0)
         );
     complete = λ c config.
         let was = (law functions h event name is well_formed config.0 c).0 config.1 in
-        let by = covering.complete c (config.0, was.0) in
-        let absent = absent_from event.process by.0.1 (λ other there. was.1 other (part_of (Contains crashed) by.0 c by.2 (event.process, other) there)) in
-        (by.0, kept.complete by.0 by.0 by.1 (absent, refl), by.2);
+        kept.complete c c (frontier.complete c (config.0, was.0)) (absent_from event.process c.1 was.1, refl);
+    distinct = distinct;
   }
 
-  completed_info : (name : Name) → event.body ≡ Info name → InfoLaw start step → IsKeeping event.process (Info name) entries new → AreCovering (Contains crashed) start step (with_event h event) new nodes
+  completed_info : (name : Name) → event.body ≡ Info name → InfoLaw start step → IsKeeping event.process (Info name) entries new → IsFrontier start step (with_event h event) new nodes
   completed_info name is law kept = record {
     sound = λ k d inside.
         let e = get_or new k d in
@@ -94,60 +82,49 @@ module _ {S : Type 0} (start : S) (step : S → Call → S → Reply → Type 0)
         (n.0, n.1, (law functions h event name is well_formed n.0 e.0).1 (subst (EndsIn start step h n.0) (sym s.2) n.2));
     complete = λ c config.
         let was = (law functions h event name is well_formed config.0 c).0 config.1 in
-        let by = covering.complete c (config.0, was) in
-        (by.0, kept.complete by.0 by.0 by.1 refl, by.2);
+        kept.complete c c (frontier.complete c (config.0, was)) refl;
+    distinct = distinct;
   }
 
   -- a completion: what it leaves
-  pub covering_completed : ((call : Call) → event.body ≡ Invoke call → ⊥) → OkLaw start step → FailLaw start step → InfoLaw start step → IsKeeping event.process event.body entries new
-      → AreCovering (Contains crashed) start step (with_event h event) new nodes
-  covering_completed not_invoke ok fail info kept = by event.body refl kept
+  pub frontier_completed : ((call : Call) → event.body ≡ Invoke call → ⊥) → OkLaw start step → FailLaw start step → InfoLaw start step → IsKeeping event.process event.body entries new
+      → IsFrontier start step (with_event h event) new nodes
+  frontier_completed not_invoke ok fail info kept = by event.body refl kept
     where
-      by : (b : Body) → event.body ≡ b → IsKeeping event.process b entries new → AreCovering (Contains crashed) start step (with_event h event) new nodes
+      by : (b : Body) → event.body ≡ b → IsKeeping event.process b entries new → IsFrontier start step (with_event h event) new nodes
       by (Invoke call) is k = absurd (not_invoke call is)
       by (Ok name reply) is k = completed_ok name reply is ok k
       by (Fail name) is k = completed_fail name is fail k
       by (Info name) is k = completed_info name is info k
 
 module _ {S : Type 0} (start : S) (step : S → Call → S → Reply → Type 0) where
-  -- configurations, more of them than the budget
+  -- a frontier of more than the budget
   pub over_from : {eq : (S × List (ℕ × Reply)) → (S × List (ℕ × Reply)) → Bool} → IsEquivalence eq → ((x y : S × List (ℕ × Reply)) → eq x y ≡ true → x ≡ y)
       → (h : List Event) (entries : List ((S × List (ℕ × Reply)) × ℕ)) (nodes : List (ℕ × Placed)) (budget : ℕ) → budget < length entries → IsDistinct eq (keys_of entries)
-      → All (IsNoted start step h nodes) entries → IsOver start step h budget
-  over_from laws same h entries nodes budget many unique sound =
+      → IsFrontier start step h entries nodes → IsOver start step h budget
+  over_from laws same h entries nodes budget many unique frontier =
       let parts = first_keys laws same (IsConfiguration start step h) budget entries many unique
-      (All-weaker (IsNoted start step h nodes) (λ (e : (S × List (ℕ × Reply)) × ℕ). IsConfiguration start step h e.0) (λ e n. (n.0, n.2)) entries sound) in
+      (All-weaker (IsNoted start step h nodes) (λ (e : (S × List (ℕ × Reply)) × ℕ). IsConfiguration start step h e.0) (λ e n. (n.0, n.2)) entries frontier.sound) in
       record { found = take (budget + 1) (keys_of entries); many = parts.0; configurations = parts.1; distinct = parts.2 }
 
-  -- no configuration covers all
-  pub none_legal : (crashed : ℕ → Type 0) (functions : ℤ → Name → Bool) (h : List Event) (entries : List ((S × List (ℕ × Reply)) × ℕ)) (nodes : List (ℕ × Placed)) → length entries ≡ 0 → LegalOrdersEnd start step
-      → IsWellFormed functions h → AreCovering crashed start step h entries nodes → IsLinearizableBy start step h → ⊥
-  none_legal crashed functions h [] nodes empty law well_formed covering legal =
+  -- an empty frontier
+  pub none_legal : (functions : ℤ → Name → Bool) (h : List Event) (entries : List ((S × List (ℕ × Reply)) × ℕ)) (nodes : List (ℕ × Placed)) → length entries ≡ 0 → LegalOrdersEnd start step
+      → IsWellFormed functions h → IsFrontier start step h entries nodes → IsLinearizableBy start step h → ⊥
+  none_legal functions h [] nodes empty law well_formed frontier legal =
       let ends = law functions h legal.0 well_formed legal.1 in
-      let by = covering.complete ends.0 (legal.0, ends.1) in
-      let inside = by.1.1 in
+      let there = frontier.complete ends.0 (legal.0, ends.1) in
+      let inside = there.1 in
       omega arith
-  none_legal crashed functions h (e ∷ es) nodes empty law well_formed covering legal = absurd (omega (arith, empty))
+  none_legal functions h (e ∷ es) nodes empty law well_formed frontier legal = absurd (omega (arith, empty))
 
   -- the frontier of the empty history
-  module _ (law : AtStart start step) (nodes : List (ℕ × Placed)) where
-    first_noted : All (IsNoted start step [] nodes) (((start, []), 0) ∷ [])
-    first_noted zero d inside = ([], root, law.0)
-    first_noted (suc k) d inside = absurd (omega arith)
-
-    first_has : (c : S × List (ℕ × Reply)) → IsConfiguration start step [] c → Contains ((start, []) ∷ []) c
-    first_has c config = (0, omega arith, sym (law.1 c config))
-
-    pub frontier_first : (entries : List ((S × List (ℕ × Reply)) × ℕ)) → entries ≡ ((start, []), 0) ∷ [] → IsFrontier start step [] entries nodes
-    frontier_first entries is = subst (λ es. IsFrontier start step [] es nodes) (sym is) (record {
-      sound = first_noted;
-      complete = first_has;
-      distinct = λ i j d below inside. absurd (omega arith);
-    })
-
-    pub cover_first : (entries : List ((S × List (ℕ × Reply)) × ℕ)) → entries ≡ ((start, []), 0) ∷ [] → IsCover start step [] entries nodes
-    cover_first entries is = subst (λ es. IsCover start step [] es nodes) (sym is) (record {
-      sound = first_noted;
-      complete = λ c config. (c, first_has c config, covers_itself _ c);
-      least = λ i j d below inside. absurd (omega arith);
-    })
+  pub frontier_first : AtStart start step → (entries : List ((S × List (ℕ × Reply)) × ℕ)) (nodes : List (ℕ × Placed)) → entries ≡ ((start, []), 0) ∷ [] → IsFrontier start step [] entries nodes
+  frontier_first law entries nodes is = subst (λ es. IsFrontier start step [] es nodes) (sym is) (record {
+    sound = λ k d inside. by k d inside;
+    complete = λ c config. (0, omega arith, sym (law.1 c config));
+    distinct = λ i j d below inside. absurd (omega arith);
+  })
+    where
+      by : All (IsNoted start step [] nodes) (((start, []), 0) ∷ [])
+      by zero d inside = ([], root, law.0)
+      by (suc k) d inside = absurd (omega arith)

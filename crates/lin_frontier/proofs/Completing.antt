@@ -1,7 +1,7 @@
 -- Searching the ways of members for the reply of an operation that completes.
-use Rattle.std.proofs.Common.{◌≡◌, ◌⊎◌, ℕ, ◌+◌, ◌<◌, ◌≤◌, zero, suc, List, [], ◌∷◌, ◌++◌, length, length-append, Contains, All, inl, inr, refl, sym, ap, subst, ◌∙◌, arith, append_assoc, get_or, Option, Some, None, Bool, true, false, IfSome, IfNone, true≢false}
-use Rattle.std.proofs.lemmas.List.{append-nil, get_or_append_left}
-use Rattle.std.proofs.lemmas.List.Elements.{All-append, All-weaker, All-contains, Contains-get_or, Contains-push, Contains-push_cases, Contains-append_left, Contains-append_cases}
+use Rattle.std.proofs.Common.{◌≡◌, ◌⊎◌, ℕ, ◌+◌, ◌<◌, ◌≤◌, List, [], ◌∷◌, ◌++◌, length, Contains, All, inl, inr, sym, ap, subst, ◌∙◌, arith, get_or, Option, Some, None, Bool, true, false, IfSome, IfNone, true≢false}
+use Rattle.std.proofs.lemmas.List.{get_or_append_left}
+use Rattle.std.proofs.lemmas.List.Elements.{All-append, All-weaker, All-contains, Contains-get_or, Contains-push, Contains-push_cases, Contains-append_left}
 use Rattle.std.proofs.lemmas.Bool.{cases_lt}
 use Rattle.lin_history.specs.declared.calls.Call.{Call}
 use Rattle.lin_history.specs.declared.calls.Reply.{Reply}
@@ -11,7 +11,7 @@ use Rattle.lin_frontier.specs.declared.pending.Open.{Open}
 use Rattle.lin_frontier.specs.Members.{Member, IsOnOffer}
 use Rattle.lin_frontier.specs.Nodes.{IsGrown}
 use Rattle.lin_frontier.specs.Placing.{IsAbsent, IsTried}
-use Rattle.lin_frontier.specs.Searching.{is_watching, is_crashed, watched, AreBehind, BeginsRound, DominatesIn, DominatesOver, GivesAny, HasBehind, IsAnswered, IsCompleted, IsDone, IsFinding, IsFromBehind, IsPassed, IsReached, start, next, IsReturned, IsSearchedIn, IsSearchOf, IsSuccessor, IsVisiting, PlacesUpdate}
+use Rattle.lin_frontier.specs.Searching.{is_watching, AreBehind, BeginsRound, HasBehind, IsCompleted, IsDone, IsFinding, IsFromBehind, IsPassed, IsReached, start, next, IsSearchedIn, IsSearchOf, IsSuccessor, IsVisiting, PlacesUpdate}
 use Rattle.lin_frontier.proofs.Closing.{any_default}
 use Rattle.lin_frontier.proofs.Inserting.{kept_by, passed_by}
 use Rattle.lin_frontier.proofs.Visiting.{grown_grown, not_grown, node_stays, begins_still}

@@ -26,3 +26,17 @@ tried_turns at budget most m n within s =
     let p = s.tries in
     let q = mul-le at most budget most within (omega arith) in
     record { steps = s.steps; scans = s.scans; tries = omega arith }
+
+-- of a list that is at most one longer
+pub tried_within : (limit a b : ℕ) (m n : Meter) → a ≤ b + 1 → IsTriedAtMost (limit * (2 * a + 1)) m n → IsTriedAtMost (limit * (2 * b + 3)) m n
+tried_within limit a b m n within s =
+    let p = s.tries in
+    let q = mul-le limit (2 * a + 1) limit (2 * b + 3) (omega arith) (omega arith) in
+    record { steps = s.steps; scans = s.scans; tries = omega arith }
+
+-- of a longer list
+pub tried_longer : (budget a b : ℕ) (m n : Meter) → a ≤ b → IsTriedAtMost (budget * a) m n → IsTriedAtMost (budget * b) m n
+tried_longer budget a b m n within s =
+    let p = s.tries in
+    let q = mul-le budget a budget b (omega arith) within in
+    record { steps = s.steps; scans = s.scans; tries = omega arith }

@@ -1,9 +1,8 @@
 -- The rounds of a node as what comes of its entries.
-use Rattle.std.proofs.Common.{◌≡◌, ℕ, zero, suc, ◌+◌, ◌<◌, ◌≤◌, List, [], ◌∷◌, ◌++◌, length, refl, sym, ap, subst, ◌∙◌, arith, append_assoc, Option, Some, None, get_or, set, take, reverse}
-use Rattle.std.proofs.lemmas.List.{append-nil, reverse-append}
+use Rattle.std.proofs.Common.{◌≡◌, ℕ, zero, suc, ◌<◌, ◌≤◌, List, [], ◌∷◌, ◌++◌, length, refl, ap, ◌∙◌, arith, Option, Some, None, get_or, set}
 use Rattle.lin_order.specs.declared.placed.Placed.{Placed}
 use Rattle.lin_frontier.specs.Nodes.{Spells, root, node}
-use Rattle.lin_frontier.specs.Rounds.{joined, put, begin_round, SpellsRounds, root as one_round, begins, puts}
+use Rattle.lin_frontier.specs.Rounds.{put, begin_round, SpellsRounds, root as one_round, begins, puts}
 use Rattle.lin_frontier.specs.Searching.{in_rounds}
 
 -- one entry more

@@ -18,7 +18,7 @@ use Rattle.lin_frontier.proofs.Choosing.{can_add}
 use Rattle.lin_frontier.proofs.Ways.{Meets, way_kept, way_start, from_covers, to_covers}
 use Rattle.lin_frontier.proofs.Following.{Passes, Follows, follow, meets_over}
 use Rattle.lin_frontier.proofs.Dominating.{dominates_itself, covers_on, covers_sorted}
-use Rattle.lin_frontier.proofs.Passing.{crash_before, crash_or, invoke_no_info, passes_invoke, passes_info, passes_fail}
+use Rattle.lin_frontier.proofs.Crashes.{crash_before, crash_or, invoke_no_info, passes_invoke, passes_info, passes_fail}
 
 module _ {S : Type 0} (step : S → Call → S → Reply → Type 0) (observes : Call → Bool) (observing : IsObserving step observes) (functions : ℤ → Name → Bool)
     (h : List Event) (alternates : IsAlternating functions h) where

@@ -18,7 +18,7 @@ use Rattle.lin_frontier.specs.Covers.{Covers, HasCrashed}
 use Rattle.lin_frontier.specs.Members.{Member, IsOnOffer, IsWatching, IsGiven, here, more, IsReady, WayOf, Leads, IsListed}
 use Rattle.lin_frontier.specs.MemberLaws.{ListedLaw, ListingLaw, ListingOkLaw}
 use Rattle.lin_frontier.specs.Placing.{without}
-use Rattle.lin_frontier.proofs.Passing.{crash_kept, never_crashed, ok_no_info}
+use Rattle.lin_frontier.proofs.Crashes.{crash_kept, never_crashed, ok_no_info}
 use Rattle.lin_frontier.proofs.Choosing.{Chosen, can_add, choose, nothing_in, stands}
 use Rattle.lin_frontier.proofs.Inserting.{first_or_rest, rising_once, taken_out}
 use Rattle.lin_frontier.proofs.Ways.{covers_from, covers_rest, covers_within}

@@ -1,5 +1,5 @@
 -- What is added to offers: the replies of a list of steps, from the last on, and those of one operation after the other.
-use Rattle.std.proofs.Common.{◌≡◌, ◌⊎◌, ℕ, ◌+◌, ◌<◌, ◌≤◌, suc, true, Bool, List, [], ◌∷◌, ◌++◌, length, Contains, All, inl, inr, refl, sym, ap, subst, ◌∙◌, arith, Some, get_or, take}
+use Rattle.std.proofs.Common.{◌≡◌, ◌⊎◌, ℕ, ◌+◌, ◌<◌, List, [], ◌∷◌, ◌++◌, length, Contains, All, inl, inr, sym, ap, subst, arith, Some, get_or, take}
 use Rattle.std.proofs.lemmas.List.{take_more}
 use Rattle.std.proofs.lemmas.List.Elements.{All-pop, Contains-push, Contains-push_cases, Contains-append_left}
 use Rattle.lin_history.specs.declared.calls.Call.{Call}

@@ -1,10 +1,9 @@
 -- Members and their rounds after an invocation, an info and a fail.
-use Rattle.std.proofs.Common.{◌≡◌, ◌⊎◌, ◌≢◌, ℕ, ℤ, zero, suc, ◌+◌, ◌<◌, ◌≤◌, Bool, true, false, List, [], ◌∷◌, ◌++◌, length, Contains, All, map, inl, inr, refl, sym, ap, subst, ◌∙◌, arith, get_or, Option, Some, None}
+use Rattle.std.proofs.Common.{◌≡◌, ℕ, ℤ, zero, suc, ◌<◌, Bool, true, List, [], ◌∷◌, ◌++◌, length, Contains, map, refl, sym, ap, subst, arith, get_or, Option, Some, None}
 use Rattle.lin_history.specs.declared.calls.Call.{Call}
 use Rattle.lin_history.specs.declared.calls.Name.{Name}
 use Rattle.lin_history.specs.declared.calls.Reply.{Reply}
-use Rattle.lin_history.specs.declared.events.Body.{Body}
-use Rattle.lin_history.specs.declared.events.Body.TheVariants.{Invoke, Ok, Fail, Info}
+use Rattle.lin_history.specs.declared.events.Body.TheVariants.{Invoke, Fail, Info}
 use Rattle.lin_history.specs.declared.events.Event.{Event}
 use Rattle.lin_history.specs.Alternation.{IsAlternating}
 use Rattle.lin_history.specs.WellFormed.{IsWellFormed}
@@ -25,7 +24,7 @@ use Rattle.lin_frontier.specs.Rounds.{SpellsRounds, root, begins, puts}
 use Rattle.lin_frontier.specs.Searching.{is_watching, copy_of, IsMade}
 use Rattle.lin_frontier.proofs.Absorbing.{get_more}
 use Rattle.lin_frontier.proofs.Inserting.{passed_by, absent_from, none_from}
-use Rattle.lin_frontier.proofs.Pruned.{copy_dominates, watching_to}
+use Rattle.lin_frontier.proofs.Pruned.{copy_dominates}
 use Rattle.lin_objects.specs.Observing.{IsObserving}
 
 -- an element makes one of the images, and each image was made of one

@@ -1,5 +1,5 @@
 -- What lists of pending operations tell of domination, and members with only the offers that somebody waits for.
-use Rattle.std.proofs.Common.{◌≡◌, ◌⊎◌, ◌&&◌, ◌||◌, ℕ, ℤ, zero, suc, ◌+◌, ◌<◌, ◌≤◌, Bool, true, false, not, nat_eq, List, [], ◌∷◌, ◌++◌, length, Contains, All, AllPairs, map, IsTrue, inl, inr, refl, sym, ap, subst, ◌∙◌, arith, get_or, true≢false, Option}
+use Rattle.std.proofs.Common.{◌≡◌, ◌⊎◌, ◌&&◌, ◌||◌, ℕ, ℤ, suc, Bool, true, false, not, nat_eq, List, [], ◌∷◌, Contains, inl, inr, refl, sym, ap, subst, ◌∙◌, arith, get_or, true≢false}
 use Rattle.std.specs.List.{list_any}
 use Rattle.std.proofs.lemmas.Bool.Decides.{Decides-eqb as Decides-nat_eq}
 use Rattle.std.proofs.lemmas.List.Folds.{list_any_at}
@@ -10,7 +10,6 @@ use Rattle.lin_history.specs.declared.calls.Reply.{Reply}
 use Rattle.lin_history.specs.declared.events.Event.{Event}
 use Rattle.lin_history.specs.Alternation.{IsAlternating}
 use Rattle.lin_history.specs.WellFormedLaws.{EndsAreUnique}
-use Rattle.lin_order.specs.declared.placed.Placed.{Placed}
 use Rattle.lin_order.specs.Configurations.{IsRising}
 use Rattle.lin_frontier.specs.declared.members.Path.{Path}
 use Rattle.lin_frontier.specs.declared.pending.Open.{Open}

@@ -1,12 +1,12 @@
 -- The rounds of members after an ok.
-use Rattle.std.proofs.Common.{◌≡◌, ◌⊎◌, ◌≢◌, ℕ, ℤ, zero, suc, ◌+◌, ◌<◌, ◌≤◌, Bool, true, false, List, [], ◌∷◌, ◌++◌, length, length-append, Contains, All, inl, inr, refl, sym, ap, subst, ◌∙◌, arith, Option, Some, None}
+use Rattle.std.proofs.Common.{◌≡◌, ◌⊎◌, ◌≢◌, ℕ, ℤ, suc, Bool, true, List, [], ◌∷◌, ◌++◌, length, length-append, Contains, inl, inr, refl, sym, ap, subst, ◌∙◌, arith, Option}
 use Rattle.std.proofs.lemmas.List.Elements.{Contains-append_cases}
 use Rattle.std.proofs.lemmas.Option.{slice_get_within}
 use Rattle.lin_history.specs.declared.calls.Call.{Call}
 use Rattle.lin_history.specs.declared.calls.Name.{Name}
 use Rattle.lin_history.specs.declared.calls.Reply.{Reply}
 use Rattle.lin_history.specs.declared.events.Body.{Body}
-use Rattle.lin_history.specs.declared.events.Body.TheVariants.{Invoke, Ok, Fail, Info}
+use Rattle.lin_history.specs.declared.events.Body.TheVariants.{Invoke, Ok}
 use Rattle.lin_history.specs.declared.events.Event.{Event}
 use Rattle.lin_history.specs.Alternation.{IsAlternating}
 use Rattle.lin_history.specs.Operations.{IsOpen}
@@ -16,18 +16,17 @@ use Rattle.lin_history.proofs.Lists.{get_cases}
 use Rattle.lin_history.proofs.OneMore.{open_before}
 use Rattle.lin_order.specs.declared.placed.Placed.{Placed}
 use Rattle.lin_order.specs.ConfigurationLaws.{with_event}
-use Rattle.lin_order.specs.Configurations.{IsRising, IsAdded, IsPlacing}
+use Rattle.lin_order.specs.Configurations.{IsAdded}
 use Rattle.lin_frontier.specs.declared.members.Path.{Path}
 use Rattle.lin_frontier.specs.declared.pending.Open.{Open}
 use Rattle.lin_frontier.specs.Compressed.{IsSpelled}
-use Rattle.lin_frontier.specs.Covers.{HasCrashed}
 use Rattle.lin_frontier.specs.Frontiers.{IsPending}
 use Rattle.lin_frontier.specs.Members.{Member, IsWatching, IsGiven}
-use Rattle.lin_frontier.specs.Placing.{IsAbsent, insert_pair, without}
+use Rattle.lin_frontier.specs.Placing.{IsAbsent, insert_pair}
 use Rattle.lin_frontier.specs.RoundLaws.{FewerLaw, OffersFrom, TrailPlacesLaw, TrailOkLaw, TrailObserverLaw, TrailReturnLaw}
 use Rattle.lin_frontier.specs.Rounds.{SpellsRounds, begin_round, put, begins, puts}
-use Rattle.lin_frontier.specs.Searching.{is_watching, watched, copy_of, rest_of, GivesAny, IsAnswered, IsCompleted, IsFromBehind, IsMade, IsReached, start, next, IsReturned, IsReturnOf, IsSuccessor}
-use Rattle.lin_frontier.proofs.Passing.{crash_kept, crash_before, ok_no_info, passes_ok}
+use Rattle.lin_frontier.specs.Searching.{is_watching, rest_of, GivesAny, IsAnswered, IsFromBehind, IsReached, start, next, IsReturned, IsReturnOf}
+use Rattle.lin_frontier.proofs.Crashes.{crash_kept, passes_ok}
 use Rattle.lin_frontier.proofs.Following.{Passes}
 use Rattle.lin_frontier.proofs.Inserting.{absent_from, none_from, passed_by, insert_added, taken_out}
 use Rattle.lin_frontier.proofs.Joining.{put_many}
@@ -120,6 +119,19 @@ module _ (observes : Call → Bool) (functions : ℤ → Name → Bool) (h : Lis
               ]),
             )
 
+    -- the operation was placed already
+    pub spelled_taken : IsWellFormed functions (with_event h event) → TrailOkLaw begin step → (m : Member S × Path) → IsSpelled begin step observes h nodes m → Contains m.0.placed (event.process, reply) → IsSpelled begin step observes (with_event h event) nodes (rest_of observes pending event.process m)
+    spelled_taken well_formed law m k there = record {
+      states = k.states;
+      rounds = k.rounds;
+      spelled = k.spelled;
+      last = k.last;
+      trail = law observes functions h event name reply body well_formed k.states k.rounds m.0 (rest_of observes pending event.process m).0 refl
+          (taken_out event.process reply m.0.placed (spelled_rising begin step observes h nodes m k) there)
+          (λ x within. (passed_by (λ (y : ℕ × (ℕ × Reply)). is_watching observes pending y.1.0) m.0.offers x within).0)
+          (λ round other within. nobody (passed_by (λ (y : ℕ × (ℕ × Reply)). is_watching observes pending y.1.0) m.0.offers (round, (event.process, other)) within).1) k.trail;
+    }
+
     module _ (before : List Open) (was : IsPending h before) (well_formed : IsWellFormed functions (with_event h event)) (o : Open) (o_there : Contains before o) (o_of : o.process ≡ event.process) where
       opens : (key : ℤ) × IsOpen h o.at event.process key o.call
       opens = let s = was.sound o o_there in (s.0, subst (λ q. IsOpen h o.at q s.0 o.call) o_of s.1)
@@ -168,19 +180,6 @@ module _ (observes : Call → Bool) (functions : ℤ → Name → Bool) (h : Lis
           p : Placed
           p = record { at = o.at; reply = reply }
 
-      -- the operation was placed already
-      spelled_taken : TrailOkLaw begin step → (m : Member S × Path) → IsSpelled begin step observes h nodes m → Contains m.0.placed (event.process, reply) → IsSpelled begin step observes (with_event h event) nodes (rest_of observes pending event.process m)
-      spelled_taken law m k there = record {
-        states = k.states;
-        rounds = k.rounds;
-        spelled = k.spelled;
-        last = k.last;
-        trail = law observes functions h event name reply body well_formed k.states k.rounds m.0 (rest_of observes pending event.process m).0 refl
-            (taken_out event.process reply m.0.placed (spelled_rising begin step observes h nodes m k) there)
-            (λ x within. (passed_by (λ (y : ℕ × (ℕ × Reply)). is_watching observes pending y.1.0) m.0.offers x within).0)
-            (λ round other within. nobody (passed_by (λ (y : ℕ × (ℕ × Reply)). is_watching observes pending y.1.0) m.0.offers (round, (event.process, other)) within).1) k.trail;
-      }
-
       -- each member after the ok
       pub returned_spelled : IsWellFormed functions h → IsObserving step observes → FewerLaw begin step → TrailPlacesLaw begin step → TrailObserverLaw begin step → TrailReturnLaw begin step → TrailOkLaw begin step
           → (members out : List (Member S × Path)) → IsReturnOf step observes o reply before pending nodes members out → ((m : Member S × Path) → Contains members m → IsSpelled begin step observes h nodes m)
@@ -197,7 +196,7 @@ module _ (observes : Call → Bool) (functions : ℤ → Name → Bool) (h : Lis
             | inr made ↦
                 let s = r.taken.sound n made in
                 let of = subst (λ q. Contains s.0.0.placed (q, reply)) o_of s.2 in
-                subst (IsSpelled begin step observes (with_event h event) nodes) (sym (s.3 ∙ ap (λ q. rest_of observes pending q s.0) o_of)) (spelled_taken ok s.0 (each s.0 s.1) of)
+                subst (IsSpelled begin step observes (with_event h event) nodes) (sym (s.3 ∙ ap (λ q. rest_of observes pending q s.0) o_of)) (spelled_taken well_formed ok s.0 (each s.0 s.1) of)
           ]
         where
           begun : (m : Member S × Path) → Contains r.starts m → IsSpelled begin step observes h nodes m × IsAbsent event.process m.0.placed

@@ -16,7 +16,7 @@ use Rattle.lin_frontier.specs.Members.{Member, IsUpdate, IsOffered, IsOnOffer, I
 use Rattle.lin_frontier.specs.MemberLaws.{IsTaken}
 use Rattle.lin_frontier.proofs.Choosing.{stands}
 use Rattle.lin_frontier.proofs.Ways.{Meets, way_was, from_covers}
-use Rattle.lin_frontier.proofs.Passing.{never_crashed, ok_no_info}
+use Rattle.lin_frontier.proofs.Crashes.{never_crashed, ok_no_info}
 use Rattle.lin_frontier.proofs.Taking.{IsHeld, IsStopped, at_stop, at_placing, on_from, placed_it, held_placed, rest_of}
 
 module _ {S : Type 0} (start : S) (step : S → Call → S → Reply → Type 0) (observes : Call → Bool) (unique : EndsAreUnique) (functions : ℤ → Name → Bool) (h : List Event) (event : Event)

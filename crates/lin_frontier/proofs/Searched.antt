@@ -15,7 +15,7 @@ use Rattle.lin_frontier.specs.Covers.{HasCrashed}
 use Rattle.lin_frontier.specs.Members.{Member, IsOnOffer, IsWatching, IsGiven, IsOffered, WayOf, here, more, LeadsToCover, DominatesAt, Dominates}
 use Rattle.lin_frontier.specs.MemberLaws.{first_member, IsSearched, StartCompleteLaw, SuccessorLaw, SkippedLaw, ObserverSearchLaw, OffersGoLaw, UpdateSearchLaw}
 use Rattle.lin_frontier.proofs.Ways.{covers_from, way_kept}
-use Rattle.lin_frontier.proofs.Passing.{crashes_now, passes_fail, passes_ok}
+use Rattle.lin_frontier.proofs.Crashes.{crashes_now, passes_fail, passes_ok}
 use Rattle.lin_frontier.proofs.Returning.{ok_observer, ok_update}
 use Rattle.lin_frontier.proofs.Searching.{after_update, backs_itself, backs_ok, held_stops, not_watching, own_update, own_wider, through, watching}
 use Rattle.lin_frontier.proofs.Taking.{IsStopped}

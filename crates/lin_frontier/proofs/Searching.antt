@@ -17,7 +17,7 @@ use Rattle.lin_frontier.specs.Covers.{HasCrashed}
 use Rattle.lin_frontier.specs.Members.{Member, IsOnOffer, IsWatching, IsGiven, IsUpdate, WayOf, here, more, DominatesAt}
 use Rattle.lin_frontier.proofs.Choosing.{can_add}
 use Rattle.lin_frontier.proofs.Following.{Passes}
-use Rattle.lin_frontier.proofs.Passing.{never_crashed, ok_no_info, passes_ok}
+use Rattle.lin_frontier.proofs.Crashes.{never_crashed, ok_no_info, passes_ok}
 use Rattle.lin_frontier.proofs.Taking.{IsHeld, IsStopped}
 
 -- what the one history has of watching and crashed processes, the other has

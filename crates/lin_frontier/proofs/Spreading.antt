@@ -154,7 +154,7 @@ module _ {S : Type 0} (step : S → Call → S → Reply → Type 0) (observes :
         f : Wider step observes h process reply (IsOnOffer m) (m.state, m.placed) wider (c.0, is.placed) is.way
         f = widen process reply (IsOnOffer m) (m.state, m.placed) wider added (c.0, is.placed) is.way absent
 
-    spread : (others : List (Member S)) → IsSpread observes h process others m → IsRising m.placed → (n : Member S) × Contains others n × LeadsToCover step observes h n c
+    pub spread : (others : List (Member S)) → IsSpread observes h process others m → IsRising m.placed → (n : Member S) × Contains others n × LeadsToCover step observes h n c
     spread others held sorted = elim (stands process is.placed) [
       | inl some ↦ plain (λ x there same. inl (subst (Contains is.placed)
           (λ i. (sym same i, rising_once c.1 process some.0 x.1 is.rising (is.part (process, some.0) some.1) (subst (λ q. Contains c.1 (q, x.1)) same there) i)) some.1))

@@ -16,7 +16,7 @@ use Rattle.lin_frontier.specs.MemberLaws.{IsTaken}
 use Rattle.lin_frontier.proofs.Inserting.{rising_once, taken_out}
 use Rattle.lin_frontier.proofs.Ways.{Meets, way_kept, way_start, to_covers}
 use Rattle.lin_frontier.proofs.Following.{meets_over}
-use Rattle.lin_frontier.proofs.Passing.{passes_ok}
+use Rattle.lin_frontier.proofs.Crashes.{passes_ok}
 
 -- one of the other members dominates the end of the way
 abbrev pub IsHeld : {S : Type 0} → (step : S → Call → S → Reply → Type 0) → (observes : Call → Bool) → (h g : List Event) → List (Member S) → (m : Member S) → (c : S × List (ℕ × Reply)) → WayOf step observes h m c → Type 0

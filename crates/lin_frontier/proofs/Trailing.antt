@@ -17,7 +17,7 @@ use Rattle.lin_frontier.specs.Members.{Member}
 use Rattle.lin_frontier.specs.Rounds.{joined, put, begin_round, IsOfferedIn, IsTrail, IsTrailOf}
 use Rattle.lin_frontier.specs.RoundLaws.{IsOfferFrom, OffersFrom, TrailStartLaw, TrailEndsLaw, FewerLaw, TrailPlacesLaw, TrailTakesLaw, TrailInvocationLaw, TrailInfoLaw, TrailFailLaw, TrailOkLaw, TrailObserverLaw, TrailReturnLaw, ExactLaw}
 use Rattle.lin_frontier.proofs.Choosing.{can_add, nothing_in}
-use Rattle.lin_frontier.proofs.Passing.{info_no_fail, info_no_ok, invoke_no_fail, invoke_no_ok}
+use Rattle.lin_frontier.proofs.Crashes.{info_no_fail, info_no_ok, invoke_no_fail, invoke_no_ok}
 use Rattle.lin_frontier.proofs.Listing.{open_call}
 use Rattle.lin_frontier.proofs.Joining.{runs_by_again}
 use Rattle.lin_frontier.proofs.Putting.{offer_longer, offer_put, trail_ends, trail_place, trail_present, trail_put}

@@ -1,5 +1,5 @@
 -- Steps with one reply, and members that are taken in where none that was visited dominates them: both from a list, from the last on.
-use Rattle.std.proofs.Common.{◌≡◌, ◌⊎◌, ℕ, ◌+◌, ◌<◌, ◌≤◌, List, [], ◌∷◌, ◌++◌, length, Contains, All, inl, inr, refl, sym, ap, subst, ◌∙◌, arith, append_assoc, Option, Some, None, Bool, true, false, cond, slice_get, true≢false}
+use Rattle.std.proofs.Common.{◌≡◌, ◌⊎◌, ℕ, ◌+◌, List, [], ◌∷◌, ◌++◌, length, Contains, All, inl, inr, refl, sym, ap, subst, ◌∙◌, arith, append_assoc, Option, Some, None, Bool, true, false, cond, slice_get, true≢false}
 use Rattle.std.proofs.lemmas.List.{append-nil}
 use Rattle.std.proofs.lemmas.List.Elements.{All-pop, All-push, All-weaker, Contains-push, Contains-push_cases, Contains-append_left}
 use Rattle.lin_history.specs.declared.calls.Call.{Call}
@@ -11,7 +11,7 @@ use Rattle.lin_frontier.specs.Members.{Member}
 use Rattle.lin_frontier.specs.Nodes.{IsGrown}
 use Rattle.lin_frontier.specs.Searching.{IsNodeOf, BeginsRound, DominatesIn, IsVisiting}
 use Rattle.lin_frontier.proofs.Absorbing.{get_more}
-use Rattle.lin_frontier.proofs.PruningMembers.{above_itself}
+use Rattle.lin_frontier.proofs.Undominated.{above_itself}
 
 -- of the steps that P holds of, `rest` are still to be looked at
 pub record IsSifting {S : Type 0} (P : S × Reply → Type 0) (reply : Reply) (rest : List (S × Reply)) (found : List S) : Type 0 where

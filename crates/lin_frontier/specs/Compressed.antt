@@ -4,9 +4,10 @@ use Rattle.lin_history.specs.declared.calls.Call.{Call}
 use Rattle.lin_history.specs.declared.calls.Reply.{Reply}
 use Rattle.lin_history.specs.declared.events.Event.{Event}
 use Rattle.lin_order.specs.declared.placed.Placed.{Placed}
+use Rattle.lin_order.specs.Linearizable.{IsLegalOrderBy}
 use Rattle.lin_frontier.specs.declared.members.Path.{Path}
 use Rattle.lin_frontier.specs.Members.{Member, IsComplete, Dominates}
-use Rattle.lin_frontier.specs.Rounds.{SpellsRounds, IsTrailOf}
+use Rattle.lin_frontier.specs.Rounds.{joined, SpellsRounds, IsTrailOf}
 
 -- the path's node spells rounds that lead to the member, and the path's round is the last one
 pub record IsSpelled {S : Type 0} (start : S) (step : S → Call → S → Reply → Type 0) (observes : Call → Bool) (h : List Event) (nodes : List (ℕ × (Placed × Option ℕ))) (m : Member S × Path) : Type 0 where
@@ -25,3 +26,8 @@ pub record IsCovering {S : Type 0} (start : S) (step : S → Call → S → Repl
 pub record IsCompressed {S : Type 0} (start : S) (step : S → Call → S → Reply → Type 0) (observes : Call → Bool) (h : List Event) (members : List (Member S × Path)) (nodes : List (ℕ × (Placed × Option ℕ))) : Type 0 where
   pub covering : IsCovering start step observes h members nodes
   pub apart : AllPairs (λ m n. (Dominates observes h m.0 n.0 → ⊥) × (Dominates observes h n.0 m.0 → ⊥)) members
+
+-- each member's node spells rounds that are a legal order
+abbrev pub CompressedSpellLegalOrders : {S : Type 0} → S → (S → Call → S → Reply → Type 0) → (Call → Bool) → Type 0
+CompressedSpellLegalOrders {S} start step observes = (h : List Event) (members : List (Member S × Path)) (nodes : List (ℕ × (Placed × Option ℕ))) → IsCompressed start step observes h members nodes
+    → (m : Member S × Path) → Contains members m → (rounds : List (List Placed)) × SpellsRounds nodes m.1.node rounds × IsLegalOrderBy start step h (joined rounds)

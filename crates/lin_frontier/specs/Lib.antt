@@ -2,7 +2,6 @@ pub mod Sameness
 pub mod Nodes
 pub mod Frontiers
 pub mod Covers
-pub mod Covering
 pub mod Walks
 pub mod Members
 pub mod MemberLaws
@@ -12,3 +11,4 @@ pub mod MemberExamples
 pub mod Placing
 pub mod Searching
 pub mod Compressed
+pub mod Listed

@@ -1,5 +1,5 @@
 -- Searching the ways of members for a reply: words of private contracts. The operations are those that are open beside the one that completes.
-use Rattle.std.specs.Prelude.{◌≡◌, ◌≢◌, ◌⊎◌, ◌&&◌, ℕ, suc, ◌+◌, ◌<◌, Bool, true, false, not, nat_eq, List, [], ◌∷◌, ◌++◌, All, AllPairs, Contains, Option, Some, None, slice_get, filter}
+use Rattle.std.specs.Prelude.{◌≡◌, ◌≢◌, ◌⊎◌, ◌&&◌, ℕ, zero, suc, ◌+◌, Bool, true, false, not, nat_eq, List, [], ◌∷◌, ◌++◌, All, AllPairs, Contains, Option, Some, None, slice_get, filter}
 use Rattle.std.specs.List.{list_any}
 use Rattle.lin_history.specs.declared.calls.Call.{Call}
 use Rattle.lin_history.specs.declared.calls.Name.{Name}
@@ -77,6 +77,11 @@ pub record IsPruned {S P : Type 0} (observes : Call → Bool) (pending : List Op
   pub from : (m : Member S × P) → Contains kept m → Contains members m
   pub covered : (m : Member S × P) → Contains members m → (n : Member S × P) × Contains kept n × DominatesIn observes pending n.0 m.0.state m.0.placed m.0.offers
   pub apart : AllPairs (λ m n. (DominatesIn observes pending m.0 n.0.state n.0.placed n.0.offers → ⊥) × (DominatesIn observes pending n.0 m.0.state m.0.placed m.0.offers → ⊥)) kept
+
+-- what a number tells of a round: 0 none, and each other one the round before it
+abbrev pub round_at : ℕ → Option ℕ
+round_at zero = None
+round_at (suc round) = Some round
 
 -- the rounds with each of the entries, first to last, put in its round, or behind all where it names none
 abbrev pub in_rounds : List (List Placed) → List (Placed × Option ℕ) → List (List Placed)

@@ -3,7 +3,6 @@ use Rattle.std.specs.Prelude.{◌≡◌, ◌≢◌, ◌≤◌, ℕ, suc, ◌+◌
 use Rattle.std.specs.Map.{keys_of}
 use Rattle.lin_history.specs.declared.meter.Meter.{Meter}
 use Rattle.lin_order.specs.declared.placed.Placed.{Placed}
-use Rattle.lin_frontier.specs.Covering.{IsCoveredBy}
 use Rattle.lin_frontier.specs.Nodes.{Spells}
 
 -- steps that place these operations lead from a to b
@@ -19,12 +18,11 @@ pub record IsTraced {S : Type 0} (R : S → Placed → S → Type 0) (starts : L
   pub walk : Walk R from.0 order entry.0
   pub spelled : (base : List Placed) → Spells before from.1 base → Spells now entry.1 (base ++ order)
 
--- The entries are reached from those of the start, none twice; and each step from one leads to a value that one of them covers. Where each value covers
--- itself alone, they are all that is reached.
-pub record IsClosure {S : Type 0} (R : S → Placed → S → Type 0) (C : S → S → Type 0) (starts : List (S × ℕ)) (before now : List (ℕ × Placed)) (found : List (S × ℕ)) : Type 0 where
+-- the entries are exactly what is reached from those of the start, none twice
+pub record IsClosure {S : Type 0} (R : S → Placed → S → Type 0) (starts : List (S × ℕ)) (before now : List (ℕ × Placed)) (found : List (S × ℕ)) : Type 0 where
   pub traced : All (IsTraced R starts before now) found
   pub begins : (a : S) → Contains (keys_of starts) a → Contains (keys_of found) a
-  pub closed : (a b : S) (p : Placed) → Contains (keys_of found) a → R a p b → IsCoveredBy C (keys_of found) b
+  pub closed : (a b : S) (p : Placed) → Contains (keys_of found) a → R a p b → Contains (keys_of found) b
   pub distinct : AllPairs (λ a b. a.0 ≢ b.0) found
 
 -- n + 1 different values are reached
@@ -38,12 +36,12 @@ pub record IsBeyond {S : Type 0} (R : S → Placed → S → Type 0) (starts : L
 abbrev pub IsNode : List (ℕ × Placed) → ℕ → ℕ → Placed → Type 0
 IsNode nodes id parent p = (k : ℕ) × (id ≡ suc k) × (slice_get nodes k ≡ Some (parent, p))
 
--- the map took each outcome in that wasn't covered there, with a node under the parent
-pub record IsAbsorbed {S : Type 0} (C : S → S → Type 0) (out : List (S × Placed)) (parent : ℕ) (before now : List (S × ℕ)) (nodes : List (ℕ × Placed)) : Type 0 where
+-- the map took each outcome in, each new one with a node under the parent
+pub record IsAbsorbed {S : Type 0} (out : List (S × Placed)) (parent : ℕ) (before now : List (S × ℕ)) (nodes : List (ℕ × Placed)) : Type 0 where
   pub added : List (S × ℕ)
   pub kept : now ≡ before ++ added
   pub from_out : All (λ e. (p : Placed) × Contains out (e.0, p) × IsNode nodes e.1 parent p) added
-  pub taken : (x : S × Placed) → Contains out x → IsCoveredBy C (keys_of now) x.0
+  pub taken : (x : S × Placed) → Contains out x → Contains (keys_of now) x.0
 
 -- at most so many calls were tried, and nothing else was counted
 pub record IsTriedAtMost (most : ℕ) (old new : Meter) : Type 0 where

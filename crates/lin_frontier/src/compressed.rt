@@ -1,12 +1,14 @@
 //! Compressed frontiers: few members that stand for all configurations of a history that has one object.
-ghost use Rattle.std.specs.Prelude.{◌≡◌, ◌⊎◌, ◌∷◌, ◌++◌, ◌+◌, ◌*◌, ◌<◌, [], ℕ, ℤ, Bool, List, length, All, Contains, IfOk, IfSome, IfNone, OnOk, OnErr};
+ghost use Rattle.std.specs.Prelude.{◌≡◌, ◌⊎◌, ◌∷◌, ◌++◌, ◌+◌, ◌*◌, ◌<◌, ◌≤◌, [], ℕ, ℤ, Bool, List, length, Contains, IfOk, IfSome, IfNone, OnOk, OnErr, Some, slice_get};
 ghost use Rattle.lin_history.specs.declared.calls.Name.{Name as NameOf};
 ghost use Rattle.lin_history.specs.declared.calls.Reply.{Reply as ReplyOf};
+ghost use Rattle.lin_history.specs.declared.events.Body.{Body as BodyOf};
 ghost use Rattle.lin_history.specs.declared.events.Event.{Event as EventOf};
 ghost use Rattle.lin_history.specs.Meters.{ticked};
 ghost use Rattle.lin_order.specs.ConfigurationLaws.{with_event};
 ghost use Rattle.lin_order.specs.Linearizable.{IsLinearizableBy};
 ghost use Rattle.lin_frontier.specs.declared.members.Path.{Path as PathOf};
+ghost use Rattle.lin_frontier.specs.Compressed.{IsCompressed, IsCovering};
 ghost use Rattle.lin_frontier.specs.Frontiers.{IsNextEvent, IsPending};
 ghost use Rattle.lin_frontier.specs.Members.{Member as MemberOf};
 ghost use Rattle.lin_frontier.specs.Nodes.{IsGrown};
@@ -16,13 +18,51 @@ ghost use Rattle.lin_frontier.specs.Walks.{IsTriedAtMost};
 
 use crate::completions::{Completion, push_member};
 use crate::configs::{is_absent, is_placed};
+use crate::domination::pruned;
+use crate::member_laws::{
+    dominated_can_go, members_after_events, members_after_ok, start_is_complete,
+};
 use crate::members::{Member, copied, taken_out};
 use crate::nodes::NodeId;
-use crate::pending::{Open, take_in};
+use crate::pending::{Open, open_of, take_in};
+use crate::round_laws::{
+    members_are_exact, rounds_after_events, rounds_spell_members, rounds_take_operations,
+};
 use crate::rounds::RoundNodes;
-use lin_history::{Body, Event, Meter, OutOfMemory, Reply};
+use lin_history::{
+    Body, Event, Meter, OutOfMemory, Reply, ends_are_unique, well_formed_is_alternating,
+};
 use lin_objects::SeqObject;
+use lin_order::legal_orders_end;
 use std::alloc::Global;
+use std::marker::Model;
+
+/// Members that lead to all configurations after some events of an object, up to crashed operations.
+#[derive(Drop)]
+pub struct Compressed<O: SeqObject> {
+    pub(crate) members: Vec<Member<O::State>>,
+}
+
+impl<O: SeqObject> Model for Compressed<O> {
+    ghost use Rattle.std.specs.Prelude.{List};
+    ghost use Rattle.lin_frontier.specs.declared.members.Path.{Path as PathOf};
+    ghost use Rattle.lin_frontier.specs.Members.{Member as MemberOf};
+
+    ghost Value = { List (MemberOf O.State × PathOf) };
+
+    ghost view = { λ c. c.members.items };
+}
+
+/// What one more event makes of a compressed frontier, where a search may come to so many members.
+#[derive(Drop)]
+pub(crate) enum Found<O: SeqObject> {
+    /// The members after it.
+    Next(Compressed<O>),
+    /// There is none: the events have no legal order.
+    Empty,
+    /// A search came to more members than its limit.
+    TooMany,
+}
 
 /// Copies of all the members.
 fn all_copied<O: SeqObject>(
@@ -97,7 +137,7 @@ fn push_taken_out<O: SeqObject>(
 }
 
 /// The members that placed the operation with the reply, without it, put last.
-fn push_all_taken_out<O: SeqObject>(
+pub(crate) fn push_all_taken_out<O: SeqObject>(
     object: &O,
     alloc: Global,
     pending: &[Open],
@@ -113,19 +153,6 @@ fn push_all_taken_out<O: SeqObject>(
         push_taken_out(object, alloc, pending, member, process, reply, out)?;
     }
     Ok(())
-}
-
-/// The operation of the process, if it has one that is open.
-fn operation_of(pending: &[Open], process: u64) -> Option<&Open>
-    ensures some { IfSome result (λ o. Contains pending.now o.now × (o.now.process ≡ process)) }
-    ensures none { IfNone result (All (λ o. o.process ≡ process → ⊥) pending.now) }
-{
-    for operation in pending {
-        if operation.process == process {
-            return Some(operation);
-        }
-    }
-    None
 }
 
 /// The members after the operation completed with the reply, or `None` where more than the limit come up.
@@ -174,6 +201,7 @@ fn next_members<O: SeqObject>(
 ) -> Result<Option<Vec<Member<O::State>>>, OutOfMemory>
     ensures grown { IsGrown nodes.old nodes.new }
     ensures next { IfOk result (λ found. IfSome found (λ out. CompletesOpen event.now before.now → IsNextOf (O.step object.now) (O.observing object.now) event.now.process event.now.body before.now pending.now nodes.new members.now out.items)) }
+    ensures oks { IfOk result (λ found. IfNone found ((name : NameOf) × (reply : ReplyOf) × (event.now.body ≡ BodyOf.Ok name reply))) }
     ensures tried { IsTriedAtMost (limit * (2 * length pending.now + 1)) meter.old meter.new }
 {
     match &event.body {
@@ -181,7 +209,7 @@ fn next_members<O: SeqObject>(
         Body::Info(_) => Ok(Some(all_copied(object, alloc, pending, members)?)),
         Body::Fail(_) => Ok(Some(all_absent(object, alloc, pending, members, event.process)?)),
         Body::Ok(_, reply) => {
-            let Some(operation) = operation_of(before, event.process) else {
+            let Some(operation) = open_of(before, event.process) else {
                 return Ok(Some(Vec::new(alloc)));
             };
             let completion = Completion {
@@ -191,6 +219,180 @@ fn next_members<O: SeqObject>(
                 pending,
             };
             after_ok(&completion, alloc, members, before, limit, nodes, meter)
+        }
+    }
+}
+
+/// The same operations.
+fn copies(alloc: Global, pending: &[Open]) -> Result<Vec<Open>, OutOfMemory>
+    ensures { IfOk result (λ copies. copies.items ≡ pending.now) }
+{
+    let mut copies = Vec::new(alloc);
+    for operation in pending {
+        let copy = Open {
+            process: operation.process,
+            at: operation.at,
+            call: operation.call,
+            crashed: operation.crashed,
+        };
+        match copies.push(copy) {
+            Ok(()) => {}
+            Err(_) => return Err(OutOfMemory),
+        }
+    }
+    Ok(copies)
+}
+
+/// The operations that are open after the event.
+pub(crate) fn open_after(
+    alloc: Global,
+    before: &[Open],
+    at: usize,
+    event: &Event,
+) -> Result<Vec<Open>, OutOfMemory>
+    ensures pending { IfOk result (λ after. (functions : ℤ → NameOf → Bool) (h : List EventOf) → IsNextEvent functions h before.now at event.now → IsPending (with_event h event.now) after.items) }
+    ensures len { IfOk result (λ after. length after.items ≤ length before.now + 1) }
+{
+    let mut after = copies(alloc, before)?;
+    take_in(&mut after, at, event)?;
+    Ok(after)
+}
+
+/// The members after the event, none of which another one dominates; `None` where a search comes to more than the limit.
+fn advanced<O: SeqObject>(
+    object: &O,
+    alloc: Global,
+    members: &[Member<O::State>],
+    before: &[Open],
+    at: usize,
+    event: &Event,
+    limit: usize,
+    nodes: &mut RoundNodes,
+    meter: &mut Meter,
+) -> Result<Option<Vec<Member<O::State>>>, OutOfMemory>
+    ensures grown { IsGrown nodes.old nodes.new }
+    ensures next { IfOk result (λ found. IfSome found (λ out. (functions : ℤ → NameOf → Bool) (h : List EventOf) → IsNextEvent functions h before.now at event.now
+        → IsCovering (O.starts object.now) (O.step object.now) (O.observing object.now) h members.now nodes.old
+        → IsCompressed (O.starts object.now) (O.step object.now) (O.observing object.now) (with_event h event.now) out.items nodes.new)) }
+    ensures oks { IfOk result (λ found. IfNone found ((name : NameOf) × (reply : ReplyOf) × (event.now.body ≡ BodyOf.Ok name reply))) }
+    ensures tried { IsTriedAtMost (limit * (2 * length before.now + 3)) meter.old meter.new }
+{
+    well_formed_is_alternating();
+    ends_are_unique();
+    dominated_can_go(object);
+    members_after_events(object);
+    members_after_ok(object);
+    rounds_spell_members(object);
+    rounds_take_operations(object);
+    rounds_after_events(object);
+    let pending = open_after(alloc, before, at, event)?;
+    let Some(found) = next_members(
+        object, alloc, members, before, &pending, event, limit, nodes, meter,
+    )?
+    else {
+        return Ok(None);
+    };
+    let kept = pruned(object, alloc, &pending, found)?;
+    Ok(Some(kept))
+}
+
+impl<O: SeqObject> Compressed<O> {
+    /// How many members there are.
+    pub fn len(&self) -> usize
+        ensures { result ≡ length self.now }
+    {
+        self.members.len()
+    }
+
+    /// The node of the member at the place.
+    pub fn node(&self, i: usize) -> Option<NodeId>
+        ensures found { IfSome result (λ id. (m : MemberOf O.State × PathOf) × (slice_get self.now i ≡ Some m) × (m.1.node ≡ id)) }
+        ensures past { IfNone result (length self.now ≤ i) }
+    {
+        match self.members.get(i) {
+            Some(member) => Some(member.path().node),
+            None => None,
+        }
+    }
+
+    /// The frontier before any event: the start, with nothing placed.
+    pub fn start(
+        alloc: Global,
+        object: &O,
+        nodes: &RoundNodes,
+    ) -> Result<Compressed<O>, OutOfMemory>
+        ensures one { IfOk result (λ frontier. length frontier ≡ 1) }
+        ensures exact { IfOk result (λ frontier. IsCompressed (O.starts object.now) (O.step object.now) (O.observing object.now) [] frontier nodes.now) }
+    {
+        start_is_complete(object);
+        rounds_spell_members(object);
+        let _ = nodes.len();
+        let mut members = Vec::new(alloc);
+        push_member(&mut members, Member::start(alloc, object.start(alloc)))?;
+        Ok(Compressed { members })
+    }
+
+    /// The frontier after one more event, searched up to a limit.
+    pub(crate) fn advance_up_to(
+        &self,
+        alloc: Global,
+        object: &O,
+        pending: &[Open],
+        at: usize,
+        event: &Event,
+        limit: usize,
+        nodes: &mut RoundNodes,
+        meter: &mut Meter,
+    ) -> Result<Found<O>, OutOfMemory>
+        // Where the frontier is one of a history, with these operations open, the answer speaks of that history with the event behind
+        // it, which has to be well-formed.
+        ensures next { IfOk result (λ step. (next : List (MemberOf O.State × PathOf)) → step ≡ Found.Next next → (functions : ℤ → NameOf → Bool) (h : List EventOf)
+            → IsNextEvent functions h pending.now at event.now → IsCompressed (O.starts object.now) (O.step object.now) (O.observing object.now) h self.now nodes.old
+            → IsCompressed (O.starts object.now) (O.step object.now) (O.observing object.now) (with_event h event.now) next nodes.new) }
+        ensures some { IfOk result (λ step. (next : List (MemberOf O.State × PathOf)) → step ≡ Found.Next next → 0 < length next) }
+        ensures empty { IfOk result (λ step. step ≡ Found.Empty → (functions : ℤ → NameOf → Bool) (h : List EventOf)
+            → IsNextEvent functions h pending.now at event.now → IsCompressed (O.starts object.now) (O.step object.now) (O.observing object.now) h self.now nodes.old
+            → IsLinearizableBy (O.starts object.now) (O.step object.now) (with_event h event.now) → ⊥) }
+        // Only an ok is searched for.
+        ensures oks { IfOk result (λ step. step ≡ Found.TooMany → (name : NameOf) × (reply : ReplyOf) × (event.now.body ≡ BodyOf.Ok name reply)) }
+        // Nodes are only added; and none is where there is no next frontier.
+        ensures grown { IsGrown nodes.old nodes.new }
+        ensures kept { IfOk result (λ step. (step ≡ Found.Empty) ⊎ (step ≡ Found.TooMany) → nodes.new ≡ nodes.old) }
+        ensures refused { OnErr result (nodes.new ≡ nodes.old) }
+        ensures steps { meter.new.steps ≡ ticked meter.old.steps 1 }
+        ensures tries { meter.new.tries ≤ meter.old.tries + limit * (2 * length pending.now + 3) }
+        ensures scans { meter.new.scans ≡ meter.old.scans }
+    {
+        legal_orders_end(object);
+        members_are_exact(object);
+        meter.tick_step();
+        let count = nodes.len();
+        match advanced(
+            object,
+            alloc,
+            &self.members,
+            pending,
+            at,
+            event,
+            limit,
+            nodes,
+            meter,
+        ) {
+            Ok(Some(members)) => {
+                if members.is_empty() {
+                    nodes.cut(count);
+                    return Ok(Found::Empty);
+                }
+                Ok(Found::Next(Compressed { members }))
+            }
+            Ok(None) => {
+                nodes.cut(count);
+                Ok(Found::TooMany)
+            }
+            Err(_) => {
+                nodes.cut(count);
+                Err(OutOfMemory)
+            }
         }
     }
 }

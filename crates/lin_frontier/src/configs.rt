@@ -8,7 +8,6 @@ ghost use Rattle.lin_history.specs.declared.calls.Reply.{Reply as ReplyOf};
 ghost use Rattle.lin_frontier.specs.Placing.{IsAbsent, insert_pair, without};
 ghost use Rattle.lin_frontier.specs.Sameness.{pair_eq, placed_Decides};
 
-use crate::covering::is_among;
 use lin_history::{OutOfMemory, Reply};
 use smallvec::SmallVec;
 use std::alloc::Global;
@@ -180,27 +179,6 @@ impl<S: Eq + Hash> Config<S> {
                 continue;
             }
             append_pair(alloc, &mut placed, pair)?;
-        }
-        Ok(Config { state, placed })
-    }
-}
-
-impl<S: Eq + Hash> Config<S> {
-    /// The configuration with this state, and without the operations of these processes.
-    pub fn without_all(
-        &self,
-        alloc: Global,
-        state: S,
-        processes: &[u64],
-    ) -> Result<Config<S>, OutOfMemory>
-    where
-        S: Drop,
-    {
-        let mut placed = SmallVec::new(alloc);
-        for pair in self.placed.as_slice() {
-            if !is_among(processes, pair.0) {
-                append_pair(alloc, &mut placed, pair)?;
-            }
         }
         Ok(Config { state, placed })
     }

@@ -1,20 +1,17 @@
 //! Frontiers: the configurations of a history that has one object.
-ghost use Rattle.std.specs.Prelude.{◌≡◌, ◌≢◌, ◌<◌, ◌≤◌, ◌∷◌, ◌⊎◌, ◌+◌, [], ℕ, ℤ, AllPairs, Bool, Contains, List, OnErr, Some, length, slice_get, IfOk, IfSome, IfNone};
+ghost use Rattle.std.specs.Prelude.{◌≡◌, ◌<◌, ◌≤◌, ◌∷◌, ◌⊎◌, ◌+◌, [], ℕ, ℤ, Bool, List, OnErr, Some, length, slice_get, IfOk, IfSome, IfNone};
 ghost use Rattle.lin_history.specs.declared.calls.Reply.{Reply as ReplyOf};
 ghost use Rattle.lin_history.specs.declared.calls.Name.{Name as NameOf};
 ghost use Rattle.lin_history.specs.declared.events.Event.{Event as EventOf};
 ghost use Rattle.lin_history.specs.Meters.{ticked};
 ghost use Rattle.lin_order.specs.ConfigurationLaws.{with_event};
 ghost use Rattle.lin_order.specs.Linearizable.{IsLinearizableBy};
-ghost use Rattle.lin_frontier.specs.Covering.{AreCovering, IsSpared};
-ghost use Rattle.lin_frontier.specs.Covers.{AreApart, IsCover};
 ghost use Rattle.lin_frontier.specs.Frontiers.{IsFrontier, IsNextEvent, IsOver, tries_within};
 ghost use Rattle.lin_frontier.specs.Nodes.{IsGrown};
 ghost use Rattle.lin_frontier.specs.Walks.{IsTriedAtMost};
 ghost use Rattle.indexmap.specs.IndexMap.{index_map_len};
 
 use crate::configs::Config;
-use crate::covering::{crashed_after, prune};
 use crate::keeping::keep_all;
 use crate::nodes::{NodeId, Nodes};
 use crate::pending::Open;
@@ -55,17 +52,15 @@ pub enum Step<O: SeqObject> {
     Over,
 }
 
-/// What one more event makes of configurations that cover all of a history, where these processes count as crashed, or
-/// `None` where they become more than the budget.
+/// The configurations after one more event, each with its node, or `None` where there are more than the budget.
 ///
-/// After an invocation that is what the event leaves and all that placing reaches from it, but for covered ones; after a
-/// completion nothing has to be placed.
+/// After an invocation they are what the event leaves and all that placing reaches from it; after a completion
+/// nothing has to be placed.
 fn next_configs<O: SeqObject>(
     alloc: Global,
     object: &O,
     configs: &IndexMap<Config<O::State>, NodeId>,
     pending: &[Open],
-    crashed: &[u64],
     at: usize,
     event: &Event,
     budget: usize,
@@ -73,12 +68,11 @@ fn next_configs<O: SeqObject>(
     meter: &mut Meter,
 ) -> Result<Option<IndexMap<Config<O::State>, NodeId>>, OutOfMemory>
     ensures next { IfOk result (λ found. IfSome found (λ map. (functions : ℤ → NameOf → Bool) (h : List EventOf)
-        → IsNextEvent functions h pending.now at event.now → IsSpared crashed.now event.now → AreCovering (Contains crashed.now) (O.starts object.now) (O.step object.now) h configs.now.entries nodes.old
-        → AreCovering (Contains crashed.now) (O.starts object.now) (O.step object.now) (with_event h event.now) map.entries nodes.new)) }
-    ensures distinct { IfOk result (λ found. IfSome found (λ map. AllPairs (λ a b. a.0 ≢ b.0) map.entries)) }
+        → IsNextEvent functions h pending.now at event.now → IsFrontier (O.starts object.now) (O.step object.now) h configs.now.entries nodes.old
+        → IsFrontier (O.starts object.now) (O.step object.now) (with_event h event.now) map.entries nodes.new)) }
     ensures small { IfOk result (λ found. IfSome found (λ map. index_map_len map ≤ budget)) }
     ensures over { IfOk result (λ found. IfNone found ((functions : ℤ → NameOf → Bool) (h : List EventOf)
-        → IsNextEvent functions h pending.now at event.now → IsSpared crashed.now event.now → AreCovering (Contains crashed.now) (O.starts object.now) (O.step object.now) h configs.now.entries nodes.old
+        → IsNextEvent functions h pending.now at event.now → IsFrontier (O.starts object.now) (O.step object.now) h configs.now.entries nodes.old
         → IsOver (O.starts object.now) (O.step object.now) (with_event h event.now) budget)) }
     ensures grown { IsGrown nodes.old nodes.new }
     ensures tried { IsTriedAtMost (tries_within budget (length pending.now) event.now.body) meter.old meter.new }
@@ -98,7 +92,6 @@ fn next_configs<O: SeqObject>(
             object,
             pending,
             new: &new,
-            crashed,
         };
         return closure(&placing, alloc, kept, budget, nodes, meter);
     }
@@ -131,7 +124,6 @@ impl<O: SeqObject> Frontier<O> {
     pub fn start(alloc: Global, object: &O, nodes: &mut Nodes) -> Result<Frontier<O>, OutOfMemory>
         ensures one { IfOk result (λ frontier. length frontier ≡ 1) }
         ensures exact { IfOk result (λ frontier. IsFrontier (O.starts object.now) (O.step object.now) [] frontier nodes.new) }
-        ensures cover { IfOk result (λ frontier. IsCover (O.starts object.now) (O.step object.now) [] frontier nodes.new) }
         ensures nodes { nodes.new ≡ nodes.old }
     {
         configurations_at_start(object);
@@ -140,46 +132,6 @@ impl<O: SeqObject> Frontier<O> {
             Ok(_) => Ok(Frontier { configs }),
             Err(_) => Err(OutOfMemory),
         }
-    }
-
-    /// The frontier after one more event, from one that covers the configurations of the events so far: only those are kept
-    /// that no other one covers.
-    pub fn advance(
-        &self,
-        alloc: Global,
-        object: &O,
-        pending: &[Open],
-        at: usize,
-        event: &Event,
-        budget: u32,
-        nodes: &mut Nodes,
-        meter: &mut Meter,
-    ) -> Result<Step<O>, OutOfMemory>
-        // Where the frontier covers the configurations of a history, with these operations open, the answer speaks of that
-        // history with the event behind it, which has to be well-formed.
-        ensures next { IfOk result (λ step. (next : List ((O.State × List (ℕ × ReplyOf)) × ℕ)) → step ≡ Step.Next next → (functions : ℤ → NameOf → Bool) (h : List EventOf)
-            → IsNextEvent functions h pending.now at event.now → IsCover (O.starts object.now) (O.step object.now) h self.now nodes.old
-            → IsCover (O.starts object.now) (O.step object.now) (with_event h event.now) next nodes.new) }
-        ensures some { IfOk result (λ step. (next : List ((O.State × List (ℕ × ReplyOf)) × ℕ)) → step ≡ Step.Next next → (0 < length next) × (length next ≤ budget)) }
-        ensures empty { IfOk result (λ step. step ≡ Step.Empty → (functions : ℤ → NameOf → Bool) (h : List EventOf)
-            → IsNextEvent functions h pending.now at event.now → IsCover (O.starts object.now) (O.step object.now) h self.now nodes.old
-            → IsLinearizableBy (O.starts object.now) (O.step object.now) (with_event h event.now) → ⊥) }
-        ensures over { IfOk result (λ step. step ≡ Step.Over → (functions : ℤ → NameOf → Bool) (h : List EventOf)
-            → IsNextEvent functions h pending.now at event.now → IsCover (O.starts object.now) (O.step object.now) h self.now nodes.old
-            → IsOver (O.starts object.now) (O.step object.now) (with_event h event.now) budget) }
-        // Nodes are only added; and none is where there is no next frontier.
-        ensures grown { IsGrown nodes.old nodes.new }
-        ensures kept { IfOk result (λ step. (step ≡ Step.Empty) ⊎ (step ≡ Step.Over) → nodes.new ≡ nodes.old) }
-        ensures refused { OnErr result (nodes.new ≡ nodes.old) }
-        ensures steps { meter.new.steps ≡ ticked meter.old.steps 1 }
-        ensures tries { meter.new.tries ≤ meter.old.tries + tries_within budget (length pending.now) event.now.body }
-        ensures scans { meter.new.scans ≡ meter.old.scans }
-    {
-        meter.tick_step();
-        let crashed = crashed_after(alloc, pending, event)?;
-        self.step(
-            alloc, object, pending, &crashed, at, event, budget, nodes, meter,
-        )
     }
 
     /// The frontier after one more event, from one that holds exactly the configurations of the events so far.
@@ -214,60 +166,24 @@ impl<O: SeqObject> Frontier<O> {
         ensures tries { meter.new.tries ≤ meter.old.tries + tries_within budget (length pending.now) event.now.body }
         ensures scans { meter.new.scans ≡ meter.old.scans }
     {
-        meter.tick_step();
-        self.step(alloc, object, pending, &[], at, event, budget, nodes, meter)
-    }
-
-    /// What one more event makes of configurations that cover all of the events so far, where these processes count as crashed.
-    fn step(
-        &self,
-        alloc: Global,
-        object: &O,
-        pending: &[Open],
-        crashed: &[u64],
-        at: usize,
-        event: &Event,
-        budget: u32,
-        nodes: &mut Nodes,
-        meter: &mut Meter,
-    ) -> Result<Step<O>, OutOfMemory>
-        ensures next { IfOk result (λ step. (next : List ((O.State × List (ℕ × ReplyOf)) × ℕ)) → step ≡ Step.Next next → (functions : ℤ → NameOf → Bool) (h : List EventOf)
-            → IsNextEvent functions h pending.now at event.now → IsSpared crashed.now event.now → AreCovering (Contains crashed.now) (O.starts object.now) (O.step object.now) h self.now nodes.old
-            → AreCovering (Contains crashed.now) (O.starts object.now) (O.step object.now) (with_event h event.now) next nodes.new × AreApart (Contains crashed.now) next) }
-        ensures some { IfOk result (λ step. (next : List ((O.State × List (ℕ × ReplyOf)) × ℕ)) → step ≡ Step.Next next → (0 < length next) × (length next ≤ budget)) }
-        ensures empty { IfOk result (λ step. step ≡ Step.Empty → (functions : ℤ → NameOf → Bool) (h : List EventOf)
-            → IsNextEvent functions h pending.now at event.now → IsSpared crashed.now event.now → AreCovering (Contains crashed.now) (O.starts object.now) (O.step object.now) h self.now nodes.old
-            → IsLinearizableBy (O.starts object.now) (O.step object.now) (with_event h event.now) → ⊥) }
-        ensures over { IfOk result (λ step. step ≡ Step.Over → (functions : ℤ → NameOf → Bool) (h : List EventOf)
-            → IsNextEvent functions h pending.now at event.now → IsSpared crashed.now event.now → AreCovering (Contains crashed.now) (O.starts object.now) (O.step object.now) h self.now nodes.old
-            → IsOver (O.starts object.now) (O.step object.now) (with_event h event.now) budget) }
-        // Nodes are only added; and none is where there is no next frontier.
-        ensures grown { IsGrown nodes.old nodes.new }
-        ensures kept { IfOk result (λ step. (step ≡ Step.Empty) ⊎ (step ≡ Step.Over) → nodes.new ≡ nodes.old) }
-        ensures refused { OnErr result (nodes.new ≡ nodes.old) }
-        ensures tried { IsTriedAtMost (tries_within budget (length pending.now) event.now.body) meter.old meter.new }
-    {
         legal_orders_end(object);
+        meter.tick_step();
         let count = nodes.len();
         match next_configs(
             alloc,
             object,
             &self.configs,
             pending,
-            crashed,
             at,
             event,
             budget as usize,
             nodes,
             meter,
         ) {
-            Ok(Some(mut configs)) => {
+            Ok(Some(configs)) => {
                 if configs.is_empty() {
                     nodes.cut(count);
                     return Ok(Step::Empty);
-                }
-                if !crashed.is_empty() {
-                    prune::<O>(&mut configs, crashed);
                 }
                 Ok(Step::Next(Frontier { configs }))
             }

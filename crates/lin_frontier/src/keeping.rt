@@ -12,7 +12,7 @@ use lin_objects::SeqObject;
 use std::alloc::Global;
 
 /// An equal configuration on its own memory.
-fn copy_config<O: SeqObject>(
+pub fn copy_config<O: SeqObject>(
     object: &O,
     alloc: Global,
     config: &Config<O::State>,

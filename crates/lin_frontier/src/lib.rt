@@ -4,11 +4,11 @@
 mod completions;
 mod compressed;
 mod configs;
-mod covering;
 mod domination;
+mod expansion;
 mod frontier;
-mod groups;
 mod keeping;
+mod listed;
 mod member_examples;
 mod member_laws;
 mod members;
@@ -21,10 +21,16 @@ mod rounds;
 mod search;
 #[cfg(test)]
 mod tests;
+#[cfg(test)]
+mod tests_compressed;
+#[cfg(test)]
+mod tests_listed;
+mod within;
 
+pub use compressed::Compressed;
 pub use configs::Config;
-pub use covering::covers_spell_legal_orders;
 pub use frontier::{Frontier, Step};
 pub use nodes::{NodeId, Nodes};
 pub use pending::{Open, nothing_is_open_at_first, take_in};
 pub use rounds::RoundNodes;
+pub use within::{Advance, members_spell_legal_orders};

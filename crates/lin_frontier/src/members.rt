@@ -1,6 +1,7 @@
 //! Members of a compressed frontier.
 ghost use Rattle.std.specs.Prelude.{◌≡◌, [], ◌∷◌, ◌++◌, ◌+◌, Some, None, length, IfOk, OnOk};
 ghost use Rattle.lin_frontier.specs.Members.{Member as MemberOf};
+ghost use Rattle.lin_frontier.specs.Listed.{member_at, with_offers, Continues};
 ghost use Rattle.lin_frontier.specs.MemberLaws.{first_member};
 ghost use Rattle.lin_frontier.specs.Nodes.{IsGrown};
 ghost use Rattle.lin_frontier.specs.Placing.{without as without_process};
@@ -205,6 +206,79 @@ pub fn advanced<S: Eq + Hash + Drop>(
     Ok(Member {
         config,
         offers,
+        path,
+    })
+}
+
+/// The same member on its own memory.
+pub fn same<O: SeqObject>(
+    object: &O,
+    alloc: Global,
+    member: &Member<O::State>,
+) -> Result<Member<O::State>, OutOfMemory>
+    ensures { IfOk result (λ copy. copy ≡ member.now) }
+{
+    let state = object.copy_state(alloc, member.config.state())?;
+    Ok(Member {
+        config: member.config.with_state(alloc, state)?,
+        offers: member.offers.copy(alloc)?,
+        path: member.path,
+    })
+}
+
+/// The same member with nothing on offer.
+pub fn bare<O: SeqObject>(
+    object: &O,
+    alloc: Global,
+    member: &Member<O::State>,
+) -> Result<Member<O::State>, OutOfMemory>
+    ensures { IfOk result (λ copy. copy ≡ with_offers [] member.now) }
+{
+    let state = object.copy_state(alloc, member.config.state())?;
+    Ok(Member {
+        config: member.config.with_state(alloc, state)?,
+        offers: Offers::new(alloc),
+        path: member.path,
+    })
+}
+
+/// The path with the operation, put in the round, or behind all where none is given.
+fn continued(
+    path: Path,
+    placed: Placed,
+    spot: Option<usize>,
+    nodes: &mut RoundNodes,
+) -> Result<Path, OutOfMemory>
+    ensures grown { IsGrown nodes.old nodes.new }
+    ensures continued { IfOk result (λ next. Continues nodes.new path next placed spot) }
+{
+    match spot {
+        Some(round) => {
+            let node = nodes.push(path.node, placed, Some(round))?;
+            let round = path.round;
+            Ok(Path { node, round })
+        }
+        None => in_next_round(path, placed, nodes),
+    }
+}
+
+/// The configuration as a member with nothing on offer, whose path goes on from this one by the operation.
+pub fn bare_next<S: Eq + Hash + Drop>(
+    alloc: Global,
+    config: Config<S>,
+    path: Path,
+    placed: Placed,
+    spot: Option<usize>,
+    nodes: &mut RoundNodes,
+) -> Result<Member<S>, OutOfMemory>
+    ensures grown { IsGrown nodes.old nodes.new }
+    ensures same { IfOk result (λ next. next.0 ≡ member_at config []) }
+    ensures continued { IfOk result (λ next. Continues nodes.new path next.1 placed spot) }
+{
+    let path = continued(path, placed, spot, nodes)?;
+    Ok(Member {
+        config,
+        offers: Offers::new(alloc),
         path,
     })
 }

@@ -1,5 +1,5 @@
 //! The operations that are open.
-ghost use Rattle.std.specs.Prelude.{◌≡◌, [], ℤ, Bool, List, OnOk, OnErr, filter, map, not, ◌==◌};
+ghost use Rattle.std.specs.Prelude.{◌≡◌, ◌+◌, ◌≤◌, [], ℤ, All, Bool, Contains, List, IfNone, IfSome, length, OnOk, OnErr, filter, map, not, ◌==◌};
 ghost use Rattle.lin_history.specs.declared.calls.Name.{Name as NameOf};
 ghost use Rattle.lin_history.specs.declared.events.Event.{Event as EventOf};
 ghost use Rattle.lin_order.specs.ConfigurationLaws.{with_event};
@@ -26,6 +26,19 @@ pub fn nothing_is_open_at_first()
     ensures { IsPending [] [] }
 {}
 
+/// The operation of the process, if it has one that is open.
+pub(crate) fn open_of(pending: &[Open], process: u64) -> Option<&Open>
+    ensures some { IfSome result (λ o. Contains pending.now o.now × (o.now.process ≡ process)) }
+    ensures none { IfNone result (All (λ o. o.process ≡ process → ⊥) pending.now) }
+{
+    for operation in pending {
+        if operation.process == process {
+            return Some(operation);
+        }
+    }
+    None
+}
+
 /// Takes the operation of the process out.
 fn close(pending: &mut Vec<Open>, process: u64)
     ensures { pending.new.items ≡ filter (λ o. not (o.process == process)) pending.old.items }
@@ -46,6 +59,7 @@ fn mark_crashed(pending: &mut Vec<Open>, process: u64)
 pub fn take_in(pending: &mut Vec<Open>, at: usize, event: &Event) -> Result<(), OutOfMemory>
     ensures ok { OnOk result ((functions : ℤ → NameOf → Bool) (h : List EventOf) → IsNextEvent functions h pending.old.items at event.now → IsPending (with_event h event.now) pending.new.items) }
     ensures err { OnErr result (pending.new.items ≡ pending.old.items) }
+    ensures len { length pending.new.items ≤ length pending.old.items + 1 }
 {
     well_formed_is_alternating();
     beginnings_are_well_formed();

@@ -1,17 +1,12 @@
 //! Placing open operations in configurations.
-ghost use Rattle.std.specs.Prelude.{◌∷◌, ◌++◌, ◌+◌, [], Contains, length, OnOk};
-ghost use Rattle.lin_frontier.specs.Covering.{covers_itself};
-ghost use Rattle.lin_frontier.specs.Covers.{Covers};
+ghost use Rattle.std.specs.Prelude.{◌∷◌, ◌++◌, ◌+◌, [], length, OnOk};
 ghost use Rattle.lin_frontier.specs.Placing.{IsAbsent, IsTried, PlacesNext, PlacesOne};
 ghost use Rattle.lin_frontier.specs.Sameness.{config_same};
 ghost use Rattle.lin_frontier.specs.Walks.{IsTriedAtMost};
 
 use crate::configs::{Config, is_absent};
-use crate::covering::is_covered_at;
-use crate::nodes::NodeId;
 use crate::pending::Open;
 use crate::search::Steps;
-use indexmap::IndexMap;
 use lin_history::{Meter, OutOfMemory};
 use lin_objects::SeqObject;
 use lin_order::Placed;
@@ -74,20 +69,14 @@ pub struct Placing<'a, O: SeqObject> {
     pub object: &'a O,
     pub pending: &'a [Open],
     pub new: &'a Open,
-    /// The processes that crashed. Where there is none, no configuration covers another one.
-    pub crashed: &'a [u64],
 }
 
 impl<'a, O: SeqObject> Steps for Placing<'a, O> {
     type State = Config<O::State>;
 
-    type Key = Config<O::State>;
-
     ghost step = { λ p c l d. PlacesNext (O.step p.object.now) p.pending.now p.new.now c l d };
 
     ghost most = { λ p. length p.pending.now + 1 };
-
-    ghost covers = { λ p c d. Covers (Contains p.crashed.now) c d };
 
     fn outcomes(
         &self,
@@ -106,28 +95,5 @@ impl<'a, O: SeqObject> Steps for Placing<'a, O> {
         Ok(out)
     }
 
-    fn key(
-        &self,
-        alloc: Global,
-        state: &Config<O::State>,
-    ) -> Result<Option<Config<O::State>>, OutOfMemory> {
-        if self.crashed.is_empty() {
-            return Ok(None);
-        }
-        let key = self.object.copy_state(alloc, state.state())?;
-        Ok(Some(state.without_all(alloc, key, self.crashed)?))
-    }
-
-    fn is_covered(
-        &self,
-        found: &IndexMap<Config<O::State>, NodeId>,
-        places: &[usize],
-        state: &Config<O::State>,
-    ) -> bool {
-        is_covered_at::<O>(found, places, state, self.crashed)
-    }
-
     ghost same = { config_same O.same };
-
-    ghost itself = { λ p c. covers_itself (Contains p.crashed.now) c };
 }

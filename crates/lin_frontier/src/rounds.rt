@@ -15,7 +15,67 @@ use std::marker::Model;
 /// round behind all others. Node 0 is one empty round.
 #[derive(Drop)]
 pub struct RoundNodes {
-    items: Vec<(usize, (Placed, Option<usize>))>,
+    items: Vec<Link>,
+}
+
+/// A node: its parent, its operation, and where that is put. It is small, since each event may make several.
+#[derive(Drop)]
+struct Link {
+    parent: u32,
+    /// The number of the round and one more; 0 where the operation begins a round.
+    spot: u32,
+    placed: Placed,
+}
+
+impl Model for Link {
+    ghost use Rattle.std.specs.Prelude.{ℕ, Option};
+    ghost use Rattle.lin_order.specs.declared.placed.Placed.{Placed as PlacedOf};
+    ghost use Rattle.lin_frontier.specs.Searching.{round_at};
+
+    ghost Value = { ℕ × (PlacedOf × Option ℕ) };
+
+    ghost view = { λ l. (l.parent, (l.placed, round_at l.spot)) };
+}
+
+impl Link {
+    /// None where a number is too large for a node.
+    fn new(parent: NodeId, placed: Placed, round: Option<usize>) -> Option<Self>
+        ensures { IfSome result (λ link. link ≡ (parent, (placed, round))) }
+    {
+        let spot = match round {
+            Some(round) => round.checked_add(1)?,
+            None => 0,
+        };
+        let Ok(parent) = u32::try_from(parent) else {
+            return None;
+        };
+        let Ok(spot) = u32::try_from(spot) else {
+            return None;
+        };
+        Some(Link {
+            parent,
+            spot,
+            placed,
+        })
+    }
+
+    fn parent(&self) -> NodeId
+        ensures { result ≡ self.now.0 }
+    {
+        self.parent as usize
+    }
+
+    fn placed(&self) -> &Placed
+        ensures { result.now ≡ self.now.1.0 }
+    {
+        &self.placed
+    }
+
+    fn round(&self) -> Option<usize>
+        ensures { result ≡ self.now.1.1 }
+    {
+        (self.spot as usize).checked_sub(1)
+    }
 }
 
 impl Model for RoundNodes {
@@ -62,19 +122,21 @@ impl RoundNodes {
         ensures id { IfOk result (λ id. id ≡ length self.old + 1) }
         ensures err { OnErr result (self.new ≡ self.old) }
     {
-        match self.items.push((parent, (placed, round))) {
+        let Some(link) = Link::new(parent, placed, round) else {
+            return Err(OutOfMemory);
+        };
+        match self.items.push(link) {
             Ok(()) => Ok(self.items.len()),
             Err(_) => Err(OutOfMemory),
         }
     }
 
-    /// The parent of the node, and what it adds; none for the root and for a number that is no node's.
-    fn link(&self, id: NodeId) -> Option<(NodeId, &(Placed, Option<usize>))>
-        ensures some { IfSome result (λ link. (0 < id) × (slice_get self.now (id - 1) ≡ Some (link.0, link.1.now))) }
+    /// The node with the number; none for the root and for a number that is no node's.
+    fn link(&self, id: NodeId) -> Option<&Link>
+        ensures some { IfSome result (λ link. (0 < id) × (slice_get self.now (id - 1) ≡ Some link.now)) }
         ensures none { IfNone result (0 < id → length self.now < id) }
     {
-        let (parent, entry) = self.items.get(id.checked_sub(1)?)?;
-        Some((*parent, entry))
+        self.items.get(id.checked_sub(1)?)
     }
 
     /// What was put into the rounds of the node, last to first; for a number that is no node's, some list.
@@ -89,15 +151,16 @@ impl RoundNodes {
         let mut at = id;
         // There are no more of them than nodes.
         for _ in 0..self.len() {
-            let Some((parent, last)) = self.link(at) else {
+            let Some(link) = self.link(at) else {
                 break;
             };
+            let last = link.placed();
             let placed = Placed {
-                at: last.0.at,
-                reply: last.0.reply.copy(alloc)?,
+                at: last.at,
+                reply: last.reply.copy(alloc)?,
             };
-            entries.push((placed, last.1))?;
-            at = parent;
+            entries.push((placed, link.round()))?;
+            at = link.parent();
         }
         Ok(entries)
     }

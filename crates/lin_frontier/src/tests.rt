@@ -7,7 +7,7 @@ use std::test::Fail;
 
 const AMPLE: u32 = 1000;
 
-fn invoke(process: u64, call: Call) -> Event {
+pub(crate) fn invoke(process: u64, call: Call) -> Event {
     Event {
         process,
         key: 0,
@@ -15,7 +15,7 @@ fn invoke(process: u64, call: Call) -> Event {
     }
 }
 
-fn ok(process: u64, name: Name, reply: Reply) -> Event {
+pub(crate) fn ok(process: u64, name: Name, reply: Reply) -> Event {
     Event {
         process,
         key: 0,
@@ -23,7 +23,7 @@ fn ok(process: u64, name: Name, reply: Reply) -> Event {
     }
 }
 
-fn fail(process: u64, name: Name) -> Event {
+pub(crate) fn fail(process: u64, name: Name) -> Event {
     Event {
         process,
         key: 0,
@@ -31,7 +31,7 @@ fn fail(process: u64, name: Name) -> Event {
     }
 }
 
-fn info(process: u64, name: Name) -> Event {
+pub(crate) fn info(process: u64, name: Name) -> Event {
     Event {
         process,
         key: 0,
@@ -39,19 +39,21 @@ fn info(process: u64, name: Name) -> Event {
     }
 }
 
-fn write(number: i64) -> Call {
+pub(crate) fn write(number: i64) -> Call {
     Call::Write(Val::Int(number))
 }
 
 /// What came of the last event.
 #[derive(Clone, Copy, Debug, PartialEq, Eq)]
-enum Came {
+pub(crate) enum Came {
     /// So many configurations; each node spells a legal order.
     Sound(usize),
     /// So many configurations, one of which has a node that spells no legal order.
     Unsound(usize),
     Empty,
     Over,
+    /// The events before it are over.
+    OverBefore,
 }
 
 /// The order of a node that lies two below the root.
@@ -104,19 +106,9 @@ fn is_sound(
     Ok(true)
 }
 
-/// Which form of a step is taken.
-#[derive(Clone, Copy)]
-enum Form {
-    /// All configurations are kept.
-    All,
-    /// Those are kept that no other one covers.
-    Pruned,
-}
-
 /// What comes of the events, one after the other, up to the first that leaves no frontier.
-fn came_by(
+pub(crate) fn came_of(
     alloc: Global,
-    form: Form,
     kind: Kind,
     events: &[Event],
     budget: u32,
@@ -129,15 +121,9 @@ fn came_by(
     for at in 0..events.len() {
         let event = &events[at];
         let kept = nodes.len();
-        let step = match form {
-            Form::All => frontier.advance_all(
-                alloc, &object, &pending, at, event, budget, &mut nodes, &mut meter,
-            )?,
-            Form::Pruned => frontier.advance(
-                alloc, &object, &pending, at, event, budget, &mut nodes, &mut meter,
-            )?,
-        };
-        match step {
+        match frontier.advance_all(
+            alloc, &object, &pending, at, event, budget, &mut nodes, &mut meter,
+        )? {
             Step::Next(next) => frontier = next,
             Step::Empty => {
                 return Ok(if nodes.len() == kept {
@@ -161,21 +147,6 @@ fn came_by(
     } else {
         Ok(Came::Unsound(frontier.len()))
     }
-}
-
-/// What comes of the events where all configurations are kept.
-fn came_of(alloc: Global, kind: Kind, events: &[Event], budget: u32) -> Result<Came, OutOfMemory> {
-    came_by(alloc, Form::All, kind, events, budget)
-}
-
-/// What comes of the events where covered configurations are left out.
-fn pruned_of(
-    alloc: Global,
-    kind: Kind,
-    events: &[Event],
-    budget: u32,
-) -> Result<Came, OutOfMemory> {
-    came_by(alloc, Form::Pruned, kind, events, budget)
 }
 
 #[test]
@@ -304,144 +275,6 @@ fn a_budget_holds_so_many_and_no_more(rt: HostRuntime) -> Result<(), Fail> {
     Ok(())
 }
 
-#[test]
-fn a_crashed_write_is_placed_only_where_it_shows(rt: HostRuntime) -> Result<(), Fail> {
-    let alloc = rt.alloc();
-    let kind = Kind::Register;
-    // (nil, {}), (1, {p0}), (2, {p1}) and (1, {p0, p1}) stay; (2, {p1}) covers (2, {p0, p1}).
-    let crashed = [
-        invoke(0, write(1)),
-        info(0, Name::Write),
-        invoke(1, write(2)),
-        info(1, Name::Write),
-    ];
-    assert_eq!(rt;
-        came_of(alloc, kind, &crashed[..3], AMPLE),
-        Ok(Came::Sound(5))
-    );
-    assert_eq!(rt;
-        pruned_of(alloc, kind, &crashed[..2], AMPLE),
-        Ok(Came::Sound(2))
-    );
-    assert_eq!(rt;
-        pruned_of(alloc, kind, &crashed[..3], AMPLE),
-        Ok(Came::Sound(4))
-    );
-    assert_eq!(rt;
-        pruned_of(alloc, kind, &crashed[..3], 4),
-        Ok(Came::Sound(4))
-    );
-    assert_eq!(rt; pruned_of(alloc, kind, &crashed[..3], 3), Ok(Came::Over));
-    // From then on (1, {p0}) covers (1, {p0, p1}) too.
-    assert_eq!(rt; pruned_of(alloc, kind, &crashed, AMPLE), Ok(Came::Sound(3)));
-
-    // The mark alone makes one covered.
-    let marked = [
-        invoke(0, write(1)),
-        invoke(1, write(2)),
-        info(0, Name::Write),
-        ok(1, Name::Write, Reply::Done),
-    ];
-    assert_eq!(rt;
-        pruned_of(alloc, kind, &marked[..2], AMPLE),
-        Ok(Came::Sound(5))
-    );
-    assert_eq!(rt;
-        pruned_of(alloc, kind, &marked[..3], AMPLE),
-        Ok(Came::Sound(4))
-    );
-    // (2, {}) and (1, {p0}).
-    assert_eq!(rt; pruned_of(alloc, kind, &marked, AMPLE), Ok(Came::Sound(2)));
-    assert_eq!(rt; came_of(alloc, kind, &marked, AMPLE), Ok(Came::Sound(3)));
-
-    let same = [
-        invoke(0, write(7)),
-        invoke(1, write(7)),
-        info(0, Name::Write),
-    ];
-    assert_eq!(rt;
-        pruned_of(alloc, kind, &same[..2], AMPLE),
-        Ok(Came::Sound(4))
-    );
-    assert_eq!(rt; pruned_of(alloc, kind, &same, AMPLE), Ok(Came::Sound(3)));
-    Ok(())
-}
-
-#[test]
-fn what_a_crashed_write_explains_stays(rt: HostRuntime) -> Result<(), Fail> {
-    let alloc = rt.alloc();
-    let kind = Kind::Register;
-    let seen = [
-        invoke(0, write(1)),
-        info(0, Name::Write),
-        invoke(1, Call::Read),
-        ok(1, Name::Read, Reply::Value(Val::Int(1))),
-        invoke(1, Call::Read),
-        ok(1, Name::Read, Reply::Value(Val::Nil)),
-    ];
-    // (nil, {}), (nil, {p1 nil}), (1, {p0}), (1, {p0, p1 nil}) and (1, {p0, p1 1}).
-    assert_eq!(rt;
-        pruned_of(alloc, kind, &seen[..3], AMPLE),
-        Ok(Came::Sound(5))
-    );
-    assert_eq!(rt;
-        pruned_of(alloc, kind, &seen[..4], AMPLE),
-        Ok(Came::Sound(1))
-    );
-    assert_eq!(rt; pruned_of(alloc, kind, &seen, AMPLE), Ok(Came::Empty));
-    Ok(())
-}
-
-#[test]
-fn crashed_reads_cost_nothing(rt: HostRuntime) -> Result<(), Fail> {
-    let alloc = rt.alloc();
-    let kind = Kind::Register;
-    let reads = [
-        invoke(0, Call::Read),
-        info(0, Name::Read),
-        invoke(1, Call::Read),
-        info(1, Name::Read),
-        invoke(2, Call::Read),
-        info(2, Name::Read),
-    ];
-    assert_eq!(rt; came_of(alloc, kind, &reads, 3), Ok(Came::Over));
-    assert_eq!(rt; pruned_of(alloc, kind, &reads, 3), Ok(Came::Sound(1)));
-    assert_eq!(rt; pruned_of(alloc, kind, &reads[..1], 1), Ok(Came::Over));
-    Ok(())
-}
-
-#[test]
-fn where_nothing_crashed_all_stay(rt: HostRuntime) -> Result<(), Fail> {
-    let alloc = rt.alloc();
-    let queue = [
-        invoke(0, Call::Enqueue(1)),
-        invoke(1, Call::Enqueue(2)),
-        invoke(2, Call::Enqueue(3)),
-    ];
-    assert_eq!(rt;
-        pruned_of(alloc, Kind::Fifo, &queue, AMPLE),
-        Ok(Came::Sound(16))
-    );
-    let writes = [
-        invoke(0, write(1)),
-        invoke(1, write(2)),
-        fail(0, Name::Write),
-    ];
-    assert_eq!(rt;
-        pruned_of(alloc, Kind::Register, &writes[..2], 5),
-        Ok(Came::Sound(5))
-    );
-    assert_eq!(rt;
-        pruned_of(alloc, Kind::Register, &writes[..2], 4),
-        Ok(Came::Over)
-    );
-    assert_eq!(rt;
-        pruned_of(alloc, Kind::Register, &writes, AMPLE),
-        Ok(Came::Sound(2))
-    );
-    Ok(())
-}
-
 /// The operations that are open after the events: how many there are, and how many of them have crashed.
 fn open_after(alloc: Global, events: &[Event]) -> Result<(usize, usize), OutOfMemory> {
     let mut pending: Vec<Open> = Vec::new(alloc);
@@ -512,8 +345,8 @@ fn configurations_and_nodes_are_read(rt: HostRuntime) -> Result<(), Fail> {
 
 /// Numbers drawn by a linear congruential generator, the same in each run.
 #[derive(Drop)]
-struct Draw {
-    seed: u64,
+pub(crate) struct Draw {
+    pub(crate) seed: u64,
 }
 
 impl Draw {
@@ -607,7 +440,11 @@ fn drawn_body(
 }
 
 /// A well-formed history of three processes, with at most four operations.
-fn drawn_history(alloc: Global, kind: Kind, draw: &mut Draw) -> Result<Vec<Event>, OutOfMemory> {
+pub(crate) fn drawn_history(
+    alloc: Global,
+    kind: Kind,
+    draw: &mut Draw,
+) -> Result<Vec<Event>, OutOfMemory> {
     let mut events = Vec::new(alloc);
     let mut clients = [Client::Idle; 3];
     let mut begun = 0usize;
@@ -693,7 +530,11 @@ fn coded_order(
 }
 
 /// Whether the events have a legal order, found by trying all lists of operations.
-fn has_legal_order(alloc: Global, kind: Kind, events: &[Event]) -> Result<bool, OutOfMemory> {
+pub(crate) fn has_legal_order(
+    alloc: Global,
+    kind: Kind,
+    events: &[Event],
+) -> Result<bool, OutOfMemory> {
     let kinds = Kinds::new(alloc, kind);
     let operations = operations_of(alloc, events)?;
     let mut codes = 1usize;
@@ -712,15 +553,14 @@ fn has_legal_order(alloc: Global, kind: Kind, events: &[Event]) -> Result<bool, 
 /// The first prefix of the events of which the frontier says otherwise than the plain search, if there is one.
 fn first_difference(
     alloc: Global,
-    form: Form,
     kind: Kind,
     events: &[Event],
 ) -> Result<Option<usize>, OutOfMemory> {
     for count in 0..events.len() + 1 {
-        let agrees = match came_by(alloc, form, kind, &events[..count], AMPLE)? {
+        let agrees = match came_of(alloc, kind, &events[..count], AMPLE)? {
             Came::Sound(_) => has_legal_order(alloc, kind, &events[..count])?,
             Came::Empty => !has_legal_order(alloc, kind, &events[..count])?,
-            Came::Unsound(_) | Came::Over => false,
+            Came::Unsound(_) | Came::Over | Came::OverBefore => false,
         };
         if !agrees {
             return Ok(Some(count));
@@ -745,11 +585,7 @@ fn drawn_histories_have_a_configuration_where_they_have_a_legal_order(
     ] {
         for _ in 0..12 {
             let events = drawn_history(alloc, kind, &mut draw)?;
-            assert_eq!(rt; first_difference(alloc, Form::All, kind, &events), Ok(None));
-            assert_eq!(rt;
-                first_difference(alloc, Form::Pruned, kind, &events),
-                Ok(None)
-            );
+            assert_eq!(rt; first_difference(alloc, kind, &events), Ok(None));
             if !has_legal_order(alloc, kind, &events)? {
                 without = without.saturating_add(1);
             }

@@ -1,4 +1,4 @@
-use Rattle.std.proofs.Common.{refl, sym, ◌∙◌, true≢false}
+use Rattle.std.proofs.Common.{sym, ◌∙◌, true≢false}
 use Rattle.lin_frontier.proofs.domination.dominates.Goals as goal
 
 pub returns-then-not-is_same_state : goal.returns-then-not-is_same_state

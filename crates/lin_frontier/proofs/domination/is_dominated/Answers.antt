@@ -1,4 +1,4 @@
-use Rattle.std.proofs.Common.{◌≡◌, Contains, All, refl, sym, ◌∙◌, true, true≢false}
+use Rattle.std.proofs.Common.{refl, sym, ◌∙◌, true≢false}
 use Rattle.std.proofs.lemmas.List.Elements.{All-contains}
 use Rattle.lin_frontier.specs.Members.{Member}
 use Rattle.lin_frontier.specs.declared.members.Path.{Path}

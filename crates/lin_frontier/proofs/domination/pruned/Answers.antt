@@ -1,5 +1,5 @@
 use Rattle.std.proofs.Common.{sym, ◌∙◌, inl, inr, true≢false}
-use Rattle.lin_frontier.proofs.PruningMembers.{pruning_start, pruning_drop, pruning_keep, pruning_end}
+use Rattle.lin_frontier.proofs.Undominated.{pruning_start, pruning_drop, pruning_keep, pruning_end}
 use Rattle.lin_frontier.proofs.domination.pruned.Goals as goal
 
 pub loop-member-init : goal.loop-member-init

@@ -1,5 +1,5 @@
 use Rattle.std.proofs.Common.{vec_len}
-use Rattle.lin_frontier.proofs.PruningMembers.{IsPruning}
+use Rattle.lin_frontier.proofs.Undominated.{IsPruning}
 use Rattle.lin_frontier.proofs.domination.pruned.Given as goal
 
 abbrev pub invariant-loop-member : goal.invariant-loop-member

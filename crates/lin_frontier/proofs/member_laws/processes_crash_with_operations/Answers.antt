@@ -1,4 +1,4 @@
-use Rattle.lin_frontier.proofs.Passing.{crashed_law}
+use Rattle.lin_frontier.proofs.Crashes.{crashed_law}
 use Rattle.lin_frontier.proofs.member_laws.processes_crash_with_operations.Goals as goal
 
 pub returns : goal.returns

@@ -1,4 +1,4 @@
-use Rattle.std.proofs.Common.{◌∙◌, ◌++◌, ◌∷◌, [], List, set, ap, sym, arith}
+use Rattle.std.proofs.Common.{◌∙◌, ◌++◌, ◌∷◌, [], List, set, ap}
 use Rattle.lin_order.specs.declared.placed.Placed.{Placed}
 use Rattle.lin_frontier.proofs.InRounds.{put_set, put_past}
 use Rattle.lin_frontier.proofs.rounds.put.Goals as goal

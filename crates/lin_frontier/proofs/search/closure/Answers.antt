@@ -16,14 +16,14 @@ loop-state-init g c = record {
   within = omega arith;
   small = omega arith;
   unique = c.len.ensures.unique;
-  closing = closing_start _ _ _ _;
+  closing = closing_start _ _ _;
   tried = tried_none _ _;
 }
 
 -- the outcomes of the state at the place have been taken in
-taken_in : (g : _) (c : In_ok-absorb g) → IsClosing (g.O.Steps.step c.args.object.now) (g.O.Steps.covers c.args.object.now) c.args.starts.entries c.args.nodes.now c.absorb.new.nodes (c.loop-state.at + 1) c.absorb.new.found.entries
+taken_in : (g : _) (c : In_ok-absorb g) → IsClosing (g.O.Steps.step c.args.object.now) c.args.starts.entries c.args.nodes.now c.absorb.new.nodes (c.loop-state.at + 1) c.absorb.new.found.entries
 taken_in g c =
-    closing_step _ _ _ _ c.loop-state.at c.loop-state.found.entries c.in_ok-out.out.items c.absorb.new.found.entries c.loop-state.nodes c.absorb.new.nodes (c.in-Some.state.now, c.in-Some.node.now)
+    closing_step _ _ _ c.loop-state.at c.loop-state.found.entries c.in_ok-out.out.items c.absorb.new.found.entries c.loop-state.nodes c.absorb.new.nodes (c.in-Some.state.now, c.in-Some.node.now)
     (sym c.in-Some.ensures.entry) c.absorb.ensures.grown c.in_ok-absorb.ensures.taken c.in_ok-out.ensures.sound c.in_ok-out.ensures.complete c.loop-state.invariant.closing
 
 pub returns-in_err-absorb-clause-grown : goal.returns-in_err-absorb-clause-grown
@@ -57,17 +57,12 @@ returns-clause-closure g c =
     let past = ended _ _ c.in_default.ensures.found.1 in
     record {
       traced = i.closing.traced;
-      begins = begins_in _ _ _ _ c.loop-state.nodes c.loop-state.at c.loop-state.found.entries i.closing;
-      closed = closing_end _ _ _ _ c.loop-state.at c.loop-state.nodes c.loop-state.found.entries past i.closing;
+      begins = begins_in _ _ _ c.loop-state.nodes c.loop-state.at c.loop-state.found.entries i.closing;
+      closed = closing_end _ _ _ c.loop-state.at c.loop-state.nodes c.loop-state.found.entries past i.closing;
       distinct = entries_differ g.met.O.State.Eq.laws g.met.O.Steps.same c.loop-state.found.entries i.unique;
     }
 
 pub returns-then-len-budget-2-clause-tried : goal.returns-then-len-budget-2-clause-tried
 returns-then-len-budget-2-clause-tried g c =
-    let inside = c.in-Some.ensures.found.0 refl in
-    tried_turns (c.loop-state.at + 1) c.args.budget _ _ _ (omega (arith, c.loop-state.invariant.small)) (tried_turn c.loop-state.at _ _ _ _ c.loop-state.invariant.tried c.outcomes.ensures.tried)
-
-pub returns-in_err-absorb-clause-tried : goal.returns-in_err-absorb-clause-tried
-returns-in_err-absorb-clause-tried g c =
     let inside = c.in-Some.ensures.found.0 refl in
     tried_turns (c.loop-state.at + 1) c.args.budget _ _ _ (omega (arith, c.loop-state.invariant.small)) (tried_turn c.loop-state.at _ _ _ _ c.loop-state.invariant.tried c.outcomes.ensures.tried)

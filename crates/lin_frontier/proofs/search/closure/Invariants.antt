@@ -9,7 +9,7 @@ invariant-loop-state g l = record {
   within : l.at ≤ index_map_len l.found;
   small : index_map_len l.found ≤ l.budget;
   unique : IsUnique g.O.State.PartialEq.eq l.found;
-  closing : IsClosing (g.O.Steps.step l.object) (g.O.Steps.covers l.object) l.fn.starts.entries l.fn.nodes l.nodes l.at l.found.entries;
+  closing : IsClosing (g.O.Steps.step l.object) l.fn.starts.entries l.fn.nodes l.nodes l.at l.found.entries;
   tried : IsTriedAtMost (l.at * g.O.Steps.most l.object) l.fn.meter l.meter;
 }
 

@@ -71,7 +71,7 @@ returns-clause-end c =
     let count = length c.args.picks.now in
     let len = length-events_at c.args.events.now c.args.picks.now c.requires.inside in
     subst (λ kind. IsEndOf kind c.args.budget h c.if-is_alive.self.end) t.same
-    (right_end c.empty_is_legal.ensures (λ kind. c.covers_spell_legal_orders.ensures (record { kind = kind })) (record c.if-is_alive.self { ready = count }) h c.args.budget (sym len) t.over (right_all c.if-is_alive.self h count (sym len) t.all t.right))
+    (right_end c.empty_is_legal.ensures (λ kind. c.members_spell_legal_orders.ensures (record { kind = kind })) (record c.if-is_alive.self { ready = count }) h c.args.budget (sym len) t.over (right_all c.if-is_alive.self h count (sym len) t.all t.right))
 
 pub returns-clause-no_less : goal.returns-clause-no_less
 returns-clause-no_less c =

@@ -7,12 +7,12 @@ use Rattle.lin_frontier.specs.Frontiers.{IsOver}
 use Rattle.lin_chain.specs.declared.chain.End.TheVariants.{Dead, Over}
 use Rattle.lin_chain.specs.declared.replay.Replay.{Replay}
 use Rattle.lin_chain.specs.declared.replay.Taken.{Taken}
-use Rattle.lin_chain.specs.declared.replay.Taken.TheVariants.{Next, Empty, Over as Exceeds}
+use Rattle.lin_chain.specs.declared.replay.Taken.TheVariants.{Next, Empty, Over as Exceeds, OverBefore as ExceedsBefore}
 use Rattle.lin_chain.specs.Chains.{IsRight}
 use Rattle.lin_chain.specs.Replays.{IsLinearizableAs}
 use Rattle.lin_chain.proofs.Chaining.{right_alive, right_dead, right_over}
 use Rattle.lin_chain.proofs.chain.Chain.take_in.Goals as goal
-use Rattle.lin_chain.proofs.chain.Chain.take_in.Goals.{in-Next, in-Empty, in-Over}
+use Rattle.lin_chain.proofs.chain.Chain.take_in.Goals.{in-Next, in-Empty, in-Over, in-OverBefore}
 
 not_next : (result : Result Taken OutOfMemory) (taken : Taken) → (taken ≡ Next → ⊥) → result ≡ Ok taken → result ≡ Ok Next → ⊥
 not_next result taken other is next = other cc
@@ -35,7 +35,7 @@ returns-clause-right c = λ functions h well there right.
           let stays = c.take_in.ensures.stays (not_next c.take_in.result Empty empty_apart taken) in
           subst (λ e. IsRight (record { replay = c.take_in.new.self; ready = n + 1; end = e; budget = c.args.budget }) h) (sym w.self-is)
           (subst (λ (r : Replay). IsRight (record { replay = r; ready = n + 1; end = Dead n; budget = c.args.budget }) h) (sym stays)
-          (right_dead c.empty_is_legal.ensures (λ kind. c.covers_spell_legal_orders.ensures (record { kind = kind })) mid n c.args.budget h (sym c.prepare.ensures.reached) prepared.right before inside
+          (right_dead c.empty_is_legal.ensures (λ kind. c.members_spell_legal_orders.ensures (record { kind = kind })) mid n c.args.budget h (sym c.prepare.ensures.reached) prepared.right before inside
           (λ lin. c.take_in.ensures.empty taken functions h well at_mid prepared (subst (λ m. IsLinearizableAs mid.object.kind (take (m + 1) h)) (sym c.prepare.ensures.reached) lin))))
       | in-Over w ↦
           let taken = c.in_ok-take_in.was ∙ ap Ok w.in-Over.is in
@@ -44,6 +44,16 @@ returns-clause-right c = λ functions h well there right.
           (subst (λ (r : Replay). IsRight (record { replay = r; ready = n + 1; end = Over n; budget = c.args.budget }) h) (sym stays)
           (right_over mid n (n + 1) c.args.budget h (omega (arith, c.prepare.ensures.reached)) (omega (arith, c.prepare.ensures.reached)) (omega arith) (omega (arith, inside)) prepared.right before
           (subst (λ m. IsOver (start mid.object.kind) (Step mid.object.kind) (take (m + 1) h) c.args.budget) c.prepare.ensures.reached (c.take_in.ensures.over taken functions h well at_mid prepared))))
+      | in-OverBefore w ↦
+          let taken = c.in_ok-take_in.was ∙ ap Ok w.in-OverBefore.is in
+          let stays = c.take_in.ensures.stays (not_next c.take_in.result ExceedsBefore before_apart taken) in
+          let over = c.take_in.ensures.before taken functions h well at_mid prepared in
+          let p = w.saturating_sub.result in
+          let one_back : p + 1 ≡ n = omega (arith, over.0, w.saturating_sub.ensures, c.prepare.ensures.reached) in
+          subst (λ e. IsRight (record { replay = c.take_in.new.self; ready = n + 1; end = e; budget = c.args.budget }) h) (sym w.self-is)
+          (subst (λ (r : Replay). IsRight (record { replay = r; ready = n + 1; end = Over p; budget = c.args.budget }) h) (sym stays)
+          (right_over mid p (n + 1) c.args.budget h (omega (arith, one_back, c.prepare.ensures.reached)) (omega (arith, one_back, c.prepare.ensures.reached)) (omega (arith, one_back)) (omega (arith, one_back, inside)) prepared.right
+          (omega (arith, one_back, before)) (subst (λ m. IsOver (start mid.object.kind) (Step mid.object.kind) (take m h) c.args.budget) (c.prepare.ensures.reached ∙ sym one_back) over.1)))
     ]
   where
     empty_apart : Empty ≡ Next → ⊥
@@ -51,3 +61,6 @@ returns-clause-right c = λ functions h well there right.
 
     over_apart : Exceeds ≡ Next → ⊥
     over_apart e = cc
+
+    before_apart : ExceedsBefore ≡ Next → ⊥
+    before_apart e = cc

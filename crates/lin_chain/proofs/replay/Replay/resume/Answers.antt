@@ -1,15 +1,15 @@
 use Rattle.std.proofs.Common.{◌≡◌, ◌+◌, ◌-◌, ◌++◌, ◌∙◌, true, false, Option, Some, None, Result, Ok, Err, OnOk, is_some, refl, List, ap, sym, arith, length, slice_get, take}
 use Rattle.std.proofs.lemmas.Option.{slice_get_within}
 use Rattle.lin_history.specs.declared.events.Event.{Event}
-use Rattle.lin_chain.specs.Replays.{Entries, IsReplay}
+use Rattle.lin_chain.specs.Replays.{Members, IsReplay}
 use Rattle.lin_chain.proofs.Replaying.{replay_listed, prepared_listed, prepared_present}
 use Rattle.lin_chain.proofs.replay.Replay.resume.Goals as goal
 
-not_none : (present : Option Entries) → is_some present ≡ true → present ≡ None → ⊥
+not_none : (present : Option Members) → is_some present ≡ true → present ≡ None → ⊥
 not_none None yes' e = cc
 not_none (Some f) yes' e = cc
 
-none_if_not : (present : Option Entries) → is_some present ≡ false → present ≡ None
+none_if_not : (present : Option Members) → is_some present ≡ false → present ≡ None
 none_if_not None absent = refl
 none_if_not (Some f) absent = cc
 

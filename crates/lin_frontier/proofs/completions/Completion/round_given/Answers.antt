@@ -1,4 +1,4 @@
-use Rattle.std.proofs.Common.{inl, inr, sym, ◌∙◌, arith, length}
+use Rattle.std.proofs.Common.{inl, inr, sym, ◌∙◌, arith}
 use Rattle.lin_frontier.proofs.completions.Completion.round_given.Goals as goal
 
 pub returns-clause-none : goal.returns-clause-none

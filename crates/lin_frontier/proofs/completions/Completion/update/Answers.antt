@@ -1,4 +1,3 @@
-use Rattle.std.proofs.Common.{sym, ◌∙◌}
 use Rattle.lin_frontier.proofs.Completing.{returning_made}
 use Rattle.lin_frontier.proofs.Visiting.{begins_from}
 use Rattle.lin_frontier.proofs.completions.Completion.update.Goals as goal

@@ -1,4 +1,4 @@
-use Rattle.std.proofs.Common.{◌+◌, arith, inl, inr, length}
+use Rattle.std.proofs.Common.{◌+◌, arith, inr}
 use Rattle.lin_frontier.specs.Searching.{PlacesIfUpdate}
 use Rattle.lin_frontier.proofs.Counting.{tried_more as counted_more}
 use Rattle.lin_frontier.proofs.Trying.{tried_more, tried_full}

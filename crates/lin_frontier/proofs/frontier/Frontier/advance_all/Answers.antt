@@ -1,26 +1,28 @@
-use Rattle.std.proofs.Common.{[], Contains, refl, arith}
+use Rattle.std.proofs.Common.{◌≡◌, [], take, sym, ap, ◌∙◌, subst}
+use Rattle.std.proofs.lemmas.List.{append-nil}
 use Rattle.lin_order.specs.ConfigurationLaws.{with_event}
-use Rattle.lin_frontier.proofs.Answered.{if_ok_weaker}
-use Rattle.lin_frontier.proofs.Covered.{covering_from, frontier_from}
-use Rattle.lin_frontier.proofs.Crashing.{none_spared}
+use Rattle.lin_frontier.specs.Frontiers.{IsFrontier}
+use Rattle.lin_frontier.proofs.Answered.{from_some, from_none}
+use Rattle.lin_frontier.proofs.Closing.{cut_back}
+use Rattle.lin_frontier.proofs.Completed.{none_legal}
 use Rattle.lin_frontier.proofs.frontier.Frontier.advance_all.Goals as goal
 
-pub returns-clause-next : goal.returns-clause-next
-returns-clause-next g c = if_ok_weaker _ _ (λ step says. λ next is functions h nx frontier.
-    let starts = g.O.SeqObject.starts c.args.object.now in
-    let steps = g.O.SeqObject.step c.args.object.now in
-    let known = says next is functions h nx (none_spared [] c.args.event.now refl) (covering_from starts steps h c.args.self.now c.args.nodes.now (Contains []) frontier) in
-    frontier_from starts steps (with_event h c.args.event.now) next c.step.new.nodes (Contains []) (λ p there. let inside = there.1 in omega arith) known.0 known.1)
-    c.step.result c.step.ensures.next
+pub returns-then-is_empty-clause-empty : goal.returns-then-is_empty-clause-empty
+returns-then-is_empty-clause-empty g c is functions h next frontier legal =
+    let known = subst (λ es. IsFrontier (g.O.SeqObject.starts c.args.object.now) (g.O.SeqObject.step c.args.object.now) h es c.args.nodes.now) (sym c.self.view_is) frontier in
+    none_legal (g.O.SeqObject.starts c.args.object.now) (g.O.SeqObject.step c.args.object.now) functions (with_event h c.args.event.now) c.in-Ok-Some.configs.entries c.next_configs.new.nodes (c.is_empty.ensures.0 c.if-is_empty.true) c.legal_orders_end.ensures
+    next.well_formed (from_some _ c.in-Ok-Some.field-0-is c.in-Ok-Some.ensures.next functions h next known) legal
 
-pub returns-clause-empty : goal.returns-clause-empty
-returns-clause-empty g c = if_ok_weaker _ _ (λ step says. λ is functions h nx frontier.
-    says is functions h nx (none_spared [] c.args.event.now refl)
-    (covering_from (g.O.SeqObject.starts c.args.object.now) (g.O.SeqObject.step c.args.object.now) h c.args.self.now c.args.nodes.now (Contains []) frontier))
-    c.step.result c.step.ensures.empty
+pub returns-then-is_empty-clause-grown : goal.returns-then-is_empty-clause-grown
+returns-then-is_empty-clause-grown g c = ([], (c.cut.ensures ∙ ap (λ n. take n c.next_configs.new.nodes) c.len-count.ensures) ∙ cut_back c.args.nodes.now c.next_configs.new.nodes c.next_configs.ensures.grown ∙ sym (append-nil c.args.nodes.now))
 
-pub returns-clause-over : goal.returns-clause-over
-returns-clause-over g c = if_ok_weaker _ _ (λ step says. λ is functions h nx frontier.
-    says is functions h nx (none_spared [] c.args.event.now refl)
-    (covering_from (g.O.SeqObject.starts c.args.object.now) (g.O.SeqObject.step c.args.object.now) h c.args.self.now c.args.nodes.now (Contains []) frontier))
-    c.step.result c.step.ensures.over
+pub returns-else-is_empty-clause-next : goal.returns-else-is_empty-clause-next
+returns-else-is_empty-clause-next g c next is functions h nx frontier =
+    let known = subst (λ es. IsFrontier (g.O.SeqObject.starts c.args.object.now) (g.O.SeqObject.step c.args.object.now) h es c.args.nodes.now) (sym c.self.view_is) frontier in
+    let same : c.in-Ok-Some.configs.entries ≡ next = cc in
+    subst (λ es. IsFrontier (g.O.SeqObject.starts c.args.object.now) (g.O.SeqObject.step c.args.object.now) (with_event h c.args.event.now) es c.next_configs.new.nodes) same (from_some _ c.in-Ok-Some.field-0-is c.in-Ok-Some.ensures.next functions h nx known)
+
+pub returns-in-Ok-None-clause-over : goal.returns-in-Ok-None-clause-over
+returns-in-Ok-None-clause-over g c is functions h next frontier =
+    let known = subst (λ es. IsFrontier (g.O.SeqObject.starts c.args.object.now) (g.O.SeqObject.step c.args.object.now) h es c.args.nodes.now) (sym c.self.view_is) frontier in
+    from_none _ c.in-Ok-None.field-0-is c.in-Ok-None.ensures.over functions h next known

@@ -1,17 +1,10 @@
 use Rattle.std.proofs.Common.{◌∷◌, [], ap, ◌∙◌}
-use Rattle.lin_frontier.proofs.Completed.{cover_first, frontier_first}
+use Rattle.lin_frontier.proofs.Completed.{frontier_first}
 use Rattle.lin_frontier.proofs.frontier.Frontier.start.Goals as goal
 
 pub returns-in-Ok-clause-exact : goal.returns-in-Ok-clause-exact
 returns-in-Ok-clause-exact g c =
     let made = c.new.ensures in
     let begins = c.start.ensures in
-    frontier_first _ _ c.configurations_at_start.ensures c.args.nodes.now c.insert.new.self.entries
-    ((rw c.in_ok-configs.ensures.empty at c.in-Ok.ensures.entries) ∙ ap (λ k. (k, 0) ∷ []) (made ∙ ap (λ s. (s, [])) begins))
-
-pub returns-in-Ok-clause-cover : goal.returns-in-Ok-clause-cover
-returns-in-Ok-clause-cover g c =
-    let made = c.new.ensures in
-    let begins = c.start.ensures in
-    cover_first _ _ c.configurations_at_start.ensures c.args.nodes.now c.insert.new.self.entries
+    frontier_first _ _ c.configurations_at_start.ensures c.insert.new.self.entries c.args.nodes.now
     ((rw c.in_ok-configs.ensures.empty at c.in-Ok.ensures.entries) ∙ ap (λ k. (k, 0) ∷ []) (made ∙ ap (λ s. (s, [])) begins))

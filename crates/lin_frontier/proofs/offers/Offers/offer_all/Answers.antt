@@ -1,4 +1,4 @@
-use Rattle.std.proofs.Common.{◌+◌, arith, sym, subst, take, length}
+use Rattle.std.proofs.Common.{◌+◌, arith, subst}
 use Rattle.std.proofs.lemmas.List.{take_all}
 use Rattle.lin_frontier.specs.Searching.{GivesOne, IsOffering}
 use Rattle.lin_frontier.proofs.Offering.{IsOver, offering_none, offering_more}

@@ -1,4 +1,4 @@
-use Rattle.std.proofs.Common.{refl, sym, ◌∙◌}
+use Rattle.std.proofs.Common.{sym, ◌∙◌}
 use Rattle.lin_frontier.proofs.Offering.{offering_same}
 use Rattle.lin_frontier.proofs.offers.Offers.offer_one.Goals as goal
 

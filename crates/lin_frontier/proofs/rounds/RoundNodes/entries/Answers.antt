@@ -1,7 +1,8 @@
-use Rattle.std.proofs.Common.{◌≡◌, ◌++◌, ◌∷◌, [], ◌∙◌, ap, arith, inl, inr, length, length-append}
+use Rattle.std.proofs.Common.{ℕ, Option, ◌≡◌, ◌++◌, ◌∷◌, [], ◌∙◌, ap, arith, inl, inr, length, length-append, subst, sym}
 use Rattle.std.proofs.lemmas.Bool.{cases_lt}
 use Rattle.lin_history.specs.declared.calls.Reply.{Reply}
-use Rattle.lin_frontier.proofs.Spelling.{reading_start, reading_inside, reading_step, reversed}
+use Rattle.lin_order.specs.declared.placed.Placed.{Placed}
+use Rattle.lin_frontier.proofs.Spelling.{IsReading, reading_start, reading_inside, reading_step, reversed}
 use Rattle.lin_frontier.proofs.rounds.RoundNodes.entries.Goals as goal
 use Rattle.lin_frontier.proofs.rounds.RoundNodes.entries.Goals.{else-loop-test, then-loop-test+in_default}
 
@@ -13,9 +14,10 @@ loop-preserved c =
     let more = ap length c.in_ok-push.ensures.items ∙ length-append c.loop.entries.items _ in
     let link = c.in-Some.ensures.some in (
       omega (arith, c.loop.invariant.0),
-      λ order spelled. reading_step c.args.self.now c.args.id c.loop.at c.loop.entries.items c.push.new.self.items c.in-Some.parent c.in-Some.last.now link.0 link.1
-          (c.in_ok-push.ensures.items ∙ ap (λ (r : Reply). c.loop.entries.items ++ (record { at = c.in-Some.last.now.0.at; reply = r }, c.in-Some.last.now.1) ∷ []) c.in_ok-copy.ensures)
-          (c.loop.invariant.1 order spelled),
+      λ order spelled. subst (λ q. IsReading c.args.self.now c.args.id q c.push.new.self.items) (sym c.parent-at.ensures) (reading_step c.args.self.now c.args.id c.loop.at c.loop.entries.items c.push.new.self.items c.in-Some.link.now.0 c.in-Some.link.now.1 link.0 link.1
+          (c.in_ok-push.ensures.items ∙ ap (λ (r : Reply). c.loop.entries.items ++ (record { at = c.placed-last.result.now.at; reply = r }, c.round.result) ∷ []) c.in_ok-copy.ensures
+          ∙ ap (λ (p : Placed). c.loop.entries.items ++ (p, c.round.result) ∷ []) c.placed-last.ensures ∙ ap (λ (r : Option ℕ). c.loop.entries.items ++ (c.in-Some.link.now.1.0, r) ∷ []) c.round.ensures)
+          (c.loop.invariant.1 order spelled)),
     )
 
 pub returns : goal.returns

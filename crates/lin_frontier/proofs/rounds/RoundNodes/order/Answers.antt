@@ -1,4 +1,4 @@
-use Rattle.std.proofs.Common.{◌≡◌, ◌∷◌, [], List, ap, sym, ◌∙◌, reverse}
+use Rattle.std.proofs.Common.{◌∷◌, [], ap, ◌∙◌, reverse}
 use Rattle.std.proofs.lemmas.List.{reverse-reverse}
 use Rattle.lin_frontier.specs.Rounds.{joined}
 use Rattle.lin_frontier.specs.Searching.{in_rounds}

@@ -1,0 +1,203 @@
+-- One more event, and pruning: members that lead to all configurations, each with its rounds.
+use Rattle.std.proofs.Common.{◌≡◌, ◌≢◌, ℕ, ℤ, Bool, List, [], ◌∷◌, ◌++◌, length, ◌<◌, Contains, map, get_or, take, inl, inr, refl, sym, ap, subst, ◌∙◌, arith, Option}
+use Rattle.std.proofs.lemmas.List.{append-nil}
+use Rattle.std.proofs.lemmas.List.Elements.{All-contains}
+use Rattle.std.proofs.lemmas.Option.{slice_get_within}
+use Rattle.lin_history.specs.declared.calls.Call.{Call}
+use Rattle.lin_history.specs.declared.calls.Name.{Name}
+use Rattle.lin_history.specs.declared.calls.Reply.{Reply}
+use Rattle.lin_history.specs.declared.events.Body.{Body}
+use Rattle.lin_history.specs.declared.events.Body.TheVariants.{Invoke, Ok, Fail, Info}
+use Rattle.lin_history.specs.declared.events.Event.{Event}
+use Rattle.lin_history.specs.Alternation.{IsAlternating}
+use Rattle.lin_history.specs.WellFormed.{IsWellFormed, Completes}
+use Rattle.lin_history.specs.WellFormedLaws.{EndsAreUnique, WellFormedIsAlternating}
+use Rattle.lin_history.proofs.OneMore.{alternates_before, completes}
+use Rattle.lin_order.specs.declared.placed.Placed.{Placed}
+use Rattle.lin_order.specs.ConfigurationLaws.{with_event, LegalOrdersEnd}
+use Rattle.lin_order.specs.Linearizable.{IsLinearizableBy}
+use Rattle.lin_order.specs.Configurations.{IsRising}
+use Rattle.lin_frontier.specs.declared.members.Path.{Path}
+use Rattle.lin_frontier.specs.declared.pending.Open.{Open}
+use Rattle.lin_frontier.specs.Compressed.{IsSpelled, IsCovering, IsCompressed, CompressedSpellLegalOrders}
+use Rattle.lin_frontier.specs.Frontiers.{IsPending, IsNextEvent}
+use Rattle.lin_frontier.specs.MemberLaws.{first_member, StartCompleteLaw, DroppingLaw, InvocationKeepsLaw, InfoKeepsLaw, FailKeepsLaw, ObserverSearchLaw, UpdateSearchLaw}
+use Rattle.lin_frontier.specs.Members.{Member, IsDominated, Dominates}
+use Rattle.lin_frontier.specs.Nodes.{IsGrown}
+use Rattle.lin_frontier.specs.Placing.{IsAbsent}
+use Rattle.lin_frontier.specs.RoundLaws.{ExactLaw, TrailStartLaw, FewerLaw, TrailPlacesLaw, TrailInvocationLaw, TrailInfoLaw, TrailFailLaw, TrailOkLaw, TrailObserverLaw, TrailReturnLaw}
+use Rattle.lin_frontier.specs.Rounds.{IsTrailOf, root}
+use Rattle.lin_frontier.specs.Searching.{CompletesOpen, IsNextOf, IsPruned, IsReturnOf}
+use Rattle.lin_frontier.proofs.Answering.{returned_complete}
+use Rattle.lin_frontier.proofs.Awaiting.{open_pending}
+use Rattle.lin_frontier.proofs.Closing.{cut_back}
+use Rattle.lin_frontier.proofs.Inserting.{first_or_rest}
+use Rattle.lin_frontier.proofs.Onward.{in_map, from_map, invoked, informed, failed, spelled_copy, spelled_rising, spelled_stays}
+use Rattle.lin_frontier.proofs.Putting.{trail_ends}
+use Rattle.lin_frontier.proofs.Pruned.{dominates_to, dominates_from, watching_to}
+use Rattle.lin_frontier.proofs.Crashes.{passes_fail}
+use Rattle.lin_frontier.proofs.Returned.{returned_spelled, free_reached}
+use Rattle.lin_objects.specs.Observing.{IsObserving}
+
+-- what holds of members and of rounds
+pub record Laws {S : Type 0} (start : S) (step : S → Call → S → Reply → Type 0) : Type 0 where
+  pub alternating : WellFormedIsAlternating
+  pub unique : EndsAreUnique
+  pub dropping : DroppingLaw start step
+  pub invocation : InvocationKeepsLaw start step
+  pub info : InfoKeepsLaw start step
+  pub fail : FailKeepsLaw start step
+  pub observer : ObserverSearchLaw start step
+  pub update : UpdateSearchLaw start step
+  pub fewer : FewerLaw start step
+  pub places : TrailPlacesLaw start step
+  pub trail_invocation : TrailInvocationLaw start step
+  pub trail_info : TrailInfoLaw start step
+  pub trail_fail : TrailFailLaw start step
+  pub trail_ok : TrailOkLaw start step
+  pub trail_observer : TrailObserverLaw start step
+  pub trail_return : TrailReturnLaw start step
+
+module _ {S : Type 0} (start : S) (step : S → Call → S → Reply → Type 0) (observes : Call → Bool) (laws : Laws start step) (functions : ℤ → Name → Bool) (h : List Event) (before : List Open) (at : ℕ) (event : Event)
+    (next : IsNextEvent functions h before at event) (pending : List Open) (opened : IsPending (with_event h event) pending) where
+  alternates : IsAlternating functions (with_event h event)
+  alternates = (laws.alternating functions (with_event h event)).0 next.well_formed
+
+  earlier : IsAlternating functions h
+  earlier = alternates_before h event functions alternates
+
+  earlier_well_formed : IsWellFormed functions h
+  earlier_well_formed = (laws.alternating functions h).1 earlier
+
+  -- an ok completes an operation that was open
+  pub completes_open : CompletesOpen event before
+  completes_open name reply body none =
+      let e = completes h event functions alternates name (subst (λ b. Completes b name) (sym body) refl) in
+      let o = open_pending h before next.opened e.0 event.process e.1 e.2 e.3 in
+      All-contains (λ (p : Open). p.process ≢ event.process) before o.0 none o.1 o.3
+
+  pub next_covering : IsObserving step observes → (nodes : List (ℕ × (Placed × Option ℕ))) (members out : List (Member S × Path)) → IsNextOf step observes event.process event.body before pending nodes members out
+      → IsCovering start step observes h members nodes → IsCovering start step observes (with_event h event) out nodes
+  next_covering observing nodes members out made c = by event.body refl made
+    where
+      rising : (m : Member S × Path) → Contains members m → IsRising m.0.placed
+      rising m there = spelled_rising start step observes h nodes m (c.spelled m there)
+
+      returned : (name : Name) (reply : Reply) → event.body ≡ Ok name reply → (o : Open) → Contains before o → o.process ≡ event.process → IsReturnOf step observes o reply before pending nodes members out
+          → IsCovering start step observes (with_event h event) out nodes
+      returned name reply body o there of r = record {
+        complete = returned_complete observes functions h event name reply body laws.unique alternates pending opened step before next.opened earlier o there of start next.well_formed laws.observer laws.update nodes members out r rising
+            (λ m within. spelled_rising start step observes h nodes m
+            (free_reached observes functions h event name reply body laws.unique alternates pending opened start step nodes earlier_well_formed laws.places r.starts begun m (r.searched.reached m within)).0)
+            c.complete;
+        spelled = returned_spelled observes functions h event name reply body laws.unique alternates pending opened start step nodes before next.opened next.well_formed o there of earlier_well_formed observing laws.fewer laws.places
+            laws.trail_observer laws.trail_return laws.trail_ok members out r c.spelled;
+      }
+        where
+          begun : (m : Member S × Path) → Contains r.starts m → IsSpelled start step observes h nodes m × IsAbsent event.process m.0.placed
+          begun m within =
+              let s = r.begun.sound m within in
+              subst (λ k. IsSpelled start step observes h nodes k × IsAbsent event.process k.0.placed) (sym s.3)
+              (spelled_copy start step observes laws.fewer h nodes before s.0 (c.spelled s.0 s.1), subst (λ q. IsAbsent q s.0.0.placed) of s.2)
+
+      by : (b : Body) → event.body ≡ b → IsNextOf step observes event.process b before pending nodes members out → IsCovering start step observes (with_event h event) out nodes
+      by (Invoke call) body m =
+          invoked start step observes functions h event next.well_formed laws.unique alternates pending opened nodes members out call body observing laws.invocation laws.dropping laws.trail_invocation laws.fewer m c
+      by (Info name) body m =
+          informed start step observes functions h event next.well_formed laws.unique alternates pending opened nodes members out name body laws.info laws.trail_info laws.fewer m c
+      by (Fail name) body m =
+          failed start step observes functions h event next.well_formed laws.unique alternates pending opened nodes members out name body
+          (λ w. let k = watching_to functions (with_event h event) pending opened laws.unique alternates observes event.process w in
+          (passes_fail h event functions alternates observes name body).shut k.at event.process k.key k.call refl k.is_open)
+          laws.fail laws.trail_fail laws.fewer m c
+      by (Ok name reply) body m = returned name reply body m.0 m.1 m.2 m.3
+
+module _ {S : Type 0} (start : S) (step : S → Call → S → Reply → Type 0) (observes : Call → Bool) (alternating : WellFormedIsAlternating) (unique : EndsAreUnique) (dropping : DroppingLaw start step)
+    (functions : ℤ → Name → Bool) (h : List Event) (well_formed : IsWellFormed functions h) (pending : List Open) (opened : IsPending h pending) where
+  -- without those that others dominate
+  pub pruned_compressed : (nodes : List (ℕ × (Placed × Option ℕ))) (members kept : List (Member S × Path)) → IsPruned observes pending members kept → IsCovering start step observes h members nodes
+      → IsCompressed start step observes h kept nodes
+  pruned_compressed nodes members kept p c = record {
+    covering = record {
+      complete = dropping observes h (map (λ m. m.0) members) (map (λ m. m.0) kept) dominated c.complete;
+      spelled = λ m there. c.spelled m (p.from m there);
+    };
+    apart = λ i j d below inside.
+        let a = p.apart i j d below inside in (
+          λ above. a.0 (dominates_from functions h pending opened unique ((alternating functions h).0 well_formed) observes (get_or kept i d).0 (get_or kept j d).0 above),
+          λ above. a.1 (dominates_from functions h pending opened unique ((alternating functions h).0 well_formed) observes (get_or kept j d).0 (get_or kept i d).0 above),
+        );
+  }
+    where
+      dominated : IsDominated observes h (map (λ m. m.0) members) (map (λ m. m.0) kept)
+      dominated n there =
+          let m = from_map (λ (x : Member S × Path). x.0) members n there in
+          let k = p.covered m.0 m.1 in (
+            k.0.0,
+            in_map (λ (x : Member S × Path). x.0) kept k.0 k.1,
+            subst (Dominates observes h k.0.0) m.2
+                (dominates_to functions h pending opened unique ((alternating functions h).0 well_formed) observes k.0.0 m.0.0.state m.0.0.placed m.0.0.offers
+                (spelled_rising start step observes h nodes k.0 (c.spelled k.0 (p.from k.0 k.1))) k.2),
+          )
+
+-- nodes are only added
+pub covering_stays : {S : Type 0} (start : S) (step : S → Call → S → Reply → Type 0) (observes : Call → Bool) (h : List Event) (nodes now : List (ℕ × (Placed × Option ℕ))) (members : List (Member S × Path)) → IsGrown nodes now
+    → IsCovering start step observes h members nodes → IsCovering start step observes h members now
+covering_stays start step observes h nodes now members grown c = record {
+  complete = c.complete;
+  spelled = λ m there. spelled_stays start step observes h nodes now m grown (c.spelled m there);
+}
+
+-- where no member is left, no legal order exists
+pub none_left : {S : Type 0} (start : S) (step : S → Call → S → Reply → Type 0) (observes : Call → Bool) (functions : ℤ → Name → Bool) (h : List Event) (nodes : List (ℕ × (Placed × Option ℕ))) (members : List (Member S × Path))
+    → ExactLaw start step → LegalOrdersEnd start step → IsWellFormed functions h → length members ≡ 0 → IsCompressed start step observes h members nodes → IsLinearizableBy start step h → ⊥
+none_left {S} start step observes functions h nodes members exact ends well_formed none c legal =
+    let configuration = ends functions h legal.0 well_formed legal.1 in
+    let some = (exact observes h (map (λ m. m.0) members) c.covering.complete spelled).0 (configuration.0, (legal.0, configuration.1)) in
+    let m = from_map (λ (x : Member S × Path). x.0) members some.0 some.1 in
+    let inside = m.1.1 in
+    omega arith
+  where
+    spelled : (m : Member S) → Contains (map (λ k. k.0) members) m → (states : List S) × (rounds : List (List Placed)) × IsTrailOf start step observes h states rounds m
+    spelled m there =
+        let k = from_map (λ (x : Member S × Path). x.0) members m there in
+        let s = c.covering.spelled k.0 k.1 in
+        subst (λ (n : Member S). (states : List S) × (rounds : List (List Placed)) × IsTrailOf start step observes h states rounds n) k.2 (s.states, s.rounds, s.trail)
+
+-- nodes of which those that were added were cut off again
+pub cut_grown : {A : Type 0} (nodes now cut : List A) (n : ℕ) → cut ≡ take n now → n ≡ length nodes → IsGrown nodes now → IsGrown nodes cut
+cut_grown nodes now cut n is many grown = ([], is ∙ ap (λ k. take k now) many ∙ cut_back nodes now grown ∙ sym (append-nil nodes))
+
+-- the start alone
+pub first_compressed : {S : Type 0} (start : S) (step : S → Call → S → Reply → Type 0) (observes : Call → Bool) (nodes : List (ℕ × (Placed × Option ℕ))) (members none : List (Member S × Path)) (m : Member S × Path) (state : S)
+    → members ≡ none ++ m ∷ [] → none ≡ [] → m ≡ (first_member state, record { node = 0; round = 0 }) → state ≡ start → StartCompleteLaw start step → TrailStartLaw start step → IsCompressed start step observes [] members nodes
+first_compressed {S} start step observes nodes members none m state pushed empty is same complete trail =
+    subst (λ l. IsCompressed start step observes [] l nodes) (sym (pushed ∙ ap (λ l. l ++ m ∷ []) empty ∙ ap (λ k. k ∷ []) (is ∙ ap (λ s. (first_member s, record { node = 0; round = 0 })) same))) (record {
+      covering = record { complete = complete observes; spelled = spelled };
+      apart = λ i j d below inside. absurd (omega arith);
+    })
+  where
+    spelled : (k : Member S × Path) → Contains ((first_member start, record { node = 0; round = 0 }) ∷ []) k → IsSpelled start step observes [] nodes k
+    spelled k there = elim (first_or_rest (first_member start, record { node = 0; round = 0 }) [] k there) [
+      | inl first ↦ subst (IsSpelled start step observes [] nodes) first (record { states = start ∷ []; rounds = [] ∷ []; spelled = root; last = refl; trail = trail observes })
+      | inr rest ↦ absurd (let inside = rest.1 in omega arith)
+    ]
+
+-- the rounds of a member are a legal order
+pub compressed_legal : {S : Type 0} (start : S) (step : S → Call → S → Reply → Type 0) (observes : Call → Bool) → CompressedSpellLegalOrders start step observes
+compressed_legal start step observes h members nodes c m there =
+    let s = c.covering.spelled m there in
+    let e = trail_ends start step observes h s.states s.rounds (m.0.state, m.0.placed) s.trail.trail in
+    (s.rounds, s.spelled, record { order_of = e.order_of; legal = (m.0.state, e.runs) })
+
+-- an event that completes an operation isn't the first
+pub ok_not_first : WellFormedIsAlternating → (functions : ℤ → Name → Bool) (h : List Event) (before : List Open) (at : ℕ) (event : Event) (name : Name) (reply : Reply) → event.body ≡ Ok name reply
+    → IsNextEvent functions h before at event → 0 < at
+ok_not_first alternating functions h before at event name reply body next =
+    let e = completes h event functions ((alternating functions (with_event h event)).0 next.well_formed) name (subst (λ b. Completes b name) (sym body) refl) in
+    let inside = slice_get_within h e.0 (record { process = event.process; key = e.1; body = Invoke e.2 }) e.3.begins in
+    omega (arith, next.place, inside)
+
+-- what comes before a well-formed event is well-formed
+pub well_formed_before : WellFormedIsAlternating → (functions : ℤ → Name → Bool) (h : List Event) (event : Event) → IsWellFormed functions (with_event h event) → IsWellFormed functions h
+well_formed_before alternating functions h event next = (alternating functions h).1 (alternates_before h event functions ((alternating functions (with_event h event)).0 next))

@@ -1,0 +1,138 @@
+-- Domination among the members of a list, and taking out of it what others dominate.
+use Rattle.std.proofs.Common.{◌≡◌, ◌⊎◌, ℕ, true, false, Bool, List, [], ◌∷◌, ◌++◌, length, Contains, AllPairs, inl, inr, refl, sym, ap, subst, ◌∙◌, arith, get_or, true≢false, not, ◌&&◌}
+use Rattle.std.proofs.lemmas.List.Elements.{All-contains, Contains-get_or, Contains-push, Contains-push_cases, Contains-append_left}
+use Rattle.std.proofs.lemmas.List.Quantifiers.{all_pairs_push}
+use Rattle.lin_history.specs.declared.calls.Call.{Call}
+use Rattle.lin_history.specs.declared.calls.Reply.{Reply}
+use Rattle.lin_frontier.specs.declared.pending.Open.{Open}
+use Rattle.lin_frontier.specs.Members.{Member, IsOnOffer}
+use Rattle.lin_frontier.specs.Placing.{IsAbsent}
+use Rattle.lin_frontier.specs.Searching.{is_crashed, is_watching, is_observing, DominatesIn, IsPruned}
+
+second_false : (a b : Bool) → b ≡ true → (a && not b) ≡ true → ⊥
+second_false true true c h = true≢false (sym h)
+second_false false true c h = true≢false (sym h)
+second_false a false c h = true≢false (sym c)
+
+module _ {S : Type 0} (observes : Call → Bool) (pending : List Open) where
+  -- the first member dominates the second
+  abbrev pub IsAbove : Member S → Member S → Type 0
+  IsAbove m n = DominatesIn observes pending m n.state n.placed n.offers
+
+  pub above_itself : (m : Member S) → IsAbove m m
+  above_itself m = record {
+    same = refl;
+    part = λ i d inside. Contains-get_or m.placed i d inside;
+    rest = λ i d inside. inl (Contains-get_or m.placed i d inside);
+    offered = λ i d inside watching absent. let x = get_or m.offers i d in (x.0, Contains-get_or m.offers i d inside);
+  }
+
+  pub above_above : (k m n : Member S) → IsAbove k m → IsAbove m n → IsAbove k n
+  above_above k m n a b = record {
+    same = a.same ∙ b.same;
+    part = λ i d inside. All-contains (λ x. Contains n.placed x) m.placed (get_or k.placed i d) b.part (a.part i d inside);
+    rest = λ i d inside. elim (b.rest i d inside) [
+      | inl there ↦ All-contains (λ (x : ℕ × Reply). Contains k.placed x ⊎ (is_crashed pending x.0 ≡ true)) m.placed (get_or n.placed i d) a.rest there
+      | inr crashed ↦ inr crashed
+    ];
+    offered = λ i d inside watching absent.
+        let x = get_or n.offers i d in
+        let here = b.offered i d inside watching (still_absent x.1.0 watching absent) in
+        All-contains (λ (y : ℕ × (ℕ × Reply)). is_watching observes pending y.1.0 ≡ true → IsAbsent y.1.0 k.placed → IsOnOffer k y.1) m.offers (here.0, x.1) a.offered here.1 watching absent;
+  }
+    where
+      still_absent : (process : ℕ) → is_watching observes pending process ≡ true → IsAbsent process k.placed → IsAbsent process m.placed
+      still_absent process watching absent i d inside same =
+          elim (a.rest i d inside) [
+            | inl there ↦ All-contains (λ (x : ℕ × Reply). x.0 ≡ process → ⊥) k.placed (get_or m.placed i d) absent there same
+            | inr crashed ↦ second_false (is_observing observes pending process) (is_crashed pending process) (subst (λ q. is_crashed pending q ≡ true) same crashed) watching
+          ]
+
+module _ {S P : Type 0} (observes : Call → Bool) (pending : List Open) where
+  -- of the members, `rest` are still to be looked at
+  pub record IsPruning (members rest kept : List (Member S × P)) : Type 0 where
+    pub from_rest : (m : Member S × P) → Contains rest m → Contains members m
+    pub from_kept : (m : Member S × P) → Contains kept m → Contains members m
+    pub covered : (m : Member S × P) → Contains members m → (n : Member S × P) × (Contains rest n ⊎ Contains kept n) × IsAbove observes pending n.0 m.0
+    pub across : (m n : Member S × P) → Contains kept m → Contains rest n → IsAbove observes pending n.0 m.0 → ⊥
+    pub apart : AllPairs (λ m n. (IsAbove observes pending m.0 n.0 → ⊥) × (IsAbove observes pending n.0 m.0 → ⊥)) kept
+
+  pub pruning_start : (members kept : List (Member S × P)) → kept ≡ [] → IsPruning members members kept
+  pruning_start members kept none = record {
+    from_rest = λ m there. there;
+    from_kept = λ m there. absurd (nothing m there);
+    covered = λ m there. (m, inl there, above_itself observes pending m.0);
+    across = λ m n there. absurd (nothing m there);
+    apart = λ i j d below inside. absurd (let empty = ap length none in omega arith);
+  }
+    where
+      nothing : (m : Member S × P) → Contains kept m → ⊥
+      nothing m there = let there' = subst (λ l. Contains l m) none there in let inside = there'.1 in omega arith
+
+  module _ (members more rest kept : List (Member S × P)) (m : Member S × P) (popped : more ≡ rest ++ m ∷ []) (h : IsPruning members more kept) where
+    in_more : (n : Member S × P) → Contains rest n → Contains more n
+    in_more n there = subst (λ l. Contains l n) (sym popped) (Contains-append_left rest (m ∷ []) n there)
+
+    this : Contains more m
+    this = subst (λ l. Contains l m) (sym popped) (Contains-push rest m)
+
+    pub pruning_drop : (k : Member S × P) → Contains rest k ⊎ Contains kept k → IsAbove observes pending k.0 m.0 → IsPruning members rest kept
+    pruning_drop k there above = record {
+      from_rest = λ n within. h.from_rest n (in_more n within);
+      from_kept = h.from_kept;
+      covered = λ n within. by n (h.covered n within);
+      across = λ a b in_kept in_rest. h.across a b in_kept (in_more b in_rest);
+      apart = h.apart;
+    }
+      where
+        by : (n : Member S × P) → ((o : Member S × P) × (Contains more o ⊎ Contains kept o) × IsAbove observes pending o.0 n.0) → (o : Member S × P) × (Contains rest o ⊎ Contains kept o) × IsAbove observes pending o.0 n.0
+        by n c = elim c.1 [
+          | inl in_more' ↦ elim (Contains-push_cases rest m c.0 (subst (λ l. Contains l c.0) popped in_more')) [
+            | inl in_rest ↦ (c.0, inl in_rest, c.2)
+            | inr same ↦ (k, there, above_above observes pending k.0 m.0 n.0 above (subst (λ o. IsAbove observes pending o.0 n.0) (sym same) c.2))
+          ]
+          | inr in_kept ↦ (c.0, inr in_kept, c.2)
+        ]
+
+    pub pruning_keep : (now : List (Member S × P)) → now ≡ kept ++ m ∷ []
+        → ((k : Member S × P) → Contains rest k → IsAbove observes pending k.0 m.0 → ⊥) → ((k : Member S × P) → Contains kept k → IsAbove observes pending k.0 m.0 → ⊥) → IsPruning members rest now
+    pruning_keep now pushed below_rest below_kept = record {
+      from_rest = λ n within. h.from_rest n (in_more n within);
+      from_kept = λ n within. elim (cases n within) [
+        | inl before ↦ h.from_kept n before
+        | inr same ↦ subst (λ o. Contains members o) same (h.from_rest m this)
+      ];
+      covered = λ n within. by n (h.covered n within);
+      across = λ a b in_now in_rest. elim (cases a in_now) [
+        | inl before ↦ h.across a b before (in_more b in_rest)
+        | inr same ↦ subst (λ o. IsAbove observes pending b.0 o.0 → ⊥) same (below_rest b in_rest)
+      ];
+      apart = subst (AllPairs (λ a b. (IsAbove observes pending a.0 b.0 → ⊥) × (IsAbove observes pending b.0 a.0 → ⊥))) (sym pushed)
+          (all_pairs_push (λ (a : Member S × P) (b : Member S × P). (IsAbove observes pending a.0 b.0 → ⊥) × (IsAbove observes pending b.0 a.0 → ⊥)) kept m h.apart
+          (λ k d inside. let there = Contains-get_or kept k d inside in (below_kept (get_or kept k d) there, h.across (get_or kept k d) m there this)));
+    }
+      where
+        cases : (n : Member S × P) → Contains now n → Contains kept n ⊎ (m ≡ n)
+        cases n within = Contains-push_cases kept m n (subst (λ l. Contains l n) pushed within)
+
+        kept_still : (n : Member S × P) → Contains kept n → Contains now n
+        kept_still n within = subst (λ l. Contains l n) (sym pushed) (Contains-append_left kept (m ∷ []) n within)
+
+        by : (n : Member S × P) → ((o : Member S × P) × (Contains more o ⊎ Contains kept o) × IsAbove observes pending o.0 n.0) → (o : Member S × P) × (Contains rest o ⊎ Contains now o) × IsAbove observes pending o.0 n.0
+        by n c = elim c.1 [
+          | inl in_more' ↦ elim (Contains-push_cases rest m c.0 (subst (λ l. Contains l c.0) popped in_more')) [
+            | inl in_rest ↦ (c.0, inl in_rest, c.2)
+            | inr same ↦ (c.0, inr (subst (λ o. Contains now o) same (subst (λ l. Contains l m) (sym pushed) (Contains-push kept m))), c.2)
+          ]
+          | inr in_kept ↦ (c.0, inr (kept_still c.0 in_kept), c.2)
+        ]
+
+  pub pruning_end : (members rest kept : List (Member S × P)) → length rest ≡ 0 → IsPruning members rest kept → IsPruned observes pending members kept
+  pruning_end members rest kept none h = record {
+    from = h.from_kept;
+    covered = λ m there. let c = h.covered m there in elim c.1 [
+      | inl in_rest ↦ absurd (let inside = in_rest.1 in omega arith)
+      | inr in_kept ↦ (c.0, in_kept, c.2)
+    ];
+    apart = h.apart;
+  }

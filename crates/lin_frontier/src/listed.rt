@@ -1,0 +1,126 @@
+//! All configurations that members lead to, each as a member of its own with nothing on offer.
+ghost use Rattle.std.specs.Prelude.{◌≡◌, ◌≤◌, ◌*◌, ◌∷◌, [], ℤ, length, false, All, Bool, List, IfOk, IfSome, IfNone, OnOk};
+ghost use Rattle.lin_history.specs.declared.calls.Name.{Name as NameOf};
+ghost use Rattle.lin_history.specs.declared.events.Event.{Event as EventOf};
+ghost use Rattle.lin_history.specs.WellFormed.{IsWellFormed};
+ghost use Rattle.lin_frontier.specs.Compressed.{IsCovering, IsSpelled};
+ghost use Rattle.lin_frontier.specs.Frontiers.{IsOver, IsPending};
+ghost use Rattle.lin_frontier.specs.Listed.{with_offers, AreDifferent, AreWorkedOff, IsExtended, IsListingOf, IsMerged, ListingCoversLaw};
+ghost use Rattle.lin_frontier.specs.Nodes.{IsGrown};
+ghost use Rattle.lin_frontier.specs.Walks.{IsTriedAtMost};
+
+use crate::completions::push_member;
+use crate::domination::is_dominated;
+use crate::expansion::Expansion;
+use crate::member_laws::members_cover_configurations;
+use crate::members::{Member, bare};
+use crate::offers::Offers;
+use crate::pending::Open;
+use crate::round_laws::rounds_spell_members;
+use crate::rounds::RoundNodes;
+use lin_history::{Meter, OutOfMemory, ends_are_unique, well_formed_is_alternating};
+use lin_objects::SeqObject;
+use std::alloc::Global;
+
+/// The member with each choice among what is on offer to it, or `None` where these are more than the budget.
+fn spread<O: SeqObject>(
+    object: &O,
+    alloc: Global,
+    pending: &[Open],
+    member: &Member<O::State>,
+    budget: usize,
+    nodes: &mut RoundNodes,
+    meter: &mut Meter,
+) -> Result<Option<Vec<Member<O::State>>>, OutOfMemory>
+    ensures grown { IsGrown nodes.old nodes.new }
+    ensures extended { IfOk result (λ found. IfSome found (λ out. IsExtended (O.starts object.now) (O.step object.now) (O.observing object.now) pending.now member.now.0.offers nodes.old nodes.new (with_offers [] member.now ∷ []) out.items)) }
+    ensures worked_off { IfOk result (λ found. IfSome found (λ out. AreWorkedOff (O.step object.now) (O.observing object.now) pending.now member.now.0.offers false out.items)) }
+    ensures over { IfOk result (λ found. IfNone found ((functions : ℤ → NameOf → Bool) (h : List EventOf) → IsWellFormed functions h → IsPending h pending.now
+        → IsSpelled (O.starts object.now) (O.step object.now) (O.observing object.now) h nodes.old member.now → IsOver (O.starts object.now) (O.step object.now) h budget)) }
+    ensures tried { IsTriedAtMost 0 meter.old meter.new }
+{
+    let mut starts = Vec::new(alloc);
+    push_member(&mut starts, bare(object, alloc, member)?)?;
+    let choices = Expansion {
+        object,
+        pending,
+        offers: member.offers(),
+        places: false,
+    };
+    let found = choices.reach(alloc, starts, budget, nodes, meter)?;
+    Ok(found)
+}
+
+/// Puts those of the others last of which no member holds the configuration.
+fn merge<O: SeqObject>(
+    object: &O,
+    pending: &[Open],
+    others: Vec<Member<O::State>>,
+    members: &mut Vec<Member<O::State>>,
+) -> Result<(), OutOfMemory>
+    requires { All (λ m. m.0.offers ≡ []) others.items }
+    ensures { OnOk result (IsMerged (O.observing object.now) pending.now others.items members.old.items members.new.items) }
+{
+    let mut rest = others;
+    while let Some(member) = rest.pop() {
+        if is_dominated(object, pending, members, member.config(), member.offers()) {
+            continue;
+        }
+        push_member(members, member)?;
+    }
+    Ok(())
+}
+
+/// Each configuration that the members lead to, but for covered ones, or `None` where these are more than the budget.
+pub fn listed<O: SeqObject>(
+    object: &O,
+    alloc: Global,
+    pending: &[Open],
+    members: &[Member<O::State>],
+    budget: usize,
+    nodes: &mut RoundNodes,
+    meter: &mut Meter,
+) -> Result<Option<Vec<Member<O::State>>>, OutOfMemory>
+    ensures grown { IsGrown nodes.old nodes.new }
+    ensures listing { IfOk result (λ found. IfSome found (λ out. (functions : ℤ → NameOf → Bool) (h : List EventOf) → IsWellFormed functions h → IsPending h pending.now
+        → IsCovering (O.starts object.now) (O.step object.now) (O.observing object.now) h members.now nodes.old
+        → IsListingOf (O.starts object.now) (O.step object.now) (O.observing object.now) h out.items nodes.new)) }
+    ensures bare { IfOk result (λ found. IfSome found (λ out. All (λ m. m.0.offers ≡ []) out.items)) }
+    ensures different { IfOk result (λ found. IfSome found (λ out. AreDifferent out.items)) }
+    ensures small { IfOk result (λ found. IfSome found (λ out. length out.items ≤ budget)) }
+    ensures over { IfOk result (λ found. IfNone found ((functions : ℤ → NameOf → Bool) (h : List EventOf) → IsWellFormed functions h → IsPending h pending.now
+        → IsCovering (O.starts object.now) (O.step object.now) (O.observing object.now) h members.now nodes.old
+        → IsOver (O.starts object.now) (O.step object.now) h budget)) }
+    ensures tried { IsTriedAtMost (budget * length pending.now) meter.old meter.new }
+{
+    well_formed_is_alternating();
+    ends_are_unique();
+    members_cover_configurations(object);
+    rounds_spell_members(object);
+    let mut all = Vec::new(alloc);
+    for member in members {
+        let Some(found) = spread(object, alloc, pending, member, budget, nodes, meter)? else {
+            return Ok(None);
+        };
+        merge(object, pending, found, &mut all)?;
+        if all.len() > budget {
+            return Ok(None);
+        }
+    }
+    let none = Offers::new(alloc);
+    let placing = Expansion {
+        object,
+        pending,
+        offers: &none,
+        places: true,
+    };
+    let found = placing.reach(alloc, all, budget, nodes, meter)?;
+    Ok(found)
+}
+
+/// Members that were listed lead to all configurations: each to its own.
+pub fn listings_cover<O: SeqObject>(object: &O)
+    ensures { ListingCoversLaw (O.starts object.now) (O.step object.now) }
+{
+    members_cover_configurations(object);
+}

@@ -1,0 +1,428 @@
+use crate::compressed::Found;
+use crate::tests::{
+    Came, Draw, came_of, drawn_history, fail, has_legal_order, info, invoke, ok, write,
+};
+use crate::{Advance, Compressed, Open, RoundNodes, take_in};
+use lin_history::{Body, Call, Event, Meter, Name, OutOfMemory, Reply, Val};
+use lin_objects::{Any, Kind, Kinds};
+use lin_order::check_order;
+use std::alloc::Global;
+use std::test::Fail;
+
+fn done(process: u64, name: Name) -> Event {
+    ok(process, name, Reply::Done)
+}
+
+fn gives(process: u64, name: Name, value: Val) -> Event {
+    ok(process, name, Reply::Value(value))
+}
+
+const AMPLE: u32 = 65_536;
+
+/// Whether each member's node spells a legal order of the events.
+fn is_sound(
+    alloc: Global,
+    kind: Kind,
+    events: &[Event],
+    frontier: &Compressed<Any>,
+    nodes: &RoundNodes,
+) -> Result<bool, OutOfMemory> {
+    let kinds = Kinds::new(alloc, kind);
+    for i in 0..frontier.len() {
+        if let Some(node) = frontier.node(i) {
+            let order = nodes.order(alloc, node)?;
+            if !check_order(alloc, events, &kinds, &order)? {
+                return Ok(false);
+            }
+        }
+    }
+    Ok(true)
+}
+
+/// What comes of the last event where a search may come to so many members: how many are left, or none where there were too many.
+fn searched(
+    alloc: Global,
+    kind: Kind,
+    events: &[Event],
+    limit: usize,
+) -> Result<Option<usize>, OutOfMemory> {
+    let object = Any { kind };
+    let mut nodes = RoundNodes::new(alloc);
+    let mut meter = Meter::new();
+    let mut pending: Vec<Open> = Vec::new(alloc);
+    let mut frontier = Compressed::start(alloc, &object, &nodes)?;
+    for at in 0..events.len() {
+        let event = &events[at];
+        let kept = nodes.len();
+        match frontier.advance_up_to(
+            alloc, &object, &pending, at, event, limit, &mut nodes, &mut meter,
+        )? {
+            Found::Next(next) => frontier = next,
+            Found::Empty => return Ok(Some(0)),
+            Found::TooMany => return Ok(if nodes.len() == kept { None } else { Some(0) }),
+        }
+        take_in(&mut pending, at, event)?;
+    }
+    Ok(Some(frontier.len()))
+}
+
+/// What comes of the events, one after the other, up to the first that leaves no frontier.
+fn came_within(
+    alloc: Global,
+    kind: Kind,
+    events: &[Event],
+    budget: u32,
+) -> Result<Came, OutOfMemory> {
+    let object = Any { kind };
+    let mut nodes = RoundNodes::new(alloc);
+    let mut meter = Meter::new();
+    let mut pending: Vec<Open> = Vec::new(alloc);
+    let mut frontier = Compressed::start(alloc, &object, &nodes)?;
+    for at in 0..events.len() {
+        let event = &events[at];
+        let kept = nodes.len();
+        let came = match frontier.advance(
+            alloc, &object, &pending, at, event, budget, &mut nodes, &mut meter,
+        )? {
+            Advance::Same => {
+                frontier = frontier.copy(alloc, &object)?;
+                take_in(&mut pending, at, event)?;
+                continue;
+            }
+            Advance::Next(next) => {
+                frontier = next;
+                take_in(&mut pending, at, event)?;
+                continue;
+            }
+            Advance::Empty => Came::Empty,
+            Advance::Over => Came::Over,
+            Advance::OverBefore => Came::OverBefore,
+        };
+        return Ok(if nodes.len() == kept {
+            came
+        } else {
+            Came::Unsound(0)
+        });
+    }
+    if is_sound(alloc, kind, events, &frontier, &nodes)? {
+        Ok(Came::Sound(frontier.len()))
+    } else {
+        Ok(Came::Unsound(frontier.len()))
+    }
+}
+
+#[test]
+fn a_read_is_put_before_a_write_that_returned_first(rt: HostRuntime) -> Result<(), Fail> {
+    let alloc = rt.alloc();
+    let kind = Kind::Register;
+    let early = [
+        invoke(0, Call::Read),
+        invoke(1, write(1)),
+        done(1, Name::Write),
+        gives(0, Name::Read, Val::Nil),
+    ];
+    // No member is more than the state and what is on offer, and nothing is placed before a completion asks for it.
+    assert_eq!(rt;
+        came_within(alloc, kind, &early[..2], AMPLE),
+        Ok(Came::Sound(1))
+    );
+    assert_eq!(rt;
+        came_within(alloc, kind, &early[..3], AMPLE),
+        Ok(Came::Sound(1))
+    );
+    assert_eq!(rt; came_within(alloc, kind, &early, AMPLE), Ok(Came::Sound(1)));
+    let late = [
+        invoke(1, write(1)),
+        done(1, Name::Write),
+        invoke(0, Call::Read),
+        gives(0, Name::Read, Val::Nil),
+    ];
+    assert_eq!(rt; came_within(alloc, kind, &late, AMPLE), Ok(Came::Empty));
+    Ok(())
+}
+
+#[test]
+fn a_read_places_a_write_that_crashed(rt: HostRuntime) -> Result<(), Fail> {
+    let alloc = rt.alloc();
+    let kind = Kind::Register;
+    let events = [
+        invoke(0, write(1)),
+        info(0, Name::Write),
+        invoke(1, write(2)),
+        invoke(2, Call::Read),
+        gives(2, Name::Read, Val::Int(1)),
+        fail(1, Name::Write),
+        invoke(2, Call::Read),
+        gives(2, Name::Read, Val::Int(2)),
+    ];
+    assert_eq!(rt;
+        came_within(alloc, kind, &events[..4], AMPLE),
+        Ok(Came::Sound(1))
+    );
+    // The first write alone; with the second before it that one can't fail, and would be no better.
+    assert_eq!(rt;
+        came_within(alloc, kind, &events[..5], AMPLE),
+        Ok(Came::Sound(2))
+    );
+    assert_eq!(rt;
+        came_within(alloc, kind, &events[..6], AMPLE),
+        Ok(Came::Sound(1))
+    );
+    assert_eq!(rt; came_within(alloc, kind, &events, AMPLE), Ok(Came::Empty));
+    Ok(())
+}
+
+#[test]
+fn a_queue_places_what_a_reply_asks_for(rt: HostRuntime) -> Result<(), Fail> {
+    let alloc = rt.alloc();
+    let kind = Kind::Fifo;
+    let events = [
+        invoke(0, Call::Enqueue(1)),
+        invoke(1, Call::Enqueue(2)),
+        invoke(2, Call::Dequeue),
+        gives(2, Name::Dequeue, Val::Int(2)),
+        done(0, Name::Enqueue),
+        done(1, Name::Enqueue),
+        invoke(2, Call::Dequeue),
+        gives(2, Name::Dequeue, Val::Nil),
+    ];
+    assert_eq!(rt;
+        came_within(alloc, kind, &events[..7], AMPLE),
+        Ok(Came::Sound(1))
+    );
+    assert_eq!(rt; came_within(alloc, kind, &events, AMPLE), Ok(Came::Empty));
+    assert_eq!(rt; searched(alloc, kind, &events[..4], 1), Ok(None));
+    assert_eq!(rt; searched(alloc, kind, &events[..7], 99), Ok(Some(1)));
+    assert_eq!(rt; searched(alloc, kind, &events, 99), Ok(Some(0)));
+    Ok(())
+}
+
+#[test]
+fn a_crashed_write_is_placed_only_where_it_shows(rt: HostRuntime) -> Result<(), Fail> {
+    let alloc = rt.alloc();
+    let kind = Kind::Register;
+    let open = [
+        invoke(0, write(1)),
+        invoke(1, write(2)),
+        done(1, Name::Write),
+    ];
+    // (2, {}) and (2, {p0}), which places the other write before this one; it need not come behind.
+    assert_eq!(rt; came_within(alloc, kind, &open, AMPLE), Ok(Came::Sound(2)));
+    let marked = [
+        invoke(0, write(1)),
+        invoke(1, write(2)),
+        info(0, Name::Write),
+        done(1, Name::Write),
+    ];
+    assert_eq!(rt;
+        came_within(alloc, kind, &marked, AMPLE),
+        Ok(Came::Sound(1))
+    );
+    Ok(())
+}
+
+#[test]
+fn what_a_crashed_write_explains_stays(rt: HostRuntime) -> Result<(), Fail> {
+    let alloc = rt.alloc();
+    let kind = Kind::Register;
+    let seen = [
+        invoke(0, write(1)),
+        info(0, Name::Write),
+        invoke(1, Call::Read),
+        gives(1, Name::Read, Val::Int(1)),
+        invoke(1, Call::Read),
+        gives(1, Name::Read, Val::Nil),
+    ];
+    // (nil, {}), (nil, {p1 nil}), (1, {p0}), (1, {p0, p1 nil}) and (1, {p0, p1 1}).
+    assert_eq!(rt; came_within(alloc, kind, &seen[..3], 5), Ok(Came::Sound(1)));
+    assert_eq!(rt; came_within(alloc, kind, &seen[..3], 4), Ok(Came::Over));
+    // (1, {p0}): the write is placed now.
+    assert_eq!(rt;
+        came_within(alloc, kind, &seen[..4], AMPLE),
+        Ok(Came::Sound(1))
+    );
+    assert_eq!(rt; came_within(alloc, kind, &seen, AMPLE), Ok(Came::Empty));
+    Ok(())
+}
+
+#[test]
+fn where_nothing_crashed_all_are_counted(rt: HostRuntime) -> Result<(), Fail> {
+    let alloc = rt.alloc();
+    let queue = [
+        invoke(0, Call::Enqueue(1)),
+        invoke(1, Call::Enqueue(2)),
+        invoke(2, Call::Enqueue(3)),
+    ];
+    assert_eq!(rt;
+        came_within(alloc, Kind::Fifo, &queue, 16),
+        Ok(Came::Sound(1))
+    );
+    assert_eq!(rt; came_within(alloc, Kind::Fifo, &queue, 15), Ok(Came::Over));
+    let writes = [
+        invoke(0, write(1)),
+        invoke(1, write(2)),
+        fail(0, Name::Write),
+    ];
+    assert_eq!(rt;
+        came_within(alloc, Kind::Register, &writes[..2], 4),
+        Ok(Came::Over)
+    );
+    assert_eq!(rt;
+        came_within(alloc, Kind::Register, &writes, 5),
+        Ok(Came::Sound(1))
+    );
+    Ok(())
+}
+
+#[test]
+fn crashed_reads_cost_nothing(rt: HostRuntime) -> Result<(), Fail> {
+    let alloc = rt.alloc();
+    let kind = Kind::Register;
+    let reads = [
+        invoke(0, Call::Read),
+        info(0, Name::Read),
+        invoke(1, Call::Read),
+        info(1, Name::Read),
+        invoke(2, Call::Read),
+        info(2, Name::Read),
+    ];
+    assert_eq!(rt; came_of(alloc, kind, &reads, 3), Ok(Came::Over));
+    assert_eq!(rt; came_within(alloc, kind, &reads, 3), Ok(Came::Sound(1)));
+    assert_eq!(rt; came_within(alloc, kind, &reads[..1], 1), Ok(Came::Over));
+    assert_eq!(rt;
+        came_within(alloc, kind, &reads[..1], 2),
+        Ok(Came::Sound(1))
+    );
+    Ok(())
+}
+
+#[test]
+fn small_budgets_count_configurations(rt: HostRuntime) -> Result<(), Fail> {
+    let alloc = rt.alloc();
+    let queue = [invoke(0, Call::Enqueue(1)), invoke(1, Call::Enqueue(2))];
+    assert_eq!(rt;
+        came_within(alloc, Kind::Fifo, &queue, 5),
+        Ok(Came::Sound(1))
+    );
+    assert_eq!(rt; came_within(alloc, Kind::Fifo, &queue, 4), Ok(Came::Over));
+    assert_eq!(rt;
+        came_within(alloc, Kind::Fifo, &queue[..1], 1),
+        Ok(Came::Over)
+    );
+    assert_eq!(rt;
+        came_within(alloc, Kind::Fifo, &queue[..1], 2),
+        Ok(Came::Sound(1))
+    );
+    // (nil, {}), (1, {p0}), (2, {p1}) and (1, {p0, p1}); (2, {p1}) covers (2, {p0, p1}).
+    let crashed = [
+        invoke(0, write(1)),
+        info(0, Name::Write),
+        invoke(1, write(2)),
+    ];
+    assert_eq!(rt;
+        came_within(alloc, Kind::Register, &crashed, 4),
+        Ok(Came::Sound(1))
+    );
+    assert_eq!(rt;
+        came_within(alloc, Kind::Register, &crashed, 3),
+        Ok(Came::Over)
+    );
+    Ok(())
+}
+
+/// So many writes of different numbers that are open.
+fn open_writes(alloc: Global, count: u64) -> Result<Vec<Event>, OutOfMemory> {
+    let mut events = Vec::new(alloc);
+    for process in 0..count {
+        events.push(invoke(process, write(process.cast_signed())))?;
+    }
+    Ok(events)
+}
+
+#[test]
+fn a_long_search_counts_what_was_before(rt: HostRuntime) -> Result<(), Fail> {
+    let alloc = rt.alloc();
+    let kind = Kind::Register;
+    // n open writes have 1 + n * 2^(n - 1) configurations: 2,305 of nine, which aren't counted before the search asks for it. It comes to
+    // 1 + 8 * 2^7 members, the first write being placed last.
+    let mut nine = open_writes(alloc, 9)?;
+    assert_eq!(rt; came_within(alloc, kind, &nine, 1_024), Ok(Came::Sound(1)));
+    nine.push(done(0, Name::Write))?;
+    assert_eq!(rt;
+        came_within(alloc, kind, &nine, 1_024),
+        Ok(Came::OverBefore)
+    );
+    // No write need come before the first, but each may: one member for each set of the others.
+    assert_eq!(rt;
+        came_within(alloc, kind, &nine, 2_305),
+        Ok(Came::Sound(256))
+    );
+    Ok(())
+}
+
+/// The first prefix of the events of which the members say otherwise than a search through all orders, if there is one.
+fn first_difference(
+    alloc: Global,
+    kind: Kind,
+    events: &[Event],
+) -> Result<Option<usize>, OutOfMemory> {
+    for count in 0..events.len() + 1 {
+        let agrees = match came_within(alloc, kind, &events[..count], AMPLE)? {
+            Came::Sound(_) => has_legal_order(alloc, kind, &events[..count])?,
+            Came::Empty => !has_legal_order(alloc, kind, &events[..count])?,
+            Came::Unsound(_) | Came::Over | Came::OverBefore => false,
+        };
+        if !agrees {
+            return Ok(Some(count));
+        }
+    }
+    Ok(None)
+}
+
+/// Whether a process of the events crashed.
+fn has_crash(events: &[Event]) -> bool {
+    events
+        .iter()
+        .any(|event| matches!(&event.body, Body::Info(_)))
+}
+
+/// Whether the budget ends the events where it ends the exact sets. With crashed operations fewer are counted.
+fn ends_alike(
+    alloc: Global,
+    kind: Kind,
+    events: &[Event],
+    budget: u32,
+) -> Result<bool, OutOfMemory> {
+    let all = came_of(alloc, kind, events, budget)?;
+    let members = came_within(alloc, kind, events, budget)?;
+    Ok(match (all, members) {
+        (Came::Sound(_), Came::Sound(_)) | (Came::Empty, Came::Empty) | (Came::Over, Came::Over) =>
+            true,
+        (Came::Over, Came::Sound(_)) | (Came::Over, Came::Empty) => has_crash(events),
+        _ => false,
+    })
+}
+
+#[test]
+fn drawn_histories_have_a_member_where_they_have_a_legal_order(
+    rt: HostRuntime,
+) -> Result<(), Fail> {
+    let alloc = rt.alloc();
+    let mut draw = Draw { seed: 7 };
+    for kind in [
+        Kind::Register,
+        Kind::CasRegister,
+        Kind::Fifo,
+        Kind::Set,
+        Kind::Mutex,
+    ] {
+        for _ in 0..12 {
+            let events = drawn_history(alloc, kind, &mut draw)?;
+            assert_eq!(rt; first_difference(alloc, kind, &events), Ok(None));
+            for budget in 1..10 {
+                assert_eq!(rt; ends_alike(alloc, kind, &events, budget), Ok(true));
+            }
+        }
+    }
+    Ok(())
+}

@@ -1,0 +1,358 @@
+//! One more event of a compressed frontier, within a budget of configurations.
+ghost use Rattle.std.specs.Prelude.{◌≡◌, ◌⊎◌, ◌+◌, ◌*◌, ◌<◌, ◌≤◌, ℕ, ℤ, true, Bool, List, length, IfOk, IfSome, IfNone, OnErr};
+ghost use Rattle.lin_history.specs.declared.calls.Call.{Call as CallOf};
+ghost use Rattle.lin_history.specs.declared.calls.Name.{Name as NameOf};
+ghost use Rattle.lin_history.specs.declared.calls.Reply.{Reply as ReplyOf};
+ghost use Rattle.lin_history.specs.declared.events.Body.{Body as BodyOf};
+ghost use Rattle.lin_history.specs.declared.events.Event.{Event as EventOf};
+ghost use Rattle.lin_history.specs.Meters.{ticked};
+ghost use Rattle.lin_history.specs.WellFormed.{IsWellFormed};
+ghost use Rattle.lin_order.specs.ConfigurationLaws.{with_event};
+ghost use Rattle.lin_order.specs.Linearizable.{IsLinearizableBy};
+ghost use Rattle.lin_frontier.specs.declared.members.Path.{Path as PathOf};
+ghost use Rattle.lin_frontier.specs.Compressed.{IsCompressed, IsCovering, CompressedSpellLegalOrders};
+ghost use Rattle.lin_frontier.specs.Frontiers.{IsNextEvent, IsOver, IsPending};
+ghost use Rattle.lin_frontier.specs.Listed.{IsListingOf};
+ghost use Rattle.lin_frontier.specs.Members.{Member as MemberOf};
+ghost use Rattle.lin_frontier.specs.Nodes.{IsGrown};
+ghost use Rattle.lin_frontier.specs.Walks.{IsTriedAtMost};
+
+use crate::completions::push_member;
+use crate::compressed::{Compressed, Found, open_after, push_all_taken_out};
+use crate::domination::pruned;
+use crate::listed::listed;
+use crate::member_laws::{dominated_can_go, members_after_events, members_cover_configurations};
+use crate::members::{Member, same};
+use crate::pending::Open;
+use crate::round_laws::{members_are_exact, rounds_after_events};
+use crate::rounds::RoundNodes;
+use lin_history::{Body, Event, Meter, OutOfMemory, ends_are_unique, well_formed_is_alternating};
+use lin_objects::SeqObject;
+use lin_order::legal_orders_end;
+use std::alloc::Global;
+
+/// Below this budget all configurations are counted after each event.
+const COUNTED: usize = 1_024;
+
+/// Where a search comes to more members, the configurations before the event are counted instead.
+const LONGEST_SEARCH: usize = 4_096;
+
+/// What one more event makes of a compressed frontier, within a budget of configurations.
+#[derive(Drop)]
+pub enum Advance<O: SeqObject> {
+    /// The members are the same.
+    Same,
+    /// The members after it.
+    Next(Compressed<O>),
+    /// There is none: the events have no legal order.
+    Empty,
+    /// The events with this one have more configurations than the budget.
+    Over,
+    /// The events before it have.
+    OverBefore,
+}
+
+/// Each node of a member spells a legal order.
+pub fn members_spell_legal_orders<O: SeqObject>()
+    ensures { (object : O) → CompressedSpellLegalOrders (O.starts object) (O.step object) (O.observing object) }
+{}
+
+/// Whether the members lead to more configurations than the budget.
+fn exceeds<O: SeqObject>(
+    object: &O,
+    alloc: Global,
+    pending: &[Open],
+    members: &[Member<O::State>],
+    budget: usize,
+    nodes: &mut RoundNodes,
+    meter: &mut Meter,
+) -> Result<bool, OutOfMemory>
+    ensures over { IfOk result (λ over. over ≡ true → (functions : ℤ → NameOf → Bool) (h : List EventOf) → IsWellFormed functions h → IsPending h pending.now
+        → IsCovering (O.starts object.now) (O.step object.now) (O.observing object.now) h members.now nodes.old → IsOver (O.starts object.now) (O.step object.now) h budget) }
+    ensures nodes { nodes.new ≡ nodes.old }
+    ensures tried { IsTriedAtMost (budget * length pending.now) meter.old meter.new }
+{
+    let count = nodes.len();
+    let found = listed(object, alloc, pending, members, budget, nodes, meter);
+    nodes.cut(count);
+    match found {
+        Ok(Some(_)) => Ok(false),
+        Ok(None) => Ok(true),
+        Err(_) => Err(OutOfMemory),
+    }
+}
+
+/// The members after an ok, from a list of all configurations before it: those that placed its operation with the reply, without it.
+fn after_listing<O: SeqObject>(
+    object: &O,
+    alloc: Global,
+    list: &[Member<O::State>],
+    pending: &[Open],
+    at: usize,
+    event: &Event,
+    nodes: &RoundNodes,
+) -> Result<Vec<Member<O::State>>, OutOfMemory>
+    requires { (name : NameOf) × (reply : ReplyOf) × (event.now.body ≡ BodyOf.Ok name reply) }
+    ensures { IfOk result (λ out. (functions : ℤ → NameOf → Bool) (h : List EventOf) → IsNextEvent functions h pending.now at event.now
+        → IsListingOf (O.starts object.now) (O.step object.now) (O.observing object.now) h list.now nodes.now
+        → IsCompressed (O.starts object.now) (O.step object.now) (O.observing object.now) (with_event h event.now) out.items nodes.now) }
+{
+    well_formed_is_alternating();
+    ends_are_unique();
+    dominated_can_go(object);
+    members_cover_configurations(object);
+    rounds_after_events(object);
+    let _ = nodes.len();
+    let Body::Ok(_, reply) = &event.body else {
+        unreachable!()
+    };
+    let after = open_after(alloc, pending, at, event)?;
+    let mut found = Vec::new(alloc);
+    push_all_taken_out(
+        object,
+        alloc,
+        &after,
+        list,
+        event.process,
+        reply,
+        &mut found,
+    )?;
+    pruned(object, alloc, &after, found)
+}
+
+impl<O: SeqObject> Compressed<O> {
+    /// The same frontier on its own memory.
+    pub fn copy(&self, alloc: Global, object: &O) -> Result<Compressed<O>, OutOfMemory>
+        ensures { IfOk result (λ copy. copy ≡ self.now) }
+    {
+        let mut members = Vec::new(alloc);
+        for member in &self.members {
+            push_member(&mut members, same(object, alloc, member)?)?;
+        }
+        Ok(Compressed { members })
+    }
+
+    /// The frontier after one more event. An invocation leaves the members as they are.
+    ///
+    /// Where the budget is below 1,024, configurations are counted after each event; above it only where a search comes to so many
+    /// members that there may be too many configurations before the event.
+    pub fn advance(
+        &self,
+        alloc: Global,
+        object: &O,
+        pending: &[Open],
+        at: usize,
+        event: &Event,
+        budget: u32,
+        nodes: &mut RoundNodes,
+        meter: &mut Meter,
+    ) -> Result<Advance<O>, OutOfMemory>
+        // Where the frontier is one of a history, with these operations open, the answer speaks of that history with the event behind
+        // it, which has to be well-formed.
+        ensures next { IfOk result (λ step. (next : List (MemberOf O.State × PathOf)) → step ≡ Advance.Next next → (functions : ℤ → NameOf → Bool) (h : List EventOf)
+            → IsNextEvent functions h pending.now at event.now → IsCompressed (O.starts object.now) (O.step object.now) (O.observing object.now) h self.now nodes.old
+            → IsCompressed (O.starts object.now) (O.step object.now) (O.observing object.now) (with_event h event.now) next nodes.new) }
+        ensures same { IfOk result (λ step. step ≡ Advance.Same → (functions : ℤ → NameOf → Bool) (h : List EventOf)
+            → IsNextEvent functions h pending.now at event.now → IsCompressed (O.starts object.now) (O.step object.now) (O.observing object.now) h self.now nodes.old
+            → IsCompressed (O.starts object.now) (O.step object.now) (O.observing object.now) (with_event h event.now) self.now nodes.new) }
+        ensures some { IfOk result (λ step. (next : List (MemberOf O.State × PathOf)) → step ≡ Advance.Next next → 0 < length next) }
+        ensures empty { IfOk result (λ step. step ≡ Advance.Empty → (functions : ℤ → NameOf → Bool) (h : List EventOf)
+            → IsNextEvent functions h pending.now at event.now → IsCompressed (O.starts object.now) (O.step object.now) (O.observing object.now) h self.now nodes.old
+            → IsLinearizableBy (O.starts object.now) (O.step object.now) (with_event h event.now) → ⊥) }
+        ensures over { IfOk result (λ step. step ≡ Advance.Over → (functions : ℤ → NameOf → Bool) (h : List EventOf)
+            → IsNextEvent functions h pending.now at event.now → IsCompressed (O.starts object.now) (O.step object.now) (O.observing object.now) h self.now nodes.old
+            → IsOver (O.starts object.now) (O.step object.now) (with_event h event.now) budget) }
+        ensures before { IfOk result (λ step. step ≡ Advance.OverBefore → (functions : ℤ → NameOf → Bool) (h : List EventOf)
+            → IsNextEvent functions h pending.now at event.now → IsCompressed (O.starts object.now) (O.step object.now) (O.observing object.now) h self.now nodes.old
+            → (0 < at) × IsOver (O.starts object.now) (O.step object.now) h budget) }
+        // Nodes are only added; and none is where there is no next frontier.
+        ensures grown { IsGrown nodes.old nodes.new }
+        ensures kept { IfOk result (λ step. (step ≡ Advance.Same) ⊎ (step ≡ Advance.Empty) ⊎ (step ≡ Advance.Over) ⊎ (step ≡ Advance.OverBefore) → nodes.new ≡ nodes.old) }
+        ensures refused { OnErr result (nodes.new ≡ nodes.old) }
+        ensures steps { meter.new.steps ≡ ticked meter.old.steps 1 }
+        ensures tries { meter.new.tries ≤ meter.old.tries + (budget + 1) * (3 * length pending.now + 4) }
+        ensures scans { meter.new.scans ≡ meter.old.scans }
+    {
+        if let Body::Invoke(_) = &event.body {
+            return self.invoked(
+                alloc,
+                object,
+                pending,
+                at,
+                event,
+                budget as usize,
+                nodes,
+                meter,
+            );
+        }
+        let count = nodes.len();
+        let step = self.step(
+            alloc,
+            object,
+            pending,
+            at,
+            event,
+            budget as usize,
+            nodes,
+            meter,
+        );
+        match step {
+            Ok(Advance::Next(next)) => Ok(Advance::Next(next)),
+            Ok(none) => {
+                nodes.cut(count);
+                Ok(none)
+            }
+            Err(_) => {
+                nodes.cut(count);
+                Err(OutOfMemory)
+            }
+        }
+    }
+
+    /// After an invocation the members are the same, unless the configurations are counted and too many.
+    fn invoked(
+        &self,
+        alloc: Global,
+        object: &O,
+        pending: &[Open],
+        at: usize,
+        event: &Event,
+        budget: usize,
+        nodes: &mut RoundNodes,
+        meter: &mut Meter,
+    ) -> Result<Advance<O>, OutOfMemory>
+        requires { (call : CallOf) × (event.now.body ≡ BodyOf.Invoke call) }
+        ensures answers { IfOk result (λ step. (step ≡ Advance.Same) ⊎ (step ≡ Advance.Over)) }
+        ensures same { IfOk result (λ step. step ≡ Advance.Same → (functions : ℤ → NameOf → Bool) (h : List EventOf)
+            → IsNextEvent functions h pending.now at event.now → IsCompressed (O.starts object.now) (O.step object.now) (O.observing object.now) h self.now nodes.old
+            → IsCompressed (O.starts object.now) (O.step object.now) (O.observing object.now) (with_event h event.now) self.now nodes.new) }
+        ensures over { IfOk result (λ step. step ≡ Advance.Over → (functions : ℤ → NameOf → Bool) (h : List EventOf)
+            → IsNextEvent functions h pending.now at event.now → IsCompressed (O.starts object.now) (O.step object.now) (O.observing object.now) h self.now nodes.old
+            → IsOver (O.starts object.now) (O.step object.now) (with_event h event.now) budget) }
+        ensures nodes { nodes.new ≡ nodes.old }
+        ensures steps { meter.new.steps ≡ ticked meter.old.steps 1 }
+        ensures tries { meter.new.tries ≤ meter.old.tries + budget * (length pending.now + 1) }
+        ensures scans { meter.new.scans ≡ meter.old.scans }
+    {
+        well_formed_is_alternating();
+        members_after_events(object);
+        rounds_after_events(object);
+        meter.tick_step();
+        if self.is_over(alloc, object, pending, at, event, budget, nodes, meter)? {
+            return Ok(Advance::Over);
+        }
+        Ok(Advance::Same)
+    }
+
+    /// The same for other events; nodes may be left where there is no next frontier.
+    fn step(
+        &self,
+        alloc: Global,
+        object: &O,
+        pending: &[Open],
+        at: usize,
+        event: &Event,
+        budget: usize,
+        nodes: &mut RoundNodes,
+        meter: &mut Meter,
+    ) -> Result<Advance<O>, OutOfMemory>
+        ensures next { IfOk result (λ step. (next : List (MemberOf O.State × PathOf)) → step ≡ Advance.Next next → (functions : ℤ → NameOf → Bool) (h : List EventOf)
+            → IsNextEvent functions h pending.now at event.now → IsCompressed (O.starts object.now) (O.step object.now) (O.observing object.now) h self.now nodes.old
+            → IsCompressed (O.starts object.now) (O.step object.now) (O.observing object.now) (with_event h event.now) next nodes.new) }
+        ensures some { IfOk result (λ step. (next : List (MemberOf O.State × PathOf)) → step ≡ Advance.Next next → 0 < length next) }
+        ensures empty { IfOk result (λ step. step ≡ Advance.Empty → (functions : ℤ → NameOf → Bool) (h : List EventOf)
+            → IsNextEvent functions h pending.now at event.now → IsCompressed (O.starts object.now) (O.step object.now) (O.observing object.now) h self.now nodes.old
+            → IsLinearizableBy (O.starts object.now) (O.step object.now) (with_event h event.now) → ⊥) }
+        ensures over { IfOk result (λ step. step ≡ Advance.Over → (functions : ℤ → NameOf → Bool) (h : List EventOf)
+            → IsNextEvent functions h pending.now at event.now → IsCompressed (O.starts object.now) (O.step object.now) (O.observing object.now) h self.now nodes.old
+            → IsOver (O.starts object.now) (O.step object.now) (with_event h event.now) budget) }
+        ensures before { IfOk result (λ step. step ≡ Advance.OverBefore → (functions : ℤ → NameOf → Bool) (h : List EventOf)
+            → IsNextEvent functions h pending.now at event.now → IsCompressed (O.starts object.now) (O.step object.now) (O.observing object.now) h self.now nodes.old
+            → (0 < at) × IsOver (O.starts object.now) (O.step object.now) h budget) }
+        ensures same { IfOk result (λ step. step ≡ Advance.Same → ⊥) }
+        ensures grown { IsGrown nodes.old nodes.new }
+        ensures steps { meter.new.steps ≡ ticked meter.old.steps 1 }
+        ensures tries { meter.new.tries ≤ meter.old.tries + budget * (3 * length pending.now + 4) }
+        ensures scans { meter.new.scans ≡ meter.old.scans }
+    {
+        let limit = budget.min(LONGEST_SEARCH);
+        match self.advance_up_to(alloc, object, pending, at, event, limit, nodes, meter)? {
+            Found::Empty => Ok(Advance::Empty),
+            Found::Next(next) => {
+                if next.is_over(alloc, object, pending, at, event, budget, nodes, meter)? {
+                    return Ok(Advance::Over);
+                }
+                Ok(Advance::Next(next))
+            }
+            Found::TooMany => {
+                self.from_listing(alloc, object, pending, at, event, budget, nodes, meter)
+            }
+        }
+    }
+
+    /// Whether the budget is so small that all configurations are counted, and there are more of them. The frontier is that after
+    /// the event, the operations are those that were open before it.
+    fn is_over(
+        &self,
+        alloc: Global,
+        object: &O,
+        pending: &[Open],
+        at: usize,
+        event: &Event,
+        budget: usize,
+        nodes: &mut RoundNodes,
+        meter: &mut Meter,
+    ) -> Result<bool, OutOfMemory>
+        ensures over { IfOk result (λ over. over ≡ true → (functions : ℤ → NameOf → Bool) (h : List EventOf) → IsNextEvent functions h pending.now at event.now
+            → IsCompressed (O.starts object.now) (O.step object.now) (O.observing object.now) (with_event h event.now) self.now nodes.old
+            → IsOver (O.starts object.now) (O.step object.now) (with_event h event.now) budget) }
+        ensures nodes { nodes.new ≡ nodes.old }
+        ensures tried { IsTriedAtMost (budget * (length pending.now + 1)) meter.old meter.new }
+    {
+        if COUNTED <= budget {
+            return Ok(false);
+        }
+        let after = open_after(alloc, pending, at, event)?;
+        exceeds(object, alloc, &after, &self.members, budget, nodes, meter)
+    }
+
+    /// The frontier after an ok, from the list of all configurations before it, which may be more than the budget.
+    fn from_listing(
+        &self,
+        alloc: Global,
+        object: &O,
+        pending: &[Open],
+        at: usize,
+        event: &Event,
+        budget: usize,
+        nodes: &mut RoundNodes,
+        meter: &mut Meter,
+    ) -> Result<Advance<O>, OutOfMemory>
+        requires { (name : NameOf) × (reply : ReplyOf) × (event.now.body ≡ BodyOf.Ok name reply) }
+        ensures next { IfOk result (λ step. (next : List (MemberOf O.State × PathOf)) → step ≡ Advance.Next next → (functions : ℤ → NameOf → Bool) (h : List EventOf)
+            → IsNextEvent functions h pending.now at event.now → IsCompressed (O.starts object.now) (O.step object.now) (O.observing object.now) h self.now nodes.old
+            → IsCompressed (O.starts object.now) (O.step object.now) (O.observing object.now) (with_event h event.now) next nodes.new) }
+        ensures some { IfOk result (λ step. (next : List (MemberOf O.State × PathOf)) → step ≡ Advance.Next next → 0 < length next) }
+        ensures empty { IfOk result (λ step. step ≡ Advance.Empty → (functions : ℤ → NameOf → Bool) (h : List EventOf)
+            → IsNextEvent functions h pending.now at event.now → IsCompressed (O.starts object.now) (O.step object.now) (O.observing object.now) h self.now nodes.old
+            → IsLinearizableBy (O.starts object.now) (O.step object.now) (with_event h event.now) → ⊥) }
+        ensures before { IfOk result (λ step. step ≡ Advance.OverBefore → (functions : ℤ → NameOf → Bool) (h : List EventOf)
+            → IsNextEvent functions h pending.now at event.now → IsCompressed (O.starts object.now) (O.step object.now) (O.observing object.now) h self.now nodes.old
+            → (0 < at) × IsOver (O.starts object.now) (O.step object.now) h budget) }
+        ensures never { IfOk result (λ step. (step ≡ Advance.Over) ⊎ (step ≡ Advance.Same) → ⊥) }
+        ensures grown { IsGrown nodes.old nodes.new }
+        ensures tried { IsTriedAtMost (budget * length pending.now) meter.old meter.new }
+    {
+        well_formed_is_alternating();
+        legal_orders_end(object);
+        members_are_exact(object);
+        let Some(list) = listed(object, alloc, pending, &self.members, budget, nodes, meter)? else {
+            return Ok(Advance::OverBefore);
+        };
+        let members = after_listing(object, alloc, &list, pending, at, event, nodes)?;
+        if members.is_empty() {
+            return Ok(Advance::Empty);
+        }
+        Ok(Advance::Next(Compressed { members }))
+    }
+}
