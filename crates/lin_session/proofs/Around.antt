@@ -1,5 +1,5 @@
 -- What is kept of the objects, around an event that leaves or comes.
-use Rattle.std.proofs.Common.{◌≡◌, ◌≢◌, ◌<◌, ◌≤◌, ◌+◌, ◌-◌, ℕ, ℤ, Bool, true, false, cond, List, ◌∷◌, ◌++◌, length, length-append, slice_get, set, take, Contains, Some, refl, sym, ap, subst, ◌∙◌, arith}
+use Rattle.std.proofs.Common.{◌≡◌, ◌≢◌, ◌<◌, ◌≤◌, ◌+◌, ◌-◌, ℕ, ℤ, Bool, true, false, cond, min, List, ◌∷◌, ◌++◌, length, length-append, slice_get, set, take, Contains, Some, refl, sym, ap, subst, ◌∙◌, arith}
 use Rattle.std.specs.Ordering.{int_eq}
 use Rattle.std.proofs.lemmas.Bool.Decides.{Decides-int_eq}
 use Rattle.std.specs.Prelude.{not}
@@ -10,12 +10,12 @@ use Rattle.lin_history.specs.Operations.{IsEvent}
 use Rattle.lin_objects.specs.declared.kinds.Kind.{Kind}
 use Rattle.lin_order.specs.Parts.{ArePositionsOf, part}
 use Rattle.lin_chain.specs.declared.chain.Chain.{Chain}
-use Rattle.lin_chain.specs.Chains.{kind_in, IsRight}
+use Rattle.lin_chain.specs.Chains.{kind_in, ready_under, IsRight}
 use Rattle.lin_chain.specs.declared.chain.End.TheVariants.{Over}
 use Rattle.lin_chain.specs.Ends.{IsEndOf}
 use Rattle.lin_session.specs.declared.kept.Object.{Object}
 use Rattle.lin_session.specs.Objects.{IsMarkRight, IsObject, AreKept}
-use Rattle.lin_session.specs.Work.{rounded}
+use Rattle.lin_session.specs.Work.{rounded, touched}
 use Rattle.lin_session.proofs.Lists.{get_ahead, take_ahead}
 use Rattle.lin_session.proofs.Changes.{AreKept-one, AreKept-none}
 use Rattle.lin_session.proofs.Low.{rounded_below}
@@ -153,3 +153,18 @@ module _ (kinds : ℤ → Kind) (budget : ℕ) (before behind : List Event) (eve
   pub AreKept-with_unlisted : AreKept kinds budget without split keys objects → (Contains keys key → ⊥) → AreKept kinds budget with_it split keys objects
   AreKept-with_unlisted kept absent =
       AreKept-none kinds kinds budget budget without with_it split split keys objects kept within_with (known_with kept) (λ x o listed. other_with x o (λ is. absent (subst (Contains keys) is listed)))
+
+-- an equal event comes: the object of the key is touched, and its chain stays
+pub AreKept-touched : (kinds : ℤ → Kind) (budget : ℕ) (h : List Event) (split : ℕ) (keys : List ℤ) (objects : List Object) → AreKept kinds budget h split keys objects
+    → (i : ℕ) (key : ℤ) (old object : Object) → slice_get keys i ≡ Some key → slice_get objects i ≡ Some old → object.picks ≡ old.picks → object.count ≡ old.count → object.chain ≡ old.chain
+    → (place : ℕ) → place ≤ old.count → object.mark ≡ touched place (rounded place) old.mark → AreKept kinds budget h split keys (set objects i object)
+AreKept-touched kinds budget h split keys objects kept i key old object key_at old_at picks count chain place inside mark =
+    AreKept-one kinds kinds budget budget h h split split keys objects kept kept.within i key object key_at kept.known old old_at (λ is. record {
+      picked = subst (λ p. ArePositionsOf key (take split h) p.items) (sym picks) is.picked;
+      kind = ap kind_in chain ∙ is.kind;
+      right = subst (λ k. IsRight k (part key h)) (sym chain) is.right;
+      counted = subst (λ n. n ≤ length (part key h)) (sym count) is.counted;
+      marked = IsMarkRight-touched budget (length (part key h)) (length (part key h)) place (rounded place) old object is.marked (rounded_below place) (omega (arith, inside, is.counted))
+          (record { mark = mark; kept = λ other. subst (λ k. min (rounded place) (ready_under other old.chain) ≤ ready_under other k) (sym chain) (omega arith) }) (λ exact. count ∙ exact);
+      over = λ at e. is.over at (touched_over place (rounded place) old.mark object.mark at mark e).1;
+    }) (λ x o other is. is)

@@ -11,6 +11,7 @@ pub mod Asking
 pub mod Scopes
 pub mod Wholes
 pub mod Low
+pub mod Equals
 pub mod Sums
 pub mod Costing
 pub mod Present

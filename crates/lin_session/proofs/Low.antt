@@ -22,3 +22,8 @@ AreTakenIn-more (Some first) taken more count less within some = omega (arith, s
 
 pub rounded_below : (n : ℕ) → rounded n ≤ n
 rounded_below n = omega arith
+
+-- where nothing is taken back
+pub AreTakenIn-lower : (low : Option ℕ) (from taken count : ℕ) → from ≤ count → AreTakenIn low taken count → AreTakenIn (least low (Some from)) taken count
+AreTakenIn-lower None from taken count inside all = omega (arith, inside, all)
+AreTakenIn-lower (Some first) from taken count inside some = omega (arith, some)

@@ -52,6 +52,14 @@ touched_twice h at key old mid new left touch x = AreTouched-at h at key mid new
     by false true = refl
     by false false = refl
 
+-- an event in place of an equal one
+pub is_of_equal : (h : List Event) (at : ℕ) (event : Event) → slice_get h at ≡ Some event → (x : ℤ) → is_of_key h x at ≡ (int_eq event.key x || is_of_key h x at)
+is_of_equal h at event stands x = let own = is_of h at event stands x in own ∙ by (int_eq event.key x) ∙ ap (λ b. int_eq event.key x || b) (sym own)
+  where
+    by : (b : Bool) → b ≡ (b || b)
+    by true = refl
+    by false = refl
+
 -- an object that loses no event
 pub not_below : (n m : ℕ) → m ≤ n → nat_lt n m ≡ false
 not_below n m less = by (nat_lt n m) refl

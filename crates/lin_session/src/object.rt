@@ -119,6 +119,17 @@ impl Object {
         self.mark.touch(place, round_down(place));
     }
 
+    /// The first of these events comes in place of an equal one: what its chain took in is kept.
+    pub(crate) fn touch_ahead_of(&mut self, key: i64, behind: &[Event])
+        ensures picks { self.new.picks ≡ self.old.picks }
+        ensures count { self.new.count ≡ self.old.count }
+        ensures chain { self.new.chain ≡ self.old.chain }
+        ensures mark { self.new.mark ≡ touched (self.old.count - length (part key behind.now)) (rounded (self.old.count - length (part key behind.now))) self.old.mark }
+    {
+        let place = self.count.saturating_sub(number_of(key, behind));
+        self.mark.touch(place, round_down(place));
+    }
+
     /// What its chain took in is kept: the event that comes is the last one.
     pub(crate) fn cut_at_end(&mut self)
         ensures picks { self.new.picks ≡ self.old.picks }

@@ -1,5 +1,5 @@
 //! The objects of a history: where the events of each stand in it, and what is known of their legal orders.
-ghost use Rattle.std.specs.Prelude.{◌≡◌, ◌≢◌, ◌+◌, ◌<◌, ◌≤◌, ◌∷◌, ◌++◌, ◌||◌, [], ℕ, ℤ, List, All, Contains, IsOk, IfErr, IfOk, IfSome, IfNone, OnOk, OnErr, None, Ok, Some, remove, slice_set, if◌then◌else◌, length, nat_lt, slice_get, take};
+ghost use Rattle.std.specs.Prelude.{◌≡◌, ◌≢◌, ◌+◌, ◌<◌, ◌≤◌, ◌∷◌, ◌++◌, ◌||◌, [], ℕ, ℤ, List, All, Contains, IsOk, IfErr, IfOk, IfSome, IfNone, OnOk, OnErr, None, Ok, Some, remove, slice_set, if◌then◌else◌, length, min, nat_lt, slice_get, take};
 ghost use Rattle.std.specs.Ordering.{int_eq};
 ghost use Rattle.lin_history.specs.declared.events.Event.{Event as EventOf};
 ghost use Rattle.lin_history.specs.WellFormed.{IsWellFormed};
@@ -59,7 +59,7 @@ impl Objects {
     /// Forgets where the events from the position on stand.
     fn unsplit(&mut self, events: &[Event], at: usize)
         requires { split_in self.old ≤ length events.now }
-        ensures split { split_in self.new ≤ at }
+        ensures split { split_in self.new ≡ min at (split_in self.old) }
         ensures right { (kinds : ℤ → KindOf) (budget : ℕ) → AreRight self.old kinds budget events.now → AreRight self.new kinds budget events.now }
         ensures marks { AreSameMarks (marks_in self.old) (marks_in self.new) }
     {
@@ -86,7 +86,7 @@ impl Objects {
     pub(crate) fn leave(&mut self, events: &[Event], at: usize)
         requires place { at < length events.now }
         requires within { split_in self.old ≤ length events.now }
-        ensures split { split_in self.new ≤ at }
+        ensures split { split_in self.new ≡ min at (split_in self.old) }
         ensures right { (kinds : ℤ → KindOf) (budget : ℕ) → AreRight self.old kinds budget events.now → AreRight self.new kinds budget (remove events.now at) }
         ensures marks { (kinds : ℤ → KindOf) (budget : ℕ) → AreRight self.old kinds budget events.now
             → (x : ℤ) → marks_in self.new x ≡ (if is_of_key events.now x at then touched_at events.now x at (marks_in self.old x) else marks_in self.old x) }
@@ -106,6 +106,30 @@ impl Objects {
     {
         self.leave(events, at);
         self.put_in(event.key, &events[at + 1..]);
+    }
+
+    /// In place of the event at the position comes an equal one.
+    pub(crate) fn replace_by_equal(&mut self, events: &[Event], at: usize)
+        requires { at < length events.now }
+        ensures split { split_in self.new ≡ split_in self.old }
+        ensures right { (kinds : ℤ → KindOf) (budget : ℕ) → AreRight self.old kinds budget events.now → AreRight self.new kinds budget events.now }
+        ensures marks { (kinds : ℤ → KindOf) (budget : ℕ) → AreRight self.old kinds budget events.now
+            → (x : ℤ) → marks_in self.new x ≡ (if is_of_key events.now x at then touched_at events.now x at (marks_in self.old x) else marks_in self.old x) }
+    {
+        self.touch(events[at].key, &events[at..]);
+    }
+
+    /// The first of these events, which is of the key, comes in place of an equal one.
+    fn touch(&mut self, key: i64, behind: &[Event])
+        ensures split { split_in self.new ≡ split_in self.old }
+        ensures right { (kinds : ℤ → KindOf) (budget : ℕ) (before : List EventOf)
+            → AreRight self.old kinds budget (before ++ behind.now) → AreRight self.new kinds budget (before ++ behind.now) }
+        ensures marks { (kinds : ℤ → KindOf) (budget : ℕ) (before : List EventOf)
+            → AreRight self.old kinds budget (before ++ behind.now) → AreTouched key (length (part key before)) (rounded (length (part key before))) (marks_in self.old) (marks_in self.new) }
+    {
+        if let Some(i) = self.find(key) {
+            self.objects[i].touch_ahead_of(key, behind);
+        }
     }
 
     /// An event of the key, ahead of these, leaves the history.

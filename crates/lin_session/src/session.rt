@@ -354,8 +354,13 @@ impl Session {
         if at >= self.events.len() {
             return Err((event, EditFault::BadPosition));
         }
-        self.scan.cut(at);
         self.low = least_of(self.low, Some(round_down(at)));
+        // The history stays as it is, and so does what was found of it.
+        if self.events[at] == event {
+            self.objects.replace_by_equal(&self.events, at);
+            return Ok(());
+        }
+        self.scan.cut(at);
         self.objects.replace(&self.events, at, &event);
         self.events[at] = event;
         Ok(())

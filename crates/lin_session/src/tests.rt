@@ -42,7 +42,7 @@ pub(crate) fn saw(process: u64, key: i64, value: Val) -> Event {
 }
 
 /// One client writes 1, and then another one reads nil.
-fn stale_read() -> [Event; 4] {
+pub(crate) fn stale_read() -> [Event; 4] {
     [write(0, 0, 1), wrote(0, 0), read(1, 0), saw(1, 0, Val::Nil)]
 }
 

@@ -1,5 +1,5 @@
 //! How much work a question takes after an edit.
-use crate::tests::{make, read, registers, saw, told, write, wrote};
+use crate::tests::{make, read, registers, saw, stale_read, told, write, wrote};
 use crate::{Edit, Scope, Session, Verdict};
 use lin_history::{Event, Val};
 use std::alloc::Global;
@@ -48,10 +48,29 @@ fn an_event_is_replayed_from_the_checkpoint_before(rt: HostRuntime) -> Result<()
     let alloc = rt.alloc();
     let mut session = registers(&rt, alloc, 65_536, &[])?;
     writes(&rt, alloc, &mut session, 0, 100)?;
-    make(&rt, &mut session, Edit::Replace(130, write(0, 0, 65)));
+    make(&rt, &mut session, Edit::Replace(130, write(0, 0, 66)));
     let (steps, scans) = work(alloc, &mut session, Scope::Whole)?;
     assert!(rt; 0 < steps && steps <= 72);
     assert!(rt; 0 < scans && scans <= 72);
+    Ok(())
+}
+
+#[test]
+fn an_equal_event_takes_no_work(rt: HostRuntime) -> Result<(), Fail> {
+    let alloc = rt.alloc();
+    let mut session = registers(&rt, alloc, 65_536, &stale_read())?;
+    let no = Verdict::No { prefix: 4 };
+    told(&rt, alloc, &mut session, Scope::Whole, no)?;
+    make(&rt, &mut session, Edit::Replace(1, wrote(0, 0)));
+    make(&rt, &mut session, Edit::Replace(3, saw(1, 0, Val::Nil)));
+    assert!(rt; work(alloc, &mut session, Scope::Whole)? == (0, 0));
+    told(&rt, alloc, &mut session, Scope::Whole, no)?;
+
+    make(&rt, &mut session, Edit::Replace(3, saw(1, 0, Val::Int(1))));
+    told(&rt, alloc, &mut session, Scope::Whole, Verdict::Yes)?;
+    make(&rt, &mut session, Edit::Replace(2, read(1, 0)));
+    assert!(rt; work(alloc, &mut session, Scope::Object(0))? == (0, 0));
+    told(&rt, alloc, &mut session, Scope::Whole, Verdict::Yes)?;
     Ok(())
 }
 

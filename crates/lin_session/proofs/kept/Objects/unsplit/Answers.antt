@@ -11,6 +11,7 @@ loop-self-preserved c =
     ap (slice_get events) at ∙ slice_get_read events (length events) (c.loop-self.self.split - 1) c.index-events-self.result refl (omega (arith, c.loop-self.invariant.within, c.loop-self-test.true)) c.index-events-self.is in
     record {
       within = omega (arith, c.unsplit_last.ensures.split, c.loop-self.invariant.within);
+      least = omega (arith, c.unsplit_last.ensures.split, c.loop-self.invariant.least, c.loop-self-test.true);
       right = λ kinds budget kept. c.unsplit_last.ensures.right kinds budget events stands (c.loop-self.invariant.right kinds budget kept);
       marks = λ key. c.unsplit_last.ensures.marks key ∙ c.loop-self.invariant.marks key;
     }

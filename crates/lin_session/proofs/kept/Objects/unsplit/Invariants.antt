@@ -1,4 +1,4 @@
-use Rattle.std.proofs.Common.{ℕ, ℤ, ◌≤◌, length}
+use Rattle.std.proofs.Common.{◌≡◌, ℕ, ℤ, ◌≤◌, length, min}
 use Rattle.lin_objects.specs.declared.kinds.Kind.{Kind}
 use Rattle.lin_session.specs.Objects.{AreRight, marks_in, split_in}
 use Rattle.lin_session.specs.Work.{AreSameMarks}
@@ -7,6 +7,7 @@ use Rattle.lin_session.proofs.kept.Objects.unsplit.Given as goal
 abbrev pub invariant-loop-self : goal.invariant-loop-self
 invariant-loop-self l = record {
   within : split_in l.self ≤ length l.events;
+  least : min l.at (split_in l.self) ≡ min l.at (split_in l.initial.self);
   right : (kinds : ℤ → Kind) (budget : ℕ) → AreRight l.initial.self kinds budget l.events → AreRight l.self kinds budget l.events;
   marks : AreSameMarks (marks_in l.initial.self) (marks_in l.self);
 }

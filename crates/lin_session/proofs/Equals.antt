@@ -1,0 +1,64 @@
+-- Events that compare alike by `==` are the same.
+use Rattle.std.specs.Prelude.{◌≡◌, true}
+use Rattle.std.proofs.Common.{refl, sym, ap, true≢false}
+use Rattle.std.proofs.lemmas.Bool.{and_parts}
+use Rattle.std.proofs.lemmas.Bool.Decides.{Decides-eqb, Decides-int_eq}
+use Rattle.lin_history.specs.declared.calls.Name.{Name}
+use Rattle.lin_history.specs.declared.calls.Name.TheVariants as name
+use Rattle.lin_history.specs.declared.calls.Call.{Call}
+use Rattle.lin_history.specs.declared.calls.Call.TheVariants as call
+use Rattle.lin_history.specs.declared.events.Body.{Body}
+use Rattle.lin_history.specs.declared.events.Body.TheVariants.{Invoke, Ok, Fail, Info}
+use Rattle.lin_history.specs.declared.events.Event.{Event}
+use Rattle.lin_history.specs.Replies.{reply_same, val_same}
+use Rattle.lin_history.specs.contracts.calls.NamePartialEq.TheImpl as NameImpl
+use Rattle.lin_history.specs.contracts.calls.CallPartialEq.TheImpl as CallImpl
+use Rattle.lin_history.specs.contracts.events.BodyPartialEq.TheImpl as BodyImpl
+use Rattle.lin_history.specs.contracts.events.EventPartialEq.TheImpl as EventImpl
+
+name_same : (x y : Name) → NameImpl.ghosts.eq x y ≡ true → x ≡ y
+name_same name.Read name.Read h = refl
+name_same name.Write name.Write h = refl
+name_same name.Cas name.Cas h = refl
+name_same name.Enqueue name.Enqueue h = refl
+name_same name.Dequeue name.Dequeue h = refl
+name_same name.Add name.Add h = refl
+name_same name.Acquire name.Acquire h = refl
+name_same name.Release name.Release h = refl
+name_same x y h = absurd (true≢false (sym h))
+
+call_same : (x y : Call) → CallImpl.ghosts.eq x y ≡ true → x ≡ y
+call_same call.Read call.Read h = refl
+call_same (call.Write a) (call.Write b) h = ap call.Write (val_same a b h)
+call_same (call.Cas a b) (call.Cas c d) h =
+    let both = and_parts _ _ h in
+    let first = val_same a c both.0 in
+    let second = val_same b d both.1 in
+    cc
+call_same (call.Enqueue a) (call.Enqueue b) h = ap call.Enqueue ((Decides-int_eq a b).0 h)
+call_same call.Dequeue call.Dequeue h = refl
+call_same (call.Add a) (call.Add b) h = ap call.Add ((Decides-int_eq a b).0 h)
+call_same call.Acquire call.Acquire h = refl
+call_same call.Release call.Release h = refl
+call_same x y h = absurd (true≢false (sym h))
+
+body_same : (x y : Body) → BodyImpl.ghosts.eq x y ≡ true → x ≡ y
+body_same (Invoke a) (Invoke b) h = ap Invoke (call_same a b h)
+body_same (Ok a r) (Ok b q) h =
+    let both = and_parts _ _ h in
+    let first = name_same a b both.0 in
+    let second = reply_same r q both.1 in
+    cc
+body_same (Fail a) (Fail b) h = ap Fail (name_same a b h)
+body_same (Info a) (Info b) h = ap Info (name_same a b h)
+body_same x y h = absurd (true≢false (sym h))
+
+-- events that compare alike are one
+pub event_same : (x y : Event) → EventImpl.ghosts.eq x y ≡ true → x ≡ y
+event_same x y h =
+    let first = and_parts _ _ h in
+    let second = and_parts _ _ first.1 in
+    let process = (Decides-eqb x.process y.process).0 first.0 in
+    let key = (Decides-int_eq x.key y.key).0 second.0 in
+    let body = body_same x.body y.body second.1 in
+    λ i. record { process = process i; key = key i; body = body i }
