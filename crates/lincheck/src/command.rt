@@ -4,6 +4,7 @@ ghost use Rattle.clap.specs.Words.{app_of, first_of, found_of, rows_of, rule_of}
 ghost use Rattle.clap.specs.declared.builder.value_parser.ValueParser.{ValueParser as ParserOf};
 ghost use Rattle.clap.specs.declared.builder.value_parser.ValueParser.TheVariants.{Names};
 ghost use Rattle.clap.specs.declared.builder.command.Command.TheViews.{out-Command as fields_of};
+ghost use Rattle.lincheck.specs.declared.words.Line.{Line as LineOf};
 ghost use Rattle.lincheck.specs.Program.{budget_rule, check_app, edit_app, file_rule, keyed_rule, kind_of_word, kind_rule, optional_file_rule, order_rule, program_app, verify_app, is_given as given, with_options as options_of, Gives, HasSettings, IsBudget, IsKindParser, LacksSettings, Says};
 
 use crate::words::Line;
@@ -241,9 +242,10 @@ fn check_line<'a>(settings: Settings, matches: &ArgMatches<'a>) -> Option<Line<'
     Some(Line::Check(settings, file))
 }
 
-/// What a command and its arguments say.
+/// What a command and its arguments say; none where they say no line.
 pub fn line_of<'a>(command: &str, matches: &ArgMatches<'a>) -> Option<Line<'a>>
-    ensures { IfSome result (Says (command.now, rows_of (found_of matches.now))) }
+    ensures some { IfSome result (Says (command.now, rows_of (found_of matches.now))) }
+    ensures none { IfNone result ((line : LineOf) → Says (command.now, rows_of (found_of matches.now)) line → ⊥) }
 {
     let Some(settings) = settings_of(matches) else {
         return None;

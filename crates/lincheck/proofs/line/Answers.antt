@@ -27,7 +27,7 @@ returns-in-Some-line_of-clause-understood c =
     let found = pair_behind (subcommand_rows_of c.in_ok-matches.matches) c.in-Some.name.now (rows_of (found_of c.in-Some.inner.now)) name c.in-Some.ensures.rows in
     let kinds = c.in_ok-matches.ensures.kinds (ap is_simple_and_free app_is ∙ free parser) in
     let none : fault_of (program_app parser) words ≡ [] = subst (λ (a : App). fault_of a words ≡ []) app_is kinds in
-    (parser, c.in_ok-program.ensures.1, none, (c.in-Some.name.now, rows_of (found_of c.in-Some.inner.now)), sym rows ∙ found, c.in-Some-line_of.ensures)
+    (parser, c.in_ok-program.ensures.1, none, (c.in-Some.name.now, rows_of (found_of c.in-Some.inner.now)), sym rows ∙ found, c.in-Some-line_of.ensures.some)
 
 err_if : {A B : Type 0} (r : Result A B) (P Q : B → Type 0) → ((e : B) → P e → Q e) → IsErrAnd r P → IfErr r Q
 err_if (Ok x) P Q f h = tt
