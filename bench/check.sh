@@ -1,15 +1,16 @@
 #!/usr/bin/env bash
-# Measures `lincheck check` beside `verify FILE empty`, which only reads, on generated histories of one register with five clients. It
-# prints a table: processor seconds (user and system), the least of three rounds, and instructions an event (valgrind --tool=callgrind)
-# that `check` takes beyond `verify`.
-# usage: bench/check.sh [EVENTS..]   (default 10000 100000)
+# Measures `lincheck check` beside `verify FILE empty`, which only reads, and md5sum, on generated histories: one register with five
+# clients, and 100 registers, one for each key, with 50 clients. It prints a table: processor seconds (user and system), the least of three
+# rounds; the most memory that `check` held, in times the file (ulimit -v, so address space, less 16 MiB); and instructions an event
+# (valgrind --tool=callgrind, on the first 10,000 events) that `check` takes beyond `verify`.
+# usage: bench/check.sh [EVENTS..]   (default 10000 100000 1000000)
 set -eu
 here=$(cd "$(dirname "$0")" && pwd)
 program=$here/../crates/lincheck/out/lincheck
 folder=$(mktemp -d)
 trap 'rm -rf "$folder"' EXIT
 "$here/../lincheck" --help > "$folder/help" 2> "$folder/build" || { cat "$folder/build"; exit 1; }
-[ $# -gt 0 ] || set -- 10000 100000
+[ $# -gt 0 ] || set -- 10000 100000 1000000
 
 seconds() { # command: the least processor time of three runs
     local TIMEFORMAT='%U %S'
@@ -24,17 +25,65 @@ instructions() { # command
     valgrind --tool=callgrind --callgrind-out-file=/dev/null "$@" 2>&1 > "$folder/counted" | awk '/Collected/ {print $NF}'
 }
 
-echo "| history | verify s | check s | instructions an event, beyond reading | prints |"
-echo "|---|---|---|---|---|"
-for events in "$@"; do
-    file=$folder/$events.edn
-    "$here/generate.sh" "$events" > "$file"
-    reading=$(seconds "$program" verify "$file" empty)
-    checking=$(seconds "$program" check "$file")
-    said=$(tail -n 1 "$folder/printed")
-    few=$folder/few.edn
+keyed() { # events: operations of 50 clients on 100 registers, each taking effect when it completes
+    awk -v events="$1" '
+    function random(n) { seed = (seed * 1103515245 + 12345) % 2147483648; return int(seed / 65536) % n }
+    function put(type, p) {
+        time += 1000 + random(900000)
+        printf "{:type :%s, :f :%s, :value [%d %s], :process %d, :time %.0f, :index %d}\n", type, call[p], key[p], value[p], p, time, count
+        count++
+    }
+    BEGIN {
+        seed = 20261123; time = 3291485317
+        while (count < events) {
+            p = random(50)
+            if (!(p in call)) {
+                key[p] = random(100)
+                call[p] = random(2) ? "write" : "read"
+                value[p] = call[p] == "write" ? random(5) : "nil"
+                put("invoke", p)
+            } else {
+                if (call[p] == "write") state[key[p]] = value[p]
+                else value[p] = (key[p] in state) ? state[key[p]] : "nil"
+                put("ok", p)
+                delete call[p]
+            }
+        }
+    }'
+}
+
+held() { # the program's words: the least whole number of times the file within which it prints the same
+    local bytes times
+    bytes=$(stat -c %s "$file")
+    for times in 1 2 3 4 5 6 7 8; do
+        if (ulimit -v $(( bytes * times / 1024 + 16384 )); exec "$program" "$@") > "$folder/within" 2>&1 && cmp -s "$folder/printed" "$folder/within"; then
+            echo "$times"
+            return
+        fi
+    done
+    echo more
+}
+
+line() { # name, then words beside the file
+    local name=$1 sum reading checking more few=$folder/few.edn
+    shift
+    sum=$(seconds md5sum "$file")
+    reading=$(seconds "$program" verify "$@" "$file" empty)
+    checking=$(seconds "$program" check "$@" "$file")
     head -n 10000 "$file" > "$few"
-    more=$(( $(instructions "$program" check "$few") - $(instructions "$program" verify "$few" empty) ))
-    counted=$(wc -l < "$few")
-    echo "| one register, 5 clients, $events events | $reading | $checking | $((more / counted)) | $said |"
+    more=$(( $(instructions "$program" check "$@" "$few") - $(instructions "$program" verify "$@" "$few" empty) ))
+    "$program" check "$@" "$file" > "$folder/printed"
+    echo "| $name | $sum | $reading | $checking | $(held check "$@" "$file") | $((more / $(wc -l < "$few"))) | $(tail -n 1 "$folder/printed") |"
+}
+
+echo "| history | md5sum s | verify s | check s | memory, times the file | instructions an event, beyond reading | prints |"
+echo "|---|---|---|---|---|---|---|"
+file=$folder/history.edn
+for events in "$@"; do
+    "$here/generate.sh" "$events" > "$file"
+    line "one register, 5 clients, $events events"
+done
+for events in "$@"; do
+    keyed "$events" > "$file"
+    line "100 registers, 50 clients, $events events" --keyed
 done

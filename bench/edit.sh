@@ -2,8 +2,9 @@
 # Measures `lincheck edit` on generated histories of one register with five clients, in processor seconds (user and system, the least of
 # three rounds):
 #   1. a question after each of EVENTS appended events, for 4,000 and 40,000 events: microseconds an event;
-#   2. a question after a replaced event: one of the last 1,000 of 100,000 events is replaced by an equal one and the history asked
-#      again, 1,000 times, against the first question on that history;
+#   2. a question after a replaced event: one of the last 1,000 of 100,000 events is replaced and the history asked again, 1,000 times,
+#      against the first question on that history: by another event, which the first one then replaces again; and, 100 times as
+#      often, by an equal one;
 #   3. many keys: 1,000,000 events of 100 keys and of 10,000 keys, read and asked once.
 # usage: bench/edit.sh [appends|replaces|keys ..]   (default all three)
 set -eu
@@ -35,19 +36,27 @@ appends() {
 }
 
 replaces() {
-    local events=100000
+    local events=100000 rounds
     "$here/generate.sh" "$events" > "$folder/history.edn"
     echo pull > "$folder/pull"
     printf 'pull\nask\n' > "$folder/first"
-    { cat "$folder/first"; awk -v n="$events" 'NR > n - 1000 { printf "replace %d %s\nask\n", NR - 1, $0 }' "$folder/history.edn"; } > "$folder/replaces"
     reading=$(seconds "$folder/pull" edit "$folder/history.edn")
     first=$(seconds "$folder/first" edit "$folder/history.edn")
-    again=$(seconds "$folder/replaces" edit "$folder/history.edn")
-    echo "| $events events | s |"
-    echo "|---|---|"
-    awk -v r="$reading" -v f="$first" -v a="$again" 'BEGIN {
-        printf "| first question | %.3f |\n| one event replaced and asked again (mean of 1,000) | %.6f |\n| first / again | %.0f |\n", f - r, (a - f) / 1000, (f - r) * 1000 / (a - f) }'
-    tail -n 1 "$folder/printed"
+    echo "| $events events | s | first / again |"
+    echo "|---|---|---|"
+    awk -v r="$reading" -v f="$first" 'BEGIN { printf "| first question | %.3f | |\n", f - r }'
+    for how in "another one and put back" "an equal one"; do
+        rounds=1
+        [ "$how" = "an equal one" ] && rounds=100   # one alone takes less time than can be told
+        { cat "$folder/first"; tail -n 1000 "$folder/history.edn" | awk -v n="$events" -v rounds="$rounds" '{ map = $0; sub(/:process [0-9]+/, ":process 9", map)
+            of[NR] = sprintf("replace %d %s\nask", n - 1001 + NR, $0)
+            if (rounds == 1) of[NR] = sprintf("replace %d %s\n%s", n - 1001 + NR, map, of[NR]) }
+            END { while (rounds-- > 0) for (i = 1; i <= 1000; i++) print of[i] }'; } > "$folder/again"
+        again=$(seconds "$folder/again" edit "$folder/history.edn")
+        awk -v r="$reading" -v f="$first" -v a="$again" -v how="$how" -v n="$((rounds * 1000))" 'BEGIN {
+            printf "| an event replaced by %s, and asked again (mean of %d) | %.6f | %.0f |\n", how, n, (a - f) / n, (f - r) * n / (a - f) }'
+        tail -n 1 "$folder/printed"
+    done
 }
 
 keys() {
