@@ -1,8 +1,7 @@
 //! White, runs, texts and tags of an input, found in place.
 
-ghost use Rattle.std.specs.Prelude.{◌≡◌, ℕ, suc, ◌+◌, ◌<◌, ◌≤◌, false, List, length, drop, slice_index};
+ghost use Rattle.std.specs.Prelude.{◌≡◌, ℕ, suc, ◌+◌, ◌<◌, ◌≤◌, List, length, drop};
 ghost use Rattle.std.specs.List.{slice_range};
-ghost use Rattle.lin_edn.specs.Bytes as bytes;
 ghost use Rattle.lin_edn.specs.Grammar.{ShortBlanks, Row, Element};
 ghost use Rattle.lin_edn.specs.Run.{run_value};
 ghost use Rattle.lin_edn.specs.Value.{Value, tagged, text as text_value};
@@ -16,7 +15,6 @@ pub fn white_until(input: &[u8], from: usize, end: usize) -> usize
     requires begun { from ≤ end }
     requires inside { end ≤ length input.now }
     ensures within { (from ≤ result) × (result ≤ end) }
-    ensures dark { result < end → bytes.is_white (slice_index input.now result) ≡ false }
     ensures short { ShortBlanks input.now from (drop from input.now) → ShortBlanks input.now result (drop result input.now) }
     ensures row { (n : ℕ) (p : ℕ) (s : List ℕ) (vs : List Value) →
         Row n p s vs from (drop from input.now) → Row n p s vs result (drop result input.now) }
@@ -45,8 +43,6 @@ pub fn run_until(input: &[u8], from: usize, end: usize) -> usize
     ensures within { (from ≤ result) × (result ≤ end) }
     ensures run { from < result → (n : ℕ) →
         Element n from (drop from input.now) (run_value from (slice_range input.now from result)) result (drop result input.now) }
-    ensures none { result ≡ from → from < end → bytes.class (slice_index input.now from) ≡ bytes.inside →
-        (i : ℕ) → from < i → i < end → bytes.is_stop (slice_index input.now i) ≡ false }
 {
     if from == end {
         return from;
