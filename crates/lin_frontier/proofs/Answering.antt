@@ -21,9 +21,10 @@ use Rattle.lin_frontier.specs.Frontiers.{IsPending}
 use Rattle.lin_frontier.specs.MemberLaws.{IsTaken, IsSearched, ObserverSearchLaw, UpdateSearchLaw}
 use Rattle.lin_frontier.specs.Members.{Member, IsComplete, IsOnOffer, IsWatching, IsGiven, IsUpdate, DominatesAt, Dominates}
 use Rattle.lin_frontier.specs.Placing.{IsAbsent}
-use Rattle.lin_frontier.specs.Searching.{is_watching, is_crashed, copy_of, rest_of, CanTake, DominatesOver, GivesAny, HasBehind, IsMade, IsPassed, IsReturnOf, IsSearchedIn}
+use Rattle.lin_frontier.specs.Searching.{is_watching, is_crashed, rest_of, CanTake, DominatesOver, GivesAny, HasBehind, IsMade, IsPassed, IsReturnOf, IsSearchedIn}
 use Rattle.lin_frontier.proofs.Awaiting.{open_pending}
 use Rattle.lin_frontier.proofs.Crashes.{crash_before, ok_no_info}
+use Rattle.lin_frontier.proofs.Dominating.{dominates_itself}
 use Rattle.lin_frontier.proofs.Inserting.{absent_from, kept_by, insert_is, without_is}
 use Rattle.lin_frontier.proofs.Onward.{in_map, from_map}
 use Rattle.lin_frontier.proofs.Pruned.{copy_dominates, watching_from, crashed_to}
@@ -161,7 +162,7 @@ module _ (observes : Call → Bool) (functions : ℤ → Name → Bool) (h : Lis
       }
 
       pub returned_complete : (begin : S) → IsWellFormed functions (with_event h event) → ObserverSearchLaw begin step → UpdateSearchLaw begin step → (nodes : List (ℕ × (Placed × Option ℕ))) (members out : List (Member S × Path))
-          → (r : IsReturnOf step observes o reply before pending nodes members out) → ((m : Member S × Path) → Contains members m → IsRising m.0.placed) → ((m : Member S × Path) → Contains r.searched.visited m → IsRising m.0.placed)
+          → (r : IsReturnOf step observes o reply pending nodes members out) → ((m : Member S × Path) → Contains members m → IsRising m.0.placed) → ((m : Member S × Path) → Contains r.searched.visited m → IsRising m.0.placed)
           → IsComplete begin step observes h (map (λ k. k.0) members) → IsComplete begin step observes (with_event h event) (map (λ k. k.0) out)
       returned_complete begin well_formed by_observer by_update nodes members out r rising visited_rising complete = by (observes o.call) refl
         where
@@ -182,9 +183,9 @@ module _ (observes : Call → Bool) (functions : ℤ → Name → Bool) (h : Lis
           begun m there absent =
               let k = from_map (λ (x : Member S × Path). x.0) members m there in
               let free = subst (λ q. IsAbsent q k.0.0.placed) (sym o_of) (subst (λ (x : Member S). IsAbsent event.process x.placed) (sym k.2) (absent_from event.process m.placed absent)) in (
-                (copy_of observes before k.0).0,
-                in_map (λ (x : Member S × Path). x.0) visited (copy_of observes before k.0) (r.searched.begins (copy_of observes before k.0) (r.begun.complete k.0 k.1 free)),
-                subst (Dominates observes h (copy_of observes before k.0).0) k.2 (copy_dominates functions h before was unique alternates_before observes k.0 (rising k.0 k.1)),
+                k.0.0,
+                in_map (λ (x : Member S × Path). x.0) visited k.0 (r.searched.begins k.0 (r.begun.complete k.0 k.1 free)),
+                subst (Dominates observes h k.0.0) k.2 (dominates_itself observes h k.0.0 (rising k.0 k.1)),
               )
 
           own_call : (b : Bool) → observes o.call ≡ b → (at : ℕ) (key : ℤ) (call : Call) → IsOpen h at event.process key call → observes call ≡ b

@@ -1,6 +1,6 @@
 -- Searching the ways of members for the reply of an operation that completes.
-use Rattle.std.proofs.Common.{◌≡◌, ◌⊎◌, ℕ, ◌+◌, ◌<◌, ◌≤◌, List, [], ◌∷◌, ◌++◌, length, Contains, All, inl, inr, sym, ap, subst, ◌∙◌, arith, get_or, Option, Some, None, Bool, true, false, IfSome, IfNone, true≢false}
-use Rattle.std.proofs.lemmas.List.{get_or_append_left}
+use Rattle.std.proofs.Common.{◌≡◌, ◌⊎◌, ℕ, ◌+◌, ◌<◌, ◌≤◌, List, [], ◌∷◌, ◌++◌, length, length-append, map, ◌-◌, Contains, All, inl, inr, sym, ap, subst, ◌∙◌, arith, get_or, Option, Some, None, Bool, true, false, IfSome, IfNone, true≢false}
+use Rattle.std.proofs.lemmas.List.{append-nil, get_or_append_left, get_or-append_right, get_or-map, length-map}
 use Rattle.std.proofs.lemmas.List.Elements.{All-append, All-weaker, All-contains, Contains-get_or, Contains-push, Contains-push_cases, Contains-append_left}
 use Rattle.std.proofs.lemmas.Bool.{cases_lt}
 use Rattle.lin_history.specs.declared.calls.Call.{Call}
@@ -15,6 +15,29 @@ use Rattle.lin_frontier.specs.Searching.{is_watching, AreBehind, BeginsRound, Ha
 use Rattle.lin_frontier.proofs.Closing.{any_default}
 use Rattle.lin_frontier.proofs.Inserting.{kept_by, passed_by}
 use Rattle.lin_frontier.proofs.Visiting.{grown_grown, not_grown, node_stays, begins_still}
+
+-- one of the first list stands in both joined, and so does one of the second
+pub in_front : {A B : Type 0} (f : B → A) (xs : List B) (ys : List A) (i : ℕ) (x : B) → i < length xs → x ≡ get_or xs i x → (i < length (map f xs ++ ys)) × (f x ≡ get_or (map f xs ++ ys) i (f x))
+in_front f xs ys i x inside is =
+    let all = length-append (map f xs) ys in
+    let many = length-map xs f in (
+      omega (arith, inside),
+      sym (get_or_append_left (map f xs) ys (f x) i (omega (arith, inside)) ∙ get_or-map f xs i x (f x) inside ∙ ap f (sym is)),
+    )
+
+pub in_rest : {A B : Type 0} (f : B → A) (xs : List B) (ys : List A) (i k : ℕ) (y : A) → i < length ys → y ≡ get_or ys i y → k ≡ length xs + i → (k < length (map f xs ++ ys)) × (y ≡ get_or (map f xs ++ ys) k y)
+in_rest f xs ys i k y inside is counted =
+    let all = length-append (map f xs) ys in
+    let many = length-map xs f in
+    let back : k - length xs ≡ i = omega (arith, counted) in (
+      omega (arith, inside, counted),
+      is ∙ sym (get_or-append_right (map f xs) ys (length xs) k y many (omega (arith, counted)) ∙ ap (λ j. get_or ys j y) back),
+    )
+
+-- what stays where nothing was found, behind others
+pub none_behind : {A N X : Type 0} (o : Option X) (front a b : List A) (c d : N) → IfNone o ((a ≡ b) × (c ≡ d)) → IfNone o ((front ++ a ≡ front ++ b) × (c ≡ d))
+none_behind None front a b c d same = (ap (λ l. front ++ l) same.0, same.1)
+none_behind (Some x) front a b c d same = same
 
 module _ {S : Type 0} (step : S → Call → S → Reply → Type 0) (observes : Call → Bool) (pending : List Open) where
   -- offers that are behind a member
@@ -150,6 +173,10 @@ module _ {S : Type 0} (step : S → Call → S → Reply → Type 0) (observes :
         each = λ k d below. absurd (omega arith);
         sound = λ n there. absurd (let empty = ap length none in let inside = there.1 in omega arith);
       }
+
+      -- the same where no other one is visited yet
+      pub working_alone : (visited out : List (Member S × Path)) → visited ≡ [] → out ≡ [] → IsWorking starts first first 0 (starts ++ visited) out
+      working_alone visited out none no_out = subst (λ l. IsWorking starts first first 0 l out) (sym (ap (λ l. starts ++ l) none ∙ append-nil starts)) (working_start out no_out)
 
       module _ (nodes after : List (ℕ × (Placed × Option ℕ))) (at : ℕ) (visited out found : List (Member S × Path)) (m : Member S × Path) (inside : at < length visited) (is : m ≡ get_or visited at m)
           (grown : IsGrown nodes after) (finding : IsFinding step observes operation reply pending after m out found) (h : IsWorking starts first nodes at visited out) where

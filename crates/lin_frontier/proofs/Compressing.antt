@@ -32,7 +32,7 @@ use Rattle.lin_frontier.proofs.Answering.{returned_complete}
 use Rattle.lin_frontier.proofs.Awaiting.{open_pending}
 use Rattle.lin_frontier.proofs.Closing.{cut_back}
 use Rattle.lin_frontier.proofs.Inserting.{first_or_rest}
-use Rattle.lin_frontier.proofs.Onward.{in_map, from_map, invoked, informed, failed, spelled_copy, spelled_rising, spelled_stays}
+use Rattle.lin_frontier.proofs.Onward.{in_map, from_map, invoked, informed, failed, spelled_rising, spelled_stays}
 use Rattle.lin_frontier.proofs.Putting.{trail_ends}
 use Rattle.lin_frontier.proofs.Pruned.{dominates_to, dominates_from, watching_to}
 use Rattle.lin_frontier.proofs.Crashes.{passes_fail}
@@ -83,22 +83,21 @@ module _ {S : Type 0} (start : S) (step : S → Call → S → Reply → Type 0)
       rising : (m : Member S × Path) → Contains members m → IsRising m.0.placed
       rising m there = spelled_rising start step observes h nodes m (c.spelled m there)
 
-      returned : (name : Name) (reply : Reply) → event.body ≡ Ok name reply → (o : Open) → Contains before o → o.process ≡ event.process → IsReturnOf step observes o reply before pending nodes members out
+      returned : (name : Name) (reply : Reply) → event.body ≡ Ok name reply → (o : Open) → Contains before o → o.process ≡ event.process → IsReturnOf step observes o reply pending nodes members out
           → IsCovering start step observes (with_event h event) out nodes
       returned name reply body o there of r = record {
         complete = returned_complete observes functions h event name reply body laws.unique alternates pending opened step before next.opened earlier o there of start next.well_formed laws.observer laws.update nodes members out r rising
             (λ m within. spelled_rising start step observes h nodes m
             (free_reached observes functions h event name reply body laws.unique alternates pending opened start step nodes earlier_well_formed laws.places r.starts begun m (r.searched.reached m within)).0)
             c.complete;
-        spelled = returned_spelled observes functions h event name reply body laws.unique alternates pending opened start step nodes before next.opened next.well_formed o there of earlier_well_formed observing laws.fewer laws.places
+        spelled = returned_spelled observes functions h event name reply body laws.unique alternates pending opened start step nodes before next.opened next.well_formed o there of earlier_well_formed observing laws.places
             laws.trail_observer laws.trail_return laws.trail_ok members out r c.spelled;
       }
         where
           begun : (m : Member S × Path) → Contains r.starts m → IsSpelled start step observes h nodes m × IsAbsent event.process m.0.placed
           begun m within =
               let s = r.begun.sound m within in
-              subst (λ k. IsSpelled start step observes h nodes k × IsAbsent event.process k.0.placed) (sym s.3)
-              (spelled_copy start step observes laws.fewer h nodes before s.0 (c.spelled s.0 s.1), subst (λ q. IsAbsent q s.0.0.placed) of s.2)
+              subst (λ k. IsSpelled start step observes h nodes k × IsAbsent event.process k.0.placed) (sym s.3) (c.spelled s.0 s.1, subst (λ q. IsAbsent q s.0.0.placed) of s.2)
 
       by : (b : Body) → event.body ≡ b → IsNextOf step observes event.process b before pending nodes members out → IsCovering start step observes (with_event h event) out nodes
       by (Invoke call) body m =

@@ -1,5 +1,5 @@
 -- An invocation: the members are the same.
-use Rattle.std.proofs.Common.{ℕ, ℤ, Bool, List, length, map, get_or, Contains, Option, ◌≡◌, inl, inr}
+use Rattle.std.proofs.Common.{ℕ, ℤ, Bool, List, map, get_or, Option, ◌≡◌, inl, inr}
 use Rattle.lin_history.specs.declared.calls.Call.{Call}
 use Rattle.lin_history.specs.declared.calls.Name.{Name}
 use Rattle.lin_history.specs.declared.calls.Reply.{Reply}
@@ -12,7 +12,6 @@ use Rattle.lin_order.specs.declared.placed.Placed.{Placed}
 use Rattle.lin_order.specs.ConfigurationLaws.{with_event}
 use Rattle.lin_frontier.specs.declared.members.Path.{Path}
 use Rattle.lin_frontier.specs.Compressed.{IsCompressed}
-use Rattle.lin_frontier.specs.Covers.{HasCrashed}
 use Rattle.lin_frontier.specs.MemberLaws.{InvocationKeepsLaw}
 use Rattle.lin_frontier.specs.Members.{Member, Dominates}
 use Rattle.lin_frontier.specs.RoundLaws.{TrailInvocationLaw}

@@ -1,12 +1,17 @@
 -- What is made of the elements of a list, from the left.
-use Rattle.std.proofs.Common.{◌≡◌, ℕ, ◌+◌, ◌<◌, ◌≤◌, List, [], ◌∷◌, ◌++◌, length, Contains, inl, inr, refl, sym, ap, subst, ◌∙◌, arith, append_assoc, get_or, take}
-use Rattle.std.proofs.lemmas.List.{append-nil, take_more, take_all}
+use Rattle.std.proofs.Common.{◌≡◌, ℕ, ◌+◌, ◌<◌, ◌≤◌, List, [], ◌∷◌, ◌++◌, length, Contains, inl, inr, refl, sym, ap, subst, ◌∙◌, arith, append_assoc, get_or, take, map, Bool, true, false, cond, IsTrue, ◌↔◌, true≢false}
+use Rattle.std.proofs.lemmas.List.{append-nil, map-append, take_more, take_all}
 use Rattle.std.proofs.lemmas.List.Elements.{Contains-push, Contains-push_cases, Contains-append_left}
 use Rattle.lin_frontier.specs.Searching.{IsMade, IsMadeOne}
 
 -- a value that equals what was to be made was put last
 pub made_one : {B : Type 0} (P : Type 0) (y n : B) (old now : List B) → P → n ≡ y → now ≡ old ++ n ∷ [] → IsMadeOne P y old now
 made_one P y n old now p is pushed = inl (p, pushed ∙ ap (λ k. old ++ k ∷ []) is)
+
+-- a value was put last just where a test says so, of values that are told by others
+pub made_if : {B C : Type 0} (f : C → B) (P : Type 0) (x : C) (b : Bool) (old now : List C) → IsTrue b ↔ P → now ≡ cond b (old ++ x ∷ []) old → IsMadeOne P (f x) (map f old) (map f now)
+made_if f P x true old now test is = inl (test.0 refl, ap (map f) is ∙ map-append f old (x ∷ []))
+made_if f P x false old now test is = inr ((λ p. true≢false (sym (test.1 p))), ap (map f) is)
 
 module _ {A B : Type 0} (P : A → Type 0) (make : A → B) where
   pub made_none : (ys : List B) → ys ≡ [] → IsMade P make [] ys

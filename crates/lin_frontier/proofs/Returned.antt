@@ -23,14 +23,14 @@ use Rattle.lin_frontier.specs.Compressed.{IsSpelled}
 use Rattle.lin_frontier.specs.Frontiers.{IsPending}
 use Rattle.lin_frontier.specs.Members.{Member, IsWatching, IsGiven}
 use Rattle.lin_frontier.specs.Placing.{IsAbsent, insert_pair}
-use Rattle.lin_frontier.specs.RoundLaws.{FewerLaw, OffersFrom, TrailPlacesLaw, TrailOkLaw, TrailObserverLaw, TrailReturnLaw}
+use Rattle.lin_frontier.specs.RoundLaws.{OffersFrom, TrailPlacesLaw, TrailOkLaw, TrailObserverLaw, TrailReturnLaw}
 use Rattle.lin_frontier.specs.Rounds.{SpellsRounds, begin_round, put, begins, puts}
 use Rattle.lin_frontier.specs.Searching.{is_watching, rest_of, GivesAny, IsAnswered, IsFromBehind, IsReached, start, next, IsReturned, IsReturnOf}
 use Rattle.lin_frontier.proofs.Crashes.{crash_kept, passes_ok}
 use Rattle.lin_frontier.proofs.Following.{Passes}
 use Rattle.lin_frontier.proofs.Inserting.{absent_from, none_from, passed_by, insert_added, taken_out}
 use Rattle.lin_frontier.proofs.Joining.{put_many}
-use Rattle.lin_frontier.proofs.Onward.{spelled_copy, spelled_rising}
+use Rattle.lin_frontier.proofs.Onward.{spelled_rising}
 use Rattle.lin_frontier.proofs.Pruned.{watching_to}
 use Rattle.lin_objects.specs.Observing.{IsObserving}
 
@@ -181,10 +181,10 @@ module _ (observes : Call → Bool) (functions : ℤ → Name → Bool) (h : Lis
           p = record { at = o.at; reply = reply }
 
       -- each member after the ok
-      pub returned_spelled : IsWellFormed functions h → IsObserving step observes → FewerLaw begin step → TrailPlacesLaw begin step → TrailObserverLaw begin step → TrailReturnLaw begin step → TrailOkLaw begin step
-          → (members out : List (Member S × Path)) → IsReturnOf step observes o reply before pending nodes members out → ((m : Member S × Path) → Contains members m → IsSpelled begin step observes h nodes m)
+      pub returned_spelled : IsWellFormed functions h → IsObserving step observes → TrailPlacesLaw begin step → TrailObserverLaw begin step → TrailReturnLaw begin step → TrailOkLaw begin step
+          → (members out : List (Member S × Path)) → IsReturnOf step observes o reply pending nodes members out → ((m : Member S × Path) → Contains members m → IsSpelled begin step observes h nodes m)
           → (n : Member S × Path) → Contains out n → IsSpelled begin step observes (with_event h event) nodes n
-      returned_spelled well_formed_before observing fewer places observer returns ok members out r each n there =
+      returned_spelled well_formed_before observing places observer returns ok members out r each n there =
           elim (Contains-append_cases r.found r.made n (subst (λ l. Contains l n) r.both there)) [
             | inl found ↦
                 let s = r.searched.sound n found in
@@ -202,5 +202,4 @@ module _ (observes : Call → Bool) (functions : ℤ → Name → Bool) (h : Lis
           begun : (m : Member S × Path) → Contains r.starts m → IsSpelled begin step observes h nodes m × IsAbsent event.process m.0.placed
           begun m within =
               let s = r.begun.sound m within in
-              subst (λ k. IsSpelled begin step observes h nodes k × IsAbsent event.process k.0.placed) (sym s.3)
-              (spelled_copy begin step observes fewer h nodes before s.0 (each s.0 s.1), subst (λ q. IsAbsent q s.0.0.placed) o_of s.2)
+              subst (λ k. IsSpelled begin step observes h nodes k × IsAbsent event.process k.0.placed) (sym s.3) (each s.0 s.1, subst (λ q. IsAbsent q s.0.0.placed) o_of s.2)

@@ -1,7 +1,8 @@
 -- Domination among the members of a list, and taking out of it what others dominate.
-use Rattle.std.proofs.Common.{◌≡◌, ◌⊎◌, ℕ, true, false, Bool, List, [], ◌∷◌, ◌++◌, length, Contains, AllPairs, inl, inr, refl, sym, ap, subst, ◌∙◌, arith, get_or, true≢false, not, ◌&&◌}
-use Rattle.std.proofs.lemmas.List.Elements.{All-contains, Contains-get_or, Contains-push, Contains-push_cases, Contains-append_left}
-use Rattle.std.proofs.lemmas.List.Quantifiers.{all_pairs_push}
+use Rattle.std.proofs.Common.{◌≡◌, ◌⊎◌, ℕ, zero, suc, true, false, Bool, List, [], ◌∷◌, ◌++◌, length, length-append, Contains, AllPairs, inl, inr, refl, sym, ap, subst, ◌∙◌, arith, get_or, take, drop, ◌+◌, ◌-◌, ◌<◌, ◌≤◌, true≢false, not, ◌&&◌}
+use Rattle.std.proofs.Math.Seq.{drop-append_seam, drop-cons, take-append_seam}
+use Rattle.std.proofs.lemmas.List.{drop_all, length-drop, length-take-le, take_all, take_more}
+use Rattle.std.proofs.lemmas.List.Elements.{All-contains, Contains-get_or, Contains-push, Contains-push_cases, Contains-append_left, Contains-append_right, Contains-append_cases}
 use Rattle.lin_history.specs.declared.calls.Call.{Call}
 use Rattle.lin_history.specs.declared.calls.Reply.{Reply}
 use Rattle.lin_frontier.specs.declared.pending.Open.{Open}
@@ -47,6 +48,28 @@ module _ {S : Type 0} (observes : Call → Bool) (pending : List Open) where
             | inl there ↦ All-contains (λ (x : ℕ × Reply). x.0 ≡ process → ⊥) k.placed (get_or m.placed i d) absent there same
             | inr crashed ↦ second_false (is_observing observes pending process) (is_crashed pending process) (subst (λ q. is_crashed pending q ≡ true) same crashed) watching
           ]
+
+-- a list without one of its elements has as many in front of it
+pub shorter : {A : Type 0} (xs now : List A) (at : ℕ) → at < length xs → now ≡ take at xs ++ drop (at + 1) xs → at ≤ length now
+shorter xs now at inside is =
+    let all = ap length is ∙ length-append (take at xs) (drop (at + 1) xs) in
+    let front = length-take-le at xs (omega (arith, inside)) in
+    omega arith
+
+-- a slice up to the end of a list is what is left of it
+pub rest_is : {A : Type 0} (xs : List A) (n : ℕ) → take (length xs - n) (drop n xs) ≡ drop n xs
+rest_is xs n = take_all (length xs - n) (drop n xs) (omega (arith, length-drop n xs))
+
+pub behind_too : {A : Type 0} {y : A} {P : Type 0} (xs : List A) (n : ℕ) → P ⊎ Contains (take (length xs - n) (drop n xs)) y → P ⊎ Contains (drop n xs) y
+behind_too {y = y} xs n (inl before) = inl before
+behind_too {y = y} xs n (inr behind) = inr (subst (λ l. Contains l y) (rest_is xs n) behind)
+
+-- a pair more, in front
+all_pairs_cons : {A : Type 0} (R : A → A → Type 0) (xs : List A) (x : A) → AllPairs R xs → ((y : A) → Contains xs y → R x y) → AllPairs R (x ∷ xs)
+all_pairs_cons R xs x pairs each zero zero d below inside = absurd (omega arith)
+all_pairs_cons R xs x pairs each zero (suc j) d below inside = each (get_or xs j d) (Contains-get_or xs j d (omega arith))
+all_pairs_cons R xs x pairs each (suc i) zero d below inside = absurd (omega arith)
+all_pairs_cons R xs x pairs each (suc i) (suc j) d below inside = pairs i j d (omega arith) (omega arith)
 
 module _ {S P : Type 0} (observes : Call → Bool) (pending : List Open) where
   -- of the members, `rest` are still to be looked at
@@ -94,7 +117,7 @@ module _ {S P : Type 0} (observes : Call → Bool) (pending : List Open) where
           | inr in_kept ↦ (c.0, inr in_kept, c.2)
         ]
 
-    pub pruning_keep : (now : List (Member S × P)) → now ≡ kept ++ m ∷ []
+    pub pruning_keep : (now : List (Member S × P)) → now ≡ m ∷ kept
         → ((k : Member S × P) → Contains rest k → IsAbove observes pending k.0 m.0 → ⊥) → ((k : Member S × P) → Contains kept k → IsAbove observes pending k.0 m.0 → ⊥) → IsPruning members rest now
     pruning_keep now pushed below_rest below_kept = record {
       from_rest = λ n within. h.from_rest n (in_more n within);
@@ -108,21 +131,27 @@ module _ {S P : Type 0} (observes : Call → Bool) (pending : List Open) where
         | inr same ↦ subst (λ o. IsAbove observes pending b.0 o.0 → ⊥) same (below_rest b in_rest)
       ];
       apart = subst (AllPairs (λ a b. (IsAbove observes pending a.0 b.0 → ⊥) × (IsAbove observes pending b.0 a.0 → ⊥))) (sym pushed)
-          (all_pairs_push (λ (a : Member S × P) (b : Member S × P). (IsAbove observes pending a.0 b.0 → ⊥) × (IsAbove observes pending b.0 a.0 → ⊥)) kept m h.apart
-          (λ k d inside. let there = Contains-get_or kept k d inside in (below_kept (get_or kept k d) there, h.across (get_or kept k d) m there this)));
+          (all_pairs_cons (λ (a : Member S × P) (b : Member S × P). (IsAbove observes pending a.0 b.0 → ⊥) × (IsAbove observes pending b.0 a.0 → ⊥)) kept m h.apart
+          (λ k there. (h.across k m there this, below_kept k there)));
     }
       where
         cases : (n : Member S × P) → Contains now n → Contains kept n ⊎ (m ≡ n)
-        cases n within = Contains-push_cases kept m n (subst (λ l. Contains l n) pushed within)
+        cases n within = elim (Contains-append_cases (m ∷ []) kept n (subst (λ l. Contains l n) pushed within)) [
+          | inl first ↦ elim (Contains-push_cases [] m n first) [
+            | inl none ↦ absurd (let inside = none.1 in omega arith)
+            | inr same ↦ inr same
+          ]
+          | inr before ↦ inl before
+        ]
 
         kept_still : (n : Member S × P) → Contains kept n → Contains now n
-        kept_still n within = subst (λ l. Contains l n) (sym pushed) (Contains-append_left kept (m ∷ []) n within)
+        kept_still n within = subst (λ l. Contains l n) (sym pushed) (Contains-append_right (m ∷ []) kept n within)
 
         by : (n : Member S × P) → ((o : Member S × P) × (Contains more o ⊎ Contains kept o) × IsAbove observes pending o.0 n.0) → (o : Member S × P) × (Contains rest o ⊎ Contains now o) × IsAbove observes pending o.0 n.0
         by n c = elim c.1 [
           | inl in_more' ↦ elim (Contains-push_cases rest m c.0 (subst (λ l. Contains l c.0) popped in_more')) [
             | inl in_rest ↦ (c.0, inl in_rest, c.2)
-            | inr same ↦ (c.0, inr (subst (λ o. Contains now o) same (subst (λ l. Contains l m) (sym pushed) (Contains-push kept m))), c.2)
+            | inr same ↦ (c.0, inr (subst (λ o. Contains now o) same (subst (λ l. Contains l m) (sym pushed) (Contains-append_left (m ∷ []) kept m (Contains-push [] m)))), c.2)
           ]
           | inr in_kept ↦ (c.0, inr (kept_still c.0 in_kept), c.2)
         ]
@@ -136,3 +165,41 @@ module _ {S P : Type 0} (observes : Call → Bool) (pending : List Open) where
     ];
     apart = h.apart;
   }
+
+  -- the same for a list that is looked at from its end: what is left of it lies before a place, and what is kept behind that
+  abbrev pub IsPrunedFrom : List (Member S × P) → ℕ → List (Member S × P) → Type 0
+  IsPrunedFrom members at now = IsPruning members (take at now) (drop at now)
+
+  pub from_end : (members : List (Member S × P)) → IsPrunedFrom members (length members) members
+  from_end members = subst (λ l. IsPruning members l (drop (length members) members)) (sym (take_all (length members) members (omega arith))) (pruning_start members (drop (length members) members) (drop_all (length members) members (omega arith)))
+
+  module _ (members now : List (Member S × P)) (at : ℕ) (m : Member S × P) (inside : at < length now) (is : m ≡ get_or now at m) (h : IsPrunedFrom members (at + 1) now) where
+    popped : take (at + 1) now ≡ take at now ++ m ∷ []
+    popped = take_more now at m inside ∙ ap (λ k. take at now ++ k ∷ []) (sym is)
+
+    pub from_dropped : (k : Member S × P) → Contains (take at now) k ⊎ Contains (drop (at + 1) now) k → IsAbove observes pending k.0 m.0 → (then' : List (Member S × P)) → then' ≡ take at now ++ drop (at + 1) now
+        → IsPrunedFrom members at then'
+    from_dropped k there above then' removed =
+        subst (λ l. IsPruning members l (drop at then')) (sym before) (subst (λ l. IsPruning members (take at now) l) (sym behind)
+        (pruning_drop members (take (at + 1) now) (take at now) (drop (at + 1) now) m popped h k there above))
+      where
+        len : length (take at now) ≡ at
+        len = length-take-le at now (omega (arith, inside))
+
+        before : take at then' ≡ take at now
+        before = ap (take at) removed ∙ ap (λ n. take n (take at now ++ drop (at + 1) now)) (sym len) ∙ take-append_seam (take at now) (drop (at + 1) now)
+
+        behind : drop at then' ≡ drop (at + 1) now
+        behind = ap (drop at) removed ∙ ap (λ n. drop n (take at now ++ drop (at + 1) now)) (sym len) ∙ drop-append_seam (take at now) (drop (at + 1) now)
+
+    pub from_kept_too : ((k : Member S × P) → Contains (take at now) k → IsAbove observes pending k.0 m.0 → ⊥) → ((k : Member S × P) → Contains (drop (at + 1) now) k → IsAbove observes pending k.0 m.0 → ⊥)
+        → IsPrunedFrom members at now
+    from_kept_too below_rest below_kept =
+        pruning_keep members (take (at + 1) now) (take at now) (drop (at + 1) now) m popped h (drop at now)
+        (drop-cons now at m inside ∙ ap (λ k. k ∷ drop (suc at) now) (sym is) ∙ ap (λ n. m ∷ drop n now) next) below_rest below_kept
+      where
+        next : suc at ≡ at + 1
+        next = omega arith
+
+  pub from_start : (members now : List (Member S × P)) → IsPrunedFrom members 0 now → IsPruned observes pending members now
+  from_start members now h = pruning_end members (take 0 now) now refl h

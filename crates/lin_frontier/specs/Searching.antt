@@ -200,9 +200,9 @@ abbrev pub IsMadeOne : {B : Type 0} → Type 0 → B → List B → List B → T
 IsMadeOne P y old now = (P × (now ≡ old ++ y ∷ [])) ⊎ ((P → ⊥) × (now ≡ old))
 
 -- what an ok makes of members: those that placed the operation with the reply, without it, and what a search for the reply finds from the others
-pub record IsReturnOf {S : Type 0} (step : S → Call → S → Reply → Type 0) (observes : Call → Bool) (operation : Open) (reply : Reply) (before pending : List Open) (nodes : List (ℕ × (Placed × Option ℕ))) (members out : List (Member S × Path)) : Type 0 where
+pub record IsReturnOf {S : Type 0} (step : S → Call → S → Reply → Type 0) (observes : Call → Bool) (operation : Open) (reply : Reply) (pending : List Open) (nodes : List (ℕ × (Placed × Option ℕ))) (members out : List (Member S × Path)) : Type 0 where
   pub starts : List (Member S × Path)
-  pub begun : IsMade (λ m. IsAbsent operation.process m.0.placed) (copy_of observes before) members starts
+  pub begun : IsMade (λ m. IsAbsent operation.process m.0.placed) (λ m. m) members starts
   pub found : List (Member S × Path)
   pub searched : IsSearchOf step observes operation reply pending nodes starts found
   pub made : List (Member S × Path)
@@ -214,7 +214,7 @@ abbrev pub IsNextOf : {S : Type 0} → (S → Call → S → Reply → Type 0) �
 IsNextOf step observes process (Invoke call) before pending nodes members out = IsMade (λ m. Unit {0}) (copy_of observes pending) members out
 IsNextOf step observes process (Info name) before pending nodes members out = IsMade (λ m. Unit {0}) (copy_of observes pending) members out
 IsNextOf step observes process (Fail name) before pending nodes members out = IsMade (λ m. IsAbsent process m.0.placed) (copy_of observes pending) members out
-IsNextOf step observes process (Ok name reply) before pending nodes members out = (o : Open) × Contains before o × (o.process ≡ process) × IsReturnOf step observes o reply before pending nodes members out
+IsNextOf step observes process (Ok name reply) before pending nodes members out = (o : Open) × Contains before o × (o.process ≡ process) × IsReturnOf step observes o reply pending nodes members out
 
 -- an ok is of an operation that is open before
 abbrev pub CompletesOpen : Event → List Open → Type 0

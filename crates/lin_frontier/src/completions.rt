@@ -1,5 +1,5 @@
 //! What members lead to when an operation completes: the ways of placing open updates until it can have its reply.
-ghost use Rattle.std.specs.Prelude.{◌≡◌, ◌⊎◌, if◌then◌else◌, ◌∷◌, ◌++◌, ◌+◌, ◌*◌, [], ℕ, true, false, length, Contains, IfOk, IfSome, IfNone, OnOk};
+ghost use Rattle.std.specs.Prelude.{◌≡◌, ◌⊎◌, if◌then◌else◌, ◌∷◌, ◌++◌, ◌+◌, ◌*◌, [], ℕ, true, false, length, map, Contains, IfOk, IfSome, IfNone, OnOk};
 ghost use Rattle.lin_history.specs.declared.calls.Reply.{Reply as ReplyOf};
 ghost use Rattle.lin_frontier.specs.Members.{Member as MemberOf};
 ghost use Rattle.lin_frontier.specs.declared.members.Path.{Path as PathOf};
@@ -9,7 +9,7 @@ ghost use Rattle.lin_frontier.specs.Searching.{AreBehind, PlacesIfUpdate, Places
 ghost use Rattle.lin_frontier.specs.Walks.{IsTriedAtMost};
 
 use crate::configs::Config;
-use crate::domination::is_dominated;
+use crate::domination::{is_dominated, is_start_dominated};
 use crate::members::{Member, Path, advanced, answered, placed_at};
 use crate::offers::Offers;
 use crate::pending::Open;
@@ -47,7 +47,7 @@ pub fn push_member<S: Eq + Hash + Drop>(
 }
 
 /// Puts the value last, if it is wanted.
-fn push_if<S: Drop>(values: &mut Vec<S>, value: S, is_wanted: bool) -> Result<(), OutOfMemory>
+pub fn push_if<S: Drop>(values: &mut Vec<S>, value: S, is_wanted: bool) -> Result<(), OutOfMemory>
     ensures { OnOk result (values.new.items ≡ (if is_wanted then values.old.items ++ value ∷ [] else values.old.items)) }
 {
     if is_wanted {
@@ -118,21 +118,26 @@ impl<'a, O: SeqObject> Completion<'a, O> {
         Ok(out)
     }
 
-    /// Takes in what no visited member dominates.
+    /// Takes in what neither a start nor a visited member dominates.
     fn visit(
         &self,
         alloc: Global,
         path: Path,
         next: Vec<(Config<O::State>, Placed)>,
         offers: &Offers,
+        starts: &[&Member<O::State>],
         visited: &mut Vec<Member<O::State>>,
         nodes: &mut RoundNodes,
     ) -> Result<(), OutOfMemory>
         ensures grown { IsGrown nodes.old nodes.new }
-        ensures visited { OnOk result (IsVisiting (O.observing self.now.object.now) self.now.pending.now next.items offers.now path nodes.new visited.old.items visited.new.items) }
+        ensures visited { OnOk result (IsVisiting (O.observing self.now.object.now) self.now.pending.now next.items offers.now path nodes.new
+            (map (λ m. m.now) starts.now ++ visited.old.items) (map (λ m. m.now) starts.now ++ visited.new.items)) }
     {
         let mut rest = next;
         while let Some((config, placed)) = rest.pop() {
+            if is_start_dominated(self.object, self.pending, starts, &config, offers) {
+                continue;
+            }
             if is_dominated(self.object, self.pending, visited, &config, offers) {
                 continue;
             }
@@ -310,15 +315,17 @@ impl<'a, O: SeqObject> Completion<'a, O> {
         alloc: Global,
         path: Path,
         found: Option<Found<O>>,
+        starts: &[&Member<O::State>],
         visited: &mut Vec<Member<O::State>>,
         nodes: &mut RoundNodes,
     ) -> Result<(), OutOfMemory>
         ensures grown { IsGrown nodes.old nodes.new }
         ensures none { OnOk result (IfNone found ((visited.new.items ≡ visited.old.items) × (nodes.new ≡ nodes.old))) }
-        ensures some { OnOk result (IfSome found (λ f. IsVisiting (O.observing self.now.object.now) self.now.pending.now f.0.items f.1 path nodes.new visited.old.items visited.new.items)) }
+        ensures some { OnOk result (IfSome found (λ f. IsVisiting (O.observing self.now.object.now) self.now.pending.now f.0.items f.1 path nodes.new
+            (map (λ m. m.now) starts.now ++ visited.old.items) (map (λ m. m.now) starts.now ++ visited.new.items))) }
     {
         if let Some((next, offers)) = found {
-            self.visit(alloc, path, next, &offers, visited, nodes)?;
+            self.visit(alloc, path, next, &offers, starts, visited, nodes)?;
         }
         Ok(())
     }
@@ -328,25 +335,35 @@ impl<'a, O: SeqObject> Completion<'a, O> {
     pub fn search(
         &self,
         alloc: Global,
-        starts: Vec<Member<O::State>>,
+        starts: &[&Member<O::State>],
         limit: usize,
         nodes: &mut RoundNodes,
         meter: &mut Meter,
     ) -> Result<Option<Vec<Member<O::State>>>, OutOfMemory>
         ensures grown { IsGrown nodes.old nodes.new }
-        ensures found { IfOk result (λ found. IfSome found (λ out. IsSearchOf (O.step self.now.object.now) (O.observing self.now.object.now) self.now.operation.now self.now.reply.now self.now.pending.now nodes.new starts.items out.items)) }
+        ensures found { IfOk result (λ found. IfSome found (λ out. IsSearchOf (O.step self.now.object.now) (O.observing self.now.object.now) self.now.operation.now self.now.reply.now self.now.pending.now nodes.new (map (λ m. m.now) starts.now) out.items)) }
         ensures tried { IsTriedAtMost (limit * (2 * length self.now.pending.now + 1)) meter.old meter.new }
     {
-        let mut visited = starts;
+        if starts.len() > limit {
+            return Ok(None);
+        }
+        let mut visited = Vec::new(alloc);
         let mut out = Vec::new(alloc);
+        for start in starts {
+            let path = start.path();
+            let found = self.work_off(alloc, start, &mut out, nodes, meter)?;
+            self.visit_found(alloc, path, found, starts, &mut visited, nodes)?;
+        }
+        let mut tried = starts.len();
         let mut at = 0;
         while let Some(member) = visited.get(at) {
-            if at >= limit {
+            if tried >= limit {
                 return Ok(None);
             }
             let path = member.path();
             let found = self.work_off(alloc, member, &mut out, nodes, meter)?;
-            self.visit_found(alloc, path, found, &mut visited, nodes)?;
+            self.visit_found(alloc, path, found, starts, &mut visited, nodes)?;
+            tried += 1;
             at += 1;
         }
         Ok(Some(out))

@@ -1,5 +1,5 @@
 //! Compressed frontiers: few members that stand for all configurations of a history that has one object.
-ghost use Rattle.std.specs.Prelude.{◌≡◌, ◌⊎◌, ◌∷◌, ◌++◌, ◌+◌, ◌*◌, ◌<◌, ◌≤◌, [], ℕ, ℤ, Bool, List, length, Contains, IfOk, IfSome, IfNone, OnOk, OnErr, Some, slice_get};
+ghost use Rattle.std.specs.Prelude.{◌≡◌, ◌⊎◌, ◌∷◌, ◌++◌, ◌+◌, ◌*◌, ◌<◌, ◌≤◌, [], ℕ, ℤ, Bool, List, length, map, Contains, IfOk, IfSome, IfNone, OnOk, OnErr, Some, slice_get};
 ghost use Rattle.lin_history.specs.declared.calls.Name.{Name as NameOf};
 ghost use Rattle.lin_history.specs.declared.calls.Reply.{Reply as ReplyOf};
 ghost use Rattle.lin_history.specs.declared.events.Body.{Body as BodyOf};
@@ -16,7 +16,7 @@ ghost use Rattle.lin_frontier.specs.Placing.{IsAbsent};
 ghost use Rattle.lin_frontier.specs.Searching.{copy_of, rest_of, CompletesOpen, IsMade, IsMadeOne, IsNextOf, IsReturnOf};
 ghost use Rattle.lin_frontier.specs.Walks.{IsTriedAtMost};
 
-use crate::completions::{Completion, push_member};
+use crate::completions::{Completion, push_if, push_member};
 use crate::configs::{is_absent, is_placed};
 use crate::domination::pruned;
 use crate::member_laws::{
@@ -35,6 +35,7 @@ use lin_history::{
 use lin_objects::SeqObject;
 use lin_order::legal_orders_end;
 use std::alloc::Global;
+use std::hash::Hash;
 use std::marker::Model;
 
 /// Members that lead to all configurations after some events of an object, up to crashed operations.
@@ -73,7 +74,7 @@ fn all_copied<O: SeqObject>(
 ) -> Result<Vec<Member<O::State>>, OutOfMemory>
     ensures { IfOk result (λ out. IsMade (λ m. Unit {0}) (copy_of (O.observing object.now) pending.now) members.now out.items) }
 {
-    let mut out = Vec::new(alloc);
+    let mut out = Vec::with_capacity(alloc, members.len())?;
     for member in members {
         push_member(&mut out, copied(object, alloc, pending, member)?)?;
     }
@@ -112,6 +113,21 @@ fn all_absent<O: SeqObject>(
     let mut out = Vec::new(alloc);
     for member in members {
         push_absent(object, alloc, pending, member, process, &mut out)?;
+    }
+    Ok(out)
+}
+
+/// The members in which the operation of the process has no place.
+fn absent_ones<'m, S: Eq + Hash + Drop>(
+    alloc: Global,
+    members: &'m [Member<S>],
+    process: u64,
+) -> Result<Vec<&'m Member<S>>, OutOfMemory>
+    ensures { IfOk result (λ out. IsMade (λ m. IsAbsent process m.0.placed) (λ m. m) members.now (map (λ m. m.now) out.items)) }
+{
+    let mut out = Vec::with_capacity(alloc, members.len())?;
+    for member in members {
+        push_if(&mut out, member, is_absent(member.placed(), process))?;
     }
     Ok(out)
 }
@@ -160,18 +176,17 @@ fn after_ok<O: SeqObject>(
     completion: &Completion<O>,
     alloc: Global,
     members: &[Member<O::State>],
-    before: &[Open],
     limit: usize,
     nodes: &mut RoundNodes,
     meter: &mut Meter,
 ) -> Result<Option<Vec<Member<O::State>>>, OutOfMemory>
     ensures grown { IsGrown nodes.old nodes.new }
-    ensures next { IfOk result (λ found. IfSome found (λ out. IsReturnOf (O.step completion.now.object.now) (O.observing completion.now.object.now) completion.now.operation.now completion.now.reply.now before.now completion.now.pending.now nodes.new members.now out.items)) }
+    ensures next { IfOk result (λ found. IfSome found (λ out. IsReturnOf (O.step completion.now.object.now) (O.observing completion.now.object.now) completion.now.operation.now completion.now.reply.now completion.now.pending.now nodes.new members.now out.items)) }
     ensures tried { IsTriedAtMost (limit * (2 * length completion.now.pending.now + 1)) meter.old meter.new }
 {
     let process = completion.operation.process;
-    let starts = all_absent(completion.object, alloc, before, members, process)?;
-    let Some(mut found) = completion.search(alloc, starts, limit, nodes, meter)? else {
+    let starts = absent_ones(alloc, members, process)?;
+    let Some(mut found) = completion.search(alloc, &starts, limit, nodes, meter)? else {
         return Ok(None);
     };
     push_all_taken_out(
@@ -218,7 +233,7 @@ fn next_members<O: SeqObject>(
                 reply,
                 pending,
             };
-            after_ok(&completion, alloc, members, before, limit, nodes, meter)
+            after_ok(&completion, alloc, members, limit, nodes, meter)
         }
     }
 }
@@ -227,7 +242,7 @@ fn next_members<O: SeqObject>(
 fn copies(alloc: Global, pending: &[Open]) -> Result<Vec<Open>, OutOfMemory>
     ensures { IfOk result (λ copies. copies.items ≡ pending.now) }
 {
-    let mut copies = Vec::new(alloc);
+    let mut copies = Vec::with_capacity(alloc, pending.len())?;
     for operation in pending {
         let copy = Open {
             process: operation.process,
@@ -292,8 +307,7 @@ fn advanced<O: SeqObject>(
     else {
         return Ok(None);
     };
-    let kept = pruned(object, alloc, &pending, found)?;
-    Ok(Some(kept))
+    Ok(Some(pruned(object, &pending, found)))
 }
 
 impl<O: SeqObject> Compressed<O> {

@@ -19,7 +19,7 @@ use std::marker::Model;
 #[derive(Drop)]
 pub struct Config<S: Eq + Hash> {
     state: S,
-    placed: SmallVec<(u64, Reply), 4>,
+    placed: SmallVec<(u64, Reply), 2>,
 }
 
 impl<S: Eq + Hash> Model for Config<S> {
@@ -60,7 +60,7 @@ impl<S: Eq + Hash> Config<S> {
 /// Puts a copy of the pair last.
 fn append_pair(
     alloc: Global,
-    copy: &mut SmallVec<(u64, Reply), 4>,
+    copy: &mut SmallVec<(u64, Reply), 2>,
     pair: &(u64, Reply),
 ) -> Result<(), OutOfMemory>
     ensures { OnOk result (copy.new.items ≡ copy.old.items ++ pair.now ∷ []) }
@@ -74,7 +74,7 @@ fn append_pair(
 /// Puts copies of the pairs last.
 fn append_pairs(
     alloc: Global,
-    copy: &mut SmallVec<(u64, Reply), 4>,
+    copy: &mut SmallVec<(u64, Reply), 2>,
     pairs: &[(u64, Reply)],
 ) -> Result<(), OutOfMemory>
     ensures { OnOk result (copy.new.items ≡ copy.old.items ++ pairs.now) }

@@ -1,5 +1,5 @@
 //! When one member leads to all that another leads to.
-ghost use Rattle.std.specs.Prelude.{◌≡◌, ◌⊎◌, ℕ, true, All, AllPairs, Contains, IfOk, IsTrue, ◌↔◌};
+ghost use Rattle.std.specs.Prelude.{◌≡◌, ◌⊎◌, ℕ, true, All, Contains, IsTrue, map, take, drop, vec_len, ◌↔◌, ◌<◌, ◌+◌, ◌++◌};
 ghost use Rattle.lin_history.specs.declared.calls.Reply.{Reply as ReplyOf};
 ghost use Rattle.lin_frontier.specs.Members.{Member as MemberOf, IsOnOffer};
 ghost use Rattle.lin_frontier.specs.declared.members.Path.{Path as PathOf};
@@ -10,9 +10,9 @@ use crate::configs::{Config, is_absent, is_placed};
 use crate::members::Member;
 use crate::offers::{Offers, is_crashed, is_watching};
 use crate::pending::Open;
-use lin_history::{OutOfMemory, Reply};
+use lin_history::Reply;
 use lin_objects::SeqObject;
-use std::alloc::Global;
+use std::hash::Hash;
 
 /// Whether each of the pairs is among the others.
 fn is_part(pairs: &[(u64, Reply)], others: &[(u64, Reply)]) -> bool
@@ -132,6 +132,24 @@ pub fn is_dominated<O: SeqObject>(
     false
 }
 
+/// Whether one of the members dominates; they are told where they stand.
+pub fn is_start_dominated<O: SeqObject>(
+    object: &O,
+    pending: &[Open],
+    members: &[&Member<O::State>],
+    config: &Config<O::State>,
+    offers: &Offers,
+) -> bool
+    ensures { result ≡ true → (m : MemberOf O.State × PathOf) × Contains (map (λ m. m.now) members.now) m × DominatesIn (O.observing object.now) pending.now m.0 config.now.0 config.now.1 offers.now }
+{
+    for member in members {
+        if dominates(object, pending, member, config, offers) {
+            return true;
+        }
+    }
+    false
+}
+
 /// Whether one of the others dominates the member.
 fn is_below<O: SeqObject>(
     object: &O,
@@ -148,25 +166,36 @@ fn is_below<O: SeqObject>(
     is_dominated(object, pending, kept, member.config(), member.offers())
 }
 
+/// Takes the member at the place out.
+fn take_out<S: Eq + Hash + Drop>(members: &mut Vec<Member<S>>, at: usize)
+    requires { at < vec_len members.old }
+    ensures { members.new.items ≡ take at members.old.items ++ drop (at + 1) members.old.items }
+{
+    members.remove(at);
+}
+
 /// The members of which no other one dominates any.
 pub fn pruned<O: SeqObject>(
     object: &O,
-    alloc: Global,
     pending: &[Open],
     members: Vec<Member<O::State>>,
-) -> Result<Vec<Member<O::State>>, OutOfMemory>
-    ensures { IfOk result (λ kept. IsPruned (O.observing object.now) pending.now members.items kept.items) }
+) -> Vec<Member<O::State>>
+    ensures { IsPruned (O.observing object.now) pending.now members.items result.items }
 {
-    let mut rest = members;
-    let mut kept: Vec<Member<O::State>> = Vec::new(alloc);
-    while let Some(member) = rest.pop() {
-        if is_below(object, pending, &rest, &kept, &member) {
-            continue;
-        }
-        match kept.push(member) {
-            Ok(()) => {}
-            Err(_) => return Err(OutOfMemory),
+    let mut kept = members;
+    let mut at = kept.len();
+    while at > 0 {
+        at -= 1;
+        let members = kept.as_slice();
+        if is_below(
+            object,
+            pending,
+            &members[..at],
+            &members[at + 1..],
+            &members[at],
+        ) {
+            take_out(&mut kept, at);
         }
     }
-    Ok(kept)
+    kept
 }

@@ -16,7 +16,7 @@ use std::marker::Model;
 /// to its pending call.
 #[derive(Drop)]
 pub struct Offers {
-    items: SmallVec<(usize, (u64, Reply)), 4>,
+    items: SmallVec<(usize, (u64, Reply)), 2>,
 }
 
 impl Model for Offers {

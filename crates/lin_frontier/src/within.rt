@@ -117,7 +117,7 @@ fn after_listing<O: SeqObject>(
         reply,
         &mut found,
     )?;
-    pruned(object, alloc, &after, found)
+    Ok(pruned(object, &after, found))
 }
 
 impl<O: SeqObject> Compressed<O> {

@@ -1,21 +1,39 @@
-use Rattle.std.proofs.Common.{sym, ◌∙◌, inl, inr, true≢false}
-use Rattle.lin_frontier.proofs.Undominated.{pruning_start, pruning_drop, pruning_keep, pruning_end}
+use Rattle.std.proofs.Common.{sym, subst, inl, inr, arith, length, Contains, ◌∙◌, ◌-◌, ◌+◌, ◌<◌, ◌≡◌, true≢false}
+use Rattle.lin_frontier.proofs.Undominated.{IsPrunedFrom, from_end, from_dropped, from_kept_too, from_start, behind_too, rest_is, shorter}
 use Rattle.lin_frontier.proofs.domination.pruned.Goals as goal
 
-pub loop-member-init : goal.loop-member-init
-loop-member-init g c = pruning_start _ _ _ _ c.new-kept.ensures.items
+pub loop-at-init : goal.loop-at-init
+loop-at-init g c = record {
+  within = omega (arith, c.len-at.ensures);
+  pruned = subst (λ n. IsPrunedFrom (g.O.SeqObject.observing c.args.object.now) c.args.pending.now c.args.members.items n c.args.members.items) (sym (c.len-at.ensures ∙ c.args.members.ok.0)) (from_end _ _ c.args.members.items);
+}
 
-pub loop-member-preserved-then-is_below : goal.loop-member-preserved-then-is_below
-loop-member-preserved-then-is_below g c =
-    let found = (rw (c.deref.ensures.value, c.deref-in-Some.ensures.value) at c.is_below.ensures).0 c.if-is_below.true in
-    pruning_drop _ _ _ c.loop-member.rest.items c.pop.new.self.items c.loop-member.kept.items c.in-Some.member c.in-Some.ensures.items c.loop-member.invariant found.0 found.1 found.2
+pub loop-at-preserved-then-is_below : goal.loop-at-preserved-then-is_below
+loop-at-preserved-then-is_below g c =
+    let at = c.loop-at.at - 1 in
+    let next : c.loop-at.at ≡ at + 1 = omega (arith, c.loop-at-test.true) in
+    let found = (rw c.as_slice-members.ensures.value at c.is_below.ensures).0 c.if-is_below.true in
+    let before = subst (λ n. IsPrunedFrom (g.O.SeqObject.observing c.args.object.now) c.args.pending.now c.args.members.items n c.loop-at.kept.items) next c.loop-at.invariant.pruned in
+    let inside : at < length c.loop-at.kept.items = omega (arith, c.loop-at.invariant.within, c.loop-at-test.true) in
+    record {
+      within = shorter c.loop-at.kept.items c.take_out.new.members.items at inside c.take_out.ensures;
+      pruned = from_dropped _ _ c.args.members.items c.loop-at.kept.items at c.index-members-at.result inside (rw c.as_slice-members.ensures.value at c.index-members-at.is) before found.0 (behind_too c.loop-at.kept.items (at + 1) found.1) found.2 c.take_out.new.members.items c.take_out.ensures;
+    }
 
-pub loop-member-preserved : goal.loop-member-preserved
-loop-member-preserved g c =
-    let never = (rw (c.deref.ensures.value, c.deref-in-Some.ensures.value) at c.is_below.ensures).1 in
-    pruning_keep _ _ _ c.loop-member.rest.items c.pop.new.self.items c.loop-member.kept.items c.in-Some.member c.in-Some.ensures.items c.loop-member.invariant c.push.new.self.items c.in-Ok.ensures.items
-    (λ k there above. true≢false (sym (never (k, inl there, above)) ∙ c.if-is_below.false))
-    (λ k there above. true≢false (sym (never (k, inr there, above)) ∙ c.if-is_below.false))
+pub loop-at-preserved : goal.loop-at-preserved
+loop-at-preserved g c =
+    let at = c.loop-at.at - 1 in
+    let next : c.loop-at.at ≡ at + 1 = omega (arith, c.loop-at-test.true) in
+    let never = (rw c.as_slice-members.ensures.value at c.is_below.ensures).1 in
+    let before = subst (λ n. IsPrunedFrom (g.O.SeqObject.observing c.args.object.now) c.args.pending.now c.args.members.items n c.loop-at.kept.items) next c.loop-at.invariant.pruned in
+    record {
+      within = omega (arith, c.loop-at.invariant.within);
+      pruned = from_kept_too _ _ c.args.members.items c.loop-at.kept.items at c.index-members-at.result (omega (arith, c.loop-at.invariant.within, c.loop-at-test.true)) (rw c.as_slice-members.ensures.value at c.index-members-at.is) before
+          (λ k there above. true≢false (sym (never (k, inl there, above)) ∙ c.if-is_below.false)) (λ k there above. true≢false (sym (never (k, inr (subst (λ l. Contains l k) (sym (rest_is c.loop-at.kept.items (at + 1))) there), above)) ∙ c.if-is_below.false));
+    }
 
 pub returns : goal.returns
-returns g c = pruning_end _ _ _ c.loop-member.rest.items c.loop-member.kept.items (sym c.loop-member.rest.ok.0 ∙ c.in_default.ensures.cases.0) c.loop-member.invariant
+returns g c =
+    let none : c.loop-at.at ≡ 0 = omega (arith, c.loop-at-test.false) in
+    from_start _ _ c.args.members.items c.loop-at.kept.items
+    (subst (λ n. IsPrunedFrom (g.O.SeqObject.observing c.args.object.now) c.args.pending.now c.args.members.items n c.loop-at.kept.items) none c.loop-at.invariant.pruned)

@@ -1,9 +1,12 @@
-use Rattle.std.proofs.Common.{vec_len}
-use Rattle.lin_frontier.proofs.Undominated.{IsPruning}
+use Rattle.std.proofs.Common.{◌≤◌, length}
+use Rattle.lin_frontier.proofs.Undominated.{IsPrunedFrom}
 use Rattle.lin_frontier.proofs.domination.pruned.Given as goal
 
-abbrev pub invariant-loop-member : goal.invariant-loop-member
-invariant-loop-member g l = IsPruning (g.O.SeqObject.observing l.object) l.pending l.fn.members.items l.rest.items l.kept.items
+abbrev pub invariant-loop-at : goal.invariant-loop-at
+invariant-loop-at g l = record {
+  within : l.at ≤ length l.kept.items;
+  pruned : IsPrunedFrom (g.O.SeqObject.observing l.object) l.pending l.fn.members.items l.at l.kept.items;
+}
 
-abbrev pub decreases-loop-member : goal.decreases-loop-member
-decreases-loop-member g l = vec_len l.rest
+abbrev pub decreases-loop-at : goal.decreases-loop-at
+decreases-loop-at g l = l.at

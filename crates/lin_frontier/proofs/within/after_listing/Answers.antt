@@ -2,14 +2,12 @@ use Rattle.std.proofs.Common.{◌++◌, ◌∙◌, ap, sym, subst}
 use Rattle.lin_order.specs.ConfigurationLaws.{with_event}
 use Rattle.lin_frontier.specs.Compressed.{IsCovering}
 use Rattle.lin_frontier.specs.Frontiers.{IsPending}
-use Rattle.lin_frontier.proofs.Answered.{if_ok_weaker}
 use Rattle.lin_frontier.proofs.Compressing.{pruned_compressed}
 use Rattle.lin_frontier.proofs.FromListing.{listing_taken}
 use Rattle.lin_frontier.proofs.within.after_listing.Goals as goal
 
 pub returns : goal.returns
-returns g c =
-    if_ok_weaker _ _ (λ out pruned functions h next listing.
+returns g c functions h next listing =
     let begin = g.O.SeqObject.starts c.args.object.now in
     let step = g.O.SeqObject.step c.args.object.now in
     let observes = g.O.SeqObject.observing c.args.object.now in
@@ -21,5 +19,5 @@ returns g c =
     c.rounds_after_events.ensures.ok c.args.nodes.now c.args.list.now made.0 made.1 listing in
     let found_is = made.2 ∙ ap (λ l. l ++ made.0) c.new-found.ensures.items in
     pruned_compressed begin step observes c.well_formed_is_alternating.ensures c.ends_are_unique.ensures c.dominated_can_go.ensures.dropped functions after next.well_formed c.deref-2.result.now
-    (subst (IsPending after) (sym c.deref-2.ensures.value) opened) c.args.nodes.now c.push_all_taken_out.new.out.items out.items pruned
-    (subst (λ l. IsCovering begin step observes after l c.args.nodes.now) (sym found_is) covering)) c.pruned.result c.pruned.ensures
+    (subst (IsPending after) (sym c.deref-2.ensures.value) opened) c.args.nodes.now c.push_all_taken_out.new.out.items c.pruned.result.items c.pruned.ensures
+    (subst (λ l. IsCovering begin step observes after l c.args.nodes.now) (sym found_is) covering)
