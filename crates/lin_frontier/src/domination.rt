@@ -132,7 +132,7 @@ pub fn is_dominated<O: SeqObject>(
     false
 }
 
-/// Whether one of the members dominates; they are told where they stand.
+/// The same of members that stand somewhere else.
 pub fn is_start_dominated<O: SeqObject>(
     object: &O,
     pending: &[Open],
@@ -140,7 +140,7 @@ pub fn is_start_dominated<O: SeqObject>(
     config: &Config<O::State>,
     offers: &Offers,
 ) -> bool
-    ensures { result ≡ true → (m : MemberOf O.State × PathOf) × Contains (map (λ m. m.now) members.now) m × DominatesIn (O.observing object.now) pending.now m.0 config.now.0 config.now.1 offers.now }
+    ensures { IsTrue result ↔ ((m : MemberOf O.State × PathOf) × Contains (map (λ m. m.now) members.now) m × DominatesIn (O.observing object.now) pending.now m.0 config.now.0 config.now.1 offers.now) }
 {
     for member in members {
         if dominates(object, pending, member, config, offers) {

@@ -8,7 +8,7 @@ loop-config-init g c = taking_start _ _ _ _ _ _ _
 
 pub loop-config-preserved-then-is_start_dominated : goal.loop-config-preserved-then-is_start_dominated
 loop-config-preserved-then-is_start_dominated g c =
-    let found = c.is_start_dominated.ensures c.if-is_start_dominated.true in
+    let found = c.is_start_dominated.ensures.0 c.if-is_start_dominated.true in
     taking_skip _ _ _ _ _ _ _ c.loop-config.rest.items c.pop.new.self.items c.loop-config.nodes _ (c.in-Some.config, c.in-Some.placed) c.in-Some.ensures.items c.loop-config.invariant
     found.0 (Contains-append_left (map (λ m. m.now) c.args.starts.now) c.loop-config.visited.items found.0 found.1) found.2
 
