@@ -12,6 +12,7 @@ pub mod Fronts
 pub mod Later
 pub mod Limit
 pub mod Longer
+pub mod Nesting
 pub mod Only
 pub mod Order
 pub mod Rising

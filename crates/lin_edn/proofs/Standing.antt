@@ -90,7 +90,7 @@ text_stands s from until end lt begins h within before stops n =
     subst (λ w. Element n from (drop from s) (text_value from w) (until + 1) (drop (until + 1) s)) (sym (range_more s from until (omega arith) (omega arith)))
     (whole_text (subst (λ l. Text from (drop from s) (slice_range s from until) until l) (at_byte s until (omega arith)) whole) (ends_of (get_or s until 0) stops))
 
-hashes : (c : ℕ) → c ≡ 35 → class c ≡ hash
+pub hashes : (c : ℕ) → c ≡ 35 → class c ≡ hash
 hashes c h = rw h refl
 
 -- a tag directly in front of an element

@@ -12,6 +12,7 @@ ghost use Rattle.lin_edn.specs.declared.series.Series.{Series as TheSeries};
 
 mod found;
 mod levels;
+mod nested;
 mod reader;
 mod run;
 mod scan;
@@ -21,6 +22,7 @@ mod skim;
 mod tests;
 
 pub use crate::found::{run_until, tag_until, text_until, white_until};
+pub use crate::nested::nested_until;
 pub use crate::reader::window;
 pub use crate::run::{integer, run_element};
 pub use crate::series::{Inside, Series};

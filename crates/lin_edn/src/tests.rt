@@ -1,4 +1,4 @@
-use crate::{Edn, EdnCause, EdnFault, Inside, Next, Series, Skim, next_element};
+use crate::{Edn, EdnCause, EdnFault, Inside, Next, Series, Skim, nested_until, next_element};
 use std::alloc::{AllocError, Global};
 use std::test::Fail;
 
@@ -350,5 +350,51 @@ fn levels_within(rt: HostRuntime) -> Result<(), Fail> {
     assert!(rt; skims_in(alloc, deepest.as_slice()));
     let deeper = padded(alloc, b"[", b'(', 64, b"1")?;
     assert!(rt; !skims_in(alloc, deeper.as_slice()));
+    Ok(())
+}
+
+#[test]
+fn nested_values(rt: HostRuntime) -> Result<(), Fail> {
+    let alloc = rt.alloc();
+    let rows: [(&[u8], usize, usize); 20] = [
+        (b"[] ", 1, 2),
+        (b"[]", 0, 0),
+        (b"[[1 a] \"]\" [] ] 5", 2, 15),
+        (b"[[1 a] \"]\" [] ] 5", 1, 0),
+        (b"( #{1,[2]} )", 3, 12),
+        (b"( #{1,[2]} )", 2, 0),
+        (b"#{}", 1, 3),
+        (b"#{", 1, 0),
+        (b"#", 1, 0),
+        (b"nil ", 0, 3),
+        (b"nil", 0, 0),
+        (b"\"a\"", 0, 3),
+        (b"[1)", 1, 0),
+        (b"[1 [2] ", 9, 0),
+        (b"[1 #_ 2]", 9, 0),
+        (b"[#a [1]]", 9, 0),
+        (b"[\\a]", 9, 0),
+        (b"[1 ; 2\n]", 9, 0),
+        (b"]", 9, 0),
+        (b"", 9, 0),
+    ];
+    for (input, levels, until) in rows {
+        assert_eq!(rt; nested_until(input, 0, input.len(), levels), until);
+        if until > 0 {
+            assert_eq!(rt; answer(alloc, input), (COMPLETE, 0, until));
+        }
+    }
+    assert_eq!(rt; nested_until(b"[[1] [2]]", 0, 8, 2), 0);
+    assert_eq!(rt; nested_until(b"[[1] [2]]", 5, 9, 2), 8);
+    Ok(())
+}
+
+#[test]
+fn nested_levels(rt: HostRuntime) -> Result<(), Fail> {
+    let alloc = rt.alloc();
+    let deepest = padded(alloc, b"", b'[', 64, b"")?;
+    let deepest = padded(alloc, deepest.as_slice(), b']', 64, b"")?;
+    assert_eq!(rt; nested_until(deepest.as_slice(), 0, deepest.len(), 64), 128);
+    assert_eq!(rt; nested_until(deepest.as_slice(), 0, deepest.len(), 63), 0);
     Ok(())
 }

@@ -1,5 +1,5 @@
 -- Usual maps: the values that their bytes spell.
-use Rattle.std.proofs.Common.{◌≡◌, ℕ, suc, ℤ, ◌+◌, ◌<◌, ◌==◌, Bool, true, false, List, [], ◌∷◌, ◌++◌, Option, Some, None, codes, drop, drop-cons, length, get_or, option_map, append-nil, append_assoc, refl, sym, ap, subst, ◌∙◌, arith, if◌then◌else◌}
+use Rattle.std.proofs.Common.{◌≡◌, ℕ, suc, ℤ, ◌+◌, ◌-◌, ◌<◌, ◌==◌, Bool, true, false, List, [], ◌∷◌, ◌++◌, Option, Some, None, codes, drop, drop-cons, length, get_or, option_map, append-nil, append_assoc, refl, sym, ap, subst, ◌∙◌, arith, if◌then◌else◌}
 use Rattle.std.specs.Str.{bytes_eq}
 use Rattle.std.proofs.lemmas.Bool.Decides.{nat_tests}
 use Rattle.std.proofs.lemmas.Slice.Eq.{bytes_eq-Decides}
@@ -8,7 +8,7 @@ use Rattle.lin_edn.specs.Grammar.{One, one, Element, collection, bracket, Row, e
 use Rattle.lin_edn.specs.Run.{run_value, of_number, is_keyword, integer}
 use Rattle.lin_edn.specs.Value.{Value, nil, bool, int, keyword, atom, vector, map, no_values, value, entry, entries_of, pairs_from}
 use Rattle.lin_history.specs.Table.{bare, is_word, here, under, val_of, parts_of, body_of}
-use Rattle.lin_history.specs.Usual.{pair_view, in_turn, IsValueAt, IsPlaced, IsPut, IsAdded, IsUpTo, IsMapAt}
+use Rattle.lin_history.specs.Usual.{pair_view, in_turn, IsValueAt, IsPlaced, IsPut, IsAdded, IsIgnored, IsUpTo, IsMapAt}
 use Rattle.lin_history.specs.declared.calls.Val.{Val}
 use Rattle.lin_history.specs.declared.calls.Call.TheVariants as call
 use Rattle.lin_history.specs.declared.calls.Name.TheVariants.{Cas}
@@ -139,13 +139,23 @@ under_placed : (s : List ℕ) (x : List ℕ) (es : List (Value × Value)) (k v :
 under_placed s x es k v old new at until put placed here =
     subst (λ l. IsPlaced s l new) (sym (under_more x es k v)) (placed_more s (under x (entries_of es)) (is_word x k) old new at v until put placed here)
 
-pub entry_more : (s : List ℕ) (start from until at used : ℕ) (k v : Value) (old new : Places) → IsUpTo s start from old →
+-- the row of an entry more
+row_more : (s : List ℕ) (start from until at used levels : ℕ) (es : List (Value × Value)) (k v : Value) →
+    Row levels (start + 1) (drop (start + 1) s) (in_turn es) from (drop from s) → ((n : ℕ) → Element n from (drop from s) k until (drop until s)) →
+    ((n p : ℕ) (t : List ℕ) (vs : List Value) → Row n p t vs until (drop until s) → Row n p t vs at (drop at s)) →
+    Element levels at (drop at s) v used (drop used s) → Row levels (start + 1) (drop (start + 1) s) (in_turn (es ++ (k, v) ∷ [])) used (drop used s)
+row_more s start from until at used levels es k v row key whites here =
+    subst (λ l. Row levels (start + 1) (drop (start + 1) s) l used (drop used s)) (turn_more es k v)
+    (element (whites levels (start + 1) (drop (start + 1) s) (in_turn es ++ k ∷ []) (element row (key levels))) here)
+
+pub entry_more : (s : List ℕ) (start from until at used levels : ℕ) (k v : Value) (old new : Places) → 0 < levels → IsUpTo s start levels from old →
     ((n : ℕ) → Element n from (drop from s) k until (drop until s)) →
     ((n p : ℕ) (t : List ℕ) (vs : List Value) → Row n p t vs until (drop until s) → Row n p t vs at (drop at s)) →
-    IsValueAt s at v used → IsAdded old k at new → IsUpTo s start used new
-entry_more s start from until at used k v old new upto key whites here added =
+    IsValueAt s at v used → IsAdded old k at new → IsUpTo s start levels used new
+entry_more s start from until at used levels k v old new room upto key whites here added =
     let es = upto.0 in
-    let are = upto.1 in (
+    let are = upto.1 in
+    let one_less : suc (levels - 1) ≡ levels = omega arith in (
       es ++ (k, v) ∷ [],
       record {
         process = under_placed s (codes ":process") es k v old.process new.process at used added.process are.process here;
@@ -153,29 +163,57 @@ entry_more s start from until at used k v old new upto key whites here added =
         function = under_placed s (codes ":f") es k v old.function new.function at used added.function are.function here;
         values = under_placed s (codes ":value") es k v old.value new.value at used added.values are.values here;
       },
-      λ n. subst (λ l. Row (suc n) (start + 1) (drop (start + 1) s) l used (drop used s)) (turn_more es k v)
-          (element (whites (suc n) (start + 1) (drop (start + 1) s) (in_turn es ++ k ∷ []) (element (upto.2 n) (key (suc n)))) (here.1 n)),
+      row_more s start from until at used levels es k v upto.2 key whites (subst (λ n. Element n at (drop at s) v used (drop used s)) one_less (here.1 (levels - 1))),
     )
 
+-- an entry more whose key doesn't count
+not_here : (s : List ℕ) (x : List ℕ) (es : List (Value × Value)) (k v : Value) (o : Option ℕ) → is_word x k ≡ false →
+    IsPlaced s (under x (entries_of es)) o → IsPlaced s (under x (entries_of (es ++ (k, v) ∷ []))) o
+not_here s x es k v o other placed =
+    let none : here x k v ≡ [] = ap (λ b. if b then bare v ∷ [] else []) other in
+    subst (λ l. IsPlaced s l o) (sym (under_more x es k v ∙ ap (λ l. under x (entries_of es) ++ l) none ∙ append-nil (under x (entries_of es)))) placed
+
+pub ignored_more : (s : List ℕ) (start from until at used levels : ℕ) (k v : Value) (ps : Places) → IsUpTo s start levels from ps →
+    ((n : ℕ) → Element n from (drop from s) k until (drop until s)) →
+    ((n p : ℕ) (t : List ℕ) (vs : List Value) → Row n p t vs until (drop until s) → Row n p t vs at (drop at s)) →
+    Element levels at (drop at s) v used (drop used s) → IsIgnored k → IsUpTo s start levels used ps
+ignored_more s start from until at used levels k v ps upto key whites here other =
+    let es = upto.0 in
+    let are = upto.1 in (
+      es ++ (k, v) ∷ [],
+      record {
+        process = not_here s (codes ":process") es k v ps.process other.0 are.process;
+        types = not_here s (codes ":type") es k v ps.event_type other.1 are.types;
+        function = not_here s (codes ":f") es k v ps.function other.2 are.function;
+        values = not_here s (codes ":value") es k v ps.value other.3 are.values;
+      },
+      row_more s start from until at used levels es k v upto.2 key whites here,
+    )
+
+-- a run that is none of the four words
+pub ignored_run : (p : ℕ) (w : List ℕ) → bytes_eq w (codes ":process") ≡ false → bytes_eq w (codes ":type") ≡ false →
+    bytes_eq w (codes ":f") ≡ false → bytes_eq w (codes ":value") ≡ false → IsIgnored (run_value p w)
+ignored_run p w a b c d = (other_word (codes ":process") p w a, other_word (codes ":type") p w b, other_word (codes ":f") p w c, other_word (codes ":value") p w d)
+
 -- blanks more
-pub blanks_more : (s : List ℕ) (start from at : ℕ) (ps : Places) → IsUpTo s start from ps →
-    ((n p : ℕ) (t : List ℕ) (vs : List Value) → Row n p t vs from (drop from s) → Row n p t vs at (drop at s)) → IsUpTo s start at ps
-blanks_more s start from at ps upto whites = (upto.0, upto.1, λ n. whites (suc n) (start + 1) (drop (start + 1) s) (in_turn upto.0) (upto.2 n))
+pub blanks_more : (s : List ℕ) (start from at levels : ℕ) (ps : Places) → IsUpTo s start levels from ps →
+    ((n p : ℕ) (t : List ℕ) (vs : List Value) → Row n p t vs from (drop from s) → Row n p t vs at (drop at s)) → IsUpTo s start levels at ps
+blanks_more s start from at levels ps upto whites = (upto.0, upto.1, whites levels (start + 1) (drop (start + 1) s) (in_turn upto.0) upto.2)
 
 -- before the first entry
-pub none_yet : (s : List ℕ) (start : ℕ) → IsUpTo s start (start + 1) (record { process = None; event_type = None; function = None; value = None })
-none_yet s start = ([], record { process = refl; types = refl; function = refl; values = refl }, λ n. empty)
+pub none_yet : (s : List ℕ) (start levels : ℕ) → IsUpTo s start levels (start + 1) (record { process = None; event_type = None; function = None; value = None })
+none_yet s start levels = ([], record { process = refl; types = refl; function = refl; values = refl }, empty)
 
 opens_map : (c : ℕ) → c ≡ 123 → class c ≡ opener a_map
 opens_map c h = rw h refl
 
 -- behind the last entry
-pub map_closed : (s : List ℕ) (from at : ℕ) (ps : Places) → from < length s → get_or s from 0 ≡ 123 → at < length s → get_or s at 0 ≡ 125 →
-    IsUpTo s from at ps → IsMapAt s from ps (at + 1)
-map_closed s from at ps lt begins inside ends upto = (
+pub map_closed : (s : List ℕ) (from at levels : ℕ) (ps : Places) → from < length s → get_or s from 0 ≡ 123 → at < length s → get_or s at 0 ≡ 125 →
+    IsUpTo s from levels at ps → IsMapAt s from levels ps (at + 1)
+map_closed s from at levels ps lt begins inside ends upto = (
   entries_of upto.0,
   upto.1,
-  λ n. collection (bracket (one_at s from (opener a_map) lt (opens_map (get_or s from 0) begins)))
-      (subst (λ l. Row (suc n) (from + 1) (drop (from + 1) s) (in_turn upto.0) at l) (at_byte s at inside ∙ ap (λ c. c ∷ drop (at + 1) s) ends) (upto.2 n))
+  collection (bracket (one_at s from (opener a_map) lt (opens_map (get_or s from 0) begins)))
+      (subst (λ l. Row levels (from + 1) (drop (from + 1) s) (in_turn upto.0) at l) (at_byte s at inside ∙ ap (λ c. c ∷ drop (at + 1) s) ends) upto.2)
       (ap (option_map map) (turn_pairs upto.0)),
 )

@@ -38,28 +38,33 @@ waits_one (Ok u) o es fs ends put n = λ k vs v h told. waits_more k vs v es fs 
 waits_one (Err e) o es fs ends put n = tt
 
 -- a map with a tag or none says what it says without
-pub said_so : (k : Bool) (s : List ℕ) (from : ℕ) (taken : Taken) (t : IsTaken k s from taken) → event k t.value ≡ Ok taken.event
-said_so k s from taken t = ap (event_in k) t.is_map ∙ t.told
+pub said_so : (k : Bool) (s : List ℕ) (from levels : ℕ) (taken : Taken) (t : IsTaken k s from levels taken) → event k t.value ≡ Ok taken.event
+said_so k s from levels taken t = ap (event_in k) t.is_map ∙ t.told
 
 -- a map with a tag directly in front of it, or none
-abbrev pub IsTagged : List ℕ → ℕ → Entries → ℕ → Type 0
-IsTagged s at es used = (v : Value) × (bare v ≡ map es) × ((n : ℕ) → Element (suc (suc (suc n))) at (drop at s) v used (drop used s))
+abbrev pub IsTagged : List ℕ → ℕ → ℕ → Entries → ℕ → Type 0
+IsTagged s at levels es used = (v : Value) × (bare v ≡ map es) × Element levels at (drop at s) v used (drop used s)
 
-pub tagged_or_not : (s : List ℕ) (at begun used : ℕ) (es : Entries) → at ≤ begun →
+pub tagged_or_not : (s : List ℕ) (at begun used levels inside : ℕ) (es : Entries) → at ≤ begun →
+    (at < begun → suc (suc inside) ≡ levels) → (begun ≡ at → suc inside ≡ levels) →
     (at < begun → (n q : ℕ) (v : Value) (t : List ℕ) → Element n begun (drop begun s) v q t → Element (suc n) at (drop at s) (tagged (at + 1) (slice_range s (at + 1) begun) v) q t) →
-    ((n : ℕ) → Element (suc (suc n)) begun (drop begun s) (map es) used (drop used s)) → IsTagged s at es used
-tagged_or_not s at begun used es le tag e = elim (cases_lt at begun) [
-  | inl lt ↦ (tagged (at + 1) (slice_range s (at + 1) begun) (map es), refl, λ n. tag lt (suc (suc n)) used (map es) (drop used s) (e n))
+    Element (suc inside) begun (drop begun s) (map es) used (drop used s) → IsTagged s at levels es used
+tagged_or_not s at begun used levels inside es le two one tag e = elim (cases_lt at begun) [
+  | inl lt ↦ (
+      tagged (at + 1) (slice_range s (at + 1) begun) (map es),
+      refl,
+      subst (λ n. Element n at (drop at s) (tagged (at + 1) (slice_range s (at + 1) begun) (map es)) used (drop used s)) (two lt) (tag lt (suc inside) used (map es) (drop used s) e),
+    )
   | inr ge ↦
       let same : begun ≡ at = omega arith in
-      (map es, refl, λ n. subst (λ i. Element (suc (suc (suc n))) i (drop i s) (map es) used (drop used s)) same (e (suc n)))
+      (map es, refl, subst (λ n. Element n at (drop at s) (map es) used (drop used s)) (one same) (subst (λ i. Element (suc inside) i (drop i s) (map es) used (drop used s)) same e))
 ]
 
 -- the row up to the end of a usual map
-row_taken : (k : Bool) (s : List ℕ) (from : ℕ) (taken : Taken) (t : IsTaken k s from taken) → Row 63 from (drop from s) (t.value ∷ []) taken.used (drop taken.used s)
-row_taken k s from taken t = element (t.row 63 from (drop from s) [] empty) (t.element 60)
+row_taken : (k : Bool) (s : List ℕ) (from : ℕ) (taken : Taken) (t : IsTaken k s from 63 taken) → Row 63 from (drop from s) (t.value ∷ []) taken.used (drop taken.used s)
+row_taken k s from taken t = element (t.row 63 from (drop from s) [] empty) t.element
 
-pub passed : (k : Bool) (s : List ℕ) (vs : List Value) (old mid new : Series) (taken : Taken) (t : IsTaken k s (row_end old) taken) → mid ≡ old →
+pub passed : (k : Bool) (s : List ℕ) (vs : List Value) (old mid new : Series) (taken : Taken) (t : IsTaken k s (row_end old) 63 taken) → mid ≡ old →
     ((z : List ℕ) (xs ws : List Value) → IsRow mid z xs → taken.used ≤ length z → taken.used ≤ longest →
     Row 63 (row_end mid) (drop (row_end mid) z) ws taken.used (drop taken.used z) → IsRow new z (xs ++ ws)) →
     IsRow old s vs → IsRow new s (vs ++ t.value ∷ [])
@@ -68,7 +73,7 @@ passed k s vs old mid new taken t same pass row =
     (subst (λ (r : Series). Row 63 (row_end r) (drop (row_end r) s) (t.value ∷ []) taken.used (drop taken.used s)) (sym same) (row_taken k s (row_end old) taken t))
 
 -- a usual map in front of a text
-pub in_front : (k : Bool) (s : List ℕ) (taken : Taken) (old new : List Event) → IsTaken k s 0 taken → new ≡ old ++ events_of taken.event → IsElement k s old new taken.used
+pub in_front : (k : Bool) (s : List ℕ) (taken : Taken) (old new : List Event) → IsTaken k s 0 64 taken → new ≡ old ++ events_of taken.event → IsElement k s old new taken.used
 in_front k s taken old new t put =
     let a = t.some in
     let b = t.reached in
@@ -79,6 +84,6 @@ in_front k s taken old new t put =
       put = put;
       some = omega arith;
       inside = t.inside;
-      spelled = spells (t.short no_blank_yet) (t.element 61) (omega arith);
+      spelled = spells (t.short no_blank_yet) t.element (omega arith);
       told = ap (λ v. told_by k (maps_in v)) t.is_map ∙ told_one k (map t.entries) taken.event t.told;
     }

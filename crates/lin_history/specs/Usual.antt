@@ -48,22 +48,27 @@ pub record IsAdded (old : Places) (k : Value) (at : ℕ) (new : Places) : Type 0
   pub function : IsPut (is_word (codes ":f") k) old.function at new.function
   pub values : IsPut (is_word (codes ":value") k) old.value at new.value
 
+-- a key is none of those that count
+abbrev pub IsIgnored : Value → Type 0
+IsIgnored k = (is_word (codes ":process") k ≡ false) × (is_word (codes ":type") k ≡ false) × (is_word (codes ":f") k ≡ false)
+    × (is_word (codes ":value") k ≡ false)
+
 -- keys and values in reading order
 abbrev pub in_turn : List (Value × Value) → List Value
 in_turn [] = []
 in_turn (e ∷ es) = e.0 ∷ e.1 ∷ in_turn es
 
--- between an opening byte and a place stand entries, and the places of the values that count are kept
-abbrev pub IsUpTo : List ℕ → ℕ → ℕ → Places → Type 0
-IsUpTo s from at ps = (es : List (Value × Value)) × ArePlaced s (entries_of es) ps ×
-    ((n : ℕ) → Row (suc n) (from + 1) (drop (from + 1) s) (in_turn es) at (drop at s))
+-- between an opening byte and a place stand entries with so many levels, and the places of the values that count are kept
+abbrev pub IsUpTo : List ℕ → ℕ → ℕ → ℕ → Places → Type 0
+IsUpTo s from levels at ps = (es : List (Value × Value)) × ArePlaced s (entries_of es) ps ×
+    Row levels (from + 1) (drop (from + 1) s) (in_turn es) at (drop at s)
 
--- from one place to another stands a map, and the places of the values that count are kept
-abbrev pub IsMapAt : List ℕ → ℕ → Places → ℕ → Type 0
-IsMapAt s from ps until = (es : Entries) × ArePlaced s es ps × ((n : ℕ) → Element (suc (suc n)) from (drop from s) (map es) until (drop until s))
+-- from one place to another stands a map with so many levels inside, and the places of the values that count are kept
+abbrev pub IsMapAt : List ℕ → ℕ → ℕ → Places → ℕ → Type 0
+IsMapAt s from levels ps until = (es : Entries) × ArePlaced s es ps × Element (suc levels) from (drop from s) (map es) until (drop until s)
 
--- behind white a map stands, with a tag or none, that tells this
-pub record IsTaken (keyed : Bool) (s : List ℕ) (from : ℕ) (taken : Taken) : Type 0 where
+-- behind white a map stands, with a tag or none and with so many levels, that tells this
+pub record IsTaken (keyed : Bool) (s : List ℕ) (from levels : ℕ) (taken : Taken) : Type 0 where
   pub entries : Entries
   pub at : ℕ
   pub begun : from ≤ at
@@ -74,7 +79,7 @@ pub record IsTaken (keyed : Bool) (s : List ℕ) (from : ℕ) (taken : Taken) : 
   pub row : (n p : ℕ) (t : List ℕ) (vs : List Value) → Row n p t vs from (drop from s) → Row n p t vs at (drop at s)
   pub value : Value
   pub is_map : bare value ≡ map entries
-  pub element : (n : ℕ) → Element (suc (suc (suc n))) at (drop at s) value taken.used (drop taken.used s)
+  pub element : Element levels at (drop at s) value taken.used (drop taken.used s)
   pub told : event keyed (map entries) ≡ Ok taken.event
 
 -- the event that is told, if any

@@ -27,6 +27,9 @@ use std::mem;
 /// The greatest number of bytes of a stream.
 const MOST: u64 = 1_099_511_627_776;
 
+/// The greatest number of levels.
+const LEVELS: usize = 64;
+
 /// Why a stream isn't read further. A place counts in the bytes of the whole stream.
 #[derive(Clone, Copy, Debug, PartialEq, Eq)]
 pub enum FollowFault {
@@ -458,7 +461,7 @@ fn read_front(
     requires { place + length text.now ≤ most }
     ensures { IsFront keyed text.now place ready.old.items ready.new.items result }
 {
-    match next_usual(keyed, text, 0) {
+    match next_usual(keyed, text, 0, LEVELS) {
         Some(taken) => {
             put_event(ready, taken.event)?;
             Ok(Front::Element(taken.used))

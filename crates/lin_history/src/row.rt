@@ -17,6 +17,9 @@ use lin_edn::{Edn, Entry, Inside, Series};
 use std::alloc::Global;
 use std::collections::VecDeque;
 
+// The greatest number of levels within a list or vector at the top.
+const INNER_LEVELS: usize = 63;
+
 /// A list or vector that is unfinished, as far as it is read.
 #[derive(Drop)]
 pub(crate) struct Row {
@@ -61,7 +64,7 @@ pub(crate) fn read_maps(
     let mut more = false;
     let mut spare = Vec::new(alloc);
     'maps: loop {
-        match next_usual(keyed, text, row.series.place()) {
+        match next_usual(keyed, text, row.series.place(), INNER_LEVELS) {
             Some(taken) => {
                 pass_usual(row, taken)?;
                 more = true;
@@ -81,7 +84,7 @@ pub(crate) fn read_maps(
 
 /// Takes a usual map that comes next.
 fn pass_usual(row: &mut Row, taken: Taken) -> Result<(), OutOfMemory>
-    ensures { OnOk result ((keyed : Bool) (s : List ℕ) → IsTaken keyed s (row_end row.old.series) taken → IsOpen keyed row.old s
+    ensures { OnOk result ((keyed : Bool) (s : List ℕ) → IsTaken keyed s (row_end row.old.series) 63 taken → IsOpen keyed row.old s
         → IsOpen keyed row.new s × (row_end row.old.series < row_end row.new.series)) }
 {
     let used = taken.used;

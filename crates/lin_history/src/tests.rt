@@ -443,6 +443,92 @@ fn usual_maps_say_what_other_maps_say(rt: HostRuntime) -> Result<(), Fail> {
     Ok(())
 }
 
+/// A read with an ignored value in so many vectors, behind some bytes and before others.
+fn nesting(
+    alloc: Global,
+    front: &[u8],
+    levels: usize,
+    inner: &[u8],
+    last: &[u8],
+) -> Result<Vec<u8>, Fail> {
+    let mut text = Vec::from_slice(alloc, front)?;
+    text.extend_from_slice(b"{:process 0 :extra ")?;
+    for _ in 0..levels {
+        text.push(b'[')?;
+    }
+    text.extend_from_slice(inner)?;
+    for _ in 0..levels {
+        text.push(b']')?;
+    }
+    text.extend_from_slice(b" :type :invoke :f :read}")?;
+    text.extend_from_slice(last)?;
+    Ok(text)
+}
+
+#[test]
+fn ignored_values_may_be_nested(rt: HostRuntime) -> Result<(), Fail> {
+    let alloc = rt.alloc();
+    for (text, count) in [
+        (
+            b"{:process 0 :x [[] [[1 \"]\" :a] ] ( 2,[nil] ) #{ [3] #{} }] :type :invoke :f :read}".as_slice(),
+            1,
+        ),
+        (b"{:process 0 :x [[1] 2} :type :invoke :f :read}", 0),
+        (b"{:process 0 :x [[1) 2] :type :invoke :f :read}", 0),
+        (b"{:process 0 :x [[1] 2", 0),
+        (
+            b"{:process 0 :type :invoke :f :read :x [[1 #t [2]] [\\] \"\\\"\" ; ]\n #_ [3]]]}",
+            1,
+        ),
+        (b"{:process 0 :type :invoke :f :read :x [{1 [2]} {1}]}", 0),
+        (b"{:process 0 :type :invoke :f :read :x [{1 [2]} {}]}", 1),
+        (b"{[[1] [2]] 3 :process 0 :type :invoke :f :read}", 1),
+        (b"{:process 0 :type :ok :f :read :value [[1] 2]}", 0),
+        (b"{:process [[0]] :type :ok :f :read}", 0),
+        (b"{:process 0 :type :invoke :f :write :value 1 :value [[2]]}", 0),
+        (
+            b"[{:process 0 :x [[1]] :type :invoke :f :write :value 1} #a{:process 0 :x (()) :type :ok :f :write} {:x [}] }]",
+            0,
+        ),
+    ] {
+        tells_the_same(&rt, alloc, false, text, count)?;
+    }
+    Ok(())
+}
+
+/// The place that tells that a text nests too deep, if that is how it ends.
+fn too_deep_at(alloc: Global, text: &[u8]) -> Option<u64> {
+    let mut follow = Follow::new(alloc, false);
+    match follow.feed(text) {
+        Err(FollowFault::Edn { at, cause: EdnCause::TooDeep }) => Some(at),
+        _ => None,
+    }
+}
+
+#[test]
+fn ignored_values_nest_up_to_the_limit(rt: HostRuntime) -> Result<(), Fail> {
+    let alloc = rt.alloc();
+    for (front, last, levels) in [
+        (b"".as_slice(), b"".as_slice(), 63),
+        (b" #t".as_slice(), b"\n".as_slice(), 62),
+        (b"[".as_slice(), b"]".as_slice(), 62),
+        (b"(#t".as_slice(), b" )".as_slice(), 61),
+        (b"#t [".as_slice(), b"]".as_slice(), 61),
+    ] {
+        let below = nesting(alloc, front, levels - 1, b"[1 2] [] ", last)?;
+        tells_the_same(&rt, alloc, false, below.as_slice(), 1)?;
+        let deepest = nesting(alloc, front, levels, b"1 \"\" ", last)?;
+        tells_the_same(&rt, alloc, false, deepest.as_slice(), 1)?;
+        let too_deep = nesting(alloc, front, levels, b"1 []", last)?;
+        assert_eq!(rt;
+            too_deep_at(alloc, too_deep.as_slice()),
+            Some((front.len() + 19 + levels + 2) as u64)
+        );
+        tells_the_same(&rt, alloc, false, too_deep.as_slice(), 0)?;
+    }
+    Ok(())
+}
+
 /// The event of a text that holds one element.
 fn event_in(
     rt: &impl Abort,

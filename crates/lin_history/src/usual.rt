@@ -1,18 +1,19 @@
 //! Usual operation maps, read from their bytes without building their elements.
-ghost use Rattle.std.specs.Prelude.{◌≡◌, ℕ, ◌<◌, ◌≤◌, true, None, Some, Ok, IfSome, length, slice_index, [], ◌∷◌};
+ghost use Rattle.std.specs.Prelude.{◌≡◌, ℕ, suc, ◌<◌, ◌≤◌, true, false, None, Some, Ok, IfSome, length, drop, slice_index, [], ◌∷◌};
+ghost use Rattle.lin_edn.specs.Grammar.{Element};
 ghost use Rattle.lin_edn.specs.Run.{run_value};
 ghost use Rattle.lin_edn.specs.Value as value;
 ghost use Rattle.lin_edn.specs.Value.{Value, Entries};
 ghost use Rattle.lin_history.specs.Table as table;
 ghost use Rattle.lin_history.specs.Table.{event};
-ghost use Rattle.lin_history.specs.Usual.{pair_view, ArePlaced, IsAdded, IsBodyOf, IsUpTo, IsValueAt, IsMapAt, IsTaken};
+ghost use Rattle.lin_history.specs.Usual.{pair_view, ArePlaced, IsAdded, IsIgnored, IsBodyOf, IsUpTo, IsValueAt, IsMapAt, IsTaken};
 
 use crate::calls::{Call, Name, Reply, Val};
 use crate::events::{Body, Event};
 use crate::table::{EventType, is_keyword};
 use lin_edn::{
-    elements_are_unique, integer, run_element, run_until, tag_until, text_until, white_until,
-    window,
+    elements_are_unique, integer, nested_until, run_element, run_until, tag_until, text_until,
+    white_until, window,
 };
 
 /// A usual map: its event, unless it is one of the nemesis, and where it ends.
@@ -147,12 +148,50 @@ fn value_until(text: &[u8], from: usize, end: usize) -> usize
     text_until(text, from, end)
 }
 
-/// Takes the usual entry at a place, and tells where it ends; that place where none stands there.
-fn take_entry(text: &[u8], from: usize, end: usize, places: &mut Places) -> usize
+/// Whether the values of a key are looked at.
+fn counts(key: &[u8]) -> bool
+    ensures { result ≡ false → (p : ℕ) → IsIgnored (run_value p key.now) }
+{
+    if key == b":process".as_slice() {
+        return true;
+    }
+    if key == b":type".as_slice() {
+        return true;
+    }
+    if key == b":f".as_slice() {
+        return true;
+    }
+    key == b":value".as_slice()
+}
+
+/// Where the value at a place of a key that doesn't count ends, with what is nested in it; that place where none stands there.
+#[inline(never)]
+fn ignored_until(text: &[u8], key: &[u8], from: usize, end: usize, levels: usize) -> usize
     requires begun { from ≤ end }
     requires inside { end ≤ length text.now }
     ensures within { (from ≤ result) × (result ≤ end) }
-    ensures taken { from < result → (start : ℕ) → IsUpTo text.now start from places.old → IsUpTo text.now start result places.new }
+    ensures ignored { from < result → (p : ℕ) → IsIgnored (run_value p key.now) }
+    ensures value { from < result → (v : Value) × Element levels from (drop from text.now) v result (drop result text.now) }
+{
+    if counts(key) {
+        return from;
+    }
+    nested_until(text, from, end, levels)
+}
+
+/// Takes the usual entry at a place, whose value has so many levels at most, and tells where it ends; that place where none stands there.
+fn take_entry(
+    text: &[u8],
+    from: usize,
+    end: usize,
+    levels: usize,
+    places: &mut Places,
+) -> usize
+    requires begun { from ≤ end }
+    requires inside { end ≤ length text.now }
+    requires room { 0 < levels }
+    ensures within { (from ≤ result) × (result ≤ end) }
+    ensures taken { from < result → (start : ℕ) → IsUpTo text.now start levels from places.old → IsUpTo text.now start levels result places.new }
 {
     let until = run_until(text, from, end);
     if until == from {
@@ -161,7 +200,11 @@ fn take_entry(text: &[u8], from: usize, end: usize, places: &mut Places) -> usiz
     let at = white_until(text, until, end);
     let used = value_until(text, at, end);
     if used == at {
-        return from;
+        let far = ignored_until(text, &text[from..until], at, end, levels);
+        if far == at {
+            return from;
+        }
+        return far;
     }
     if !keep(places, &text[from..until], at) {
         return from;
@@ -169,13 +212,14 @@ fn take_entry(text: &[u8], from: usize, end: usize, places: &mut Places) -> usiz
     used
 }
 
-/// The usual map whose opening byte stands at a place, and where it ends.
-fn usual_map(text: &[u8], from: usize, end: usize) -> Option<(Places, usize)>
+/// The usual map whose opening byte stands at a place, with so many levels inside at most, and where it ends.
+fn usual_map(text: &[u8], from: usize, end: usize, levels: usize) -> Option<(Places, usize)>
     requires begun { from < end }
     requires inside { end ≤ length text.now }
     requires opens { slice_index text.now from ≡ 123 }
+    requires room { 0 < levels }
     ensures within { IfSome result (λ r. (from < r.1) × (r.1 ≤ end)) }
-    ensures map { IfSome result (λ r. IsMapAt text.now from r.0 r.1) }
+    ensures map { IfSome result (λ r. IsMapAt text.now from levels r.0 r.1) }
 {
     let mut places = Places {
         process: None,
@@ -188,7 +232,7 @@ fn usual_map(text: &[u8], from: usize, end: usize) -> Option<(Places, usize)>
         if text[at] == b'}' {
             return Some((places, at + 1));
         }
-        let used = take_entry(text, at, end, &mut places);
+        let used = take_entry(text, at, end, levels, &mut places);
         if used == at {
             return None;
         }
@@ -438,9 +482,21 @@ fn usual_event(keyed: bool, text: &[u8], places: Places) -> Option<Option<Event>
     }))
 }
 
-/// The usual map, with a tag directly in front of it or none, behind the white from a place on, among the bytes that the first element of a text can have.
-pub(crate) fn next_usual(keyed: bool, text: &[u8], from: usize) -> Option<Taken>
-    ensures { IfSome result (λ taken. IsTaken keyed text.now from taken) }
+/// How many of some levels are left in a map, where a tag stands in front of it from a place on, or none.
+fn levels_inside(from: usize, begun: usize, levels: usize) -> usize
+    requires { 3 ≤ levels }
+    ensures some { 0 < result }
+    ensures tagged { from < begun → suc (suc result) ≡ levels }
+    ensures plain { begun ≡ from → suc result ≡ levels }
+{
+    if from < begun { levels - 2 } else { levels - 1 }
+}
+
+/// The usual map, with a tag directly in front of it or none, behind the white from a place on, among the bytes that the first element of a text can have;
+/// with so many levels at most.
+pub(crate) fn next_usual(keyed: bool, text: &[u8], from: usize, levels: usize) -> Option<Taken>
+    requires { 3 ≤ levels }
+    ensures { IfSome result (λ taken. IsTaken keyed text.now from levels taken) }
 {
     let end = window(0, text.len());
     if from >= end {
@@ -454,7 +510,8 @@ pub(crate) fn next_usual(keyed: bool, text: &[u8], from: usize) -> Option<Taken>
     if text[begun] != b'{' {
         return None;
     }
-    let (places, used) = usual_map(text, begun, end)?;
+    let inside = levels_inside(at, begun, levels);
+    let (places, used) = usual_map(text, begun, end, inside)?;
     let event = usual_event(keyed, text, places)?;
     Some(Taken { event, used })
 }

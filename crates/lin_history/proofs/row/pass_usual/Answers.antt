@@ -13,7 +13,7 @@ returns c = λ k s t row.
       (
         row.0 ++ v ∷ [],
         passed k s row.0 old c.wait_for.new.row.series c.pass.new.self c.args.taken t c.in_ok-wait_for.ensures.series c.pass.ensures.row row.1,
-        c.in_ok-wait_for.ensures.told k row.0 v (said_so k s (row_end old) c.args.taken t) row.2,
+        c.in_ok-wait_for.ensures.told k row.0 v (said_so k s (row_end old) 63 c.args.taken t) row.2,
       ),
       (omega arith),
     )

@@ -11,7 +11,8 @@ returns c =
     let e = c.in_ok-places.ensures.within.0 in
     let f = c.tag_until-begun.ensures.within.0 in
     let at = c.white_until-at.result in
-    let here = tagged_or_not c.args.text.now at c.tag_until-begun.result c.in_ok-places.used map.0 f c.tag_until-begun.ensures.tag map.2 in
+    let here = tagged_or_not c.args.text.now at c.tag_until-begun.result c.in_ok-places.used c.args.levels c.levels_inside-inside.result map.0 f
+    c.levels_inside-inside.ensures.tagged c.levels_inside-inside.ensures.plain c.tag_until-begun.ensures.tag map.2 in
     record {
       entries = map.0;
       at = at;

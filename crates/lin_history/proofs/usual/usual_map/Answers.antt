@@ -11,7 +11,7 @@ loop-at-init c =
     let none : Places = record { process = None; event_type = None; function = None; value = None } in (
       omega arith,
       c.white_until-at.ensures.within.1,
-      blanks_more s from (from + 1) c.white_until-at.result none (none_yet s from) c.white_until-at.ensures.row,
+      blanks_more s from (from + 1) c.white_until-at.result c.args.levels none (none_yet s from c.args.levels) c.white_until-at.ensures.row,
     )
 
 pub returns-then-text-at-eq125-clause-map : goal.returns-then-text-at-eq125-clause-map
@@ -20,7 +20,7 @@ returns-then-text-at-eq125-clause-map c =
     let begun : c.args.from < c.args.end = c.requires.begun in
     let inside : c.args.end ≤ length s = c.requires.inside in
     let here = c.loop-at-test.true in
-    map_closed s c.args.from c.loop-at.at c.loop-at.places (omega arith) c.requires.opens (omega arith) c.if-text-at-eq125.true c.loop-at.invariant.2
+    map_closed s c.args.from c.loop-at.at c.args.levels c.loop-at.places (omega arith) c.requires.opens (omega arith) c.if-text-at-eq125.true c.loop-at.invariant.2
 
 pub loop-at-preserved : goal.loop-at-preserved
 loop-at-preserved c =
@@ -32,6 +32,6 @@ loop-at-preserved c =
     let e = c.white_until-at-in-loop-at.ensures.within.0 in (
       omega arith,
       c.white_until-at-in-loop-at.ensures.within.1,
-      blanks_more s from c.take_entry-used.result c.white_until-at-in-loop-at.result c.take_entry-used.new.places
+      blanks_more s from c.take_entry-used.result c.white_until-at-in-loop-at.result c.args.levels c.take_entry-used.new.places
           (c.take_entry-used.ensures.taken (omega arith) from c.loop-at.invariant.2) c.white_until-at-in-loop-at.ensures.row,
     )
