@@ -1,12 +1,12 @@
 -- Collections that are found in place, in words of the grammar.
-use Rattle.std.proofs.Common.{◌≡◌, ℕ, suc, ◌+◌, ◌-◌, ◌<◌, List, [], ◌∷◌, length, drop, get_or, Some, refl, ap, subst, arith, ◌∙◌}
-use Rattle.lin_edn.specs.Bytes.{a_list, a_vector, a_set, class, opener, hash, behind, opens_set, closing}
-use Rattle.lin_edn.specs.Grammar.{One, Opens, bracket, set_bracket, Element, collection, Row}
-use Rattle.lin_edn.specs.Levels.{kind_of}
-use Rattle.lin_edn.specs.Value.{Value, made, list, vector, set, values_of}
-use Rattle.lin_edn.specs.declared.levels.Sequence.{Sequence}
-use Rattle.lin_edn.specs.declared.levels.Sequence.TheVariants as sequence
+use Rattle.std.proofs.Common.{◌≡◌, ℕ, suc, ◌+◌, ◌-◌, ◌<◌, Bool, true, false, ◌&&◌, ◌==◌, List, [], ◌∷◌, ◌++◌, length, drop, get_or, Option, Some, None, refl, sym, ap, subst, arith, rules, tests, ◌∙◌, true≢false}
+use Rattle.std.specs.Option.{is_some}
+use Rattle.lin_edn.specs.Bytes.{Kind, a_list, a_vector, a_set, a_map, class, opener, hash, behind, opens_set, closing}
+use Rattle.lin_edn.specs.Grammar.{One, Opens, bracket, set_bracket, Element, collection, Row, empty, element}
+use Rattle.lin_edn.specs.Skimming.{Shape, brackets, closes, grown}
+use Rattle.lin_edn.specs.Value.{Value, made}
 use Rattle.lin_edn.proofs.Ahead.{at_byte}
+use Rattle.lin_edn.proofs.Skims.{made_grown, made_empty}
 use Rattle.lin_edn.proofs.Standing.{one_at, hashes}
 
 opens_vector : (c : ℕ) → c ≡ 91 → class c ≡ opener a_vector
@@ -32,20 +32,58 @@ set_opens s from lt h b =
     subst (λ l. One hash from (drop from s) (get_or s from 0 ∷ []) (from + 1) l) (at_byte s (from + 1) lt) (one_at s from hash (omega arith) (hashes (get_or s from 0) h)) in
     subst (λ i. Opens a_set from (drop from s) i (drop i s)) place (set_bracket first (set_behind (get_or s (from + 1) 0) b))
 
--- what a list, vector or set makes of what stands in it
-sequence_made : (q : Sequence) (vs : List Value) → (v : Value) × (made (kind_of q) vs ≡ Some v)
-sequence_made sequence.List vs = (list (values_of vs), refl)
-sequence_made sequence.Vector vs = (vector (values_of vs), refl)
-sequence_made sequence.Set vs = (set (values_of vs), refl)
+opens_map : (c : ℕ) → c ≡ 123 → class c ≡ opener a_map
+opens_map c h = rw h refl
+
+pub map_opens : (s : List ℕ) (from : ℕ) → from < length s → get_or s from 0 ≡ 123 → Opens a_map from (drop from s) (from + 1) (drop (from + 1) s)
+map_opens s from lt h = bracket (one_at s from (opener a_map) lt (opens_map (get_or s from 0) h))
+
+-- values stand in a collection up to a place, and whether it can be closed there
+abbrev pub IsFilled : List ℕ → ℕ → ℕ → ℕ → Shape → ℕ → Type 0
+IsFilled s from inner levels shape at = (k : Kind) × (vs : List Value) × Opens k from (drop from s) inner (drop inner s)
+    × Row levels inner (drop inner s) vs at (drop at s) × (shape ≡ brackets k (is_some (made k vs)))
+
+pub none_filled : (s : List ℕ) (from inner levels at : ℕ) (shape : Shape) (k : Kind) → Opens k from (drop from s) inner (drop inner s) → shape ≡ brackets k true →
+    ((n p : ℕ) (t : List ℕ) (vs : List Value) → Row n p t vs inner (drop inner s) → Row n p t vs at (drop at s)) → IsFilled s from inner levels shape at
+none_filled s from inner levels at shape k opens is whites =
+    (k, [], opens, whites levels inner (drop inner s) [] empty, is ∙ ap (brackets k) (sym (made_empty k)))
+
+pub more_filled : (s : List ℕ) (from inner levels at used next : ℕ) (shape more : Shape) (v : Value) → IsFilled s from inner levels shape at →
+    ((k : Kind) (b : Bool) → shape ≡ brackets k b → more ≡ brackets k (grown k b)) → Element levels at (drop at s) v used (drop used s) →
+    ((n p : ℕ) (t : List ℕ) (vs : List Value) → Row n p t vs used (drop used s) → Row n p t vs next (drop next s)) → IsFilled s from inner levels more next
+more_filled s from inner levels at used next shape more v filled grows e whites =
+    let k = filled.0 in
+    let vs = filled.1 in (
+      k,
+      vs ++ v ∷ [],
+      filled.2,
+      whites levels inner (drop inner s) (vs ++ v ∷ []) (element filled.3 e),
+      grows k (is_some (made k vs)) filled.4 ∙ ap (brackets k) (sym (made_grown k vs v)),
+    )
+
+both : (a b : Bool) → (a && b) ≡ true → (a ≡ true) × (b ≡ true)
+both true true h = (refl, refl)
+both true false h = absurd (true≢false (sym h))
+both false b h = absurd (true≢false (sym h))
+
+same_byte : (a b : ℕ) → (a == b) ≡ true → a ≡ b
+same_byte a b h = search (rules, tests)
+
+there : (o : Option Value) → is_some o ≡ true → (v : Value) × (o ≡ Some v)
+there (Some v) h = (v, refl)
+there None h = absurd (true≢false (sym h))
 
 -- behind its last value it is closed
-pub sequence_closed : (s : List ℕ) (q : Sequence) (from inner at levels : ℕ) (vs : List Value) → Opens (kind_of q) from (drop from s) inner (drop inner s) →
-    Row (levels - 1) inner (drop inner s) vs at (drop at s) → (levels ≡ 0 → ⊥) → at < length s → get_or s at 0 ≡ closing (kind_of q) →
-    (v : Value) × Element levels from (drop from s) v (at + 1) (drop (at + 1) s)
-sequence_closed s q from inner at levels vs opens row some inside ends =
-    let whole = sequence_made q vs in
+pub closed_here : (s : List ℕ) (from inner levels at : ℕ) (shape : Shape) → 0 < levels → IsFilled s from inner (levels - 1) shape at → at < length s →
+    closes shape (get_or s at 0) ≡ true → (v : Value) × Element levels from (drop from s) v (at + 1) (drop (at + 1) s)
+closed_here s from inner levels at shape room filled inside ends =
+    let k = filled.0 in
+    let vs = filled.1 in
+    let can = both (closing k == get_or s at 0) (is_some (made k vs)) (ap (λ l. closes l (get_or s at 0)) (sym filled.4) ∙ ends) in
+    let byte : get_or s at 0 ≡ closing k = sym (same_byte (closing k) (get_or s at 0) can.0) in
+    let whole = there (made k vs) can.1 in
     let one_less : suc (levels - 1) ≡ levels = omega arith in (
       whole.0,
       subst (λ n. Element n from (drop from s) whole.0 (at + 1) (drop (at + 1) s)) one_less
-          (collection opens (subst (λ l. Row (levels - 1) inner (drop inner s) vs at l) (at_byte s at inside ∙ ap (λ c. c ∷ drop (at + 1) s) ends) row) whole.1),
+          (collection filled.2 (subst (λ l. Row (levels - 1) inner (drop inner s) vs at l) (at_byte s at inside ∙ ap (λ c. c ∷ drop (at + 1) s) byte) filled.3) whole.1),
     )

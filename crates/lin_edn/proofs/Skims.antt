@@ -32,14 +32,14 @@ paired None (w ∷ vs) v = paired (Some w) vs v
 paired (Some k) (w ∷ vs) v =
     some_entry k w (pairs_from None (vs ++ v ∷ [])) ∙ paired None vs v ∙ ap not (sym (some_entry k w (pairs_from None vs)))
 
-made_grown : (k : Kind) (vs : List Value) (v : Value) → is_some (made k (vs ++ v ∷ [])) ≡ grown k (is_some (made k vs))
+pub made_grown : (k : Kind) (vs : List Value) (v : Value) → is_some (made k (vs ++ v ∷ [])) ≡ grown k (is_some (made k vs))
 made_grown a_list vs v = refl
 made_grown a_vector vs v = refl
 made_grown a_set vs v = refl
 made_grown a_map vs v =
     some_map map (pairs_from None (vs ++ v ∷ [])) ∙ paired None vs v ∙ ap not (sym (some_map map (pairs_from None vs)))
 
-made_empty : (k : Kind) → is_some (made k []) ≡ true
+pub made_empty : (k : Kind) → is_some (made k []) ≡ true
 made_empty a_list = refl
 made_empty a_vector = refl
 made_empty a_set = refl

@@ -2,7 +2,7 @@
 use Rattle.std.proofs.Common.{◌≡◌, ℕ, zero, suc, ◌+◌, ◌-◌, ◌<◌, ◌≤◌, true, false, not, List, [], ◌∷◌, length, drop, get_or, refl, sym, ap, subst, arith, ◌∙◌}
 use Rattle.std.specs.List.{slice_range}
 use Rattle.lin_edn.specs.Bytes.{Class, class, white, inside, quote, hash, is_white, is_stop, quoted, ends, behind, names_tag}
-use Rattle.lin_edn.specs.Grammar.{One, one, Inside, first, next, Tag, first_of_tag, next_of_tag, tagged_element, no_blank, Text, opened, plain, Blank, white_byte, Element, run as a_run, whole_text, Row, blank, ShortBlanks, one_more_short, longest}
+use Rattle.lin_edn.specs.Grammar.{One, one, Inside, first, next, Tag, first_of_tag, next_of_tag, tagged_element, Blanks, one_more, Text, opened, plain, Blank, white_byte, Element, run as a_run, whole_text, Row, blank, ShortBlanks, one_more_short, longest}
 use Rattle.lin_edn.specs.Run.{run_value}
 use Rattle.lin_edn.specs.Scans.{IsStopAt, is_dark, is_quoting, is_inside}
 use Rattle.lin_edn.specs.Value.{Value, tagged, text as text_value}
@@ -55,6 +55,17 @@ white_more s at until end h within n p t vs =
     let before : until ≤ end = h.1 in
     along_to (λ i. Row n p t vs i (drop i s)) at until h.0 (λ i a b row. blank row (blank_at n i s (omega arith) (h.2 i a b)))
 
+-- any white bytes
+pub blanks_byte : (s : List ℕ) (from i : ℕ) → i < length s → true ≡ is_white (get_or s i 0) → (n : ℕ) → Blanks n from (drop from s) i (drop i s) →
+    Blanks n from (drop from s) (i + 1) (drop (i + 1) s)
+blanks_byte s from i lt h n bs = one_more bs (blank_at n i s lt (light (get_or s i 0) h))
+
+pub white_blanks : (s : List ℕ) (from at until end : ℕ) → IsStopAt is_dark s at end until → end ≤ length s → (n : ℕ) → Blanks n from (drop from s) at (drop at s) →
+    Blanks n from (drop from s) until (drop until s)
+white_blanks s from at until end h within n bs =
+    let before : until ≤ end = h.1 in
+    along_to (λ i. Blanks n from (drop from s) i (drop i s)) at until h.0 (λ i a b so_far. one_more so_far (blank_at n i s (omega arith) (h.2 i a b))) bs
+
 -- a run that a stop byte ends
 pub run_stands : (s : List ℕ) (from until end : ℕ) → from < length s → is_inside (class (get_or s from 0)) ≡ true → IsStopAt is_stop s (from + 1) end until →
     end ≤ length s → until < end → (n : ℕ) → Element n from (drop from s) (run_value from (slice_range s from until)) until (drop until s)
@@ -93,12 +104,12 @@ text_stands s from until end lt begins h within before stops n =
 pub hashes : (c : ℕ) → c ≡ 35 → class c ≡ hash
 hashes c h = rw h refl
 
--- a tag directly in front of an element
-pub tag_stands : (s : List ℕ) (from until end : ℕ) → from + 1 < length s → get_or s from 0 ≡ 35 → behind (get_or s (from + 1) 0) ≡ names_tag →
+-- a tag in front of an element
+pub tag_apart : (s : List ℕ) (from until end : ℕ) → from + 1 < length s → get_or s from 0 ≡ 35 → behind (get_or s (from + 1) 0) ≡ names_tag →
     IsStopAt is_stop s (from + 2) end until → end ≤ length s → until < end →
-    (n q : ℕ) (v : Value) (t : List ℕ) → Element n until (drop until s) v q t →
+    (n r q : ℕ) (v : Value) (u t : List ℕ) → Blanks n until (drop until s) r u → Element n r u v q t →
     Element (suc n) from (drop from s) (tagged (from + 1) (slice_range s (from + 1) until) v) q t
-tag_stands s from until end lt begins names h within before n q v t e =
+tag_apart s from until end lt begins names h within before n r q v u t bs e =
     let place : from + 1 + 1 ≡ from + 2 = omega arith in
     let opened_tag : One hash from (drop from s) (get_or s from 0 ∷ []) (from + 1) (get_or s (from + 1) 0 ∷ drop (from + 1 + 1) s) =
     subst (λ l. One hash from (drop from s) (get_or s from 0 ∷ []) (from + 1) l) (at_byte s (from + 1) lt) (one_at s from hash (omega arith) (hashes (get_or s from 0) begins)) in
@@ -109,8 +120,8 @@ tag_stands s from until end lt begins names h within before n q v t e =
     subst (λ w. Tag from (drop from s) w (i + 1) (drop (i + 1) s)) (sym (range_more s (from + 1) i (omega arith) (omega arith)))
     (next_of_tag (subst (λ l. Tag from (drop from s) (slice_range s (from + 1) i) i l) (at_byte s i (omega arith)) so_far) (h.2 i a b)))
     (subst (λ i. Tag from (drop from s) (slice_range s (from + 1) i) i (drop i s)) place start) in
-    tagged_element (subst (λ l. Tag from (drop from s) (slice_range s (from + 1) until) until l) (at_byte s until (omega arith)) whole) (h.3 before) no_blank
-    (subst (λ l. Element n until l v q t) (at_byte s until (omega arith)) e)
+    tagged_element (subst (λ l. Tag from (drop from s) (slice_range s (from + 1) until) until l) (at_byte s until (omega arith)) whole) (h.3 before)
+    (subst (λ l. Blanks n until l r u) (at_byte s until (omega arith)) bs) e
 
 -- two elements at a place are one
 pub one_element : {n m p q r : ℕ} {s t u : List ℕ} {v w : Value} → n ≤ 64 → m ≤ 64 → Element n p s v q t → Element m p s w r u → (v ≡ w) × (q ≡ r)

@@ -2,7 +2,7 @@
 
 ghost use Rattle.std.specs.Prelude.{◌≡◌, ℕ, suc, ◌+◌, ◌<◌, ◌≤◌, List, length, drop};
 ghost use Rattle.std.specs.List.{slice_range};
-ghost use Rattle.lin_edn.specs.Grammar.{ShortBlanks, Row, Element};
+ghost use Rattle.lin_edn.specs.Grammar.{ShortBlanks, Blanks, Row, Element};
 ghost use Rattle.lin_edn.specs.Run.{run_value};
 ghost use Rattle.lin_edn.specs.Value.{Value, tagged, text as text_value};
 
@@ -18,6 +18,7 @@ pub fn white_until(input: &[u8], from: usize, end: usize) -> usize
     ensures short { ShortBlanks input.now from (drop from input.now) → ShortBlanks input.now result (drop result input.now) }
     ensures row { (n : ℕ) (p : ℕ) (s : List ℕ) (vs : List Value) →
         Row n p s vs from (drop from input.now) → Row n p s vs result (drop result input.now) }
+    ensures blanks { (n : ℕ) → Blanks n from (drop from input.now) result (drop result input.now) }
 {
     if from == end {
         return from;
@@ -85,6 +86,8 @@ pub fn tag_until(input: &[u8], from: usize, end: usize) -> usize
     requires inside { end ≤ length input.now }
     ensures within { (from ≤ result) × (result ≤ end) }
     ensures tag { from < result → (n : ℕ) (q : ℕ) (v : Value) (t : List ℕ) → Element n result (drop result input.now) v q t →
+        Element (suc n) from (drop from input.now) (tagged (from + 1) (slice_range input.now (from + 1) result) v) q t }
+    ensures apart { from < result → (n : ℕ) (r : ℕ) (q : ℕ) (v : Value) (u : List ℕ) (t : List ℕ) → Blanks n result (drop result input.now) r u → Element n r u v q t →
         Element (suc n) from (drop from input.now) (tagged (from + 1) (slice_range input.now (from + 1) result) v) q t }
 {
     if end - from < 2 {

@@ -276,7 +276,7 @@ fn end_hash(levels: &mut Vec<Level>, c: u8) -> Option<Part>
 }
 
 /// Whether a byte closes a level.
-fn can_close(level: Level, c: u8) -> bool
+pub(crate) fn can_close(level: Level, c: u8) -> bool
     ensures { result ≡ skimming.closes (level_view level) c }
 {
     match level {

@@ -356,7 +356,7 @@ fn levels_within(rt: HostRuntime) -> Result<(), Fail> {
 #[test]
 fn nested_values(rt: HostRuntime) -> Result<(), Fail> {
     let alloc = rt.alloc();
-    let rows: [(&[u8], usize, usize); 20] = [
+    let rows: [(&[u8], usize, usize); 25] = [
         (b"[] ", 1, 2),
         (b"[]", 0, 0),
         (b"[[1 a] \"]\" [] ] 5", 2, 15),
@@ -372,7 +372,12 @@ fn nested_values(rt: HostRuntime) -> Result<(), Fail> {
         (b"[1)", 1, 0),
         (b"[1 [2] ", 9, 0),
         (b"[1 #_ 2]", 9, 0),
-        (b"[#a [1]]", 9, 0),
+        (b"[#a [1]]", 3, 8),
+        (b"[#a [1]]", 2, 0),
+        (b"{1 [2], :a {}}", 2, 14),
+        (b"{1 [2], :a {}}", 1, 0),
+        (b"{1 [2] 3}", 9, 0),
+        (b"#a ,#{#b 1}", 4, 11),
         (b"[\\a]", 9, 0),
         (b"[1 ; 2\n]", 9, 0),
         (b"]", 9, 0),

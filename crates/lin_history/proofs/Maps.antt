@@ -75,10 +75,10 @@ none_added ps p w at a b c d = record {
 }
 
 -- one byte of a text
-at_byte : (s : List ℕ) (i : ℕ) → i < length s → drop i s ≡ get_or s i 0 ∷ drop (i + 1) s
+pub at_byte : (s : List ℕ) (i : ℕ) → i < length s → drop i s ≡ get_or s i 0 ∷ drop (i + 1) s
 at_byte s i lt = let e : suc i ≡ i + 1 = omega arith in drop-cons s i 0 lt ∙ ap (λ k. get_or s i 0 ∷ drop k s) e
 
-one_at : (s : List ℕ) (i : ℕ) (k : Class) → i < length s → class (get_or s i 0) ≡ k → One k i (drop i s) (get_or s i 0 ∷ []) (i + 1) (drop (i + 1) s)
+pub one_at : (s : List ℕ) (i : ℕ) (k : Class) → i < length s → class (get_or s i 0) ≡ k → One k i (drop i s) (get_or s i 0 ∷ []) (i + 1) (drop (i + 1) s)
 one_at s i k lt h = subst (λ l. One k i l (get_or s i 0 ∷ []) (i + 1) (drop (i + 1) s)) (sym (at_byte s i lt)) (one h)
 
 -- a vector of two runs

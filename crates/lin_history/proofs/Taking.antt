@@ -25,7 +25,7 @@ told_case (Some e) = refl
 pub told_one : (k : Bool) (v : Value) (o : Option Event) → event k v ≡ Ok o → told_by k (values_of (v ∷ [])) ≡ record { events = events_of o; ends = None }
 told_one k v o h = ap (λ (r : Result (Option Event) EventFault). before r (record { events = []; ends = None })) h ∙ told_case o
 
-tells : (k : Bool) (v : Value) (o : Option Event) (old new : List Event) → event k v ≡ Ok o → new ≡ old ++ events_of o →
+pub tells : (k : Bool) (v : Value) (o : Option Event) (old new : List Event) → event k v ≡ Ok o → new ≡ old ++ events_of o →
     IsTold (told_by k (values_of (v ∷ []))) old new (Ok tt)
 tells k v o old new h put =
     let told = told_one k v o h in
@@ -51,10 +51,10 @@ pub tagged_or_not : (s : List ℕ) (at begun used levels inside : ℕ) (es : Ent
     Element (suc inside) begun (drop begun s) (map es) used (drop used s) → IsTagged s at levels es used
 tagged_or_not s at begun used levels inside es le two one tag e = elim (cases_lt at begun) [
   | inl lt ↦ (
-      tagged (at + 1) (slice_range s (at + 1) begun) (map es),
-      refl,
-      subst (λ n. Element n at (drop at s) (tagged (at + 1) (slice_range s (at + 1) begun) (map es)) used (drop used s)) (two lt) (tag lt (suc inside) used (map es) (drop used s) e),
-    )
+    tagged (at + 1) (slice_range s (at + 1) begun) (map es),
+    refl,
+    subst (λ n. Element n at (drop at s) (tagged (at + 1) (slice_range s (at + 1) begun) (map es)) used (drop used s)) (two lt) (tag lt (suc inside) used (map es) (drop used s) e),
+  )
   | inr ge ↦
       let same : begun ≡ at = omega arith in
       (map es, refl, subst (λ n. Element n at (drop at s) (map es) used (drop used s)) (one same) (subst (λ i. Element (suc inside) i (drop i s) (map es) used (drop used s)) same e))

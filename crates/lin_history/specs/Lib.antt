@@ -10,6 +10,7 @@ pub mod Sees
 pub mod Reads
 pub mod Rests
 pub mod Usual
+pub mod Whole
 pub mod Meters
 pub mod WellFormed
 pub mod Alternation

@@ -15,6 +15,7 @@ use crate::numbers::OutOfMemory;
 use crate::row::{Far, Row, begin_row, put_all, put_event, read_maps, tell_one};
 use crate::table::{EventFault, bare};
 use crate::usual::next_usual;
+use crate::whole::read_row;
 use lin_edn::{
     Edn, EdnCause, Next, Skim, blanks_are_skipped, blanks_in_front, more_bytes, next_element,
     places, readings_are_unique,
@@ -466,7 +467,10 @@ fn read_front(
             put_event(ready, taken.event)?;
             Ok(Front::Element(taken.used))
         }
-        None => read_element(alloc, keyed, text, place, ready),
+        None => match read_row(keyed, text, ready)? {
+            Some(used) => Ok(Front::Element(used)),
+            None => read_element(alloc, keyed, text, place, ready),
+        },
     }
 }
 

@@ -18,7 +18,7 @@ use std::alloc::Global;
 use std::collections::VecDeque;
 
 // The greatest number of levels within a list or vector at the top.
-const INNER_LEVELS: usize = 63;
+pub(crate) const INNER_LEVELS: usize = 63;
 
 /// A list or vector that is unfinished, as far as it is read.
 #[derive(Drop)]

@@ -485,10 +485,59 @@ fn ignored_values_may_be_nested(rt: HostRuntime) -> Result<(), Fail> {
         (b"{[[1] [2]] 3 :process 0 :type :invoke :f :read}", 1),
         (b"{:process 0 :type :ok :f :read :value [[1] 2]}", 0),
         (b"{:process [[0]] :type :ok :f :read}", 0),
-        (b"{:process 0 :type :invoke :f :write :value 1 :value [[2]]}", 0),
+        (
+            b"{:process 0 :type :invoke :f :write :value 1 :value [[2]]}",
+            0,
+        ),
         (
             b"[{:process 0 :x [[1]] :type :invoke :f :write :value 1} #a{:process 0 :x (()) :type :ok :f :write} {:x [}] }]",
             0,
+        ),
+    ] {
+        tells_the_same(&rt, alloc, false, text, count)?;
+    }
+    Ok(())
+}
+
+#[test]
+fn tags_in_front_of_lists_and_vectors_are_read_over(rt: HostRuntime) -> Result<(), Fail> {
+    let alloc = rt.alloc();
+    for (text, count) in [
+        (
+            b"#h [{:process 0 :type :invoke :f :read} {:process :nemesis}, #op{:process 0 :type :ok :f :read :x [[]]} ]".as_slice(),
+            2,
+        ),
+        (
+            b" #h,,(\n{:process 0 :type :invoke :f :read}) #h[] #g ( ) [{:process 0 :type :ok :f :read}]",
+            2,
+        ),
+        (b"#a #b[{:process 0 :type :invoke :f :read}]", 1),
+        (b"#a ;]\n [{:process 0 :type :invoke :f :read}]", 1),
+        // A fault behind events, of a map and of EDN.
+        (
+            b"#h [{:process 0 :type :invoke :f :read} 5 {:process 0}]",
+            1,
+        ),
+        (
+            b"#h [{:process 0 :type :invoke :f :read} {:process 0 :type :ok :f :read :value :a}]",
+            1,
+        ),
+        (b"#h [{:process 0 :type :invoke :f :read} )", 0),
+        (b"#h ({:process 0 :type :invoke :f :read}] ", 0),
+        (b"#h [{:process 0 :type :invoke :f :read}] ]", 1),
+        (b"#h [{:process 0 :type :invoke :f :read} {:process 1}", 0),
+        // What isn't usual, behind usual maps.
+        (
+            b"#h [{:process 0 :type :invoke :f :read} {:process 0 :type :ok :f :read :value #{2 1}}]",
+            2,
+        ),
+        (
+            b"#h [{:process 0 :type :invoke :f :read} #_ 1 {:process 0 :type :ok :f :read} ; ]\n]",
+            2,
+        ),
+        (
+            b"#h [{:process 0 :type :invoke :f :read} #h [{:process 0 :type :ok :f :read}]]",
+            1,
         ),
     ] {
         tells_the_same(&rt, alloc, false, text, count)?;
@@ -500,7 +549,12 @@ fn ignored_values_may_be_nested(rt: HostRuntime) -> Result<(), Fail> {
 fn too_deep_at(alloc: Global, text: &[u8]) -> Option<u64> {
     let mut follow = Follow::new(alloc, false);
     match follow.feed(text) {
-        Err(FollowFault::Edn { at, cause: EdnCause::TooDeep }) => Some(at),
+        Err(
+            FollowFault::Edn {
+                at,
+                cause: EdnCause::TooDeep,
+            },
+        ) => Some(at),
         _ => None,
     }
 }

@@ -180,13 +180,7 @@ fn ignored_until(text: &[u8], key: &[u8], from: usize, end: usize, levels: usize
 }
 
 /// Takes the usual entry at a place, whose value has so many levels at most, and tells where it ends; that place where none stands there.
-fn take_entry(
-    text: &[u8],
-    from: usize,
-    end: usize,
-    levels: usize,
-    places: &mut Places,
-) -> usize
+fn take_entry(text: &[u8], from: usize, end: usize, levels: usize, places: &mut Places) -> usize
     requires begun { from ≤ end }
     requires inside { end ≤ length text.now }
     requires room { 0 < levels }

@@ -1,6 +1,6 @@
 use Rattle.std.proofs.Common.{◌≡◌, ℕ, ◌+◌, ◌<◌, ◌≤◌, drop, subst, arith}
-use Rattle.lin_edn.specs.Grammar.{ShortBlanks, Row}
-use Rattle.lin_edn.proofs.Standing.{short_byte, row_byte, white_short, white_more}
+use Rattle.lin_edn.specs.Grammar.{ShortBlanks, Blanks, no_blank, Row}
+use Rattle.lin_edn.proofs.Standing.{short_byte, row_byte, blanks_byte, white_short, white_more, white_blanks}
 use Rattle.lin_edn.proofs.found.white_until.Goals as goal
 
 two : (n : ℕ) → n + 1 + 1 ≡ n + 2
@@ -23,6 +23,22 @@ returns-then-from-end-2-clause-row c = λ n p t vs row.
     let s = c.args.input.now in
     subst (λ i. Row n p t vs i (drop i s)) c.if-from-end-2.true
     (row_byte s c.args.from (room _ _ _ c.if-from-end.false c.requires.begun c.requires.inside) c.if-not-is_white.ensures n p t vs row)
+
+pub returns-then-from-end-clause-blanks : goal.returns-then-from-end-clause-blanks
+returns-then-from-end-clause-blanks c = λ n. no_blank
+
+pub returns-then-not-is_white-clause-blanks : goal.returns-then-not-is_white-clause-blanks
+returns-then-not-is_white-clause-blanks c = λ n. no_blank
+
+pub returns-then-from-end-2-clause-blanks : goal.returns-then-from-end-2-clause-blanks
+returns-then-from-end-2-clause-blanks c = λ n.
+    let s = c.args.input.now in
+    subst (λ i. Blanks n c.args.from (drop c.args.from s) i (drop i s)) c.if-from-end-2.true
+    (blanks_byte s c.args.from c.args.from (room _ _ _ c.if-from-end.false c.requires.begun c.requires.inside) c.if-not-is_white.ensures n no_blank)
+
+pub returns-then-not-is_white-2-clause-blanks : goal.returns-then-not-is_white-2-clause-blanks
+returns-then-not-is_white-2-clause-blanks c = λ n.
+    blanks_byte c.args.input.now c.args.from c.args.from (room _ _ _ c.if-from-end.false c.requires.begun c.requires.inside) c.if-not-is_white.ensures n no_blank
 
 pub returns-then-not-is_white-2-clause-short : goal.returns-then-not-is_white-2-clause-short
 returns-then-not-is_white-2-clause-short c =
@@ -47,3 +63,12 @@ returns-clause-row c = λ n p t vs row.
     let second = row_byte s (c.args.from + 1) (next_room _ _ _ c.if-from-end.false c.if-from-end-2.false c.requires.begun c.requires.inside) c.if-not-is_white-2.ensures n p t vs first in
     white_more s (c.args.from + 2) c.white_end.result c.args.end c.white_end.ensures c.requires.inside n p t vs
     (subst (λ i. Row n p t vs i (drop i s)) (two c.args.from) second)
+
+pub returns-clause-blanks : goal.returns-clause-blanks
+returns-clause-blanks c = λ n.
+    let s = c.args.input.now in
+    let from = c.args.from in
+    let first = blanks_byte s from from (room _ _ _ c.if-from-end.false c.requires.begun c.requires.inside) c.if-not-is_white.ensures n no_blank in
+    let second = blanks_byte s from (from + 1) (next_room _ _ _ c.if-from-end.false c.if-from-end-2.false c.requires.begun c.requires.inside) c.if-not-is_white-2.ensures n first in
+    white_blanks s from (from + 2) c.white_end.result c.args.end c.white_end.ensures c.requires.inside n
+    (subst (λ i. Blanks n from (drop from s) i (drop i s)) (two from) second)

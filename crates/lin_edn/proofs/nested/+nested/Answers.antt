@@ -1,40 +1,38 @@
-use Rattle.std.proofs.Common.{◌-◌, [], ◌∷◌, ◌++◌, ◌≤◌, length, drop, arith, ◌∙◌}
+use Rattle.std.proofs.Common.{◌≡◌, suc, ◌+◌, ◌-◌, ◌≤◌, length, drop, arith, ◌∙◌, sym, subst}
 use Rattle.std.specs.List.{slice_range}
-use Rattle.lin_edn.specs.Grammar.{empty, element}
+use Rattle.lin_edn.specs.Grammar.{Element}
 use Rattle.lin_edn.specs.Run.{run_value}
-use Rattle.lin_edn.specs.Value.{text as text_value}
-use Rattle.lin_edn.proofs.Nesting.{sequence_closed}
+use Rattle.lin_edn.specs.Skimming.{level_view}
+use Rattle.lin_edn.specs.Value.{tagged, text as text_value}
+use Rattle.lin_edn.proofs.Nesting.{none_filled, more_filled, closed_here}
 use Rattle.lin_edn.proofs.nested.+nested.Goals as goal
 
-pub sequence_until-loop-at-init : goal.sequence_until-loop-at-init
-sequence_until-loop-at-init t c = (
-  c.white_until-at.ensures.within.0,
-  c.white_until-at.ensures.within.1,
-  ([], c.white_until-at.ensures.row (c.args.levels - 1) c.in-Some.inner (drop c.in-Some.inner c.args.input.now) [] empty),
-)
+pub collection_until-loop-at-init : goal.collection_until-loop-at-init
+collection_until-loop-at-init t c =
+    let opens = c.in-Some.ensures.opens in (
+      c.white_until-at.ensures.within.0,
+      c.white_until-at.ensures.within.1,
+      none_filled c.args.input.now c.args.from c.in-Some.inner (c.args.levels - 1) c.white_until-at.result (level_view c.in-Some.opened) opens.0 opens.1 opens.2 c.white_until-at.ensures.row,
+    )
 
-pub sequence_until-returns-then-input-at-clause-value : goal.sequence_until-returns-then-input-at-clause-value
-sequence_until-returns-then-input-at-clause-value t c = λ far.
+pub collection_until-returns-then-can_close-clause-value : goal.collection_until-returns-then-can_close-clause-value
+collection_until-returns-then-can_close-clause-value t c = λ far.
     let inside : c.args.end ≤ length c.args.input.now = c.requires.inside in
     let here = c.loop-at-test.true in
-    sequence_closed c.args.input.now c.in-Some.sequence c.args.from c.in-Some.inner c.loop-at.at c.args.levels c.loop-at.invariant.2.0 c.in-Some.ensures.opens
-    c.loop-at.invariant.2.1 c.if-levels-eq0.false (omega arith) (c.if-input-at.true ∙ c.closing.ensures)
+    closed_here c.args.input.now c.args.from c.in-Some.inner c.args.levels c.loop-at.at (level_view c.loop-at.level) c.requires.room c.loop-at.invariant.2
+    (omega arith) (sym c.can_close.ensures ∙ c.if-can_close.true)
 
-pub sequence_until-loop-at-preserved : goal.sequence_until-loop-at-preserved
-sequence_until-loop-at-preserved t c =
+pub collection_until-loop-at-preserved : goal.collection_until-loop-at-preserved
+collection_until-loop-at-preserved t c =
     let a = c.loop-at.invariant.0 in
     let b = c.nested_until-used.ensures.within.0 in
     let d = c.if-used-at.false in
     let e = c.white_until-at-in-loop-at.ensures.within.0 in
-    let value = c.nested_until-used.ensures.value (omega arith) in
-    let inner = c.in-Some.inner in
-    let vs = c.loop-at.invariant.2.0 in (
+    let value = c.nested_until-used.ensures.value (omega arith) in (
       omega arith,
       c.white_until-at-in-loop-at.ensures.within.1,
-      (
-        vs ++ value.0 ∷ [],
-        c.white_until-at-in-loop-at.ensures.row (c.args.levels - 1) inner (drop inner c.args.input.now) (vs ++ value.0 ∷ []) (element c.loop-at.invariant.2.1 value.1),
-      ),
+      more_filled c.args.input.now c.args.from c.in-Some.inner (c.args.levels - 1) c.loop-at.at c.nested_until-used.result c.white_until-at-in-loop-at.result
+          (level_view c.loop-at.level) (level_view c.with_more-level.result) value.0 c.loop-at.invariant.2 c.with_more-level.ensures value.1 c.white_until-at-in-loop-at.ensures.row,
     )
 
 pub nested_until-returns-then-run-from-clause-value : goal.nested_until-returns-then-run-from-clause-value
@@ -44,3 +42,23 @@ nested_until-returns-then-run-from-clause-value t c = λ far.
 pub nested_until-returns-then-text-from-clause-value : goal.nested_until-returns-then-text-from-clause-value
 nested_until-returns-then-text-from-clause-value t c = λ far.
     (text_value c.args.from (slice_range c.args.input.now c.args.from c.text_until-text.result), c.text_until-text.ensures.text far c.args.levels)
+
+pub nested_until-returns-clause-value : goal.nested_until-returns-clause-value
+nested_until-returns-clause-value t c = λ far.
+    let s = c.args.input.now in
+    let from = c.args.from in
+    let tag = c.tag_until-tag.result in
+    let at = c.white_until-at.result in
+    let used = c.nested_until-used.result in
+    let levels = c.args.levels in
+    let a = c.tag_until-tag.ensures.within.0 in
+    let b = c.if-tag-from.false in
+    let d = c.nested_until-used.ensures.within.0 in
+    let e = c.if-used-at.false in
+    let some = c.if-levels-eq0.false in
+    let value = c.nested_until-used.ensures.value (omega arith) in
+    let one_less : suc (levels - 1) ≡ levels = omega arith in (
+      tagged (from + 1) (slice_range s (from + 1) tag) value.0,
+      subst (λ n. Element n from (drop from s) (tagged (from + 1) (slice_range s (from + 1) tag) value.0) used (drop used s)) one_less
+          (c.tag_until-tag.ensures.apart (omega arith) (levels - 1) at used value.0 (drop at s) (drop used s) (c.white_until-at.ensures.blanks (levels - 1)) value.1),
+    )
