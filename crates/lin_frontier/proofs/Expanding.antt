@@ -25,13 +25,13 @@ use Rattle.lin_frontier.specs.Nodes.{IsGrown}
 use Rattle.lin_frontier.specs.Placing.{IsAbsent, PlacesOne, insert_pair}
 use Rattle.lin_frontier.specs.RoundLaws.{TrailEndsLaw, TrailPlacesLaw, TrailTakesLaw}
 use Rattle.lin_frontier.specs.Rounds.{SpellsRounds, joined, begin_round, put, begins, puts}
-use Rattle.lin_frontier.specs.Searching.{DominatesIn}
+use Rattle.lin_frontier.specs.Searching.{CoversIn, DominatesIn}
 use Rattle.lin_frontier.specs.Walks.{IsTriedAtMost}
 use Rattle.lin_frontier.proofs.Closing.{any_default}
 use Rattle.lin_frontier.proofs.Inserting.{first_or_rest, none_from, insert_added}
 use Rattle.lin_frontier.proofs.Joining.{put_many}
 use Rattle.lin_frontier.proofs.Listing.{open_call}
-use Rattle.lin_frontier.proofs.Onward.{from_map, rounds_stay, spelled_rising, spelled_stays}
+use Rattle.lin_frontier.proofs.Onward.{from_map, in_map, rounds_stay, spelled_rising, spelled_stays}
 use Rattle.lin_frontier.proofs.Undominated.{above_itself}
 use Rattle.lin_frontier.proofs.Visiting.{grown_grown, not_grown}
 
@@ -42,6 +42,10 @@ module _ {S : Type 0} (observes : Call → Bool) (pending : List Open) where
       let own : Member S = member_at (config_of n) [] in
       let by = above_itself observes pending own in
       subst (λ (d : S × List (ℕ × Reply)). DominatesIn observes pending n.0 d.0 d.1 []) is (record { same = refl; part = by.part; rest = by.rest; offered = λ i d inside. absurd (omega arith) })
+
+  -- a member that covers the configuration holds it
+  pub held_by : (members : List (Member S × Path)) (c : S × List (ℕ × Reply)) (n : Member S × Path) → Contains members n → CoversIn pending (config_of n) c → IsHeld observes pending members c
+  held_by members c n there k = (n, there, record { same = k.same; part = k.part; rest = k.rest; offered = λ i d inside. absurd (omega arith) })
 
   pub held_more : (old added now : List (Member S × Path)) (c : S × List (ℕ × Reply)) → now ≡ old ++ added → IsHeld observes pending old c → IsHeld observes pending now c
   held_more old added now c is held = (held.0, subst (λ l. Contains l held.0) (sym is) (Contains-append_left old added held.0 held.1), held.2)
@@ -56,14 +60,14 @@ module _ {S : Type 0} (observes : Call → Bool) (pending : List Open) where
       held = held;
     }
 
-    pub taken_in : (nodes : List (ℕ × (Placed × Option ℕ))) (old now : List (Member S × Path)) (n : Member S × Path) → (IsHeld observes pending old c → ⊥) → n.0 ≡ member_at c [] → Continues nodes path n.1 p spot
+    pub taken_in : (nodes : List (ℕ × (Placed × Option ℕ))) (old now : List (Member S × Path)) (n : Member S × Path) → (Contains (map config_of old) c → ⊥) → n.0 ≡ member_at c [] → Continues nodes path n.1 p spot
         → now ≡ old ++ n ∷ [] → IsTakenIn observes pending c p spot path nodes old now
     taken_in nodes old now n never is continues pushed = record {
       added = n ∷ [];
       grown = pushed;
       new = one;
       different = λ all. subst AreDifferent (sym pushed) (all_pairs_push (λ (k m : Member S × Path). config_of k ≢ config_of m) old n all
-          (λ k d inside same. never (get_or old k d, Contains-get_or old k d inside, holds_own (get_or old k d) c (same ∙ own))));
+          (λ k d inside same. never (subst (Contains (map config_of old)) (same ∙ own) (in_map config_of old (get_or old k d) (Contains-get_or old k d inside)))));
       held = (n, subst (λ l. Contains l n) (sym pushed) (Contains-push old n), holds_own n c own);
     }
       where

@@ -39,6 +39,9 @@ pub mod ReadEarly
 pub mod Awaiting
 pub mod Leading
 pub mod Making
+pub mod Knowing
+pub mod Masking
+pub mod Parting
 pub mod Pruned
 pub mod Onward
 pub mod Returned

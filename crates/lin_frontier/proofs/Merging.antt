@@ -1,5 +1,5 @@
 -- Members taken into a list where none of it holds their configuration.
-use Rattle.std.proofs.Common.{◌≡◌, ◌≢◌, ◌⊎◌, ℕ, zero, suc, Bool, List, [], ◌∷◌, ◌++◌, length, Contains, All, get_or, inl, inr, refl, sym, subst, ◌∙◌, arith, Option, Some, None, IfNone, IfSome}
+use Rattle.std.proofs.Common.{◌≡◌, ◌≢◌, ◌⊎◌, ℕ, zero, suc, Bool, List, [], ◌∷◌, ◌++◌, length, map, Contains, All, get_or, inl, inr, refl, sym, subst, ◌∙◌, arith, Option, Some, None, IfNone, IfSome}
 use Rattle.std.proofs.lemmas.List.Elements.{All-pop, Contains-append_left, Contains-get_or, Contains-push, Contains-push_cases}
 use Rattle.std.proofs.lemmas.List.Quantifiers.{all_pairs_push}
 use Rattle.lin_history.specs.declared.calls.Call.{Call}
@@ -11,8 +11,8 @@ use Rattle.lin_frontier.specs.declared.pending.Open.{Open}
 use Rattle.lin_frontier.specs.Compressed.{IsSpelled}
 use Rattle.lin_frontier.specs.Listed.{config_of, with_offers, AreDifferent, IsHeld, IsMerged}
 use Rattle.lin_frontier.specs.Members.{Member}
-use Rattle.lin_frontier.specs.Searching.{DominatesIn}
 use Rattle.lin_frontier.proofs.Expanding.{holds_own, held_more}
+use Rattle.lin_frontier.proofs.Onward.{in_map}
 
 pub none_maps : {X A B : Type 0} (o : Option X) → (A → B) → IfNone o A → IfNone o B
 none_maps None f is = f is
@@ -68,8 +68,8 @@ module _ {S : Type 0} (observes : Call → Bool) (pending : List Open) where
       rest_still m there = h.rest_of m (subst (λ l. Contains l m) (sym popped) (Contains-append_left rest (x ∷ []) m there))
 
       -- the member is held by one that dominates it
-      pub merging_skip : (c : S × List (ℕ × Reply)) → c ≡ config_of x → (n : Member S × Path) → Contains now n → DominatesIn observes pending n.0 c.0 c.1 x.0.offers → IsMerging others rest old now
-      merging_skip c same n there above = record {
+      pub merging_skip : (c : S × List (ℕ × Reply)) → c ≡ config_of x → IsHeld observes pending now c → IsMerging others rest old now
+      merging_skip c same held_there = record {
         bare = parts.0;
         rest_of = rest_still;
         kept = h.kept;
@@ -78,13 +78,13 @@ module _ {S : Type 0} (observes : Call → Bool) (pending : List Open) where
         held = λ m within. elim (h.held m within) [
           | inl in_more ↦ elim (Contains-push_cases rest x m (subst (λ l. Contains l m) popped in_more)) [
             | inl in_rest ↦ inl in_rest
-            | inr is ↦ inr (subst (λ (k : Member S × Path). IsHeld observes pending now (config_of k)) is (subst (IsHeld observes pending now) same (n, there, subst (DominatesIn observes pending n.0 c.0 c.1) parts.1 above)))
+            | inr is ↦ inr (subst (λ (k : Member S × Path). IsHeld observes pending now (config_of k)) is (subst (IsHeld observes pending now) same held_there))
           ]
           | inr held ↦ inr held
         ];
       }
 
-      pub merging_push : (then' : List (Member S × Path)) (c : S × List (ℕ × Reply)) → c ≡ config_of x → ((n : Member S × Path) × Contains now n × DominatesIn observes pending n.0 c.0 c.1 x.0.offers → ⊥)
+      pub merging_push : (then' : List (Member S × Path)) (c : S × List (ℕ × Reply)) → c ≡ config_of x → (Contains (map config_of now) c → ⊥)
           → then' ≡ now ++ x ∷ [] → IsMerging others rest old then'
       merging_push then' c same never pushed = record {
         bare = parts.0;
@@ -95,7 +95,7 @@ module _ {S : Type 0} (observes : Call → Bool) (pending : List Open) where
           | inr is ↦ inr (subst (Contains others) is (h.rest_of x (subst (λ l. Contains l x) (sym popped) (Contains-push rest x))))
         ];
         different = λ all. subst AreDifferent (sym pushed) (all_pairs_push (λ (k m : Member S × Path). config_of k ≢ config_of m) now x (h.different all)
-            (λ k d inside is. never (get_or now k d, Contains-get_or now k d inside, subst (DominatesIn observes pending (get_or now k d).0 c.0 c.1) (sym parts.1) (holds_own observes pending (get_or now k d) c (is ∙ sym same)))));
+            (λ k d inside is. never (subst (Contains (map config_of now)) (is ∙ sym same) (in_map config_of now (get_or now k d) (Contains-get_or now k d inside)))));
         held = λ m within. elim (h.held m within) [
           | inl in_more ↦ elim (Contains-push_cases rest x m (subst (λ l. Contains l m) popped in_more)) [
             | inl in_rest ↦ inl in_rest

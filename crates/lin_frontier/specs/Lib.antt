@@ -1,5 +1,6 @@
 pub mod Sameness
 pub mod Nodes
+pub mod Parts
 pub mod Frontiers
 pub mod Covers
 pub mod Walks
@@ -7,6 +8,7 @@ pub mod Members
 pub mod MemberLaws
 pub mod Rounds
 pub mod RoundLaws
+pub mod Masks
 pub mod MemberExamples
 pub mod Placing
 pub mod Searching

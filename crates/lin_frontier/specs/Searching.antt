@@ -56,6 +56,12 @@ PlacesIfUpdate step observes o c p d = (observes o.call ≡ false) × PlacesOne 
 abbrev pub PlacesUpdate : {S : Type 0} → (S → Call → S → Reply → Type 0) → (Call → Bool) → List Open → S × List (ℕ × Reply) → Placed → S × List (ℕ × Reply) → Type 0
 PlacesUpdate step observes pending c p d = (o : Open) × Contains pending o × PlacesIfUpdate step observes o c p d
 
+-- the configuration has the other's state, and no more placed but what crashed
+pub record CoversIn {S : Type 0} (pending : List Open) (c d : S × List (ℕ × Reply)) : Type 0 where
+  pub same : c.0 ≡ d.0
+  pub part : All (λ x. Contains d.1 x) c.1
+  pub rest : All (λ x. Contains c.1 x ⊎ (is_crashed pending x.0 ≡ true)) d.1
+
 -- the member has this state, no more placed but what crashed, and on offer all of these that somebody waits for
 pub record DominatesIn {S : Type 0} (observes : Call → Bool) (pending : List Open) (m : Member S) (state : S) (placed : List (ℕ × Reply)) (offers : List (ℕ × (ℕ × Reply))) : Type 0 where
   pub same : m.state ≡ state

@@ -9,12 +9,12 @@ ghost use Rattle.lin_frontier.specs.Searching.{AreBehind, PlacesIfUpdate, Places
 ghost use Rattle.lin_frontier.specs.Walks.{IsTriedAtMost};
 
 use crate::configs::Config;
-use crate::domination::{is_dominated, is_start_dominated};
 use crate::members::{Member, Path, advanced, answered, placed_at};
 use crate::offers::Offers;
 use crate::pending::Open;
 use crate::placing::place_if_absent;
 use crate::rounds::RoundNodes;
+use crate::seen::Seen;
 use lin_history::{Meter, OutOfMemory, Reply};
 use lin_objects::SeqObject;
 use lin_order::Placed;
@@ -65,6 +65,7 @@ impl<'a, O: SeqObject> Completion<'a, O> {
         &self,
         alloc: Global,
         member: &Member<O::State>,
+        steps: &mut Vec<(O::State, Reply)>,
         meter: &mut Meter,
     ) -> Result<Offers, OutOfMemory>
         ensures offered { IfOk result (AreBehind (O.step self.now.object.now) (O.observing self.now.object.now) self.now.pending.now member.now) }
@@ -76,7 +77,8 @@ impl<'a, O: SeqObject> Completion<'a, O> {
             alloc,
             member.config(),
             self.pending,
-            member.path().round,
+            member.path().round as usize,
+            steps,
             meter,
         )?;
         Ok(offers)
@@ -89,6 +91,7 @@ impl<'a, O: SeqObject> Completion<'a, O> {
         config: &Config<O::State>,
         operation: &Open,
         out: &mut Vec<(Config<O::State>, Placed)>,
+        steps: &mut Vec<(O::State, Reply)>,
         meter: &mut Meter,
     ) -> Result<(), OutOfMemory>
         ensures placed { OnOk result (IsTried (PlacesIfUpdate (O.step self.now.object.now) (O.observing self.now.object.now) operation.now config.now) out.old.items out.new.items) }
@@ -97,7 +100,7 @@ impl<'a, O: SeqObject> Completion<'a, O> {
         if self.object.observes(&operation.call) {
             return Ok(());
         }
-        place_if_absent(self.object, alloc, config, operation, out, meter)?;
+        place_if_absent(self.object, alloc, config, operation, out, steps, meter)?;
         Ok(())
     }
 
@@ -106,6 +109,7 @@ impl<'a, O: SeqObject> Completion<'a, O> {
         &self,
         alloc: Global,
         config: &Config<O::State>,
+        steps: &mut Vec<(O::State, Reply)>,
         meter: &mut Meter,
     ) -> Result<Vec<(Config<O::State>, Placed)>, OutOfMemory>
         ensures placed { IfOk result (λ out. IsTried (PlacesUpdate (O.step self.now.object.now) (O.observing self.now.object.now) self.now.pending.now config.now) [] out.items) }
@@ -113,7 +117,7 @@ impl<'a, O: SeqObject> Completion<'a, O> {
     {
         let mut out = Vec::new(alloc);
         for operation in self.pending {
-            self.place_update(alloc, config, operation, &mut out, meter)?;
+            self.place_update(alloc, config, operation, &mut out, steps, meter)?;
         }
         Ok(out)
     }
@@ -126,6 +130,7 @@ impl<'a, O: SeqObject> Completion<'a, O> {
         next: Vec<(Config<O::State>, Placed)>,
         offers: &Offers,
         starts: &[&Member<O::State>],
+        seen: &mut Seen<O>,
         visited: &mut Vec<Member<O::State>>,
         nodes: &mut RoundNodes,
     ) -> Result<(), OutOfMemory>
@@ -135,14 +140,15 @@ impl<'a, O: SeqObject> Completion<'a, O> {
     {
         let mut rest = next;
         while let Some((config, placed)) = rest.pop() {
-            if is_start_dominated(self.object, self.pending, starts, &config, offers) {
+            if seen.has_start(self.object, self.pending, starts, &config, offers) {
                 continue;
             }
-            if is_dominated(self.object, self.pending, visited, &config, offers) {
+            if seen.has_visited(self.object, self.pending, visited, &config, offers) {
                 continue;
             }
             let member = advanced(alloc, config, offers, path, placed, nodes)?;
             push_member(visited, member)?;
+            seen.catch_up(self.object, alloc, visited)?;
         }
         Ok(())
     }
@@ -152,6 +158,7 @@ impl<'a, O: SeqObject> Completion<'a, O> {
         &self,
         alloc: Global,
         state: &O::State,
+        steps: &mut Vec<(O::State, Reply)>,
         meter: &mut Meter,
     ) -> Result<Vec<O::State>, OutOfMemory>
         ensures sound { IfOk result (λ states. (next : O.State) → Contains states.items next → O.step self.now.object.now state.now self.now.operation.now.call next self.now.reply.now) }
@@ -160,9 +167,8 @@ impl<'a, O: SeqObject> Completion<'a, O> {
     {
         meter.tick_try();
         let mut states = Vec::new(alloc);
-        let mut steps = Vec::new(alloc);
         self.object
-            .outcomes(alloc, state, &self.operation.call, &mut steps)?;
+            .outcomes(alloc, state, &self.operation.call, steps)?;
         while let Some((next, reply)) = steps.pop() {
             push_if(&mut states, next, reply == *self.reply)?;
         }
@@ -174,6 +180,7 @@ impl<'a, O: SeqObject> Completion<'a, O> {
         &self,
         alloc: Global,
         member: &Member<O::State>,
+        steps: &mut Vec<(O::State, Reply)>,
         meter: &mut Meter,
     ) -> Result<Option<usize>, OutOfMemory>
         ensures some { IfOk result (λ found. IfSome found (CanTake (O.step self.now.object.now) self.now.operation.now self.now.reply.now member.now)) }
@@ -183,9 +190,9 @@ impl<'a, O: SeqObject> Completion<'a, O> {
         if let Some(round) = member.offers().round_of(self.operation.process, self.reply) {
             return Ok(Some(round));
         }
-        let mut states = self.states_after(alloc, member.state(), meter)?;
+        let mut states = self.states_after(alloc, member.state(), steps, meter)?;
         match states.pop() {
-            Some(_) => Ok(Some(member.path().round)),
+            Some(_) => Ok(Some(member.path().round as usize)),
             None => Ok(None),
         }
     }
@@ -198,6 +205,7 @@ impl<'a, O: SeqObject> Completion<'a, O> {
         member: &Member<O::State>,
         out: &mut Vec<Member<O::State>>,
         nodes: &mut RoundNodes,
+        steps: &mut Vec<(O::State, Reply)>,
         meter: &mut Meter,
     ) -> Result<Option<Offers>, OutOfMemory>
         requires { O.observing self.now.object.now self.now.operation.now.call ≡ true }
@@ -208,7 +216,7 @@ impl<'a, O: SeqObject> Completion<'a, O> {
         ensures offered { IfOk result (λ offers. IfSome offers (AreBehind (O.step self.now.object.now) (O.observing self.now.object.now) self.now.pending.now member.now)) }
         ensures tried { IsTriedAtMost (length self.now.pending.now + 1) meter.old meter.new }
     {
-        match self.round_given(alloc, member, meter)? {
+        match self.round_given(alloc, member, steps, meter)? {
             Some(round) => {
                 let placed = placed_at(alloc, self.operation.at, self.reply)?;
                 let next = answered(
@@ -224,7 +232,7 @@ impl<'a, O: SeqObject> Completion<'a, O> {
                 Ok(None)
             }
             None => {
-                let offers = self.offers_behind(alloc, member, meter)?;
+                let offers = self.offers_behind(alloc, member, steps, meter)?;
                 Ok(Some(offers))
             }
         }
@@ -238,6 +246,7 @@ impl<'a, O: SeqObject> Completion<'a, O> {
         member: &Member<O::State>,
         out: &mut Vec<Member<O::State>>,
         nodes: &mut RoundNodes,
+        steps: &mut Vec<(O::State, Reply)>,
         meter: &mut Meter,
     ) -> Result<Offers, OutOfMemory>
         requires { O.observing self.now.object.now self.now.operation.now.call ≡ false }
@@ -247,8 +256,8 @@ impl<'a, O: SeqObject> Completion<'a, O> {
         ensures offered { IfOk result (AreBehind (O.step self.now.object.now) (O.observing self.now.object.now) self.now.pending.now member.now) }
         ensures tried { IsTriedAtMost (length self.now.pending.now + 1) meter.old meter.new }
     {
-        let offers = self.offers_behind(alloc, member, meter)?;
-        let mut states = self.states_after(alloc, member.state(), meter)?;
+        let offers = self.offers_behind(alloc, member, steps, meter)?;
+        let mut states = self.states_after(alloc, member.state(), steps, meter)?;
         while let Some(state) = states.pop() {
             let placed = placed_at(alloc, self.operation.at, self.reply)?;
             let config = member.config().with_state(alloc, state)?;
@@ -266,6 +275,7 @@ impl<'a, O: SeqObject> Completion<'a, O> {
         member: &Member<O::State>,
         out: &mut Vec<Member<O::State>>,
         nodes: &mut RoundNodes,
+        steps: &mut Vec<(O::State, Reply)>,
         meter: &mut Meter,
     ) -> Result<Option<Offers>, OutOfMemory>
         ensures grown { IsGrown nodes.old nodes.new }
@@ -276,9 +286,9 @@ impl<'a, O: SeqObject> Completion<'a, O> {
         ensures tried { IsTriedAtMost (length self.now.pending.now + 1) meter.old meter.new }
     {
         if self.object.observes(&self.operation.call) {
-            return self.observe(alloc, member, out, nodes, meter);
+            return self.observe(alloc, member, out, nodes, steps, meter);
         }
-        let offers = self.update(alloc, member, out, nodes, meter)?;
+        let offers = self.update(alloc, member, out, nodes, steps, meter)?;
         Ok(Some(offers))
     }
 
@@ -290,6 +300,7 @@ impl<'a, O: SeqObject> Completion<'a, O> {
         member: &Member<O::State>,
         out: &mut Vec<Member<O::State>>,
         nodes: &mut RoundNodes,
+        steps: &mut Vec<(O::State, Reply)>,
         meter: &mut Meter,
     ) -> Result<Option<Found<O>>, OutOfMemory>
         ensures grown { IsGrown nodes.old nodes.new }
@@ -300,9 +311,9 @@ impl<'a, O: SeqObject> Completion<'a, O> {
         ensures placed { IfOk result (λ found. IfSome found (λ f. IsTried (PlacesUpdate (O.step self.now.object.now) (O.observing self.now.object.now) self.now.pending.now (member.now.0.state, member.now.0.placed)) [] f.0.items)) }
         ensures tried { IsTriedAtMost (2 * length self.now.pending.now + 1) meter.old meter.new }
     {
-        match self.complete(alloc, member, out, nodes, meter)? {
+        match self.complete(alloc, member, out, nodes, steps, meter)? {
             Some(offers) => {
-                let next = self.updates(alloc, member.config(), meter)?;
+                let next = self.updates(alloc, member.config(), steps, meter)?;
                 Ok(Some((next, offers)))
             }
             None => Ok(None),
@@ -316,6 +327,7 @@ impl<'a, O: SeqObject> Completion<'a, O> {
         path: Path,
         found: Option<Found<O>>,
         starts: &[&Member<O::State>],
+        seen: &mut Seen<O>,
         visited: &mut Vec<Member<O::State>>,
         nodes: &mut RoundNodes,
     ) -> Result<(), OutOfMemory>
@@ -325,7 +337,7 @@ impl<'a, O: SeqObject> Completion<'a, O> {
             (map (λ m. m.now) starts.now ++ visited.old.items) (map (λ m. m.now) starts.now ++ visited.new.items))) }
     {
         if let Some((next, offers)) = found {
-            self.visit(alloc, path, next, &offers, starts, visited, nodes)?;
+            self.visit(alloc, path, next, &offers, starts, seen, visited, nodes)?;
         }
         Ok(())
     }
@@ -347,12 +359,14 @@ impl<'a, O: SeqObject> Completion<'a, O> {
         if starts.len() > limit {
             return Ok(None);
         }
+        let mut seen = Seen::new(self.object, alloc, starts)?;
         let mut visited = Vec::new(alloc);
         let mut out = Vec::new(alloc);
+        let mut steps = Vec::new(alloc);
         for start in starts {
             let path = start.path();
-            let found = self.work_off(alloc, start, &mut out, nodes, meter)?;
-            self.visit_found(alloc, path, found, starts, &mut visited, nodes)?;
+            let found = self.work_off(alloc, start, &mut out, nodes, &mut steps, meter)?;
+            self.visit_found(alloc, path, found, starts, &mut seen, &mut visited, nodes)?;
         }
         let mut tried = starts.len();
         let mut at = 0;
@@ -361,8 +375,8 @@ impl<'a, O: SeqObject> Completion<'a, O> {
                 return Ok(None);
             }
             let path = member.path();
-            let found = self.work_off(alloc, member, &mut out, nodes, meter)?;
-            self.visit_found(alloc, path, found, starts, &mut visited, nodes)?;
+            let found = self.work_off(alloc, member, &mut out, nodes, &mut steps, meter)?;
+            self.visit_found(alloc, path, found, starts, &mut seen, &mut visited, nodes)?;
             tried += 1;
             at += 1;
         }

@@ -18,12 +18,12 @@ ghost use Rattle.lin_frontier.specs.Walks.{IsTriedAtMost};
 
 use crate::completions::{Completion, push_if, push_member};
 use crate::configs::{is_absent, is_placed};
-use crate::domination::pruned;
 use crate::member_laws::{
     dominated_can_go, members_after_events, members_after_ok, start_is_complete,
 };
 use crate::members::{Member, copied, taken_out};
 use crate::nodes::NodeId;
+use crate::parts::pruned_many;
 use crate::pending::{Open, open_of, take_in};
 use crate::round_laws::{
     members_are_exact, rounds_after_events, rounds_spell_members, rounds_take_operations,
@@ -307,7 +307,8 @@ fn advanced<O: SeqObject>(
     else {
         return Ok(None);
     };
-    Ok(Some(pruned(object, &pending, found)))
+    let kept = pruned_many(object, alloc, &pending, found)?;
+    Ok(Some(kept))
 }
 
 impl<O: SeqObject> Compressed<O> {
@@ -324,7 +325,7 @@ impl<O: SeqObject> Compressed<O> {
         ensures past { IfNone result (length self.now ≤ i) }
     {
         match self.members.get(i) {
-            Some(member) => Some(member.path().node),
+            Some(member) => Some(member.path().node as usize),
             None => None,
         }
     }

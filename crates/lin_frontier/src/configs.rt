@@ -8,8 +8,8 @@ ghost use Rattle.lin_history.specs.declared.calls.Reply.{Reply as ReplyOf};
 ghost use Rattle.lin_frontier.specs.Placing.{IsAbsent, insert_pair, without};
 ghost use Rattle.lin_frontier.specs.Sameness.{pair_eq, placed_Decides};
 
+use crate::pairs::Pairs;
 use lin_history::{OutOfMemory, Reply};
-use smallvec::SmallVec;
 use std::alloc::Global;
 use std::hash::{Hash, Hasher};
 use std::marker::Model;
@@ -19,7 +19,7 @@ use std::marker::Model;
 #[derive(Drop)]
 pub struct Config<S: Eq + Hash> {
     state: S,
-    placed: SmallVec<(u64, Reply), 2>,
+    placed: Pairs,
 }
 
 impl<S: Eq + Hash> Model for Config<S> {
@@ -28,7 +28,7 @@ impl<S: Eq + Hash> Model for Config<S> {
 
     ghost Value = { S × List (ℕ × ReplyOf) };
 
-    ghost view = { λ c. (c.state, c.placed.items) };
+    ghost view = { λ c. (c.state, c.placed) };
 }
 
 impl<S: Eq + Hash> Config<S> {
@@ -38,7 +38,7 @@ impl<S: Eq + Hash> Config<S> {
     {
         Config {
             state,
-            placed: SmallVec::new(alloc),
+            placed: Pairs::new(alloc),
         }
     }
 
@@ -55,29 +55,25 @@ impl<S: Eq + Hash> Config<S> {
     {
         self.placed.as_slice()
     }
-}
 
-/// Puts a copy of the pair last.
-fn append_pair(
-    alloc: Global,
-    copy: &mut SmallVec<(u64, Reply), 2>,
-    pair: &(u64, Reply),
-) -> Result<(), OutOfMemory>
-    ensures { OnOk result (copy.new.items ≡ copy.old.items ++ pair.now ∷ []) }
-{
-    match copy.push((pair.0, pair.1.copy(alloc)?)) {
-        Ok(()) => Ok(()),
-        Err(_) => Err(OutOfMemory),
+    /// The same with what tells quickly whether they may be part of others.
+    pub(crate) fn pairs(&self) -> &Pairs
+        ensures { result.now ≡ self.now.1 }
+    {
+        &self.placed
     }
 }
 
+/// Puts a copy of the pair last.
+fn append_pair(alloc: Global, copy: &mut Pairs, pair: &(u64, Reply)) -> Result<(), OutOfMemory>
+    ensures { OnOk result (copy.new ≡ copy.old ++ pair.now ∷ []) }
+{
+    copy.push(pair.0, pair.1.copy(alloc)?)
+}
+
 /// Puts copies of the pairs last.
-fn append_pairs(
-    alloc: Global,
-    copy: &mut SmallVec<(u64, Reply), 2>,
-    pairs: &[(u64, Reply)],
-) -> Result<(), OutOfMemory>
-    ensures { OnOk result (copy.new.items ≡ copy.old.items ++ pairs.now) }
+fn append_pairs(alloc: Global, copy: &mut Pairs, pairs: &[(u64, Reply)]) -> Result<(), OutOfMemory>
+    ensures { OnOk result (copy.new ≡ copy.old ++ pairs.now) }
 {
     for pair in pairs {
         append_pair(alloc, copy, pair)?;
@@ -138,7 +134,7 @@ impl<S: Eq + Hash> Config<S> {
         S: Drop,
         ensures { IfOk result (λ c. c ≡ (state, self.now.1)) }
     {
-        let mut placed = SmallVec::new(alloc);
+        let mut placed = Pairs::new(alloc);
         append_pairs(alloc, &mut placed, self.placed.as_slice())?;
         Ok(Config { state, placed })
     }
@@ -157,12 +153,9 @@ impl<S: Eq + Hash> Config<S> {
     {
         let pairs = self.placed.as_slice();
         let at = place_of(pairs, process);
-        let mut placed = SmallVec::new(alloc);
+        let mut placed = Pairs::new(alloc);
         append_pairs(alloc, &mut placed, &pairs[..at])?;
-        match placed.push((process, reply)) {
-            Ok(()) => {}
-            Err(_) => return Err(OutOfMemory),
-        }
+        placed.push(process, reply)?;
         append_pairs(alloc, &mut placed, &pairs[at..])?;
         Ok(Config { state, placed })
     }
@@ -173,7 +166,7 @@ impl<S: Eq + Hash> Config<S> {
         S: Drop,
         ensures { IfOk result (λ c. c ≡ (state, without process self.now.1)) }
     {
-        let mut placed = SmallVec::new(alloc);
+        let mut placed = Pairs::new(alloc);
         for pair in self.placed.as_slice() {
             if pair.0 == process {
                 continue;
@@ -190,7 +183,7 @@ impl<S: Eq + Hash> PartialEq for Config<S> {
     ghost laws = { partial_equiv_from_equiv (and_equiv (on_equiv (λ a. a.0) S.Eq.laws) (on_equiv (λ a. a.1) (decided (pointwise pair_eq) placed_Decides))) };
 
     fn eq(&self, other: &Self) -> bool {
-        self.state == other.state && self.placed == other.placed
+        self.state == other.state && self.placed() == other.placed()
     }
 }
 
@@ -205,6 +198,6 @@ impl<S: Eq + Hash> Hash for Config<S> {
 
     fn hash<H: Hasher>(&self, state: &mut H) {
         self.state.hash(state);
-        self.placed.hash(state);
+        self.placed().hash(state);
     }
 }

@@ -4,7 +4,7 @@ ghost use Rattle.lin_history.specs.declared.calls.Reply.{Reply as ReplyOf};
 ghost use Rattle.lin_frontier.specs.Members.{Member as MemberOf, IsOnOffer};
 ghost use Rattle.lin_frontier.specs.declared.members.Path.{Path as PathOf};
 ghost use Rattle.lin_frontier.specs.Placing.{IsAbsent};
-ghost use Rattle.lin_frontier.specs.Searching.{is_crashed as is_crashed_in, is_watching as is_watching_in, DominatesIn, IsPruned};
+ghost use Rattle.lin_frontier.specs.Searching.{is_crashed as is_crashed_in, is_watching as is_watching_in, CoversIn, DominatesIn, IsPruned};
 
 use crate::configs::{Config, is_absent, is_placed};
 use crate::members::Member;
@@ -91,6 +91,26 @@ fn is_same_state<O: SeqObject>(state: &O::State, other: &O::State) -> bool
     *state == *other
 }
 
+/// Whether the configuration has the same state as the other one, and no more placed but for crashed operations.
+pub fn covers<O: SeqObject>(
+    pending: &[Open],
+    config: &Config<O::State>,
+    other: &Config<O::State>,
+) -> bool
+    ensures { IsTrue result ↔ CoversIn pending.now config.now other.now }
+{
+    if !config.pairs().may_be_part(other.pairs()) {
+        return false;
+    }
+    if !is_same_state::<O>(config.state(), other.state()) {
+        return false;
+    }
+    if !is_part(config.placed(), other.placed()) {
+        return false;
+    }
+    is_part_but_crashed(pending, other.placed(), config.placed())
+}
+
 /// Whether the member has the same state as the configuration, no more placed but for crashed operations, and all of the
 /// offers that matter.
 pub fn dominates<O: SeqObject>(
@@ -102,13 +122,7 @@ pub fn dominates<O: SeqObject>(
 ) -> bool
     ensures { IsTrue result ↔ DominatesIn (O.observing object.now) pending.now member.now.0 config.now.0 config.now.1 offers.now }
 {
-    if !is_same_state::<O>(member.state(), config.state()) {
-        return false;
-    }
-    if !is_part(member.placed(), config.placed()) {
-        return false;
-    }
-    if !is_part_but_crashed(pending, config.placed(), member.placed()) {
+    if !covers::<O>(pending, member.config(), config) {
         return false;
     }
     has_offers(object, pending, member, offers)
@@ -140,7 +154,7 @@ pub fn is_start_dominated<O: SeqObject>(
     config: &Config<O::State>,
     offers: &Offers,
 ) -> bool
-    ensures { IsTrue result ↔ ((m : MemberOf O.State × PathOf) × Contains (map (λ m. m.now) members.now) m × DominatesIn (O.observing object.now) pending.now m.0 config.now.0 config.now.1 offers.now) }
+    ensures { IsTrue result → (m : MemberOf O.State × PathOf) × Contains (map (λ m. m.now) members.now) m × DominatesIn (O.observing object.now) pending.now m.0 config.now.0 config.now.1 offers.now }
 {
     for member in members {
         if dominates(object, pending, member, config, offers) {

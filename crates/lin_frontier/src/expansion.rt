@@ -15,11 +15,10 @@ ghost use Rattle.lin_frontier.specs.Nodes.{IsGrown};
 ghost use Rattle.lin_frontier.specs.Placing.{PlacesOne};
 ghost use Rattle.lin_frontier.specs.Walks.{IsTriedAtMost};
 
-use crate::completions::push_member;
 use crate::configs::{Config, is_absent};
-use crate::domination::is_dominated;
+use crate::gathered::Gathered;
 use crate::keeping::copy_config;
-use crate::members::{Member, Path, bare_next, placed_at};
+use crate::members::{Path, bare_next, placed_at};
 use crate::offers::Offers;
 use crate::pending::{Open, open_of};
 use crate::placing::place_if_absent;
@@ -49,18 +48,17 @@ impl<'a, O: SeqObject> Expansion<'a, O> {
         config: Config<O::State>,
         placed: Placed,
         spot: Option<usize>,
-        found: &mut Vec<Member<O::State>>,
+        found: &mut Gathered<O>,
         nodes: &mut RoundNodes,
     ) -> Result<(), OutOfMemory>
         ensures grown { IsGrown nodes.old nodes.new }
-        ensures taken { OnOk result (IsTakenIn (O.observing self.now.object.now) self.now.pending.now config placed spot path nodes.new found.old.items found.new.items) }
+        ensures taken { OnOk result (IsTakenIn (O.observing self.now.object.now) self.now.pending.now config placed spot path nodes.new found.old found.new) }
     {
-        let none = Offers::new(alloc);
-        if is_dominated(self.object, self.pending, found, &config, &none) {
+        if found.holds(self.pending, &config) {
             return Ok(());
         }
         let member = bare_next(alloc, config, path, placed, spot, nodes)?;
-        push_member(found, member)?;
+        found.push(self.object, alloc, member)?;
         Ok(())
     }
 
@@ -71,14 +69,14 @@ impl<'a, O: SeqObject> Expansion<'a, O> {
         config: &Config<O::State>,
         path: Path,
         offer: &(usize, (u64, Reply)),
-        found: &mut Vec<Member<O::State>>,
+        found: &mut Gathered<O>,
         nodes: &mut RoundNodes,
     ) -> Result<(), OutOfMemory>
-        requires there { Contains found.now.items (member_at config.now [], path) }
+        requires there { Contains found.now (member_at config.now [], path) }
         requires offered { Contains self.now.offers.now offer.now }
         ensures grown { IsGrown nodes.old nodes.new }
-        ensures extended { OnOk result (IsExtended (O.starts self.now.object.now) (O.step self.now.object.now) (O.observing self.now.object.now) self.now.pending.now self.now.offers.now nodes.old nodes.new found.old.items found.new.items) }
-        ensures taken { OnOk result (IsTakenAt (O.observing self.now.object.now) self.now.pending.now found.new.items config.now offer.now) }
+        ensures extended { OnOk result (IsExtended (O.starts self.now.object.now) (O.step self.now.object.now) (O.observing self.now.object.now) self.now.pending.now self.now.offers.now nodes.old nodes.new found.old found.new) }
+        ensures taken { OnOk result (IsTakenAt (O.observing self.now.object.now) self.now.pending.now found.new config.now offer.now) }
     {
         rounds_take_operations(self.object);
         well_formed_is_alternating();
@@ -103,13 +101,13 @@ impl<'a, O: SeqObject> Expansion<'a, O> {
         alloc: Global,
         config: &Config<O::State>,
         path: Path,
-        found: &mut Vec<Member<O::State>>,
+        found: &mut Gathered<O>,
         nodes: &mut RoundNodes,
     ) -> Result<(), OutOfMemory>
-        requires there { Contains found.now.items (member_at config.now [], path) }
+        requires there { Contains found.now (member_at config.now [], path) }
         ensures grown { IsGrown nodes.old nodes.new }
-        ensures extended { OnOk result (IsExtended (O.starts self.now.object.now) (O.step self.now.object.now) (O.observing self.now.object.now) self.now.pending.now self.now.offers.now nodes.old nodes.new found.old.items found.new.items) }
-        ensures taken { OnOk result (All (IsTakenAt (O.observing self.now.object.now) self.now.pending.now found.new.items config.now) self.now.offers.now) }
+        ensures extended { OnOk result (IsExtended (O.starts self.now.object.now) (O.step self.now.object.now) (O.observing self.now.object.now) self.now.pending.now self.now.offers.now nodes.old nodes.new found.old found.new) }
+        ensures taken { OnOk result (All (IsTakenAt (O.observing self.now.object.now) self.now.pending.now found.new config.now) self.now.offers.now) }
     {
         for offer in self.offers.as_slice() {
             self.take_one(alloc, config, path, offer, found, nodes)?;
@@ -131,8 +129,17 @@ impl<'a, O: SeqObject> Expansion<'a, O> {
         ensures tried { IsTriedAtMost (length self.now.pending.now) meter.old meter.new }
     {
         let mut out = Vec::new(alloc);
+        let mut steps = Vec::new(alloc);
         for operation in self.pending {
-            place_if_absent(self.object, alloc, config, operation, &mut out, meter)?;
+            place_if_absent(
+                self.object,
+                alloc,
+                config,
+                operation,
+                &mut out,
+                &mut steps,
+                meter,
+            )?;
         }
         Ok(out)
     }
@@ -143,14 +150,14 @@ impl<'a, O: SeqObject> Expansion<'a, O> {
         alloc: Global,
         config: &Config<O::State>,
         path: Path,
-        found: &mut Vec<Member<O::State>>,
+        found: &mut Gathered<O>,
         nodes: &mut RoundNodes,
         meter: &mut Meter,
     ) -> Result<(), OutOfMemory>
-        requires there { Contains found.now.items (member_at config.now [], path) }
+        requires there { Contains found.now (member_at config.now [], path) }
         ensures grown { IsGrown nodes.old nodes.new }
-        ensures extended { OnOk result (IsExtended (O.starts self.now.object.now) (O.step self.now.object.now) (O.observing self.now.object.now) self.now.pending.now self.now.offers.now nodes.old nodes.new found.old.items found.new.items) }
-        ensures placed { OnOk result (IsPlacedAt (O.step self.now.object.now) (O.observing self.now.object.now) self.now.pending.now found.new.items config.now) }
+        ensures extended { OnOk result (IsExtended (O.starts self.now.object.now) (O.step self.now.object.now) (O.observing self.now.object.now) self.now.pending.now self.now.offers.now nodes.old nodes.new found.old found.new) }
+        ensures placed { OnOk result (IsPlacedAt (O.step self.now.object.now) (O.observing self.now.object.now) self.now.pending.now found.new config.now) }
         ensures tried { IsTriedAtMost (length self.now.pending.now) meter.old meter.new }
     {
         rounds_take_operations(self.object);
@@ -167,15 +174,15 @@ impl<'a, O: SeqObject> Expansion<'a, O> {
         alloc: Global,
         config: &Config<O::State>,
         path: Path,
-        found: &mut Vec<Member<O::State>>,
+        found: &mut Gathered<O>,
         nodes: &mut RoundNodes,
         meter: &mut Meter,
     ) -> Result<(), OutOfMemory>
-        requires there { Contains found.now.items (member_at config.now [], path) }
+        requires there { Contains found.now (member_at config.now [], path) }
         ensures grown { IsGrown nodes.old nodes.new }
-        ensures extended { OnOk result (IsExtended (O.starts self.now.object.now) (O.step self.now.object.now) (O.observing self.now.object.now) self.now.pending.now self.now.offers.now nodes.old nodes.new found.old.items found.new.items) }
-        ensures taken { OnOk result (All (IsTakenAt (O.observing self.now.object.now) self.now.pending.now found.new.items config.now) self.now.offers.now) }
-        ensures placed { OnOk result (self.now.places ≡ true → IsPlacedAt (O.step self.now.object.now) (O.observing self.now.object.now) self.now.pending.now found.new.items config.now) }
+        ensures extended { OnOk result (IsExtended (O.starts self.now.object.now) (O.step self.now.object.now) (O.observing self.now.object.now) self.now.pending.now self.now.offers.now nodes.old nodes.new found.old found.new) }
+        ensures taken { OnOk result (All (IsTakenAt (O.observing self.now.object.now) self.now.pending.now found.new config.now) self.now.offers.now) }
+        ensures placed { OnOk result (self.now.places ≡ true → IsPlacedAt (O.step self.now.object.now) (O.observing self.now.object.now) self.now.pending.now found.new config.now) }
         ensures tried { IsTriedAtMost (placing_tries self.now.places self.now.pending.now) meter.old meter.new }
     {
         self.take_all(alloc, config, path, found, nodes)?;
@@ -191,19 +198,19 @@ impl<'a, O: SeqObject> Expansion<'a, O> {
     pub fn reach(
         &self,
         alloc: Global,
-        starts: Vec<Member<O::State>>,
+        starts: Gathered<O>,
         budget: usize,
         nodes: &mut RoundNodes,
         meter: &mut Meter,
-    ) -> Result<Option<Vec<Member<O::State>>>, OutOfMemory>
-        requires { All (λ m. m.0.offers ≡ []) starts.items }
+    ) -> Result<Option<Gathered<O>>, OutOfMemory>
+        requires { All (λ m. m.0.offers ≡ []) starts }
         ensures grown { IsGrown nodes.old nodes.new }
-        ensures extended { IfOk result (λ found. IfSome found (λ out. IsExtended (O.starts self.now.object.now) (O.step self.now.object.now) (O.observing self.now.object.now) self.now.pending.now self.now.offers.now nodes.old nodes.new starts.items out.items)) }
-        ensures worked_off { IfOk result (λ found. IfSome found (λ out. AreWorkedOff (O.step self.now.object.now) (O.observing self.now.object.now) self.now.pending.now self.now.offers.now self.now.places out.items)) }
-        ensures small { IfOk result (λ found. IfSome found (λ out. length out.items ≤ budget)) }
+        ensures extended { IfOk result (λ found. IfSome found (λ out. IsExtended (O.starts self.now.object.now) (O.step self.now.object.now) (O.observing self.now.object.now) self.now.pending.now self.now.offers.now nodes.old nodes.new starts out)) }
+        ensures worked_off { IfOk result (λ found. IfSome found (λ out. AreWorkedOff (O.step self.now.object.now) (O.observing self.now.object.now) self.now.pending.now self.now.offers.now self.now.places out)) }
+        ensures small { IfOk result (λ found. IfSome found (λ out. length out ≤ budget)) }
         ensures over { IfOk result (λ found. IfNone found ((functions : ℤ → NameOf → Bool) (h : List EventOf) → IsWellFormed functions h → IsPending h self.now.pending.now
-            → All (λ m. IsSpelled (O.starts self.now.object.now) (O.step self.now.object.now) (O.observing self.now.object.now) h nodes.old (with_offers self.now.offers.now m)) starts.items
-            → AreDifferent starts.items → IsOver (O.starts self.now.object.now) (O.step self.now.object.now) h budget)) }
+            → All (λ m. IsSpelled (O.starts self.now.object.now) (O.step self.now.object.now) (O.observing self.now.object.now) h nodes.old (with_offers self.now.offers.now m)) starts
+            → AreDifferent starts → IsOver (O.starts self.now.object.now) (O.step self.now.object.now) h budget)) }
         ensures tried { IsTriedAtMost (budget * placing_tries self.now.places self.now.pending.now) meter.old meter.new }
     {
         rounds_spell_members(self.object);

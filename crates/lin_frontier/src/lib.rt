@@ -7,6 +7,7 @@ mod configs;
 mod domination;
 mod expansion;
 mod frontier;
+mod gathered;
 mod keeping;
 mod listed;
 mod member_examples;
@@ -14,11 +15,15 @@ mod member_laws;
 mod members;
 mod nodes;
 mod offers;
+mod pairs;
+mod parts;
 mod pending;
+mod places;
 mod placing;
 mod round_laws;
 mod rounds;
 mod search;
+mod seen;
 #[cfg(test)]
 mod tests;
 #[cfg(test)]

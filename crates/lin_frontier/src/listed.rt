@@ -9,9 +9,8 @@ ghost use Rattle.lin_frontier.specs.Listed.{with_offers, AreDifferent, AreWorked
 ghost use Rattle.lin_frontier.specs.Nodes.{IsGrown};
 ghost use Rattle.lin_frontier.specs.Walks.{IsTriedAtMost};
 
-use crate::completions::push_member;
-use crate::domination::is_dominated;
 use crate::expansion::Expansion;
+use crate::gathered::Gathered;
 use crate::member_laws::members_cover_configurations;
 use crate::members::{Member, bare};
 use crate::offers::Offers;
@@ -31,16 +30,16 @@ fn spread<O: SeqObject>(
     budget: usize,
     nodes: &mut RoundNodes,
     meter: &mut Meter,
-) -> Result<Option<Vec<Member<O::State>>>, OutOfMemory>
+) -> Result<Option<Gathered<O>>, OutOfMemory>
     ensures grown { IsGrown nodes.old nodes.new }
-    ensures extended { IfOk result (λ found. IfSome found (λ out. IsExtended (O.starts object.now) (O.step object.now) (O.observing object.now) pending.now member.now.0.offers nodes.old nodes.new (with_offers [] member.now ∷ []) out.items)) }
-    ensures worked_off { IfOk result (λ found. IfSome found (λ out. AreWorkedOff (O.step object.now) (O.observing object.now) pending.now member.now.0.offers false out.items)) }
+    ensures extended { IfOk result (λ found. IfSome found (λ out. IsExtended (O.starts object.now) (O.step object.now) (O.observing object.now) pending.now member.now.0.offers nodes.old nodes.new (with_offers [] member.now ∷ []) out)) }
+    ensures worked_off { IfOk result (λ found. IfSome found (λ out. AreWorkedOff (O.step object.now) (O.observing object.now) pending.now member.now.0.offers false out)) }
     ensures over { IfOk result (λ found. IfNone found ((functions : ℤ → NameOf → Bool) (h : List EventOf) → IsWellFormed functions h → IsPending h pending.now
         → IsSpelled (O.starts object.now) (O.step object.now) (O.observing object.now) h nodes.old member.now → IsOver (O.starts object.now) (O.step object.now) h budget)) }
     ensures tried { IsTriedAtMost 0 meter.old meter.new }
 {
-    let mut starts = Vec::new(alloc);
-    push_member(&mut starts, bare(object, alloc, member)?)?;
+    let mut starts = Gathered::new(alloc);
+    starts.push(object, alloc, bare(object, alloc, member)?)?;
     let choices = Expansion {
         object,
         pending,
@@ -54,19 +53,20 @@ fn spread<O: SeqObject>(
 /// Puts those of the others last of which no member holds the configuration.
 fn merge<O: SeqObject>(
     object: &O,
+    alloc: Global,
     pending: &[Open],
-    others: Vec<Member<O::State>>,
-    members: &mut Vec<Member<O::State>>,
+    others: Gathered<O>,
+    members: &mut Gathered<O>,
 ) -> Result<(), OutOfMemory>
-    requires { All (λ m. m.0.offers ≡ []) others.items }
-    ensures { OnOk result (IsMerged (O.observing object.now) pending.now others.items members.old.items members.new.items) }
+    requires { All (λ m. m.0.offers ≡ []) others }
+    ensures { OnOk result (IsMerged (O.observing object.now) pending.now others members.old members.new) }
 {
-    let mut rest = others;
+    let mut rest = others.into_members();
     while let Some(member) = rest.pop() {
-        if is_dominated(object, pending, members, member.config(), member.offers()) {
+        if members.holds(pending, member.config()) {
             continue;
         }
-        push_member(members, member)?;
+        members.push(object, alloc, member)?;
     }
     Ok(())
 }
@@ -80,14 +80,14 @@ pub fn listed<O: SeqObject>(
     budget: usize,
     nodes: &mut RoundNodes,
     meter: &mut Meter,
-) -> Result<Option<Vec<Member<O::State>>>, OutOfMemory>
+) -> Result<Option<Gathered<O>>, OutOfMemory>
     ensures grown { IsGrown nodes.old nodes.new }
     ensures listing { IfOk result (λ found. IfSome found (λ out. (functions : ℤ → NameOf → Bool) (h : List EventOf) → IsWellFormed functions h → IsPending h pending.now
         → IsCovering (O.starts object.now) (O.step object.now) (O.observing object.now) h members.now nodes.old
-        → IsListingOf (O.starts object.now) (O.step object.now) (O.observing object.now) h out.items nodes.new)) }
-    ensures bare { IfOk result (λ found. IfSome found (λ out. All (λ m. m.0.offers ≡ []) out.items)) }
-    ensures different { IfOk result (λ found. IfSome found (λ out. AreDifferent out.items)) }
-    ensures small { IfOk result (λ found. IfSome found (λ out. length out.items ≤ budget)) }
+        → IsListingOf (O.starts object.now) (O.step object.now) (O.observing object.now) h out nodes.new)) }
+    ensures bare { IfOk result (λ found. IfSome found (λ out. All (λ m. m.0.offers ≡ []) out)) }
+    ensures different { IfOk result (λ found. IfSome found (λ out. AreDifferent out)) }
+    ensures small { IfOk result (λ found. IfSome found (λ out. length out ≤ budget)) }
     ensures over { IfOk result (λ found. IfNone found ((functions : ℤ → NameOf → Bool) (h : List EventOf) → IsWellFormed functions h → IsPending h pending.now
         → IsCovering (O.starts object.now) (O.step object.now) (O.observing object.now) h members.now nodes.old
         → IsOver (O.starts object.now) (O.step object.now) h budget)) }
@@ -97,12 +97,12 @@ pub fn listed<O: SeqObject>(
     ends_are_unique();
     members_cover_configurations(object);
     rounds_spell_members(object);
-    let mut all = Vec::new(alloc);
+    let mut all = Gathered::new(alloc);
     for member in members {
         let Some(found) = spread(object, alloc, pending, member, budget, nodes, meter)? else {
             return Ok(None);
         };
-        merge(object, pending, found, &mut all)?;
+        merge(object, alloc, pending, found, &mut all)?;
         if all.len() > budget {
             return Ok(None);
         }

@@ -8,7 +8,6 @@ ghost use Rattle.lin_frontier.specs.Placing.{without as without_process};
 ghost use Rattle.lin_frontier.specs.Searching.{IsNodeOf, watched};
 
 use crate::configs::Config;
-use crate::nodes::NodeId;
 use crate::offers::Offers;
 use crate::pending::Open;
 use crate::rounds::RoundNodes;
@@ -29,11 +28,12 @@ pub struct Member<S: Eq + Hash> {
     pub(crate) path: Path,
 }
 
-/// How a member was come by: a node that spells it in rounds, and the last one of these.
+/// How a member was come by: a node that spells it in rounds, and the last one of these. It is small, since members are
+/// moved often.
 #[derive(Clone, Copy, Debug, PartialEq, Eq)]
 pub struct Path {
-    pub node: NodeId,
-    pub round: usize,
+    pub node: u32,
+    pub round: u32,
 }
 
 impl<S: Eq + Hash> Model for Member<S> {
@@ -164,12 +164,46 @@ pub fn answered<O: SeqObject>(
     let state = object.copy_state(alloc, member.config.state())?;
     let config = member.config.with_state(alloc, state)?;
     let offers = member.offers.watched(object, alloc, pending)?;
-    let node = nodes.push(member.path.node, placed, Some(round))?;
-    let round = member.path.round;
+    let path = in_round(member.path, placed, round, nodes)?;
     Ok(Member {
         config,
         offers,
-        path: Path { node, round },
+        path,
+    })
+}
+
+/// A node more under the parent.
+fn pushed(
+    parent: u32,
+    placed: Placed,
+    spot: Option<usize>,
+    nodes: &mut RoundNodes,
+) -> Result<u32, OutOfMemory>
+    ensures grown { IsGrown nodes.old nodes.new }
+    ensures node { IfOk result (λ id. IsNodeOf nodes.new id parent (placed, spot)) }
+{
+    let id = nodes.push(parent as usize, placed, spot)?;
+    match u32::try_from(id) {
+        Ok(id) => Ok(id),
+        Err(_) => Err(OutOfMemory),
+    }
+}
+
+/// The path with the operation put in the round.
+fn in_round(
+    path: Path,
+    placed: Placed,
+    round: usize,
+    nodes: &mut RoundNodes,
+) -> Result<Path, OutOfMemory>
+    ensures grown { IsGrown nodes.old nodes.new }
+    ensures round { IfOk result (λ next. next.round ≡ path.round) }
+    ensures node { IfOk result (λ next. IsNodeOf nodes.new next.node path.node (placed, Some round)) }
+{
+    let node = pushed(path.node, placed, Some(round), nodes)?;
+    Ok(Path {
+        node,
+        round: path.round,
     })
 }
 
@@ -183,7 +217,7 @@ fn in_next_round(path: Path, placed: Placed, nodes: &mut RoundNodes) -> Result<P
     let Some(round) = path.round.checked_add(1) else {
         return Err(OutOfMemory);
     };
-    let node = nodes.push(path.node, placed, None)?;
+    let node = pushed(path.node, placed, None, nodes)?;
     Ok(Path { node, round })
 }
 
@@ -253,11 +287,7 @@ fn continued(
     ensures continued { IfOk result (λ next. Continues nodes.new path next placed spot) }
 {
     match spot {
-        Some(round) => {
-            let node = nodes.push(path.node, placed, Some(round))?;
-            let round = path.round;
-            Ok(Path { node, round })
-        }
+        Some(round) => in_round(path, placed, round, nodes),
         None => in_next_round(path, placed, nodes),
     }
 }

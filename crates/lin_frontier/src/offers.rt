@@ -151,7 +151,7 @@ impl Offers {
         self.push(round, process, reply)
     }
 
-    /// Offers in the round what the state gives to the operation.
+    /// Offers in the round what the state gives to the operation. `steps` is only written over.
     fn offer_given<O: SeqObject>(
         &mut self,
         object: &O,
@@ -159,14 +159,14 @@ impl Offers {
         state: &O::State,
         operation: &Open,
         round: usize,
+        steps: &mut Vec<(O::State, Reply)>,
         meter: &mut Meter,
     ) -> Result<(), OutOfMemory>
         ensures offered { OnOk result (IsOffering (Gives (O.step object.now) state.now operation.now) round self.old self.new) }
         ensures tried { IsTriedAtMost 1 meter.old meter.new }
     {
         meter.tick_try();
-        let mut steps = Vec::new(alloc);
-        object.outcomes(alloc, state, &operation.call, &mut steps)?;
+        object.outcomes(alloc, state, &operation.call, steps)?;
         while let Some((_, reply)) = steps.pop() {
             self.offer(round, operation.process, reply)?;
         }
@@ -183,6 +183,7 @@ impl Offers {
         pending: &[Open],
         operation: &Open,
         round: usize,
+        steps: &mut Vec<(O::State, Reply)>,
         meter: &mut Meter,
     ) -> Result<(), OutOfMemory>
         ensures offered { OnOk result (IsOffering (GivesOne (O.step object.now) (O.observing object.now) pending.now config.now operation.now) round self.old self.new) }
@@ -194,7 +195,15 @@ impl Offers {
         if !is_absent(config.placed(), operation.process) {
             return Ok(());
         }
-        self.offer_given(object, alloc, config.state(), operation, round, meter)?;
+        self.offer_given(
+            object,
+            alloc,
+            config.state(),
+            operation,
+            round,
+            steps,
+            meter,
+        )?;
         Ok(())
     }
 
@@ -206,13 +215,16 @@ impl Offers {
         config: &Config<O::State>,
         pending: &[Open],
         round: usize,
+        steps: &mut Vec<(O::State, Reply)>,
         meter: &mut Meter,
     ) -> Result<(), OutOfMemory>
         ensures offered { OnOk result (IsOffering (GivesAny (O.step object.now) (O.observing object.now) pending.now config.now) round self.old self.new) }
         ensures tried { IsTriedAtMost (length pending.now) meter.old meter.new }
     {
         for operation in pending {
-            self.offer_one(object, alloc, config, pending, operation, round, meter)?;
+            self.offer_one(
+                object, alloc, config, pending, operation, round, steps, meter,
+            )?;
         }
         Ok(())
     }

@@ -7,18 +7,20 @@ ghost use Rattle.lin_frontier.specs.Walks.{IsTriedAtMost};
 use crate::configs::{Config, is_absent};
 use crate::pending::Open;
 use crate::search::Steps;
-use lin_history::{Meter, OutOfMemory};
+use lin_history::{Meter, OutOfMemory, Reply};
 use lin_objects::SeqObject;
 use lin_order::Placed;
 use std::alloc::Global;
 
-/// Places the operation, which has no place in the configuration yet, in each way that the object has.
+/// Places the operation, which has no place in the configuration yet, in each way that the object has. `steps` is only
+/// written over.
 fn place<O: SeqObject>(
     object: &O,
     alloc: Global,
     config: &Config<O::State>,
     operation: &Open,
     out: &mut Vec<(Config<O::State>, Placed)>,
+    steps: &mut Vec<(O::State, Reply)>,
     meter: &mut Meter,
 ) -> Result<(), OutOfMemory>
     requires { IsAbsent operation.now.process config.now.1 }
@@ -26,8 +28,7 @@ fn place<O: SeqObject>(
     ensures tried { IsTriedAtMost 1 meter.old meter.new }
 {
     meter.tick_try();
-    let mut steps = Vec::new(alloc);
-    object.outcomes(alloc, config.state(), &operation.call, &mut steps)?;
+    object.outcomes(alloc, config.state(), &operation.call, steps)?;
     while let Some((state, reply)) = steps.pop() {
         let placed = Placed {
             at: operation.at,
@@ -49,13 +50,14 @@ pub fn place_if_absent<O: SeqObject>(
     config: &Config<O::State>,
     operation: &Open,
     out: &mut Vec<(Config<O::State>, Placed)>,
+    steps: &mut Vec<(O::State, Reply)>,
     meter: &mut Meter,
 ) -> Result<(), OutOfMemory>
     ensures placed { OnOk result (IsTried (PlacesOne (O.step object.now) operation.now config.now) out.old.items out.new.items) }
     ensures tried { IsTriedAtMost 1 meter.old meter.new }
 {
     if is_absent(config.placed(), operation.process) {
-        return place(object, alloc, config, operation, out, meter);
+        return place(object, alloc, config, operation, out, steps, meter);
     }
     Ok(())
 }
@@ -85,12 +87,29 @@ impl<'a, O: SeqObject> Steps for Placing<'a, O> {
         meter: &mut Meter,
     ) -> Result<Vec<(Config<O::State>, Placed)>, OutOfMemory> {
         let mut out = Vec::new(alloc);
+        let mut steps = Vec::new(alloc);
         if is_absent(state.placed(), self.new.process) {
-            place(self.object, alloc, state, self.new, &mut out, meter)?;
+            place(
+                self.object,
+                alloc,
+                state,
+                self.new,
+                &mut out,
+                &mut steps,
+                meter,
+            )?;
             return Ok(out);
         }
         for operation in self.pending {
-            place_if_absent(self.object, alloc, state, operation, &mut out, meter)?;
+            place_if_absent(
+                self.object,
+                alloc,
+                state,
+                operation,
+                &mut out,
+                &mut steps,
+                meter,
+            )?;
         }
         Ok(out)
     }

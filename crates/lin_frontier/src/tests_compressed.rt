@@ -275,6 +275,47 @@ fn where_nothing_crashed_all_are_counted(rt: HostRuntime) -> Result<(), Fail> {
 }
 
 #[test]
+fn many_members_are_told_apart(rt: HostRuntime) -> Result<(), Fail> {
+    let alloc = rt.alloc();
+    let kind = Kind::Fifo;
+    let queue = [
+        invoke(0, Call::Enqueue(1)),
+        info(0, Name::Enqueue),
+        invoke(1, Call::Enqueue(2)),
+        info(1, Name::Enqueue),
+        invoke(2, Call::Enqueue(3)),
+        info(2, Name::Enqueue),
+        invoke(3, Call::Enqueue(4)),
+        info(3, Name::Enqueue),
+        invoke(4, Call::Enqueue(5)),
+        info(4, Name::Enqueue),
+        invoke(5, Call::Dequeue),
+        gives(5, Name::Dequeue, Val::Int(3)),
+        invoke(5, Call::Dequeue),
+        gives(5, Name::Dequeue, Val::Int(1)),
+        invoke(5, Call::Dequeue),
+        gives(5, Name::Dequeue, Val::Int(3)),
+    ];
+    // Each sequence of some of the five waits in a configuration of its own: 1 + 5 + 20 + 60 + 120 + 120.
+    assert_eq!(rt;
+        came_within(alloc, kind, &queue[..10], 326),
+        Ok(Came::Sound(1))
+    );
+    assert_eq!(rt; came_within(alloc, kind, &queue[..10], 325), Ok(Came::Over));
+    // Behind 3 each sequence of some of the other four: 1 + 4 + 12 + 24 + 24. Behind 1 then of the other three: 1 + 3 + 6 + 6.
+    assert_eq!(rt;
+        came_within(alloc, kind, &queue[..12], AMPLE),
+        Ok(Came::Sound(65))
+    );
+    assert_eq!(rt;
+        came_within(alloc, kind, &queue[..14], AMPLE),
+        Ok(Came::Sound(16))
+    );
+    assert_eq!(rt; came_within(alloc, kind, &queue, AMPLE), Ok(Came::Empty));
+    Ok(())
+}
+
+#[test]
 fn crashed_reads_cost_nothing(rt: HostRuntime) -> Result<(), Fail> {
     let alloc = rt.alloc();
     let kind = Kind::Register;

@@ -32,7 +32,8 @@ fn written(
 ) -> Result<Member<State>, OutOfMemory> {
     let mut offers = Offers::new(alloc);
     let before = Config::new(alloc, object.start(alloc));
-    offers.offer_all(object, alloc, &before, pending, 0, meter)?;
+    let mut steps = Vec::new(alloc);
+    offers.offer_all(object, alloc, &before, pending, 0, &mut steps, meter)?;
     let config = Config::new(alloc, State::Value(Val::Int(1)));
     let path = Path { node: 0, round: 0 };
     let placed = Placed {
@@ -72,8 +73,8 @@ fn count_listed(
     else {
         return Ok(None);
     };
-    for one in &out {
-        let order = nodes.order(alloc, one.path().node)?;
+    for one in out.as_slice() {
+        let order = nodes.order(alloc, one.path().node as usize)?;
         if !check_order(alloc, events, &kinds, &order)? {
             return Ok(Some(0));
         }

@@ -19,10 +19,10 @@ ghost use Rattle.lin_frontier.specs.Walks.{IsTriedAtMost};
 
 use crate::completions::push_member;
 use crate::compressed::{Compressed, Found, open_after, push_all_taken_out};
-use crate::domination::pruned;
 use crate::listed::listed;
 use crate::member_laws::{dominated_can_go, members_after_events, members_cover_configurations};
 use crate::members::{Member, same};
+use crate::parts::pruned_many;
 use crate::pending::Open;
 use crate::round_laws::{members_are_exact, rounds_after_events};
 use crate::rounds::RoundNodes;
@@ -117,7 +117,8 @@ fn after_listing<O: SeqObject>(
         reply,
         &mut found,
     )?;
-    Ok(pruned(object, &after, found))
+    let kept = pruned_many(object, alloc, &after, found)?;
+    Ok(kept)
 }
 
 impl<O: SeqObject> Compressed<O> {
@@ -349,7 +350,7 @@ impl<O: SeqObject> Compressed<O> {
         let Some(list) = listed(object, alloc, pending, &self.members, budget, nodes, meter)? else {
             return Ok(Advance::OverBefore);
         };
-        let members = after_listing(object, alloc, &list, pending, at, event, nodes)?;
+        let members = after_listing(object, alloc, list.as_slice(), pending, at, event, nodes)?;
         if members.is_empty() {
             return Ok(Advance::Empty);
         }

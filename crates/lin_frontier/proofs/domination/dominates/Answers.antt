@@ -1,37 +1,16 @@
 use Rattle.std.proofs.Common.{sym, ◌∙◌, true≢false}
 use Rattle.lin_frontier.proofs.domination.dominates.Goals as goal
 
-pub returns-then-not-is_same_state : goal.returns-then-not-is_same_state
-returns-then-not-is_same_state g c =
-    let same = rw (c.state.ensures, c.state-2.ensures) at c.is_same_state.ensures in (
+pub returns-then-not-covers : goal.returns-then-not-covers
+returns-then-not-covers g c =
+    let covers = rw c.config.ensures at c.covers.ensures in (
       λ t. absurd (true≢false (sym t)),
-      λ d. absurd (true≢false (sym (same.1 d.same) ∙ c.if-not-is_same_state.true)),
-    )
-
-pub returns-then-not-is_part : goal.returns-then-not-is_part
-returns-then-not-is_part g c =
-    let part = rw (c.placed.ensures, c.placed-2.ensures) at c.is_part.ensures in (
-      λ t. absurd (true≢false (sym t)),
-      λ d. absurd (true≢false (sym (part.1 d.part) ∙ c.if-not-is_part.true)),
-    )
-
-pub returns-then-not-is_part_but_crashed : goal.returns-then-not-is_part_but_crashed
-returns-then-not-is_part_but_crashed g c =
-    let rest = rw (c.placed-3.ensures, c.placed-4.ensures) at c.is_part_but_crashed.ensures in (
-      λ t. absurd (true≢false (sym t)),
-      λ d. absurd (true≢false (sym (rest.1 d.rest) ∙ c.if-not-is_part_but_crashed.true)),
+      λ d. absurd (true≢false (sym (covers.1 (record { same = d.same; part = d.part; rest = d.rest })) ∙ c.if-not-covers.true)),
     )
 
 pub returns : goal.returns
 returns g c =
-    let same = rw (c.state.ensures, c.state-2.ensures) at c.is_same_state.ensures in
-    let part = rw (c.placed.ensures, c.placed-2.ensures) at c.is_part.ensures in
-    let rest = rw (c.placed-3.ensures, c.placed-4.ensures) at c.is_part_but_crashed.ensures in (
-      λ t. record {
-        same = same.0 c.if-not-is_same_state.false;
-        part = part.0 c.if-not-is_part.false;
-        rest = rest.0 c.if-not-is_part_but_crashed.false;
-        offered = c.has_offers.ensures.0 t;
-      },
+    let covers = rw c.config.ensures at c.covers.ensures in (
+      λ t. let k = covers.0 c.if-not-covers.false in record { same = k.same; part = k.part; rest = k.rest; offered = c.has_offers.ensures.0 t },
       λ d. c.has_offers.ensures.1 d.offered,
     )

@@ -15,7 +15,7 @@ use Rattle.lin_frontier.proofs.listed.listed.Goals.{In_ok-merge, Joined-none-2}
 
 pub loop-member-init : goal.loop-member-init
 loop-member-init g c = record {
-  gathering = gathering_start _ _ _ _ _ _ _ _ refl c.new-all.ensures.items;
+  gathering = gathering_start _ _ _ _ _ _ _ _ refl c.new-all.ensures;
   tried = tried_none _ _;
 }
 
@@ -38,7 +38,7 @@ pub returns-in_default-clause-tried : goal.returns-in_default-clause-tried
 returns-in_default-clause-tried g c = tried_more 0 0 _ _ _ _ (omega arith) c.loop-member.invariant.tried c.spread.ensures.tried
 
 pub merge-requires : goal.merge-requires
-merge-requires g c = extended_bare _ _ _ _ _ _ _ (with_offers [] c.member-item.result ∷ []) c.in-Some.found.items (from_some _ c.in-Some.is c.in_ok-found.ensures.extended) (alone_bare c.member-item.result)
+merge-requires g c = extended_bare _ _ _ _ _ _ _ (with_offers [] c.member-item.result ∷ []) c.in-Some.found (from_some _ c.in-Some.is c.in_ok-found.ensures.extended) (alone_bare c.member-item.result)
 
 pub returns-in_err-merge-clause-grown : goal.returns-in_err-merge-clause-grown
 returns-in_err-merge-clause-grown g c = grown_grown _ _ _ c.loop-member.invariant.gathering.nodes_grown c.spread.ensures.grown
@@ -48,16 +48,16 @@ returns-in_err-merge-clause-tried g c = tried_more 0 0 _ _ _ _ (omega arith) c.l
 
 -- the choices of one member more
 next : (g : _) (c : In_ok-merge g) → IsGathering (g.O.SeqObject.starts c.args.object.now) (g.O.SeqObject.step c.args.object.now) (g.O.SeqObject.observing c.args.object.now) c.args.pending.now
-    c.args.nodes.now c.spread.new.nodes c.args.members.now (take (c.loop-member.member-index + 1) c.args.members.now) c.merge.new.members.items
+    c.args.nodes.now c.spread.new.nodes c.args.members.now (take (c.loop-member.member-index + 1) c.args.members.now) c.merge.new.members
 next g c =
     let m = c.member-item.result in
     let h = c.loop-member.invariant.gathering in
     let there = contains_here c.args.members.now c.loop-member.member-index m c.loop-member-test.true c.member-item.is in
     let e = from_some _ c.in-Some.is c.in_ok-found.ensures.extended in
     let w = from_some _ c.in-Some.is c.in_ok-found.ensures.worked_off in
-    let all = c.merge.new.members.items in
-    let chosen = chosen_next _ _ _ _ _ _ _ _ _ _ all c.in-Some.found.items m there e w c.in_ok-merge.ensures h in
-    gathering_next _ _ _ _ _ _ _ _ _ _ all c.in-Some.found.items m there e w c.in_ok-merge.ensures h c.rounds_spell_members.ensures.fewer _
+    let all = c.merge.new.members in
+    let chosen = chosen_next _ _ _ _ _ _ _ _ _ _ all c.in-Some.found m there e w c.in_ok-merge.ensures h in
+    gathering_next _ _ _ _ _ _ _ _ _ _ all c.in-Some.found m there e w c.in_ok-merge.ensures h c.rounds_spell_members.ensures.fewer _
     (all_more c.args.members.now c.loop-member.member-index m c.loop-member-test.true c.member-item.is
     (AreChosen (g.O.SeqObject.starts c.args.object.now) (g.O.SeqObject.step c.args.object.now) (g.O.SeqObject.observing c.args.object.now) c.args.pending.now c.args.nodes.now all) chosen.0 chosen.1)
 
@@ -67,7 +67,7 @@ returns-then-len-budget-clause-grown g c = grown_grown _ _ _ c.loop-member.invar
 pub returns-then-len-budget-clause-over : goal.returns-then-len-budget-clause-over
 returns-then-len-budget-clause-over g c functions h well_formed opened covering =
     let n = next g (goal.at.returns-then-len-budget-clause-over g c).In_ok-merge in
-    over_members _ _ _ c.args.pending.now [] c.rounds_spell_members.ensures.ends h c.spread.new.nodes c.merge.new.members.items c.args.budget (omega (arith, c.if-len-budget.true, c.len.ensures, c.merge.new.members.ok.0))
+    over_members _ _ _ c.args.pending.now [] c.rounds_spell_members.ensures.ends h c.spread.new.nodes c.merge.new.members c.args.budget (omega (arith, c.if-len-budget.true, c.len.ensures))
     (n.spelled functions h well_formed opened covering.spelled) n.different
 
 pub returns-then-len-budget-clause-tried : goal.returns-then-len-budget-clause-tried
@@ -93,14 +93,14 @@ returns-clause-grown g c = grown_grown _ _ _ c.loop-member.invariant.gathering.n
 
 -- the choices of all members
 all_gathered : (g : _) (c : Joined-none-2 g) → IsGathering (g.O.SeqObject.starts c.args.object.now) (g.O.SeqObject.step c.args.object.now) (g.O.SeqObject.observing c.args.object.now) c.args.pending.now
-    c.args.nodes.now c.loop-member.nodes c.args.members.now c.args.members.now c.loop-member.all.items
+    c.args.nodes.now c.loop-member.nodes c.args.members.now c.args.members.now c.loop-member.all
 all_gathered g c = subst (λ l. IsGathering (g.O.SeqObject.starts c.args.object.now) (g.O.SeqObject.step c.args.object.now) (g.O.SeqObject.observing c.args.object.now) c.args.pending.now
-    c.args.nodes.now c.loop-member.nodes c.args.members.now l c.loop-member.all.items) (take_all c.loop-member.member-index c.args.members.now c.loop-member-test.false) c.loop-member.invariant.gathering
+    c.args.nodes.now c.loop-member.nodes c.args.members.now l c.loop-member.all) (take_all c.loop-member.member-index c.args.members.now c.loop-member-test.false) c.loop-member.invariant.gathering
 
 pub returns-clause-listing : goal.returns-clause-listing
 returns-clause-listing g c =
     some_maps c.in_ok-found-2.found _ _ _ (λ out e w functions h well_formed opened covering.
-    gathered_listing _ _ _ _ c.members_cover_configurations.ensures.listing (g.O.SeqObject.unchanged c.args.object.now) c.ends_are_unique.ensures c.well_formed_is_alternating.ensures _ _ _ _ _ out.items
+    gathered_listing _ _ _ _ c.members_cover_configurations.ensures.listing (g.O.SeqObject.unchanged c.args.object.now) c.ends_are_unique.ensures c.well_formed_is_alternating.ensures _ _ _ _ _ out
     (all_gathered g c) e w functions h well_formed opened covering)
     (rw c.new-none.ensures at c.in_ok-found-2.ensures.extended) (rw c.new-none.ensures at c.in_ok-found-2.ensures.worked_off)
 

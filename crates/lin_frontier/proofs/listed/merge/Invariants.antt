@@ -3,7 +3,7 @@ use Rattle.lin_frontier.proofs.Merging.{IsMerging}
 use Rattle.lin_frontier.proofs.listed.merge.Given as goal
 
 abbrev pub invariant-loop-member : goal.invariant-loop-member
-invariant-loop-member g l = IsMerging (g.O.SeqObject.observing l.object) l.pending l.fn.others.items l.rest.items l.fn.members.items l.members.items
+invariant-loop-member g l = IsMerging (g.O.SeqObject.observing l.object) l.pending l.fn.others l.rest.items l.fn.members l.members
 
 abbrev pub decreases-loop-member : goal.decreases-loop-member
 decreases-loop-member g l = vec_len l.rest

@@ -8,8 +8,8 @@ returns-clause-worked_off g c = rw c.offers.ensures at c.in_ok-found.ensures.wor
 
 pub returns-clause-over : goal.returns-clause-over
 returns-clause-over g c =
-    let one : c.push_member.new.members.items ≡ with_offers [] c.args.member.now ∷ [] =
-    c.in_ok-push_member.ensures ∙ ap (λ l. l ++ c.in_ok-bare.field-0 ∷ []) c.new-starts.ensures.items ∙ ap (λ m. m ∷ []) c.in_ok-bare.ensures in
+    let one : c.push.new.self ≡ with_offers [] c.args.member.now ∷ [] =
+    c.in_ok-push.ensures ∙ ap (λ l. l ++ c.in_ok-bare.field-0 ∷ []) c.new-starts.ensures ∙ ap (λ m. m ∷ []) c.in_ok-bare.ensures in
     none_maps c.in_ok-found.found (λ over functions h well_formed opened spelled. over functions h well_formed opened
-    (alone_spelled _ _ _ h c.args.nodes.now c.args.member.now c.push_member.new.members.items one spelled) (subst AreDifferent (sym one) (alone_different (with_offers [] c.args.member.now))))
+    (alone_spelled _ _ _ h c.args.nodes.now c.args.member.now c.push.new.self one spelled) (subst AreDifferent (sym one) (alone_different (with_offers [] c.args.member.now))))
     (rw c.offers.ensures at c.in_ok-found.ensures.over)

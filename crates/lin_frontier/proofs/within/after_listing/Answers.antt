@@ -19,5 +19,5 @@ returns g c functions h next listing =
     c.rounds_after_events.ensures.ok c.args.nodes.now c.args.list.now made.0 made.1 listing in
     let found_is = made.2 ∙ ap (λ l. l ++ made.0) c.new-found.ensures.items in
     pruned_compressed begin step observes c.well_formed_is_alternating.ensures c.ends_are_unique.ensures c.dominated_can_go.ensures.dropped functions after next.well_formed c.deref-2.result.now
-    (subst (IsPending after) (sym c.deref-2.ensures.value) opened) c.args.nodes.now c.push_all_taken_out.new.out.items c.pruned.result.items c.pruned.ensures
+    (subst (IsPending after) (sym c.deref-2.ensures.value) opened) c.args.nodes.now c.push_all_taken_out.new.out.items c.in_ok-kept.kept.items c.in_ok-kept.ensures
     (subst (λ l. IsCovering begin step observes after l c.args.nodes.now) (sym found_is) covering)

@@ -6,15 +6,15 @@ use Rattle.lin_frontier.proofs.completions.Completion.visit.Goals as goal
 pub loop-config-init : goal.loop-config-init
 loop-config-init g c = taking_start _ _ _ _ _ _ _
 
-pub loop-config-preserved-then-is_start_dominated : goal.loop-config-preserved-then-is_start_dominated
-loop-config-preserved-then-is_start_dominated g c =
-    let found = c.is_start_dominated.ensures.0 c.if-is_start_dominated.true in
+pub loop-config-preserved-then-has_start : goal.loop-config-preserved-then-has_start
+loop-config-preserved-then-has_start g c =
+    let found = c.has_start.ensures c.if-has_start.true in
     taking_skip _ _ _ _ _ _ _ c.loop-config.rest.items c.pop.new.self.items c.loop-config.nodes _ (c.in-Some.config, c.in-Some.placed) c.in-Some.ensures.items c.loop-config.invariant
     found.0 (Contains-append_left (map (λ m. m.now) c.args.starts.now) c.loop-config.visited.items found.0 found.1) found.2
 
-pub loop-config-preserved-then-is_dominated : goal.loop-config-preserved-then-is_dominated
-loop-config-preserved-then-is_dominated g c =
-    let found = (rw c.deref.ensures.value at c.is_dominated.ensures).0 c.if-is_dominated.true in
+pub loop-config-preserved-then-has_visited : goal.loop-config-preserved-then-has_visited
+loop-config-preserved-then-has_visited g c =
+    let found = (rw c.deref.ensures.value at c.has_visited.ensures) c.if-has_visited.true in
     taking_skip _ _ _ _ _ _ _ c.loop-config.rest.items c.pop.new.self.items c.loop-config.nodes _ (c.in-Some.config, c.in-Some.placed) c.in-Some.ensures.items c.loop-config.invariant
     found.0 (Contains-append_right (map (λ m. m.now) c.args.starts.now) c.loop-config.visited.items found.0 found.1) found.2
 

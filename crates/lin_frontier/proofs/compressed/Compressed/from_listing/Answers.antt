@@ -24,7 +24,7 @@ returns-then-is_empty-clause-empty g c is functions h next frontier =
     let listing = from_some _ c.in-Some.is c.in_ok-list.ensures.listing functions h (well_formed_before c.well_formed_is_alternating.ensures functions h c.args.event.now next.well_formed) next.opened known in
     none_left begin step observes functions (with_event h c.args.event.now) c.listed.new.nodes c.in_ok-members.members.items c.members_are_exact.ensures.exact c.legal_orders_end.ensures next.well_formed
     (sym c.in_ok-members.members.ok.0 ∙ eqb-true _ _ (sym c.is_empty.ensures ∙ c.if-is_empty.true))
-    (c.in_ok-members.ensures functions h next (subst (λ l. IsListingOf begin step observes h l c.listed.new.nodes) (sym c.deref-2.ensures.value) listing))
+    (c.in_ok-members.ensures functions h next (subst (λ l. IsListingOf begin step observes h l c.listed.new.nodes) (sym c.as_slice.ensures) listing))
 
 pub returns-clause-next : goal.returns-clause-next
 returns-clause-next g c next is functions h nx frontier =
@@ -35,4 +35,4 @@ returns-clause-next g c next is functions h nx frontier =
     let listing = from_some _ c.in-Some.is c.in_ok-list.ensures.listing functions h (well_formed_before c.well_formed_is_alternating.ensures functions h c.args.event.now nx.well_formed) nx.opened known in
     let same : c.in_ok-members.members.items ≡ next = cc in
     subst (λ l. IsCompressed begin step observes (with_event h c.args.event.now) l c.listed.new.nodes) same
-    (c.in_ok-members.ensures functions h nx (subst (λ l. IsListingOf begin step observes h l c.listed.new.nodes) (sym c.deref-2.ensures.value) listing))
+    (c.in_ok-members.ensures functions h nx (subst (λ l. IsListingOf begin step observes h l c.listed.new.nodes) (sym c.as_slice.ensures) listing))

@@ -14,7 +14,7 @@ returns-in_err-visit-clause-grown g c = grown_grown _ _ _ c.loop-next.invariant.
 
 pub loop-next-preserved : goal.loop-next-preserved
 loop-next-preserved g c = record {
-  placing = placing_next _ _ _ _ _ _ _ _ c.rounds_take_operations.ensures.places c.args.path c.requires.there c.loop-next.out.items c.pop.new.self.items c.loop-next.nodes c.visit.new.nodes c.loop-next.found.items c.visit.new.found.items
+  placing = placing_next _ _ _ _ _ _ _ _ c.rounds_take_operations.ensures.places c.args.path c.requires.there c.loop-next.out.items c.pop.new.self.items c.loop-next.nodes c.visit.new.nodes c.loop-next.found c.visit.new.found
       (c.in-Some.next, c.in-Some.placed) c.in-Some.ensures.items c.visit.ensures.grown c.in_ok-visit.ensures.taken c.loop-next.invariant.placing;
   tried = c.loop-next.invariant.tried;
 }
@@ -27,4 +27,4 @@ returns-clause-extended g c = c.loop-next.invariant.placing.extended
 
 pub returns-clause-placed : goal.returns-clause-placed
 returns-clause-placed g c =
-    placing_end _ _ _ _ _ _ _ _ c.loop-next.out.items c.loop-next.nodes c.loop-next.found.items (sym c.loop-next.out.ok.0 ∙ c.in_default.ensures.cases.0) c.loop-next.invariant.placing
+    placing_end _ _ _ _ _ _ _ _ c.loop-next.out.items c.loop-next.nodes c.loop-next.found (sym c.loop-next.out.ok.0 ∙ c.in_default.ensures.cases.0) c.loop-next.invariant.placing

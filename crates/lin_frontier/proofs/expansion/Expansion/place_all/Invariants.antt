@@ -5,7 +5,7 @@ use Rattle.lin_frontier.proofs.expansion.Expansion.place_all.Given as goal
 
 abbrev pub invariant-loop-next : goal.invariant-loop-next
 invariant-loop-next g l = record {
-  placing : IsPlacingIn (g.O.SeqObject.starts l.self.object.now) (g.O.SeqObject.step l.self.object.now) (g.O.SeqObject.observing l.self.object.now) l.self.pending.now l.self.offers.now l.config l.out.items l.fn.nodes l.nodes l.fn.found.items l.found.items;
+  placing : IsPlacingIn (g.O.SeqObject.starts l.self.object.now) (g.O.SeqObject.step l.self.object.now) (g.O.SeqObject.observing l.self.object.now) l.self.pending.now l.self.offers.now l.config l.out.items l.fn.nodes l.nodes l.fn.found l.found;
   tried : IsTriedAtMost (length l.self.pending.now) l.fn.meter l.meter;
 }
 

@@ -6,9 +6,9 @@ use Rattle.lin_frontier.proofs.expansion.Expansion.reach.Given as goal
 
 abbrev pub invariant-loop-member : goal.invariant-loop-member
 invariant-loop-member g l = record {
-  within : l.at ≤ length l.found.items;
-  small : length l.found.items ≤ l.budget;
-  reaching : IsReaching (g.O.SeqObject.starts l.self.object.now) (g.O.SeqObject.step l.self.object.now) (g.O.SeqObject.observing l.self.object.now) l.self.pending.now l.self.offers.now l.self.places l.fn.nodes l.nodes l.at l.fn.starts.items l.found.items;
+  within : l.at ≤ length l.found;
+  small : length l.found ≤ l.budget;
+  reaching : IsReaching (g.O.SeqObject.starts l.self.object.now) (g.O.SeqObject.step l.self.object.now) (g.O.SeqObject.observing l.self.object.now) l.self.pending.now l.self.offers.now l.self.places l.fn.nodes l.nodes l.at l.fn.starts l.found;
   tried : IsTriedAtMost (l.at * placing_tries l.self.places l.self.pending.now) l.fn.meter l.meter;
 }
 

@@ -22,11 +22,11 @@ pub loop-offer-preserved : goal.loop-offer-preserved
 loop-offer-preserved g c =
     let same = c.as_slice-offer-items.ensures in
     let more = c.in_ok-take_one.ensures.extended in
-    let P = IsTakenAt (g.O.SeqObject.observing c.args.self.now.object.now) c.args.self.now.pending.now c.take_one.new.found.items c.args.config.now in
+    let P = IsTakenAt (g.O.SeqObject.observing c.args.self.now.object.now) c.args.self.now.pending.now c.take_one.new.found c.args.config.now in
     record {
       extended = extended_both _ _ _ _ _ _ _ _ _ _ _ c.loop-offer.invariant.extended more;
       taken = all_more c.args.self.now.offers.now c.loop-offer.offer-index c.offer-item.result (rw same at c.loop-offer-test.true) (rw same at c.offer-item.is) P
-          (All-weaker (IsTakenAt (g.O.SeqObject.observing c.args.self.now.object.now) c.args.self.now.pending.now c.loop-offer.found.items c.args.config.now) P
+          (All-weaker (IsTakenAt (g.O.SeqObject.observing c.args.self.now.object.now) c.args.self.now.pending.now c.loop-offer.found c.args.config.now) P
           (λ x t. taken_still _ _ _ _ _ _ _ _ _ more c.args.config.now x t) _ c.loop-offer.invariant.taken) c.in_ok-take_one.ensures.taken;
     }
 
@@ -39,5 +39,5 @@ returns-clause-extended g c = c.loop-offer.invariant.extended
 pub returns-clause-taken : goal.returns-clause-taken
 returns-clause-taken g c =
     let same = c.as_slice-offer-items.ensures in
-    all_end (IsTakenAt (g.O.SeqObject.observing c.args.self.now.object.now) c.args.self.now.pending.now c.loop-offer.found.items c.args.config.now) c.args.self.now.offers.now c.loop-offer.offer-index
+    all_end (IsTakenAt (g.O.SeqObject.observing c.args.self.now.object.now) c.args.self.now.pending.now c.loop-offer.found c.args.config.now) c.args.self.now.offers.now c.loop-offer.offer-index
     (rw same at c.loop-offer-test.false) c.loop-offer.invariant.taken

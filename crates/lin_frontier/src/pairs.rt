@@ -1,0 +1,73 @@
+//! Processes with the replies that their operations took.
+ghost use Rattle.std.specs.Prelude.{◌≡◌, ◌%◌, ◌^◌, ◌∷◌, ◌++◌, [], All, Contains, IsTrue, OnOk};
+ghost use Rattle.lin_history.specs.declared.calls.Reply.{Reply as ReplyOf};
+
+use lin_history::{OutOfMemory, Reply};
+use smallvec::SmallVec;
+use std::alloc::Global;
+use std::marker::Model;
+
+/// Pairs of a process and a reply, with a mask that tells of most pairs at once that they aren't part of others.
+#[derive(Drop)]
+pub struct Pairs {
+    items: SmallVec<(u64, Reply), 2>,
+    /// The bits of the processes.
+    mask: u64,
+}
+
+impl Model for Pairs {
+    ghost use Rattle.std.specs.Prelude.{◌≡◌, ℕ, List};
+    ghost use Rattle.lin_history.specs.declared.calls.Reply.{Reply as ReplyOf};
+    ghost use Rattle.lin_frontier.specs.Masks.{mask_of};
+
+    ghost Value = { List (ℕ × ReplyOf) };
+
+    ghost view = { λ p. p.items.items };
+
+    ghost invariant = { λ p. p.mask ≡ mask_of p.items.items };
+}
+
+/// The bit of the process, which every 64th process has too.
+fn bit_of(process: u64) -> u64
+    ensures { result ≡ 2 ^ (process % 64) }
+{
+    1 << (process % 64)
+}
+
+impl Pairs {
+    /// No pair.
+    pub fn new(alloc: Global) -> Self
+        ensures { result ≡ [] }
+    {
+        Pairs {
+            items: SmallVec::new(alloc),
+            mask: 0,
+        }
+    }
+
+    pub fn as_slice(&self) -> &[(u64, Reply)]
+        ensures { result.now ≡ self.now }
+    {
+        self.items.as_slice()
+    }
+
+    /// One more pair, put last.
+    pub fn push(&mut self, process: u64, reply: Reply) -> Result<(), OutOfMemory>
+        ensures { OnOk result (self.new ≡ self.old ++ (process, reply) ∷ []) }
+    {
+        match self.items.push((process, reply)) {
+            Ok(()) => {
+                self.mask |= bit_of(process);
+                Ok(())
+            }
+            Err(_) => Err(OutOfMemory),
+        }
+    }
+
+    /// Whether each pair may be among the others, as far as the bits tell.
+    pub fn may_be_part(&self, others: &Pairs) -> bool
+        ensures { All (λ x. Contains others.now x) self.now → IsTrue result }
+    {
+        self.mask | others.mask == others.mask
+    }
+}
