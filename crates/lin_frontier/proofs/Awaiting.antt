@@ -1,5 +1,5 @@
 -- What the pending operations tell of processes: which watch, which have crashed, what a state gives to them, and which can be placed.
-use Rattle.std.proofs.Common.{◌≡◌, ℕ, ℤ, Bool, true, false, List, Contains, IsTrue, sym, ap, subst, ◌∙◌}
+use Rattle.std.proofs.Common.{◌≡◌, ℕ, ℤ, Bool, true, List, Contains, IsTrue, sym, ap, subst, ◌∙◌}
 use Rattle.lin_history.specs.declared.calls.Call.{Call}
 use Rattle.lin_history.specs.declared.calls.Name.{Name}
 use Rattle.lin_history.specs.declared.calls.Reply.{Reply}
@@ -13,7 +13,7 @@ use Rattle.lin_order.specs.Configurations.{IsAdded, IsPlacing}
 use Rattle.lin_frontier.specs.declared.pending.Open.{Open}
 use Rattle.lin_frontier.specs.Covers.{HasCrashed}
 use Rattle.lin_frontier.specs.Frontiers.{IsPending}
-use Rattle.lin_frontier.specs.Members.{IsGiven, IsUpdate, IsWatching}
+use Rattle.lin_frontier.specs.Members.{IsWatching}
 use Rattle.lin_frontier.proofs.Crashes.{crashed_open}
 
 module _ (h : List Event) (pending : List Open) (opened : IsPending h pending) where
@@ -63,20 +63,6 @@ module _ (h : List Event) (pending : List Open) (opened : IsPending h pending) w
       )
 
   module _ {S : Type 0} (step : S → Call → S → Reply → Type 0) where
-    pub pending_given : (state next : S) (reply : Reply) (o : Open) → Contains pending o → step state o.call next reply → IsGiven step h state (o.process, reply)
-    pending_given state next reply o there steps = let s = opened.sound o there in record { at = o.at; key = s.0; call = o.call; next = next; is_open = s.1; steps = steps }
-
-    pub given_pending : (state : S) (x : ℕ × Reply) → IsGiven step h state x → (o : Open) × Contains pending o × (o.process ≡ x.0) × (next : S) × step state o.call next x.1
-    given_pending state x given =
-        let found = open_pending given.at x.0 given.key given.call given.is_open in
-        (found.0, found.1, found.3, given.next, subst (λ c. step state c given.next x.1) (sym found.4) given.steps)
-
-    -- one that is pending can be placed, where it isn't yet
-    pub pending_placing : (c d : S × List (ℕ × Reply)) (p : Placed) (o : Open) → Contains pending o → p.at ≡ o.at → step c.0 o.call d.0 p.reply → IsAdded o.process p.reply c.1 d.1 → IsPlacing step h c p d
-    pending_placing c d p o there same steps added =
-        let s = opened.sound o there in
-        record { process = o.process; key = s.0; call = o.call; is_open = subst (λ k. IsOpen h k o.process s.0 o.call) (sym same) s.1; steps = steps; added = added }
-
     pub placing_pending : (c d : S × List (ℕ × Reply)) (p : Placed) → IsPlacing step h c p d → (o : Open) × Contains pending o × (o.at ≡ p.at) × step c.0 o.call d.0 p.reply × IsAdded o.process p.reply c.1 d.1
     placing_pending c d p placing =
         let found = open_pending p.at placing.process placing.key placing.call placing.is_open in (
@@ -85,18 +71,4 @@ module _ (h : List Event) (pending : List Open) (opened : IsPending h pending) w
           found.2,
           subst (λ a. step c.0 a d.0 p.reply) (sym found.4) placing.steps,
           subst (λ q. IsAdded q p.reply c.1 d.1) (sym found.3) placing.added,
-        )
-
-    -- and so is each update
-    pub update_pending : (observes : Call → Bool) (c d : S × List (ℕ × Reply)) → (u : IsUpdate step observes h c d)
-        → (o : Open) × Contains pending o × (o.at ≡ u.0.at) × (o.process ≡ u.1.process) × (observes o.call ≡ false) × step c.0 o.call d.0 u.0.reply × IsAdded o.process u.0.reply c.1 d.1
-    update_pending observes c d u =
-        let found = open_pending u.0.at u.1.process u.1.key u.1.call u.1.is_open in (
-          found.0,
-          found.1,
-          found.2,
-          found.3,
-          ap observes found.4 ∙ u.2,
-          subst (λ a. step c.0 a d.0 u.0.reply) (sym found.4) u.1.steps,
-          subst (λ q. IsAdded q u.0.reply c.1 d.1) (sym found.3) u.1.added,
         )

@@ -1,5 +1,5 @@
 -- Searching the ways of members for the reply of an operation that completes.
-use Rattle.std.proofs.Common.{◌≡◌, ◌⊎◌, ℕ, ◌+◌, ◌<◌, ◌≤◌, List, [], ◌∷◌, ◌++◌, length, length-append, map, ◌-◌, Contains, All, inl, inr, sym, ap, subst, ◌∙◌, arith, get_or, Option, Some, None, Bool, true, false, IfSome, IfNone, true≢false}
+use Rattle.std.proofs.Common.{◌≡◌, ◌⊎◌, ℕ, ◌+◌, ◌<◌, ◌≤◌, List, [], ◌∷◌, ◌++◌, length, length-append, map, ◌-◌, Contains, All, inl, inr, sym, ap, subst, ◌∙◌, arith, get_or, Option, Some, None, Bool, true, false, IfSome, IfNone}
 use Rattle.std.proofs.lemmas.List.{append-nil, get_or_append_left, get_or-append_right, get_or-map, length-map}
 use Rattle.std.proofs.lemmas.List.Elements.{All-append, All-weaker, All-contains, Contains-get_or, Contains-push, Contains-push_cases, Contains-append_left}
 use Rattle.std.proofs.lemmas.Bool.{cases_lt}
@@ -76,15 +76,6 @@ module _ {S : Type 0} (step : S → Call → S → Reply → Type 0) (observes :
       pub taken : (s : S) → step m.0.state operation.call s reply → Contains rest s ⊎ ((n : Member S × Path) × Contains now n × (n.0.state ≡ s) × (n.0.placed ≡ m.0.placed) × HasBehind step observes pending m.0 n.0)
 
     module _ (m : Member S × Path) (first : List (ℕ × (Placed × Option ℕ))) (old : List (Member S × Path)) where
-      pub returning_start : (rest : List S) → ((s : S) → Contains rest s → step m.0.state operation.call s reply) → ((s : S) → step m.0.state operation.call s reply → Contains rest s)
-          → IsReturning m first first old rest old
-      returning_start rest each all = record {
-        nodes_grown = not_grown first;
-        rest_of = each;
-        finding = record { kept = λ n there. there; sound = λ n there. inl there };
-        taken = λ s steps. inl (all s steps);
-      }
-
       pub returning_step : (more rest : List S) (nodes after : List (ℕ × (Placed × Option ℕ))) (now then' : List (Member S × Path)) (s : S) (n : Member S × Path) → more ≡ rest ++ s ∷ []
           → IsGrown nodes after → BeginsRound after m.1 n.1 (record { at = operation.at; reply = reply }) → n.0.state ≡ s → n.0.placed ≡ m.0.placed → AreBehind step observes pending m n.0.offers
           → observes operation.call ≡ false → then' ≡ now ++ n ∷ [] → IsReturning m first nodes old more now → IsReturning m first after old rest then'
@@ -128,16 +119,6 @@ module _ {S : Type 0} (step : S → Call → S → Reply → Type 0) (observes :
           (ap (λ (k : Member S). k.state) is ∙ ap (λ (k : S × List (ℕ × Reply)). k.0) config)
           (ap (λ (k : Member S). k.placed) is ∙ ap (λ (k : S × List (ℕ × Reply)). k.1) config ∙ ap (λ (k : S × List (ℕ × Reply)). k.1) same)
           (subst (AreBehind step observes pending m) (sym (ap (λ (k : Member S). k.offers) is)) behind) update pushed h
-
-      pub returning_end : (rest : List S) (nodes : List (ℕ × (Placed × Option ℕ))) (now : List (Member S × Path)) → length rest ≡ 0 → observes operation.call ≡ false → IsReturning m first nodes old rest now
-          → IsPassed step observes operation reply pending now m
-      returning_end rest nodes now none update h = record {
-        never = λ observer round. absurd (true≢false (sym observer ∙ update));
-        returns = λ _ s steps. elim (h.taken s steps) [
-          | inl in_rest ↦ absurd (let inside = in_rest.1 in omega arith)
-          | inr found ↦ found
-        ];
-      }
 
     pub done_stays : (m : Member S) (out now : List (Member S × Path)) → ((n : Member S × Path) → Contains out n → Contains now n) → IsDone observes operation pending out m → IsDone observes operation pending now m
     done_stays m out now kept d = (d.0, d.1, kept d.1 d.2, d.3)

@@ -71,18 +71,6 @@ fail_no_info {body} {named} is name e = differ (sym is ∙ e)
     differ : Fail named ≡ Info name → ⊥
     differ p = cc
 
-pub ok_no_fail : {body : Body} {named : Name} {reply : Reply} → body ≡ Ok named reply → (name : Name) → body ≡ Fail name → ⊥
-ok_no_fail {body} {named} {reply} is name e = differ (sym is ∙ e)
-  where
-    differ : Ok named reply ≡ Fail name → ⊥
-    differ p = cc
-
-pub fail_no_ok : {body : Body} {named : Name} → body ≡ Fail named → (name : Name) (reply : Reply) → body ≡ Ok name reply → ⊥
-fail_no_ok {body} {named} is name reply e = differ (sym is ∙ e)
-  where
-    differ : Fail named ≡ Ok name reply → ⊥
-    differ p = cc
-
 -- whether a process has an info
 info_or : (h : List Event) (process : ℕ) → ((at : ℕ) × (event : Event) × IsEvent h at event × IsInfoOf process event) ⊎ ((at : ℕ) (event : Event) → IsEvent h at event → IsInfoOf process event → ⊥)
 info_or [] process = inr (λ at event is info. cc)

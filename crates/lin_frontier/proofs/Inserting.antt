@@ -220,9 +220,6 @@ module _ (process : ℕ) where
 
 -- the pairs of all others, one pair further
 module _ (process : ℕ) (xs : List (ℕ × Reply)) (i : ℕ) (d : ℕ × Reply) (inside : i < length xs) where
-  pub kept_pair : (get_or xs i d).0 ≢ process → without process (take (i + 1) xs) ≡ without process (take i xs) ++ get_or xs i d ∷ []
-  kept_pair other = filter_more (λ (p : ℕ × Reply). not (nat_eq p.0 process)) xs i d inside ∙ ap (λ l. without process (take i xs) ++ l) (cond-true _ _ _ (other_process process (get_or xs i d).0 other))
-
   pub dropped_pair : (get_or xs i d).0 ≡ process → without process (take (i + 1) xs) ≡ without process (take i xs)
   dropped_pair same =
       filter_more (λ (p : ℕ × Reply). not (nat_eq p.0 process)) xs i d inside

@@ -1,5 +1,5 @@
 -- Operations that are marked one after the other.
-use Rattle.std.proofs.Common.{◌≡◌, ℕ, zero, suc, ◌+◌, ◌<◌, ◌≤◌, List, [], ◌∷◌, ◌++◌, length, map, set, take, drop, get_or, refl, sym, ap, ◌∙◌, arith}
+use Rattle.std.proofs.Common.{◌≡◌, ℕ, zero, suc, ◌+◌, ◌<◌, ◌≤◌, List, [], ◌∷◌, ◌++◌, length, map, set, take, drop, get_or, refl, ap, ◌∙◌, arith}
 use Rattle.std.proofs.lemmas.List.{append-nil}
 use Rattle.lin_frontier.proofs.Trying.{take_all}
 
@@ -26,14 +26,6 @@ module _ {A : Type 0} (f : A → A) where
       by : (i : ℕ) (xs : List A) → i < length xs → y ≡ f (get_or xs i d) → set (partly f i xs) i y ≡ partly f (suc i) xs
       by i [] inside is = absurd (omega arith)
       by zero (x ∷ xs) inside is = ap (λ z. z ∷ xs) is
-      by (suc i) (x ∷ xs) inside is = ap (λ l. f x ∷ l) (by i xs (omega arith) is)
-
-  pub partly_same : (i : ℕ) (xs : List A) (d : A) → i < length xs → f (get_or xs i d) ≡ get_or xs i d → partly f i xs ≡ partly f (i + 1) xs
-  partly_same i xs d inside is = by i xs inside is ∙ ap (λ n. partly f n xs) (let e : suc i ≡ i + 1 = omega arith in e)
-    where
-      by : (i : ℕ) (xs : List A) → i < length xs → f (get_or xs i d) ≡ get_or xs i d → partly f i xs ≡ partly f (suc i) xs
-      by i [] inside is = absurd (omega arith)
-      by zero (x ∷ xs) inside is = ap (λ z. z ∷ xs) (sym is)
       by (suc i) (x ∷ xs) inside is = ap (λ l. f x ∷ l) (by i xs (omega arith) is)
 
   pub partly_all : (i : ℕ) (xs : List A) → length xs ≤ i → partly f i xs ≡ map f xs

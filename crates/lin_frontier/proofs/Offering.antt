@@ -7,24 +7,6 @@ use Rattle.lin_history.specs.declared.calls.Reply.{Reply}
 use Rattle.lin_frontier.specs.declared.pending.Open.{Open}
 use Rattle.lin_frontier.specs.Searching.{Gives, IsOffering}
 
--- one reply is offered, or was before
-pub offered_new : (process round : ℕ) (reply : Reply) (old now : List (ℕ × (ℕ × Reply))) → now ≡ old ++ (round, (process, reply)) ∷ [] → IsOffering (λ x. x ≡ (process, reply)) round old now
-offered_new process round reply old now pushed = record {
-  kept = λ x there. subst (λ l. Contains l x) (sym pushed) (Contains-append_left old ((round, (process, reply)) ∷ []) x there);
-  sound = λ x there. elim (Contains-push_cases old (round, (process, reply)) x (subst (λ l. Contains l x) pushed there)) [
-    | inl before ↦ inl before
-    | inr same ↦ inr (ap (λ (y : ℕ × (ℕ × Reply)). y.0) (sym same), ap (λ (y : ℕ × (ℕ × Reply)). y.1) (sym same))
-  ];
-  complete = λ x is. (round, subst (λ y. Contains now (round, y)) (sym is) (subst (λ l. Contains l (round, (process, reply))) (sym pushed) (Contains-push old (round, (process, reply)))));
-}
-
-pub offered_before : (process round k : ℕ) (reply : Reply) (old : List (ℕ × (ℕ × Reply))) → Contains old (k, (process, reply)) → IsOffering (λ x. x ≡ (process, reply)) round old old
-offered_before process round k reply old there = record {
-  kept = λ x within. within;
-  sound = λ x within. inl within;
-  complete = λ x is. (k, subst (λ y. Contains old (k, y)) (sym is) there);
-}
-
 -- of the steps that P holds of, the replies of `rest` are still to be offered to the process
 pub record IsGiving {S : Type 0} (P : S × Reply → Type 0) (process round : ℕ) (old : List (ℕ × (ℕ × Reply))) (rest : List (S × Reply)) (now : List (ℕ × (ℕ × Reply))) : Type 0 where
   pub kept : (x : ℕ × (ℕ × Reply)) → Contains old x → Contains now x
@@ -105,14 +87,6 @@ module _ {A : Type 0} (Q : A → ℕ × Reply → Type 0) (round : ℕ) (old : L
       → IsOffering (IsOver Q (take i xs)) round old now → IsOffering (IsOver Q (take (i + 1) xs)) round old then'
   offering_more xs i d now then' inside one all =
       subst (λ l. IsOffering (IsOver Q l) round old then') (sym (take_more xs i d inside)) (offering_push (take i xs) (get_or xs i d) now then' one all)
-
--- where R holds of nothing, nothing is added
-pub offering_nothing : (R : ℕ × Reply → Type 0) (round : ℕ) (now : List (ℕ × (ℕ × Reply))) → ((x : ℕ × Reply) → R x → ⊥) → IsOffering R round now now
-offering_nothing R round now never = record {
-  kept = λ x there. there;
-  sound = λ x there. inl there;
-  complete = λ x r. absurd (never x r);
-}
 
 -- where two say the same, what is offered by the one is by the other
 pub offering_same : (R Q : ℕ × Reply → Type 0) (round : ℕ) (old now : List (ℕ × (ℕ × Reply))) → ((x : ℕ × Reply) → R x → Q x) → ((x : ℕ × Reply) → Q x → R x) → IsOffering R round old now → IsOffering Q round old now

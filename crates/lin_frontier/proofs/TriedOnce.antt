@@ -20,10 +20,3 @@ module _ {S : Type 0} (step : S → Call → S → Reply → Type 0) (o : Open) 
     complete = λ l t p. subst (Contains now) (λ i. ((t.0, sym p.placed i), (record { at = sym p.at i; reply = l.reply })))
         (trying_end (λ (a : S × Reply). step c.0 o.call a.0 a.1) (λ (a : S × Reply). ((a.0, insert_pair o.process a.1 c.1), (record { at = o.at; reply = a.1 }))) old rest now none h (t.0, l.reply) p.steps);
   }
-
-  pub tried_absent : (old : List ((S × List (ℕ × Reply)) × Placed)) → (IsAbsent o.process c.1 → ⊥) → IsTried (PlacesOne step o c) old old
-  tried_absent old present = record {
-    kept = λ x there. there;
-    sound = λ x there. inl there;
-    complete = λ l t p. absurd (present p.absent);
-  }

@@ -3,7 +3,6 @@ use Rattle.std.specs.Prelude.{◌≡◌, ◌⊎◌, ◌/◌, ◌^◌, ℕ, Bool,
 use Rattle.std.specs.List.{fold}
 use Rattle.std.specs.Int.Bits.{bit_and}
 use Rattle.std.specs.Hash.FoldHasher.{initial, write, finish}
-use Rattle.lin_frontier.specs.declared.members.Path.{Path}
 use Rattle.lin_frontier.specs.Members.{Member}
 
 -- the hash of what the state feeds has the bit

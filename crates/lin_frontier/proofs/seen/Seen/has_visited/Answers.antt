@@ -1,4 +1,4 @@
-use Rattle.std.proofs.Common.{◌++◌, Contains, drop, take, sym, subst}
+use Rattle.std.proofs.Common.{Contains, drop, take, subst}
 use Rattle.std.proofs.lemmas.List.{take-append-drop}
 use Rattle.std.proofs.lemmas.List.Elements.{Contains-append_right}
 use Rattle.lin_frontier.proofs.seen.Seen.has_visited.Goals as goal
