@@ -1,5 +1,5 @@
 -- Domination, and which members can be dropped.
-use Rattle.std.proofs.Common.{ℕ, Bool, List, ◌∷◌, Contains, inl, inr, refl, sym, subst, ◌∙◌}
+use Rattle.std.proofs.Common.{ℕ, Bool, List, ◌∷◌, ◌++◌, Contains, inl, inr, refl, sym, subst, ◌∙◌}
 use Rattle.std.proofs.lemmas.List.Elements.{Contains-append_left, Contains-append_right, Contains-append_cases}
 use Rattle.lin_history.specs.declared.calls.Call.{Call}
 use Rattle.lin_history.specs.declared.calls.Reply.{Reply}
@@ -8,6 +8,7 @@ use Rattle.lin_order.specs.Configurations.{IsRising}
 use Rattle.lin_frontier.specs.Covers.{HasCrashed}
 use Rattle.lin_frontier.specs.Members.{Member, IsOnOffer, IsComplete, Leads, LeadsToCover, Dominates}
 use Rattle.lin_frontier.specs.MemberLaws.{DominationLaw, DroppingLaw, DropOneLaw, TransitiveLaw}
+use Rattle.lin_frontier.proofs.Exchanging.{covered_by}
 use Rattle.lin_frontier.proofs.Inserting.{first_or_rest}
 use Rattle.lin_frontier.proofs.Ways.{covers_from, way_start, from_covers, to_covers}
 use Rattle.lin_frontier.proofs.Following.{Passes, meets_over}
@@ -66,25 +67,28 @@ module _ {S : Type 0} (start : S) (step : S → Call → S → Reply → Type 0)
   pub dropping_law : DroppingLaw start step
   dropping_law observes h members others dominated complete c config =
       let found = complete c config in
-      let by = dominated found.0 found.1 in
-      (by.0, by.1, covers_on step observes h h (passes_itself observes h) found.0 by.0 by.2 c config.1.placed.rising found.2)
+      let by = dominated found.member found.among in
+      covered_by step observes h members others c found (by.0, by.1, covers_on step observes h h (passes_itself observes h) found.member by.0 by.2 (c.0, found.placed) found.exchanged.rising found.leads)
 
   -- more members
   pub complete_within : (observes : Call → Bool) (h : List Event) (members others : List (Member S)) → ((m : Member S) → Contains members m → Contains others m) → IsComplete start step observes h members
       → IsComplete start step observes h others
-  complete_within observes h members others within complete c config = let found = complete c config in (found.0, within found.0 found.1, found.2)
+  complete_within observes h members others within complete c config =
+      let found = complete c config in
+      covered_by step observes h members others c found (found.member, within found.member found.among, found.leads)
 
   pub drop_one_law : DropOneLaw start step
   drop_one_law observes h before after m n there dominates complete c config =
       let found = complete c config in
-      elim (Contains-append_cases before (n ∷ after) found.0 found.1) [
-        | inl first ↦ (found.0, Contains-append_left before after found.0 first, found.2)
-        | inr last ↦ elim (first_or_rest n after found.0 last) [
+      covered_by step observes h (before ++ (n ∷ after)) (before ++ after) c found (elim (Contains-append_cases before (n ∷ after) found.member found.among) [
+        | inl first ↦ (found.member, Contains-append_left before after found.member first, found.leads)
+        | inr last ↦ elim (first_or_rest n after found.member last) [
           | inl same ↦ (
             m,
             there,
-            covers_on step observes h h (passes_itself observes h) n m dominates c config.1.placed.rising (subst (λ k. LeadsToCover step observes h k c) (sym same) found.2),
+            covers_on step observes h h (passes_itself observes h) n m dominates (c.0, found.placed) found.exchanged.rising
+                (subst (λ k. LeadsToCover step observes h k (c.0, found.placed)) (sym same) found.leads),
           )
-          | inr later ↦ (found.0, Contains-append_right before after found.0 later, found.2)
+          | inr later ↦ (found.member, Contains-append_right before after found.member later, found.leads)
         ]
-      ]
+      ])

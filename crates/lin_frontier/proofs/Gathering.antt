@@ -25,6 +25,7 @@ use Rattle.lin_frontier.proofs.Awaiting.{open_pending, placing_pending}
 use Rattle.lin_frontier.proofs.Choices.{choices_lead}
 use Rattle.lin_frontier.proofs.Dominating.{complete_within, covers_on, passes_itself}
 use Rattle.lin_frontier.proofs.Choosing.{all_from}
+use Rattle.lin_frontier.proofs.Exchanging.{covered_by}
 use Rattle.lin_frontier.proofs.Expanding.{extended_bare, extended_keeps}
 use Rattle.lin_frontier.proofs.Visiting.{grown_grown, not_grown}
 use Rattle.lin_frontier.proofs.Merging.{alone_bare, alone_spelled}
@@ -52,17 +53,19 @@ module _ {S : Type 0} (start : S) (step : S → Call → S → Reply → Type 0)
       → IsComplete start step observes h (map (λ m. m.0) members) → IsComplete start step observes h (map (λ m. m.0) all)
   gathered_complete unique functions h alternates opened first members all spelled chosen all_spelled complete c config =
       let found = complete c config in
-      let m = from_map (λ (k : Member S × Path). k.0) members found.0 found.1 in
+      let d : S × List (ℕ × Reply) = (c.0, found.placed) in
+      let m = from_map (λ (k : Member S × Path). k.0) members found.member found.among in
       let s = spelled m.0 m.1 in
       let f = chosen m.0 m.1 in
       let k = choices_lead step observes functions h pending opened unique alternates m.0.0.offers f.0 f.2 (λ n there. let by = f.3 n there in spelled_rising start step observes h by.0 (with_offers m.0.0.offers n) by.1)
       (λ x there. let by = s.trail.offered x.0 x.1 there in let o = open_pending h pending opened by.0 x.1.0 by.1.key by.1.call by.1.is_open in (o.0, o.1, o.3))
-      (with_offers [] m.0) f.1 c config.1.placed.rising (subst (λ (n : Member S). LeadsToCover step observes h n c) (sym m.2) found.2) in
+      (with_offers [] m.0) f.1 d found.exchanged.rising (subst (λ (n : Member S). LeadsToCover step observes h n d) (sym m.2) found.leads) in
       let held = f.4 k.0 k.1 in
       let n = held.0 in
       let by = all_spelled n held.1 in
-      let d = dominates_to functions h pending opened unique alternates observes n.0 k.0.0.state k.0.0.placed [] (spelled_rising start step observes h by.0 (with_offers [] n) by.1) held.2 in
-      (n.0, in_map (λ (k : Member S × Path). k.0) all n held.1, covers_on step observes h h (passes_itself observes h) (member_at (config_of k.0) []) n.0 d c config.1.placed.rising k.2)
+      let over = dominates_to functions h pending opened unique alternates observes n.0 k.0.0.state k.0.0.placed [] (spelled_rising start step observes h by.0 (with_offers [] n) by.1) held.2 in
+      covered_by step observes h (map (λ m. m.0) members) (map (λ m. m.0) all) c found
+      (n.0, in_map (λ (k : Member S × Path). k.0) all n held.1, covers_on step observes h h (passes_itself observes h) (member_at (config_of k.0) []) n.0 over d found.exchanged.rising k.2)
 
   -- members with nothing on offer that are closed under placing cover all configurations themselves, where those among them are complete
   pub closed_listing : ListingLaw start step → IsObserving step observes → EndsAreUnique → WellFormedIsAlternating → (functions : ℤ → Name → Bool) (h : List Event) → IsWellFormed functions h → IsPending h pending

@@ -1,12 +1,13 @@
 -- Placing, and the events that keep all members: invocation, info, fail.
-use Rattle.std.proofs.Common.{◌≡◌, ℕ, ℤ, Bool, true, false, List, Contains, inl, inr, ap, subst}
+use Rattle.std.proofs.Common.{◌≡◌, ℕ, ℤ, Bool, true, false, List, Contains, inl, inr, refl, sym, ap, subst}
 use Rattle.std.proofs.lemmas.Bool.{cases_Bool}
 use Rattle.lin_history.specs.declared.calls.Call.{Call}
 use Rattle.lin_history.specs.declared.calls.Name.{Name}
 use Rattle.lin_history.specs.declared.calls.Reply.{Reply}
 use Rattle.lin_history.specs.declared.events.Event.{Event}
 use Rattle.lin_history.specs.Alternation.{IsAlternating}
-use Rattle.lin_history.specs.WellFormedLaws.{WellFormedIsAlternating}
+use Rattle.lin_history.specs.WellFormed.{Completes}
+use Rattle.lin_history.specs.WellFormedLaws.{EndsAreUnique, WellFormedIsAlternating}
 use Rattle.lin_objects.specs.Observing.{IsObserving}
 use Rattle.lin_order.specs.declared.placed.Placed.{Placed}
 use Rattle.lin_order.specs.Configurations.{IsAdded, IsPlacing, IsPlacedOn, none, more as further}
@@ -18,7 +19,8 @@ use Rattle.lin_frontier.proofs.Choosing.{can_add}
 use Rattle.lin_frontier.proofs.Ways.{Meets, way_kept, way_start, from_covers, to_covers}
 use Rattle.lin_frontier.proofs.Following.{Passes, Follows, follow, meets_over}
 use Rattle.lin_frontier.proofs.Dominating.{dominates_itself, covers_on, covers_sorted}
-use Rattle.lin_frontier.proofs.Crashes.{crash_before, crash_or, invoke_no_info, passes_invoke, passes_info, passes_fail}
+use Rattle.lin_frontier.proofs.Crashes.{crash_before, crash_or, fail_no_info, invoke_no_info, never_crashed, passes_invoke, passes_info, passes_fail}
+use Rattle.lin_frontier.proofs.Exchanging.{exchange_on, exchanged_on, exchanged_placed_on, fixed_from}
 
 module _ {S : Type 0} (step : S → Call → S → Reply → Type 0) (observes : Call → Bool) (observing : IsObserving step observes) (functions : ℤ → Name → Bool)
     (h : List Event) (alternates : IsAlternating functions h) where
@@ -123,39 +125,63 @@ module _ {S : Type 0} (start : S) (step : S → Call → S → Reply → Type 0)
   invocation_keeps_law law observes observing functions h event call body well_formed members complete c config =
       let alternates = (alternating functions (with_event h event)).0 well_formed in
       let from = (law functions h event call body well_formed).reached c config in
+      let passes = passes_invoke h event observes call body in
       let found = complete from.0 from.2 in
-      let m = found.0 in (
-        m,
-        found.1,
-        placed_on_covers step observes observing functions (with_event h event) alternates m from.0 c
-            (covers_on step observes h (with_event h event) (passes_invoke h event observes call body) m m
-            (dominates_itself observes (with_event h event) m (covers_sorted step observes h m from.0 found.2)) from.0 from.2.1.placed.rising found.2)
-            from.3,
-      )
+      let m = found.member in
+      let b : S × List (ℕ × Reply) = (from.0.0, found.placed) in
+      let e = exchange_on observes h (with_event h event) (λ q. ⊥) passes (λ q over crashed. over) found.exchange in
+      let on = exchanged_placed_on e functions alternates step from.0 found.placed
+      (exchanged_on observes h (with_event h event) (λ q. ⊥) passes (λ q over crashed. over) found.exchange from.0.1 found.placed found.exchanged) c from.3 in
+      record {
+        exchange = e;
+        placed = on.0;
+        exchanged = on.1;
+        member = m;
+        among = found.among;
+        leads = placed_on_covers step observes observing functions (with_event h event) alternates m b (c.0, on.0)
+            (covers_on step observes h (with_event h event) passes m m (dominates_itself observes (with_event h event) m (covers_sorted step observes h m b found.leads)) b found.exchanged.rising found.leads)
+            on.3;
+      }
 
   pub info_keeps_law : InfoLaw start step → InfoKeepsLaw start step
   info_keeps_law law observes functions h event name body well_formed members others dominated complete c config =
       let alternates = (alternating functions (with_event h event)).0 well_formed in
       let found = complete c (config.0, (law functions h event name body well_formed config.0 c).0 config.1) in
-      let by = dominated found.0 found.1 in
-      (by.0, by.1, covers_on step observes h (with_event h event) (passes_info h event functions alternates observes name body) found.0 by.0 by.2 c config.1.placed.rising found.2)
+      let by = dominated found.member found.among in
+      let passes = passes_info h event functions alternates observes name body in
+      record {
+        exchange = exchange_on observes h (with_event h event) (λ q. ⊥) passes (λ q over crashed. over) found.exchange;
+        placed = found.placed;
+        exchanged = exchanged_on observes h (with_event h event) (λ q. ⊥) passes (λ q over crashed. over) found.exchange c.1 found.placed found.exchanged;
+        member = by.0;
+        among = by.1;
+        leads = covers_on step observes h (with_event h event) passes found.member by.0 by.2 (c.0, found.placed) found.exchanged.rising found.leads;
+      }
 
-  pub fail_keeps_law : FailLaw start step → FailKeepsLaw start step
-  fail_keeps_law law observes functions h event name body well_formed members others dominated complete c config =
+  pub fail_keeps_law : EndsAreUnique → FailLaw start step → FailKeepsLaw start step
+  fail_keeps_law unique law observes functions h event name body well_formed members others dominated complete c config =
       let alternates = (alternating functions (with_event h event)).0 well_formed in
       let before = (law functions h event name body well_formed config.0 c).0 config.1 in
       let found = complete c (config.0, before.0) in
-      let m = found.0 in
-      let meets = from_covers step observes h m c config.1.placed.rising found.2 in
+      let m = found.member in
+      let e = found.exchange in
+      let passes = passes_fail h event functions alternates observes name body in
+      let alive : HasCrashed h event.process → ⊥ = never_crashed h event functions alternates unique name (subst (λ b. Completes b name) (sym body) refl) (λ other. fail_no_info body other) in
+      let ended : (q : ℕ) → q ≡ event.process → HasCrashed h q → ⊥ = λ q same crashed. alive (subst (HasCrashed h) same crashed) in
+      let none_of : (reply : Reply) → Contains found.placed (event.process, reply) → ⊥ =
+      λ reply there. before.1 reply (subst (λ q. Contains c.1 (q, reply)) (fixed_from e event.process alive) (found.exchanged.rest (event.process, reply) there)) in
+      let meets = from_covers step observes h m (c.0, found.placed) found.exchanged.rising found.leads in
       let absent : (reply : Reply) → Contains m.placed (event.process, reply) → ⊥ =
-      λ reply there. before.1 reply (meets.part (event.process, reply) (way_kept step observes h (m.state, m.placed) (c.0, meets.placed) meets.way (event.process, reply) there)) in
-      let by = dominated m found.1 absent in (
-        by.0,
-        by.1,
-        to_covers step observes (with_event h event) by.0 c (meets_over step observes h (with_event h event) (λ q. q ≡ event.process)
-            (passes_fail h event functions alternates observes name body)
-            m.state m.placed m.placed (IsOnOffer m) by.0
+      λ reply there. none_of reply (meets.part (event.process, reply) (way_kept step observes h (m.state, m.placed) (c.0, meets.placed) meets.way (event.process, reply) there)) in
+      let by = dominated m found.among absent in
+      record {
+        exchange = exchange_on observes h (with_event h event) (λ q. q ≡ event.process) passes ended e;
+        placed = found.placed;
+        exchanged = exchanged_on observes h (with_event h event) (λ q. q ≡ event.process) passes ended e c.1 found.placed found.exchanged;
+        member = by.0;
+        among = by.1;
+        leads = to_covers step observes (with_event h event) by.0 (c.0, found.placed) (meets_over step observes h (with_event h event) (λ q. q ≡ event.process) passes m.state m.placed m.placed (IsOnOffer m) by.0
             (λ x there. there) (λ x there same. absent x.1 (subst (λ q. Contains m.placed (q, x.1)) same there)) (λ x there. inl there) by.2
-            c.0 c.1 c.1 config.1.placed.rising (λ x there. there) (λ x there same. before.1 x.1 (subst (λ q. Contains c.1 (q, x.1)) same there)) (λ x there. inl there)
-            meets (λ at p key call reply is_open never first there same. before.1 reply (subst (λ q. Contains c.1 (q, reply)) same (meets.part (p, reply) there)))),
-      )
+            c.0 found.placed found.placed found.exchanged.rising (λ x there. there) (λ x there same. none_of x.1 (subst (λ q. Contains found.placed (q, x.1)) same there)) (λ x there. inl there)
+            meets (λ at p key call reply is_open never first there same. none_of reply (subst (λ q. Contains found.placed (q, reply)) same (meets.part (p, reply) there))));
+      }

@@ -7,6 +7,7 @@ use Rattle.lin_frontier.specs.Covers.{HasCrashed}
 use Rattle.lin_frontier.specs.Members.{Member, IsGiven, IsOffered, IsOnOffer, IsWatching, LeadsToMember, Way, here, more}
 use Rattle.lin_frontier.specs.MemberLaws.{LedToLaw}
 use Rattle.lin_frontier.proofs.Choosing.{stands}
+use Rattle.lin_frontier.proofs.Exchanging.{covered_by}
 use Rattle.lin_frontier.proofs.Inserting.{rising_once}
 use Rattle.lin_frontier.proofs.Ways.{Meets, way_kept, from_covers, to_covers}
 use Rattle.lin_frontier.proofs.Following.{Follows, follow}
@@ -75,5 +76,10 @@ module _ {S : Type 0} (step : S → Call → S → Reply → Type 0) (observes :
 pub led_to_law : {S : Type 0} (start : S) (step : S → Call → S → Reply → Type 0) → LedToLaw start step
 led_to_law start step observes h members others each complete c config =
     let found = complete c config in
-    let by = each found.0 found.1 in
-    (by.0, by.1, to_covers step observes h by.0 c (meets_from step observes h by.0 found.0 by.2 c.0 c.1 (from_covers step observes h found.0 c config.1.placed.rising found.2)))
+    let by = each found.member found.among in
+    covered_by step observes h members others c found (
+      by.0,
+      by.1,
+      to_covers step observes h by.0 (c.0, found.placed)
+          (meets_from step observes h by.0 found.member by.2 c.0 found.placed (from_covers step observes h found.member (c.0, found.placed) found.exchanged.rising found.leads)),
+    )

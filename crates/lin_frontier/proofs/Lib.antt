@@ -19,6 +19,7 @@ pub mod Each
 pub mod Choosing
 pub mod Ways
 pub mod Following
+pub mod Exchanging
 pub mod Dominating
 pub mod Crashes
 pub mod Lasting

@@ -6,19 +6,18 @@ use Rattle.lin_history.specs.declared.calls.Name.{Name}
 use Rattle.lin_history.specs.declared.calls.Reply.{Reply}
 use Rattle.lin_history.specs.declared.events.Event.{Event}
 use Rattle.lin_history.specs.Alternation.{IsAlternating}
-use Rattle.lin_history.specs.Operations.{IsOpen, IsOperation}
 use Rattle.lin_history.specs.WellFormed.{Completes}
 use Rattle.lin_history.specs.WellFormedLaws.{EndsAreUnique, WellFormedIsAlternating}
-use Rattle.lin_history.proofs.OneMore.{one_call, one_open}
 use Rattle.lin_objects.specs.Observing.{IsObserving}
 use Rattle.lin_order.specs.declared.placed.Placed.{Placed}
 use Rattle.lin_order.specs.ConfigurationLaws.{with_event, OkLaw}
-use Rattle.lin_order.specs.Configurations.{IsPlacing, IsRising}
+use Rattle.lin_order.specs.Configurations.{IsAdded, IsPlacing, IsRising}
 use Rattle.lin_frontier.specs.Covers.{Covers, HasCrashed}
 use Rattle.lin_frontier.specs.Members.{Member, IsOnOffer, IsWatching, IsGiven, here, more, IsReady, WayOf, Leads, IsListed}
 use Rattle.lin_frontier.specs.MemberLaws.{ListedLaw, ListingLaw, ListingOkLaw}
 use Rattle.lin_frontier.specs.Placing.{without}
-use Rattle.lin_frontier.proofs.Crashes.{crash_kept, never_crashed, ok_no_info}
+use Rattle.lin_frontier.proofs.Crashes.{crash_kept, never_crashed, ok_no_info, passes_ok}
+use Rattle.lin_frontier.proofs.Exchanging.{exchange_on, exchanged_on, exchanged_without, fixed, open_call}
 use Rattle.lin_frontier.proofs.Choosing.{Chosen, can_add, choose, nothing_in, stands}
 use Rattle.lin_frontier.proofs.Inserting.{first_or_rest, rising_once, taken_out}
 use Rattle.lin_frontier.proofs.Ways.{covers_from, covers_rest, covers_within}
@@ -31,11 +30,6 @@ through h b c d first second = covers_from (HasCrashed h) b d (first.state ∙ s
       | inl kept ↦ covers_rest (HasCrashed h) b c first x kept
       | inr crashed ↦ inr crashed
     ])
-
--- the open operation of a process has one call
-pub open_call : (functions : ℤ → Name → Bool) (h : List Event) → IsAlternating functions h → (i j process : ℕ) (key other : ℤ) (c d : Call) → IsOpen h i process key c → IsOpen h j process other d → c ≡ d
-open_call functions h alternates i j process key other c d open_i open_j =
-    one_call h j process process key other c d (subst (λ k. IsOperation h k process key c) (one_open functions h alternates i j process key other c d open_i open_j) open_i.begins) open_j.begins
 
 module _ {S : Type 0} (step : S → Call → S → Reply → Type 0) (observes : Call → Bool) (observing : IsObserving step observes) (functions : ℤ → Name → Bool) (h : List Event) (alternates : IsAlternating functions h)
     (members : List (Member S)) (sorted : (m : Member S) → Contains members m → IsRising m.placed) (none_offered : (m : Member S) (x : ℕ × Reply) → Contains members m → IsOnOffer m x → ⊥)
@@ -194,45 +188,60 @@ module _ {S : Type 0} (step : S → Call → S → Reply → Type 0) (observes :
 pub listing_law : {S : Type 0} (start : S) (step : S → Call → S → Reply → Type 0) → WellFormedIsAlternating → ListingLaw start step
 listing_law start step alternating observes observing functions h well_formed members sorted none_offered closed complete c config =
     let found = complete c config in
-    let b = found.2.0 in
-    let leads = found.2.1 in
-    let is = reached step observes observing functions h ((alternating functions h).0 well_formed) members sorted none_offered closed found.0 found.1 (b.0, leads.placed) leads.way b.1 leads.rising leads.part leads.each in
-    (is.0, is.1, through h (is.0.state, is.0.placed) b c is.2 found.2.2)
+    let b = found.leads.0 in
+    let leads = found.leads.1 in
+    let is = reached step observes observing functions h ((alternating functions h).0 well_formed) members sorted none_offered closed found.member found.among (b.0, leads.placed) leads.way b.1 leads.rising leads.part leads.each in
+    (found.exchange, found.placed, found.exchanged, (is.0, is.1, through h (is.0.state, is.0.placed) b (c.0, found.placed) is.2 found.leads.2))
 
 pub listed_law : {S : Type 0} (start : S) (step : S → Call → S → Reply → Type 0) → ListedLaw start step
 listed_law start step observes h members sorted listing c config =
-    let is = listing c config in
+    let found = listing c config in
+    let is = found.3 in
     let m = is.0 in
     let own : Leads step observes h m (m.state, m.placed) =
     record { placed = m.placed; way = here; before = sorted m is.1; rising = sorted m is.1; part = λ x there. there; each = λ x there. inl there } in
-    (m, is.1, ((m.state, m.placed), own, is.2))
+    record { exchange = found.0; placed = found.1; exchanged = found.2; member = m; among = is.1; leads = ((m.state, m.placed), own, is.2) }
 
 module _ {S : Type 0} (start : S) (step : S → Call → S → Reply → Type 0) (unique : EndsAreUnique) (alternating : WellFormedIsAlternating) (law : OkLaw start step) where
   pub listing_ok_law : ListingOkLaw start step
   listing_ok_law functions h event name reply body well_formed members others sorted taken listing c config =
+      let alternates = (alternating functions (with_event h event)).0 well_formed in
+      let alive : HasCrashed h event.process → ⊥ = never_crashed h event functions alternates unique name (subst (λ b. Completes b name) (sym body) refl) (λ other. ok_no_info body other) in
+      let passes = passes_ok h event functions alternates (λ call. true) name reply body in
+      let ended : (q : ℕ) → q ≡ event.process → HasCrashed h q → ⊥ = λ q same crashed. alive (subst (HasCrashed h) same crashed) in
       let from = (law functions h event name reply body well_formed).was config.0 c config.1 in
-      let is = listing (c.0, from.0) (config.0, from.1) in
-      let m = is.0 in
-      let own : S × List (ℕ × Reply) = (m.state, m.placed) in
-      elim (covers_rest (HasCrashed h) own (c.0, from.0) is.2 (event.process, reply) from.2.has) [
+      let found = listing (c.0, from.0) (config.0, from.1) in
+      let e = found.0 in
+      let less = exchanged_without e event.process reply c.1 from.0 found.1 (fixed e event.process alive) found.2 from.2 in
+      (
+        exchange_on (λ call. true) h (with_event h event) (λ q. q ≡ event.process) passes ended e,
+        without event.process found.1,
+        exchanged_on (λ call. true) h (with_event h event) (λ q. q ≡ event.process) passes ended e c.1 (without event.process found.1) less.0,
+        returned alive (c.0, without event.process found.1) found.1 less.1 found.3,
+      )
+    where
+      returned : (HasCrashed h event.process → ⊥) → (d : S × List (ℕ × Reply)) (wider : List (ℕ × Reply)) → IsAdded event.process reply d.1 wider → IsListed h members (d.0, wider) → IsListed (with_event h event) others d
+      returned alive d wider added is = elim (covers_rest (HasCrashed h) (is.0.state, is.0.placed) (d.0, wider) is.2 (event.process, reply) added.has) [
         | inl there ↦
+            let m = is.0 in
+            let own : S × List (ℕ × Reply) = (m.state, m.placed) in
             let out = taken_out event.process reply m.placed (sorted m is.1) there in
             let left : S × List (ℕ × Reply) = (m.state, without event.process m.placed) in
             let next = taken m (without event.process m.placed) is.1 out in (
               next.0,
               next.1,
-              through (with_event h event) (next.0.state, next.0.placed) left c next.2 (covers_from (HasCrashed (with_event h event)) left c is.2.state
-                  (λ x inside. elim (from.2.was x (covers_within (HasCrashed h) own (c.0, from.0) is.2 x (out.kept x inside))) [
+              through (with_event h event) (next.0.state, next.0.placed) left d next.2 (covers_from (HasCrashed (with_event h event)) left d is.2.state
+                  (λ x inside. elim (added.was x (covers_within (HasCrashed h) own (d.0, wider) is.2 x (out.kept x inside))) [
                     | inl stays ↦ stays
                     | inr same ↦ absurd (out.absent reply (subst (Contains (without event.process m.placed)) (sym same) inside))
                   ])
-                  (λ x inside. elim (covers_rest (HasCrashed h) own (c.0, from.0) is.2 x (from.2.kept x inside)) [
+                  (λ x inside. elim (covers_rest (HasCrashed h) own (d.0, wider) is.2 x (added.kept x inside)) [
                     | inl kept ↦ elim (out.was x kept) [
                       | inl stays ↦ inl stays
-                      | inr same ↦ absurd (from.2.absent reply (subst (Contains c.1) (sym same) inside))
+                      | inr same ↦ absurd (added.absent reply (subst (Contains d.1) (sym same) inside))
                     ]
                     | inr crashed ↦ inr (crash_kept h event x.0 crashed)
                   ])),
             )
-        | inr crashed ↦ absurd (never_crashed h event functions ((alternating functions (with_event h event)).0 well_formed) unique name (subst (λ b. Completes b name) (sym body) refl) (λ other. ok_no_info body other) crashed)
+        | inr crashed ↦ absurd (alive crashed)
       ]

@@ -1,5 +1,5 @@
 -- After an ok, by members that a search visits: the laws.
-use Rattle.std.proofs.Common.{◌≡◌, ◌≢◌, ℕ, ℤ, Bool, true, List, [], Contains, ◌⊎◌, inl, inr, refl, sym, subst, ◌∙◌, arith, true≢false}
+use Rattle.std.proofs.Common.{◌≡◌, ◌≢◌, ℕ, ℤ, Bool, true, List, [], Contains, ◌⊎◌, inl, inr, refl, sym, ap, subst, ◌∙◌, arith, true≢false}
 use Rattle.lin_history.specs.declared.calls.Name.{Name}
 use Rattle.lin_history.specs.declared.calls.Call.{Call}
 use Rattle.lin_history.specs.declared.calls.Reply.{Reply}
@@ -10,21 +10,28 @@ use Rattle.lin_history.specs.Alternation.{IsAlternating}
 use Rattle.lin_history.specs.Operations.{IsOpen}
 use Rattle.lin_history.specs.WellFormed.{Completes}
 use Rattle.lin_history.specs.WellFormedLaws.{EndsAreUnique, WellFormedIsAlternating}
+use Rattle.lin_history.proofs.OneMore.{alternates_before}
+use Rattle.lin_order.specs.Configurations.{IsRising}
 use Rattle.lin_order.specs.ConfigurationLaws.{with_event, AtStart, OkLaw}
 use Rattle.lin_frontier.specs.Covers.{HasCrashed}
-use Rattle.lin_frontier.specs.Members.{Member, IsOnOffer, IsWatching, IsGiven, IsOffered, WayOf, here, more, LeadsToCover, DominatesAt, Dominates}
-use Rattle.lin_frontier.specs.MemberLaws.{first_member, IsSearched, StartCompleteLaw, SuccessorLaw, SkippedLaw, ObserverSearchLaw, OffersGoLaw, UpdateSearchLaw}
+use Rattle.lin_frontier.specs.Members.{Member, IsOnOffer, IsWatching, IsGiven, IsOffered, IsUpdate, WayOf, here, more, LeadsToCover, DominatesAt, Dominates}
+use Rattle.lin_frontier.specs.Exchanges.{Exchange, IsExchanged}
+use Rattle.lin_frontier.specs.MemberLaws.{first_member, IsDominatedAt, IsSearched, StartCompleteLaw, SuccessorLaw, SkippedLaw, ObserverSearchLaw, OffersGoLaw, UpdateSearchLaw}
 use Rattle.lin_frontier.proofs.Ways.{covers_from, way_kept}
-use Rattle.lin_frontier.proofs.Crashes.{crashes_now, passes_fail, passes_ok}
+use Rattle.lin_frontier.proofs.Crashes.{crashes_now, never_crashed, ok_no_info, passes_fail, passes_ok}
+use Rattle.lin_frontier.proofs.Exchanging.{both, exchange_all, exchanged_both, exchanged_itself, exchanged_update, fixed, no_exchange, only_itself}
 use Rattle.lin_frontier.proofs.Returning.{ok_observer, ok_update}
 use Rattle.lin_frontier.proofs.Searching.{after_update, backs_itself, backs_ok, held_stops, not_watching, own_update, own_wider, through, watching}
 use Rattle.lin_frontier.proofs.Taking.{IsStopped}
 
 pub start_complete_law : {S : Type 0} (start : S) (step : S → Call → S → Reply → Type 0) → AtStart start step → StartCompleteLaw start step
-start_complete_law {S} start step law observes c config = (
-  first_member start,
-  (0, omega arith, refl),
-  subst (LeadsToCover step observes [] (first_member start)) (sym (law.1 c config)) (
+start_complete_law {S} start step law observes c config = record {
+  exchange = no_exchange [];
+  placed = c.1;
+  exchanged = exchanged_itself [] c.1 config.1.placed.rising;
+  member = first_member start;
+  among = (0, omega arith, refl);
+  leads = subst (LeadsToCover step observes [] (first_member start)) (sym (law.1 c config)) (
     (start, []),
     record {
       placed = [];
@@ -35,8 +42,8 @@ start_complete_law {S} start step law observes c config = (
       each = λ x there. inl there;
     },
     covers_from (HasCrashed []) (start, []) (start, []) refl (λ x there. there) (λ x there. inl there),
-  ),
-)
+  );
+}
 
 module _ {S : Type 0} (start : S) (step : S → Call → S → Reply → Type 0) (observes : Call → Bool) (unique : EndsAreUnique) (functions : ℤ → Name → Bool) (h : List Event) (event : Event)
     (name : Name) (reply : Reply) (body : event.body ≡ Ok name reply) (alternates : IsAlternating functions (with_event h event)) (members visited others : List (Member S))
@@ -45,16 +52,70 @@ module _ {S : Type 0} (start : S) (step : S → Call → S → Reply → Type 0)
   abbrev Others : (m : Member S) (c : S × List (ℕ × Reply)) (way : WayOf step observes h m c) → ℕ × Reply → Type 0
   Others m c way x = (x.0 ≢ event.process) × IsOffered step observes h (IsOnOffer m) (m.state, m.placed) c way x
 
+  -- a visited member dominates the point
+  abbrev Visits : (m : Member S) (c : S × List (ℕ × Reply)) (way : WayOf step observes h m c) → Type 0
+  Visits m c way = IsDominatedAt observes h visited c.0 c.1 (Others m c way)
+
+  pub earlier : IsAlternating functions h
+  earlier = alternates_before h event functions alternates
+
+  pub stays : (e : Exchange h) → e.to event.process ≡ event.process
+  stays e = fixed e event.process (λ c. never_crashed h event functions alternates unique name (subst (λ b. Completes b name) (sym body) refl) (λ other. ok_no_info body other) c)
+
+  -- the first point
+  first_visit : (m : Member S) → IsRising m.placed → (n : Member S) → Contains visited n → Dominates observes h n m → Visits m (m.state, m.placed) here
+  first_visit m rising n there d = record {
+    exchange = no_exchange h;
+    others = m.placed;
+    exchanged = exchanged_itself h m.placed rising;
+    member = n;
+    among = there;
+    dominates = record { sorted = d.sorted; same = d.same; part = d.part; rest = d.rest; offered = λ x watches none is. d.offered x watches none is.1 };
+  }
+
+  -- and the next one, where what is visited is searched
+  module _ (m : Member S) (c d : S × List (ℕ × Reply)) (way : WayOf step observes h m d) (u : IsUpdate step observes h d c) (visit : Visits m d way) where
+    abbrev offers_then : ℕ × Reply → Type 0
+    offers_then x = IsOffered step observes h (IsOnOffer m) (m.state, m.placed) d way x
+
+    -- the update, exchanged
+    pub u' : (more_of : List (ℕ × Reply)) × IsExchanged visit.exchange c.1 more_of × (v : IsUpdate step observes h (d.0, visit.others) (c.0, more_of)) × (v.1.process ≡ visit.exchange.to u.1.process) × (v.0.reply ≡ u.0.reply)
+    u' = exchanged_update visit.exchange functions earlier step observes d c visit.others visit.exchanged u
+
+    pub own_end : List (ℕ × Reply)
+    own_end = (own_wider step observes h event.process visit.member (d.0, visit.others) (c.0, u'.0) offers_then visit.dominates u'.2).0
+
+    pub own : IsUpdate step observes h (visit.member.state, visit.member.placed) (c.0, own_end)
+    unfolding own_end
+    own = own_update step observes h event.process visit.member (d.0, visit.others) (c.0, u'.0) offers_then visit.dominates u'.2
+
+    next_visit : IsDominatedAt observes h visited c.0 own_end (λ x. (x.0 ≢ event.process) × (IsOnOffer visit.member x ⊎ IsGiven step h visit.member.state x)) → Visits m c (more way u)
+    unfolding own_end
+    next_visit next =
+        let whole = exchange_all next.exchange u'.0 u'.1.rising in
+        record {
+          exchange = both functions earlier visit.exchange next.exchange;
+          others = whole.0;
+          exchanged = exchanged_both functions earlier visit.exchange next.exchange c.1 u'.0 whole.0 u'.1 whole.1;
+          member = next.member;
+          among = next.among;
+          dominates = after_update step observes h event.process visit.member (d.0, visit.others) (c.0, u'.0) offers_then visit.dominates u'.2 next.exchange next.others whole.0
+              next.exchanged whole.1 next.member next.dominates;
+        }
+
   module _ (observer : (at : ℕ) (key : ℤ) (call : Call) → IsOpen h at event.process key call → observes call ≡ true)
       (each : (m : Member S) → Contains visited m → ((n : Member S) × Contains others n × Dominates observes (with_event h event) n m)
       ⊎ ((IsOnOffer m (event.process, reply) → ⊥) × (IsGiven step h m.state (event.process, reply) → ⊥) × IsSearched step observes h event.process visited m)) where
-    hold : (m : Member S) (c : S × List (ℕ × Reply)) (way : WayOf step observes h m c) (n : Member S) → DominatesAt observes h n c.0 c.1 (Others m c way)
-        → (k : Member S) × Contains others k × Dominates observes (with_event h event) k n → IsStopped step observes h (with_event h event) others m c way
-    hold m c way n dominates held = held_stops step observes h (with_event h event) others m c way (
+    hold : (m : Member S) (c : S × List (ℕ × Reply)) (way : WayOf step observes h m c) (visit : Visits m c way)
+        → (k : Member S) × Contains others k × Dominates observes (with_event h event) k visit.member → IsStopped step observes h (with_event h event) others m c way
+    hold m c way visit held = held_stops step observes h (with_event h event) others m c way (
+      visit.exchange,
+      visit.others,
       held.0,
+      visit.exchanged,
       held.1,
-      through step observes h (with_event h event) (backs_ok step observes functions h event name reply body alternates) n held.0 c.0 c.1
-          (Others m c way) (IsOnOffer n) (IsOffered step observes h (IsOnOffer m) (m.state, m.placed) c way) dominates held.2
+      through step observes h (with_event h event) (backs_ok step observes functions h event name reply body alternates) visit.member held.0 c.0 visit.others
+          (Others m c way) (IsOnOffer visit.member) (IsOffered step observes h (IsOnOffer m) (m.state, m.placed) c way) visit.dominates held.2
           (λ x watches is. ((not_watching step observes functions h event name reply body alternates x.0 watches, is), λ offer. offer)),
     )
 
@@ -63,48 +124,45 @@ module _ {S : Type 0} (start : S) (step : S → Call → S → Reply → Type 0)
     given_too s n same given =
         record { at = given.at; key = given.key; call = given.call; next = given.next; is_open = given.is_open; steps = subst (λ t. step t given.call given.next reply) (sym same) given.steps }
 
-    along : (m : Member S) → Contains members m → ((other : Reply) → Contains m.placed (event.process, other) → ⊥) → (c : S × List (ℕ × Reply)) (way : WayOf step observes h m c)
+    along : (m : Member S) → Contains members m → ((other : Reply) → Contains m.placed (event.process, other) → ⊥) → (c : S × List (ℕ × Reply)) (way : WayOf step observes h m c) → IsRising c.1
         → IsStopped step observes h (with_event h event) others m c way
-        ⊎ ((n : Member S) × Contains visited n × DominatesAt observes h n c.0 c.1 (Others m c way)
-        × (IsOffered step observes h (IsOnOffer m) (m.state, m.placed) c way (event.process, reply) → IsOnOffer n (event.process, reply)))
-    along m there absent c here =
+        ⊎ ((visit : Visits m c way) × (IsOffered step observes h (IsOnOffer m) (m.state, m.placed) c way (event.process, reply) → IsOnOffer visit.member (event.process, reply)))
+    unfolding first_visit own u'
+    along m there absent c here rising =
         let first = starts m there absent in
         inr (
-          first.0,
-          first.1,
-          record { sorted = first.2.sorted; same = first.2.same; part = first.2.part; rest = first.2.rest; offered = λ x watches none is. first.2.offered x watches none is.1 },
+          first_visit m rising first.0 first.1 first.2,
           λ is. first.2.offered (event.process, reply) (watching step observes functions h event name reply body alternates unique observer) (λ other inside. absent other (first.2.part (event.process, other) inside)) is,
         )
-    along m there absent c (more {c = d} way u) = elim (along m there absent d way) [
+    along m there absent c (more {c = d} way u) rising = elim (along m there absent d way u.1.added.before) [
       | inl stopped ↦ inl (inl stopped)
-      | inr visit ↦ elim (each visit.0 visit.1) [
-        | inl held ↦ inl (inl (hold m d way visit.0 visit.2 held))
+      | inr seen ↦ elim (each seen.0.member seen.0.among) [
+        | inl held ↦ inl (inl (hold m d way seen.0 held))
         | inr searched ↦
-            let offers = IsOffered step observes h (IsOnOffer m) (m.state, m.placed) d way in
-            let next = searched.2 (c.0, (own_wider step observes h event.process visit.0 d c offers visit.2 u).0) (own_update step observes h event.process visit.0 d c offers visit.2 u)
-            (λ same. true≢false (sym (observer u.0.at u.1.key u.1.call (subst (λ q. IsOpen h u.0.at q u.1.key u.1.call) same u.1.is_open)) ∙ u.2)) in
+            let visit = seen.0 in
+            let v = (u' m c d way u visit).2 in
+            let next = searched.2 (c.0, own_end m c d way u visit) (own m c d way u visit)
+            (λ same. true≢false (sym (observer v.0.at v.1.key v.1.call (subst (λ q. IsOpen h v.0.at q v.1.key v.1.call) same v.1.is_open)) ∙ v.2)) in
             inr (
-              next.0,
-              next.1,
-              after_update step observes h event.process visit.0 d c offers visit.2 u next.0 next.2,
+              next_visit m c d way u visit next,
               λ is. absurd (elim is [
-                | inl earlier ↦ searched.0 (visit.3 earlier)
-                | inr given ↦ searched.1 (given_too d.0 visit.0 visit.2.same given)
+                | inl before ↦ searched.0 (seen.1 before)
+                | inr given ↦ searched.1 (given_too d.0 visit.member visit.dominates.same given)
               ]),
             )
       ]
     ]
 
-    pub stops : (m : Member S) → Contains members m → ((other : Reply) → Contains m.placed (event.process, other) → ⊥) → (c : S × List (ℕ × Reply)) (way : WayOf step observes h m c)
+    pub stops : (m : Member S) → Contains members m → ((other : Reply) → Contains m.placed (event.process, other) → ⊥) → (c : S × List (ℕ × Reply)) (way : WayOf step observes h m c) → IsRising c.1
         → IsOffered step observes h (IsOnOffer m) (m.state, m.placed) c way (event.process, reply) ⊎ IsGiven step h c.0 (event.process, reply)
         → IsStopped step observes h (with_event h event) others m c way
-    stops m there absent c way ready = elim (along m there absent c way) [
+    stops m there absent c way rising ready = elim (along m there absent c way rising) [
       | inl stopped ↦ stopped
-      | inr visit ↦ elim (each visit.0 visit.1) [
-        | inl held ↦ hold m c way visit.0 visit.2 held
+      | inr seen ↦ elim (each seen.0.member seen.0.among) [
+        | inl held ↦ hold m c way seen.0 held
         | inr searched ↦ absurd (elim ready [
-          | inl offered ↦ searched.0 (visit.3 offered)
-          | inr given ↦ searched.1 (given_too c.0 visit.0 visit.2.same given)
+          | inl offered ↦ searched.0 (seen.1 offered)
+          | inr given ↦ searched.1 (given_too c.0 seen.0.member seen.0.dominates.same given)
         ])
       ]
     ]
@@ -132,36 +190,45 @@ module _ {S : Type 0} (start : S) (step : S → Call → S → Reply → Type 0)
           ]);
         }
 
-    pub reaches : (m : Member S) → Contains members m → ((other : Reply) → Contains m.placed (event.process, other) → ⊥) → (c : S × List (ℕ × Reply)) (way : WayOf step observes h m c)
-        → ((other : Reply) → Contains c.1 (event.process, other) → ⊥) → (n : Member S) × Contains visited n × DominatesAt observes h n c.0 c.1 (Others m c way)
-    reaches m there absent c here never =
-        let first = starts m there absent in
-        (first.0, first.1, record { sorted = first.2.sorted; same = first.2.same; part = first.2.part; rest = first.2.rest; offered = λ x watches none is. first.2.offered x watches none is.1 })
-    reaches m there absent c (more {c = d} way u) never =
-        let visit = reaches m there absent d way (λ other is. never other (u.1.added.kept (event.process, other) is)) in
-        let offers = IsOffered step observes h (IsOnOffer m) (m.state, m.placed) d way in
-        let next = searched visit.0 visit.1 (c.0, (own_wider step observes h event.process visit.0 d c offers visit.2 u).0) (own_update step observes h event.process visit.0 d c offers visit.2 u)
-        (λ same. never u.0.reply (subst (λ q. Contains c.1 (q, u.0.reply)) same u.1.added.has)) in
-        (next.0, next.1, after_update step observes h event.process visit.0 d c offers visit.2 u next.0 next.2)
+    pub reaches : (m : Member S) → Contains members m → ((other : Reply) → Contains m.placed (event.process, other) → ⊥) → (c : S × List (ℕ × Reply)) (way : WayOf step observes h m c) → IsRising c.1
+        → ((other : Reply) → Contains c.1 (event.process, other) → ⊥) → Visits m c way
+    unfolding own u'
+    reaches m there absent c here rising never = let first = starts m there absent in first_visit m rising first.0 first.1 first.2
+    reaches m there absent c (more {c = d} way u) rising never =
+        let visit = reaches m there absent d way u.1.added.before (λ other is. never other (u.1.added.kept (event.process, other) is)) in
+        next_visit m c d way u visit (searched visit.member visit.among (c.0, own_end m c d way u visit) (own m c d way u visit)
+        (λ same. never u.0.reply
+        (subst (λ q. Contains c.1 (q, u.0.reply)) (only_itself visit.exchange event.process (stays visit.exchange) u.1.process (sym (u' m c d way u visit).3 ∙ same)) u.1.added.has)))
 
 module _ {S : Type 0} (start : S) (step : S → Call → S → Reply → Type 0) (unique : EndsAreUnique) (alternating : WellFormedIsAlternating) (law : OkLaw start step) where
   pub observer_search_law : ObserverSearchLaw start step
   observer_search_law observes functions h event name reply body well_formed observer members visited others taken starts each complete =
       let alternates = (alternating functions (with_event h event)).0 well_formed in
       ok_observer start step observes unique functions h event name reply body alternates (law functions h event name reply body well_formed) members others taken complete observer
-      (λ m there absent c way ready. stops start step observes unique functions h event name reply body alternates members visited others starts observer each m there absent c way ready.1)
+      (λ m there absent c way rising ready. stops start step observes unique functions h event name reply body alternates members visited others starts observer each m there absent c way rising ready.1)
 
   pub update_search_law : UpdateSearchLaw start step
+  unfolding own u'
   update_search_law observes functions h event name reply body well_formed update members visited others taken starts searched emitted complete =
       let alternates = (alternating functions (with_event h event)).0 well_formed in
       ok_update start step observes unique functions h event name reply body alternates (law functions h event name reply body well_formed) members others taken complete update
       (λ m there c d way u same_process same_reply.
       let none : (other : Reply) → Contains c.1 (event.process, other) → ⊥ = λ other is. u.1.added.absent other (subst (λ q. Contains c.1 (q, other)) (sym same_process) is) in
       let visit = reaches start step observes unique functions h event name reply body alternates members visited others starts searched m there
-      (λ other is. none other (way_kept step observes h (m.state, m.placed) c way (event.process, other) is)) c way none in
-      let offers = IsOffered step observes h (IsOnOffer m) (m.state, m.placed) c way in
-      let held = emitted visit.0 visit.1 (d.0, (own_wider step observes h event.process visit.0 c d offers visit.2 u).0) (own_update step observes h event.process visit.0 c d offers visit.2 u) same_process same_reply in
-      (held.0, held.1, emit start step observes unique functions h event name reply body alternates members visited others starts searched visit.0 c d offers visit.2 held.0 held.2))
+      (λ other is. none other (way_kept step observes h (m.state, m.placed) c way (event.process, other) is)) c way u.1.added.before none in
+      let v = u' start step observes unique functions h event name reply body alternates members visited others starts m d c way u visit in
+      let held = emitted visit.member visit.among (d.0, own_end start step observes unique functions h event name reply body alternates members visited others starts m d c way u visit)
+      (own start step observes unique functions h event name reply body alternates members visited others starts m d c way u visit)
+      (v.3 ∙ ap visit.exchange.to same_process ∙ stays start step observes unique functions h event name reply body alternates members visited others starts visit.exchange) (v.4 ∙ same_reply) in
+      (
+        visit.exchange,
+        visit.others,
+        held.0,
+        visit.exchanged,
+        held.1,
+        emit start step observes unique functions h event name reply body alternates members visited others starts searched visit.member (c.0, visit.others) d
+            (IsOffered step observes h (IsOnOffer m) (m.state, m.placed) c way) visit.dominates held.0 held.2,
+      ))
 
 pub successor_law : {S : Type 0} (step : S → Call → S → Reply → Type 0) → SuccessorLaw step
 successor_law step observes h process m n d u same added kept = record {

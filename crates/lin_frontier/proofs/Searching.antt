@@ -14,10 +14,12 @@ use Rattle.lin_history.proofs.OneMore.{completes, open_before}
 use Rattle.lin_order.specs.Configurations.{IsAdded}
 use Rattle.lin_order.specs.ConfigurationLaws.{with_event}
 use Rattle.lin_frontier.specs.Covers.{HasCrashed}
+use Rattle.lin_frontier.specs.Exchanges.{Exchange, IsExchanged}
 use Rattle.lin_frontier.specs.Members.{Member, IsOnOffer, IsWatching, IsGiven, IsUpdate, WayOf, here, more, DominatesAt}
 use Rattle.lin_frontier.proofs.Choosing.{can_add}
 use Rattle.lin_frontier.proofs.Following.{Passes}
 use Rattle.lin_frontier.proofs.Crashes.{never_crashed, ok_no_info, passes_ok}
+use Rattle.lin_frontier.proofs.Exchanging.{crash_to, fixed}
 use Rattle.lin_frontier.proofs.Taking.{IsHeld, IsStopped}
 
 -- what the one history has of watching and crashed processes, the other has
@@ -74,27 +76,43 @@ module _ {S : Type 0} (step : S → Call → S → Reply → Type 0) (observes :
       u.2,
     )
 
-    -- and what dominates the one's end dominates the other's
-    pub after_update : (k : Member S) → DominatesAt observes h k d.0 own_wider.0 (λ x. (x.0 ≢ process) × (IsOnOffer n x ⊎ IsGiven step h n.state x))
-        → DominatesAt observes h k d.0 d.1 (λ x. (x.0 ≢ process) × (offers x ⊎ IsGiven step h c.0 x))
-    after_update k next = record {
+    -- the end of the one places no more than the end of the other, but for what crashed
+    own_part : (x : ℕ × Reply) → Contains own_wider.0 x → Contains d.1 x
+    own_part x there = elim (own_wider.1.was x there) [
+      | inl old ↦ u.1.added.kept x (dominates.part x old)
+      | inr new ↦ subst (Contains d.1) new u.1.added.has
+    ]
+
+    own_rest : (x : ℕ × Reply) → Contains d.1 x → Contains own_wider.0 x ⊎ HasCrashed h x.0
+    own_rest x there = elim (u.1.added.was x there) [
+      | inl old ↦ elim (dominates.rest x old) [
+        | inl kept ↦ inl (own_wider.1.kept x kept)
+        | inr crashed ↦ inr crashed
+      ]
+      | inr new ↦ inl (subst (Contains own_wider.0) new own_wider.1.has)
+    ]
+
+    -- and what dominates the one's end, exchanged, dominates the other's
+    pub after_update : (e : Exchange h) (others more_of : List (ℕ × Reply)) → IsExchanged e own_wider.0 others → IsExchanged e d.1 more_of → (k : Member S)
+        → DominatesAt observes h k d.0 others (λ x. (x.0 ≢ process) × (IsOnOffer n x ⊎ IsGiven step h n.state x))
+        → DominatesAt observes h k d.0 more_of (λ x. (x.0 ≢ process) × (offers x ⊎ IsGiven step h c.0 x))
+    after_update e others more_of own whole k next = record {
       sorted = next.sorted;
       same = next.same;
-      part = λ x there. elim (own_wider.1.was x (next.part x there)) [
-        | inl old ↦ u.1.added.kept x (dominates.part x old)
-        | inr new ↦ subst (Contains d.1) new u.1.added.has
-      ];
-      rest = λ x there. elim (u.1.added.was x there) [
-        | inl old ↦ elim (dominates.rest x old) [
-          | inl kept ↦ next.rest x (own_wider.1.kept x kept)
-          | inr crashed ↦ inr crashed
-        ]
-        | inr new ↦ next.rest x (subst (Contains own_wider.0) new own_wider.1.has)
+      part = λ x there. subst (λ q. Contains more_of (q, x.1)) (e.back x.0) (whole.part (e.from x.0, x.1) (own_part (e.from x.0, x.1) (own.rest x (next.part x there))));
+      rest = λ x there. elim (own_rest (e.from x.0, x.1) (whole.rest x there)) [
+        | inl kept ↦ next.rest x (subst (λ q. Contains others (q, x.1)) (e.back x.0) (own.part (e.from x.0, x.1) kept))
+        | inr crashed ↦ inr (subst (HasCrashed h) (e.back x.0) (crash_to e (e.from x.0) crashed))
       ];
       offered = λ x watching absent there. next.offered x watching absent (
         there.0,
         elim there.1 [
-          | inl earlier ↦ inl (dominates.offered x watching (λ other is. elim (next.rest (x.0, other) (own_wider.1.kept (x.0, other) is)) [ inl kept ↦ absent other kept | inr crashed ↦ watching.alive crashed ]) (there.0, earlier))
+          | inl earlier ↦ inl (dominates.offered x watching
+              (λ other is. elim (next.rest (x.0, other) (subst (λ q. Contains others (q, other)) (fixed e x.0 watching.alive) (own.part (x.0, other) (own_wider.1.kept (x.0, other) is)))) [
+                | inl kept ↦ absent other kept
+                | inr crashed ↦ watching.alive crashed
+              ])
+              (there.0, earlier))
           | inr given ↦ inr (record { at = given.at; key = given.key; call = given.call; next = given.next; is_open = given.is_open; steps = subst (λ s. step s given.call given.next x.1) (sym dominates.same) given.steps })
         ],
       );

@@ -16,7 +16,7 @@ use Rattle.lin_frontier.specs.Rounds.{joined, put, begin_round, IsOfferedIn, IsT
 use Rattle.lin_frontier.specs.RoundLaws.{SoundLaw}
 use Rattle.lin_frontier.proofs.Choosing.{can_add, nothing_in, stands}
 use Rattle.lin_frontier.proofs.Inserting.{first_or_rest, rising_once}
-use Rattle.lin_frontier.proofs.Listing.{open_call}
+use Rattle.lin_frontier.proofs.Exchanging.{open_call}
 use Rattle.lin_frontier.proofs.Putting.{offer_longer, offer_put, trail_ends, trail_place, trail_present, trail_put}
 
 module _ {S : Type 0} (start : S) (step : S → Call → S → Reply → Type 0) (legal : PlacingIsLegal start step) (observes : Call → Bool) (functions : ℤ → Name → Bool) (h : List Event)

@@ -9,6 +9,7 @@ use Rattle.lin_frontier.specs.Covers.{HasCrashed}
 use Rattle.lin_frontier.specs.Members.{Member, IsOnOffer, Way, here, more, IsOffered, IsReady, LeadsToCover, DominatesAt}
 use Rattle.lin_frontier.specs.MemberLaws.{IsSpread, SpreadingLaw}
 use Rattle.lin_frontier.proofs.Choosing.{can_add, stands}
+use Rattle.lin_frontier.proofs.Exchanging.{covered_by}
 use Rattle.lin_frontier.proofs.Inserting.{rising_once}
 use Rattle.lin_frontier.proofs.Ways.{Meets, way_kept, from_covers, to_covers}
 use Rattle.lin_frontier.proofs.Following.{meets_over}
@@ -193,10 +194,12 @@ module _ {S : Type 0} (step : S → Call → S → Reply → Type 0) (observes :
             (n.0, n.1, over n.0 m.state wider.0 Others n.2 c is.rising (with_pair reply has absent wider.0 wider.1))
 
 pub spreading_law : {S : Type 0} (start : S) (step : S → Call → S → Reply → Type 0) → SpreadingLaw start step
-spreading_law start step observes h members others each complete c config =
+spreading_law {S} start step observes h members others each complete c config =
     let found = complete c config in
-    elim (each found.0 found.1) [
-      | inl by ↦ (by.0, by.1, covers_on step observes h h (passes_itself observes h) found.0 by.0 by.2 c config.1.placed.rising found.2)
-      | inr held ↦ spread step observes h held.0 found.0 c (from_covers step observes h found.0 c config.1.placed.rising found.2) others held.1
-          (covers_sorted step observes h found.0 c found.2)
-    ]
+    let d : S × List (ℕ × Reply) = (c.0, found.placed) in
+    let m = found.member in
+    covered_by step observes h members others c found (elim (each m found.among) [
+      | inl by ↦ (by.0, by.1, covers_on step observes h h (passes_itself observes h) m by.0 by.2 d found.exchanged.rising found.leads)
+      | inr held ↦ spread step observes h held.0 m d (from_covers step observes h m d found.exchanged.rising found.leads) others held.1
+          (covers_sorted step observes h m d found.leads)
+    ])

@@ -10,6 +10,7 @@ use Rattle.lin_history.specs.Alternation.{IsAlternating}
 use Rattle.lin_history.specs.Operations.{IsOpen}
 use Rattle.lin_order.specs.Configurations.{IsAdded}
 use Rattle.lin_order.specs.ConfigurationLaws.{with_event}
+use Rattle.lin_frontier.specs.Exchanges.{Exchange, IsExchanged}
 use Rattle.lin_frontier.specs.Placing.{without}
 use Rattle.lin_frontier.specs.Members.{Member, IsUpdate, Way, here, more, IsOffered, IsOnOffer, WayOf, LeadsToCover, DominatesAt}
 use Rattle.lin_frontier.specs.MemberLaws.{IsTaken}
@@ -18,9 +19,10 @@ use Rattle.lin_frontier.proofs.Ways.{Meets, way_kept, way_start, to_covers}
 use Rattle.lin_frontier.proofs.Following.{meets_over}
 use Rattle.lin_frontier.proofs.Crashes.{passes_ok}
 
--- one of the other members dominates the end of the way
+-- one of the other members dominates the end of the way, once crashed operations of the same call are exchanged
 abbrev pub IsHeld : {S : Type 0} → (step : S → Call → S → Reply → Type 0) → (observes : Call → Bool) → (h g : List Event) → List (Member S) → (m : Member S) → (c : S × List (ℕ × Reply)) → WayOf step observes h m c → Type 0
-IsHeld {S} step observes h g others m c way = (n : Member S) × Contains others n × DominatesAt observes g n c.0 c.1 (IsOffered step observes h (IsOnOffer m) (m.state, m.placed) c way)
+IsHeld {S} step observes h g others m c way = (e : Exchange h) × (placed : List (ℕ × Reply)) × (n : Member S) × IsExchanged e c.1 placed × Contains others n
+    × DominatesAt observes g n c.0 placed (IsOffered step observes h (IsOnOffer m) (m.state, m.placed) c way)
 
 -- or some stop of it
 abbrev pub IsStopped : {S : Type 0} → (step : S → Call → S → Reply → Type 0) → (observes : Call → Bool) → (h g : List Event) → List (Member S) → (m : Member S) → (c : S × List (ℕ × Reply)) → WayOf step observes h m c → Type 0

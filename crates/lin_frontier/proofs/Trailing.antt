@@ -18,7 +18,7 @@ use Rattle.lin_frontier.specs.Rounds.{joined, put, begin_round, IsOfferedIn, IsT
 use Rattle.lin_frontier.specs.RoundLaws.{IsOfferFrom, OffersFrom, TrailStartLaw, TrailEndsLaw, FewerLaw, TrailPlacesLaw, TrailTakesLaw, TrailInvocationLaw, TrailInfoLaw, TrailFailLaw, TrailOkLaw, TrailObserverLaw, TrailReturnLaw, ExactLaw}
 use Rattle.lin_frontier.proofs.Choosing.{can_add, nothing_in}
 use Rattle.lin_frontier.proofs.Crashes.{info_no_fail, info_no_ok, invoke_no_fail, invoke_no_ok}
-use Rattle.lin_frontier.proofs.Listing.{open_call}
+use Rattle.lin_frontier.proofs.Exchanging.{open_call}
 use Rattle.lin_frontier.proofs.Joining.{runs_by_again}
 use Rattle.lin_frontier.proofs.Putting.{offer_longer, offer_put, trail_ends, trail_place, trail_present, trail_put}
 
@@ -176,6 +176,6 @@ module _ {S : Type 0} (start : S) (step : S → Call → S → Reply → Type 0)
 
 pub exact_law : {S : Type 0} (start : S) (step : S → Call → S → Reply → Type 0) → ExactLaw start step
 exact_law start step observes h members complete trails = (
-  λ some. let found = complete some.0 some.1 in (found.0, found.1),
+  λ some. let found = complete some.0 some.1 in (found.member, found.among),
   λ m. let is = trails m.0 m.1 in ((m.0.state, m.0.placed), (joined is.1, trail_ends start step observes h is.0 is.1 (m.0.state, m.0.placed) is.2.trail)),
 )

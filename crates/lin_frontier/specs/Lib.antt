@@ -3,6 +3,7 @@ pub mod Nodes
 pub mod Parts
 pub mod Frontiers
 pub mod Covers
+pub mod Exchanges
 pub mod Walks
 pub mod Members
 pub mod MemberLaws

@@ -13,6 +13,7 @@ use Rattle.lin_order.specs.declared.placed.Placed.{Placed}
 use Rattle.lin_order.specs.ConfigurationLaws.{with_event}
 use Rattle.lin_order.specs.Configurations.{IsAdded, IsPlacing, IsRising}
 use Rattle.lin_frontier.specs.Covers.{HasCrashed}
+use Rattle.lin_frontier.specs.Exchanges.{Exchange, IsExchanged}
 use Rattle.lin_frontier.specs.Members.{Member, IsOnOffer, IsWatching, IsGiven, IsUpdate, Leads, LeadsToCover, LeadsToMember, IsComplete, IsListed, IsListing, DominatesAt, Dominates, DominatesBut, IsDominated}
 
 -- the member of the start
@@ -91,10 +92,19 @@ abbrev pub IsTaken : {S : Type 0} → (Call → Bool) → List Event → ℕ →
 IsTaken {S} observes h process reply others m = (without : List (ℕ × Reply)) → IsAdded process reply without m.placed
     → (n : Member S) × Contains others n × DominatesAt observes h n m.state without (IsOnOffer m)
 
+-- one of the members dominates these placed operations, once crashed ones that have the same call are exchanged
+pub record IsDominatedAt {S : Type 0} (observes : Call → Bool) (h : List Event) (members : List (Member S)) (state : S) (placed : List (ℕ × Reply)) (offers : ℕ × Reply → Type 0) : Type 0 where
+  pub exchange : Exchange h
+  pub others : List (ℕ × Reply)
+  pub exchanged : IsExchanged exchange placed others
+  pub member : Member S
+  pub among : Contains members member
+  pub dominates : DominatesAt observes h member state others offers
+
 -- each update of the member, but one of the process, comes to what a visited one dominates, but for what is on offer to the process
 abbrev pub IsSearched : {S : Type 0} → (S → Call → S → Reply → Type 0) → (Call → Bool) → List Event → ℕ → List (Member S) → Member S → Type 0
 IsSearched {S} step observes h process visited m = (d : S × List (ℕ × Reply)) (u : IsUpdate step observes h (m.state, m.placed) d) → u.1.process ≢ process
-    → (n : Member S) × Contains visited n × DominatesAt observes h n d.0 d.1 (λ x. (x.0 ≢ process) × (IsOnOffer m x ⊎ IsGiven step h m.state x))
+    → IsDominatedAt observes h visited d.0 d.1 (λ x. (x.0 ≢ process) × (IsOnOffer m x ⊎ IsGiven step h m.state x))
 
 -- after the ok of an observer. Members that placed it with this reply: without it. The others are visited. Each visited one that may have the
 -- reply is held. Each that may not, since the reply is not on offer and its state does not give it, is searched

@@ -8,6 +8,7 @@ use Rattle.lin_history.specs.Operations.{IsOpen}
 use Rattle.lin_order.specs.declared.placed.Placed.{Placed}
 use Rattle.lin_order.specs.Configurations.{IsRising, IsConfiguration, IsPlacing}
 use Rattle.lin_frontier.specs.Covers.{Covers, HasCrashed}
+use Rattle.lin_frontier.specs.Exchanges.{Exchange, IsExchanged}
 
 -- a state, the open operations placed so far, and what was on offer before this state: in which round, to which process, which reply
 pub record Member (S : Type 0) : Type 0 where
@@ -74,17 +75,27 @@ pub record Leads {S : Type 0} (step : S → Call → S → Reply → Type 0) (ob
 abbrev pub LeadsToCover : {S : Type 0} → (S → Call → S → Reply → Type 0) → (Call → Bool) → List Event → Member S → S × List (ℕ × Reply) → Type 0
 LeadsToCover {S} step observes h m c = (b : S × List (ℕ × Reply)) × Leads step observes h m b × Covers (HasCrashed h) b c
 
--- each configuration of the history is covered by one that some member leads to
+-- one of the members leads to a configuration that covers this one, once crashed operations that have the same call are exchanged
+pub record IsCovered {S : Type 0} (step : S → Call → S → Reply → Type 0) (observes : Call → Bool) (h : List Event) (members : List (Member S)) (c : S × List (ℕ × Reply)) : Type 0 where
+  pub exchange : Exchange h
+  pub placed : List (ℕ × Reply)
+  pub exchanged : IsExchanged exchange c.1 placed
+  pub member : Member S
+  pub among : Contains members member
+  pub leads : LeadsToCover step observes h member (c.0, placed)
+
+-- each configuration of the history is
 abbrev pub IsComplete : {S : Type 0} → S → (S → Call → S → Reply → Type 0) → (Call → Bool) → List Event → List (Member S) → Type 0
-IsComplete {S} start step observes h members = (c : S × List (ℕ × Reply)) → IsConfiguration start step h c → (m : Member S) × Contains members m × LeadsToCover step observes h m c
+IsComplete {S} start step observes h members = (c : S × List (ℕ × Reply)) → IsConfiguration start step h c → IsCovered step observes h members c
 
 -- the member itself covers the configuration
 abbrev pub IsListed : {S : Type 0} → List Event → List (Member S) → S × List (ℕ × Reply) → Type 0
 IsListed {S} h members c = (m : Member S) × Contains members m × Covers (HasCrashed h) (m.state, m.placed) c
 
--- each configuration of the history is covered by a member itself
+-- each configuration of the history is covered by a member itself, once crashed operations that have the same call are exchanged
 abbrev pub IsListing : {S : Type 0} → S → (S → Call → S → Reply → Type 0) → List Event → List (Member S) → Type 0
-IsListing {S} start step h members = (c : S × List (ℕ × Reply)) → IsConfiguration start step h c → IsListed h members c
+IsListing {S} start step h members = (c : S × List (ℕ × Reply)) → IsConfiguration start step h c
+    → (e : Exchange h) × (placed : List (ℕ × Reply)) × IsExchanged e c.1 placed × IsListed h members (c.0, placed)
 
 -- the member has this state, no more placed but what crashed, and on offer all of these that still matter
 pub record DominatesAt {S : Type 0} (observes : Call → Bool) (h : List Event) (m : Member S) (state : S) (placed : List (ℕ × Reply)) (offers : ℕ × Reply → Type 0) : Type 0 where

@@ -38,6 +38,7 @@ pub(crate) fn members_after_events<O: SeqObject>(object: &O)
     ensures fail { FailKeepsLaw (O.starts object.now) (O.step object.now) }
 {
     configurations_after_events(object);
+    ends_are_unique();
     well_formed_is_alternating();
 }
 

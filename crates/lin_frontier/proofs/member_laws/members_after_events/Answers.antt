@@ -8,4 +8,4 @@ pub returns-clause-info : goal.returns-clause-info
 returns-clause-info g c = info_keeps_law _ _ c.well_formed_is_alternating.ensures c.configurations_after_events.ensures.info
 
 pub returns-clause-fail : goal.returns-clause-fail
-returns-clause-fail g c = fail_keeps_law _ _ c.well_formed_is_alternating.ensures c.configurations_after_events.ensures.fail
+returns-clause-fail g c = fail_keeps_law _ _ c.well_formed_is_alternating.ensures c.ends_are_unique.ensures c.configurations_after_events.ensures.fail
