@@ -1,5 +1,5 @@
 -- After an ok the members still lead to all configurations.
-use Rattle.std.proofs.Common.{◌≡◌, ◌⊎◌, ◌≢◌, ℕ, ℤ, Bool, true, false, List, Contains, map, inl, inr, refl, sym, ap, subst, ◌∙◌, Option, true≢false}
+use Rattle.std.proofs.Common.{◌≡◌, ◌⊎◌, ◌≢◌, ℕ, ℤ, Bool, true, false, List, Contains, IsTrue, map, inl, inr, refl, sym, ap, subst, ◌∙◌, Option, true≢false}
 use Rattle.std.proofs.lemmas.List.Elements.{All-contains, Contains-append_left, Contains-append_right}
 use Rattle.lin_history.specs.declared.calls.Call.{Call}
 use Rattle.lin_history.specs.declared.calls.Name.{Name}
@@ -13,19 +13,21 @@ use Rattle.lin_history.specs.WellFormedLaws.{EndsAreUnique}
 use Rattle.lin_history.proofs.OneMore.{one_open, one_call}
 use Rattle.lin_order.specs.declared.placed.Placed.{Placed}
 use Rattle.lin_order.specs.ConfigurationLaws.{with_event}
-use Rattle.lin_order.specs.Configurations.{IsRising, IsAdded}
+use Rattle.lin_order.specs.Configurations.{IsRising, IsAdded, IsPlacing}
 use Rattle.lin_frontier.specs.declared.members.Path.{Path}
 use Rattle.lin_frontier.specs.declared.pending.Open.{Open}
 use Rattle.lin_frontier.specs.Covers.{HasCrashed}
+use Rattle.lin_frontier.specs.Exchanges.{AreAlike, Exchange, IsExchanged}
 use Rattle.lin_frontier.specs.Frontiers.{IsPending}
 use Rattle.lin_frontier.specs.MemberLaws.{IsTaken, IsSearched, ObserverSearchLaw, UpdateSearchLaw}
 use Rattle.lin_frontier.specs.Members.{Member, IsComplete, IsOnOffer, IsWatching, IsGiven, IsUpdate, DominatesAt, Dominates}
-use Rattle.lin_frontier.specs.Placing.{IsAbsent}
-use Rattle.lin_frontier.specs.Searching.{is_watching, is_crashed, rest_of, CanTake, DominatesOver, GivesAny, HasBehind, IsMade, IsPassed, IsReturnOf, IsSearchedIn}
-use Rattle.lin_frontier.proofs.Awaiting.{open_pending}
-use Rattle.lin_frontier.proofs.Crashes.{crash_before, ok_no_info}
+use Rattle.lin_frontier.specs.Placing.{IsAbsent, insert_pair}
+use Rattle.lin_frontier.specs.Searching.{is_watching, is_crashed, rest_of, CanTake, DominatesOver, GivesAny, HasBehind, IsMade, IsPassed, IsReturnOf, IsSearchedFor, IsSearchedIn}
+use Rattle.lin_frontier.proofs.Awaiting.{open_pending, pending_crashed}
+use Rattle.lin_frontier.proofs.Crashes.{crash_before, crashed_open, ok_no_info}
 use Rattle.lin_frontier.proofs.Dominating.{dominates_itself}
-use Rattle.lin_frontier.proofs.Inserting.{absent_from, kept_by, insert_is, without_is}
+use Rattle.lin_frontier.proofs.Exchanging.{change, change_first, change_neither, exchanged_added, exchanged_itself, no_exchange, open_call}
+use Rattle.lin_frontier.proofs.Inserting.{absent_from, kept_by, insert_added, insert_is, none_from, without_is}
 use Rattle.lin_frontier.proofs.Onward.{in_map, from_map}
 use Rattle.lin_frontier.proofs.Pruned.{copy_dominates, watching_from, crashed_to}
 use Rattle.lin_frontier.proofs.Returned.{passes}
@@ -51,6 +53,31 @@ module _ (observes : Call → Bool) (functions : ℤ → Name → Bool) (h : Lis
   -- an operation of another process is open still
   other_open : (at q : ℕ) (key : ℤ) (call : Call) → q ≢ event.process → IsOpen h at q key call → (o : Open) × Contains pending o × (o.at ≡ at) × (o.process ≡ q) × (o.call ≡ call)
   other_open at q key call other is = open_pending (with_event h event) pending opened at q key call ((passes observes functions h event name reply body unique alternates pending opened).opens at q key call other is)
+
+  -- the crashed operation of the process has the call of the pending one
+  crashed_call : (o : Open) → Contains pending o → (c : HasCrashed h o.process) → c.2 ≡ o.call
+  crashed_call o there c =
+      let s = opened.sound o there in
+      let p = passes observes functions h event name reply body unique alternates pending opened in
+      open_call functions (with_event h event) alternates c.0 o.at o.process c.1 s.0 c.2 o.call
+      (p.opens c.0 o.process c.1 c.2 (λ same. p.shut o.at o.process s.0 o.call same s.1) (crashed_open unique h o.process c)) s.1
+
+  -- pending operations that crashed, and have the same call, are alike
+  pending_alike : (o t : Open) → Contains pending o → Contains pending t → IsTrue o.crashed → IsTrue t.crashed → o.call ≡ t.call → AreAlike h o.process t.process
+  pending_alike o t o_there t_there o_crashed t_crashed same =
+      let c = crashed_then o.process (pending_crashed (with_event h event) pending opened o o_there o_crashed) in
+      let d = crashed_then t.process (pending_crashed (with_event h event) pending opened t t_there t_crashed) in
+      record {
+        at = c.0;
+        other = d.0;
+        key = c.1;
+        other_key = d.1;
+        call = c.2;
+        first = crashed_open unique h o.process c;
+        second = subst (IsOpen h d.0 t.process d.1) (crashed_call t t_there d ∙ sym same ∙ sym (crashed_call o o_there c)) (crashed_open unique h t.process d);
+        crashed = c;
+        other_crashed = d;
+      }
 
   module _ {S : Type 0} (step : S → Call → S → Reply → Type 0) where
     gives : (c : S × List (ℕ × Reply)) (x : ℕ × Reply) → x.0 ≢ event.process → is_watching observes pending x.0 ≡ true → IsAbsent x.0 c.1 → IsGiven step h c.0 x → GivesAny step observes pending c x
@@ -93,24 +120,58 @@ module _ (observes : Call → Bool) (functions : ℤ → Name → Bool) (h : Lis
     searched_to : (visited : List (Member S × Path)) → ((n : Member S × Path) → Contains visited n → IsRising n.0.placed) → (m : Member S) → IsSearchedIn step observes pending visited m
         → IsSearched step observes h event.process (map (λ k. k.0) visited) m
     searched_to visited rising m searched d u other =
-        let p = u.0 in
-        let placing = u.1 in
-        let o = other_open p.at placing.process placing.key placing.call other placing.is_open in
-        let added = subst (λ q. IsAdded q p.reply m.placed d.1) (sym o.3) placing.added in
-        let f = searched p d (
-          o.0,
-          o.1,
-          (
-            ap observes o.4 ∙ u.2,
-            record {
-              absent = absent_from o.0.process m.placed added.absent;
-              at = sym o.2;
-              steps = subst (λ a. step m.state a d.0 p.reply) (sym o.4) placing.steps;
-              placed = insert_is o.0.process p.reply m.placed d.1 added;
-            },
-          ),
-        ) in
-        (f.0.0, in_map (λ (k : Member S × Path). k.0) visited f.0 f.1, over_to m f.0.0 d (rising f.0 f.1) placing.added.kept f.2)
+        let wider = insert_added f.placed.process p.reply m.placed placing.added.before (none_from f.placed.process m.placed f.absent) in
+        let e = exchanged in
+        record {
+          exchange = e.0;
+          others = insert_pair f.placed.process p.reply m.placed;
+          exchanged = e.1;
+          member = f.member.0;
+          among = in_map (λ (k : Member S × Path). k.0) visited f.member f.there;
+          dominates = over_to m f.member.0 (d.0, insert_pair f.placed.process p.reply m.placed) (rising f.member f.there) wider.kept f.dominates;
+        }
+      where
+        p : Placed
+        p = u.0
+
+        placing : IsPlacing step h (m.state, m.placed) p d
+        placing = u.1
+
+        o : (o : Open) × Contains pending o × (o.at ≡ p.at) × (o.process ≡ placing.process) × (o.call ≡ placing.call)
+        o = other_open p.at placing.process placing.key placing.call other placing.is_open
+
+        added : IsAdded o.0.process p.reply m.placed d.1
+        added = subst (λ q. IsAdded q p.reply m.placed d.1) (sym o.3) placing.added
+
+        f : IsSearchedFor step observes pending visited m o.0 p.reply d.0
+        f = searched o.0 p d o.1 (
+          ap observes o.4 ∙ u.2,
+          record {
+            absent = absent_from o.0.process m.placed added.absent;
+            at = sym o.2;
+            steps = subst (λ a. step m.state a d.0 p.reply) (sym o.4) placing.steps;
+            placed = insert_is o.0.process p.reply m.placed d.1 added;
+          },
+        )
+
+        -- once the one that was placed changes places with the update
+        exchanged : (e : Exchange h) × IsExchanged e d.1 (insert_pair f.placed.process p.reply m.placed)
+        exchanged = elim f.stands [
+          | inl same ↦ (
+            no_exchange h,
+            subst (IsExchanged (no_exchange h) d.1) (insert_is o.0.process p.reply m.placed d.1 added ∙ ap (λ (q : Open). insert_pair q.process p.reply m.placed) (sym same)) (exchanged_itself h d.1 added.rising),
+          )
+          | inr both ↦
+              let alike = pending_alike o.0 f.placed o.1 f.among both.1 both.0 (sym both.2) in
+              let e = change h o.0.process f.placed.process alike in
+              let k = exchanged_added e o.0.process p.reply m.placed d.1 m.placed
+              (change_neither h o.0.process f.placed.process alike m.placed added.before added.absent (none_from f.placed.process m.placed f.absent)) added in
+              (
+                e,
+                subst (IsExchanged e d.1)
+                    (insert_is f.placed.process p.reply m.placed k.0 (subst (λ q. IsAdded q p.reply m.placed k.0) (change_first h o.0.process f.placed.process alike) k.2)) k.1,
+              )
+        ]
 
     -- the members that placed the operation
     taken_to : (members made out : List (Member S × Path)) → IsMade (λ m. Contains m.0.placed (event.process, reply)) (rest_of observes pending event.process) members made

@@ -10,8 +10,8 @@ use Rattle.lin_frontier.specs.declared.members.Path.{Path}
 use Rattle.lin_frontier.specs.declared.pending.Open.{Open}
 use Rattle.lin_frontier.specs.Members.{Member, IsOnOffer}
 use Rattle.lin_frontier.specs.Nodes.{IsGrown}
-use Rattle.lin_frontier.specs.Placing.{IsAbsent, IsTried}
-use Rattle.lin_frontier.specs.Searching.{is_watching, AreBehind, BeginsRound, HasBehind, IsCompleted, IsDone, IsFinding, IsFromBehind, IsPassed, IsReached, start, next, IsSearchedIn, IsSearchOf, IsSuccessor, IsVisiting, PlacesUpdate}
+use Rattle.lin_frontier.specs.Placing.{IsAbsent, insert_pair}
+use Rattle.lin_frontier.specs.Searching.{is_watching, AreBehind, AreUpdates, BeginsRound, HasBehind, IsCompleted, IsDone, IsFinding, IsFromBehind, IsPassed, IsReached, start, next, IsSearchedIn, IsSearchOf, IsSuccessor, IsVisiting}
 use Rattle.lin_frontier.proofs.Closing.{any_default}
 use Rattle.lin_frontier.proofs.Inserting.{kept_by, passed_by}
 use Rattle.lin_frontier.proofs.Visiting.{grown_grown, not_grown, node_stays, begins_still}
@@ -131,7 +131,9 @@ module _ {S : Type 0} (step : S → Call → S → Reply → Type 0) (observes :
     }
 
     pub searched_stays : (m : Member S) (visited now : List (Member S × Path)) → ((n : Member S × Path) → Contains visited n → Contains now n) → IsSearchedIn step observes pending visited m → IsSearchedIn step observes pending now m
-    searched_stays m visited now kept s p d u = let f = s p d u in (f.0, kept f.0 f.1, f.2)
+    searched_stays m visited now kept s o p d in_pending places =
+        let f = s o p d in_pending places in
+        record { placed = f.placed; among = f.among; stands = f.stands; absent = f.absent; member = f.member; there = kept f.member f.there; dominates = f.dominates }
 
     -- one of those visited is worked off
     abbrev pub IsWorkedOff : List (Member S × Path) → List (Member S × Path) → Member S × Path → Type 0
@@ -200,7 +202,7 @@ module _ {S : Type 0} (step : S → Call → S → Reply → Type 0) (observes :
 
         -- it did not, and what updates make of it is visited
         pub working_on : (last : List (ℕ × (Placed × Option ℕ))) (now : List (Member S × Path)) (updates : List ((S × List (ℕ × Reply)) × Placed)) (offers : List (ℕ × (ℕ × Reply)))
-            → IsPassed step observes operation reply pending found m → AreBehind step observes pending m offers → IsTried (PlacesUpdate step observes pending (m.0.state, m.0.placed)) [] updates
+            → IsPassed step observes operation reply pending found m → AreBehind step observes pending m offers → AreUpdates step observes pending (m.0.state, m.0.placed) updates
             → IsGrown after last → IsVisiting observes pending updates offers m.1 last visited now → IsWorking starts first last (at + 1) now found
         working_on last now updates offers passed behind tried more_nodes v = record {
           nodes_grown = grown_grown first after last (grown_grown first nodes after h.nodes_grown grown) more_nodes;
@@ -227,33 +229,36 @@ module _ {S : Type 0} (step : S → Call → S → Reply → Type 0) (observes :
             reach : (n : Member S × Path) → ((p : Placed) × Contains updates ((n.0.state, n.0.placed), p) × (n.0.offers ≡ offers) × BeginsRound last m.1 n.1 p) → IsReached step observes pending last starts n
             reach n a = next {m = m} {n = n} (reached_stays nodes last starts m both (All-contains (IsReached step observes pending nodes starts) visited m h.reached this)) (record {
               p = a.0;
-              places = elim (tried.sound ((n.0.state, n.0.placed), a.0) a.1) [
-                | inl none ↦ absurd (let within = none.1 in omega arith)
-                | inr places ↦ places
-              ];
+              places = tried.sound (n.0.state, n.0.placed) a.0 a.1;
               offers = from_behind m n.0 (subst (AreBehind step observes pending m) (sym a.2) behind);
               begins = a.3;
             })
 
             searched : IsSearchedIn step observes pending now m.0
-            searched p d u =
-                let f = v.taken d p (tried.complete p d u) in (
-                  f.0,
-                  f.1,
-                  record {
+            searched o p d in_pending u =
+                let k = tried.complete o p d in_pending u in
+                let f = v.taken (d.0, insert_pair k.placed.process p.reply m.0.placed) (record { at = k.placed.at; reply = p.reply }) k.has in
+                record {
+                  placed = k.placed;
+                  among = k.among;
+                  stands = k.stands;
+                  absent = k.absent;
+                  member = f.0;
+                  there = f.1;
+                  dominates = record {
                     same = f.2.same;
                     part = f.2.part;
                     rest = f.2.rest;
                     offered = λ x watching absent had.
                         let o = has_behind m (record { state = m.0.state; placed = m.0.placed; offers = offers }) behind x watching had in
                         All-contains (λ (y : ℕ × (ℕ × Reply)). is_watching observes pending y.1.0 ≡ true → IsAbsent y.1.0 f.0.0.placed → IsOnOffer f.0.0 y.1) offers (o.0, x) f.2.offered o.1 watching absent;
-                  },
-                )
+                  };
+                }
 
         -- the one or the other
         pub working_next : {U : Type 0} (items_of : U → List ((S × List (ℕ × Reply)) × Placed)) (o : Option (U × List (ℕ × (ℕ × Reply)))) (path : Path) (last : List (ℕ × (Placed × Option ℕ))) (now : List (Member S × Path)) → path ≡ m.1
             → IfNone o (IsDone observes operation pending found m.0) → IfSome o (λ _. IsPassed step observes operation reply pending found m) → IfSome o (λ u. AreBehind step observes pending m u.1)
-            → IfSome o (λ u. IsTried (PlacesUpdate step observes pending (m.0.state, m.0.placed)) [] (items_of u.0)) → IsGrown after last
+            → IfSome o (λ u. AreUpdates step observes pending (m.0.state, m.0.placed) (items_of u.0)) → IsGrown after last
             → IfNone o ((now ≡ visited) × (last ≡ after)) → IfSome o (λ u. IsVisiting observes pending (items_of u.0) u.1 path last visited now)
             → IsWorking starts first last (at + 1) now found
         working_next items_of None path last now same done passed behind tried more_nodes still visiting =

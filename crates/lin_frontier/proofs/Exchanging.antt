@@ -1,6 +1,7 @@
 -- Exchanges of crashed operations that have the same call, and what they leave as it is.
-use Rattle.std.proofs.Common.{◌≡◌, ◌<◌, ℕ, ℤ, Bool, List, [], ◌∷◌, Contains, ◌⊎◌, inl, inr, refl, sym, ap, subst, ◌∙◌, arith}
+use Rattle.std.proofs.Common.{◌≡◌, ◌≢◌, ◌<◌, ℕ, ℤ, Bool, List, [], ◌∷◌, Contains, ◌⊎◌, inl, inr, refl, sym, ap, subst, ◌∙◌, arith}
 use Rattle.std.proofs.lemmas.List.Elements.{Contains-append_right}
+use Rattle.std.proofs.lemmas.Bool.{cases_eq}
 use Rattle.lin_history.specs.declared.calls.Call.{Call}
 use Rattle.lin_history.specs.declared.calls.Name.{Name}
 use Rattle.lin_history.specs.declared.calls.Reply.{Reply}
@@ -30,6 +31,94 @@ no_exchange h = record { to = λ q. q; from = λ q. q; there = λ q. refl; back 
 pub exchanged_itself : (h : List Event) (placed : List (ℕ × Reply)) → IsRising placed → IsExchanged (no_exchange h) placed placed
 unfolding no_exchange
 exchanged_itself h placed rising = record { before = rising; rising = rising; part = λ x there. there; rest = λ x there. there }
+
+-- the one process for the other
+swap : ℕ → ℕ → ℕ → ℕ
+swap p q n = elim (cases_eq n p) [
+  | inl same ↦ q
+  | inr other ↦ elim (cases_eq n q) [
+    | inl same ↦ p
+    | inr neither ↦ n
+  ]
+]
+
+swap_first : (p q : ℕ) → swap p q p ≡ q
+unfolding swap
+swap_first p q = by (cases_eq p p)
+  where
+    by : (e : (p ≡ p) ⊎ (p ≢ p)) → elim e [ inl same ↦ q | inr other ↦ elim (cases_eq p q) [ inl same ↦ p | inr neither ↦ p ] ] ≡ q
+    by (inl same) = refl
+    by (inr other) = absurd (other refl)
+
+swap_other : (p q n : ℕ) → n ≢ p → n ≢ q → swap p q n ≡ n
+unfolding swap
+swap_other p q n not_p not_q = by (cases_eq n p) (cases_eq n q)
+  where
+    by : (e : (n ≡ p) ⊎ (n ≢ p)) (f : (n ≡ q) ⊎ (n ≢ q)) → elim e [ inl same ↦ q | inr other ↦ elim f [ inl same ↦ p | inr neither ↦ n ] ] ≡ n
+    by (inl same) f = absurd (not_p same)
+    by (inr other) (inl same) = absurd (not_q same)
+    by (inr other) (inr neither) = refl
+
+swap_second : (p q : ℕ) → swap p q q ≡ p
+unfolding swap
+swap_second p q = by (cases_eq q p) (cases_eq q q)
+  where
+    by : (e : (q ≡ p) ⊎ (q ≢ p)) (f : (q ≡ q) ⊎ (q ≢ q)) → elim e [ inl same ↦ q | inr other ↦ elim f [ inl same ↦ p | inr neither ↦ q ] ] ≡ p
+    by (inl same) f = same
+    by (inr other) (inl same) = refl
+    by (inr other) (inr neither) = absurd (neither refl)
+
+swap_back : (p q n : ℕ) → swap p q (swap p q n) ≡ n
+swap_back p q n = elim (cases_eq n p) [
+  | inl same ↦ ap (λ k. swap p q (swap p q k)) same ∙ ap (swap p q) (swap_first p q) ∙ swap_second p q ∙ sym same
+  | inr not_p ↦ elim (cases_eq n q) [
+    | inl same ↦ ap (λ k. swap p q (swap p q k)) same ∙ ap (swap p q) (swap_second p q) ∙ swap_first p q ∙ sym same
+    | inr not_q ↦ ap (swap p q) (swap_other p q n not_p not_q) ∙ swap_other p q n not_p not_q
+  ]
+]
+
+-- two that are alike change places
+module _ (h : List Event) (p q : ℕ) (alike : AreAlike h p q) where
+  pub change : Exchange h
+  change = record {
+    to = swap p q;
+    from = swap p q;
+    there = swap_back p q;
+    back = swap_back p q;
+    moves = λ n. elim (cases_eq n p) [
+      | inl same ↦ inr (subst (λ k. AreAlike h k (swap p q k)) (sym same) (subst (AreAlike h p) (sym (swap_first p q)) alike))
+      | inr not_p ↦ elim (cases_eq n q) [
+        | inl same ↦ inr (subst (λ k. AreAlike h k (swap p q k)) (sym same) (subst (AreAlike h q) (sym (swap_second p q)) turned))
+        | inr not_q ↦ inl (swap_other p q n not_p not_q)
+      ]
+    ];
+  }
+    where
+      turned : AreAlike h q p
+      turned = record {
+        at = alike.other;
+        other = alike.at;
+        key = alike.other_key;
+        other_key = alike.key;
+        call = alike.call;
+        first = alike.second;
+        second = alike.first;
+        crashed = alike.other_crashed;
+        other_crashed = alike.crashed;
+      }
+
+  -- placed operations that neither is among stay
+  pub change_neither : (placed : List (ℕ × Reply)) → IsRising placed → ((reply : Reply) → Contains placed (p, reply) → ⊥) → ((reply : Reply) → Contains placed (q, reply) → ⊥) → IsExchanged change placed placed
+  unfolding change
+  change_neither placed rising no_p no_q = record { before = rising; rising = rising; part = same; rest = same }
+    where
+      same : (x : ℕ × Reply) → Contains placed x → Contains placed (swap p q x.0, x.1)
+      same x there = subst (λ n. Contains placed (n, x.1))
+          (sym (swap_other p q x.0 (λ is. no_p x.1 (subst (λ n. Contains placed (n, x.1)) is there)) (λ is. no_q x.1 (subst (λ n. Contains placed (n, x.1)) is there)))) there
+
+  pub change_first : change.to p ≡ q
+  unfolding change
+  change_first = swap_first p q
 
 -- in a history that keeps what crashed
 module _ (observes : Call → Bool) (h g : List Event) (ended : ℕ → Type 0) (passes : Passes observes h g ended) (alive : (q : ℕ) → ended q → HasCrashed h q → ⊥) where

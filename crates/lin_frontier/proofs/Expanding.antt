@@ -30,7 +30,7 @@ use Rattle.lin_frontier.specs.Walks.{IsTriedAtMost}
 use Rattle.lin_frontier.proofs.Closing.{any_default}
 use Rattle.lin_frontier.proofs.Inserting.{first_or_rest, none_from, insert_added}
 use Rattle.lin_frontier.proofs.Joining.{put_many}
-use Rattle.lin_frontier.proofs.Listing.{open_call}
+use Rattle.lin_frontier.proofs.Exchanging.{open_call}
 use Rattle.lin_frontier.proofs.Onward.{from_map, in_map, rounds_stay, spelled_rising, spelled_stays}
 use Rattle.lin_frontier.proofs.Undominated.{above_itself}
 use Rattle.lin_frontier.proofs.Visiting.{grown_grown, not_grown}

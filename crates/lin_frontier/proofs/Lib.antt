@@ -4,6 +4,7 @@ pub mod Counting
 pub mod Inserting
 pub mod Trying
 pub mod TriedOnce
+pub mod Updating
 pub mod Outcomes
 pub mod Entries
 pub mod AfterEvents

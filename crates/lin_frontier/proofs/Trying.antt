@@ -69,7 +69,7 @@ module _ {A C : Type 0} (R : A → Placed → C → Type 0) where
     ];
   }
 
-take_one : {A : Type 0} (i : ℕ) (xs : List A) (d : A) → i < length xs → take (suc i) xs ≡ take i xs ++ get_or xs i d ∷ []
+pub take_one : {A : Type 0} (i : ℕ) (xs : List A) (d : A) → i < length xs → take (suc i) xs ≡ take i xs ++ get_or xs i d ∷ []
 take_one i [] d inside = absurd (omega arith)
 take_one zero (y ∷ ys) d inside = refl
 take_one (suc i) (y ∷ ys) d inside = ap (λ l. y ∷ l) (take_one i ys d (omega arith))

@@ -1,5 +1,5 @@
 -- Searching the ways of members for a reply: words of private contracts. The operations are those that are open beside the one that completes.
-use Rattle.std.specs.Prelude.{◌≡◌, ◌≢◌, ◌⊎◌, ◌&&◌, ℕ, zero, suc, ◌+◌, Bool, true, false, not, nat_eq, List, [], ◌∷◌, ◌++◌, All, AllPairs, Contains, Option, Some, None, slice_get, filter}
+use Rattle.std.specs.Prelude.{◌≡◌, ◌≢◌, ◌⊎◌, ◌&&◌, ℕ, zero, suc, ◌+◌, Bool, true, false, not, nat_eq, List, [], ◌∷◌, ◌++◌, All, AllPairs, Contains, IsTrue, Option, Some, None, slice_get, filter}
 use Rattle.std.specs.List.{list_any}
 use Rattle.lin_history.specs.declared.calls.Call.{Call}
 use Rattle.lin_history.specs.declared.calls.Name.{Name}
@@ -11,7 +11,7 @@ use Rattle.lin_order.specs.declared.placed.Placed.{Placed}
 use Rattle.lin_frontier.specs.declared.members.Path.{Path}
 use Rattle.lin_frontier.specs.declared.pending.Open.{Open}
 use Rattle.lin_frontier.specs.Members.{Member, IsOnOffer}
-use Rattle.lin_frontier.specs.Placing.{IsAbsent, PlacesOne, without}
+use Rattle.lin_frontier.specs.Placing.{IsAbsent, PlacesOne, insert_pair, without}
 use Rattle.lin_frontier.specs.Rounds.{begin_round, put}
 
 -- an operation of the process has crashed
@@ -55,6 +55,23 @@ PlacesIfUpdate step observes o c p d = (observes o.call ≡ false) × PlacesOne 
 -- one of the operations is
 abbrev pub PlacesUpdate : {S : Type 0} → (S → Call → S → Reply → Type 0) → (Call → Bool) → List Open → S × List (ℕ × Reply) → Placed → S × List (ℕ × Reply) → Type 0
 PlacesUpdate step observes pending c p d = (o : Open) × Contains pending o × PlacesIfUpdate step observes o c p d
+
+-- the one operation is the other, or both crashed and have the same call
+abbrev pub StandsFor : Open → Open → Type 0
+StandsFor t o = (t ≡ o) ⊎ (IsTrue t.crashed × IsTrue o.crashed × (t.call ≡ o.call))
+
+-- placed in the configuration with the reply, where this state follows, was an operation that stands for this one, and has no place yet
+pub record IsPlacedLike {S : Type 0} (pending : List Open) (c : S × List (ℕ × Reply)) (o : Open) (reply : Reply) (state : S) (outcomes : List ((S × List (ℕ × Reply)) × Placed)) : Type 0 where
+  pub placed : Open
+  pub among : Contains pending placed
+  pub stands : StandsFor placed o
+  pub absent : IsAbsent placed.process c.1
+  pub has : Contains outcomes ((state, insert_pair placed.process reply c.1), record { at = placed.at; reply = reply })
+
+-- what placing one open update makes of the configuration; of crashed ones that have the same call one is enough
+pub record AreUpdates {S : Type 0} (step : S → Call → S → Reply → Type 0) (observes : Call → Bool) (pending : List Open) (c : S × List (ℕ × Reply)) (outcomes : List ((S × List (ℕ × Reply)) × Placed)) : Type 0 where
+  pub sound : (d : S × List (ℕ × Reply)) (p : Placed) → Contains outcomes (d, p) → PlacesUpdate step observes pending c p d
+  pub complete : (o : Open) (p : Placed) (d : S × List (ℕ × Reply)) → Contains pending o → PlacesIfUpdate step observes o c p d → IsPlacedLike pending c o p.reply d.0 outcomes
 
 -- the configuration has the other's state, and no more placed but what crashed
 pub record CoversIn {S : Type 0} (pending : List Open) (c d : S × List (ℕ × Reply)) : Type 0 where
@@ -164,10 +181,21 @@ pub record DominatesOver {S : Type 0} (step : S → Call → S → Reply → Typ
   pub rest : All (λ x. Contains n.placed x ⊎ (is_crashed pending x.0 ≡ true)) d.1
   pub offered : (x : ℕ × Reply) → is_watching observes pending x.0 ≡ true → IsAbsent x.0 n.placed → IsOnOffer m x ⊎ GivesAny step observes pending (m.state, m.placed) x → IsOnOffer n x
 
--- what placing an update makes of the member is dominated by one of those visited
+-- what placing the update with the reply makes of the member, where this state follows, is dominated by one of those visited; or what placing
+-- one makes of it that stands for the update
+pub record IsSearchedFor {S : Type 0} (step : S → Call → S → Reply → Type 0) (observes : Call → Bool) (pending : List Open) (visited : List (Member S × Path)) (m : Member S) (o : Open) (reply : Reply) (state : S) : Type 0 where
+  pub placed : Open
+  pub among : Contains pending placed
+  pub stands : StandsFor placed o
+  pub absent : IsAbsent placed.process m.placed
+  pub member : Member S × Path
+  pub there : Contains visited member
+  pub dominates : DominatesOver step observes pending m member.0 (state, insert_pair placed.process reply m.placed)
+
+-- each update is searched for
 abbrev pub IsSearchedIn : {S : Type 0} → (S → Call → S → Reply → Type 0) → (Call → Bool) → List Open → List (Member S × Path) → Member S → Type 0
-IsSearchedIn {S} step observes pending visited m = (p : Placed) (d : S × List (ℕ × Reply)) → PlacesUpdate step observes pending (m.state, m.placed) p d
-    → (n : Member S × Path) × Contains visited n × DominatesOver step observes pending m n.0 d
+IsSearchedIn {S} step observes pending visited m = (o : Open) (p : Placed) (d : S × List (ℕ × Reply)) → Contains pending o → PlacesIfUpdate step observes o (m.state, m.placed) p d
+    → IsSearchedFor step observes pending visited m o p.reply d.0
 
 -- a search for the reply of the operation, from these members to those found
 pub record IsSearchOf {S : Type 0} (step : S → Call → S → Reply → Type 0) (observes : Call → Bool) (operation : Open) (reply : Reply) (pending : List Open) (nodes : List (ℕ × (Placed × Option ℕ))) (starts out : List (Member S × Path)) : Type 0 where

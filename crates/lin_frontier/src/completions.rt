@@ -1,14 +1,15 @@
 //! What members lead to when an operation completes: the ways of placing open updates until it can have its reply.
-ghost use Rattle.std.specs.Prelude.{◌≡◌, ◌⊎◌, if◌then◌else◌, ◌∷◌, ◌++◌, ◌+◌, ◌*◌, [], ℕ, true, false, length, map, Contains, IfOk, IfSome, IfNone, OnOk};
+ghost use Rattle.std.specs.Prelude.{◌≡◌, ◌⊎◌, if◌then◌else◌, ◌∷◌, ◌++◌, ◌+◌, ◌*◌, [], ℕ, true, false, length, map, Contains, IsTrue, IfOk, IfSome, IfNone, OnOk};
 ghost use Rattle.lin_history.specs.declared.calls.Reply.{Reply as ReplyOf};
 ghost use Rattle.lin_frontier.specs.Members.{Member as MemberOf};
 ghost use Rattle.lin_frontier.specs.declared.members.Path.{Path as PathOf};
 ghost use Rattle.lin_frontier.specs.Nodes.{IsGrown};
-ghost use Rattle.lin_frontier.specs.Placing.{IsTried};
-ghost use Rattle.lin_frontier.specs.Searching.{AreBehind, PlacesIfUpdate, PlacesUpdate, CanTake, IsVisiting, IsFinding, IsDone, IsPassed, IsSearchOf};
+ghost use Rattle.lin_frontier.specs.declared.pending.Open.{Open as OpenOf};
+ghost use Rattle.lin_frontier.specs.Placing.{IsAbsent, IsTried};
+ghost use Rattle.lin_frontier.specs.Searching.{AreBehind, AreUpdates, PlacesIfUpdate, CanTake, IsVisiting, IsFinding, IsDone, IsPassed, IsSearchOf};
 ghost use Rattle.lin_frontier.specs.Walks.{IsTriedAtMost};
 
-use crate::configs::Config;
+use crate::configs::{Config, is_absent};
 use crate::members::{Member, Path, advanced, answered, placed_at};
 use crate::offers::Offers;
 use crate::pending::Open;
@@ -59,6 +60,28 @@ pub fn push_if<S: Drop>(values: &mut Vec<S>, value: S, is_wanted: bool) -> Resul
     Ok(())
 }
 
+/// Whether the one operation crashed, as the other one did, has the same call, and isn't placed yet.
+fn is_like<S: Eq + Hash>(other: &Open, config: &Config<S>, operation: &Open) -> bool
+    ensures { IsTrue result → IsTrue other.now.crashed × (other.now.call ≡ operation.now.call) × IsAbsent other.now.process config.now.1 }
+{
+    other.crashed && other.call == operation.call && is_absent(config.placed(), other.process)
+}
+
+/// Whether the operation crashed, and one of the earlier ones is like it and isn't placed yet.
+fn waits_for_like<S: Eq + Hash>(earlier: &[Open], config: &Config<S>, operation: &Open) -> bool
+    ensures { IsTrue result → IsTrue operation.now.crashed × (o : OpenOf) × Contains earlier.now o × IsTrue o.crashed × (o.call ≡ operation.now.call) × IsAbsent o.process config.now.1 }
+{
+    if !operation.crashed {
+        return false;
+    }
+    for other in earlier {
+        if is_like(other, config, operation) {
+            return true;
+        }
+    }
+    false
+}
+
 impl<'a, O: SeqObject> Completion<'a, O> {
     /// What is on offer behind the state of the member.
     fn offers_behind(
@@ -104,7 +127,8 @@ impl<'a, O: SeqObject> Completion<'a, O> {
         Ok(())
     }
 
-    /// What placing one open update makes of the configuration.
+    /// What placing one open update makes of the configuration. Crashed ones that have the same call are placed in the order
+    /// of their invocations, since nothing that follows tells them apart.
     fn updates(
         &self,
         alloc: Global,
@@ -112,12 +136,16 @@ impl<'a, O: SeqObject> Completion<'a, O> {
         steps: &mut Vec<(O::State, Reply)>,
         meter: &mut Meter,
     ) -> Result<Vec<(Config<O::State>, Placed)>, OutOfMemory>
-        ensures placed { IfOk result (λ out. IsTried (PlacesUpdate (O.step self.now.object.now) (O.observing self.now.object.now) self.now.pending.now config.now) [] out.items) }
+        ensures placed { IfOk result (λ out. AreUpdates (O.step self.now.object.now) (O.observing self.now.object.now) self.now.pending.now config.now out.items) }
         ensures tried { IsTriedAtMost (length self.now.pending.now) meter.old meter.new }
     {
         let mut out = Vec::new(alloc);
-        for operation in self.pending {
-            self.place_update(alloc, config, operation, &mut out, steps, meter)?;
+        let mut at = 0;
+        while let Some(operation) = self.pending.get(at) {
+            if !waits_for_like(&self.pending[..at], config, operation) {
+                self.place_update(alloc, config, operation, &mut out, steps, meter)?;
+            }
+            at += 1;
         }
         Ok(out)
     }
@@ -308,7 +336,7 @@ impl<'a, O: SeqObject> Completion<'a, O> {
         ensures done { IfOk result (λ found. IfNone found (IsDone (O.observing self.now.object.now) self.now.operation.now self.now.pending.now out.new.items member.now.0)) }
         ensures passed { IfOk result (λ found. IfSome found (λ _. IsPassed (O.step self.now.object.now) (O.observing self.now.object.now) self.now.operation.now self.now.reply.now self.now.pending.now out.new.items member.now)) }
         ensures offered { IfOk result (λ found. IfSome found (λ f. AreBehind (O.step self.now.object.now) (O.observing self.now.object.now) self.now.pending.now member.now f.1)) }
-        ensures placed { IfOk result (λ found. IfSome found (λ f. IsTried (PlacesUpdate (O.step self.now.object.now) (O.observing self.now.object.now) self.now.pending.now (member.now.0.state, member.now.0.placed)) [] f.0.items)) }
+        ensures placed { IfOk result (λ found. IfSome found (λ f. AreUpdates (O.step self.now.object.now) (O.observing self.now.object.now) self.now.pending.now (member.now.0.state, member.now.0.placed) f.0.items)) }
         ensures tried { IsTriedAtMost (2 * length self.now.pending.now + 1) meter.old meter.new }
     {
         match self.complete(alloc, member, out, nodes, steps, meter)? {

@@ -1,21 +1,35 @@
-use Rattle.std.proofs.Common.{◌+◌, arith, inr}
-use Rattle.lin_frontier.specs.Searching.{PlacesIfUpdate}
-use Rattle.lin_frontier.proofs.Counting.{tried_more as counted_more}
-use Rattle.lin_frontier.proofs.Trying.{tried_more, tried_full}
+use Rattle.std.proofs.Common.{◌+◌, ◌≤◌, length, take, arith, ap, refl, sym, subst}
+use Rattle.lin_frontier.specs.Searching.{AreUpdates}
+use Rattle.lin_frontier.specs.Walks.{IsTriedAtMost}
+use Rattle.lin_frontier.proofs.Counting.{tried_more, tried_none}
+use Rattle.lin_frontier.proofs.Updating.{updates_next, updates_pass, updates_full}
+use Rattle.lin_frontier.proofs.completions.Completion.updates.Goals.{then-not-waits_for_like+in_ok-place_update, else-not-waits_for_like}
 use Rattle.lin_frontier.proofs.completions.Completion.updates.Goals as goal
 
 pub loop-operation-preserved : goal.loop-operation-preserved
-loop-operation-preserved g c = record {
-  placed = tried_more (λ o p d. PlacesIfUpdate (g.O.SeqObject.step c.args.self.now.object.now) (g.O.SeqObject.observing c.args.self.now.object.now) o c.args.config.now p d) c.args.self.now.pending.now
-      c.loop-operation.operation-index _ c.loop-operation.out.items c.place_update.new.out.items c.loop-operation-test.true c.in_ok-place_update.ensures.placed c.loop-operation.invariant.placed;
-  tried = counted_more c.loop-operation.operation-index 1 (c.loop-operation.operation-index + 1) _ _ _ (omega arith) c.loop-operation.invariant.tried c.place_update.ensures.tried;
-}
+loop-operation-preserved g c =
+    let a = c.in-Some.ensures.lookup in
+    let b = c.waits_for_like.ensures in
+    let step = g.O.SeqObject.step c.args.self.now.object.now in
+    let observes = g.O.SeqObject.observing c.args.self.now.object.now in
+    let all = c.loop-operation.invariant.placed in
+    let xs = c.args.self.now.pending.now in
+    let at = c.loop-operation.at in
+    elim c.if-not-waits_for_like.branch [
+      | then-not-waits_for_like+in_ok-place_update w ↦ record {
+        placed = subst (λ l. AreUpdates step observes (take (at + 1) xs) c.args.config.now l.items) (sym w.out-is)
+            (updates_next step observes c.args.config.now xs at c.in-Some.operation.now c.loop-operation.out.items w.place_update.new.out.items a.3.0 a.1 w.in_ok-place_update.ensures.placed all);
+        within = omega (arith, a.3.0);
+        tried = subst (λ m. IsTriedAtMost (at + 1) c.args.meter.now m) (sym w.meter-is) (tried_more at 1 (at + 1) _ _ _ (omega arith) c.loop-operation.invariant.tried w.place_update.ensures.tried);
+      }
+      | else-not-waits_for_like w ↦ record {
+        placed = subst (λ l. AreUpdates step observes (take (at + 1) xs) c.args.config.now l.items) (sym w.out-is)
+            (updates_pass step observes c.args.config.now xs at c.in-Some.operation.now c.loop-operation.out.items a.3.0 a.1 (b w.if-not-waits_for_like.false) all);
+        within = omega (arith, a.3.0);
+        tried = subst (λ m. IsTriedAtMost (at + 1) c.args.meter.now m) (sym w.meter-is) (tried_more at 0 (at + 1) _ _ _ (omega arith) c.loop-operation.invariant.tried (tried_none 0 _));
+      }
+    ]
 
 pub returns-clause-placed : goal.returns-clause-placed
 returns-clause-placed g c =
-    let all = tried_full _ c.args.self.now.pending.now c.loop-operation.operation-index c.loop-operation.out.items c.loop-operation-test.false c.loop-operation.invariant.placed in
-    record {
-      kept = λ x there. absurd (let inside = there.1 in omega arith);
-      sound = λ x there. inr (all.sound x there);
-      complete = λ p d places. all.complete places.0 p d places.1 places.2;
-    }
+    updates_full _ _ _ c.args.self.now.pending.now c.loop-operation.at c.loop-operation.out.items c.in_default.ensures.lookup.3 c.loop-operation.invariant.placed

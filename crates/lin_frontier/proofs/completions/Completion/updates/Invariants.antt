@@ -1,11 +1,14 @@
-use Rattle.std.proofs.Common.{take}
-use Rattle.lin_frontier.specs.Searching.{PlacesIfUpdate}
+use Rattle.std.proofs.Common.{take, length, ◌≤◌, ◌-◌}
+use Rattle.lin_frontier.specs.Searching.{AreUpdates}
 use Rattle.lin_frontier.specs.Walks.{IsTriedAtMost}
-use Rattle.lin_frontier.proofs.Trying.{IsTriedAll}
 use Rattle.lin_frontier.proofs.completions.Completion.updates.Given as goal
 
 abbrev pub invariant-loop-operation : goal.invariant-loop-operation
 invariant-loop-operation g l = record {
-  placed : IsTriedAll (λ o p d. PlacesIfUpdate (g.O.SeqObject.step l.self.object.now) (g.O.SeqObject.observing l.self.object.now) o l.config p d) (take l.operation-index l.self.pending.now) l.out.items;
-  tried : IsTriedAtMost l.operation-index l.fn.meter l.meter;
+  placed : AreUpdates (g.O.SeqObject.step l.self.object.now) (g.O.SeqObject.observing l.self.object.now) (take l.at l.self.pending.now) l.config l.out.items;
+  within : l.at ≤ length l.self.pending.now;
+  tried : IsTriedAtMost l.at l.fn.meter l.meter;
 }
+
+abbrev pub decreases-loop-operation : goal.decreases-loop-operation
+decreases-loop-operation g l = length l.self.pending.now - l.at
