@@ -21,13 +21,14 @@ use Rattle.lin_frontier.specs.declared.members.Path.{Path}
 use Rattle.lin_frontier.specs.declared.pending.Open.{Open}
 use Rattle.lin_frontier.specs.Compressed.{IsSpelled, IsCovering, IsCompressed, CompressedSpellLegalOrders}
 use Rattle.lin_frontier.specs.Frontiers.{IsPending, IsNextEvent}
-use Rattle.lin_frontier.specs.MemberLaws.{first_member, StartCompleteLaw, DroppingLaw, InvocationKeepsLaw, InfoKeepsLaw, FailKeepsLaw, ObserverSearchLaw, UpdateSearchLaw}
-use Rattle.lin_frontier.specs.Members.{Member, IsDominated, Dominates}
+use Rattle.lin_frontier.specs.MemberLaws.{first_member, IsDominatedAt, StartCompleteLaw, DroppingLaw, ThinningLaw, InvocationKeepsLaw, InfoKeepsLaw, FailKeepsLaw, ObserverSearchLaw, UpdateSearchLaw}
+use Rattle.lin_frontier.specs.Members.{Member, IsDominated, IsOnOffer, Dominates}
 use Rattle.lin_frontier.specs.Nodes.{IsGrown}
 use Rattle.lin_frontier.specs.Placing.{IsAbsent}
 use Rattle.lin_frontier.specs.RoundLaws.{ExactLaw, TrailStartLaw, FewerLaw, TrailPlacesLaw, TrailInvocationLaw, TrailInfoLaw, TrailFailLaw, TrailOkLaw, TrailObserverLaw, TrailReturnLaw}
 use Rattle.lin_frontier.specs.Rounds.{IsTrailOf, root}
 use Rattle.lin_frontier.specs.Searching.{CompletesOpen, IsNextOf, IsPruned, IsReturnOf}
+use Rattle.lin_frontier.specs.Settling.{AreFewer, IsThinned}
 use Rattle.lin_frontier.proofs.Answering.{returned_complete}
 use Rattle.lin_frontier.proofs.Awaiting.{open_pending}
 use Rattle.lin_frontier.proofs.Closing.{cut_back}
@@ -36,6 +37,7 @@ use Rattle.lin_frontier.proofs.Onward.{in_map, from_map, invoked, informed, fail
 use Rattle.lin_frontier.proofs.Putting.{trail_ends}
 use Rattle.lin_frontier.proofs.Pruned.{dominates_to, dominates_from, watching_to}
 use Rattle.lin_frontier.proofs.Crashes.{passes_fail}
+use Rattle.lin_frontier.proofs.Settled.{alike_dominates}
 use Rattle.lin_frontier.proofs.Returned.{returned_spelled, free_reached}
 use Rattle.lin_objects.specs.Observing.{IsObserving}
 
@@ -138,6 +140,30 @@ module _ {S : Type 0} (start : S) (step : S → Call → S → Reply → Type 0)
                 (dominates_to functions h pending opened unique ((alternating functions h).0 well_formed) observes k.0.0 m.0.0.state m.0.0.placed m.0.0.offers
                 (spelled_rising start step observes h nodes k.0 (c.spelled k.0 (p.from k.0 k.1))) k.2),
           )
+
+  -- and without those that others dominate once crashed operations that have the same call are exchanged
+  pub thinned_compressed : ThinningLaw start step → (nodes : List (ℕ × (Placed × Option ℕ))) (members out : List (Member S × Path)) → IsThinned observes pending members out
+      → IsCovering start step observes h members nodes → IsCompressed start step observes h out nodes
+  thinned_compressed thinning nodes members out thinned c = elim thinned [
+    | inl pruned ↦ pruned_compressed nodes members out pruned c
+    | inr two ↦
+        let first = two.0 in
+        let fewer = two.1 in
+        let one = (pruned_compressed nodes members first two.2 c).covering in
+        pruned_compressed nodes fewer out two.4 (record {
+          complete = thinning observes functions h well_formed (map (λ m. m.0) first) (map (λ m. m.0) fewer) (alike first fewer two.3 one.spelled) one.complete;
+          spelled = λ m there. one.spelled m (two.3.from m there);
+        })
+  ]
+    where
+      alike : (first fewer : List (Member S × Path)) → AreFewer observes pending first fewer → ((m : Member S × Path) → Contains first m → IsSpelled start step observes h nodes m)
+          → (m : Member S) → Contains (map (λ k. k.0) first) m → IsDominatedAt observes h (map (λ k. k.0) fewer) m.state m.placed (IsOnOffer m)
+      alike first fewer f spelled m there =
+          let k = from_map (λ (x : Member S × Path). x.0) first m there in
+          let n = f.covered k.0 k.1 in
+          subst (λ (x : Member S). IsDominatedAt observes h (map (λ y. y.0) fewer) x.state x.placed (IsOnOffer x)) k.2
+          (alike_dominates functions h pending opened unique ((alternating functions h).0 well_formed) observes n.0.0 k.0.0 (spelled_rising start step observes h nodes n.0 (spelled n.0 (f.from n.0 n.1)))
+          (spelled_rising start step observes h nodes k.0 (spelled k.0 k.1)) n.2 (map (λ y. y.0) fewer) (in_map (λ (x : Member S × Path). x.0) fewer n.0 n.1))
 
 -- nodes are only added
 pub covering_stays : {S : Type 0} (start : S) (step : S → Call → S → Reply → Type 0) (observes : Call → Bool) (h : List Event) (nodes now : List (ℕ × (Placed × Option ℕ))) (members : List (Member S × Path)) → IsGrown nodes now

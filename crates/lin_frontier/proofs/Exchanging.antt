@@ -1,7 +1,8 @@
 -- Exchanges of crashed operations that have the same call, and what they leave as it is.
-use Rattle.std.proofs.Common.{◌≡◌, ◌≢◌, ◌<◌, ℕ, ℤ, Bool, List, [], ◌∷◌, Contains, ◌⊎◌, inl, inr, refl, sym, ap, subst, ◌∙◌, arith}
+use Rattle.std.proofs.Common.{◌≡◌, ◌≢◌, ◌<◌, ℕ, ℤ, Bool, true, false, nat_eq, cond, List, [], ◌∷◌, Contains, ◌⊎◌, inl, inr, refl, sym, ap, subst, ◌∙◌, arith}
 use Rattle.std.proofs.lemmas.List.Elements.{Contains-append_right}
-use Rattle.std.proofs.lemmas.Bool.{cases_eq}
+use Rattle.std.proofs.lemmas.Bool.{cases_eq, cond-true, cond-false}
+use Rattle.std.proofs.lemmas.Bool.Decides.{Decides-eqb as Decides-nat_eq}
 use Rattle.lin_history.specs.declared.calls.Call.{Call}
 use Rattle.lin_history.specs.declared.calls.Name.{Name}
 use Rattle.lin_history.specs.declared.calls.Reply.{Reply}
@@ -25,11 +26,10 @@ pub open_call : (functions : ℤ → Name → Bool) (h : List Event) → IsAlter
 open_call functions h alternates i j process key other c d open_i open_j =
     one_call h j process process key other c d (subst (λ k. IsOperation h k process key c) (one_open functions h alternates i j process key other c d open_i open_j) open_i.begins) open_j.begins
 
-pub no_exchange : (h : List Event) → Exchange h
+abbrev pub no_exchange : (h : List Event) → Exchange h
 no_exchange h = record { to = λ q. q; from = λ q. q; there = λ q. refl; back = λ q. refl; moves = λ q. inl refl }
 
 pub exchanged_itself : (h : List Event) (placed : List (ℕ × Reply)) → IsRising placed → IsExchanged (no_exchange h) placed placed
-unfolding no_exchange
 exchanged_itself h placed rising = record { before = rising; rising = rising; part = λ x there. there; rest = λ x there. there }
 
 -- the one process for the other
@@ -120,6 +120,47 @@ module _ (h : List Event) (p q : ℕ) (alike : AreAlike h p q) where
   unfolding change
   change_first = swap_first p q
 
+  -- where the second process has no place, it is put in place of the first
+  pub change_renames : (n : ℕ) → n ≢ q → cond (nat_eq n p) q n ≡ change.to n
+  unfolding change
+  change_renames n not_q = elim (cases_eq n p) [
+    | inl same ↦ cond-true _ _ _ ((Decides-nat_eq n p).1 same) ∙ sym (swap_first p q) ∙ ap (swap p q) (sym same)
+    | inr not_p ↦ cond-false _ _ _ (differs n p not_p) ∙ sym (swap_other p q n not_p not_q)
+  ]
+    where
+      differs : (a b : ℕ) → a ≢ b → nat_eq a b ≡ false
+      differs a b other = by (nat_eq a b) refl
+        where
+          by : (t : Bool) → nat_eq a b ≡ t → nat_eq a b ≡ false
+          by true e = absurd (other ((Decides-nat_eq a b).0 e))
+          by false e = e
+
+-- an exchange the other way round
+abbrev pub turned : {h : List Event} → Exchange h → Exchange h
+turned {h} e = record {
+  to = e.from;
+  from = e.to;
+  there = e.back;
+  back = e.there;
+  moves = λ q. elim (e.moves (e.from q)) [
+    | inl same ↦ inl (sym same ∙ e.back q)
+    | inr alike ↦ inr (alike_back q (e.from q) (subst (AreAlike h (e.from q)) (e.back q) alike))
+  ];
+}
+  where
+    alike_back : (p q : ℕ) → AreAlike h q p → AreAlike h p q
+    alike_back p q a = record {
+      at = a.other;
+      other = a.at;
+      key = a.other_key;
+      other_key = a.key;
+      call = a.call;
+      first = a.second;
+      second = a.first;
+      crashed = a.other_crashed;
+      other_crashed = a.crashed;
+    }
+
 -- in a history that keeps what crashed
 module _ (observes : Call → Bool) (h g : List Event) (ended : ℕ → Type 0) (passes : Passes observes h g ended) (alive : (q : ℕ) → ended q → HasCrashed h q → ⊥) where
   alike_on : (p q : ℕ) → AreAlike h p q → AreAlike g p q
@@ -179,6 +220,12 @@ module _ {h : List Event} (e : Exchange h) where
   crash_to q crashed = elim (e.moves q) [
     | inl same ↦ subst (HasCrashed h) (sym same) crashed
     | inr alike ↦ alike.other_crashed
+  ]
+
+  pub crash_from : (q : ℕ) → HasCrashed h (e.to q) → HasCrashed h q
+  crash_from q crashed = elim (e.moves q) [
+    | inl same ↦ subst (HasCrashed h) same crashed
+    | inr alike ↦ alike.crashed
   ]
 
   -- no other process is given the place of one that keeps it
@@ -333,7 +380,7 @@ module _ {h : List Event} (e : Exchange h) where
 
 module _ {h : List Event} (functions : ℤ → Name → Bool) (alternates : IsAlternating functions h) (e f : Exchange h) where
   -- one exchange after another
-  pub both : Exchange h
+  abbrev pub both : Exchange h
   both = record {
     to = λ q. f.to (e.to q);
     from = λ q. e.from (f.from q);
@@ -365,7 +412,6 @@ module _ {h : List Event} (functions : ℤ → Name → Bool) (alternates : IsAl
       }
 
   pub exchanged_both : (placed middle others : List (ℕ × Reply)) → IsExchanged e placed middle → IsExchanged f middle others → IsExchanged both placed others
-  unfolding both
   exchanged_both placed middle others first second = record {
     before = first.before;
     rising = second.rising;

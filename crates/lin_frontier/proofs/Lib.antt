@@ -29,6 +29,9 @@ pub mod Returning
 pub mod Searching
 pub mod Searched
 pub mod Spreading
+pub mod Thinned
+pub mod Settled
+pub mod Shadowing
 pub mod Listing
 pub mod Joining
 pub mod Putting

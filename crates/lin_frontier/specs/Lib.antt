@@ -13,5 +13,6 @@ pub mod Masks
 pub mod MemberExamples
 pub mod Placing
 pub mod Searching
+pub mod Settling
 pub mod Compressed
 pub mod Listed

@@ -101,6 +101,12 @@ pub record IsDominatedAt {S : Type 0} (observes : Call → Bool) (h : List Event
   pub among : Contains members member
   pub dominates : DominatesAt observes h member state others offers
 
+-- where each member is dominated so by one of others, the others are complete as well
+abbrev pub ThinningLaw : {S : Type 0} → S → (S → Call → S → Reply → Type 0) → Type 0
+ThinningLaw {S} start step = (observes : Call → Bool) (functions : ℤ → Name → Bool) (h : List Event) → IsWellFormed functions h → (members others : List (Member S))
+    → ((m : Member S) → Contains members m → IsDominatedAt observes h others m.state m.placed (IsOnOffer m))
+    → IsComplete start step observes h members → IsComplete start step observes h others
+
 -- each update of the member, but one of the process, comes to what a visited one dominates, but for what is on offer to the process
 abbrev pub IsSearched : {S : Type 0} → (S → Call → S → Reply → Type 0) → (Call → Bool) → List Event → ℕ → List (Member S) → Member S → Type 0
 IsSearched {S} step observes h process visited m = (d : S × List (ℕ × Reply)) (u : IsUpdate step observes h (m.state, m.placed) d) → u.1.process ≢ process

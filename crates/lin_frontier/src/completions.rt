@@ -1,15 +1,15 @@
 //! What members lead to when an operation completes: the ways of placing open updates until it can have its reply.
-ghost use Rattle.std.specs.Prelude.{◌≡◌, ◌⊎◌, if◌then◌else◌, ◌∷◌, ◌++◌, ◌+◌, ◌*◌, [], ℕ, true, false, length, map, Contains, IsTrue, IfOk, IfSome, IfNone, OnOk};
+ghost use Rattle.std.specs.Prelude.{◌≡◌, ◌⊎◌, if◌then◌else◌, ◌∷◌, ◌++◌, ◌+◌, ◌*◌, [], ℕ, true, false, length, map, Contains, IfOk, IfSome, IfNone, OnOk};
 ghost use Rattle.lin_history.specs.declared.calls.Reply.{Reply as ReplyOf};
 ghost use Rattle.lin_frontier.specs.Members.{Member as MemberOf};
 ghost use Rattle.lin_frontier.specs.declared.members.Path.{Path as PathOf};
 ghost use Rattle.lin_frontier.specs.Nodes.{IsGrown};
-ghost use Rattle.lin_frontier.specs.declared.pending.Open.{Open as OpenOf};
-ghost use Rattle.lin_frontier.specs.Placing.{IsAbsent, IsTried};
+ghost use Rattle.lin_frontier.specs.Placing.{IsTried};
 ghost use Rattle.lin_frontier.specs.Searching.{AreBehind, AreUpdates, PlacesIfUpdate, CanTake, IsVisiting, IsFinding, IsDone, IsPassed, IsSearchOf};
 ghost use Rattle.lin_frontier.specs.Walks.{IsTriedAtMost};
 
-use crate::configs::{Config, is_absent};
+use crate::configs::Config;
+use crate::exchanges::waits_for_like;
 use crate::members::{Member, Path, advanced, answered, placed_at};
 use crate::offers::Offers;
 use crate::pending::Open;
@@ -58,28 +58,6 @@ pub fn push_if<S: Drop>(values: &mut Vec<S>, value: S, is_wanted: bool) -> Resul
         }
     }
     Ok(())
-}
-
-/// Whether the one operation crashed, as the other one did, has the same call, and isn't placed yet.
-fn is_like<S: Eq + Hash>(other: &Open, config: &Config<S>, operation: &Open) -> bool
-    ensures { IsTrue result → IsTrue other.now.crashed × (other.now.call ≡ operation.now.call) × IsAbsent other.now.process config.now.1 }
-{
-    other.crashed && other.call == operation.call && is_absent(config.placed(), other.process)
-}
-
-/// Whether the operation crashed, and one of the earlier ones is like it and isn't placed yet.
-fn waits_for_like<S: Eq + Hash>(earlier: &[Open], config: &Config<S>, operation: &Open) -> bool
-    ensures { IsTrue result → IsTrue operation.now.crashed × (o : OpenOf) × Contains earlier.now o × IsTrue o.crashed × (o.call ≡ operation.now.call) × IsAbsent o.process config.now.1 }
-{
-    if !operation.crashed {
-        return false;
-    }
-    for other in earlier {
-        if is_like(other, config, operation) {
-            return true;
-        }
-    }
-    false
 }
 
 impl<'a, O: SeqObject> Completion<'a, O> {
@@ -142,7 +120,7 @@ impl<'a, O: SeqObject> Completion<'a, O> {
         let mut out = Vec::new(alloc);
         let mut at = 0;
         while let Some(operation) = self.pending.get(at) {
-            if !waits_for_like(&self.pending[..at], config, operation) {
+            if !waits_for_like(&self.pending[..at], config.placed(), operation) {
                 self.place_update(alloc, config, operation, &mut out, steps, meter)?;
             }
             at += 1;

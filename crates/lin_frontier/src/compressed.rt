@@ -23,12 +23,12 @@ use crate::member_laws::{
 };
 use crate::members::{Member, copied, taken_out};
 use crate::nodes::NodeId;
-use crate::parts::pruned_many;
 use crate::pending::{Open, open_of, take_in};
 use crate::round_laws::{
     members_are_exact, rounds_after_events, rounds_spell_members, rounds_take_operations,
 };
 use crate::rounds::RoundNodes;
+use crate::thinning::thinned;
 use lin_history::{
     Body, Event, Meter, OutOfMemory, Reply, ends_are_unique, well_formed_is_alternating,
 };
@@ -307,7 +307,7 @@ fn advanced<O: SeqObject>(
     else {
         return Ok(None);
     };
-    let kept = pruned_many(object, alloc, &pending, found)?;
+    let kept = thinned(object, alloc, &pending, found)?;
     Ok(Some(kept))
 }
 

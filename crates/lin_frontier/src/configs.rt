@@ -42,6 +42,13 @@ impl<S: Eq + Hash> Config<S> {
         }
     }
 
+    /// The configuration of these.
+    pub(crate) fn of(state: S, placed: Pairs) -> Self
+        ensures { result ≡ (state, placed) }
+    {
+        Config { state, placed }
+    }
+
     /// The object's state.
     pub fn state(&self) -> &S
         ensures { result.now ≡ self.now.0 }
@@ -72,7 +79,7 @@ fn append_pair(alloc: Global, copy: &mut Pairs, pair: &(u64, Reply)) -> Result<(
 }
 
 /// Puts copies of the pairs last.
-fn append_pairs(alloc: Global, copy: &mut Pairs, pairs: &[(u64, Reply)]) -> Result<(), OutOfMemory>
+pub(crate) fn append_pairs(alloc: Global, copy: &mut Pairs, pairs: &[(u64, Reply)]) -> Result<(), OutOfMemory>
     ensures { OnOk result (copy.new ≡ copy.old ++ pairs.now) }
 {
     for pair in pairs {

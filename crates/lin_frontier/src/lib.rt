@@ -5,6 +5,7 @@ mod completions;
 mod compressed;
 mod configs;
 mod domination;
+mod exchanges;
 mod expansion;
 mod frontier;
 mod gathered;
@@ -30,6 +31,7 @@ mod tests;
 mod tests_compressed;
 #[cfg(test)]
 mod tests_listed;
+mod thinning;
 mod within;
 
 pub use compressed::Compressed;

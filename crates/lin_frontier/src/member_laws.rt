@@ -1,5 +1,5 @@
 //! Laws of the members of a compressed frontier. The functions do nothing.
-ghost use Rattle.lin_frontier.specs.MemberLaws.{CrashedLaw, DominationLaw, DroppingLaw, DropOneLaw, FailKeepsLaw, InfoKeepsLaw, InvocationKeepsLaw, LeadsOnLaw, LedToLaw, ListedLaw, ListingLaw, ListingOkLaw, ObserverSearchLaw, OffersGoLaw, PlaceLaw, SkippedLaw, SpreadingLaw, StartCompleteLaw, SuccessorLaw, TransitiveLaw, UpdateSearchLaw};
+ghost use Rattle.lin_frontier.specs.MemberLaws.{CrashedLaw, DominationLaw, DroppingLaw, DropOneLaw, FailKeepsLaw, InfoKeepsLaw, InvocationKeepsLaw, LeadsOnLaw, LedToLaw, ListedLaw, ListingLaw, ListingOkLaw, ObserverSearchLaw, OffersGoLaw, PlaceLaw, SkippedLaw, SpreadingLaw, StartCompleteLaw, SuccessorLaw, ThinningLaw, TransitiveLaw, UpdateSearchLaw};
 
 use lin_history::{ends_are_unique, well_formed_is_alternating};
 use lin_objects::SeqObject;
@@ -21,7 +21,10 @@ pub(crate) fn dominated_can_go<O: SeqObject>(object: &O)
     ensures one { DropOneLaw (O.starts object.now) (O.step object.now) }
     ensures led_to { LedToLaw (O.starts object.now) (O.step object.now) }
     ensures transitive { TransitiveLaw O.State }
-{}
+    ensures thinned { ThinningLaw (O.starts object.now) (O.step object.now) }
+{
+    well_formed_is_alternating();
+}
 
 /// Placing an open operation stays within what a member leads to, and what it leads to it leads to after an invocation.
 pub(crate) fn members_lead_on<O: SeqObject>(object: &O)

@@ -2,7 +2,7 @@ use Rattle.std.proofs.Common.{ap, arith, length}
 use Rattle.lin_order.specs.ConfigurationLaws.{with_event}
 use Rattle.lin_frontier.proofs.Answered.{from_some}
 use Rattle.lin_frontier.proofs.Counting.{tried_within}
-use Rattle.lin_frontier.proofs.Compressing.{Laws, completes_open, next_covering, pruned_compressed, covering_stays}
+use Rattle.lin_frontier.proofs.Compressing.{Laws, completes_open, next_covering, thinned_compressed, covering_stays}
 use Rattle.lin_frontier.proofs.compressed.advanced.Goals as goal
 
 pub returns-clause-next : goal.returns-clause-next
@@ -33,7 +33,8 @@ returns-clause-next g c functions h next covering =
     let made = from_some _ c.in-Some.is c.in_ok-found.ensures.next (completes_open begin step observes laws functions h c.args.before.now c.args.at c.args.event.now next pending opened) in
     let covered = next_covering begin step observes laws functions h c.args.before.now c.args.at c.args.event.now next pending opened (g.O.SeqObject.unchanged c.args.object.now) c.next_members.new.nodes c.args.members.now
     c.in-Some.found.items (rw c.deref.ensures.value at made) (covering_stays begin step observes h c.args.nodes.now c.next_members.new.nodes c.args.members.now c.next_members.ensures.grown covering) in
-    pruned_compressed begin step observes laws.alternating laws.unique laws.dropping functions (with_event h c.args.event.now) next.well_formed pending opened c.next_members.new.nodes c.in-Some.found.items c.in_ok-kept.kept.items
+    thinned_compressed begin step observes laws.alternating laws.unique laws.dropping functions (with_event h c.args.event.now) next.well_formed pending opened c.dominated_can_go.ensures.thinned c.next_members.new.nodes
+    c.in-Some.found.items c.in_ok-kept.kept.items
     (rw c.deref-2.ensures.value at c.in_ok-kept.ensures) covered
 
 pub returns-in_err-found-clause-tried : goal.returns-in_err-found-clause-tried

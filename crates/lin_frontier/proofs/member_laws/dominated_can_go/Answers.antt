@@ -1,5 +1,6 @@
 use Rattle.lin_frontier.proofs.Dominating.{domination_law, dropping_law, drop_one_law, transitive_law}
 use Rattle.lin_frontier.proofs.Leading.{led_to_law}
+use Rattle.lin_frontier.proofs.Thinned.{thinning_law}
 use Rattle.lin_frontier.proofs.member_laws.dominated_can_go.Goals as goal
 
 pub returns-clause-covered : goal.returns-clause-covered
@@ -16,3 +17,6 @@ returns-clause-led_to g c = led_to_law _ _
 
 pub returns-clause-transitive : goal.returns-clause-transitive
 returns-clause-transitive g c = transitive_law _
+
+pub returns-clause-thinned : goal.returns-clause-thinned
+returns-clause-thinned g c = thinning_law _ _ c.well_formed_is_alternating.ensures

@@ -24,7 +24,7 @@ loop-operation-preserved g c =
       }
       | else-not-waits_for_like w ↦ record {
         placed = subst (λ l. AreUpdates step observes (take (at + 1) xs) c.args.config.now l.items) (sym w.out-is)
-            (updates_pass step observes c.args.config.now xs at c.in-Some.operation.now c.loop-operation.out.items a.3.0 a.1 (b w.if-not-waits_for_like.false) all);
+            (updates_pass step observes c.args.config.now xs at c.in-Some.operation.now c.loop-operation.out.items a.3.0 a.1 (rw c.placed.ensures at (b w.if-not-waits_for_like.false)) all);
         within = omega (arith, a.3.0);
         tried = subst (λ m. IsTriedAtMost (at + 1) c.args.meter.now m) (sym w.meter-is) (tried_more at 0 (at + 1) _ _ _ (omega arith) c.loop-operation.invariant.tried (tried_none 0 _));
       }
