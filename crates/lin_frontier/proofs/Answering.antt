@@ -165,8 +165,7 @@ module _ (observes : Call → Bool) (functions : ℤ → Name → Bool) (h : Lis
               let alike = pending_alike o.0 f.placed o.1 f.among both.1 both.0 (sym both.2) in
               let e = change h o.0.process f.placed.process alike in
               let k = exchanged_added e o.0.process p.reply m.placed d.1 m.placed
-              (change_neither h o.0.process f.placed.process alike m.placed added.before added.absent (none_from f.placed.process m.placed f.absent)) added in
-              (
+              (change_neither h o.0.process f.placed.process alike m.placed added.before added.absent (none_from f.placed.process m.placed f.absent)) added in (
                 e,
                 subst (IsExchanged e d.1)
                     (insert_is f.placed.process p.reply m.placed k.0 (subst (λ q. IsAdded q p.reply m.placed k.0) (change_first h o.0.process f.placed.process alike) k.2)) k.1,

@@ -212,8 +212,7 @@ module _ {S : Type 0} (start : S) (step : S → Call → S → Reply → Type 0)
       let from = (law functions h event name reply body well_formed).was config.0 c config.1 in
       let found = listing (c.0, from.0) (config.0, from.1) in
       let e = found.0 in
-      let less = exchanged_without e event.process reply c.1 from.0 found.1 (fixed e event.process alive) found.2 from.2 in
-      (
+      let less = exchanged_without e event.process reply c.1 from.0 found.1 (fixed e event.process alive) found.2 from.2 in (
         exchange_on (λ call. true) h (with_event h event) (λ q. q ≡ event.process) passes ended e,
         without event.process found.1,
         exchanged_on (λ call. true) h (with_event h event) (λ q. q ≡ event.process) passes ended e c.1 (without event.process found.1) less.0,

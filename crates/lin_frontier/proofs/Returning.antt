@@ -100,7 +100,7 @@ module _ {S : Type 0} (start : S) (step : S → Call → S → Reply → Type 0)
                   on_from step observes functions h event name reply body alternates others split.mid.0 n.1 n.1
                       (IsOffered step observes h (IsOnOffer m) (m.state, m.placed) split.mid split.first) n.2 (λ x is_in. is_in)
                       (λ r is_in. elim (way_was step observes h (m.state, m.placed) split.mid split.first (event.process, r)
-                          (subst (λ q. Contains split.mid.1 (q, r)) (fixed_from n.0 event.process not_crashed) (n.3.rest (event.process, r) is_in))) [
+                      (subst (λ q. Contains split.mid.1 (q, r)) (fixed_from n.0 event.process not_crashed) (n.3.rest (event.process, r) is_in))) [
                         | inl first ↦ absent r first
                         | inr u ↦ true≢false (sym (observer u.0 u.1 u.2 u.3) ∙ u.4)
                       ])

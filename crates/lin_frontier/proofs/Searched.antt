@@ -219,8 +219,7 @@ module _ {S : Type 0} (start : S) (step : S → Call → S → Reply → Type 0)
       let v = u' start step observes unique functions h event name reply body alternates members visited others starts m d c way u visit in
       let held = emitted visit.member visit.among (d.0, own_end start step observes unique functions h event name reply body alternates members visited others starts m d c way u visit)
       (own start step observes unique functions h event name reply body alternates members visited others starts m d c way u visit)
-      (v.3 ∙ ap visit.exchange.to same_process ∙ stays start step observes unique functions h event name reply body alternates members visited others starts visit.exchange) (v.4 ∙ same_reply) in
-      (
+      (v.3 ∙ ap visit.exchange.to same_process ∙ stays start step observes unique functions h event name reply body alternates members visited others starts visit.exchange) (v.4 ∙ same_reply) in (
         visit.exchange,
         visit.others,
         held.0,

@@ -1,5 +1,5 @@
 -- Members of which crashed operations were put in the place of others: they are exchanged, and so is what dominates them.
-use Rattle.std.proofs.Common.{◌≡◌, ◌≢◌, ℕ, ℤ, Bool, true, cond, nat_eq, List, map, Contains, IsTrue, ◌⊎◌, inl, inr, sym, ap, subst, ◌∙◌}
+use Rattle.std.proofs.Common.{◌≡◌, ℕ, ℤ, Bool, true, List, map, Contains, IsTrue, ◌⊎◌, inl, inr, sym, ap, subst, ◌∙◌}
 use Rattle.std.proofs.lemmas.List.Elements.{All-contains}
 use Rattle.lin_history.specs.declared.calls.Call.{Call}
 use Rattle.lin_history.specs.declared.calls.Name.{Name}
@@ -10,8 +10,7 @@ use Rattle.lin_history.specs.Operations.{IsOpen}
 use Rattle.lin_history.specs.WellFormedLaws.{EndsAreUnique}
 use Rattle.lin_order.specs.Configurations.{IsRising}
 use Rattle.lin_frontier.specs.declared.pending.Open.{Open}
-use Rattle.lin_frontier.specs.Covers.{HasCrashed}
-use Rattle.lin_frontier.specs.Exchanges.{AreAlike, Exchange, IsExchanged}
+use Rattle.lin_frontier.specs.Exchanges.{AreAlike, Exchange}
 use Rattle.lin_frontier.specs.Frontiers.{IsPending}
 use Rattle.lin_frontier.specs.MemberLaws.{IsDominatedAt}
 use Rattle.lin_frontier.specs.Members.{Member, IsOnOffer}
@@ -19,7 +18,7 @@ use Rattle.lin_frontier.specs.Placing.{IsAbsent}
 use Rattle.lin_frontier.specs.Searching.{is_crashed, is_watching}
 use Rattle.lin_frontier.specs.Settling.{renamed_pair, IsRenamed, same, more, DominatesAlike}
 use Rattle.lin_frontier.proofs.Awaiting.{pending_crashed}
-use Rattle.lin_frontier.proofs.Exchanging.{both, change, change_renames, crash_from, exchange_all, fixed, fixed_from, no_exchange, turned}
+use Rattle.lin_frontier.proofs.Exchanging.{both, change, change_renames, crash_from, exchange_all, fixed_from, no_exchange, turned}
 use Rattle.lin_frontier.proofs.Inserting.{absent_from, none_from}
 use Rattle.lin_frontier.proofs.Onward.{from_map, in_map}
 use Rattle.lin_frontier.proofs.Pruned.{crashed_to, watching_from}

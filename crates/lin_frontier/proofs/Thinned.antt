@@ -1,5 +1,5 @@
 -- Members that others dominate, once crashed operations that have the same call are exchanged, can be dropped.
-use Rattle.std.proofs.Common.{ℕ, Bool, List, Contains, inl}
+use Rattle.std.proofs.Common.{inl}
 use Rattle.lin_history.specs.declared.calls.Call.{Call}
 use Rattle.lin_history.specs.declared.calls.Reply.{Reply}
 use Rattle.lin_history.specs.WellFormedLaws.{WellFormedIsAlternating}

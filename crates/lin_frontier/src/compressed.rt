@@ -1,5 +1,5 @@
 //! Compressed frontiers: few members that stand for all configurations of a history that has one object.
-ghost use Rattle.std.specs.Prelude.{◌≡◌, ◌⊎◌, ◌∷◌, ◌++◌, ◌+◌, ◌*◌, ◌<◌, ◌≤◌, [], ℕ, ℤ, Bool, List, length, map, Contains, IfOk, IfSome, IfNone, OnOk, OnErr, Some, slice_get};
+ghost use Rattle.std.specs.Prelude.{◌≡◌, ◌⊎◌, ◌∷◌, ◌++◌, ◌+◌, ◌*◌, ◌<◌, ◌≤◌, [], ℕ, ℤ, Bool, List, length, map, Contains, IfOk, IfSome, IfNone, OnOk, OnErr, Some, slice_get, IsPermutation};
 ghost use Rattle.lin_history.specs.declared.calls.Name.{Name as NameOf};
 ghost use Rattle.lin_history.specs.declared.calls.Reply.{Reply as ReplyOf};
 ghost use Rattle.lin_history.specs.declared.events.Body.{Body as BodyOf};
@@ -117,6 +117,18 @@ fn all_absent<O: SeqObject>(
     Ok(out)
 }
 
+/// Up to so many members are searched in the order in which they stand.
+const FEW: usize = 8;
+
+/// Puts those that placed fewest operations first, so that a search comes early to what dominates.
+fn put_fewest_first<S: Eq + Hash + Drop>(members: &mut Vec<&Member<S>>)
+    ensures { IsPermutation members.old.items members.new.items }
+{
+    if members.len() > FEW {
+        members.sort_unstable_by_key(|member| member.placed().len());
+    }
+}
+
 /// The members in which the operation of the process has no place.
 fn absent_ones<'m, S: Eq + Hash + Drop>(
     alloc: Global,
@@ -129,6 +141,7 @@ fn absent_ones<'m, S: Eq + Hash + Drop>(
     for member in members {
         push_if(&mut out, member, is_absent(member.placed(), process))?;
     }
+    put_fewest_first(&mut out);
     Ok(out)
 }
 

@@ -79,7 +79,11 @@ fn append_pair(alloc: Global, copy: &mut Pairs, pair: &(u64, Reply)) -> Result<(
 }
 
 /// Puts copies of the pairs last.
-pub(crate) fn append_pairs(alloc: Global, copy: &mut Pairs, pairs: &[(u64, Reply)]) -> Result<(), OutOfMemory>
+pub(crate) fn append_pairs(
+    alloc: Global,
+    copy: &mut Pairs,
+    pairs: &[(u64, Reply)],
+) -> Result<(), OutOfMemory>
     ensures { OnOk result (copy.new ≡ copy.old ++ pairs.now) }
 {
     for pair in pairs {

@@ -58,11 +58,7 @@ pub fn are_some_alike(pending: &[Open]) -> bool {
 }
 
 /// The first operation like this one that isn't placed, if this one is, and was invoked later.
-fn stand_in<'a>(
-    pending: &'a [Open],
-    placed: &[(u64, Reply)],
-    operation: &Open,
-) -> Option<&'a Open>
+fn stand_in<'a>(pending: &'a [Open], placed: &[(u64, Reply)], operation: &Open) -> Option<&'a Open>
     ensures { IfSome result (λ o. Contains pending.now o.now × IsTrue operation.now.crashed × IsTrue o.now.crashed × (o.now.call ≡ operation.now.call) × IsAbsent o.now.process placed.now) }
 {
     if !operation.crashed || is_absent(placed, operation.process) {
@@ -111,7 +107,11 @@ fn renamed(
 }
 
 /// The pairs with each crashed operation in the place of the first like it that isn't placed.
-pub fn settle(alloc: Global, pending: &[Open], placed: &[(u64, Reply)]) -> Result<Pairs, OutOfMemory>
+pub fn settle(
+    alloc: Global,
+    pending: &[Open],
+    placed: &[(u64, Reply)],
+) -> Result<Pairs, OutOfMemory>
     ensures { IfOk result (λ out. IsRenamed pending.now placed.now out) }
 {
     let mut now = Pairs::new(alloc);

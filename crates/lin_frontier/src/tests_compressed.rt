@@ -315,6 +315,83 @@ fn many_members_are_told_apart(rt: HostRuntime) -> Result<(), Fail> {
     Ok(())
 }
 
+/// The same write of so many processes, each of which crashes in it.
+fn crashed_writes(alloc: Global, count: u64, value: i64) -> Result<Vec<Event>, OutOfMemory> {
+    let mut events = Vec::new(alloc);
+    for process in 0..count {
+        events.push(invoke(process, write(value)))?;
+        events.push(info(process, Name::Write))?;
+    }
+    Ok(events)
+}
+
+/// Puts the events last.
+fn push_all(events: &mut Vec<Event>, more: [Event; 4]) -> Result<(), OutOfMemory> {
+    for event in more {
+        events.push(event)?;
+    }
+    Ok(())
+}
+
+#[test]
+fn crashed_writes_of_one_value_stand_in_for_one_another(rt: HostRuntime) -> Result<(), Fail> {
+    let alloc = rt.alloc();
+    let kind = Kind::Register;
+    let mut events = crashed_writes(alloc, 10, 1)?;
+    // Which of the ten was placed isn't told apart: each read of 1 behind another value places one more.
+    for _ in 0..10 {
+        let more = [
+            invoke(90, write(2)),
+            done(90, Name::Write),
+            invoke(91, Call::Read),
+            gives(91, Name::Read, Val::Int(1)),
+        ];
+        push_all(&mut events, more)?;
+        assert_eq!(rt;
+            came_within(alloc, kind, &events, AMPLE),
+            Ok(Came::Sound(1))
+        );
+    }
+    // Then none is left.
+    let last = [
+        invoke(90, write(2)),
+        done(90, Name::Write),
+        invoke(91, Call::Read),
+        gives(91, Name::Read, Val::Int(1)),
+    ];
+    push_all(&mut events, last)?;
+    assert_eq!(rt; came_within(alloc, kind, &events, AMPLE), Ok(Came::Empty));
+    Ok(())
+}
+
+#[test]
+fn operations_are_alike_from_when_both_crashed(rt: HostRuntime) -> Result<(), Fail> {
+    let alloc = rt.alloc();
+    let kind = Kind::Register;
+    let events = [
+        invoke(0, write(1)),
+        invoke(1, write(1)),
+        invoke(2, Call::Read),
+        gives(2, Name::Read, Val::Int(1)),
+        info(0, Name::Write),
+        info(1, Name::Write),
+    ];
+    // The one or the other write was read, and may return yet, or not.
+    assert_eq!(rt;
+        came_within(alloc, kind, &events[..4], AMPLE),
+        Ok(Came::Sound(2))
+    );
+    assert_eq!(rt;
+        came_within(alloc, kind, &events[..5], AMPLE),
+        Ok(Came::Sound(2))
+    );
+    assert_eq!(rt;
+        came_within(alloc, kind, &events, AMPLE),
+        Ok(Came::Sound(1))
+    );
+    Ok(())
+}
+
 #[test]
 fn crashed_reads_cost_nothing(rt: HostRuntime) -> Result<(), Fail> {
     let alloc = rt.alloc();

@@ -1,6 +1,6 @@
 use Rattle.std.proofs.Common.{◌∙◌, length, refl}
 use Rattle.std.proofs.lemmas.Option.{slice_get_read}
-use Rattle.lin_frontier.proofs.Shadowing.{AreShadows, shadows_next, shadows_end}
+use Rattle.lin_frontier.proofs.Shadowing.{shadows_next, shadows_end}
 use Rattle.lin_frontier.proofs.thinning.shadows.Goals as goal
 
 pub loop-member-preserved : goal.loop-member-preserved

@@ -1,4 +1,4 @@
-use Rattle.std.proofs.Common.{length, ◌-◌, ◌≤◌}
+use Rattle.std.proofs.Common.{length, ◌-◌}
 use Rattle.lin_frontier.proofs.Shadowing.{AreShadows}
 use Rattle.lin_frontier.proofs.thinning.shadows.Given as goal
 

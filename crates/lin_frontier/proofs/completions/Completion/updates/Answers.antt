@@ -1,4 +1,4 @@
-use Rattle.std.proofs.Common.{◌+◌, ◌≤◌, length, take, arith, ap, refl, sym, subst}
+use Rattle.std.proofs.Common.{◌+◌, take, arith, sym, subst}
 use Rattle.lin_frontier.specs.Searching.{AreUpdates}
 use Rattle.lin_frontier.specs.Walks.{IsTriedAtMost}
 use Rattle.lin_frontier.proofs.Counting.{tried_more, tried_none}
