@@ -17,7 +17,8 @@ pub record IsSpelled {S : Type 0} (start : S) (step : S → Call → S → Reply
   pub last : suc m.1.round ≡ length rounds
   pub trail : IsTrailOf start step observes h states rounds m.0
 
--- each configuration is covered by one that a member leads to, and each member is led to by rounds
+-- each configuration, once crashed operations that have the same call are exchanged, is covered by one that a member leads to, and each
+-- member is led to by rounds
 pub record IsCovering {S : Type 0} (start : S) (step : S → Call → S → Reply → Type 0) (observes : Call → Bool) (h : List Event) (members : List (Member S × Path)) (nodes : List (ℕ × (Placed × Option ℕ))) : Type 0 where
   pub complete : IsComplete start step observes h (map (λ m. m.0) members)
   pub spelled : (m : Member S × Path) → Contains members m → IsSpelled start step observes h nodes m
