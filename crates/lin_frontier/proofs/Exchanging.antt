@@ -32,6 +32,20 @@ no_exchange h = record { to = λ q. q; from = λ q. q; there = λ q. refl; back 
 pub exchanged_itself : (h : List Event) (placed : List (ℕ × Reply)) → IsRising placed → IsExchanged (no_exchange h) placed placed
 exchanged_itself h placed rising = record { before = rising; rising = rising; part = λ x there. there; rest = λ x there. there }
 
+-- what is alike is so the other way round
+pub alike_back : (h : List Event) (p q : ℕ) → AreAlike h q p → AreAlike h p q
+alike_back h p q a = record {
+  at = a.other;
+  other = a.at;
+  key = a.other_key;
+  other_key = a.key;
+  call = a.call;
+  first = a.second;
+  second = a.first;
+  crashed = a.other_crashed;
+  other_crashed = a.crashed;
+}
+
 -- the one process for the other
 swap : ℕ → ℕ → ℕ → ℕ
 swap p q n = elim (cases_eq n p) [
@@ -88,24 +102,11 @@ module _ (h : List Event) (p q : ℕ) (alike : AreAlike h p q) where
     moves = λ n. elim (cases_eq n p) [
       | inl same ↦ inr (subst (λ k. AreAlike h k (swap p q k)) (sym same) (subst (AreAlike h p) (sym (swap_first p q)) alike))
       | inr not_p ↦ elim (cases_eq n q) [
-        | inl same ↦ inr (subst (λ k. AreAlike h k (swap p q k)) (sym same) (subst (AreAlike h q) (sym (swap_second p q)) turned))
+        | inl same ↦ inr (subst (λ k. AreAlike h k (swap p q k)) (sym same) (subst (AreAlike h q) (sym (swap_second p q)) (alike_back h q p alike)))
         | inr not_q ↦ inl (swap_other p q n not_p not_q)
       ]
     ];
   }
-    where
-      turned : AreAlike h q p
-      turned = record {
-        at = alike.other;
-        other = alike.at;
-        key = alike.other_key;
-        other_key = alike.key;
-        call = alike.call;
-        first = alike.second;
-        second = alike.first;
-        crashed = alike.other_crashed;
-        other_crashed = alike.crashed;
-      }
 
   -- placed operations that neither is among stay
   pub change_neither : (placed : List (ℕ × Reply)) → IsRising placed → ((reply : Reply) → Contains placed (p, reply) → ⊥) → ((reply : Reply) → Contains placed (q, reply) → ⊥) → IsExchanged change placed placed
@@ -144,22 +145,9 @@ turned {h} e = record {
   back = e.there;
   moves = λ q. elim (e.moves (e.from q)) [
     | inl same ↦ inl (sym same ∙ e.back q)
-    | inr alike ↦ inr (alike_back q (e.from q) (subst (AreAlike h (e.from q)) (e.back q) alike))
+    | inr alike ↦ inr (alike_back h q (e.from q) (subst (AreAlike h (e.from q)) (e.back q) alike))
   ];
 }
-  where
-    alike_back : (p q : ℕ) → AreAlike h q p → AreAlike h p q
-    alike_back p q a = record {
-      at = a.other;
-      other = a.at;
-      key = a.other_key;
-      other_key = a.key;
-      call = a.call;
-      first = a.second;
-      second = a.first;
-      crashed = a.other_crashed;
-      other_crashed = a.crashed;
-    }
 
 -- in a history that keeps what crashed
 module _ (observes : Call → Bool) (h g : List Event) (ended : ℕ → Type 0) (passes : Passes observes h g ended) (alive : (q : ℕ) → ended q → HasCrashed h q → ⊥) where

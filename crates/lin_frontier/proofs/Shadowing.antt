@@ -1,5 +1,5 @@
 -- Members that stand for others, which their nodes name.
-use Rattle.std.proofs.Common.{◌≡◌, ℕ, suc, ◌+◌, ◌<◌, ◌≤◌, Bool, List, [], ◌∷◌, ◌++◌, length, take, get_or, Contains, inl, inr, sym, ap, subst, ◌∙◌, arith, Some, slice_get}
+use Rattle.std.proofs.Common.{◌≡◌, ℕ, ◌+◌, ◌<◌, ◌≤◌, Bool, List, [], ◌∷◌, ◌++◌, length, take, get_or, Contains, inl, inr, sym, ap, subst, ◌∙◌, arith, Some, slice_get}
 use Rattle.std.proofs.lemmas.Bool.{cases_lt}
 use Rattle.std.proofs.lemmas.List.Elements.{Contains-append_left, Contains-push, Contains-push_cases}
 use Rattle.std.proofs.lemmas.Option.{slice_get-get_or, slice_get_within}
@@ -9,7 +9,7 @@ use Rattle.lin_frontier.specs.declared.pending.Open.{Open}
 use Rattle.lin_frontier.specs.Members.{Member}
 use Rattle.lin_frontier.specs.Searching.{IsPruned}
 use Rattle.lin_frontier.specs.Settling.{AreFewer, IsSettled, IsShadow}
-use Rattle.lin_frontier.proofs.Trying.{take_all, take_one}
+use Rattle.lin_frontier.proofs.Trying.{take_all, take_next}
 
 some_same : {A : Type 0} {x y : A} → Some x ≡ Some y → x ≡ y
 some_same e = cc
@@ -92,15 +92,10 @@ module _ {S : Type 0} (members : List (Member S × Path)) where
   }
 
   module _ (xs : List (Member S × Path)) (i : ℕ) (o : Member S × Path) (inside : i < length xs) (is : o ≡ get_or xs i o) where
-    longer : take (i + 1) xs ≡ take i xs ++ o ∷ []
-    longer =
-        let next : i + 1 ≡ suc i = omega arith in
-        ap (λ n. take n xs) next ∙ take_one i xs o inside ∙ ap (λ q. take i xs ++ q ∷ []) (sym is)
-
     -- where the node names a member
     pub picked_next : (out now : List (Member S × Path)) (m : Member S × Path) → slice_get members o.1.node ≡ Some m → Contains members m → now ≡ out ++ m ∷ [] → ArePicked members (take i xs) out
         → ArePicked members (take (i + 1) xs) now
-    picked_next out now m stands there pushed h = subst (λ l. ArePicked members l now) (sym longer) (picked_one (take i xs) out now o
+    picked_next out now m stands there pushed h = subst (λ l. ArePicked members l now) (sym (take_next xs i o inside is)) (picked_one (take i xs) out now o
         (λ k has. subst (λ l. Contains l k) (sym pushed) (Contains-append_left out (m ∷ []) k has))
         (λ k has. elim (Contains-push_cases out m k (subst (λ l. Contains l k) pushed has)) [
           | inl before ↦ h.sound k before
@@ -110,7 +105,7 @@ module _ {S : Type 0} (members : List (Member S × Path)) where
 
     -- where it names none
     pub picked_pass : (out : List (Member S × Path)) → length members ≤ o.1.node → ArePicked members (take i xs) out → ArePicked members (take (i + 1) xs) out
-    picked_pass out past h = subst (λ l. ArePicked members l out) (sym longer) (picked_one (take i xs) out out o (λ k has. has) h.sound
+    picked_pass out past h = subst (λ l. ArePicked members l out) (sym (take_next xs i o inside is)) (picked_one (take i xs) out out o (λ k has. has) h.sound
         (λ k named. absurd (let within = slice_get_within members o.1.node k named in omega arith)) h)
 
   pub picked_all : (xs : List (Member S × Path)) (i : ℕ) (out : List (Member S × Path)) → length xs ≤ i → ArePicked members (take i xs) out → ArePicked members xs out

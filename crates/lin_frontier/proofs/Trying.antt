@@ -69,10 +69,15 @@ module _ {A C : Type 0} (R : A → Placed → C → Type 0) where
     ];
   }
 
-pub take_one : {A : Type 0} (i : ℕ) (xs : List A) (d : A) → i < length xs → take (suc i) xs ≡ take i xs ++ get_or xs i d ∷ []
+take_one : {A : Type 0} (i : ℕ) (xs : List A) (d : A) → i < length xs → take (suc i) xs ≡ take i xs ++ get_or xs i d ∷ []
 take_one i [] d inside = absurd (omega arith)
 take_one zero (y ∷ ys) d inside = refl
 take_one (suc i) (y ∷ ys) d inside = ap (λ l. y ∷ l) (take_one i ys d (omega arith))
+
+pub take_next : {A : Type 0} (xs : List A) (i : ℕ) (x : A) → i < length xs → x ≡ get_or xs i x → take (i + 1) xs ≡ take i xs ++ x ∷ []
+take_next xs i x inside is =
+    let next : i + 1 ≡ suc i = omega arith in
+    ap (λ n. take n xs) next ∙ take_one i xs x inside ∙ ap (λ y. take i xs ++ y ∷ []) (sym is)
 
 pub take_all : {A : Type 0} (i : ℕ) (xs : List A) → length xs ≤ i → take i xs ≡ xs
 take_all zero [] past = refl

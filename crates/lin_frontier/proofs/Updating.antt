@@ -1,5 +1,5 @@
 -- Open updates that are placed in turn, of crashed ones that have the same call the first alone.
-use Rattle.std.proofs.Common.{◌≡◌, ℕ, suc, ◌+◌, ◌<◌, ◌≤◌, Bool, List, [], ◌∷◌, ◌++◌, length, Contains, IsTrue, inl, inr, refl, sym, ap, subst, ◌∙◌, arith, get_or, take}
+use Rattle.std.proofs.Common.{◌≡◌, ℕ, ◌+◌, ◌<◌, ◌≤◌, Bool, List, [], ◌∷◌, ◌++◌, length, Contains, IsTrue, inl, inr, refl, sym, ap, subst, ◌∙◌, arith, get_or, take}
 use Rattle.std.proofs.lemmas.List.Elements.{Contains-push, Contains-push_cases, Contains-append_left}
 use Rattle.lin_history.specs.declared.calls.Call.{Call}
 use Rattle.lin_history.specs.declared.calls.Reply.{Reply}
@@ -7,7 +7,7 @@ use Rattle.lin_order.specs.declared.placed.Placed.{Placed}
 use Rattle.lin_frontier.specs.declared.pending.Open.{Open}
 use Rattle.lin_frontier.specs.Placing.{IsAbsent, IsTried, insert_pair}
 use Rattle.lin_frontier.specs.Searching.{AreUpdates, IsPlacedLike, PlacesIfUpdate, StandsFor}
-use Rattle.lin_frontier.proofs.Trying.{take_all, take_one}
+use Rattle.lin_frontier.proofs.Trying.{take_all, take_next}
 
 -- what stands for one that stands for the operation
 stands_through : (t s o : Open) → StandsFor t s → IsTrue s.crashed → IsTrue o.crashed → s.call ≡ o.call → StandsFor t o
@@ -79,20 +79,15 @@ module _ {S : Type 0} (step : S → Call → S → Reply → Type 0) (observes :
           }
 
   module _ (xs : List Open) (i : ℕ) where
-    one_longer : (o : Open) → i < length xs → o ≡ get_or xs i o → take (i + 1) xs ≡ take i xs ++ o ∷ []
-    one_longer o inside is =
-        let next : i + 1 ≡ suc i = omega arith in
-        ap (λ n. take n xs) next ∙ take_one i xs o inside ∙ ap (λ q. take i xs ++ q ∷ []) (sym is)
-
     pub updates_next : (o : Open) (out now : List ((S × List (ℕ × Reply)) × Placed)) → i < length xs → o ≡ get_or xs i o → IsTried (PlacesIfUpdate step observes o c) out now → AreUpdates step observes (take i xs) c out
         → AreUpdates step observes (take (i + 1) xs) c now
-    updates_next o out now inside is one all = subst (λ l. AreUpdates step observes l c now) (sym (one_longer o inside is)) (updates_push (take i xs) o out now one all)
+    updates_next o out now inside is one all = subst (λ l. AreUpdates step observes l c now) (sym (take_next xs i o inside is)) (updates_push (take i xs) o out now one all)
 
     pub updates_pass : (o : Open) (out : List ((S × List (ℕ × Reply)) × Placed)) → i < length xs → o ≡ get_or xs i o
         → IsTrue o.crashed × (t : Open) × Contains (take i xs) t × IsTrue t.crashed × (t.call ≡ o.call) × IsAbsent t.process c.1 → AreUpdates step observes (take i xs) c out
         → AreUpdates step observes (take (i + 1) xs) c out
     updates_pass o out inside is waits all =
-        subst (λ l. AreUpdates step observes l c out) (sym (one_longer o inside is)) (updates_skip (take i xs) o out waits.0 waits.1 waits.2 waits.3 waits.4 waits.5 all)
+        subst (λ l. AreUpdates step observes l c out) (sym (take_next xs i o inside is)) (updates_skip (take i xs) o out waits.0 waits.1 waits.2 waits.3 waits.4 waits.5 all)
 
     pub updates_full : (out : List ((S × List (ℕ × Reply)) × Placed)) → length xs ≤ i → AreUpdates step observes (take i xs) c out → AreUpdates step observes xs c out
     updates_full out past all = subst (λ l. AreUpdates step observes l c out) (take_all i xs past) all
