@@ -1,7 +1,7 @@
 -- Searching the ways of members for the reply of an operation that completes.
 use Rattle.std.proofs.Common.{◌≡◌, ◌⊎◌, ℕ, ◌+◌, ◌<◌, ◌≤◌, List, [], ◌∷◌, ◌++◌, length, length-append, map, ◌-◌, Contains, All, inl, inr, sym, ap, subst, ◌∙◌, arith, get_or, Option, Some, None, Bool, true, false, IfSome, IfNone}
 use Rattle.std.proofs.lemmas.List.{append-nil, get_or_append_left, get_or-append_right, get_or-map, length-map}
-use Rattle.std.proofs.lemmas.List.Elements.{All-append, All-weaker, All-contains, Contains-get_or, Contains-push, Contains-push_cases, Contains-append_left}
+use Rattle.std.proofs.lemmas.List.Elements.{All-append, All-pop, All-weaker, All-contains, Contains-get_or, Contains-push, Contains-push_cases, Contains-append_left}
 use Rattle.std.proofs.lemmas.Bool.{cases_lt}
 use Rattle.lin_history.specs.declared.calls.Call.{Call}
 use Rattle.lin_history.specs.declared.calls.Reply.{Reply}
@@ -68,20 +68,44 @@ module _ {S : Type 0} (step : S → Call → S → Reply → Type 0) (observes :
       | inr r ↦ inr (record { update = r.update; steps = r.steps; placed = r.placed; offers = r.offers; begins = begins_still nodes now m.1 n.1 (record { at = operation.at; reply = reply }) grown r.begins })
     ]
 
-    -- the states that the update returns to, of which `rest` are still to be looked at
-    pub record IsReturning (m : Member S × Path) (first nodes : List (ℕ × (Placed × Option ℕ))) (old : List (Member S × Path)) (rest : List S) (now : List (Member S × Path)) : Type 0 where
+    -- the steps of the update, of which `rest` are still to be looked at
+    pub record IsReturning (m : Member S × Path) (first nodes : List (ℕ × (Placed × Option ℕ))) (old : List (Member S × Path)) (rest : List (S × Reply)) (now : List (Member S × Path)) : Type 0 where
       pub nodes_grown : IsGrown first nodes
-      pub rest_of : (s : S) → Contains rest s → step m.0.state operation.call s reply
+      pub rest_of : All (λ a. step m.0.state operation.call a.0 a.1) rest
       pub finding : IsFinding step observes operation reply pending nodes m old now
-      pub taken : (s : S) → step m.0.state operation.call s reply → Contains rest s ⊎ ((n : Member S × Path) × Contains now n × (n.0.state ≡ s) × (n.0.placed ≡ m.0.placed) × HasBehind step observes pending m.0 n.0)
+      pub taken : (s : S) → step m.0.state operation.call s reply → Contains rest (s, reply) ⊎ ((n : Member S × Path) × Contains now n × (n.0.state ≡ s) × (n.0.placed ≡ m.0.placed) × HasBehind step observes pending m.0 n.0)
 
     module _ (m : Member S × Path) (first : List (ℕ × (Placed × Option ℕ))) (old : List (Member S × Path)) where
-      pub returning_step : (more rest : List S) (nodes after : List (ℕ × (Placed × Option ℕ))) (now then' : List (Member S × Path)) (s : S) (n : Member S × Path) → more ≡ rest ++ s ∷ []
-          → IsGrown nodes after → BeginsRound after m.1 n.1 (record { at = operation.at; reply = reply }) → n.0.state ≡ s → n.0.placed ≡ m.0.placed → AreBehind step observes pending m n.0.offers
+      pub returning_start : (rest : List (S × Reply)) → All (λ a. step m.0.state operation.call a.0 a.1) rest → ((a : S × Reply) → step m.0.state operation.call a.0 a.1 → Contains rest a) → IsReturning m first first old rest old
+      returning_start rest all each = record {
+        nodes_grown = not_grown first;
+        rest_of = all;
+        finding = record { kept = λ k there. there; sound = λ k there. inl there };
+        taken = λ s steps. inl (each (s, reply) steps);
+      }
+
+      -- a step with another reply
+      pub returning_skip : (more rest : List (S × Reply)) (nodes : List (ℕ × (Placed × Option ℕ))) (now : List (Member S × Path)) (a : S × Reply) → more ≡ rest ++ a ∷ [] → (a.1 ≡ reply → ⊥)
+          → IsReturning m first nodes old more now → IsReturning m first nodes old rest now
+      returning_skip more rest nodes now a popped other h = record {
+        nodes_grown = h.nodes_grown;
+        rest_of = (All-pop (λ (b : S × Reply). step m.0.state operation.call b.0 b.1) more rest (Some a) popped h.rest_of).0;
+        finding = h.finding;
+        taken = λ t steps. elim (h.taken t steps) [
+          | inl in_more ↦ elim (Contains-push_cases rest a (t, reply) (subst (λ l. Contains l (t, reply)) popped in_more)) [
+            | inl in_rest ↦ inl in_rest
+            | inr same ↦ absurd (other (ap (λ (b : S × Reply). b.1) same))
+          ]
+          | inr found ↦ inr found
+        ];
+      }
+
+      pub returning_step : (more rest : List (S × Reply)) (nodes after : List (ℕ × (Placed × Option ℕ))) (now then' : List (Member S × Path)) (a : S × Reply) (n : Member S × Path) → more ≡ rest ++ a ∷ [] → a.1 ≡ reply
+          → IsGrown nodes after → BeginsRound after m.1 n.1 (record { at = operation.at; reply = reply }) → n.0.state ≡ a.0 → n.0.placed ≡ m.0.placed → AreBehind step observes pending m n.0.offers
           → observes operation.call ≡ false → then' ≡ now ++ n ∷ [] → IsReturning m first nodes old more now → IsReturning m first after old rest then'
-      returning_step more rest nodes after now then' s n popped grown begins state placed behind update pushed h = record {
+      returning_step more rest nodes after now then' a n popped given grown begins state placed behind update pushed h = record {
         nodes_grown = grown_grown first nodes after h.nodes_grown grown;
-        rest_of = λ t there. h.rest_of t (subst (λ l. Contains l t) (sym popped) (Contains-append_left rest (s ∷ []) t there));
+        rest_of = parts.0;
         finding = record {
           kept = λ k there. still k (h.finding.kept k there);
           sound = λ k there. elim (Contains-push_cases now n k (subst (λ l. Contains l k) pushed there)) [
@@ -91,7 +115,7 @@ module _ {S : Type 0} (step : S → Call → S → Reply → Type 0) (observes :
             ]
             | inr same ↦ inr (subst (IsCompleted step observes operation reply pending after m) same (inr (record {
               update = update;
-              steps = subst (λ t. step m.0.state operation.call t reply) (sym state) (h.rest_of s (subst (λ l. Contains l s) (sym popped) (Contains-push rest s)));
+              steps = subst (λ t. step m.0.state operation.call t reply) (sym state) (subst (step m.0.state operation.call a.0) given parts.1);
               placed = placed;
               offers = from_behind m n.0 behind;
               begins = begins;
@@ -99,23 +123,26 @@ module _ {S : Type 0} (step : S → Call → S → Reply → Type 0) (observes :
           ];
         };
         taken = λ t steps. elim (h.taken t steps) [
-          | inl in_more ↦ elim (Contains-push_cases rest s t (subst (λ l. Contains l t) popped in_more)) [
+          | inl in_more ↦ elim (Contains-push_cases rest a (t, reply) (subst (λ l. Contains l (t, reply)) popped in_more)) [
             | inl in_rest ↦ inl in_rest
-            | inr same ↦ inr (n, subst (λ l. Contains l n) (sym pushed) (Contains-push now n), state ∙ same, placed, has_behind m n.0 behind)
+            | inr same ↦ inr (n, subst (λ l. Contains l n) (sym pushed) (Contains-push now n), state ∙ ap (λ (b : S × Reply). b.0) same, placed, has_behind m n.0 behind)
           ]
           | inr found ↦ inr (found.0, still found.0 found.1, found.2, found.3, found.4)
         ];
       }
         where
+          parts : All (λ b. step m.0.state operation.call b.0 b.1) rest × step m.0.state operation.call a.0 a.1
+          parts = All-pop (λ (b : S × Reply). step m.0.state operation.call b.0 b.1) more rest (Some a) popped h.rest_of
+
           still : (k : Member S × Path) → Contains now k → Contains then' k
           still k there = subst (λ l. Contains l k) (sym pushed) (Contains-append_left now (n ∷ []) k there)
 
       -- the same of a member that was put together
-      pub returning_made : (more rest : List S) (nodes after : List (ℕ × (Placed × Option ℕ))) (now then' : List (Member S × Path)) (s : S) (n : Member S × Path) (c d : S × List (ℕ × Reply)) (offers : List (ℕ × (ℕ × Reply)))
-          → more ≡ rest ++ s ∷ [] → IsGrown nodes after → BeginsRound after m.1 n.1 (record { at = operation.at; reply = reply }) → n.0 ≡ record { state = d.0; placed = d.1; offers = offers } → d ≡ (s, c.1)
+      pub returning_made : (more rest : List (S × Reply)) (nodes after : List (ℕ × (Placed × Option ℕ))) (now then' : List (Member S × Path)) (a : S × Reply) (n : Member S × Path) (c d : S × List (ℕ × Reply)) (offers : List (ℕ × (ℕ × Reply)))
+          → more ≡ rest ++ a ∷ [] → a.1 ≡ reply → IsGrown nodes after → BeginsRound after m.1 n.1 (record { at = operation.at; reply = reply }) → n.0 ≡ record { state = d.0; placed = d.1; offers = offers } → d ≡ (a.0, c.1)
           → c ≡ (m.0.state, m.0.placed) → AreBehind step observes pending m offers → observes operation.call ≡ false → then' ≡ now ++ n ∷ [] → IsReturning m first nodes old more now → IsReturning m first after old rest then'
-      returning_made more rest nodes after now then' s n c d offers popped grown begins is config same behind update pushed h =
-          returning_step more rest nodes after now then' s n popped grown begins
+      returning_made more rest nodes after now then' a n c d offers popped given grown begins is config same behind update pushed h =
+          returning_step more rest nodes after now then' a n popped given grown begins
           (ap (λ (k : Member S). k.state) is ∙ ap (λ (k : S × List (ℕ × Reply)). k.0) config)
           (ap (λ (k : Member S). k.placed) is ∙ ap (λ (k : S × List (ℕ × Reply)). k.1) config ∙ ap (λ (k : S × List (ℕ × Reply)). k.1) same)
           (subst (AreBehind step observes pending m) (sym (ap (λ (k : Member S). k.offers) is)) behind) update pushed h
@@ -256,15 +283,15 @@ module _ {S : Type 0} (step : S → Call → S → Reply → Type 0) (observes :
                 }
 
         -- the one or the other
-        pub working_next : {U : Type 0} (items_of : U → List ((S × List (ℕ × Reply)) × Placed)) (o : Option (U × List (ℕ × (ℕ × Reply)))) (path : Path) (last : List (ℕ × (Placed × Option ℕ))) (now : List (Member S × Path)) → path ≡ m.1
-            → IfNone o (IsDone observes operation pending found m.0) → IfSome o (λ _. IsPassed step observes operation reply pending found m) → IfSome o (λ u. AreBehind step observes pending m u.1)
-            → IfSome o (λ u. AreUpdates step observes pending (m.0.state, m.0.placed) (items_of u.0)) → IsGrown after last
-            → IfNone o ((now ≡ visited) × (last ≡ after)) → IfSome o (λ u. IsVisiting observes pending (items_of u.0) u.1 path last visited now)
+        pub working_next : (updates : List ((S × List (ℕ × Reply)) × Placed)) (o : Option (List (ℕ × (ℕ × Reply)))) (path : Path) (last : List (ℕ × (Placed × Option ℕ))) (now : List (Member S × Path)) → path ≡ m.1
+            → IfNone o (IsDone observes operation pending found m.0) → IfSome o (λ _. IsPassed step observes operation reply pending found m) → IfSome o (AreBehind step observes pending m)
+            → IfSome o (λ _. AreUpdates step observes pending (m.0.state, m.0.placed) updates) → IsGrown after last
+            → IfNone o ((now ≡ visited) × (last ≡ after)) → IfSome o (λ offers. IsVisiting observes pending updates offers path last visited now)
             → IsWorking starts first last (at + 1) now found
-        working_next items_of None path last now same done passed behind tried more_nodes still visiting =
+        working_next updates None path last now same done passed behind tried more_nodes still visiting =
             subst (λ l. IsWorking starts first last (at + 1) l found) (sym still.0) (subst (λ l. IsWorking starts first l (at + 1) visited found) (sym still.1) (working_done done))
-        working_next items_of (Some u) path last now same done passed behind tried more_nodes still visiting =
-            working_on last now (items_of u.0) u.1 passed behind tried more_nodes (subst (λ q. IsVisiting observes pending (items_of u.0) u.1 q last visited now) same visiting)
+        working_next updates (Some offers) path last now same done passed behind tried more_nodes still visiting =
+            working_on last now updates offers passed behind tried more_nodes (subst (λ q. IsVisiting observes pending updates offers q last visited now) same visiting)
 
       pub working_end : (nodes : List (ℕ × (Placed × Option ℕ))) (at : ℕ) (visited out : List (Member S × Path)) → length visited ≤ at → IsWorking starts first nodes at visited out
           → IsSearchOf step observes operation reply pending nodes starts out

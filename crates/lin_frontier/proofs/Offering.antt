@@ -55,6 +55,10 @@ giving_end {S} step state o round old rest now none h = record {
   ];
 }
 
+-- where there is nothing to offer
+pub offering_nothing : (Q : ℕ × Reply → Type 0) (round : ℕ) (now : List (ℕ × (ℕ × Reply))) → ((x : ℕ × Reply) → Q x → ⊥) → IsOffering Q round now now
+offering_nothing Q round now never = record { kept = λ x there. there; sound = λ x there. inl there; complete = λ x q. absurd (never x q) }
+
 -- of one of the operations
 abbrev pub IsOver : {A X : Type 0} → (A → X → Type 0) → List A → X → Type 0
 IsOver {A} Q xs x = (o : A) × Contains xs o × Q o x

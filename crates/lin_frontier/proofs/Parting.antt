@@ -1,13 +1,18 @@
--- Members taken apart by their states, and what is kept of the parts.
-use Rattle.std.proofs.Common.{◌≡◌, ◌⊎◌, ◌-◌, Bool, true, false, true≢false, List, [], ◌∷◌, ◌++◌, length, length-append, Contains, AllPairs, get_or, inl, inr, refl, sym, ap, subst, ◌∙◌, arith}
+-- Members taken apart by their keys, and what is kept of the parts.
+use Rattle.std.proofs.Common.{◌≡◌, ◌⊎◌, ◌-◌, ◌/◌, ◌^◌, ℕ, nat_eq, Bool, true, false, true≢false, List, [], ◌∷◌, ◌++◌, length, length-append, Contains, AllPairs, get_or, inl, inr, refl, sym, ap, subst, ◌∙◌, arith}
 use Rattle.std.proofs.lemmas.Bool.{cases_lt}
 use Rattle.std.proofs.lemmas.List.{get_or_append_left, get_or-append_right}
 use Rattle.std.proofs.lemmas.List.Elements.{Contains-append_cases, Contains-append_left, Contains-append_right, Contains-get_or, Contains-push, Contains-push_cases}
+use Rattle.std.specs.List.{fold}
+use Rattle.std.specs.Hash as fed
+use Rattle.std.specs.Hash.FoldHasher.{initial, write, finish}
+use Rattle.std.specs.Int.Bits.{bit_and}
 use Rattle.lin_history.specs.declared.calls.Call.{Call}
 use Rattle.lin_frontier.specs.declared.pending.Open.{Open}
 use Rattle.lin_frontier.specs.Members.{Member}
-use Rattle.lin_frontier.specs.Parts.{IsParted}
+use Rattle.lin_frontier.specs.Parts.{shows, IsParted}
 use Rattle.lin_frontier.specs.Searching.{DominatesIn, IsPruned}
+use Rattle.lin_frontier.proofs.Masking.{same_bits}
 
 -- pairs of two lists one after the other
 pub pairs_joined : {A : Type 0} (R : A → A → Type 0) (xs ys : List A) → AllPairs R xs → AllPairs R ys → ((x y : A) → Contains xs x → Contains ys y → R x y) → AllPairs R (xs ++ ys)
@@ -25,13 +30,13 @@ pairs_joined R xs ys first second across i j d below inside =
       ])
     ]
 
-module _ {S P : Type 0} (test : S → Bool) where
+module _ {S P : Type 0} (test : Member S × P → Bool) where
   -- of the members, `rest` are still to be told apart
   pub record IsParting (members rest ones zeros : List (Member S × P)) : Type 0 where
     pub rest_of : (m : Member S × P) → Contains rest m → Contains members m
     pub each : (m : Member S × P) → Contains members m → Contains rest m ⊎ (Contains ones m ⊎ Contains zeros m)
-    pub ones_from : (m : Member S × P) → Contains ones m → Contains members m × (test m.0.state ≡ true)
-    pub zeros_from : (m : Member S × P) → Contains zeros m → Contains members m × (test m.0.state ≡ false)
+    pub ones_from : (m : Member S × P) → Contains ones m → Contains members m × (test m ≡ true)
+    pub zeros_from : (m : Member S × P) → Contains zeros m → Contains members m × (test m ≡ false)
 
   pub parting_start : (members ones zeros : List (Member S × P)) → ones ≡ [] → zeros ≡ [] → IsParting members members ones zeros
   parting_start members ones zeros none empty = record {
@@ -48,7 +53,7 @@ module _ {S P : Type 0} (test : S → Bool) where
     still : (m : Member S × P) → Contains rest m → Contains members m
     still m there = h.rest_of m (subst (λ l. Contains l m) (sym popped) (Contains-append_left rest (x ∷ []) m there))
 
-    pub parting_one : (now : List (Member S × P)) → now ≡ ones ++ x ∷ [] → test x.0.state ≡ true → IsParting members rest now zeros
+    pub parting_one : (now : List (Member S × P)) → now ≡ ones ++ x ∷ [] → test x ≡ true → IsParting members rest now zeros
     parting_one now pushed shown = record {
       rest_of = still;
       each = λ m there. elim (h.each m there) [
@@ -63,12 +68,12 @@ module _ {S P : Type 0} (test : S → Bool) where
       ];
       ones_from = λ m there. elim (Contains-push_cases ones x m (subst (λ l. Contains l m) pushed there)) [
         | inl before ↦ h.ones_from m before
-        | inr is ↦ subst (λ (k : Member S × P). Contains members k × (test k.0.state ≡ true)) is (has, shown)
+        | inr is ↦ subst (λ (k : Member S × P). Contains members k × (test k ≡ true)) is (has, shown)
       ];
       zeros_from = h.zeros_from;
     }
 
-    pub parting_zero : (now : List (Member S × P)) → now ≡ zeros ++ x ∷ [] → test x.0.state ≡ false → IsParting members rest ones now
+    pub parting_zero : (now : List (Member S × P)) → now ≡ zeros ++ x ∷ [] → test x ≡ false → IsParting members rest ones now
     parting_zero now pushed hidden = record {
       rest_of = still;
       each = λ m there. elim (h.each m there) [
@@ -84,7 +89,7 @@ module _ {S P : Type 0} (test : S → Bool) where
       ones_from = h.ones_from;
       zeros_from = λ m there. elim (Contains-push_cases zeros x m (subst (λ l. Contains l m) pushed there)) [
         | inl before ↦ h.zeros_from m before
-        | inr is ↦ subst (λ (k : Member S × P). Contains members k × (test k.0.state ≡ false)) is (has, hidden)
+        | inr is ↦ subst (λ (k : Member S × P). Contains members k × (test k ≡ false)) is (has, hidden)
       ];
     }
 
@@ -98,10 +103,11 @@ module _ {S P : Type 0} (test : S → Bool) where
     zeros_from = h.zeros_from;
   }
 
-  -- what is kept of both parts is kept of all, since no member dominates one of another state
-  pub pruned_joined : (observes : Call → Bool) (pending : List Open) (members ones zeros kept others out : List (Member S × P)) → IsParted test members ones zeros → IsPruned observes pending ones kept
+  -- what is kept of both parts is kept of all, since no member dominates one of the other part
+  pub pruned_joined : (observes : Call → Bool) (pending : List Open) → ((m n : Member S × P) → DominatesIn observes pending m.0 n.0.state n.0.placed n.0.offers → test m ≡ test n)
+      → (members ones zeros kept others out : List (Member S × P)) → IsParted test members ones zeros → IsPruned observes pending ones kept
       → IsPruned observes pending zeros others → out ≡ kept ++ others → IsPruned observes pending members out
-  pruned_joined observes pending members ones zeros kept others out parted first second is = subst (IsPruned observes pending members) (sym is) (record {
+  pruned_joined observes pending alike members ones zeros kept others out parted first second is = subst (IsPruned observes pending members) (sym is) (record {
     from = λ m there. elim (Contains-append_cases kept others m there) [
       | inl one ↦ (parted.ones_from m (first.from m one)).0
       | inr zero ↦ (parted.zeros_from m (second.from m zero)).0
@@ -111,6 +117,13 @@ module _ {S P : Type 0} (test : S → Bool) where
       | inr zero ↦ let by = second.covered m zero in (by.0, Contains-append_right kept others by.0 by.1, by.2)
     ];
     apart = pairs_joined (λ m n. (DominatesIn observes pending m.0 n.0.state n.0.placed n.0.offers → ⊥) × (DominatesIn observes pending n.0 m.0.state m.0.placed m.0.offers → ⊥)) kept others first.apart second.apart (λ m n one zero.
-        let differ : m.0.state ≡ n.0.state → ⊥ = λ same. true≢false (sym (parted.ones_from m (first.from m one)).1 ∙ ap test same ∙ (parted.zeros_from n (second.from n zero)).1) in
-        (λ d. differ d.same, λ d. differ (sym d.same)));
+        let differ : test m ≡ test n → ⊥ = λ same. true≢false (sym (parted.ones_from m (first.from m one)).1 ∙ same ∙ (parted.zeros_from n (second.from n zero)).1) in
+        (λ d. differ (alike m n d), λ d. differ (sym (alike n m d))));
   })
+
+-- members of which one dominates the other have the same key
+pub same_shows : {S P : Type 0} (input : S → List (List ℕ)) (observes : Call → Bool) (pending : List Open) (bit : ℕ) (m n : Member S × P) → DominatesIn observes pending m.0 n.0.state n.0.placed n.0.offers
+    → shows input pending bit m ≡ shows input pending bit n
+same_shows input observes pending bit m n d =
+    let bits = same_bits pending m.0.placed n.0.placed d.part d.rest in
+    ap (λ k. nat_eq (bit_and (k / 2 ^ bit) 1) 1) (λ i. finish (fold write (fold write initial (input (d.same i))) (fed.u64 (bits i))))

@@ -21,11 +21,11 @@ use Rattle.lin_frontier.specs.Searching.{is_crashed, is_observing, is_watching, 
 use Rattle.lin_frontier.proofs.Awaiting.{pending_crashed, crashed_pending, pending_watching, watching_pending}
 use Rattle.lin_frontier.proofs.Inserting.{absent_from, none_from, kept_by}
 
-and_left : (a b : Bool) → (a && b) ≡ true → a ≡ true
+pub and_left : (a b : Bool) → (a && b) ≡ true → a ≡ true
 and_left true b h = refl
 and_left false b h = absurd (true≢false (sym h))
 
-and_right : (a b : Bool) → (a && b) ≡ true → b ≡ true
+pub and_right : (a b : Bool) → (a && b) ≡ true → b ≡ true
 and_right true b h = h
 and_right false b h = absurd (true≢false (sym h))
 
@@ -42,7 +42,7 @@ true_not true h p = true≢false (sym h)
 true_not false h p = true≢false (sym p)
 
 -- one of which the test is true, and the other way round
-any_true : {A : Type 0} (f : A → Bool) (xs : List A) → list_any f xs ≡ true → (x : A) × Contains xs x × (f x ≡ true)
+pub any_true : {A : Type 0} (f : A → Bool) (xs : List A) → list_any f xs ≡ true → (x : A) × Contains xs x × (f x ≡ true)
 any_true f [] h = absurd (true≢false (sym h))
 any_true {A} f (y ∷ ys) h = by (f y) refl (any_true f ys)
   where
@@ -52,6 +52,12 @@ any_true {A} f (y ∷ ys) h = by (f y) refl (any_true f ys)
 
 true_any : {A : Type 0} (f : A → Bool) (xs : List A) (x : A) → Contains xs x → f x ≡ true → list_any f xs ≡ true
 true_any f xs x there is = list_any_at f xs there.0 x there.1 (ap f there.2 ∙ is)
+
+-- nobody waits for the reply of an operation that crashed
+pub crashed_waits_not : (observes : Call → Bool) (pending : List Open) (o : Open) → Contains pending o → o.crashed ≡ true → is_watching observes pending o.process ≡ true → ⊥
+crashed_waits_not observes pending o there crashed waits =
+    true_not (is_crashed pending o.process) (and_right (is_observing observes pending o.process) (not (is_crashed pending o.process)) waits)
+    (true_any (λ (k : Open). nat_eq k.process o.process && k.crashed) pending o there (and_both (nat_eq o.process o.process) o.crashed ((Decides-nat_eq o.process o.process).1 refl) crashed))
 
 module _ (functions : ℤ → Name → Bool) (h : List Event) (pending : List Open) (opened : IsPending h pending) (unique : EndsAreUnique) (alternates : IsAlternating functions h) where
   pub crashed_to : (q : ℕ) → is_crashed pending q ≡ true → HasCrashed h q

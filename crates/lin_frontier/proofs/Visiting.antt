@@ -1,5 +1,5 @@
--- Steps with one reply, and members that are taken in where none that was visited dominates them: both from a list, from the last on.
-use Rattle.std.proofs.Common.{◌≡◌, ◌⊎◌, ℕ, ◌+◌, List, [], ◌∷◌, ◌++◌, length, Contains, All, inl, inr, refl, sym, ap, subst, ◌∙◌, arith, append_assoc, Option, Some, None, Bool, true, false, cond, slice_get, true≢false}
+-- Steps among which a reply is looked for, and members that are taken in where none that was visited dominates them: both from a list, from the last on.
+use Rattle.std.proofs.Common.{◌≡◌, ◌⊎◌, ℕ, ◌+◌, List, [], ◌∷◌, ◌++◌, length, Contains, All, inl, inr, refl, sym, ap, subst, ◌∙◌, arith, append_assoc, Option, Some, None, Bool, slice_get}
 use Rattle.std.proofs.lemmas.List.{append-nil}
 use Rattle.std.proofs.lemmas.List.Elements.{All-pop, All-push, All-weaker, Contains-push, Contains-push_cases, Contains-append_left}
 use Rattle.lin_history.specs.declared.calls.Call.{Call}
@@ -13,64 +13,27 @@ use Rattle.lin_frontier.specs.Searching.{IsNodeOf, BeginsRound, DominatesIn, IsV
 use Rattle.lin_frontier.proofs.Absorbing.{get_more}
 use Rattle.lin_frontier.proofs.Undominated.{above_itself}
 
--- of the steps that P holds of, `rest` are still to be looked at
-pub record IsSifting {S : Type 0} (P : S × Reply → Type 0) (reply : Reply) (rest : List (S × Reply)) (found : List S) : Type 0 where
+-- of the steps that P holds of, those with the reply are among `rest`
+pub record IsSifting {S : Type 0} (P : S × Reply → Type 0) (reply : Reply) (rest : List (S × Reply)) : Type 0 where
   pub rest_of : All P rest
-  pub sound : (s : S) → Contains found s → P (s, reply)
-  pub complete : (s : S) → P (s, reply) → Contains rest (s, reply) ⊎ Contains found s
+  pub complete : (s : S) → P (s, reply) → Contains rest (s, reply)
 
 module _ {S : Type 0} (P : S × Reply → Type 0) (reply : Reply) where
-  pub sifting_start : (rest : List (S × Reply)) (found : List S) → found ≡ [] → All P rest → ((a : S × Reply) → P a → Contains rest a) → IsSifting P reply rest found
-  sifting_start rest found none all each = record {
-    rest_of = all;
-    sound = λ s there. absurd (let empty = ap length none in let inside = there.1 in omega arith);
-    complete = λ s p. inl (each (s, reply) p);
-  }
-
-  module _ (more rest : List (S × Reply)) (found : List S) (a : S × Reply) (popped : more ≡ rest ++ a ∷ []) (h : IsSifting P reply more found) where
-    cases : (s : S) → Contains more (s, reply) → Contains rest (s, reply) ⊎ (a ≡ (s, reply))
-    cases s there = Contains-push_cases rest a (s, reply) (subst (λ l. Contains l (s, reply)) popped there)
-
-    pub sifting_skip : (a.1 ≡ reply → ⊥) → IsSifting P reply rest found
+  module _ (more rest : List (S × Reply)) (a : S × Reply) (popped : more ≡ rest ++ a ∷ []) (h : IsSifting P reply more) where
+    pub sifting_skip : (a.1 ≡ reply → ⊥) → IsSifting P reply rest
     sifting_skip other = record {
       rest_of = (All-pop P more rest (Some a) popped h.rest_of).0;
-      sound = h.sound;
-      complete = λ s p. elim (h.complete s p) [
-        | inl in_more ↦ elim (cases s in_more) [
-          | inl in_rest ↦ inl in_rest
-          | inr same ↦ absurd (other (ap (λ (b : S × Reply). b.1) same))
-        ]
-        | inr there ↦ inr there
+      complete = λ s p. elim (Contains-push_cases rest a (s, reply) (subst (λ l. Contains l (s, reply)) popped (h.complete s p))) [
+        | inl in_rest ↦ in_rest
+        | inr same ↦ absurd (other (ap (λ (b : S × Reply). b.1) same))
       ];
     }
 
-    pub sifting_push : (now : List S) → a.1 ≡ reply → now ≡ found ++ a.0 ∷ [] → IsSifting P reply rest now
-    sifting_push now is pushed =
-        let parts = All-pop P more rest (Some a) popped h.rest_of in
-        record {
-          rest_of = parts.0;
-          sound = λ s there. elim (Contains-push_cases found a.0 s (subst (λ l. Contains l s) pushed there)) [
-            | inl before ↦ h.sound s before
-            | inr same ↦ subst P (λ i. (same i, is i)) parts.1
-          ];
-          complete = λ s p. elim (h.complete s p) [
-            | inl in_more ↦ elim (cases s in_more) [
-              | inl in_rest ↦ inl in_rest
-              | inr same ↦ inr (subst (λ l. Contains l s) (sym pushed) (subst (Contains (found ++ a.0 ∷ [])) (ap (λ (b : S × Reply). b.0) same) (Contains-push found a.0)))
-            ]
-            | inr there ↦ inr (subst (λ l. Contains l s) (sym pushed) (Contains-append_left found (a.0 ∷ []) s there))
-          ];
-        }
+    pub sifting_hit : a.1 ≡ reply → P (a.0, reply)
+    sifting_hit is = subst P (λ i. (a.0, is i)) (All-pop P more rest (Some a) popped h.rest_of).1
 
-    pub sifting_either : (now : List S) (b : Bool) → (b ≡ true → a.1 ≡ reply) → (a.1 ≡ reply → b ≡ true) → now ≡ cond b (found ++ a.0 ∷ []) found → IsSifting P reply rest now
-    sifting_either now true is so pushed = sifting_push now (is refl) pushed
-    sifting_either now false is so same = subst (IsSifting P reply rest) (sym same) (sifting_skip (λ e. true≢false (sym (so e))))
-
-  pub sifting_end : (rest : List (S × Reply)) (found : List S) → length rest ≡ 0 → IsSifting P reply rest found → (s : S) → P (s, reply) → Contains found s
-  sifting_end rest found none h s p = elim (h.complete s p) [
-    | inl in_rest ↦ absurd (let inside = in_rest.1 in omega arith)
-    | inr there ↦ there
-  ]
+  pub sifting_end : (rest : List (S × Reply)) → length rest ≡ 0 → IsSifting P reply rest → (s : S) → P (s, reply) → ⊥
+  sifting_end rest none h s p = let there = h.complete s p in let inside = there.1 in absurd (omega arith)
 
 -- what was added to nodes before and after
 pub grown_grown : {A : Type 0} (a b c : List A) → IsGrown a b → IsGrown b c → IsGrown a c

@@ -1,9 +1,18 @@
 -- Bits of processes: words of private contracts.
-use Rattle.std.specs.Prelude.{ℕ, ◌%◌, ◌^◌, List, [], ◌∷◌}
+use Rattle.std.specs.Prelude.{ℕ, ◌%◌, ◌^◌, List, [], ◌∷◌, filter, map}
 use Rattle.std.specs.Int.Bits.{bit_or}
 use Rattle.lin_history.specs.declared.calls.Reply.{Reply}
+use Rattle.lin_frontier.specs.declared.pending.Open.{Open}
 
--- the bits of the processes of the pairs; every 64th process has the same
+-- the bits of the processes; every 64th process has the same
+abbrev pub bits_of : List ℕ → ℕ
+bits_of [] = 0
+bits_of (p ∷ ps) = bit_or (2 ^ (p % 64)) (bits_of ps)
+
+-- those of the pairs
 abbrev pub mask_of : List (ℕ × Reply) → ℕ
-mask_of [] = 0
-mask_of (x ∷ xs) = bit_or (2 ^ (x.0 % 64)) (mask_of xs)
+mask_of pairs = bits_of (map (λ x. x.0) pairs)
+
+-- those of the operations that crashed
+abbrev pub crashed_bits : List Open → ℕ
+crashed_bits pending = bits_of (map (λ o. o.process) (filter (λ o. o.crashed) pending))

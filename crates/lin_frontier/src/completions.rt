@@ -1,5 +1,5 @@
 //! What members lead to when an operation completes: the ways of placing open updates until it can have its reply.
-ghost use Rattle.std.specs.Prelude.{◌≡◌, ◌⊎◌, if◌then◌else◌, ◌∷◌, ◌++◌, ◌+◌, ◌*◌, [], ℕ, true, false, length, map, Contains, IfOk, IfSome, IfNone, OnOk};
+ghost use Rattle.std.specs.Prelude.{◌≡◌, ◌⊎◌, ◌↔◌, if◌then◌else◌, IsTrue, ◌∷◌, ◌++◌, ◌+◌, ◌*◌, [], ℕ, true, false, length, map, Contains, IfOk, IfSome, IfNone, OnOk};
 ghost use Rattle.lin_history.specs.declared.calls.Reply.{Reply as ReplyOf};
 ghost use Rattle.lin_frontier.specs.Members.{Member as MemberOf};
 ghost use Rattle.lin_frontier.specs.declared.members.Path.{Path as PathOf};
@@ -12,7 +12,7 @@ use crate::configs::Config;
 use crate::exchanges::waits_for_like;
 use crate::members::{Member, Path, advanced, answered, placed_at};
 use crate::offers::Offers;
-use crate::pending::Open;
+use crate::pending::{Open, Pending};
 use crate::placing::place_if_absent;
 use crate::rounds::RoundNodes;
 use crate::seen::Seen;
@@ -28,11 +28,8 @@ pub struct Completion<'a, O: SeqObject> {
     pub object: &'a O,
     pub operation: &'a Open,
     pub reply: &'a Reply,
-    pub pending: &'a [Open],
+    pub pending: &'a Pending<'a>,
 }
-
-/// Configurations with the operations that were placed to come to them, and what is on offer in all of them.
-type Found<O> = (Vec<(Config<<O as SeqObject>::State>, Placed)>, Offers);
 
 /// Puts the member last.
 pub fn push_member<S: Eq + Hash + Drop>(
@@ -105,27 +102,29 @@ impl<'a, O: SeqObject> Completion<'a, O> {
         Ok(())
     }
 
-    /// What placing one open update makes of the configuration. Crashed ones that have the same call are placed in the order
-    /// of their invocations, since nothing that follows tells them apart.
+    /// Puts in `out`, which is written over, what placing one open update makes of the configuration. Crashed ones that have
+    /// the same call are placed in the order of their invocations, since nothing that follows tells them apart.
     fn updates(
         &self,
         alloc: Global,
         config: &Config<O::State>,
+        out: &mut Vec<(Config<O::State>, Placed)>,
         steps: &mut Vec<(O::State, Reply)>,
         meter: &mut Meter,
-    ) -> Result<Vec<(Config<O::State>, Placed)>, OutOfMemory>
-        ensures placed { IfOk result (λ out. AreUpdates (O.step self.now.object.now) (O.observing self.now.object.now) self.now.pending.now config.now out.items) }
+    ) -> Result<(), OutOfMemory>
+        ensures placed { OnOk result (AreUpdates (O.step self.now.object.now) (O.observing self.now.object.now) self.now.pending.now config.now out.new.items) }
         ensures tried { IsTriedAtMost (length self.now.pending.now) meter.old meter.new }
     {
-        let mut out = Vec::new(alloc);
+        out.clear();
+        let operations = self.pending.as_slice();
         let mut at = 0;
-        while let Some(operation) = self.pending.get(at) {
-            if !waits_for_like(&self.pending[..at], config.placed(), operation) {
-                self.place_update(alloc, config, operation, &mut out, steps, meter)?;
+        while let Some(operation) = operations.get(at) {
+            if !waits_for_like(&operations[..at], config.placed(), operation) {
+                self.place_update(alloc, config, operation, out, steps, meter)?;
             }
             at += 1;
         }
-        Ok(out)
+        Ok(())
     }
 
     /// Takes in what neither a start nor a visited member dominates.
@@ -133,19 +132,18 @@ impl<'a, O: SeqObject> Completion<'a, O> {
         &self,
         alloc: Global,
         path: Path,
-        next: Vec<(Config<O::State>, Placed)>,
+        next: &mut Vec<(Config<O::State>, Placed)>,
         offers: &Offers,
         starts: &[&Member<O::State>],
-        seen: &mut Seen<O>,
+        seen: &mut Seen,
         visited: &mut Vec<Member<O::State>>,
         nodes: &mut RoundNodes,
     ) -> Result<(), OutOfMemory>
         ensures grown { IsGrown nodes.old nodes.new }
-        ensures visited { OnOk result (IsVisiting (O.observing self.now.object.now) self.now.pending.now next.items offers.now path nodes.new
+        ensures visited { OnOk result (IsVisiting (O.observing self.now.object.now) self.now.pending.now next.old.items offers.now path nodes.new
             (map (λ m. m.now) starts.now ++ visited.old.items) (map (λ m. m.now) starts.now ++ visited.new.items)) }
     {
-        let mut rest = next;
-        while let Some((config, placed)) = rest.pop() {
+        while let Some((config, placed)) = next.pop() {
             if seen.has_start(self.object, self.pending, starts, &config, offers) {
                 continue;
             }
@@ -154,31 +152,31 @@ impl<'a, O: SeqObject> Completion<'a, O> {
             }
             let member = advanced(alloc, config, offers, path, placed, nodes)?;
             push_member(visited, member)?;
-            seen.catch_up(self.object, alloc, visited)?;
+            seen.catch_up(alloc, self.pending, visited)?;
         }
         Ok(())
     }
 
-    /// The states after the operation gives the reply in this state.
-    fn states_after(
+    /// Whether the operation can give the reply in this state.
+    fn gives(
         &self,
         alloc: Global,
         state: &O::State,
         steps: &mut Vec<(O::State, Reply)>,
         meter: &mut Meter,
-    ) -> Result<Vec<O::State>, OutOfMemory>
-        ensures sound { IfOk result (λ states. (next : O.State) → Contains states.items next → O.step self.now.object.now state.now self.now.operation.now.call next self.now.reply.now) }
-        ensures complete { IfOk result (λ states. (next : O.State) → O.step self.now.object.now state.now self.now.operation.now.call next self.now.reply.now → Contains states.items next) }
+    ) -> Result<bool, OutOfMemory>
+        ensures given { IfOk result (λ given. IsTrue given ↔ ((next : O.State) × O.step self.now.object.now state.now self.now.operation.now.call next self.now.reply.now)) }
         ensures tried { IsTriedAtMost 1 meter.old meter.new }
     {
         meter.tick_try();
-        let mut states = Vec::new(alloc);
         self.object
             .outcomes(alloc, state, &self.operation.call, steps)?;
-        while let Some((next, reply)) = steps.pop() {
-            push_if(&mut states, next, reply == *self.reply)?;
+        while let Some((_, reply)) = steps.pop() {
+            if reply == *self.reply {
+                return Ok(true);
+            }
         }
-        Ok(states)
+        Ok(false)
     }
 
     /// A round in which the operation can take the reply, if there is one.
@@ -196,11 +194,10 @@ impl<'a, O: SeqObject> Completion<'a, O> {
         if let Some(round) = member.offers().round_of(self.operation.process, self.reply) {
             return Ok(Some(round));
         }
-        let mut states = self.states_after(alloc, member.state(), steps, meter)?;
-        match states.pop() {
-            Some(_) => Ok(Some(member.path().round as usize)),
-            None => Ok(None),
+        if self.gives(alloc, member.state(), steps, meter)? {
+            return Ok(Some(member.path().round as usize));
         }
+        Ok(None)
     }
 
     /// Puts in `out` what the operation, an observer, makes of the member with its reply; or, where it can't take it,
@@ -263,8 +260,13 @@ impl<'a, O: SeqObject> Completion<'a, O> {
         ensures tried { IsTriedAtMost (length self.now.pending.now + 1) meter.old meter.new }
     {
         let offers = self.offers_behind(alloc, member, steps, meter)?;
-        let mut states = self.states_after(alloc, member.state(), steps, meter)?;
-        while let Some(state) = states.pop() {
+        meter.tick_try();
+        self.object
+            .outcomes(alloc, member.state(), &self.operation.call, steps)?;
+        while let Some((state, reply)) = steps.pop() {
+            if reply != *self.reply {
+                continue;
+            }
             let placed = placed_at(alloc, self.operation.at, self.reply)?;
             let config = member.config().with_state(alloc, state)?;
             let next = advanced(alloc, config, &offers, member.path(), placed, nodes)?;
@@ -298,29 +300,30 @@ impl<'a, O: SeqObject> Completion<'a, O> {
         Ok(Some(offers))
     }
 
-    /// Puts in `out` what the operation makes of the member with its reply. Where more can come of the member, answers
-    /// what placing an update makes of it, and what is on offer behind it.
+    /// Puts in `out` what the operation makes of the member with its reply. Where more can come of the member, puts in `next`,
+    /// which is written over, what placing an update makes of it, and answers what is on offer behind it.
     fn work_off(
         &self,
         alloc: Global,
         member: &Member<O::State>,
         out: &mut Vec<Member<O::State>>,
+        next: &mut Vec<(Config<O::State>, Placed)>,
         nodes: &mut RoundNodes,
         steps: &mut Vec<(O::State, Reply)>,
         meter: &mut Meter,
-    ) -> Result<Option<Found<O>>, OutOfMemory>
+    ) -> Result<Option<Offers>, OutOfMemory>
         ensures grown { IsGrown nodes.old nodes.new }
         ensures found { OnOk result (IsFinding (O.step self.now.object.now) (O.observing self.now.object.now) self.now.operation.now self.now.reply.now self.now.pending.now nodes.new member.now out.old.items out.new.items) }
         ensures done { IfOk result (λ found. IfNone found (IsDone (O.observing self.now.object.now) self.now.operation.now self.now.pending.now out.new.items member.now.0)) }
         ensures passed { IfOk result (λ found. IfSome found (λ _. IsPassed (O.step self.now.object.now) (O.observing self.now.object.now) self.now.operation.now self.now.reply.now self.now.pending.now out.new.items member.now)) }
-        ensures offered { IfOk result (λ found. IfSome found (λ f. AreBehind (O.step self.now.object.now) (O.observing self.now.object.now) self.now.pending.now member.now f.1)) }
-        ensures placed { IfOk result (λ found. IfSome found (λ f. AreUpdates (O.step self.now.object.now) (O.observing self.now.object.now) self.now.pending.now (member.now.0.state, member.now.0.placed) f.0.items)) }
+        ensures offered { IfOk result (λ found. IfSome found (AreBehind (O.step self.now.object.now) (O.observing self.now.object.now) self.now.pending.now member.now)) }
+        ensures placed { IfOk result (λ found. IfSome found (λ _. AreUpdates (O.step self.now.object.now) (O.observing self.now.object.now) self.now.pending.now (member.now.0.state, member.now.0.placed) next.new.items)) }
         ensures tried { IsTriedAtMost (2 * length self.now.pending.now + 1) meter.old meter.new }
     {
         match self.complete(alloc, member, out, nodes, steps, meter)? {
             Some(offers) => {
-                let next = self.updates(alloc, member.config(), steps, meter)?;
-                Ok(Some((next, offers)))
+                self.updates(alloc, member.config(), next, steps, meter)?;
+                Ok(Some(offers))
             }
             None => Ok(None),
         }
@@ -331,18 +334,19 @@ impl<'a, O: SeqObject> Completion<'a, O> {
         &self,
         alloc: Global,
         path: Path,
-        found: Option<Found<O>>,
+        found: Option<Offers>,
+        next: &mut Vec<(Config<O::State>, Placed)>,
         starts: &[&Member<O::State>],
-        seen: &mut Seen<O>,
+        seen: &mut Seen,
         visited: &mut Vec<Member<O::State>>,
         nodes: &mut RoundNodes,
     ) -> Result<(), OutOfMemory>
         ensures grown { IsGrown nodes.old nodes.new }
         ensures none { OnOk result (IfNone found ((visited.new.items ≡ visited.old.items) × (nodes.new ≡ nodes.old))) }
-        ensures some { OnOk result (IfSome found (λ f. IsVisiting (O.observing self.now.object.now) self.now.pending.now f.0.items f.1 path nodes.new
+        ensures some { OnOk result (IfSome found (λ offers. IsVisiting (O.observing self.now.object.now) self.now.pending.now next.old.items offers path nodes.new
             (map (λ m. m.now) starts.now ++ visited.old.items) (map (λ m. m.now) starts.now ++ visited.new.items))) }
     {
-        if let Some((next, offers)) = found {
+        if let Some(offers) = found {
             self.visit(alloc, path, next, &offers, starts, seen, visited, nodes)?;
         }
         Ok(())
@@ -365,14 +369,24 @@ impl<'a, O: SeqObject> Completion<'a, O> {
         if starts.len() > limit {
             return Ok(None);
         }
-        let mut seen = Seen::new(self.object, alloc, starts)?;
+        let mut seen = Seen::new(alloc, self.pending, starts)?;
         let mut visited = Vec::new(alloc);
-        let mut out = Vec::new(alloc);
+        let mut out = Vec::with_capacity(alloc, starts.len())?;
+        let mut next = Vec::new(alloc);
         let mut steps = Vec::new(alloc);
         for start in starts {
             let path = start.path();
-            let found = self.work_off(alloc, start, &mut out, nodes, &mut steps, meter)?;
-            self.visit_found(alloc, path, found, starts, &mut seen, &mut visited, nodes)?;
+            let found = self.work_off(alloc, start, &mut out, &mut next, nodes, &mut steps, meter)?;
+            self.visit_found(
+                alloc,
+                path,
+                found,
+                &mut next,
+                starts,
+                &mut seen,
+                &mut visited,
+                nodes,
+            )?;
         }
         let mut tried = starts.len();
         let mut at = 0;
@@ -381,8 +395,19 @@ impl<'a, O: SeqObject> Completion<'a, O> {
                 return Ok(None);
             }
             let path = member.path();
-            let found = self.work_off(alloc, member, &mut out, nodes, &mut steps, meter)?;
-            self.visit_found(alloc, path, found, starts, &mut seen, &mut visited, nodes)?;
+            let found = self.work_off(
+                alloc, member, &mut out, &mut next, nodes, &mut steps, meter,
+            )?;
+            self.visit_found(
+                alloc,
+                path,
+                found,
+                &mut next,
+                starts,
+                &mut seen,
+                &mut visited,
+                nodes,
+            )?;
             tried += 1;
             at += 1;
         }

@@ -23,7 +23,7 @@ use crate::member_laws::{
 };
 use crate::members::{Member, copied, taken_out};
 use crate::nodes::NodeId;
-use crate::pending::{Open, open_of, take_in};
+use crate::pending::{Open, Pending, open_of, take_in};
 use crate::round_laws::{
     members_are_exact, rounds_after_events, rounds_spell_members, rounds_take_operations,
 };
@@ -69,7 +69,7 @@ pub(crate) enum Found<O: SeqObject> {
 fn all_copied<O: SeqObject>(
     object: &O,
     alloc: Global,
-    pending: &[Open],
+    pending: &Pending,
     members: &[Member<O::State>],
 ) -> Result<Vec<Member<O::State>>, OutOfMemory>
     ensures { IfOk result (λ out. IsMade (λ m. Unit {0}) (copy_of (O.observing object.now) pending.now) members.now out.items) }
@@ -85,7 +85,7 @@ fn all_copied<O: SeqObject>(
 fn push_absent<O: SeqObject>(
     object: &O,
     alloc: Global,
-    pending: &[Open],
+    pending: &Pending,
     member: &Member<O::State>,
     process: u64,
     out: &mut Vec<Member<O::State>>,
@@ -104,7 +104,7 @@ fn push_absent<O: SeqObject>(
 fn all_absent<O: SeqObject>(
     object: &O,
     alloc: Global,
-    pending: &[Open],
+    pending: &Pending,
     members: &[Member<O::State>],
     process: u64,
 ) -> Result<Vec<Member<O::State>>, OutOfMemory>
@@ -149,7 +149,7 @@ fn absent_ones<'m, S: Eq + Hash + Drop>(
 fn push_taken_out<O: SeqObject>(
     object: &O,
     alloc: Global,
-    pending: &[Open],
+    pending: &Pending,
     member: &Member<O::State>,
     process: u64,
     reply: &Reply,
@@ -169,7 +169,7 @@ fn push_taken_out<O: SeqObject>(
 pub(crate) fn push_all_taken_out<O: SeqObject>(
     object: &O,
     alloc: Global,
-    pending: &[Open],
+    pending: &Pending,
     members: &[Member<O::State>],
     process: u64,
     reply: &Reply,
@@ -221,7 +221,7 @@ fn next_members<O: SeqObject>(
     alloc: Global,
     members: &[Member<O::State>],
     before: &[Open],
-    pending: &[Open],
+    pending: &Pending,
     event: &Event,
     limit: usize,
     nodes: &mut RoundNodes,
@@ -313,7 +313,8 @@ fn advanced<O: SeqObject>(
     rounds_spell_members(object);
     rounds_take_operations(object);
     rounds_after_events(object);
-    let pending = open_after(alloc, before, at, event)?;
+    let after = open_after(alloc, before, at, event)?;
+    let pending = Pending::of(&after);
     let Some(found) = next_members(
         object, alloc, members, before, &pending, event, limit, nodes, meter,
     )?

@@ -145,8 +145,10 @@ impl<S: Eq + Hash> Config<S> {
         S: Drop,
         ensures { IfOk result (λ c. c ≡ (state, self.now.1)) }
     {
+        let pairs = self.placed.as_slice();
         let mut placed = Pairs::new(alloc);
-        append_pairs(alloc, &mut placed, self.placed.as_slice())?;
+        placed.reserve(pairs.len())?;
+        append_pairs(alloc, &mut placed, pairs)?;
         Ok(Config { state, placed })
     }
 
@@ -165,6 +167,7 @@ impl<S: Eq + Hash> Config<S> {
         let pairs = self.placed.as_slice();
         let at = place_of(pairs, process);
         let mut placed = Pairs::new(alloc);
+        placed.reserve(pairs.len().saturating_add(1))?;
         append_pairs(alloc, &mut placed, &pairs[..at])?;
         placed.push(process, reply)?;
         append_pairs(alloc, &mut placed, &pairs[at..])?;
@@ -177,8 +180,10 @@ impl<S: Eq + Hash> Config<S> {
         S: Drop,
         ensures { IfOk result (λ c. c ≡ (state, without process self.now.1)) }
     {
+        let pairs = self.placed.as_slice();
         let mut placed = Pairs::new(alloc);
-        for pair in self.placed.as_slice() {
+        placed.reserve(pairs.len())?;
+        for pair in pairs {
             if pair.0 == process {
                 continue;
             }

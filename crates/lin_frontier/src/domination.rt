@@ -1,5 +1,5 @@
 //! When one member leads to all that another leads to.
-ghost use Rattle.std.specs.Prelude.{◌≡◌, ◌⊎◌, ℕ, true, All, Contains, IsTrue, map, take, drop, vec_len, ◌↔◌, ◌<◌, ◌+◌, ◌++◌};
+ghost use Rattle.std.specs.Prelude.{◌≡◌, ◌⊎◌, ℕ, true, All, Contains, IsPermutation, IsTrue, map, take, drop, vec_len, ◌↔◌, ◌<◌, ◌+◌, ◌++◌};
 ghost use Rattle.lin_history.specs.declared.calls.Reply.{Reply as ReplyOf};
 ghost use Rattle.lin_frontier.specs.Members.{Member as MemberOf, IsOnOffer};
 ghost use Rattle.lin_frontier.specs.declared.members.Path.{Path as PathOf};
@@ -8,8 +8,8 @@ ghost use Rattle.lin_frontier.specs.Searching.{is_crashed as is_crashed_in, is_w
 
 use crate::configs::{Config, is_absent, is_placed};
 use crate::members::Member;
-use crate::offers::{Offers, is_crashed, is_watching};
-use crate::pending::Open;
+use crate::offers::{Offers, is_watching};
+use crate::pending::Pending;
 use lin_history::Reply;
 use lin_objects::SeqObject;
 use std::hash::Hash;
@@ -27,14 +27,14 @@ fn is_part(pairs: &[(u64, Reply)], others: &[(u64, Reply)]) -> bool
 }
 
 /// Whether the pair is among the others or of a crashed operation.
-fn is_placed_or_crashed(pending: &[Open], others: &[(u64, Reply)], pair: &(u64, Reply)) -> bool
+fn is_placed_or_crashed(pending: &Pending, others: &[(u64, Reply)], pair: &(u64, Reply)) -> bool
     ensures { IsTrue result ↔ (Contains others.now pair.now ⊎ (is_crashed_in pending.now pair.now.0 ≡ true)) }
 {
-    is_placed(others, pair.0, &pair.1) || is_crashed(pending, pair.0)
+    is_placed(others, pair.0, &pair.1) || pending.is_crashed(pair.0)
 }
 
 /// Whether each of the pairs is among the others or of a crashed operation.
-fn is_part_but_crashed(pending: &[Open], pairs: &[(u64, Reply)], others: &[(u64, Reply)]) -> bool
+fn is_part_but_crashed(pending: &Pending, pairs: &[(u64, Reply)], others: &[(u64, Reply)]) -> bool
     ensures { IsTrue result ↔ All (λ x. Contains others.now x ⊎ (is_crashed_in pending.now x.0 ≡ true)) pairs.now }
 {
     for pair in pairs {
@@ -48,29 +48,26 @@ fn is_part_but_crashed(pending: &[Open], pairs: &[(u64, Reply)], others: &[(u64,
 /// Whether the member has the offer, or nobody waits for it.
 fn has_offer<O: SeqObject>(
     object: &O,
-    pending: &[Open],
+    pending: &Pending,
     member: &Member<O::State>,
     offer: &(usize, (u64, Reply)),
 ) -> bool
     ensures { IsTrue result ↔ (is_watching_in (O.observing object.now) pending.now offer.now.1.0 ≡ true → IsAbsent offer.now.1.0 member.now.0.placed → IsOnOffer member.now.0 offer.now.1) }
 {
     let process = offer.1.0;
+    if let Some(_) = member.offers().round_of(process, &offer.1.1) {
+        return true;
+    }
     if !is_watching(object, pending, process) {
         return true;
     }
-    if !is_absent(member.placed(), process) {
-        return true;
-    }
-    match member.offers().round_of(process, &offer.1.1) {
-        Some(_) => true,
-        None => false,
-    }
+    !is_absent(member.placed(), process)
 }
 
 /// Whether the member has each of the offers, apart from those that nobody waits for.
 fn has_offers<O: SeqObject>(
     object: &O,
-    pending: &[Open],
+    pending: &Pending,
     member: &Member<O::State>,
     offers: &Offers,
 ) -> bool
@@ -93,13 +90,13 @@ fn is_same_state<O: SeqObject>(state: &O::State, other: &O::State) -> bool
 
 /// Whether the configuration has the same state as the other one, and no more placed but for crashed operations.
 pub fn covers<O: SeqObject>(
-    pending: &[Open],
+    pending: &Pending,
     config: &Config<O::State>,
     other: &Config<O::State>,
 ) -> bool
     ensures { IsTrue result ↔ CoversIn pending.now config.now other.now }
 {
-    if !config.pairs().may_be_part(other.pairs()) {
+    if !pending.may_cover(config.pairs(), other.pairs()) {
         return false;
     }
     if !is_same_state::<O>(config.state(), other.state()) {
@@ -111,27 +108,63 @@ pub fn covers<O: SeqObject>(
     is_part_but_crashed(pending, other.placed(), config.placed())
 }
 
-/// Whether the member has the same state as the configuration, no more placed but for crashed operations, and all of the
-/// offers that matter.
-pub fn dominates<O: SeqObject>(
+/// Whether the member surely lacks one of the offers: one that its bits tell of.
+fn lacks_one<O: SeqObject>(
     object: &O,
-    pending: &[Open],
+    pending: &Pending,
+    member: &Member<O::State>,
+    offers: &Offers,
+) -> bool
+    ensures { IsTrue result → All (λ x. is_watching_in (O.observing object.now) pending.now x.1.0 ≡ true → IsAbsent x.1.0 member.now.0.placed → IsOnOffer member.now.0 x.1) offers.now → ⊥ }
+{
+    for offer in offers.as_slice() {
+        if !member.offers().may_offer(offer.1.0, &offer.1.1)
+            && !has_offer(object, pending, member, offer)
+        {
+            return true;
+        }
+    }
+    false
+}
+
+/// Whether the member covers the configuration, and has all of the offers that matter. What it lacks is mostly an offer.
+fn covers_with_offers<O: SeqObject>(
+    object: &O,
+    pending: &Pending,
     member: &Member<O::State>,
     config: &Config<O::State>,
     offers: &Offers,
 ) -> bool
     ensures { IsTrue result ↔ DominatesIn (O.observing object.now) pending.now member.now.0 config.now.0 config.now.1 offers.now }
 {
+    if !member.offers().may_hold(offers) && lacks_one(object, pending, member, offers) {
+        return false;
+    }
     if !covers::<O>(pending, member.config(), config) {
         return false;
     }
     has_offers(object, pending, member, offers)
 }
 
-/// Whether one of the members dominates.
-pub fn is_dominated<O: SeqObject>(
+/// Whether the member has the same state as the configuration, no more placed but for crashed operations, and all of the
+/// offers that matter. Most members that don't are told by their bits, before anything is called.
+pub fn dominates<O: SeqObject>(
     object: &O,
-    pending: &[Open],
+    pending: &Pending,
+    member: &Member<O::State>,
+    config: &Config<O::State>,
+    offers: &Offers,
+) -> bool
+    ensures { IsTrue result ↔ DominatesIn (O.observing object.now) pending.now member.now.0 config.now.0 config.now.1 offers.now }
+{
+    pending.may_cover(member.config().pairs(), config.pairs())
+        && covers_with_offers(object, pending, member, config, offers)
+}
+
+/// Whether one of the members dominates.
+fn is_dominated<O: SeqObject>(
+    object: &O,
+    pending: &Pending,
     members: &[Member<O::State>],
     config: &Config<O::State>,
     offers: &Offers,
@@ -146,28 +179,10 @@ pub fn is_dominated<O: SeqObject>(
     false
 }
 
-/// The same of members that stand somewhere else.
-pub fn is_start_dominated<O: SeqObject>(
-    object: &O,
-    pending: &[Open],
-    members: &[&Member<O::State>],
-    config: &Config<O::State>,
-    offers: &Offers,
-) -> bool
-    ensures { IsTrue result → (m : MemberOf O.State × PathOf) × Contains (map (λ m. m.now) members.now) m × DominatesIn (O.observing object.now) pending.now m.0 config.now.0 config.now.1 offers.now }
-{
-    for member in members {
-        if dominates(object, pending, member, config, offers) {
-            return true;
-        }
-    }
-    false
-}
-
 /// Whether one of the others dominates the member.
 fn is_below<O: SeqObject>(
     object: &O,
-    pending: &[Open],
+    pending: &Pending,
     rest: &[Member<O::State>],
     kept: &[Member<O::State>],
     member: &Member<O::State>,
@@ -188,10 +203,22 @@ fn take_out<S: Eq + Hash + Drop>(members: &mut Vec<Member<S>>, at: usize)
     members.remove(at);
 }
 
-/// The members of which no other one dominates any.
-pub fn pruned<O: SeqObject>(
+/// Up to so many members are compared in the order in which they stand.
+const FEW: usize = 8;
+
+/// Puts those that placed fewest operations first, since these dominate the most.
+fn put_fewest_first<S: Eq + Hash + Drop>(members: &mut Vec<Member<S>>)
+    ensures { IsPermutation members.old.items members.new.items }
+{
+    if members.len() > FEW {
+        members.sort_unstable_by_key(|member| member.placed().len());
+    }
+}
+
+/// The members of which no other one dominates any, with each compared first to those that stand first.
+fn pruned_in_order<O: SeqObject>(
     object: &O,
-    pending: &[Open],
+    pending: &Pending,
     members: Vec<Member<O::State>>,
 ) -> Vec<Member<O::State>>
     ensures { IsPruned (O.observing object.now) pending.now members.items result.items }
@@ -212,4 +239,17 @@ pub fn pruned<O: SeqObject>(
         }
     }
     kept
+}
+
+/// The members of which no other one dominates any.
+pub fn pruned<O: SeqObject>(
+    object: &O,
+    pending: &Pending,
+    members: Vec<Member<O::State>>,
+) -> Vec<Member<O::State>>
+    ensures { IsPruned (O.observing object.now) pending.now members.items result.items }
+{
+    let mut sorted = members;
+    put_fewest_first(&mut sorted);
+    pruned_in_order(object, pending, sorted)
 }

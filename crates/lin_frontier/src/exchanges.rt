@@ -100,6 +100,7 @@ fn renamed(
     ensures { IfOk result (λ out. out ≡ map (renamed_pair process other) pairs.now) }
 {
     let mut out = Pairs::new(alloc);
+    out.reserve(pairs.len())?;
     for pair in pairs {
         append_renamed(alloc, &mut out, pair, process, other)?;
     }

@@ -20,7 +20,7 @@ use crate::gathered::Gathered;
 use crate::keeping::copy_config;
 use crate::members::{Path, bare_next, placed_at};
 use crate::offers::Offers;
-use crate::pending::{Open, open_of};
+use crate::pending::{Pending, open_of};
 use crate::placing::place_if_absent;
 use crate::round_laws::{rounds_spell_members, rounds_take_operations};
 use crate::rounds::RoundNodes;
@@ -33,7 +33,7 @@ use std::alloc::Global;
 #[derive(Drop)]
 pub struct Expansion<'a, O: SeqObject> {
     pub object: &'a O,
-    pub pending: &'a [Open],
+    pub pending: &'a Pending<'a>,
     pub offers: &'a Offers,
     /// Whether open operations are placed.
     pub places: bool,
@@ -58,7 +58,7 @@ impl<'a, O: SeqObject> Expansion<'a, O> {
             return Ok(());
         }
         let member = bare_next(alloc, config, path, placed, spot, nodes)?;
-        found.push(self.object, alloc, member)?;
+        found.push(self.object, alloc, self.pending, member)?;
         Ok(())
     }
 
@@ -84,7 +84,7 @@ impl<'a, O: SeqObject> Expansion<'a, O> {
         if !is_absent(config.placed(), process) {
             return Ok(());
         }
-        let Some(operation) = open_of(self.pending, process) else {
+        let Some(operation) = open_of(self.pending.as_slice(), process) else {
             return Ok(());
         };
         let placed = placed_at(alloc, operation.at, &offer.1.1)?;
@@ -130,7 +130,7 @@ impl<'a, O: SeqObject> Expansion<'a, O> {
     {
         let mut out = Vec::new(alloc);
         let mut steps = Vec::new(alloc);
-        for operation in self.pending {
+        for operation in self.pending.as_slice() {
             place_if_absent(
                 self.object,
                 alloc,

@@ -9,7 +9,8 @@ use crate::configs::Config;
 use crate::domination::covers;
 use crate::keeping::copy_config;
 use crate::members::Member;
-use crate::pending::Open;
+use crate::parts::key;
+use crate::pending::Pending;
 use crate::places::Places;
 use indexmap::IndexMap;
 use lin_history::OutOfMemory;
@@ -23,8 +24,8 @@ pub struct Gathered<O: SeqObject> {
     members: Vec<Member<O::State>>,
     /// Their configurations.
     configs: IndexMap<Config<O::State>, ()>,
-    /// Where they stand, by their states.
-    places: Places<O::State>,
+    /// Where they stand, by their keys.
+    places: Places,
 }
 
 impl<O: SeqObject> Model for Gathered<O> {
@@ -91,7 +92,7 @@ impl<O: SeqObject> Gathered<O> {
     }
 
     /// Whether the member at the place covers the configuration.
-    fn covers_at(&self, pending: &[Open], at: usize, config: &Config<O::State>) -> bool
+    fn covers_at(&self, pending: &Pending, at: usize, config: &Config<O::State>) -> bool
         ensures { IsTrue result → (observes : CallOf → Bool) → IsHeld observes pending.now self.now config.now }
     {
         match self.members.get(at) {
@@ -101,7 +102,7 @@ impl<O: SeqObject> Gathered<O> {
     }
 
     /// Whether one of the members at the places covers the configuration.
-    fn one_covers(&self, pending: &[Open], places: &[usize], config: &Config<O::State>) -> bool
+    fn one_covers(&self, pending: &Pending, places: &[usize], config: &Config<O::State>) -> bool
         ensures { IsTrue result → (observes : CallOf → Bool) → IsHeld observes pending.now self.now config.now }
     {
         for at in places {
@@ -112,18 +113,18 @@ impl<O: SeqObject> Gathered<O> {
         false
     }
 
-    /// Whether a member with the configuration's state covers it.
-    fn is_covered(&self, pending: &[Open], config: &Config<O::State>) -> bool
+    /// Whether a member with the configuration's key covers it.
+    fn is_covered(&self, pending: &Pending, config: &Config<O::State>) -> bool
         ensures { IsTrue result → (observes : CallOf → Bool) → IsHeld observes pending.now self.now config.now }
     {
-        match self.places.of(config.state()) {
+        match self.places.of(key(pending, config)) {
             Some(places) => self.one_covers(pending, places, config),
             None => false,
         }
     }
 
     /// Whether one of the members holds the configuration: has it, or covers it.
-    pub fn holds(&self, pending: &[Open], config: &Config<O::State>) -> bool
+    pub fn holds(&self, pending: &Pending, config: &Config<O::State>) -> bool
         ensures held { IsTrue result → (observes : CallOf → Bool) → IsHeld observes pending.now self.now config.now }
         ensures new { IsFalse result → Contains (map config_of self.now) config.now → ⊥ }
     {
@@ -135,13 +136,14 @@ impl<O: SeqObject> Gathered<O> {
         &mut self,
         object: &O,
         alloc: Global,
+        pending: &Pending,
         member: Member<O::State>,
     ) -> Result<(), OutOfMemory>
         requires { Contains (map config_of self.old) (config_of member) → ⊥ }
         ensures { OnOk result (self.new ≡ self.old ++ member ∷ []) }
     {
         let config = copy_config(object, alloc, member.config())?;
-        let state = object.copy_state(alloc, member.state())?;
+        let place = key(pending, member.config());
         match self.members.push(member) {
             Ok(()) => {}
             Err(_) => return Err(OutOfMemory),
@@ -153,6 +155,6 @@ impl<O: SeqObject> Gathered<O> {
                 return Err(OutOfMemory);
             }
         }
-        self.places.note(alloc, state)
+        self.places.note(alloc, place)
     }
 }

@@ -14,7 +14,7 @@ use crate::gathered::Gathered;
 use crate::member_laws::members_cover_configurations;
 use crate::members::{Member, bare};
 use crate::offers::Offers;
-use crate::pending::Open;
+use crate::pending::Pending;
 use crate::round_laws::rounds_spell_members;
 use crate::rounds::RoundNodes;
 use lin_history::{Meter, OutOfMemory, ends_are_unique, well_formed_is_alternating};
@@ -25,7 +25,7 @@ use std::alloc::Global;
 fn spread<O: SeqObject>(
     object: &O,
     alloc: Global,
-    pending: &[Open],
+    pending: &Pending,
     member: &Member<O::State>,
     budget: usize,
     nodes: &mut RoundNodes,
@@ -39,7 +39,7 @@ fn spread<O: SeqObject>(
     ensures tried { IsTriedAtMost 0 meter.old meter.new }
 {
     let mut starts = Gathered::new(alloc);
-    starts.push(object, alloc, bare(object, alloc, member)?)?;
+    starts.push(object, alloc, pending, bare(object, alloc, member)?)?;
     let choices = Expansion {
         object,
         pending,
@@ -54,7 +54,7 @@ fn spread<O: SeqObject>(
 fn merge<O: SeqObject>(
     object: &O,
     alloc: Global,
-    pending: &[Open],
+    pending: &Pending,
     others: Gathered<O>,
     members: &mut Gathered<O>,
 ) -> Result<(), OutOfMemory>
@@ -66,7 +66,7 @@ fn merge<O: SeqObject>(
         if members.holds(pending, member.config()) {
             continue;
         }
-        members.push(object, alloc, member)?;
+        members.push(object, alloc, pending, member)?;
     }
     Ok(())
 }
@@ -75,7 +75,7 @@ fn merge<O: SeqObject>(
 pub fn listed<O: SeqObject>(
     object: &O,
     alloc: Global,
-    pending: &[Open],
+    pending: &Pending,
     members: &[Member<O::State>],
     budget: usize,
     nodes: &mut RoundNodes,

@@ -9,7 +9,7 @@ ghost use Rattle.lin_frontier.specs.Searching.{IsNodeOf, watched};
 
 use crate::configs::Config;
 use crate::offers::Offers;
-use crate::pending::Open;
+use crate::pending::Pending;
 use crate::rounds::RoundNodes;
 use lin_history::{OutOfMemory, Reply};
 use lin_objects::SeqObject;
@@ -97,7 +97,7 @@ impl<S: Eq + Hash> Member<S> {
 pub fn copied<O: SeqObject>(
     object: &O,
     alloc: Global,
-    pending: &[Open],
+    pending: &Pending,
     member: &Member<O::State>,
 ) -> Result<Member<O::State>, OutOfMemory>
     ensures { IfOk result (λ copy. copy ≡ (
@@ -121,7 +121,7 @@ pub fn copied<O: SeqObject>(
 pub fn taken_out<O: SeqObject>(
     object: &O,
     alloc: Global,
-    pending: &[Open],
+    pending: &Pending,
     member: &Member<O::State>,
     process: u64,
 ) -> Result<Member<O::State>, OutOfMemory>
@@ -146,7 +146,7 @@ pub fn taken_out<O: SeqObject>(
 pub fn answered<O: SeqObject>(
     object: &O,
     alloc: Global,
-    pending: &[Open],
+    pending: &Pending,
     member: &Member<O::State>,
     round: usize,
     placed: Placed,

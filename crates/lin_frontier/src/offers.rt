@@ -1,12 +1,12 @@
 //! What is on offer: the replies that observers may still be given, each with a round whose state gave it.
 ghost use Rattle.std.specs.Prelude.{◌≡◌, ◌&&◌, nat_eq, [], ◌∷◌, ◌++◌, ℕ, IfOk, IfSome, IfNone, OnOk, Contains, length};
 ghost use Rattle.lin_history.specs.declared.calls.Reply.{Reply as ReplyOf};
-ghost use Rattle.lin_frontier.specs.Searching.{is_crashed as is_crashed_in, is_observing as is_observing_in, is_watching as is_watching_in, watched as watched_of, Gives, GivesOne, GivesAny, IsOffering};
+ghost use Rattle.lin_frontier.specs.Searching.{is_observing as is_observing_in, is_watching as is_watching_in, watched as watched_of, Gives, GivesOne, GivesAny, IsOffering};
 ghost use Rattle.lin_frontier.specs.Walks.{IsTriedAtMost};
 
 use crate::configs::{Config, is_absent, is_pair};
-use crate::pending::Open;
-use lin_history::{Meter, OutOfMemory, Reply};
+use crate::pending::{Open, Pending};
+use lin_history::{Meter, OutOfMemory, Reply, Val};
 use lin_objects::SeqObject;
 use smallvec::SmallVec;
 use std::alloc::Global;
@@ -17,6 +17,17 @@ use std::marker::Model;
 #[derive(Drop)]
 pub struct Offers {
     items: SmallVec<(usize, (u64, Reply)), 2>,
+    /// A bit of each. It tells of most offers that they aren't there; nothing is promised of it.
+    bits: u64,
+}
+
+/// A bit for a reply on offer to the process.
+fn offer_bit(process: u64, reply: &Reply) -> u64 {
+    let value = match reply {
+        Reply::Value(Val::Int(value)) => value.unsigned_abs() % 64,
+        Reply::Value(Val::Nil) | Reply::Done | Reply::Members(_) => 63,
+    };
+    1 << ((process % 64 + 7 * value) % 64)
 }
 
 impl Model for Offers {
@@ -28,30 +39,11 @@ impl Model for Offers {
     ghost view = { λ o. o.items.items };
 }
 
-/// Whether the operation is of the process, and has crashed.
-fn has_crashed(operation: &Open, process: u64) -> bool
-    ensures { result ≡ (nat_eq operation.now.process process && operation.now.crashed) }
-{
-    operation.process == process && operation.crashed
-}
-
 /// Whether the operation is of the process, and observes.
 fn does_observe<O: SeqObject>(object: &O, operation: &Open, process: u64) -> bool
     ensures { result ≡ (nat_eq operation.now.process process && O.observing object.now operation.now.call) }
 {
     operation.process == process && object.observes(&operation.call)
-}
-
-/// Whether an operation of the process has crashed.
-pub fn is_crashed(pending: &[Open], process: u64) -> bool
-    ensures { result ≡ is_crashed_in pending.now process }
-{
-    for operation in pending {
-        if has_crashed(operation, process) {
-            return true;
-        }
-    }
-    false
 }
 
 /// Whether an operation of the process observes.
@@ -67,10 +59,10 @@ fn is_observing<O: SeqObject>(object: &O, pending: &[Open], process: u64) -> boo
 }
 
 /// Whether the process waits for the reply of an operation that observes, and has not crashed.
-pub fn is_watching<O: SeqObject>(object: &O, pending: &[Open], process: u64) -> bool
+pub fn is_watching<O: SeqObject>(object: &O, pending: &Pending, process: u64) -> bool
     ensures { result ≡ is_watching_in (O.observing object.now) pending.now process }
 {
-    is_observing(object, pending, process) && !is_crashed(pending, process)
+    is_observing(object, pending.as_slice(), process) && !pending.is_crashed(process)
 }
 
 impl Offers {
@@ -80,6 +72,7 @@ impl Offers {
     {
         Offers {
             items: SmallVec::new(alloc),
+            bits: 0,
         }
     }
 
@@ -93,10 +86,31 @@ impl Offers {
     fn push(&mut self, round: usize, process: u64, reply: Reply) -> Result<(), OutOfMemory>
         ensures { OnOk result (self.new ≡ self.old ++ (round, (process, reply)) ∷ []) }
     {
+        self.bits |= offer_bit(process, &reply);
         match self.items.push((round, (process, reply))) {
             Ok(()) => Ok(()),
             Err(_) => Err(OutOfMemory),
         }
+    }
+
+    /// Whether the reply may be on offer to the process, as far as the bits tell.
+    pub fn may_offer(&self, process: u64, reply: &Reply) -> bool {
+        self.bits | offer_bit(process, reply) == self.bits
+    }
+
+    /// Whether each of the others may be among these, as far as the bits tell.
+    pub fn may_hold(&self, others: &Offers) -> bool {
+        self.bits | others.bits == self.bits
+    }
+
+    /// Takes memory for so many offers more at once, where they don't fit in.
+    fn reserve(&mut self, count: usize) -> Result<(), OutOfMemory>
+        ensures { OnOk result (self.new ≡ self.old) }
+    {
+        if count > 2 {
+            self.items.reserve(count)?;
+        }
+        Ok(())
     }
 
     /// The same offers on their own memory.
@@ -104,6 +118,7 @@ impl Offers {
         ensures { IfOk result (λ copy. copy ≡ self.now) }
     {
         let mut copy = Offers::new(alloc);
+        copy.reserve(self.items.len())?;
         for offer in self.items.as_slice() {
             copy.push(offer.0, offer.1.0, offer.1.1.copy(alloc)?)?;
         }
@@ -115,11 +130,12 @@ impl Offers {
         &self,
         object: &O,
         alloc: Global,
-        pending: &[Open],
+        pending: &Pending,
     ) -> Result<Offers, OutOfMemory>
         ensures { IfOk result (λ kept. kept ≡ watched_of (O.observing object.now) pending.now self.now) }
     {
         let mut kept = Offers::new(alloc);
+        kept.reserve(self.items.len())?;
         for offer in self.items.as_slice() {
             if is_watching(object, pending, offer.1.0) {
                 kept.push(offer.0, offer.1.0, offer.1.1.copy(alloc)?)?;
@@ -180,7 +196,7 @@ impl Offers {
         object: &O,
         alloc: Global,
         config: &Config<O::State>,
-        pending: &[Open],
+        pending: &Pending,
         operation: &Open,
         round: usize,
         steps: &mut Vec<(O::State, Reply)>,
@@ -213,7 +229,7 @@ impl Offers {
         object: &O,
         alloc: Global,
         config: &Config<O::State>,
-        pending: &[Open],
+        pending: &Pending,
         round: usize,
         steps: &mut Vec<(O::State, Reply)>,
         meter: &mut Meter,
@@ -221,7 +237,10 @@ impl Offers {
         ensures offered { OnOk result (IsOffering (GivesAny (O.step object.now) (O.observing object.now) pending.now config.now) round self.old self.new) }
         ensures tried { IsTriedAtMost (length pending.now) meter.old meter.new }
     {
-        for operation in pending {
+        for operation in pending.as_slice() {
+            if operation.crashed {
+                continue;
+            }
             self.offer_one(
                 object, alloc, config, pending, operation, round, steps, meter,
             )?;

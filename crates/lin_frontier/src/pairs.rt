@@ -1,6 +1,6 @@
 //! Processes with the replies that their operations took.
-ghost use Rattle.std.specs.Prelude.{◌≡◌, ◌%◌, ◌^◌, ◌∷◌, ◌++◌, [], All, Contains, IsTrue, OnOk};
-ghost use Rattle.lin_history.specs.declared.calls.Reply.{Reply as ReplyOf};
+ghost use Rattle.std.specs.Prelude.{◌≡◌, ◌%◌, ◌^◌, ◌∷◌, ◌++◌, [], OnOk};
+ghost use Rattle.lin_frontier.specs.Masks.{mask_of};
 
 use lin_history::{OutOfMemory, Reply};
 use smallvec::SmallVec;
@@ -28,7 +28,7 @@ impl Model for Pairs {
 }
 
 /// The bit of the process, which every 64th process has too.
-fn bit_of(process: u64) -> u64
+pub fn bit_of(process: u64) -> u64
     ensures { result ≡ 2 ^ (process % 64) }
 {
     1 << (process % 64)
@@ -43,6 +43,16 @@ impl Pairs {
             items: SmallVec::new(alloc),
             mask: 0,
         }
+    }
+
+    /// Takes memory for so many pairs more at once, where they don't fit in.
+    pub fn reserve(&mut self, count: usize) -> Result<(), OutOfMemory>
+        ensures { OnOk result (self.new ≡ self.old) }
+    {
+        if count > 2 {
+            self.items.reserve(count)?;
+        }
+        Ok(())
     }
 
     pub fn as_slice(&self) -> &[(u64, Reply)]
@@ -64,10 +74,10 @@ impl Pairs {
         }
     }
 
-    /// Whether each pair may be among the others, as far as the bits tell.
-    pub fn may_be_part(&self, others: &Pairs) -> bool
-        ensures { All (λ x. Contains others.now x) self.now → IsTrue result }
+    /// The bits of the processes.
+    pub fn mask(&self) -> u64
+        ensures { result ≡ mask_of self.now }
     {
-        self.mask | others.mask == others.mask
+        self.mask
     }
 }

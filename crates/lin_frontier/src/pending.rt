@@ -1,14 +1,19 @@
 //! The operations that are open.
-ghost use Rattle.std.specs.Prelude.{◌≡◌, ◌+◌, ◌≤◌, [], ℤ, All, Bool, Contains, List, IfNone, IfSome, length, OnOk, OnErr, filter, map, not, ◌==◌};
+ghost use Rattle.std.specs.Prelude.{◌≡◌, ◌⊎◌, ◌&&◌, ◌+◌, ◌≤◌, [], ℤ, true, nat_eq, All, Bool, Contains, IsTrue, List, IfNone, IfSome, length, OnOk, OnErr, filter, map, not, ◌==◌};
 ghost use Rattle.lin_history.specs.declared.calls.Name.{Name as NameOf};
 ghost use Rattle.lin_history.specs.declared.events.Event.{Event as EventOf};
 ghost use Rattle.lin_order.specs.ConfigurationLaws.{with_event};
 ghost use Rattle.lin_frontier.specs.Frontiers.{IsNextEvent, IsPending};
+ghost use Rattle.lin_frontier.specs.Masks.{crashed_bits as crashed_bits_of};
+ghost use Rattle.lin_frontier.specs.Parts.{bits_beside as bits_beside_of};
 ghost use Rattle.lin_frontier.specs.Placing.{marked};
+ghost use Rattle.lin_frontier.specs.Searching.{is_crashed as is_crashed_in};
 
+use crate::pairs::{Pairs, bit_of};
 use lin_history::{
     Body, Call, Event, OutOfMemory, beginnings_are_well_formed, well_formed_is_alternating,
 };
+use std::marker::Model;
 
 /// An operation that is open: it has neither returned nor failed.
 #[derive(Drop)]
@@ -84,5 +89,98 @@ pub fn take_in(pending: &mut Vec<Open>, at: usize, event: &Event) -> Result<(), 
             mark_crashed(pending, event.process);
             Ok(())
         }
+    }
+}
+
+/// Whether the operation is of the process, and has crashed.
+fn has_crashed(operation: &Open, process: u64) -> bool
+    ensures { result ≡ (nat_eq operation.now.process process && operation.now.crashed) }
+{
+    operation.process == process && operation.crashed
+}
+
+/// Whether an operation of the process has crashed.
+fn is_crashed(operations: &[Open], process: u64) -> bool
+    ensures { result ≡ is_crashed_in operations.now process }
+{
+    for operation in operations {
+        if has_crashed(operation, process) {
+            return true;
+        }
+    }
+    false
+}
+
+/// The bits of the processes of those that crashed.
+fn crashed_bits(operations: &[Open]) -> u64
+    ensures { result ≡ crashed_bits_of operations.now }
+{
+    let mut bits = 0;
+    for operation in operations {
+        if operation.crashed {
+            bits |= bit_of(operation.process);
+        }
+    }
+    bits
+}
+
+/// Operations that are open, with bits that tell of most processes at once that they haven't crashed.
+#[derive(Drop)]
+pub struct Pending<'a> {
+    operations: &'a [Open],
+    crashed: u64,
+}
+
+impl<'a> Model for Pending<'a> {
+    ghost use Rattle.std.specs.Prelude.{◌≡◌, List};
+    ghost use Rattle.lin_frontier.specs.declared.pending.Open.{Open as OpenOf};
+    ghost use Rattle.lin_frontier.specs.Masks.{crashed_bits};
+
+    ghost Value = { List OpenOf };
+
+    ghost view = { λ p. p.operations.now };
+
+    ghost invariant = { λ p. p.crashed ≡ crashed_bits p.operations.now };
+}
+
+impl<'a> Pending<'a> {
+    /// These operations.
+    pub fn of(operations: &'a [Open]) -> Self
+        ensures { result ≡ operations.now }
+    {
+        Pending {
+            operations,
+            crashed: crashed_bits(operations),
+        }
+    }
+
+    pub fn as_slice(&self) -> &'a [Open]
+        ensures { result.now ≡ self.now }
+    {
+        self.operations
+    }
+
+    /// Whether an operation of the process has crashed.
+    pub fn is_crashed(&self, process: u64) -> bool
+        ensures { result ≡ is_crashed_in self.now process }
+    {
+        self.crashed | bit_of(process) == self.crashed && is_crashed(self.operations, process)
+    }
+
+    /// The bits of the processes of the pairs, and of those that crashed. They are the same where the one pairs are part of
+    /// the others, which have no more but for crashed operations.
+    pub fn bits_beside(&self, pairs: &Pairs) -> u64
+        ensures { result ≡ bits_beside_of self.now pairs.now }
+    {
+        pairs.mask() | self.crashed
+    }
+
+    /// Whether the pairs may be part of the others, which have no more but for crashed operations, as far as the bits tell.
+    pub fn may_cover(&self, pairs: &Pairs, others: &Pairs) -> bool
+        ensures { All (λ x. Contains others.now x) pairs.now → All (λ x. Contains pairs.now x ⊎ (is_crashed_in self.now x.0 ≡ true)) others.now → IsTrue result }
+    {
+        let mask = pairs.mask();
+        let other = others.mask();
+        mask | other == other && other | self.crashed == mask | self.crashed
     }
 }

@@ -1,21 +1,20 @@
-//! Where members of each state stand. It only tells where to look first: whatever it says, what is answered is tested.
+//! Where members of each key stand. It only tells where to look first: whatever it says, what is answered is tested.
 use indexmap::IndexMap;
 use lin_history::OutOfMemory;
 use std::alloc::Global;
-use std::hash::Hash;
 
-/// The places of the first members of a list, by their states.
+/// The places of the first members of a list, by their keys.
 #[derive(Drop)]
-pub struct Places<S: Eq + Hash> {
-    by_state: IndexMap<S, Vec<usize>>,
+pub struct Places {
+    by_key: IndexMap<u64, Vec<usize>>,
     count: usize,
 }
 
-impl<S: Eq + Hash> Places<S> {
+impl Places {
     /// Of no member.
     pub fn new(alloc: Global) -> Self {
         Places {
-            by_state: IndexMap::new(alloc),
+            by_key: IndexMap::new(alloc),
             count: 0,
         }
     }
@@ -25,25 +24,22 @@ impl<S: Eq + Hash> Places<S> {
         self.count
     }
 
-    /// Where members with the state stand, if there are any.
-    pub fn of(&self, state: &S) -> Option<&[usize]> {
-        match self.by_state.get(state) {
+    /// Where members with the key stand, if there are any.
+    pub fn of(&self, key: u64) -> Option<&[usize]> {
+        match self.by_key.get(&key) {
             Some(places) => Some(places.as_slice()),
             None => None,
         }
     }
 
-    /// Notes the state of the member that comes next.
-    pub fn note(&mut self, alloc: Global, state: S) -> Result<(), OutOfMemory>
-    where
-        S: Drop,
-    {
+    /// Notes the key of the member that comes next.
+    pub fn note(&mut self, alloc: Global, key: u64) -> Result<(), OutOfMemory> {
         let at = self.count;
         let Some(count) = at.checked_add(1) else {
             return Err(OutOfMemory);
         };
         self.count = count;
-        if let Some(places) = self.by_state.get_mut(&state) {
+        if let Some(places) = self.by_key.get_mut(&key) {
             return match places.push(at) {
                 Ok(()) => Ok(()),
                 Err(_) => Err(OutOfMemory),
@@ -51,7 +47,7 @@ impl<S: Eq + Hash> Places<S> {
         }
         let mut places = Vec::new(alloc);
         places.push(at)?;
-        match self.by_state.insert(state, places) {
+        match self.by_key.insert(key, places) {
             Ok(_) => Ok(()),
             Err(_) => Err(OutOfMemory),
         }

@@ -1,27 +1,29 @@
-//! Whether a search has seen a member that dominates, told without looking at each.
+//! Whether a search has seen a member that dominates, told without looking at each. It may overlook one, which costs time alone.
 ghost use Rattle.std.specs.Prelude.{◌≡◌, Contains, IsTrue, drop, map};
 ghost use Rattle.lin_frontier.specs.Members.{Member as MemberOf};
 ghost use Rattle.lin_frontier.specs.declared.members.Path.{Path as PathOf};
 ghost use Rattle.lin_frontier.specs.Searching.{DominatesIn};
 
 use crate::configs::Config;
-use crate::domination::{dominates, is_dominated, is_start_dominated};
+use crate::domination::dominates;
 use crate::members::Member;
 use crate::offers::Offers;
-use crate::pending::Open;
+use crate::parts::key;
+use crate::pending::Pending;
 use crate::places::Places;
 use lin_history::OutOfMemory;
 use lin_objects::SeqObject;
 use std::alloc::Global;
+use std::hash::Hash;
 
 /// Up to so many members are looked at one after the other.
 const FEW: usize = 32;
 
 /// Where the members stand that a search began with, and those that it came to.
 #[derive(Drop)]
-pub struct Seen<O: SeqObject> {
-    starts: Places<O::State>,
-    visited: Places<O::State>,
+pub struct Seen {
+    starts: Places,
+    visited: Places,
 }
 
 /// What stands from the place on.
@@ -31,10 +33,59 @@ fn later<T>(items: &[T], from: usize) -> &[T]
     items.get(from..).unwrap_or(&[])
 }
 
+/// Whether the member dominates, as far as bits of what is on offer tell at once.
+fn surely_dominates<O: SeqObject>(
+    object: &O,
+    pending: &Pending,
+    member: &Member<O::State>,
+    config: &Config<O::State>,
+    offers: &Offers,
+) -> bool
+    ensures { IsTrue result → DominatesIn (O.observing object.now) pending.now member.now.0 config.now.0 config.now.1 offers.now }
+{
+    member.offers().may_hold(offers) && dominates(object, pending, member, config, offers)
+}
+
+/// Whether one of the starts dominates.
+fn is_start_dominated<O: SeqObject>(
+    object: &O,
+    pending: &Pending,
+    starts: &[&Member<O::State>],
+    config: &Config<O::State>,
+    offers: &Offers,
+) -> bool
+    ensures { IsTrue result → (m : MemberOf O.State × PathOf) × Contains (map (λ m. m.now) starts.now) m × DominatesIn (O.observing object.now) pending.now m.0 config.now.0 config.now.1 offers.now }
+{
+    for start in starts {
+        if surely_dominates(object, pending, start, config, offers) {
+            return true;
+        }
+    }
+    false
+}
+
+/// Whether one of the members dominates.
+fn is_visited_dominated<O: SeqObject>(
+    object: &O,
+    pending: &Pending,
+    members: &[Member<O::State>],
+    config: &Config<O::State>,
+    offers: &Offers,
+) -> bool
+    ensures { IsTrue result → (m : MemberOf O.State × PathOf) × Contains members.now m × DominatesIn (O.observing object.now) pending.now m.0 config.now.0 config.now.1 offers.now }
+{
+    for member in members {
+        if surely_dominates(object, pending, member, config, offers) {
+            return true;
+        }
+    }
+    false
+}
+
 /// Whether there is a start at the place, which dominates.
 fn start_dominates<O: SeqObject>(
     object: &O,
-    pending: &[Open],
+    pending: &Pending,
     starts: &[&Member<O::State>],
     at: usize,
     config: &Config<O::State>,
@@ -43,7 +94,7 @@ fn start_dominates<O: SeqObject>(
     ensures { IsTrue result → (m : MemberOf O.State × PathOf) × Contains (map (λ m. m.now) starts.now) m × DominatesIn (O.observing object.now) pending.now m.0 config.now.0 config.now.1 offers.now }
 {
     match starts.get(at) {
-        Some(member) => dominates(object, pending, member, config, offers),
+        Some(member) => surely_dominates(object, pending, member, config, offers),
         None => false,
     }
 }
@@ -51,7 +102,7 @@ fn start_dominates<O: SeqObject>(
 /// Whether one of the starts at the places dominates.
 fn one_start_dominates<O: SeqObject>(
     object: &O,
-    pending: &[Open],
+    pending: &Pending,
     starts: &[&Member<O::State>],
     places: &[usize],
     config: &Config<O::State>,
@@ -70,7 +121,7 @@ fn one_start_dominates<O: SeqObject>(
 /// Whether there is a member at the place, which dominates.
 fn member_dominates<O: SeqObject>(
     object: &O,
-    pending: &[Open],
+    pending: &Pending,
     members: &[Member<O::State>],
     at: usize,
     config: &Config<O::State>,
@@ -79,7 +130,7 @@ fn member_dominates<O: SeqObject>(
     ensures { IsTrue result → (m : MemberOf O.State × PathOf) × Contains members.now m × DominatesIn (O.observing object.now) pending.now m.0 config.now.0 config.now.1 offers.now }
 {
     match members.get(at) {
-        Some(member) => dominates(object, pending, member, config, offers),
+        Some(member) => surely_dominates(object, pending, member, config, offers),
         None => false,
     }
 }
@@ -87,7 +138,7 @@ fn member_dominates<O: SeqObject>(
 /// Whether one of the members at the places dominates.
 fn one_dominates<O: SeqObject>(
     object: &O,
-    pending: &[Open],
+    pending: &Pending,
     members: &[Member<O::State>],
     places: &[usize],
     config: &Config<O::State>,
@@ -103,18 +154,17 @@ fn one_dominates<O: SeqObject>(
     false
 }
 
-impl<O: SeqObject> Seen<O> {
+impl Seen {
     /// Nothing is seen yet but the starts, which are noted where they are many.
-    pub fn new(
-        object: &O,
+    pub fn new<S: Eq + Hash>(
         alloc: Global,
-        starts: &[&Member<O::State>],
+        pending: &Pending,
+        starts: &[&Member<S>],
     ) -> Result<Self, OutOfMemory> {
         let mut places = Places::new(alloc);
         if starts.len() > FEW {
             for member in starts {
-                let state = object.copy_state(alloc, member.state())?;
-                places.note(alloc, state)?;
+                places.note(alloc, key(pending, member.config()))?;
             }
         }
         Ok(Seen {
@@ -124,27 +174,26 @@ impl<O: SeqObject> Seen<O> {
     }
 
     /// Notes the members that were visited since, where they are many.
-    pub fn catch_up(
+    pub fn catch_up<S: Eq + Hash>(
         &mut self,
-        object: &O,
         alloc: Global,
-        visited: &[Member<O::State>],
+        pending: &Pending,
+        visited: &[Member<S>],
     ) -> Result<(), OutOfMemory> {
         let rest = later(visited, self.visited.len());
         if rest.len() > FEW {
             for member in rest {
-                let state = object.copy_state(alloc, member.state())?;
-                self.visited.note(alloc, state)?;
+                self.visited.note(alloc, key(pending, member.config()))?;
             }
         }
         Ok(())
     }
 
     /// Whether one of the starts dominates, as far as they are noted or few.
-    pub fn has_start(
+    pub fn has_start<O: SeqObject>(
         &self,
         object: &O,
-        pending: &[Open],
+        pending: &Pending,
         starts: &[&Member<O::State>],
         config: &Config<O::State>,
         offers: &Offers,
@@ -154,17 +203,17 @@ impl<O: SeqObject> Seen<O> {
         if self.starts.len() == 0 {
             return is_start_dominated(object, pending, starts, config, offers);
         }
-        match self.starts.of(config.state()) {
+        match self.starts.of(key(pending, config)) {
             Some(places) => one_start_dominates(object, pending, starts, places, config, offers),
             None => false,
         }
     }
 
     /// Whether one of those visited dominates, as far as they are noted or few.
-    pub fn has_visited(
+    pub fn has_visited<O: SeqObject>(
         &self,
         object: &O,
-        pending: &[Open],
+        pending: &Pending,
         visited: &[Member<O::State>],
         config: &Config<O::State>,
         offers: &Offers,
@@ -172,10 +221,13 @@ impl<O: SeqObject> Seen<O> {
         ensures { IsTrue result → (m : MemberOf O.State × PathOf) × Contains visited.now m × DominatesIn (O.observing object.now) pending.now m.0 config.now.0 config.now.1 offers.now }
     {
         let rest = later(visited, self.visited.len());
-        if is_dominated(object, pending, rest, config, offers) {
+        if is_visited_dominated(object, pending, rest, config, offers) {
             return true;
         }
-        match self.visited.of(config.state()) {
+        if self.visited.len() == 0 {
+            return false;
+        }
+        match self.visited.of(key(pending, config)) {
             Some(places) => one_dominates(object, pending, visited, places, config, offers),
             None => false,
         }

@@ -2,6 +2,7 @@ use crate::configs::Config;
 use crate::listed::listed;
 use crate::members::{Member, Path, advanced};
 use crate::offers::Offers;
+use crate::pending::Pending;
 use crate::{Open, RoundNodes, take_in};
 use lin_history::{Body, Call, Event, Meter, Name, OutOfMemory, Reply, Val};
 use lin_objects::{Any, Kind, Kinds, SeqObject, State};
@@ -26,7 +27,7 @@ fn first(alloc: Global, object: &Any) -> Member<State> {
 fn written(
     alloc: Global,
     object: &Any,
-    pending: &[Open],
+    pending: &Pending,
     nodes: &mut RoundNodes,
     meter: &mut Meter,
 ) -> Result<Member<State>, OutOfMemory> {
@@ -57,10 +58,11 @@ fn count_listed(
     };
     let mut nodes = RoundNodes::new(alloc);
     let mut meter = Meter::new();
-    let mut pending: Vec<Open> = Vec::new(alloc);
+    let mut open: Vec<Open> = Vec::new(alloc);
     for at in 0..events.len() {
-        take_in(&mut pending, at, &events[at])?;
+        take_in(&mut open, at, &events[at])?;
     }
+    let pending = Pending::of(&open);
     let member = if early {
         written(alloc, &object, &pending, &mut nodes, &mut meter)?
     } else {
@@ -105,5 +107,51 @@ fn what_is_on_offer_is_listed(rt: HostRuntime) -> Result<(), Fail> {
     // The read without a reply, with the value from before the write, and with that of the write.
     assert_eq!(rt; count_listed(alloc, &events, true, 3), Ok(Some(3)));
     assert_eq!(rt; count_listed(alloc, &events, true, 2), Ok(None));
+    Ok(())
+}
+
+/// Process 3 crashes in a write, process 67 reads.
+fn crash_and_read(alloc: Global) -> Result<Vec<Open>, OutOfMemory> {
+    let events = [
+        event(3, Body::Invoke(Call::Write(Val::Int(1)))),
+        event(67, Body::Invoke(Call::Read)),
+        event(3, Body::Info(Name::Write)),
+    ];
+    let mut open: Vec<Open> = Vec::new(alloc);
+    for at in 0..events.len() {
+        take_in(&mut open, at, &events[at])?;
+    }
+    Ok(open)
+}
+
+#[test]
+fn bits_of_processes_dont_take_one_for_another(rt: HostRuntime) -> Result<(), Fail> {
+    let open = crash_and_read(rt.alloc())?;
+    let pending = Pending::of(&open);
+    assert!(rt; pending.is_crashed(3));
+    assert!(rt; !pending.is_crashed(67));
+    assert!(rt; !pending.is_crashed(4));
+    Ok(())
+}
+
+#[test]
+fn bits_of_offers_tell_of_those_alone(rt: HostRuntime) -> Result<(), Fail> {
+    let alloc = rt.alloc();
+    let object = Any {
+        kind: Kind::Register,
+    };
+    let open = crash_and_read(alloc)?;
+    let pending = Pending::of(&open);
+    let before = Config::new(alloc, object.start(alloc));
+    let mut meter = Meter::new();
+    let mut steps = Vec::new(alloc);
+    let none = Offers::new(alloc);
+    let mut offers = Offers::new(alloc);
+    offers.offer_all(&object, alloc, &before, &pending, 0, &mut steps, &mut meter)?;
+    assert!(rt; offers.may_offer(67, &Reply::Value(Val::Nil)));
+    assert!(rt; !offers.may_offer(67, &Reply::Value(Val::Int(1))));
+    assert!(rt; offers.may_hold(&offers.copy(alloc)?));
+    assert!(rt; offers.may_hold(&none));
+    assert!(rt; !none.may_hold(&offers));
     Ok(())
 }

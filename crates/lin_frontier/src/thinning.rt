@@ -9,7 +9,7 @@ use crate::configs::Config;
 use crate::exchanges::{are_some_alike, settle};
 use crate::members::{Member, Path, same};
 use crate::parts::pruned_many;
-use crate::pending::Open;
+use crate::pending::Pending;
 use lin_history::OutOfMemory;
 use lin_objects::SeqObject;
 use std::alloc::Global;
@@ -18,7 +18,7 @@ use std::alloc::Global;
 fn settled<O: SeqObject>(
     object: &O,
     alloc: Global,
-    pending: &[Open],
+    pending: &Pending,
     member: &Member<O::State>,
     node: u32,
 ) -> Result<Member<O::State>, OutOfMemory>
@@ -26,7 +26,7 @@ fn settled<O: SeqObject>(
     ensures node { IfOk result (λ k. k.1.node ≡ node) }
 {
     let state = object.copy_state(alloc, member.state())?;
-    let placed = settle(alloc, pending, member.placed())?;
+    let placed = settle(alloc, pending.as_slice(), member.placed())?;
     let offers = member.offers().copy(alloc)?;
     Ok(Member {
         config: Config::of(state, placed),
@@ -39,7 +39,7 @@ fn settled<O: SeqObject>(
 fn shadows<O: SeqObject>(
     object: &O,
     alloc: Global,
-    pending: &[Open],
+    pending: &Pending,
     members: &[Member<O::State>],
 ) -> Result<Vec<Member<O::State>>, OutOfMemory>
     ensures sound { IfOk result (λ out. (x : MemberOf O.State × PathOf) → Contains out.items x → IsShadow pending.now members.now x) }
@@ -83,13 +83,13 @@ fn picked<O: SeqObject>(
 pub fn thinned<O: SeqObject>(
     object: &O,
     alloc: Global,
-    pending: &[Open],
+    pending: &Pending,
     members: Vec<Member<O::State>>,
 ) -> Result<Vec<Member<O::State>>, OutOfMemory>
     ensures { IfOk result (λ out. IsThinned (O.observing object.now) pending.now members.items out.items) }
 {
     let first = pruned_many(object, alloc, pending, members)?;
-    if !are_some_alike(pending) {
+    if !are_some_alike(pending.as_slice()) {
         return Ok(first);
     }
     let others = shadows(object, alloc, pending, &first)?;

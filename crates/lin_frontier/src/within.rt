@@ -23,7 +23,7 @@ use crate::listed::listed;
 use crate::member_laws::{dominated_can_go, members_after_events, members_cover_configurations};
 use crate::members::{Member, same};
 use crate::parts::pruned_many;
-use crate::pending::Open;
+use crate::pending::{Open, Pending};
 use crate::round_laws::{members_are_exact, rounds_after_events};
 use crate::rounds::RoundNodes;
 use lin_history::{Body, Event, Meter, OutOfMemory, ends_are_unique, well_formed_is_alternating};
@@ -61,7 +61,7 @@ pub fn members_spell_legal_orders<O: SeqObject>()
 fn exceeds<O: SeqObject>(
     object: &O,
     alloc: Global,
-    pending: &[Open],
+    pending: &Pending,
     members: &[Member<O::State>],
     budget: usize,
     nodes: &mut RoundNodes,
@@ -106,7 +106,8 @@ fn after_listing<O: SeqObject>(
     let Body::Ok(_, reply) = &event.body else {
         unreachable!()
     };
-    let after = open_after(alloc, pending, at, event)?;
+    let operations = open_after(alloc, pending, at, event)?;
+    let after = Pending::of(&operations);
     let mut found = Vec::new(alloc);
     push_all_taken_out(
         object,
@@ -313,7 +314,8 @@ impl<O: SeqObject> Compressed<O> {
         if COUNTED <= budget {
             return Ok(false);
         }
-        let after = open_after(alloc, pending, at, event)?;
+        let operations = open_after(alloc, pending, at, event)?;
+        let after = Pending::of(&operations);
         exceeds(object, alloc, &after, &self.members, budget, nodes, meter)
     }
 
@@ -347,7 +349,8 @@ impl<O: SeqObject> Compressed<O> {
         well_formed_is_alternating();
         legal_orders_end(object);
         members_are_exact(object);
-        let Some(list) = listed(object, alloc, pending, &self.members, budget, nodes, meter)? else {
+        let before = Pending::of(pending);
+        let Some(list) = listed(object, alloc, &before, &self.members, budget, nodes, meter)? else {
             return Ok(Advance::OverBefore);
         };
         let members = after_listing(object, alloc, list.as_slice(), pending, at, event, nodes)?;

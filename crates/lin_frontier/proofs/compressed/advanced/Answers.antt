@@ -1,4 +1,4 @@
-use Rattle.std.proofs.Common.{ap, arith, length}
+use Rattle.std.proofs.Common.{◌∙◌, ap, arith, length}
 use Rattle.lin_order.specs.ConfigurationLaws.{with_event}
 use Rattle.lin_frontier.proofs.Answered.{from_some}
 use Rattle.lin_frontier.proofs.Counting.{tried_within}
@@ -28,27 +28,27 @@ returns-clause-next g c functions h next covering =
       trail_observer = c.rounds_after_events.ensures.observer;
       trail_return = c.rounds_after_events.ensures.placed;
     } in
-    let pending = c.in_ok-pending.pending.items in
-    let opened = c.in_ok-pending.ensures.pending functions h next in
+    let pending = c.in_ok-after.after.items in
+    let opened = c.in_ok-after.ensures.pending functions h next in
     let made = from_some _ c.in-Some.is c.in_ok-found.ensures.next (completes_open begin step observes laws functions h c.args.before.now c.args.at c.args.event.now next pending opened) in
     let covered = next_covering begin step observes laws functions h c.args.before.now c.args.at c.args.event.now next pending opened (g.O.SeqObject.unchanged c.args.object.now) c.next_members.new.nodes c.args.members.now
-    c.in-Some.found.items (rw c.deref.ensures.value at made) (covering_stays begin step observes h c.args.nodes.now c.next_members.new.nodes c.args.members.now c.next_members.ensures.grown covering) in
+    c.in-Some.found.items (rw (c.of-pending.ensures, c.deref.ensures.value) at made) (covering_stays begin step observes h c.args.nodes.now c.next_members.new.nodes c.args.members.now c.next_members.ensures.grown covering) in
     thinned_compressed begin step observes laws.alternating laws.unique laws.dropping functions (with_event h c.args.event.now) next.well_formed pending opened c.dominated_can_go.ensures.thinned c.next_members.new.nodes
     c.in-Some.found.items c.in_ok-kept.kept.items
-    (rw c.deref-2.ensures.value at c.in_ok-kept.ensures) covered
+    (rw (c.of-pending.ensures, c.deref.ensures.value) at c.in_ok-kept.ensures) covered
 
 pub returns-in_err-found-clause-tried : goal.returns-in_err-found-clause-tried
 returns-in_err-found-clause-tried g c =
-    tried_within c.args.limit (length c.deref.result.now) (length c.args.before.now) _ _ (omega (arith, c.in_ok-pending.ensures.len, ap length c.deref.ensures.value)) c.next_members.ensures.tried
+    tried_within c.args.limit (length c.of-pending.result) (length c.args.before.now) _ _ (omega (arith, c.in_ok-after.ensures.len, ap length (c.of-pending.ensures ∙ c.deref.ensures.value))) c.next_members.ensures.tried
 
 pub returns-in_default-clause-tried : goal.returns-in_default-clause-tried
 returns-in_default-clause-tried g c =
-    tried_within c.args.limit (length c.deref.result.now) (length c.args.before.now) _ _ (omega (arith, c.in_ok-pending.ensures.len, ap length c.deref.ensures.value)) c.next_members.ensures.tried
+    tried_within c.args.limit (length c.of-pending.result) (length c.args.before.now) _ _ (omega (arith, c.in_ok-after.ensures.len, ap length (c.of-pending.ensures ∙ c.deref.ensures.value))) c.next_members.ensures.tried
 
 pub returns-clause-tried : goal.returns-clause-tried
 returns-clause-tried g c =
-    tried_within c.args.limit (length c.deref.result.now) (length c.args.before.now) _ _ (omega (arith, c.in_ok-pending.ensures.len, ap length c.deref.ensures.value)) c.next_members.ensures.tried
+    tried_within c.args.limit (length c.of-pending.result) (length c.args.before.now) _ _ (omega (arith, c.in_ok-after.ensures.len, ap length (c.of-pending.ensures ∙ c.deref.ensures.value))) c.next_members.ensures.tried
 
 pub returns-in_err-kept-clause-tried : goal.returns-in_err-kept-clause-tried
 returns-in_err-kept-clause-tried g c =
-    tried_within c.args.limit (length c.deref.result.now) (length c.args.before.now) _ _ (omega (arith, c.in_ok-pending.ensures.len, ap length c.deref.ensures.value)) c.next_members.ensures.tried
+    tried_within c.args.limit (length c.of-pending.result) (length c.args.before.now) _ _ (omega (arith, c.in_ok-after.ensures.len, ap length (c.of-pending.ensures ∙ c.deref.ensures.value))) c.next_members.ensures.tried

@@ -1,11 +1,11 @@
 use Rattle.std.proofs.Common.{sym, ◌∙◌, true≢false}
 use Rattle.lin_frontier.proofs.domination.covers.Goals as goal
 
-pub returns-then-not-may_be_part : goal.returns-then-not-may_be_part
-returns-then-not-may_be_part g c =
-    let part = rw (c.pairs.ensures, c.pairs-2.ensures) at c.may_be_part.ensures in (
+pub returns-then-not-may_cover : goal.returns-then-not-may_cover
+returns-then-not-may_cover g c =
+    let part = rw (c.pairs.ensures, c.pairs-2.ensures) at c.may_cover.ensures in (
       λ t. absurd (true≢false (sym t)),
-      λ d. absurd (true≢false (sym (part d.part) ∙ c.if-not-may_be_part.true)),
+      λ d. absurd (true≢false (sym (part d.part d.rest) ∙ c.if-not-may_cover.true)),
     )
 
 pub returns-then-not-is_same_state : goal.returns-then-not-is_same_state

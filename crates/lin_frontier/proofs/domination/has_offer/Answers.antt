@@ -1,10 +1,11 @@
-use Rattle.std.proofs.Common.{sym, ◌∙◌, true≢false}
+use Rattle.std.proofs.Common.{sym, ap, not, ◌∙◌, true≢false}
+use Rattle.lin_frontier.proofs.Masking.{never_true}
 use Rattle.lin_frontier.proofs.domination.has_offer.Goals as goal
 
-pub returns-in-None : goal.returns-in-None
-returns-in-None g c =
+pub returns : goal.returns
+returns g c =
     let absent = rw c.placed.ensures at c.is_absent.ensures in
-    let never = rw c.offers.ensures at c.in-None.ensures.none in (
-      λ t. absurd (true≢false (sym t)),
-      λ holds. absurd (let there = holds (sym c.is_watching.ensures ∙ c.if-not-is_watching.false) (absent.0 c.if-not-is_absent.false) in never there.0 there.1),
+    let never = rw c.offers.ensures at c.in_default.ensures.none in (
+      λ t watching none. absurd (true≢false (sym t ∙ ap not (absent.1 none))),
+      λ holds. ap not (never_true c.is_absent.result (λ t. let there = holds (sym c.is_watching.ensures ∙ c.if-not-is_watching.false) (absent.0 t) in never there.0 there.1)),
     )

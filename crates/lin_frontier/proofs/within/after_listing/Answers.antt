@@ -12,12 +12,12 @@ returns g c functions h next listing =
     let step = g.O.SeqObject.step c.args.object.now in
     let observes = g.O.SeqObject.observing c.args.object.now in
     let after = with_event h c.args.event.now in
-    let opened = c.in_ok-after.ensures.pending functions h next in
+    let opened = c.in_ok-operations.ensures.pending functions h next in
     let made = c.in_ok-push_all_taken_out.ensures in
-    let covering = listing_taken begin step observes functions h c.args.event.now next.well_formed c.deref.result.now (subst (IsPending after) (sym c.deref.ensures.value) opened)
+    let covering = listing_taken begin step observes functions h c.args.event.now next.well_formed c.of-after.result (subst (IsPending after) (sym (c.of-after.ensures ∙ c.deref.ensures.value)) opened)
     c.well_formed_is_alternating.ensures c.ends_are_unique.ensures _ c.in-Ok.reply c.in-Ok.is c.members_cover_configurations.ensures.listed c.members_cover_configurations.ensures.ok
     c.rounds_after_events.ensures.ok c.args.nodes.now c.args.list.now made.0 made.1 listing in
     let found_is = made.2 ∙ ap (λ l. l ++ made.0) c.new-found.ensures.items in
-    pruned_compressed begin step observes c.well_formed_is_alternating.ensures c.ends_are_unique.ensures c.dominated_can_go.ensures.dropped functions after next.well_formed c.deref-2.result.now
-    (subst (IsPending after) (sym c.deref-2.ensures.value) opened) c.args.nodes.now c.push_all_taken_out.new.out.items c.in_ok-kept.kept.items c.in_ok-kept.ensures
+    pruned_compressed begin step observes c.well_formed_is_alternating.ensures c.ends_are_unique.ensures c.dominated_can_go.ensures.dropped functions after next.well_formed c.of-after.result
+    (subst (IsPending after) (sym (c.of-after.ensures ∙ c.deref.ensures.value)) opened) c.args.nodes.now c.push_all_taken_out.new.out.items c.in_ok-kept.kept.items c.in_ok-kept.ensures
     (subst (λ l. IsCovering begin step observes after l c.args.nodes.now) (sym found_is) covering)

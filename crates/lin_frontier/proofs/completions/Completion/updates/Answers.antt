@@ -8,7 +8,8 @@ use Rattle.lin_frontier.proofs.completions.Completion.updates.Goals as goal
 
 pub loop-operation-preserved : goal.loop-operation-preserved
 loop-operation-preserved g c =
-    let a = c.in-Some.ensures.lookup in
+    let same = c.as_slice-operations.ensures in
+    let a = rw same at c.in-Some.ensures.lookup in
     let b = c.waits_for_like.ensures in
     let step = g.O.SeqObject.step c.args.self.now.object.now in
     let observes = g.O.SeqObject.observing c.args.self.now.object.now in
@@ -24,7 +25,7 @@ loop-operation-preserved g c =
       }
       | else-not-waits_for_like w ↦ record {
         placed = subst (λ l. AreUpdates step observes (take (at + 1) xs) c.args.config.now l.items) (sym w.out-is)
-            (updates_pass step observes c.args.config.now xs at c.in-Some.operation.now c.loop-operation.out.items a.3.0 a.1 (rw c.placed.ensures at (b w.if-not-waits_for_like.false)) all);
+            (updates_pass step observes c.args.config.now xs at c.in-Some.operation.now c.loop-operation.out.items a.3.0 a.1 (rw (c.placed.ensures, same) at (b w.if-not-waits_for_like.false)) all);
         within = omega (arith, a.3.0);
         tried = subst (λ m. IsTriedAtMost (at + 1) c.args.meter.now m) (sym w.meter-is) (tried_more at 0 (at + 1) _ _ _ (omega arith) c.loop-operation.invariant.tried (tried_none 0 _));
       }
@@ -32,4 +33,4 @@ loop-operation-preserved g c =
 
 pub returns-clause-placed : goal.returns-clause-placed
 returns-clause-placed g c =
-    updates_full _ _ _ c.args.self.now.pending.now c.loop-operation.at c.loop-operation.out.items c.in_default.ensures.lookup.3 c.loop-operation.invariant.placed
+    updates_full _ _ _ c.args.self.now.pending.now c.loop-operation.at c.loop-operation.out.items (rw c.as_slice-operations.ensures at c.in_default.ensures.lookup).3 c.loop-operation.invariant.placed

@@ -3,8 +3,8 @@ use Rattle.lin_frontier.proofs.Visiting.{IsTakingIn}
 use Rattle.lin_frontier.proofs.completions.Completion.visit.Given as goal
 
 abbrev pub invariant-loop-config : goal.invariant-loop-config
-invariant-loop-config g l = IsTakingIn (g.O.SeqObject.observing l.self.object.now) l.self.pending.now l.fn.next.items l.rest.items l.offers l.fn.path l.fn.nodes l.nodes
+invariant-loop-config g l = IsTakingIn (g.O.SeqObject.observing l.self.object.now) l.self.pending.now l.fn.next.items l.next.items l.offers l.fn.path l.fn.nodes l.nodes
     (map (λ m. m.now) l.starts ++ l.fn.visited.items) (map (λ m. m.now) l.starts ++ l.visited.items)
 
 abbrev pub decreases-loop-config : goal.decreases-loop-config
-decreases-loop-config g l = vec_len l.rest
+decreases-loop-config g l = vec_len l.next

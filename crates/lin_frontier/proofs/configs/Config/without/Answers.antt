@@ -6,6 +6,6 @@ use Rattle.lin_frontier.proofs.configs.Config.without.Goals as goal
 
 pub loop-pair-preserved-then-pair-process : goal.loop-pair-preserved-then-pair-process
 loop-pair-preserved-then-pair-process g c =
-    let same : c.as_slice-pair-items.result.now ≡ c.args.self.now.1 = c.as_slice-pair-items.ensures ∙ ap (λ x. x.1) c.self.view_is in
+    let same : c.as_slice-pairs.result.now ≡ c.args.self.now.1 = c.as_slice-pairs.ensures ∙ ap (λ x. x.1) c.self.view_is in
     c.loop-pair.invariant
     ∙ sym (dropped_pair c.args.process c.args.self.now.1 c.loop-pair.pair-index c.pair-item.result (rw same at c.loop-pair-test.true) (ap (λ (p : ℕ × Reply). p.0) (sym (rw same at c.pair-item.is)) ∙ c.if-pair-process.true))

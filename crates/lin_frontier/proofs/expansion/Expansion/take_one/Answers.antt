@@ -22,8 +22,8 @@ pub returns-clause-extended : goal.returns-clause-extended
 returns-clause-extended g c =
     taken_extends (g.O.SeqObject.starts c.args.self.now.object.now) (g.O.SeqObject.step c.args.self.now.object.now) (g.O.SeqObject.observing c.args.self.now.object.now) c.args.self.now.pending.now c.args.self.now.offers.now
     c.args.config.now c.in_ok-next.next c.in_ok-placed.placed c.args.path c.args.nodes.now c.visit.new.nodes c.args.found.now c.visit.new.found c.requires.there
-    c.well_formed_is_alternating.ensures c.rounds_take_operations.ensures.takes (g.O.SeqObject.unchanged c.args.self.now.object.now) c.in-Some.operation.now c.in-Some.ensures.some.0 c.args.offer.now c.requires.offered
-    c.in-Some.ensures.some.1 (rw c.placed.ensures at (c.is_absent.ensures.0 c.if-not-is_absent.false)) c.in_ok-placed.ensures (with_it g c) c.visit.ensures.grown c.in_ok-visit.ensures.taken
+    c.well_formed_is_alternating.ensures c.rounds_take_operations.ensures.takes (g.O.SeqObject.unchanged c.args.self.now.object.now) c.in-Some.operation.now (rw c.as_slice.ensures at c.in-Some.ensures.some).0 c.args.offer.now c.requires.offered
+    (rw c.as_slice.ensures at c.in-Some.ensures.some).1 (rw c.placed.ensures at (c.is_absent.ensures.0 c.if-not-is_absent.false)) c.in_ok-placed.ensures (with_it g c) c.visit.ensures.grown c.in_ok-visit.ensures.taken
 
 pub returns-clause-taken : goal.returns-clause-taken
 returns-clause-taken g c o there same absent =

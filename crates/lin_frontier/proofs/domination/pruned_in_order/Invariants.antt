@@ -1,6 +1,6 @@
 use Rattle.std.proofs.Common.{◌≤◌, length}
 use Rattle.lin_frontier.proofs.Undominated.{IsPrunedFrom}
-use Rattle.lin_frontier.proofs.domination.pruned.Given as goal
+use Rattle.lin_frontier.proofs.domination.pruned_in_order.Given as goal
 
 abbrev pub invariant-loop-at : goal.invariant-loop-at
 invariant-loop-at g l = record {
