@@ -25,12 +25,6 @@ mod round_laws;
 mod rounds;
 mod search;
 mod seen;
-#[cfg(test)]
-mod tests;
-#[cfg(test)]
-mod tests_compressed;
-#[cfg(test)]
-mod tests_listed;
 mod thinning;
 mod within;
 

@@ -10,11 +10,19 @@ mod check;
 #[cfg(test)]
 mod check_input;
 #[cfg(test)]
+mod compressed;
+#[cfg(test)]
 mod crashes;
 #[cfg(test)]
 mod devices;
 #[cfg(test)]
+mod drawn;
+#[cfg(test)]
 mod edits;
+#[cfg(test)]
+mod events;
+#[cfg(test)]
+mod exact_sets;
 #[cfg(test)]
 mod faults;
 #[cfg(test)]

@@ -1,8 +1,8 @@
-use crate::compressed::Found;
-use crate::tests::{
-    Came, Draw, came_of, drawn_history, fail, has_legal_order, info, invoke, ok, write,
-};
-use crate::{Advance, Compressed, Open, RoundNodes, take_in};
+//! Frontiers that keep what decides: how many members are left after worked histories, and what comes of drawn ones.
+use crate::drawn::{Draw, drawn_history, has_legal_order};
+use crate::events::{fail, info, invoke, ok, write};
+use crate::exact_sets::{Came, came_of};
+use lin_frontier::{Advance, Compressed, Open, RoundNodes, take_in};
 use lin_history::{Body, Call, Event, Meter, Name, OutOfMemory, Reply, Val};
 use lin_objects::{Any, Kind, Kinds};
 use lin_order::check_order;
@@ -37,33 +37,6 @@ fn is_sound(
         }
     }
     Ok(true)
-}
-
-/// What comes of the last event where a search may come to so many members: how many are left, or none where there were too many.
-fn searched(
-    alloc: Global,
-    kind: Kind,
-    events: &[Event],
-    limit: usize,
-) -> Result<Option<usize>, OutOfMemory> {
-    let object = Any { kind };
-    let mut nodes = RoundNodes::new(alloc);
-    let mut meter = Meter::new();
-    let mut pending: Vec<Open> = Vec::new(alloc);
-    let mut frontier = Compressed::start(alloc, &object, &nodes)?;
-    for at in 0..events.len() {
-        let event = &events[at];
-        let kept = nodes.len();
-        match frontier.advance_up_to(
-            alloc, &object, &pending, at, event, limit, &mut nodes, &mut meter,
-        )? {
-            Found::Next(next) => frontier = next,
-            Found::Empty => return Ok(Some(0)),
-            Found::TooMany => return Ok(if nodes.len() == kept { None } else { Some(0) }),
-        }
-        take_in(&mut pending, at, event)?;
-    }
-    Ok(Some(frontier.len()))
 }
 
 /// What comes of the events, one after the other, up to the first that leaves no frontier.
@@ -191,9 +164,6 @@ fn a_queue_places_what_a_reply_asks_for(rt: HostRuntime) -> Result<(), Fail> {
         Ok(Came::Sound(1))
     );
     assert_eq!(rt; came_within(alloc, kind, &events, AMPLE), Ok(Came::Empty));
-    assert_eq!(rt; searched(alloc, kind, &events[..4], 1), Ok(None));
-    assert_eq!(rt; searched(alloc, kind, &events[..7], 99), Ok(Some(1)));
-    assert_eq!(rt; searched(alloc, kind, &events, 99), Ok(Some(0)));
     Ok(())
 }
 
@@ -389,6 +359,25 @@ fn operations_are_alike_from_when_both_crashed(rt: HostRuntime) -> Result<(), Fa
         came_within(alloc, kind, &events, AMPLE),
         Ok(Came::Sound(1))
     );
+    Ok(())
+}
+
+#[test]
+fn a_read_and_a_write_at_once_have_five_configurations(rt: HostRuntime) -> Result<(), Fail> {
+    let alloc = rt.alloc();
+    let kind = Kind::Register;
+    let events = [
+        invoke(0, Call::Read),
+        invoke(1, write(1)),
+        done(1, Name::Write),
+    ];
+    assert_eq!(rt;
+        came_within(alloc, kind, &events[..2], 5),
+        Ok(Came::Sound(1))
+    );
+    assert_eq!(rt; came_within(alloc, kind, &events[..2], 4), Ok(Came::Over));
+    // The read without a reply, with the value from before the write, and with that of the write.
+    assert_eq!(rt; came_within(alloc, kind, &events, 5), Ok(Came::Sound(1)));
     Ok(())
 }
 

@@ -1,0 +1,212 @@
+//! Drawn histories of one object, and whether they have a legal order, found by trying all lists of operations.
+use lin_history::{Body, Call, Event, IntSet, OutOfMemory, Reply, Val};
+use lin_objects::{Any, Kind, Kinds, SeqObject};
+use lin_order::{Placed, check_order};
+use std::alloc::Global;
+
+/// Numbers drawn by a linear congruential generator, the same in each run.
+#[derive(Drop)]
+pub(crate) struct Draw {
+    pub(crate) seed: u64,
+}
+
+impl Draw {
+    /// A number below the bound, or 0 where that is 0.
+    fn below(&mut self, bound: u64) -> u64 {
+        self.seed = self
+            .seed
+            .wrapping_mul(6_364_136_223_846_793_005)
+            .wrapping_add(1_442_695_040_888_963_407);
+        (self.seed >> 33).checked_rem(bound).unwrap_or(0)
+    }
+
+    /// Nil, 1 or 2.
+    fn value(&mut self) -> Val {
+        match self.below(3) {
+            0 => Val::Nil,
+            1 => Val::Int(1),
+            _ => Val::Int(2),
+        }
+    }
+
+    fn number(&mut self) -> i64 {
+        if self.below(2) == 0 { 1 } else { 2 }
+    }
+
+    fn call(&mut self, kind: Kind) -> Call {
+        match (kind, self.below(3)) {
+            (Kind::Register, 0) => Call::Write(self.value()),
+            (Kind::Register, _) => Call::Read,
+            (Kind::CasRegister, 0) => Call::Read,
+            (Kind::CasRegister, 1) => Call::Write(self.value()),
+            (Kind::CasRegister, _) => Call::Cas(self.value(), self.value()),
+            (Kind::Fifo, 0) => Call::Dequeue,
+            (Kind::Fifo, _) => Call::Enqueue(self.number()),
+            (Kind::Set, 0) => Call::Read,
+            (Kind::Set, _) => Call::Add(self.number()),
+            (Kind::Mutex, 0) => Call::Release,
+            (Kind::Mutex, _) => Call::Acquire,
+        }
+    }
+
+    /// A reply that the call may get in some state.
+    fn reply(&mut self, alloc: Global, kind: Kind, call: Call) -> Result<Reply, OutOfMemory> {
+        match (kind, call) {
+            (Kind::Set, Call::Read) => {
+                let mut members = IntSet::new(alloc);
+                if self.below(2) == 0 {
+                    members.insert(1)?;
+                }
+                if self.below(2) == 0 {
+                    members.insert(2)?;
+                }
+                Ok(Reply::Members(members))
+            }
+            (_, Call::Read) | (_, Call::Dequeue) => Ok(Reply::Value(self.value())),
+            _ => Ok(Reply::Done),
+        }
+    }
+}
+
+/// What a process of a drawn history is about.
+#[derive(Clone, Copy)]
+enum Client {
+    Idle,
+    Busy(Call),
+    Retired,
+}
+
+/// What the process does next, unless it has retired.
+fn drawn_body(
+    alloc: Global,
+    kind: Kind,
+    client: Client,
+    draw: &mut Draw,
+) -> Result<Option<(Body, Client)>, OutOfMemory> {
+    match client {
+        Client::Idle => {
+            let call = draw.call(kind);
+            Ok(Some((Body::Invoke(call), Client::Busy(call))))
+        }
+        Client::Busy(call) => match draw.below(6) {
+            0 => Ok(Some((Body::Fail(call.name()), Client::Idle))),
+            1 => Ok(Some((Body::Info(call.name()), Client::Retired))),
+            _ => {
+                let reply = draw.reply(alloc, kind, call)?;
+                Ok(Some((Body::Ok(call.name(), reply), Client::Idle)))
+            }
+        },
+        Client::Retired => Ok(None),
+    }
+}
+
+/// A well-formed history of three processes, with at most four operations.
+pub(crate) fn drawn_history(
+    alloc: Global,
+    kind: Kind,
+    draw: &mut Draw,
+) -> Result<Vec<Event>, OutOfMemory> {
+    let mut events = Vec::new(alloc);
+    let mut clients = [Client::Idle; 3];
+    let mut begun = 0usize;
+    for _ in 0..10 {
+        let process = draw.below(3);
+        if let Some(client) = clients.get_mut(process as usize) {
+            if matches!(client, Client::Idle) {
+                if begun >= 4 {
+                    continue;
+                }
+                begun += 1;
+            }
+            if let Some((body, after)) = drawn_body(alloc, kind, *client, draw)? {
+                *client = after;
+                let event = Event {
+                    process,
+                    key: 0,
+                    body,
+                };
+                if events.push(event).is_err() {
+                    return Err(OutOfMemory);
+                }
+            }
+        }
+    }
+    Ok(events)
+}
+
+/// The positions of the invocations.
+fn operations_of(alloc: Global, events: &[Event]) -> Result<Vec<usize>, OutOfMemory> {
+    let mut operations = Vec::new(alloc);
+    for at in 0..events.len() {
+        if let Body::Invoke(_) = &events[at].body {
+            if operations.push(at).is_err() {
+                return Err(OutOfMemory);
+            }
+        }
+    }
+    Ok(operations)
+}
+
+/// The operations in the order that the digits of the code name, as far as the object takes their calls: digit 0 ends
+/// it, digit `d` is the operation `d - 1`.
+fn coded_order(
+    alloc: Global,
+    kind: Kind,
+    events: &[Event],
+    operations: &[usize],
+    code: usize,
+) -> Result<Vec<Placed>, OutOfMemory> {
+    let object = Any { kind };
+    let mut state = object.start(alloc);
+    let mut order = Vec::new(alloc);
+    let mut out = Vec::new(alloc);
+    let mut rest = code;
+    let base = operations.len().saturating_add(1);
+    for _ in 0..operations.len() {
+        let digit = rest.checked_rem(base).unwrap_or(0);
+        rest = rest.checked_div(base).unwrap_or(0);
+        if digit == 0 {
+            return Ok(order);
+        }
+        let Some(at) = operations.get(digit - 1) else {
+            return Ok(order);
+        };
+        if let Some(
+            Event {
+                body: Body::Invoke(call),
+                ..
+            },
+        ) = events.get(*at)
+        {
+            object.outcomes(alloc, &state, call, &mut out)?;
+            if let Some((next, reply)) = out.pop() {
+                state = next;
+                if order.push(Placed { at: *at, reply }).is_err() {
+                    return Err(OutOfMemory);
+                }
+            }
+        }
+    }
+    Ok(order)
+}
+
+/// Whether the events have a legal order, found by trying all lists of operations.
+pub(crate) fn has_legal_order(
+    alloc: Global,
+    kind: Kind,
+    events: &[Event],
+) -> Result<bool, OutOfMemory> {
+    let kinds = Kinds::new(alloc, kind);
+    let operations = operations_of(alloc, events)?;
+    let mut codes = 1usize;
+    for _ in 0..operations.len() {
+        codes = codes.saturating_mul(operations.len().saturating_add(1));
+    }
+    for code in 0..codes {
+        let order = coded_order(alloc, kind, events, &operations, code)?;
+        if check_order(alloc, events, &kinds, &order)? {
+            return Ok(true);
+        }
+    }
+    Ok(false)
+}
