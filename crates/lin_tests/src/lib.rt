@@ -1,4 +1,4 @@
-//! Worked examples, each through `verify` or `check` as a tester calls it: what it prints, and how it ends; and refutations.
+//! Worked examples: each through `verify` or `check` as a tester calls it, what it prints, and how it ends; refutations; frontiers.
 #![tactic(auto)]
 
 #[cfg(test)]
