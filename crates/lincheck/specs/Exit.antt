@@ -1,5 +1,5 @@
 -- The exit status of a run, and what a line has the program do.
-use Rattle.std.specs.Prelude.{◌≡◌, ◌≤◌, ℕ, List, Option, Some, None, option_map, Result, Ok, Err}
+use Rattle.std.specs.Prelude.{◌≡◌, ◌≤◌, ◌⊎◌, ℕ, List, [], Option, Some, None, option_map, Result, Ok, Err}
 use Rattle.clap.specs.declared.error.kind.ErrorKind.{ErrorKind}
 use Rattle.clap.specs.declared.error.kind.ErrorKind.TheVariants as kind
 use Rattle.lin_report.specs.Reports.{IsCheckRun}
@@ -62,3 +62,15 @@ fault_of_run (Err fault) = Some fault
 abbrev pub IsEndingOf : Line → Option (List ℕ) → Option (List ℕ) → Option (List ℕ) → Option (List ℕ) → Option (List ℕ) → Option (List ℕ) → Ending → Type 0
 IsEndingOf line old new commands commands' before after ending =
     (outcome : Result Status RunFault) × IsRunOf line old new commands commands' before after outcome × (ending.status ≡ exit_status outcome) × (ending.fault ≡ fault_of_run outcome)
+
+-- The program ends so on a line: with the exit status of a run over a file, commands and a writer that hold this at first.
+abbrev pub EndsOver : Line → Option (List ℕ) → Option (List ℕ) → Option (List ℕ) → ℕ → Type 0
+EndsOver line file commands out status =
+    (file' : Option (List ℕ)) × (commands' : Option (List ℕ)) × (out' : Option (List ℕ)) × (ending : Ending)
+    × IsEndingOf line file file' commands commands' out out' ending × (status ≡ ending.status)
+
+-- The program may end so on a line: with the exit status of a run, over nothing where the line names no file; or with 6, where the
+-- file can't be opened.
+abbrev pub Ends : Line → ℕ → Type 0
+Ends line status = (status ≡ 6)
+    ⊎ ((file : Option (List ℕ)) × (commands : Option (List ℕ)) × (out : Option (List ℕ)) × (file_of line ≡ None → file ≡ Some []) × EndsOver line file commands out status)

@@ -11,6 +11,7 @@ use Rattle.clap.specs.declared.error.kind.ErrorKind.TheVariants.{OutOfMemory}
 use Rattle.lin_objects.specs.declared.kinds.Kind.{Kind}
 use Rattle.lin_objects.specs.declared.kinds.Kind.TheVariants.{Register, CasRegister, Fifo, Set as SetKind, Mutex}
 use Rattle.lin_report.specs.declared.runs.Settings.{Settings}
+use Rattle.lincheck.specs.Exit.{Ends, refusal_status}
 use Rattle.lincheck.specs.declared.words.Line.{Line}
 use Rattle.lincheck.specs.declared.words.Line.TheVariants.{Verify, Check, Edit}
 
@@ -110,3 +111,9 @@ IsRefusalOf words e = (kind_of e ≡ OutOfMemory) ⊎ ((parser : ValueParser) ×
 abbrev pub IsLineOf : List Text → Line → Type 0
 IsLineOf words line = (parser : ValueParser) × IsKindParser parser × (fault_of (program_app parser) words ≡ [])
     × (found : Text × List Row) × (subcommand_of (program_app parser) words ≡ Some found) × Says found line
+
+-- The program may end so on these words: as it ends on the line that they say, or with the exit status of their refusal, and with 6
+-- where that couldn't be told.
+abbrev pub IsEnd : List Text → ℕ → Type 0
+IsEnd words status = ((line : Line) × IsLineOf words line × Ends line status)
+    ⊎ ((e : Error) × IsRefusalOf words e × ((status ≡ refusal_status (kind_of e)) ⊎ (status ≡ 6)))

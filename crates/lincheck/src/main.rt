@@ -2,8 +2,8 @@
 #![tactic(auto)]
 
 ghost use Rattle.std.specs.Prelude.{◌≡◌, IfOk, IfErr, map};
-ghost use Rattle.lincheck.specs.Exit.{IsRunnable};
-ghost use Rattle.lincheck.specs.Program.{IsLineOf, IsRefusalOf};
+ghost use Rattle.lincheck.specs.Exit.{IsRunnable, Ends, EndsOver};
+ghost use Rattle.lincheck.specs.Program.{IsLineOf, IsRefusalOf, IsEnd};
 
 mod command;
 mod endings;
@@ -16,7 +16,7 @@ use endings::{FAILED, LINE_REFUSED};
 use lin_report::Counted;
 use std::alloc::{AllocError, Global};
 use std::fs::File;
-use std::io::Read;
+use std::io::{Read, Write};
 use std::process::ExitCode;
 use std::{env, io};
 pub use words::Line;
@@ -40,18 +40,23 @@ pub fn line<'a>(alloc: Global, words: &'a [&'a str]) -> Result<Line<'a>, Error>
     }
 }
 
-/// Runs on an opened file, and tells why the run ended early, if it did.
-fn run_on<R: Read + Drop>(rt: &HostRuntime, line: Line, file: R) -> u8
+/// Runs on an opened file with the commands and the writer, tells why the run ended early, if it did, and gives the exit status.
+fn run_on<R: Read + Drop, C: Read + Drop, W: Write + Drop>(
+    rt: &HostRuntime,
+    line: Line,
+    file: R,
+    commands: C,
+    out: W,
+) -> u8
     requires { IsRunnable line }
+    ensures { EndsOver line.entry (R.remaining file) (C.remaining commands) (W.contents out) result }
 {
-    let mut commands = Counted::new(rt.stdin());
-    let mut out = Counted::new(io::writer(rt));
     let ending = run(
         rt.alloc(),
         line,
         &mut Counted::new(file),
-        &mut commands,
-        &mut out,
+        &mut Counted::new(commands),
+        &mut Counted::new(out),
     );
     if let Some(fault) = ending.fault {
         let _printed = println!(rt; "lincheck: {fault}");
@@ -62,12 +67,13 @@ fn run_on<R: Read + Drop>(rt: &HostRuntime, line: Line, file: R) -> u8
 /// Opens the line's file, if it names one, and runs.
 fn run_line(rt: &HostRuntime, line: Line) -> u8
     requires { IsRunnable line }
+    ensures { Ends line.entry result }
 {
     let Some(path) = line.path() else {
-        return run_on(rt, line, b"".as_slice());
+        return run_on(rt, line, b"".as_slice(), rt.stdin(), io::writer(rt));
     };
     match File::open(rt, path) {
-        Ok(file) => run_on(rt, line, file),
+        Ok(file) => run_on(rt, line, file, rt.stdin(), io::writer(rt)),
         Err(_) => {
             let _printed = println!(rt; "lincheck: cannot open {path}");
             FAILED
@@ -76,7 +82,9 @@ fn run_line(rt: &HostRuntime, line: Line) -> u8
 }
 
 /// Tells that memory was refused.
-fn tell_out_of_memory(rt: &HostRuntime) -> u8 {
+fn tell_out_of_memory(rt: &HostRuntime) -> u8
+    ensures { result ≡ 6 }
+{
     let _printed = println!(rt; "lincheck: 3 OutOfMemory");
     FAILED
 }
@@ -91,7 +99,9 @@ fn tell_no_words(rt: &HostRuntime, error: &io::Error) -> u8 {
 }
 
 /// Runs what the words say, and gives the exit status.
-fn run_words(rt: HostRuntime, words: &[&str]) -> u8 {
+fn run_words(rt: HostRuntime, words: &[&str]) -> u8
+    ensures { IsEnd (map (λ w. w.now) words.entry.now) result }
+{
     match line(rt.alloc(), words) {
         Ok(line) => run_line(&rt, line),
         Err(error) if error.kind() == ErrorKind::OutOfMemory => tell_out_of_memory(&rt),
