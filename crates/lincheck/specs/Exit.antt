@@ -69,7 +69,7 @@ EndsOver line file commands out status =
     (file' : Option (List ℕ)) × (commands' : Option (List ℕ)) × (out' : Option (List ℕ)) × (ending : Ending)
     × IsEndingOf line file file' commands commands' out out' ending × (status ≡ ending.status)
 
--- The program may end so on a line: with the exit status of a run, over nothing where the line names no file; or with 6, where the
+-- The program may end so on a line: with the exit status of a run, over nothing where the line names no file; or with 6, as where the
 -- file can't be opened.
 abbrev pub Ends : Line → ℕ → Type 0
 Ends line status = (status ≡ 6)
