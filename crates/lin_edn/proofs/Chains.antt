@@ -40,8 +40,8 @@ comment_to {r = r} {c = c} {u = u} (goes {q = q} {b = b} {t = t} i h) j n = furt
         let here : q ≡ r = omega arith in
         let same : b ∷ t ≡ c ∷ u = same_tail (comment_tail i) (comment_tail j) here in absurd (cc)
 
--- a discard ends where its element does
-end_of : (most : ℕ) {n p q o : ℕ} {s t u : List ℕ} {v : Value} → Blanks n p s q t → Element n q t v o u → n + 1 ≤ 64 → o ≤ most →
+-- behind a tag that waits, an element is told
+pub end_of : (most : ℕ) {n p q o : ℕ} {s t u : List ℕ} {v : Value} → Blanks n p s q t → Element n q t v o u → n + 1 ≤ 64 → o ≤ most →
     run most p (tagging 0 0 [] ∷ []) between s ≡ complete (tagged 0 [] v) 0 o
 end_of most {q = q} {o = o} bs e fits le =
     let a : q < o = element_rises e in

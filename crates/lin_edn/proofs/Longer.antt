@@ -69,7 +69,7 @@ blanks_stay (one_more_short bs b le) x = one_more_short (blanks_stay bs x) (blan
 pub spelled_stays : {p q : ℕ} {s : List ℕ} {v : Value} → Spells s v p q → (x : List ℕ) → Spells (s ++ x) v p q
 spelled_stays (spells bs e le) x = spells (blanks_stay bs x) (element_longer e x) le
 
-open_longer : {n p : ℕ} {s t : List ℕ} {st : List Frame} → Open s n st p t → (x : List ℕ) → Open (s ++ x) n st p (t ++ x)
+pub open_longer : {n p : ℕ} {s t : List ℕ} {st : List Frame} → Open s n st p t → (x : List ℕ) → Open (s ++ x) n st p (t ++ x)
 open_longer (none_open bs) x = none_open (blanks_stay bs x)
 open_longer (within o i row) x = within (open_longer o x) (opens_longer i x) (row_longer row x)
 open_longer (waits o h d bs) x = waits (open_longer o x) (one_longer h x) d (blanks_longer bs x)

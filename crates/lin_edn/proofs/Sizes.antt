@@ -18,7 +18,7 @@ then : {p q r : ℕ} {s t u : List ℕ} → Tail p s q t → Tail q t r u → Ta
 then h all = h
 then h (last k) = last (then h k)
 
-tail_size : {p q : ℕ} {s t : List ℕ} → Tail p s q t → p + length s ≡ q + length t
+pub tail_size : {p q : ℕ} {s t : List ℕ} → Tail p s q t → p + length s ≡ q + length t
 tail_size all = refl
 tail_size (last {p = p} {q = q} {b = b} {s = s} {t = t} h) = let e : p + length s ≡ q + length (b ∷ t) = tail_size h in omega arith
 
@@ -96,6 +96,9 @@ mutual
   row_tail empty = all
   row_tail (blank row b) = then (row_tail row) (blank_tail b)
   row_tail (element row e) = then (row_tail row) (element_tail e)
+
+pub behind_tail : {n p q r : ℕ} {s t u : List ℕ} {v : Value} → Blanks n p s q t → Element n q t v r u → Tail p s r u
+behind_tail bs e = then (blanks_tail bs) (element_tail e)
 
 pub short_tail : {q : ℕ} {s t : List ℕ} → ShortBlanks s q t → Tail 0 s q t
 short_tail no_blank_yet = all

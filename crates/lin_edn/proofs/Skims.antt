@@ -14,7 +14,9 @@ use Rattle.lin_edn.specs.declared.skim.Part.{Part}
 use Rattle.lin_edn.specs.declared.skim.Part.TheVariants as part
 use Rattle.lin_edn.specs.declared.skim.Skim.{Skim}
 use Rattle.lin_edn.proofs.Back.{What, what}
+use Rattle.lin_edn.proofs.Longer.{open_longer}
 use Rattle.lin_edn.proofs.Sound.{unfinished_of}
+use Rattle.lin_edn.proofs.Wrong.{open_run}
 
 -- whether a level can be closed after one more element
 some_map : (f : Entries → Value) (o : Option Entries) → is_some (option_map f o) ≡ is_some o
@@ -295,5 +297,5 @@ seen_in r text vs old new size shapes is_between g row =
     ) in (
       (let e = length-drop r.at text in let i : r.at ≤ length text = row.0 in let j : new.length ≡ old.length + length (drop r.at text) = g.0 in omega arith),
       stops_same new.length (shapes_of new.levels.items) new.part (λ x. run longest r.at st between (drop r.at text ++ x)) (λ x. run longest 0 [] between (text ++ x))
-          row.1 (g.1 (λ x. run longest r.at st between x) begins),
+          (λ x. open_run longest (open_longer row.2 x) row.1) (g.1 (λ x. run longest r.at st between x) begins),
     )

@@ -12,7 +12,7 @@ use Rattle.lin_edn.proofs.Fronts.{long}
 use Rattle.lin_edn.proofs.Rising.{one_rises, tag_rises, opens_rise, blanks_rise, row_rises}
 
 -- up to what is open
-open_run : (most : ℕ) {n p : ℕ} {s t : List ℕ} {st : List Frame} → Open s n st p t → p ≤ most → run most 0 [] between s ≡ run most p st between t
+pub open_run : (most : ℕ) {n p : ℕ} {s t : List ℕ} {st : List Frame} → Open s n st p t → p ≤ most → run most 0 [] between s ≡ run most p st between t
 open_run most (none_open bs) le = long_run most (long bs) le
 open_run most (within {n = n} {p = p} {q = q} {r = r} {st = st} {k = k} o i row) le =
     let a : p < q = opens_rise i in

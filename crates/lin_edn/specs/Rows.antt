@@ -1,16 +1,11 @@
--- A list or vector that is read element by element: `IsRow`, `row_value`, `IsNext` and `IsBracketless` are what public
--- contracts cite; the rest is for these, or is cited by the contracts of private functions alone.
-use Rattle.std.specs.Prelude.{◌≡◌, ◌≢◌, ℕ, ◌<◌, ◌≤◌, Bool, true, false, List, [], ◌∷◌, ◌++◌, length, drop, slice_index, Option, Some, None, Result, Ok, Err}
+-- A list or vector that is read element by element, in words of the grammar.
+use Rattle.std.specs.Prelude.{◌≡◌, ℕ, ◌<◌, ◌≤◌, Bool, true, false, List, [], ◌∷◌, ◌++◌, length, drop, slice_index}
 use Rattle.lin_edn.specs.Bytes.{Kind, a_list, a_vector, closing}
-use Rattle.lin_edn.specs.Grammar.{frame, tagging, longest, Spells}
-use Rattle.lin_edn.specs.Machine.{run, between, complete}
-use Rattle.lin_edn.specs.Value.{Value, list, vector, tagged, values_of}
+use Rattle.lin_edn.specs.Grammar.{longest, Blanks, Element, Spells, frame, Open}
+use Rattle.lin_edn.specs.Value.{Value, list, vector, values_of}
 use Rattle.lin_edn.specs.View.{view}
-use Rattle.lin_edn.specs.declared.Edn.{Edn}
-use Rattle.lin_edn.specs.declared.EdnCause.TheVariants as cause
-use Rattle.lin_edn.specs.declared.EdnFault.{EdnFault}
 use Rattle.lin_edn.specs.declared.series.Inside.{Inside}
-use Rattle.lin_edn.specs.declared.series.Inside.TheVariants.{Element, Closed, Unknown, OutOfMemory}
+use Rattle.lin_edn.specs.declared.series.Inside.TheVariants as inside
 use Rattle.lin_edn.specs.declared.series.Series.{Series}
 
 abbrev pub bracket_of : Bool → Kind
@@ -29,37 +24,30 @@ row_value r vs = value_in r.is_vector vs
 abbrev pub row_end : Series → ℕ
 row_end r = r.at
 
--- A text begins with an open vector or list, in which, as far as it is read, stand just these elements and blanks:
--- the machine is there, whatever stands behind the text.
+-- The bytes of a text up to where it is read to, no more than the longest element has, leave just a list or vector open,
+-- which begins with the first byte; in it stand these elements so far, and blanks.
 abbrev pub IsRow : Series → List ℕ → List Value → Type 0
-IsRow r s vs = (r.at ≤ length s) × ((x : List ℕ) →
-    run longest 0 [] between (s ++ x) ≡ run longest r.at (frame (bracket_of r.is_vector) 0 vs ∷ []) between (drop r.at s ++ x))
+IsRow r s vs = (r.at ≤ length s) × (r.at ≤ longest) × Open s 63 (frame (bracket_of r.is_vector) 0 vs ∷ []) r.at (drop r.at s)
 
--- behind a tag that waits at the front of a text, the bytes from a place on are an element up to another place
-abbrev pub IsBehindTag : List ℕ → ℕ → Value → ℕ → Type 0
-IsBehindTag s from v used = (i : ℕ) × (w : List ℕ) × (p : ℕ) × (run longest from (tagging 0 0 [] ∷ []) between (drop from s) ≡ complete (tagged i w v) p used)
+-- in a list or vector that begins with the first byte, blanks and an element stand from a place up to another, within the longest length
+abbrev pub IsElementAt : List ℕ → ℕ → Value → ℕ → Type 0
+IsElementAt s from v used = (p : ℕ) × (t : List ℕ) × Blanks 63 from (drop from s) p t × Element 63 p t v used (drop used s) × (used ≤ longest)
 
--- no element is there
-abbrev pub IsNoneBehindTag : List ℕ → ℕ → Type 0
-IsNoneBehindTag s from = (v : Value) (used : ℕ) → IsBehindTag s from v used → ⊥
+-- no element stands there, be it behind blanks
+abbrev pub IsNoElementAt : List ℕ → ℕ → Type 0
+IsNoElementAt s from = (v : Value) (used : ℕ) → IsElementAt s from v used → ⊥
 
--- an element, or none, is found; or memory ran out
-abbrev pub IsFound : List ℕ → ℕ → Result (Option (Edn × ℕ)) EdnFault → Type 0
-IsFound s from (Ok (Some r)) = IsBehindTag s from (view r.0) r.1
-IsFound s from (Ok None) = IsNoneBehindTag s from
-IsFound s from (Err f) = f.cause ≢ cause.OutOfMemory → IsNoneBehindTag s from
-
--- neither an element nor the closing byte stands where a text is read to, whatever white is there
+-- neither a whole element nor the closing byte stands where a text is read to
 abbrev pub IsAtNothing : Series → List ℕ → Type 0
-IsAtNothing r s = IsNoneBehindTag s r.at
+IsAtNothing r s = IsNoElementAt s r.at
     × (r.at < length s → r.at < longest → slice_index s r.at ≡ closing (bracket_of r.is_vector) → ⊥)
 
 -- what comes next in a list or vector that is read so far
 abbrev pub IsNext : Series → Series → List ℕ → List Value → Inside → Type 0
-IsNext old new s vs (Element e) = IsRow new s (vs ++ view e ∷ []) × (row_end old < row_end new)
-IsNext old new s vs (Closed used) = Spells s (row_value old vs) 0 used
-IsNext old new s vs Unknown = IsRow new s vs × IsAtNothing new s
-IsNext old new s vs OutOfMemory = IsRow new s vs
+IsNext old new s vs (inside.Element e) = IsRow new s (vs ++ view e ∷ []) × (row_end old < row_end new)
+IsNext old new s vs (inside.Closed used) = Spells s (row_value old vs) 0 used
+IsNext old new s vs inside.Unknown = IsRow new s vs × IsAtNothing new s
+IsNext old new s vs inside.OutOfMemory = IsRow new s vs
 
 -- a text begins with neither bracket
 abbrev pub IsBracketless : List ℕ → Type 0

@@ -1,14 +1,17 @@
 -- Where a row of bytes ends, and how far the machine is there: cited by the contracts of private functions alone.
-use Rattle.std.specs.Prelude.{◌≡◌, ℕ, ◌+◌, ◌<◌, ◌≤◌, Bool, true, false, not, ◌||◌, ◌==◌, List, [], ◌∷◌, ◌++◌, length, drop, slice_index, None}
+use Rattle.std.specs.Prelude.{◌≡◌, ◌≢◌, ℕ, ◌+◌, ◌<◌, ◌≤◌, Bool, true, false, not, ◌||◌, ◌==◌, List, [], ◌∷◌, ◌++◌, length, drop, slice_index, Option, Some, None, Result, Ok, Err}
 use Rattle.std.specs.List.{slice_range}
 use Rattle.lin_edn.specs.Bytes.{a_map, Kind, is_white, Class, white, semicolon, opener, closer, quote, backslash, hash, inside}
-use Rattle.lin_edn.specs.Grammar.{Frame, frame, longest}
+use Rattle.lin_edn.specs.Grammar.{Frame, frame, tagging, longest}
 use Rattle.lin_edn.specs.Levels.{flat, frames_of}
 use Rattle.lin_edn.specs.Run.{run_value}
-use Rattle.lin_edn.specs.Value.{Value}
+use Rattle.lin_edn.specs.Value.{Value, tagged}
 use Rattle.lin_edn.specs.Machine.{Answer, complete, run, between, outermost}
 use Rattle.lin_edn.specs.Turns.{mode_of, IsBegun, IsFault}
 use Rattle.lin_edn.specs.View.{view}
+use Rattle.lin_edn.specs.declared.Edn.{Edn}
+use Rattle.lin_edn.specs.declared.EdnCause.TheVariants as cause
+use Rattle.lin_edn.specs.declared.EdnFault.{EdnFault}
 use Rattle.lin_edn.specs.declared.levels.Frame.{Frame as CodeFrame}
 use Rattle.lin_edn.specs.declared.reader.Mode.{Mode as CodeMode}
 use Rattle.lin_edn.specs.declared.reader.Went.{Went}
@@ -68,3 +71,17 @@ IsWent s at (went.Fault i k) st a = IsFault a i k
 -- what the code made of them, with these levels open before and after, where this was open beside them
 abbrev pub GoesFrom : List ℕ → ℕ → CodeMode → List CodeFrame → List CodeFrame → Went → Type 0
 GoesFrom s at m old new w = IsWent s at w (frames_of new) (run longest at (frames_of old) (mode_of s at m) (drop at s))
+
+-- behind a tag that waits at the bottom the machine finds an element from a place up to another
+abbrev pub IsBehindTag : List ℕ → ℕ → Value → ℕ → Type 0
+IsBehindTag s from v used = (i : ℕ) × (w : List ℕ) × (p : ℕ) × (run longest from (tagging 0 0 [] ∷ []) between (drop from s) ≡ complete (tagged i w v) p used)
+
+-- it finds none
+abbrev pub IsNoneBehindTag : List ℕ → ℕ → Type 0
+IsNoneBehindTag s from = (v : Value) (used : ℕ) → IsBehindTag s from v used → ⊥
+
+-- an element, or none, is found; or memory ran out
+abbrev pub IsFound : List ℕ → ℕ → Result (Option (Edn × ℕ)) EdnFault → Type 0
+IsFound s from (Ok (Some r)) = IsBehindTag s from (view r.0) r.1
+IsFound s from (Ok None) = IsNoneBehindTag s from
+IsFound s from (Err f) = f.cause ≢ cause.OutOfMemory → IsNoneBehindTag s from

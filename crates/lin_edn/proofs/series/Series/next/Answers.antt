@@ -1,8 +1,8 @@
 use Rattle.std.proofs.Common.{◌≤◌, ◌<◌, length, drop, arith, ◌∙◌, sym}
 use Rattle.lin_edn.specs.Grammar.{longest}
 use Rattle.lin_edn.specs.declared.series.Series.{Series}
-use Rattle.lin_edn.proofs.Inner.{farther}
-use Rattle.lin_edn.proofs.Rows.{row_white, row_closed, row_element, nothing_past}
+use Rattle.lin_edn.proofs.Inner.{inner}
+use Rattle.lin_edn.proofs.Rows.{row_white, row_closed, row_element, element_inside, none_there, nothing_past}
 use Rattle.lin_edn.proofs.series.Series.next.Goals as goal
 
 pub returns-then-self-end : goal.returns-then-self-end
@@ -43,10 +43,11 @@ returns-in-Ok-Some c = λ vs row.
     let here : Series = record { is_vector = old.is_vector; at = w } in
     let later : old.at ≤ w = c.white_end-self.ensures.0 in
     let short : c.window-end.result ≤ longest = (let e = c.window-end.ensures.short in omega arith) in
-    let tag = rw c.in-Ok-Some.field-0-is at c.in-Ok-Some.ensures in
-    let far = farther (drop w c.args.text.now) w _ tag.2 c.in-Ok-Some.used tag.3 in (
+    let before : w ≤ c.window-end.result = c.white_end-self.ensures.1 in
+    let found = inner c.args.text.now w _ c.in-Ok-Some.used (rw c.in-Ok-Some.field-0-is at c.in-Ok-Some.ensures) (omega arith) in
+    let inside = element_inside c.args.text.now w _ c.in-Ok-Some.used found in (
       row_element here c.args.text.now vs _ c.in-Ok-Some.used
-          (row_white old c.args.text.now vs w c.window-end.result row c.white_end-self.ensures c.window-end.ensures.within short) tag,
+          (row_white old c.args.text.now vs w c.window-end.result row c.white_end-self.ensures c.window-end.ensures.within short) found,
       omega arith,
     )
 
@@ -55,7 +56,7 @@ returns-in-Ok-None c = λ vs row.
     let none = rw c.in-Ok-None.field-0-is at c.in-Ok-None.ensures in (
       row_white c.args.self.now c.args.text.now vs c.white_end-self.result c.window-end.result row c.white_end-self.ensures c.window-end.ensures.within
           (let e = c.window-end.ensures.short in omega arith),
-      (none, λ lt short e. c.if-text-self.false (e ∙ sym c.closing.ensures)),
+      (none_there c.args.text.now c.white_end-self.result none, λ lt short e. c.if-text-self.false (e ∙ sym c.closing.ensures)),
     )
 
 pub returns-in-OutOfMemory : goal.returns-in-OutOfMemory
@@ -67,5 +68,5 @@ pub returns-in_default : goal.returns-in_default
 returns-in_default c = λ vs row. (
   row_white c.args.self.now c.args.text.now vs c.white_end-self.result c.window-end.result row c.white_end-self.ensures c.window-end.ensures.within
       (let e = c.window-end.ensures.short in omega arith),
-  (c.in-Err.ensures c.in_default.not-OutOfMemory, λ lt short e. c.if-text-self.false (e ∙ sym c.closing.ensures)),
+  (none_there c.args.text.now c.white_end-self.result (c.in-Err.ensures c.in_default.not-OutOfMemory), λ lt short e. c.if-text-self.false (e ∙ sym c.closing.ensures)),
 )
