@@ -3,9 +3,9 @@ use Rattle.std.proofs.Common.{◌≡◌, ℕ, zero, suc, ◌+◌, ◌-◌, ◌<�
 use Rattle.std.proofs.lemmas.Bool.{cases_lt}
 use Rattle.std.specs.List.{slice_range}
 use Rattle.lin_edn.specs.Bytes.{Kind, a_map, Class, white, semicolon, opener, closer, quote, backslash, hash, inside, class, is_white, is_stop, is_newline, quoted, stays}
-use Rattle.lin_edn.specs.Grammar.{Frame, frame, longest}
+use Rattle.lin_edn.specs.Grammar.{Frame, frame, longest, outermost}
 use Rattle.lin_edn.specs.Levels.{flat}
-use Rattle.lin_edn.specs.Machine.{Answer, Turn, stop, fault, too_long, deeper, between, in_run, in_tag, in_text, in_comment, go, run, begun, outermost, on_turn, put}
+use Rattle.lin_edn.specs.Machine.{Answer, Turn, stop, fault, too_long, deeper, between, in_run, in_tag, in_text, in_comment, go, run, begun, on_turn, put}
 use Rattle.lin_edn.specs.Run.{run_value}
 use Rattle.lin_edn.specs.Scans.{IsStopAt, IsAhead, ArePairs, is_dark, is_quoting, is_inside}
 use Rattle.lin_edn.specs.declared.reader.Mode.{Mode as CodeMode}

@@ -2,8 +2,7 @@
 use Rattle.std.proofs.Common.{◌≡◌, ℕ, List, [], ◌∷◌, ◌++◌, refl, ap, ◌∙◌, Some, None, option_map, map as each, reverse}
 use Rattle.lin_edn.specs.Bytes.{a_map}
 use Rattle.lin_edn.specs.Value.{Value, map, entries_of, entry, pairs_from, made}
-use Rattle.lin_edn.specs.Grammar.{Frame}
-use Rattle.lin_edn.specs.Machine.{place_of, outermost}
+use Rattle.lin_edn.specs.Grammar.{Frame, place_of, outermost}
 use Rattle.lin_edn.specs.Levels.{flat, frame_view, frames_of}
 use Rattle.lin_edn.specs.declared.levels.Frame.{Frame as CodeFrame}
 use Rattle.std.specs.List.{slice_get}

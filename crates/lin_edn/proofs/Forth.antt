@@ -1,8 +1,8 @@
 -- What is spelled is read, where it has at most so many bytes.
 use Rattle.std.proofs.Common.{◌≡◌, ℕ, suc, ◌+◌, ◌<◌, ◌≤◌, true, false, List, [], ◌∷◌, ◌++◌, length, refl, sym, ap, ◌∙◌, arith, Some, nat_le, if◌then◌else◌, rules, tests}
 use Rattle.lin_edn.specs.Bytes.{Kind, a_list, a_vector, a_set, a_map, Class, opener, hash, class, is_stop, is_newline, closing, Behind, behind, opens_set, opens_text, discards as discards_next, joins, names_tag, Quoted, quoted, ends, escapes, stays}
-use Rattle.lin_edn.specs.Grammar.{One, one, Inside, first, joined, character, next, Tag, first_of_tag, next_of_tag, Text, Escape, opened, opened_by_hash, plain, pair, escape, Comment, starts, goes, Opens, bracket, set_bracket, Discard, discards, Blank, white_byte, comment, discarded, Blanks, no_blank, one_more, Element, run as a_run, hash_alone, whole_text, tagged_element, collection, Row, empty, blank, element, longest, ShortBlanks, no_blank_yet, one_more_short, Spells, spells, IsBlankText, nothing_more, open_comment, Frame, frame, discarding, tagging}
-use Rattle.lin_edn.specs.Machine.{Mode, between, in_run, after_hash, after_backslash, in_tag, in_text, in_escape, in_comment, complete, blank as blank_answer, Turn, go, stop, run, limited, ended, taken, begun, outermost, on_turn, put, deeper, begins, goes_on, quotes, apart, closed, too_long}
+use Rattle.lin_edn.specs.Grammar.{One, one, Inside, first, joined, character, next, Tag, first_of_tag, next_of_tag, Text, Escape, opened, opened_by_hash, plain, pair, escape, Comment, starts, goes, Opens, bracket, set_bracket, Discard, discards, Blank, white_byte, comment, discarded, Blanks, no_blank, one_more, Element, run as a_run, hash_alone, whole_text, tagged_element, collection, Row, empty, blank, element, longest, ShortBlanks, no_blank_yet, one_more_short, Spells, spells, IsBlankText, nothing_more, open_comment, Frame, frame, discarding, tagging, outermost}
+use Rattle.lin_edn.specs.Machine.{Mode, between, in_run, after_hash, after_backslash, in_tag, in_text, in_escape, in_comment, complete, blank as blank_answer, Turn, go, stop, run, limited, ended, taken, begun, on_turn, put, deeper, begins, goes_on, quotes, apart, closed, too_long}
 use Rattle.lin_edn.specs.Run.{run_value}
 use Rattle.lin_edn.specs.Value.{Value, atom, tagged, made}
 use Rattle.lin_edn.proofs.Rising.{one_rises, inside_rises, tag_rises, text_rises, escape_rises, comment_rises, opens_rise, blank_rises, blanks_rise, element_rises, row_rises}
@@ -25,7 +25,7 @@ pub begins_run : (most at : ℕ) (st : List Frame) (c : ℕ) (s : List ℕ) (k :
     run most at st between (c ∷ s) ≡ on_turn t (λ st' m'. run most (at + 1) st' m' s)
 begins_run most at st c s k t h lt f = takes most at st between c s t refl lt (ap (λ x. begins x at st c) h ∙ f)
 
-one_run : (most : ℕ) {p q : ℕ} {s t w : List ℕ} {k : Class} → One k p s w q t → (st : List Frame) (m : Mode) → p < outermost p st + most →
+pub one_run : (most : ℕ) {p q : ℕ} {s t w : List ℕ} {k : Class} → One k p s w q t → (st : List Frame) (m : Mode) → p < outermost p st + most →
     ((c : ℕ) → w ≡ c ∷ [] → begins k p st c ≡ go st m) → run most p st between s ≡ run most q st m t
 one_run most (one {p = p} {b = b} {s = s} {k = k} h) st m lt f = begins_run most p st b s k (go st m) h lt (f b refl)
 
@@ -89,7 +89,7 @@ pub hash_run : (most : ℕ) {p q : ℕ} {s t w : List ℕ} → One hash p s w q 
     run most p st between s ≡ run most q st (after_hash p w) t
 hash_run most {p = p} {w = w} i st lt = one_run most i st (after_hash p w) lt (λ c e. ap (λ x. go st (after_hash p x)) (sym e))
 
-inside_run : (most : ℕ) {p q : ℕ} {s t w : List ℕ} → Inside p s w q t → (st : List Frame) → q ≤ outermost p st + most →
+pub inside_run : (most : ℕ) {p q : ℕ} {s t w : List ℕ} → Inside p s w q t → (st : List Frame) → q ≤ outermost p st + most →
     run most p st between s ≡ run most q st (in_run p w) t
 inside_run most (first {p = p} {q = q} {w = w} i) st le =
     let a : p < q = one_rises i in one_run most i st (in_run p w) (omega arith) (λ c e. ap (λ x. go st (in_run p x)) (sym e))
@@ -104,7 +104,7 @@ inside_run most (next {p = p} {q = q} {b = b} {t = t} {w = w} i h) st le =
     let a : p < q = inside_rises i in inside_run most i st (omega arith) ∙ run_goes most q st p w b t h (omega arith)
 
 mutual
-  text_run : (most : ℕ) {p q : ℕ} {s t w : List ℕ} → Text p s w q t → (st : List Frame) → q ≤ outermost p st + most →
+  pub text_run : (most : ℕ) {p q : ℕ} {s t w : List ℕ} → Text p s w q t → (st : List Frame) → q ≤ outermost p st + most →
       run most p st between s ≡ run most q st (in_text p w) t
   text_run most (opened {p = p} {q = q} {w = w} i) st le =
       let a : p < q = one_rises i in one_run most i st (in_text p w) (omega arith) (λ c e. ap (λ x. go st (in_text p x)) (sym e))
@@ -116,12 +116,12 @@ mutual
   text_run most (pair {p = p} {q = q} {b = b} {t = t} {w = w} i) st le =
       let a : p < q = escape_rises i in escape_run most i st (omega arith) ∙ escape_goes most q st p w b t (omega arith)
 
-  escape_run : (most : ℕ) {p q : ℕ} {s t w : List ℕ} → Escape p s w q t → (st : List Frame) → q ≤ outermost p st + most →
+  pub escape_run : (most : ℕ) {p q : ℕ} {s t w : List ℕ} → Escape p s w q t → (st : List Frame) → q ≤ outermost p st + most →
       run most p st between s ≡ run most q st (in_escape p w) t
   escape_run most (escape {p = p} {q = q} {b = b} {t = t} {w = w} i h) st le =
       let a : p < q = text_rises i in text_run most i st (omega arith) ∙ text_goes most q st p w b t escapes h (omega arith)
 
-comment_run : (most : ℕ) {p q : ℕ} {s t : List ℕ} → Comment p s q t → (st : List Frame) → q ≤ outermost p st + most →
+pub comment_run : (most : ℕ) {p q : ℕ} {s t : List ℕ} → Comment p s q t → (st : List Frame) → q ≤ outermost p st + most →
     run most p st between s ≡ run most q st (in_comment p) t
 comment_run most (starts {p = p} {q = q} i) st le = let a : p < q = one_rises i in one_run most i st (in_comment p) (omega arith) (λ c e. refl)
 comment_run most (goes {p = p} {q = q} {b = b} {t = t} i h) st le =
@@ -131,7 +131,7 @@ comment_run most (goes {p = p} {q = q} {b = b} {t = t} i h) st le =
 pub enters : (at p : ℕ) (st : List Frame) (t : Turn) → length st < 64 → deeper at p st t ≡ t
 enters at p st t h = rw (is_above 64 (length st) h) refl
 
-tag_run : (most : ℕ) {p q : ℕ} {s t w : List ℕ} → Tag p s w q t → (st : List Frame) → length st < 64 → q ≤ outermost p st + most →
+pub tag_run : (most : ℕ) {p q : ℕ} {s t w : List ℕ} → Tag p s w q t → (st : List Frame) → length st < 64 → q ≤ outermost p st + most →
     run most p st between s ≡ run most q st (in_tag p w) t
 tag_run most (first_of_tag {p = p} {q = q} {b = b} {t = t} {w = w} i h) st lt le =
     let a : p < q = one_rises i in

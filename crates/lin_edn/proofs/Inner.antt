@@ -2,8 +2,8 @@
 use Rattle.std.proofs.Common.{◌≡◌, ℕ, true, suc, ◌+◌, ◌-◌, ◌<◌, ◌≤◌, List, [], ◌∷◌, length, drop, ap, ◌∙◌, Some, refl, subst, arith}
 use Rattle.std.proofs.lemmas.List.{drop-drop}
 use Rattle.lin_edn.specs.Bytes.{Kind, hash, behind, discards as discards_next, is_stop, closing}
-use Rattle.lin_edn.specs.Grammar.{One, Tag, Opens, discards, Blank, discarded, Blanks, no_blank, one_more, Element, tagged_element, collection, Row, empty, blank, element, longest, Frame, frame, discarding, tagging}
-use Rattle.lin_edn.specs.Machine.{Answer, complete, blank as blank_answer, partial, fault, too_long, between, outermost, put}
+use Rattle.lin_edn.specs.Grammar.{One, Tag, Opens, discards, Blank, discarded, Blanks, no_blank, one_more, Element, tagged_element, collection, Row, empty, blank, element, longest, Frame, frame, discarding, tagging, outermost}
+use Rattle.lin_edn.specs.Machine.{Answer, complete, blank as blank_answer, partial, fault, too_long, between, put}
 use Rattle.lin_edn.specs.Rows.{IsElementAt}
 use Rattle.lin_edn.specs.Scans.{IsBehindTag}
 use Rattle.lin_edn.specs.Value.{Value, tagged, made}

@@ -6,27 +6,27 @@ use Rattle.lin_edn.specs.Reading.{IsWrong}
 use Rattle.lin_edn.specs.Value.{Value}
 use Rattle.lin_edn.specs.declared.EdnCause.{EdnCause}
 
-one_longer : {p q : ℕ} {s t w : List ℕ} {k : Class} → One k p s w q t → (x : List ℕ) → One k p (s ++ x) w q (t ++ x)
+pub one_longer : {p q : ℕ} {s t w : List ℕ} {k : Class} → One k p s w q t → (x : List ℕ) → One k p (s ++ x) w q (t ++ x)
 one_longer (one h) x = one h
 
-inside_longer : {p q : ℕ} {s t w : List ℕ} → Inside p s w q t → (x : List ℕ) → Inside p (s ++ x) w q (t ++ x)
+pub inside_longer : {p q : ℕ} {s t w : List ℕ} → Inside p s w q t → (x : List ℕ) → Inside p (s ++ x) w q (t ++ x)
 inside_longer (first i) x = first (one_longer i x)
 inside_longer (joined i h) x = joined (one_longer i x) h
 inside_longer (character i) x = character (one_longer i x)
 inside_longer (next i h) x = next (inside_longer i x) h
 
-tag_longer : {p q : ℕ} {s t w : List ℕ} → Tag p s w q t → (x : List ℕ) → Tag p (s ++ x) w q (t ++ x)
+pub tag_longer : {p q : ℕ} {s t w : List ℕ} → Tag p s w q t → (x : List ℕ) → Tag p (s ++ x) w q (t ++ x)
 tag_longer (first_of_tag i h) x = first_of_tag (one_longer i x) h
 tag_longer (next_of_tag i h) x = next_of_tag (tag_longer i x) h
 
 mutual
-  text_longer : {p q : ℕ} {s t w : List ℕ} → Text p s w q t → (x : List ℕ) → Text p (s ++ x) w q (t ++ x)
+  pub text_longer : {p q : ℕ} {s t w : List ℕ} → Text p s w q t → (x : List ℕ) → Text p (s ++ x) w q (t ++ x)
   text_longer (opened i) x = opened (one_longer i x)
   text_longer (opened_by_hash i h) x = opened_by_hash (one_longer i x) h
   text_longer (plain i h) x = plain (text_longer i x) h
   text_longer (pair i) x = pair (escape_longer i x)
 
-  escape_longer : {p q : ℕ} {s t w : List ℕ} → Escape p s w q t → (x : List ℕ) → Escape p (s ++ x) w q (t ++ x)
+  pub escape_longer : {p q : ℕ} {s t w : List ℕ} → Escape p s w q t → (x : List ℕ) → Escape p (s ++ x) w q (t ++ x)
   escape_longer (escape i h) x = escape (text_longer i x) h
 
 pub comment_longer : {p q : ℕ} {s t : List ℕ} → Comment p s q t → (x : List ℕ) → Comment p (s ++ x) q (t ++ x)

@@ -1,8 +1,7 @@
 -- Places rise.
 use Rattle.std.proofs.Common.{ℕ, ◌+◌, ◌<◌, ◌≤◌, List, ◌∷◌, arith}
 use Rattle.lin_edn.specs.Bytes.{Kind, Class}
-use Rattle.lin_edn.specs.Grammar.{One, one, Inside, first, joined, character, next, Tag, first_of_tag, next_of_tag, Text, Escape, opened, opened_by_hash, plain, pair, escape, Comment, starts, goes, Opens, bracket, set_bracket, Discard, discards, Blank, white_byte, comment, discarded, Blanks, no_blank, one_more, Element, run, hash_alone, whole_text, tagged_element, collection, Row, empty, blank, element, Frame, Open, none_open, within, waits, awaits}
-use Rattle.lin_edn.specs.Machine.{outermost, place_of}
+use Rattle.lin_edn.specs.Grammar.{One, one, Inside, first, joined, character, next, Tag, first_of_tag, next_of_tag, Text, Escape, opened, opened_by_hash, plain, pair, escape, Comment, starts, goes, Opens, bracket, set_bracket, Discard, discards, Blank, white_byte, comment, discarded, Blanks, no_blank, one_more, Element, run, hash_alone, whole_text, tagged_element, collection, Row, empty, blank, element, Frame, Open, none_open, within, waits, awaits, outermost, place_of}
 use Rattle.lin_edn.specs.Value.{Value}
 
 pub one_rises : {p q : ℕ} {s t w : List ℕ} {k : Class} → One k p s w q t → p < q

@@ -1,22 +1,33 @@
 -- The reader without values goes with the machine.
-use Rattle.std.proofs.Common.{◌≡◌, ℕ, suc, ◌+◌, ◌<◌, Bool, true, false, not, ◌&&◌, ◌==◌, nat_le, if◌then◌else◌, List, [], ◌∷◌, ◌++◌, length, ◌≤◌, drop, length-drop, map as each, refl, sym, ap, ◌∙◌, arith, Option, Some, None, option_map, is_some, subst, rules, tests, append_assoc, append-nil, length-append}
+use Rattle.std.proofs.Common.{◌≡◌, ℕ, zero, suc, ◌+◌, ◌<◌, Bool, true, false, not, ◌&&◌, ◌==◌, nat_le, if◌then◌else◌, List, [], ◌∷◌, ◌++◌, length, ◌≤◌, drop, length-drop, map as each, refl, sym, ap, ◌∙◌, arith, Option, Some, None, option_map, is_some, subst, rules, tests, append_assoc, append-nil, length-append}
 use Rattle.std.proofs.lemmas.List.{length-map}
 use Rattle.lin_edn.specs.Bytes.{Kind, a_list, a_vector, a_set, a_map, Class, class, white, semicolon, opener, closer, quote, backslash, hash, inside, is_stop, is_newline, closing, Behind, behind, opens_set, opens_text, discards, joins, stands_apart, names_tag, Quoted, quoted, ends, escapes, stays}
-use Rattle.lin_edn.specs.Grammar.{Frame, frame, discarding, tagging, longest, IsUnfinished, IsBlankText}
-use Rattle.lin_edn.specs.Machine.{Mode, between, in_run, after_hash, after_backslash, in_tag, in_text, in_escape, in_comment, Answer, partial, blank, fault, too_long, Turn, go, stop, run, step, limited, ended, taken, begun, outermost, place_of, on_turn, put, deeper, begins, goes_on, quotes, apart, close, closed, at_end}
+use Rattle.lin_edn.specs.Grammar.{no_blank_yet, Open, none_open, Frame, frame, discarding, tagging, longest, IsUnfinished, IsBlankText, outermost, place_of}
+use Rattle.lin_edn.specs.Machine.{Mode, between, in_run, after_hash, after_backslash, in_tag, in_text, in_escape, in_comment, partial, blank, fault, too_long, Turn, go, stop, run, step, limited, ended, taken, begun, put, deeper, begins, goes_on, quotes, apart, close, closed, at_end}
 use Rattle.lin_edn.specs.Run.{run_value}
 use Rattle.lin_edn.specs.Rows.{IsRow, bracket_of}
-use Rattle.lin_edn.specs.Skimming.{Shape, brackets, a_discard, a_tag, shape_of, part_of, grown, still, put_shape, with_part, apart_shape, ended_shape, deeper_shape, close_shape, begins_shape, goes_on_shape, quotes_shape, taken_shape, Stops, GoesWith, HasSeen, HasGone, shapes_of, is_top_comment, IsOpenText}
+use Rattle.lin_edn.specs.Skimming.{Shape, brackets, a_discard, a_tag, shape_of, grown, still, put_shape, with_part, apart_shape, ended_shape, deeper_shape, close_shape, begins_shape, goes_on_shape, quotes_shape, taken_shape, IsIn, LeavesOpen, HasSeen, HasGone, shapes_of, IsOpenText}
 use Rattle.lin_edn.specs.Value.{Value, Entries, atom, text as a_text, tagged, made, map, pairs_from, entry}
 use Rattle.lin_edn.specs.declared.EdnCause.TheVariants.{Unbalanced, TooDeep}
 use Rattle.lin_edn.specs.declared.series.Series.{Series}
 use Rattle.lin_edn.specs.declared.skim.Part.{Part}
 use Rattle.lin_edn.specs.declared.skim.Part.TheVariants as part
 use Rattle.lin_edn.specs.declared.skim.Skim.{Skim}
-use Rattle.lin_edn.proofs.Back.{What, what}
-use Rattle.lin_edn.proofs.Longer.{open_longer}
+use Rattle.lin_edn.proofs.Back.{What, what, Stands, AfterTurn, step_holds}
+use Rattle.lin_edn.proofs.Longer.{one_longer, inside_longer, tag_longer, text_longer, escape_longer, comment_longer, open_longer}
 use Rattle.lin_edn.proofs.Sound.{unfinished_of}
-use Rattle.lin_edn.proofs.Wrong.{open_run}
+use Rattle.lin_edn.proofs.Wrong.{stands_run}
+
+-- the part that a machine is in
+abbrev pub part_of : Mode → Part
+part_of between = part.Between
+part_of (in_run p w) = part.Run
+part_of (after_hash p w) = part.Hash
+part_of (after_backslash p w) = part.Backslash
+part_of (in_tag p w) = part.Tag
+part_of (in_text p w) = part.Text
+part_of (in_escape p w) = part.Escape
+part_of (in_comment p) = part.Comment
 
 -- whether a level can be closed after one more element
 some_map : (f : Entries → Value) (o : Option Entries) → is_some (option_map f o) ≡ is_some o
@@ -189,42 +200,66 @@ limited_follows at c t ls1 ls2 p1 p2 (follows st m e s q b) lt h =
     subst (λ x. Follows (at + 1) 0 (limited longest at c x) ls2 p2) (sym e)
     (subst (λ x. Follows (at + 1) 0 (if x then stop (too_long (begun at st m)) else taken at st m c) ls2 p2) (sym (is_above (begun at st m + longest) at above)) next)
 
-run_step : (at : ℕ) (st : List Frame) (m : Mode) (c : ℕ) (x : List ℕ) →
-    run longest at st m (c ∷ x) ≡ on_turn (step longest at st m c) (λ st' m'. run longest (at + 1) st' m' x)
-unfolding run
-run_step at st m c x = refl
+-- where the machine is, in words of the grammar
+leaves_of : (text rest : List ℕ) (at : ℕ) (st : List Frame) (m : Mode) → Stands text at st m rest → at ≤ longest → begun at st m ≡ 0 →
+    LeavesOpen text at rest (each shape_of st) (part_of m)
+leaves_of text rest at st between h le b = (le, h.0, st, at, rest, h.1, (refl, refl), refl, b)
+leaves_of text rest at st (in_run p w) h le b = (le, h.0, st, p, h.1, h.2, (w, h.3), refl, b)
+leaves_of text rest at st (after_hash p w) h le b = (le, h.0, st, p, h.1, h.2, (w, h.3), refl, b)
+leaves_of text rest at st (after_backslash p w) h le b = (le, h.0, st, p, h.1, h.2, (w, h.3), refl, b)
+leaves_of text rest at st (in_tag p w) h le b = (le, suc h.0, st, p, h.1, h.2, (omega arith, w, h.3), refl, b)
+leaves_of text rest at st (in_text p w) h le b = (le, h.0, st, p, h.1, h.2, (w, h.3), refl, b)
+leaves_of text rest at st (in_escape p w) h le b = (le, h.0, st, p, h.1, h.2, (w, h.3), refl, b)
+leaves_of text rest at st (in_comment p) h le b = (le, h.0, st, p, h.1, h.2, h.3, refl, b)
 
-more_stops : (at : ℕ) (st : List Frame) (m : Mode) (c : ℕ) (ls : List Shape) (p : Part) (answers : List ℕ → Answer) →
-    ((x : List ℕ) → answers x ≡ run longest at st m x) → Follows (at + 1) 0 (step longest at st m c) ls p → Stops (at + 1) ls p (λ x. answers (c ∷ x))
-more_stops at st m c ls p answers h (follows st2 m2 e s q b) = (
-  st2,
-  m2,
-  s,
-  q,
-  b,
-  λ x. h (c ∷ x) ∙ run_step at st m c x ∙ ap (λ t. on_turn t (λ st3 m3. run longest (at + 1) st3 m3 x)) e,
-)
+state_of : (part : Part) (n p at : ℕ) (st : List Frame) (text s rest : List ℕ) → Open text n st p s → IsIn part n p s at rest →
+    (m : Mode) × (part_of m ≡ part) × (begun at st m ≡ outermost p st) × Stands text at st m rest
+state_of part.Between n p at st text s rest o i =
+    (between, refl, ap (λ q. outermost q st) (sym i.0), (n, subst (λ q. Open text n st q rest) i.0 (subst (Open text n st p) i.1 o)))
+state_of part.Run n p at st text s rest o i = (in_run p i.0, refl, refl, (n, s, o, i.1))
+state_of part.Hash n p at st text s rest o i = (after_hash p i.0, refl, refl, (n, s, o, i.1))
+state_of part.Backslash n p at st text s rest o i = (after_backslash p i.0, refl, refl, (n, s, o, i.1))
+state_of part.Tag zero p at st text s rest o i = (let none = i.0 in absurd (omega arith))
+state_of part.Tag (suc n) p at st text s rest o i = (in_tag p i.1, refl, refl, (n, s, o, i.2))
+state_of part.Text n p at st text s rest o i = (in_text p i.0, refl, refl, (n, s, o, i.1))
+state_of part.Escape n p at st text s rest o i = (in_escape p i.0, refl, refl, (n, s, o, i.1))
+state_of part.Comment n p at st text s rest o i = (in_comment p, refl, refl, (n, s, o, i))
 
-pub stops_more : (at c : ℕ) (ls ls1 ls2 : List Shape) (p p1 p2 : Part) → ended_shape p ls c ≡ Some (ls1, p1) → at < longest →
-    taken_shape p1 ls1 c ≡ Some (ls2, p2) → (answers : List ℕ → Answer) → Stops at ls p answers → Stops (at + 1) ls2 p2 (λ x. answers (c ∷ x))
-stops_more at c ls ls1 ls2 p p1 p2 e lt f answers seen =
-    let st = seen.0 in
-    let m = seen.1 in
-    let shaped : ended_shape (part_of m) (each shape_of st) c ≡ Some (ls1, p1) = ap (λ x. ended_shape x (each shape_of st) c) seen.3 ∙ ap (λ x. ended_shape p x c) seen.2 ∙ e in
-    let first_half = subst (λ b. Follows at b (ended at st m c) ls1 p1) seen.4 (matched at (begun at st m) (ended at st m c) _ (ls1, p1) shaped (ended_matches at c st m)) in
-    more_stops at st m c ls2 p2 answers seen.5 (limited_follows at c (ended at st m c) ls1 ls2 p1 p2 first_half lt f)
+after_step : (text rest : List ℕ) (at : ℕ) (t : Turn) (ls : List Shape) (p : Part) → Follows at 0 t ls p → AfterTurn text at rest t → at ≤ longest →
+    LeavesOpen text at rest ls p
+after_step text rest at t ls p (follows st m e s q b) h le =
+    subst (LeavesOpen text at rest ls) q (subst (λ x. LeavesOpen text at rest x (part_of m)) s (leaves_of text rest at st m (subst (AfterTurn text at rest) e h).0 le b))
 
--- the same answers
-pub stops_same : (n : ℕ) (ls : List Shape) (p : Part) (f g : List ℕ → Answer) → ((x : List ℕ) → g x ≡ f x) → Stops n ls p f → Stops n ls p g
-stops_same n ls p f g h s = (s.0, s.1, s.2, s.3, s.4, λ x. h x ∙ s.5 x)
+pub one_more_open : (at c : ℕ) (ls ls1 ls2 : List Shape) (p p1 p2 : Part) → ended_shape p ls c ≡ Some (ls1, p1) → at < longest →
+    taken_shape p1 ls1 c ≡ Some (ls2, p2) → (text rest : List ℕ) → LeavesOpen text at (c ∷ rest) ls p → LeavesOpen text (at + 1) rest ls2 p2
+one_more_open at c ls ls1 ls2 p p1 p2 e lt f text rest seen =
+    let st = seen.2 in
+    let state = state_of p seen.1 seen.3 at st text seen.4 (c ∷ rest) seen.5 seen.6 in
+    let m = state.0 in
+    let first_byte : begun at st m ≡ 0 = state.2 ∙ seen.8 in
+    let shaped : ended_shape (part_of m) (each shape_of st) c ≡ Some (ls1, p1) = ap (λ x. ended_shape x (each shape_of st) c) state.1 ∙ ap (λ x. ended_shape p x c) seen.7 ∙ e in
+    let first_half = subst (λ b. Follows at b (ended at st m c) ls1 p1) first_byte (matched at (begun at st m) (ended at st m c) _ (ls1, p1) shaped (ended_matches at c st m)) in
+    after_step text rest (at + 1) (step longest at st m c) ls2 p2 (limited_follows at c (ended at st m c) ls1 ls2 p1 p2 first_half lt f)
+    (step_holds at c text rest st m state.3 (omega arith)) (omega arith)
 
-pub stops_none : (n : ℕ) (ls : List Shape) (p : Part) → n ≡ 0 → ls ≡ [] → p ≡ part.Between → Stops n ls p (λ x. run longest 0 [] between x)
-stops_none n ls p a b c = ([], between, sym b, sym c, a, λ x. ap (λ k. run longest k [] between x) (sym a))
+pub none_seen : (ls : List Shape) → ls ≡ [] → LeavesOpen [] 0 [] ls part.Between
+none_seen ls e = (omega arith, 64, [], 0, [], none_open no_blank_yet, (refl, refl), sym e, refl)
 
 -- what is open
 end_run : (at : ℕ) (st : List Frame) (m : Mode) → run longest at st m [] ≡ at_end at m st
 unfolding run
 end_run at st m = refl
+
+-- a comment is open and nothing round it
+abbrev pub is_top_comment : Part → List Shape → Bool
+is_top_comment part.Between ls = false
+is_top_comment part.Run ls = false
+is_top_comment part.Hash ls = false
+is_top_comment part.Backslash ls = false
+is_top_comment part.Tag ls = false
+is_top_comment part.Text ls = false
+is_top_comment part.Escape ls = false
+is_top_comment part.Comment ls = length ls == 0
 
 partial_at : (text : List ℕ) (p : ℕ) → run longest 0 [] between text ≡ partial p → p ≡ 0 → IsUnfinished text 0
 partial_at text p e z = subst (IsUnfinished text) z (unfinished_of text p e)
@@ -249,34 +284,48 @@ open_case text [] (in_comment p) lt b e = blank_at text p e b
 open_case text (f ∷ st) (in_comment p) lt b e =
     subst (λ x. IsOpenText x text) (sym (not_zero (length (each shape_of st)))) (partial_at text (outermost (place_of f) st) e b)
 
-pub seen_open : (n : ℕ) (text : List ℕ) (ls : List Shape) (p : Part) → n ≡ length text → Stops n ls p (λ x. run longest 0 [] between (text ++ x)) → 0 < length text →
-    IsOpenText (is_top_comment p ls) text
-seen_open n text ls p size seen lt =
-    let st = seen.0 in
-    let m = seen.1 in
+pub seen_open : (skim : Skim) (text : List ℕ) → HasSeen skim text → 0 < length text → IsOpenText (is_top_comment skim.part (shapes_of skim.levels.items)) text
+seen_open skim text seen lt =
+    let at = skim.length in
+    let size : at ≡ length text = seen.0 in
+    let open_there = seen.1 in
+    let st = open_there.2 in
+    let state = state_of skim.part open_there.1 open_there.3 at st text open_there.4 [] open_there.5 open_there.6 in
+    let m = state.0 in
     let all : run longest 0 [] between text ≡ at_end (length text) m st =
-    ap (run longest 0 [] between) (sym (append-nil text)) ∙ seen.5 [] ∙ end_run n st m ∙ ap (λ k. at_end k m st) size in
-    let since_first : begun (length text) st m ≡ 0 = ap (λ k. begun k st m) (sym size) ∙ seen.4 in
-    subst (λ x. IsOpenText (is_top_comment x ls) text) seen.3
-    (subst (λ x. IsOpenText (is_top_comment (part_of m) x) text) seen.2 (open_case text st m lt since_first all))
+    stands_run text at st m [] state.3 open_there.0 ∙ end_run at st m ∙ ap (λ k. at_end k m st) size in
+    let since_first : begun (length text) st m ≡ 0 = ap (λ k. begun k st m) (sym size) ∙ state.2 ∙ open_there.8 in
+    subst (λ x. IsOpenText (is_top_comment x (shapes_of skim.levels.items)) text) state.1
+    (subst (λ x. IsOpenText (is_top_comment (part_of m) x) text) open_there.7 (open_case text st m lt since_first all))
 
 -- going on
 pub nothing_gone : (skim : Skim) → HasGone skim skim []
-nothing_gone skim = (omega arith, λ answers h. h)
+nothing_gone skim = (omega arith, λ text rest h. h)
 
 pub gone_twice : (a b d : Skim) (s t : List ℕ) → HasGone a b s → HasGone b d t → HasGone a d (s ++ t)
 gone_twice a b d s t g h = (
   (let e = length-append s t in let i : b.length ≡ a.length + length s = g.0 in let j : d.length ≡ b.length + length t = h.0 in omega arith),
-  λ answers goes. stops_same d.length (shapes_of d.levels.items) d.part (λ x. answers (s ++ (t ++ x))) (λ x. answers ((s ++ t) ++ x))
-      (λ x. ap answers (append_assoc s t x)) (h.1 (λ x. answers (s ++ x)) (g.1 answers goes)),
+  λ text rest seen. h.1 text rest (g.1 text (t ++ rest) (subst (λ l. LeavesOpen text a.length l (shapes_of a.levels.items) a.part) (append_assoc s t rest) seen)),
 )
 
+-- more bytes behind a text
+in_longer : (part : Part) (n p q : ℕ) (s t : List ℕ) → IsIn part n p s q t → (x : List ℕ) → IsIn part n p (s ++ x) q (t ++ x)
+in_longer part.Between n p q s t i x = (i.0, ap (λ l. l ++ x) i.1)
+in_longer part.Run n p q s t i x = (i.0, inside_longer i.1 x)
+in_longer part.Hash n p q s t i x = (i.0, one_longer i.1 x)
+in_longer part.Backslash n p q s t i x = (i.0, one_longer i.1 x)
+in_longer part.Tag n p q s t i x = (i.0, i.1, tag_longer i.2 x)
+in_longer part.Text n p q s t i x = (i.0, text_longer i.1 x)
+in_longer part.Escape n p q s t i x = (i.0, escape_longer i.1 x)
+in_longer part.Comment n p q s t i x = comment_longer i x
+
 pub seen_gone : (old new : Skim) (text piece : List ℕ) → HasGone old new piece → HasSeen old text → HasSeen new (text ++ piece)
-seen_gone old new text piece g seen = (
-  (let e = length-append text piece in let i : new.length ≡ old.length + length piece = g.0 in let j : old.length ≡ length text = seen.0 in omega arith),
-  stops_same new.length (shapes_of new.levels.items) new.part (λ x. run longest 0 [] between (text ++ (piece ++ x))) (λ x. run longest 0 [] between ((text ++ piece) ++ x))
-      (λ x. ap (run longest 0 [] between) (append_assoc text piece x)) (g.1 (λ x. run longest 0 [] between (text ++ x)) seen.1),
-)
+seen_gone old new text piece g seen =
+    let h = seen.1 in (
+      (let e = length-append text piece in let i : new.length ≡ old.length + length piece = g.0 in let j : old.length ≡ length text = seen.0 in omega arith),
+      g.1 (text ++ piece) [] (subst (λ l. LeavesOpen (text ++ piece) old.length l (shapes_of old.levels.items) old.part) (sym (append-nil piece))
+          (h.0, h.1, h.2, h.3, h.4 ++ piece, open_longer h.5 piece, in_longer old.part h.1 h.3 old.length h.4 [] h.6 piece, h.7, h.8)),
+    )
 
 -- in a list or vector
 row_shape : (b : Bool) (vs : List Value) → shape_of (frame (bracket_of b) 0 vs) ≡ brackets (bracket_of b) true
@@ -286,16 +335,9 @@ row_shape false vs = refl
 pub seen_in : (r : Series) (text : List ℕ) (vs : List Value) (old new : Skim) → old.length ≡ r.at → shapes_of old.levels.items ≡ brackets (bracket_of r.is_vector) true ∷ [] →
     old.part ≡ part.Between → HasGone old new (drop r.at text) → IsRow r text vs → HasSeen new text
 seen_in r text vs old new size shapes is_between g row =
-    let st : List Frame = frame (bracket_of r.is_vector) 0 vs ∷ [] in
-    let begins : GoesWith old (λ x. run longest r.at st between x) = (
-      st,
-      between,
-      ap (λ l. l ∷ []) (row_shape r.is_vector vs) ∙ sym shapes,
-      sym is_between,
-      refl,
-      λ x. ap (λ n. run longest n st between x) (sym size),
-    ) in (
-      (let e = length-drop r.at text in let i : r.at ≤ length text = row.0 in let j : new.length ≡ old.length + length (drop r.at text) = g.0 in omega arith),
-      stops_same new.length (shapes_of new.levels.items) new.part (λ x. run longest r.at st between (drop r.at text ++ x)) (λ x. run longest 0 [] between (text ++ x))
-          (λ x. open_run longest (open_longer row.2 x) row.1) (g.1 (λ x. run longest r.at st between x) begins),
+    let rest = drop r.at text in
+    let begins : LeavesOpen text r.at rest (brackets (bracket_of r.is_vector) true ∷ []) part.Between =
+    (row.1, 63, frame (bracket_of r.is_vector) 0 vs ∷ [], r.at, rest, row.2, (refl, refl), ap (λ l. l ∷ []) (row_shape r.is_vector vs), refl) in (
+      (let e = length-drop r.at text in let i : r.at ≤ length text = row.0 in let j : new.length ≡ old.length + length rest = g.0 in omega arith),
+      g.1 text [] (rw (size, shapes, is_between, append-nil rest) begins),
     )

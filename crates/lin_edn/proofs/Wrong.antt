@@ -1,15 +1,15 @@
 -- What is wrong with a byte is what the machine tells, where the limit is great enough.
-use Rattle.std.proofs.Common.{◌≡◌, ℕ, suc, ◌+◌, ◌<◌, ◌≤◌, true, false, List, [], ◌∷◌, length, refl, ap, ◌∙◌, arith, None, nat_le, if◌then◌else◌}
+use Rattle.std.proofs.Common.{◌≡◌, ℕ, suc, ◌+◌, ◌<◌, ◌≤◌, true, false, List, [], ◌∷◌, length, refl, sym, ap, ◌∙◌, arith, None, nat_le, if◌then◌else◌}
 use Rattle.lin_edn.specs.Bytes.{Kind, a_list, a_vector, a_set, a_map, hash, opener, closer, closing, Behind, behind, opens_set, opens_text, discards as discards_next, joins, stands_apart, names_tag}
-use Rattle.lin_edn.specs.Grammar.{One, Frame, frame, discarding, tagging, Open, none_open, within, waits, awaits, fits, deepens, Faulty, unbalanced, odd_map, too_deep, hash_too_deep}
-use Rattle.lin_edn.specs.Machine.{run, between, Turn, stop, fault, outermost, deeper, close, closed}
+use Rattle.lin_edn.specs.Grammar.{longest, One, Frame, frame, discarding, tagging, Open, none_open, within, waits, awaits, fits, deepens, Faulty, unbalanced, odd_map, too_deep, hash_too_deep, outermost}
+use Rattle.lin_edn.specs.Machine.{Mode, in_run, after_hash, after_backslash, in_tag, in_text, in_escape, in_comment, go, run, between, Turn, stop, fault, deeper, close, closed}
 use Rattle.lin_edn.specs.Value.{Value, made}
 use Rattle.lin_edn.specs.declared.EdnCause.{EdnCause}
 use Rattle.lin_edn.specs.declared.EdnCause.TheVariants.{Unbalanced, OddMap, TooDeep}
-use Rattle.lin_edn.proofs.Back.{levels}
-use Rattle.lin_edn.proofs.Forth.{takes, begins_run, hash_run, hash_goes, opens_run, row_run, discard_opens, tag_opens, blanks_run, long_run}
+use Rattle.lin_edn.proofs.Back.{Stands, levels}
+use Rattle.lin_edn.proofs.Forth.{takes, begins_run, one_run, hash_run, inside_run, tag_run, text_run, escape_run, comment_run, hash_goes, opens_run, row_run, discard_opens, tag_opens, blanks_run, long_run}
 use Rattle.lin_edn.proofs.Fronts.{long}
-use Rattle.lin_edn.proofs.Rising.{one_rises, tag_rises, opens_rise, blanks_rise, row_rises}
+use Rattle.lin_edn.proofs.Rising.{one_rises, inside_rises, tag_rises, text_rises, escape_rises, comment_rises, opens_rise, blanks_rise, row_rises}
 
 -- up to what is open
 pub open_run : (most : ℕ) {n p : ℕ} {s t : List ℕ} {st : List Frame} → Open s n st p t → p ≤ most → run most 0 [] between s ≡ run most p st between t
@@ -29,6 +29,26 @@ open_run most (awaits {n = n} {p = p} {q = q} {r = r} {w = w} {st = st} o tg h b
     let b : q ≤ r = blanks_rise bs in
     let all : suc n + length st ≡ 64 = levels o in
     open_run most o (omega arith) ∙ tag_opens most tg h st (omega arith) (omega arith) ∙ blanks_run most bs (tagging p (p + 1) w) st (omega arith) (omega arith)
+
+pub stands_run : (text : List ℕ) (at : ℕ) (st : List Frame) (m : Mode) (rest : List ℕ) → Stands text at st m rest → at ≤ longest →
+    run longest 0 [] between text ≡ run longest at st m rest
+stands_run text at st between rest h le = open_run longest h.1 le
+stands_run text at st (in_run p w) rest h le =
+    let a : p < at = inside_rises h.3 in open_run longest h.2 (omega arith) ∙ inside_run longest h.3 st (omega arith)
+stands_run text at st (after_hash p w) rest h le =
+    let a : p < at = one_rises h.3 in open_run longest h.2 (omega arith) ∙ hash_run longest h.3 st (omega arith)
+stands_run text at st (after_backslash p w) rest h le =
+    let a : p < at = one_rises h.3 in
+    open_run longest h.2 (omega arith) ∙ one_run longest h.3 st (after_backslash p w) (omega arith) (λ c e. ap (λ x. go st (after_backslash p x)) (sym e))
+stands_run text at st (in_tag p w) rest h le =
+    let a : p < at = tag_rises h.3 in let all : suc h.0 + length st ≡ 64 = levels h.2 in
+    open_run longest h.2 (omega arith) ∙ tag_run longest h.3 st (omega arith) (omega arith)
+stands_run text at st (in_text p w) rest h le =
+    let a : p < at = text_rises h.3 in open_run longest h.2 (omega arith) ∙ text_run longest h.3 st (omega arith)
+stands_run text at st (in_escape p w) rest h le =
+    let a : p < at = escape_rises h.3 in open_run longest h.2 (omega arith) ∙ escape_run longest h.3 st (omega arith)
+stands_run text at st (in_comment p) rest h le =
+    let a : p < at = comment_rises h.3 in open_run longest h.2 (omega arith) ∙ comment_run longest h.3 st (omega arith)
 
 -- a closing byte that doesn't close
 unfit : (at c : ℕ) (st : List Frame) → fits st c ≡ false → close at st c ≡ stop (fault at at Unbalanced)

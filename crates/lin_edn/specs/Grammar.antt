@@ -155,6 +155,17 @@ pub data Open : List ℕ → ℕ → List Frame → ℕ → List ℕ → Type 0 
   awaits : {n p q r c : ℕ} {s t u x w : List ℕ} {st : List Frame} →
       Open s (suc n) st p t → Tag p t w q (c ∷ u) → is_stop c ≡ true → Blanks n q (c ∷ u) r x → Open s n (tagging p (p + 1) w ∷ st) r x
 
+-- where an open level begins
+abbrev pub place_of : Frame → ℕ
+place_of (frame k o vs) = o
+place_of (discarding o) = o
+place_of (tagging o i w) = o
+
+-- where the outermost of what is open begins, the innermost of which is no level and begins at a place
+abbrev pub outermost : ℕ → List Frame → ℕ
+outermost p [] = p
+outermost p (f ∷ st) = outermost (place_of f) st
+
 -- a byte closes the innermost open bracket
 abbrev pub fits : List Frame → ℕ → Bool
 fits [] c = false

@@ -1,8 +1,7 @@
 -- One pass over the bytes with a stack, as the code makes it: cited by the contracts of private functions alone.
--- What public contracts say of a text that is read in parts, `IsRow` and `HasSeen`, is said with its `run`.
 use Rattle.std.specs.Prelude.{ℕ, ◌+◌, List, [], ◌∷◌, ◌++◌, length, Option, Some, None, if◌then◌else◌, ◌==◌, nat_le}
 use Rattle.lin_edn.specs.Bytes.{a_set, Class, white, semicolon, opener, closer, quote, backslash, hash, inside, class, is_stop, is_newline, closing, Behind, behind, opens_set, opens_text, discards, joins, stands_apart, names_tag, Quoted, quoted, ends, escapes, stays}
-use Rattle.lin_edn.specs.Grammar.{Frame, frame, discarding, tagging}
+use Rattle.lin_edn.specs.Grammar.{Frame, frame, discarding, tagging, place_of, outermost}
 use Rattle.lin_edn.specs.Run.{run_value}
 use Rattle.lin_edn.specs.Value.{Value, atom, text, tagged, made}
 use Rattle.lin_edn.specs.declared.EdnCause.{EdnCause}
@@ -108,16 +107,6 @@ taken at st (in_tag p w) c = go st (in_tag p (w ++ c ∷ []))
 taken at st (in_text p w) c = quotes (quoted c) at st p w c
 taken at st (in_escape p w) c = go st (in_text p (w ++ c ∷ []))
 taken at st (in_comment p) c = if is_newline c then go st between else go st (in_comment p)
-
-abbrev pub place_of : Frame → ℕ
-place_of (frame k o vs) = o
-place_of (discarding o) = o
-place_of (tagging o i w) = o
-
--- where the outermost of what is open begins
-abbrev pub outermost : ℕ → List Frame → ℕ
-outermost p [] = p
-outermost p (f ∷ st) = outermost (place_of f) st
 
 abbrev pub since : ℕ → Mode → ℕ
 since at between = at

@@ -2,11 +2,11 @@
 use Rattle.std.specs.Prelude.{◌≡◌, ◌≢◌, ℕ, ◌+◌, ◌<◌, ◌≤◌, Bool, true, false, not, ◌||◌, ◌==◌, List, [], ◌∷◌, ◌++◌, length, drop, slice_index, Option, Some, None, Result, Ok, Err}
 use Rattle.std.specs.List.{slice_range}
 use Rattle.lin_edn.specs.Bytes.{a_map, Kind, is_white, Class, white, semicolon, opener, closer, quote, backslash, hash, inside}
-use Rattle.lin_edn.specs.Grammar.{Frame, frame, tagging, longest}
+use Rattle.lin_edn.specs.Grammar.{Frame, frame, tagging, longest, outermost}
 use Rattle.lin_edn.specs.Levels.{flat, frames_of}
 use Rattle.lin_edn.specs.Run.{run_value}
 use Rattle.lin_edn.specs.Value.{Value, tagged}
-use Rattle.lin_edn.specs.Machine.{Answer, complete, run, between, outermost}
+use Rattle.lin_edn.specs.Machine.{Answer, complete, run, between}
 use Rattle.lin_edn.specs.Turns.{mode_of, IsBegun, IsFault}
 use Rattle.lin_edn.specs.View.{view}
 use Rattle.lin_edn.specs.declared.Edn.{Edn}

@@ -1,9 +1,8 @@
--- What a reader that keeps no values knows of the text so far: `HasSeen` and `IsOpenText` are what public contracts cite;
--- the rest is for these, or is cited by the contracts of private functions alone.
-use Rattle.std.specs.Prelude.{◌≡◌, ℕ, ◌+◌, Bool, true, false, ◌&&◌, ◌==◌, nat_le, if◌then◌else◌, List, [], ◌∷◌, ◌++◌, length, map, reverse, Option, Some, None, option_map, is_some, not}
+-- What a reader that keeps no values knows of the text so far: `HasSeen` and `IsOpenText`, in words of the grammar, are what
+-- public contracts cite; the steps over shapes and `HasGone` are cited by the contracts of private functions alone.
+use Rattle.std.specs.Prelude.{◌≡◌, ℕ, ◌+◌, ◌<◌, ◌≤◌, Bool, true, false, ◌&&◌, ◌==◌, nat_le, if◌then◌else◌, List, [], ◌∷◌, ◌++◌, length, map, reverse, Option, Some, None, option_map, is_some, not}
 use Rattle.lin_edn.specs.Bytes.{Kind, a_list, a_vector, a_set, a_map, Class, class, white, semicolon, opener, closer, quote, backslash, hash, inside, is_stop, is_newline, closing, Behind, behind, opens_set, opens_text, discards, joins, stands_apart, names_tag, Quoted, quoted, ends, escapes, stays}
-use Rattle.lin_edn.specs.Grammar.{Frame, frame, discarding, tagging, longest, IsUnfinished, IsBlankText}
-use Rattle.lin_edn.specs.Machine.{Mode, between, in_run, after_hash, after_backslash, in_tag, in_text, in_escape, in_comment, Answer, run, begun}
+use Rattle.lin_edn.specs.Grammar.{One, Inside, Tag, Text, Escape, Comment, Frame, frame, discarding, tagging, outermost, Open, longest, IsUnfinished, IsBlankText}
 use Rattle.lin_edn.specs.Value.{made}
 use Rattle.lin_edn.specs.declared.skim.Level.{Level}
 use Rattle.lin_edn.specs.declared.skim.Level.TheVariants as level
@@ -34,16 +33,6 @@ level_view level.Discard = a_discard
 -- the open levels, the innermost first
 abbrev pub shapes_of : List Level → List Shape
 shapes_of ls = reverse (map level_view ls)
-
-abbrev pub part_of : Mode → Part
-part_of between = part.Between
-part_of (in_run p w) = part.Run
-part_of (after_hash p w) = part.Hash
-part_of (after_backslash p w) = part.Backslash
-part_of (in_tag p w) = part.Tag
-part_of (in_text p w) = part.Text
-part_of (in_escape p w) = part.Escape
-part_of (in_comment p) = part.Comment
 
 -- whether a level can be closed after one more element
 abbrev pub grown : Kind → Bool → Bool
@@ -133,34 +122,31 @@ taken_shape part.Text ls c = quotes_shape (quoted c) ls
 taken_shape part.Escape ls c = Some (ls, part.Text)
 taken_shape part.Comment ls c = if is_newline c then with_part part.Between (still ls) else Some (ls, part.Comment)
 
--- at a place a machine that answers as told has these levels and this part open, and the outermost of them began with the first byte
-abbrev pub Stops : ℕ → List Shape → Part → (List ℕ → Answer) → Type 0
-Stops n ls p answers = (st : List Frame) × (m : Mode) × (map shape_of st ≡ ls) × (part_of m ≡ p) × (begun n st m ≡ 0)
-    × ((x : List ℕ) → answers x ≡ run longest n st m x)
+-- with so many more levels, this is open beside the levels from one place up to another
+abbrev pub IsIn : Part → ℕ → ℕ → List ℕ → ℕ → List ℕ → Type 0
+IsIn part.Between n p s q t = (p ≡ q) × (s ≡ t)
+IsIn part.Run n p s q t = (w : List ℕ) × Inside p s w q t
+IsIn part.Hash n p s q t = (w : List ℕ) × One hash p s w q t
+IsIn part.Backslash n p s q t = (w : List ℕ) × One backslash p s w q t
+IsIn part.Tag n p s q t = (0 < n) × (w : List ℕ) × Tag p s w q t
+IsIn part.Text n p s q t = (w : List ℕ) × Text p s w q t
+IsIn part.Escape n p s q t = (w : List ℕ) × Escape p s w q t
+IsIn part.Comment n p s q t = Comment p s q t
 
--- the reader without values is where a machine is that answers as told what stands behind
-abbrev pub GoesWith : Skim → (List ℕ → Answer) → Type 0
-GoesWith skim answers = Stops skim.length (shapes_of skim.levels.items) skim.part answers
+-- The bytes of a text before a place, no more than the longest element has, leave these levels open, and behind them this part;
+-- the outermost of what is open begins with the first byte.
+abbrev pub LeavesOpen : List ℕ → ℕ → List ℕ → List Shape → Part → Type 0
+LeavesOpen text at rest levels part = (at ≤ longest) × (n : ℕ) × (st : List Frame) × (p : ℕ) × (s : List ℕ) × Open text n st p s × IsIn part n p s at rest
+    × (map shape_of st ≡ levels) × (outermost p st ≡ 0)
 
--- The reader without values is right for the text so far, which is open from its first byte on.
+-- The reader without values has the levels and the part that a text leaves open at its end, from its first byte on.
 abbrev pub HasSeen : Skim → List ℕ → Type 0
-HasSeen skim text = (skim.length ≡ length text) × GoesWith skim (λ x. run longest 0 [] between (text ++ x))
+HasSeen skim text = (skim.length ≡ length text) × LeavesOpen text skim.length [] (shapes_of skim.levels.items) skim.part
 
--- it went so many bytes on with every machine that it goes with
+-- it went so many bytes on
 abbrev pub HasGone : Skim → Skim → List ℕ → Type 0
-HasGone old new bytes = (new.length ≡ old.length + length bytes)
-    × ((answers : List ℕ → Answer) → GoesWith old answers → GoesWith new (λ x. answers (bytes ++ x)))
-
--- a comment is open and nothing round it
-abbrev pub is_top_comment : Part → List Shape → Bool
-is_top_comment part.Between ls = false
-is_top_comment part.Run ls = false
-is_top_comment part.Hash ls = false
-is_top_comment part.Backslash ls = false
-is_top_comment part.Tag ls = false
-is_top_comment part.Text ls = false
-is_top_comment part.Escape ls = false
-is_top_comment part.Comment ls = length ls == 0
+HasGone old new bytes = (new.length ≡ old.length + length bytes) × ((text rest : List ℕ) →
+    LeavesOpen text old.length (bytes ++ rest) (shapes_of old.levels.items) old.part → LeavesOpen text new.length rest (shapes_of new.levels.items) new.part)
 
 -- a text that is open from its first byte on is an unfinished comment, or an unfinished element or discard
 abbrev pub IsOpenText : Bool → List ℕ → Type 0

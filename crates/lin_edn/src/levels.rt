@@ -3,6 +3,7 @@
 ghost use Rattle.std.specs.Prelude.{◌≡◌, ℕ, ◌+◌, List, ◌∷◌, ◌++◌, [], length, Some, IfOk, IfSome, IfNone, OnOk, map, option_map};
 ghost use Rattle.lin_edn.specs.Bytes as bytes;
 ghost use Rattle.lin_edn.specs.Grammar.{frame};
+ghost use Rattle.lin_edn.specs.Grammar as grammar;
 ghost use Rattle.lin_edn.specs.Machine as machine;
 ghost use Rattle.lin_edn.specs.Levels.{IsPlaced, frame_view, frames_of, kind_of, flat};
 ghost use Rattle.lin_edn.specs.Value as value;
@@ -154,7 +155,7 @@ fn with_element<'a>(
 
 /// Where a level begins.
 pub(crate) fn opened_at(frame: &Frame) -> usize
-    ensures { result ≡ machine.place_of (frame_view frame.now) }
+    ensures { result ≡ grammar.place_of (frame_view frame.now) }
 {
     match frame {
         Frame::Elements(_, at, _) => *at,

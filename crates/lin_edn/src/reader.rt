@@ -4,6 +4,7 @@ ghost use Rattle.std.specs.Prelude.{◌≡◌, ℕ, ◌+◌, ◌<◌, ◌≤◌,
 ghost use Rattle.std.specs.List.{slice_range};
 ghost use Rattle.lin_edn.specs.Bytes as bytes;
 ghost use Rattle.lin_edn.specs.Grammar.{longest, discarding};
+ghost use Rattle.lin_edn.specs.Grammar as grammar;
 ghost use Rattle.lin_edn.specs.Levels.{frame_view, frames_of, flat};
 ghost use Rattle.lin_edn.specs.Machine as machine;
 ghost use Rattle.lin_edn.specs.Run.{run_value};
@@ -440,7 +441,7 @@ fn since(mode: Mode, at: usize) -> usize
 
 /// Where the outermost level begins; a given place where none is open.
 fn outermost(stack: &[Frame], at: usize) -> usize
-    ensures { result ≡ machine.outermost at (frames_of stack.now) }
+    ensures { result ≡ grammar.outermost at (frames_of stack.now) }
 {
     match stack.first() {
         Some(frame) => opened_at(frame),
@@ -693,7 +694,7 @@ fn pairs_on_top<'a>(
 ) -> Result<usize, AllocError>
     requires begun { at ≤ end }
     requires inside { end ≤ length input.now }
-    ensures { IfOk result (λ next. (at ≤ next) × (next ≤ end) × (end ≤ machine.outermost at (frames_of stack.old.items) + longest →
+    ensures { IfOk result (λ next. (at ≤ next) × (next ≤ end) × (end ≤ grammar.outermost at (frames_of stack.old.items) + longest →
         machine.run longest at (frames_of stack.old.items) machine.between (drop at input.now)
         ≡ machine.run longest next (frames_of stack.new.items) machine.between (drop next input.now))) }
 {

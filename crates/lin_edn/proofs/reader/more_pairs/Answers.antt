@@ -1,7 +1,7 @@
 use Rattle.std.proofs.Common.{◌≡◌, ◌≤◌, ◌∙◌, sym, ap, arith, drop, subst}
-use Rattle.lin_edn.specs.Grammar.{longest}
+use Rattle.lin_edn.specs.Grammar.{longest, outermost}
 use Rattle.lin_edn.specs.Levels.{frames_of}
-use Rattle.lin_edn.specs.Machine.{run, between, outermost}
+use Rattle.lin_edn.specs.Machine.{run, between}
 use Rattle.lin_edn.specs.Scans.{IsWent}
 use Rattle.lin_edn.proofs.reader.more_pairs.Goals as goal
 

@@ -1,8 +1,8 @@
 use Rattle.std.proofs.Common.{◌≡◌, ℕ, ◌+◌, ◌≤◌, ◌<◌, ◌∙◌, sym, ap, arith, drop, length, nat_le, true, false, map, rules, tests}
 use Rattle.lin_edn.proofs.Ahead.{over_here, deep_here, map_ends}
-use Rattle.lin_edn.specs.Grammar.{longest}
+use Rattle.lin_edn.specs.Grammar.{longest, outermost}
 use Rattle.lin_edn.specs.Levels.{frames_of}
-use Rattle.lin_edn.specs.Machine.{run, between, outermost, too_long}
+use Rattle.lin_edn.specs.Machine.{run, between, too_long}
 use Rattle.lin_edn.specs.View.{entry_view}
 use Rattle.lin_edn.proofs.reader.open_map.Goals as goal
 

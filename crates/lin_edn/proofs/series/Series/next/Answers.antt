@@ -1,4 +1,4 @@
-use Rattle.std.proofs.Common.{◌≤◌, ◌<◌, length, drop, arith, ◌∙◌, sym}
+use Rattle.std.proofs.Common.{◌≤◌, ◌<◌, length, arith, ◌∙◌, sym}
 use Rattle.lin_edn.specs.Grammar.{longest}
 use Rattle.lin_edn.specs.declared.series.Series.{Series}
 use Rattle.lin_edn.proofs.Inner.{inner}

@@ -1,6 +1,6 @@
 use Rattle.std.proofs.Common.{◌≡◌, false, List, refl, ap, sym, ◌∙◌, subst}
-use Rattle.lin_edn.proofs.Skims.{seen_open}
-use Rattle.lin_edn.specs.Skimming.{Shape, shapes_of, is_top_comment, IsOpenText}
+use Rattle.lin_edn.proofs.Skims.{seen_open, is_top_comment}
+use Rattle.lin_edn.specs.Skimming.{Shape, shapes_of, IsOpenText}
 use Rattle.lin_edn.specs.declared.skim.Part.{Part}
 use Rattle.lin_edn.specs.declared.skim.Part.TheVariants as part
 use Rattle.lin_edn.proofs.skim.Skim.is_comment.Goals as goal
@@ -20,10 +20,10 @@ returns-in-Comment c = λ text seen lt.
     let skim = c.args.self.now in
     let ls = shapes_of skim.levels.items in
     let none = rw c.deref.ensures.value at c.is_empty.ensures in
-    subst (λ b. IsOpenText b text) (ap (λ x. is_top_comment x ls) c.in-Comment.is ∙ sym none) (seen_open skim.length text ls skim.part seen.0 seen.1 lt)
+    subst (λ b. IsOpenText b text) (ap (λ x. is_top_comment x ls) c.in-Comment.is ∙ sym none) (seen_open skim text seen lt)
 
 pub returns-in_default : goal.returns-in_default
 returns-in_default c = λ text seen lt.
     let skim = c.args.self.now in
     let ls = shapes_of skim.levels.items in
-    subst (λ b. IsOpenText b text) (no_comment skim.part ls c.in_default.not-Comment) (seen_open skim.length text ls skim.part seen.0 seen.1 lt)
+    subst (λ b. IsOpenText b text) (no_comment skim.part ls c.in_default.not-Comment) (seen_open skim text seen lt)

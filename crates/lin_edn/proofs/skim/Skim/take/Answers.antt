@@ -1,6 +1,6 @@
 use Rattle.std.proofs.Common.{◌<◌, arith}
 use Rattle.lin_edn.proofs.Limit.{longest_is}
-use Rattle.lin_edn.proofs.Skims.{stops_more}
+use Rattle.lin_edn.proofs.Skims.{one_more_open}
 use Rattle.lin_edn.specs.Grammar.{longest}
 use Rattle.lin_edn.specs.Skimming.{shapes_of}
 use Rattle.lin_edn.proofs.skim.Skim.take.Goals as goal
@@ -9,7 +9,7 @@ pub returns : goal.returns
 returns c = λ e.
     let short : c.args.self.now.length < longest = omega (arith, longest_is) in (
       omega arith,
-      stops_more c.args.self.now.length c.args.c
+      one_more_open c.args.self.now.length c.args.c
           (shapes_of c.args.self.now.levels.items) (shapes_of c.end_before.new.levels.items) (shapes_of c.take_byte.new.levels.items)
           c.args.self.now.part c.in-Some.part c.in-Some-take_byte.next c.in-Some.ensures short c.in-Some-take_byte.ensures,
     )
