@@ -188,7 +188,7 @@ pub over_here : (s : List ℕ) (at : ℕ) (st : List Frame) → at < length s �
     run longest at st between (drop at s) ≡ too_long (outermost at st)
 over_here s at st lt h = stops longest s at st between (too_long (outermost at st)) lt (rw h refl)
 
-opens_map : (c : ℕ) → c ≡ 123 → class c ≡ opener a_map
+pub opens_map : (c : ℕ) → c ≡ 123 → class c ≡ opener a_map
 opens_map c h = rw h refl
 
 too_deep : (at : ℕ) (st : List Frame) (t : Turn) → nat_le 64 (length st) ≡ true → deeper at at st t ≡ stop (fault at at TooDeep)

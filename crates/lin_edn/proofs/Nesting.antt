@@ -5,7 +5,7 @@ use Rattle.lin_edn.specs.Bytes.{Kind, a_list, a_vector, a_set, a_map, class, ope
 use Rattle.lin_edn.specs.Grammar.{One, Opens, bracket, set_bracket, Element, collection, Row, empty, element}
 use Rattle.lin_edn.specs.Skimming.{Shape, brackets, closes, grown}
 use Rattle.lin_edn.specs.Value.{Value, made}
-use Rattle.lin_edn.proofs.Ahead.{at_byte}
+use Rattle.lin_edn.proofs.Ahead.{at_byte, opens_map}
 use Rattle.lin_edn.proofs.Skims.{made_grown, made_empty}
 use Rattle.lin_edn.proofs.Standing.{one_at, hashes}
 
@@ -31,9 +31,6 @@ set_opens s from lt h b =
     let first : One hash from (drop from s) (get_or s from 0 ∷ []) (from + 1) (get_or s (from + 1) 0 ∷ drop (from + 1 + 1) s) =
     subst (λ l. One hash from (drop from s) (get_or s from 0 ∷ []) (from + 1) l) (at_byte s (from + 1) lt) (one_at s from hash (omega arith) (hashes (get_or s from 0) h)) in
     subst (λ i. Opens a_set from (drop from s) i (drop i s)) place (set_bracket first (set_behind (get_or s (from + 1) 0) b))
-
-opens_map : (c : ℕ) → c ≡ 123 → class c ≡ opener a_map
-opens_map c h = rw h refl
 
 pub map_opens : (s : List ℕ) (from : ℕ) → from < length s → get_or s from 0 ≡ 123 → Opens a_map from (drop from s) (from + 1) (drop (from + 1) s)
 map_opens s from lt h = bracket (one_at s from (opener a_map) lt (opens_map (get_or s from 0) h))

@@ -29,21 +29,8 @@ row_more r s x vs h =
     )
 
 -- the opening byte
-abbrev pub opening : Bool → ℕ
-opening true = 91
-opening false = 40
-
-opens : (b : Bool) → class (opening b) ≡ opener (bracket_of b)
-opens true = refl
-opens false = refl
-
-pub row_opens : (b : Bool) (s : List ℕ) → 0 < length s → get_or s 0 0 ≡ opening b → IsRow (record { is_vector = b; at = 1 }) s []
-row_opens b s lt h = (
-  omega arith,
-  (let z : 0 < longest = positive in omega arith),
-  within (none_open no_blank_yet)
-      (subst (λ l. Opens (bracket_of b) 0 l 1 (drop 1 s)) (sym (at_byte s 0 lt ∙ ap (λ c. c ∷ drop 1 s) h)) (bracket (one (opens b)))) empty,
-)
+pub row_opens : (b : Bool) (s : List ℕ) → 0 < length s → Opens (bracket_of b) 0 s 1 (drop 1 s) → IsRow (record { is_vector = b; at = 1 }) s []
+row_opens b s lt i = (omega arith, (let z : 0 < longest = positive in omega arith), within (none_open no_blank_yet) i empty)
 
 -- more in what is open
 more_in : {n o p r : ℕ} {s t x : List ℕ} {st : List Frame} {k : Kind} {vs ws : List Value} → Open s n (frame k o vs ∷ st) p t →

@@ -1,5 +1,5 @@
--- What a reader that keeps no values knows of the text so far: `HasSeen` and `IsOpenText`, in words of the grammar, are what
--- public contracts cite; the steps over shapes and `HasGone` are cited by the contracts of private functions alone.
+-- What a reader that keeps no values knows of the text so far, in words of the grammar: public contracts cite `HasSeen` and
+-- `IsOpenText`; what stands behind these is cited by the contracts of private functions alone.
 use Rattle.std.specs.Prelude.{◌≡◌, ℕ, ◌+◌, ◌<◌, ◌≤◌, Bool, true, false, ◌&&◌, ◌==◌, nat_le, if◌then◌else◌, List, [], ◌∷◌, ◌++◌, length, map, reverse, Option, Some, None, option_map, is_some, not}
 use Rattle.lin_edn.specs.Bytes.{Kind, a_list, a_vector, a_set, a_map, Class, class, white, semicolon, opener, closer, quote, backslash, hash, inside, is_stop, is_newline, closing, Behind, behind, opens_set, opens_text, discards, joins, stands_apart, names_tag, Quoted, quoted, ends, escapes, stays}
 use Rattle.lin_edn.specs.Grammar.{One, Inside, Tag, Text, Escape, Comment, Frame, frame, discarding, tagging, outermost, Open, longest, IsUnfinished, IsBlankText}
@@ -33,6 +33,37 @@ level_view level.Discard = a_discard
 -- the open levels, the innermost first
 abbrev pub shapes_of : List Level → List Shape
 shapes_of ls = reverse (map level_view ls)
+
+-- with so many more levels, this is begun at one place and open at another; a tag is a level more once its name ends
+abbrev pub IsIn : Part → ℕ → ℕ → List ℕ → ℕ → List ℕ → Type 0
+IsIn part.Between n p s q t = (p ≡ q) × (s ≡ t)
+IsIn part.Run n p s q t = (w : List ℕ) × Inside p s w q t
+IsIn part.Hash n p s q t = (w : List ℕ) × One hash p s w q t
+IsIn part.Backslash n p s q t = (w : List ℕ) × One backslash p s w q t
+IsIn part.Tag n p s q t = (0 < n) × (w : List ℕ) × Tag p s w q t
+IsIn part.Text n p s q t = (w : List ℕ) × Text p s w q t
+IsIn part.Escape n p s q t = (w : List ℕ) × Escape p s w q t
+IsIn part.Comment n p s q t = Comment p s q t
+
+-- The bytes of a text up to a place, from where on others stand, leave these levels open, and this part in the innermost; the
+-- outermost of what is open begins with the first byte, and the bytes are no more than the longest element has.
+abbrev pub LeavesOpen : List ℕ → ℕ → List ℕ → List Shape → Part → Type 0
+LeavesOpen text at rest levels part = (at ≤ longest) × (n : ℕ) × (st : List Frame) × (p : ℕ) × (s : List ℕ) × Open text n st p s × IsIn part n p s at rest
+    × (map shape_of st ≡ levels) × (outermost p st ≡ 0)
+
+-- the reader without values has just the levels and the part that a text leaves open at its end
+abbrev pub HasSeen : Skim → List ℕ → Type 0
+HasSeen skim text = (skim.length ≡ length text) × LeavesOpen text skim.length [] (shapes_of skim.levels.items) skim.part
+
+-- a text that is open from its first byte on is an unfinished comment, or an unfinished element or discard
+abbrev pub IsOpenText : Bool → List ℕ → Type 0
+IsOpenText true text = IsBlankText text 0
+IsOpenText false text = IsUnfinished text 0
+
+-- it went so many bytes on, whatever stands behind them
+abbrev pub HasGone : Skim → Skim → List ℕ → Type 0
+HasGone old new bytes = (new.length ≡ old.length + length bytes) × ((text rest : List ℕ) →
+    LeavesOpen text old.length (bytes ++ rest) (shapes_of old.levels.items) old.part → LeavesOpen text new.length rest (shapes_of new.levels.items) new.part)
 
 -- whether a level can be closed after one more element
 abbrev pub grown : Kind → Bool → Bool
@@ -121,34 +152,3 @@ taken_shape part.Tag ls c = Some (ls, part.Tag)
 taken_shape part.Text ls c = quotes_shape (quoted c) ls
 taken_shape part.Escape ls c = Some (ls, part.Text)
 taken_shape part.Comment ls c = if is_newline c then with_part part.Between (still ls) else Some (ls, part.Comment)
-
--- with so many more levels, this is open beside the levels from one place up to another
-abbrev pub IsIn : Part → ℕ → ℕ → List ℕ → ℕ → List ℕ → Type 0
-IsIn part.Between n p s q t = (p ≡ q) × (s ≡ t)
-IsIn part.Run n p s q t = (w : List ℕ) × Inside p s w q t
-IsIn part.Hash n p s q t = (w : List ℕ) × One hash p s w q t
-IsIn part.Backslash n p s q t = (w : List ℕ) × One backslash p s w q t
-IsIn part.Tag n p s q t = (0 < n) × (w : List ℕ) × Tag p s w q t
-IsIn part.Text n p s q t = (w : List ℕ) × Text p s w q t
-IsIn part.Escape n p s q t = (w : List ℕ) × Escape p s w q t
-IsIn part.Comment n p s q t = Comment p s q t
-
--- The bytes of a text before a place, no more than the longest element has, leave these levels open, and behind them this part;
--- the outermost of what is open begins with the first byte.
-abbrev pub LeavesOpen : List ℕ → ℕ → List ℕ → List Shape → Part → Type 0
-LeavesOpen text at rest levels part = (at ≤ longest) × (n : ℕ) × (st : List Frame) × (p : ℕ) × (s : List ℕ) × Open text n st p s × IsIn part n p s at rest
-    × (map shape_of st ≡ levels) × (outermost p st ≡ 0)
-
--- The reader without values has the levels and the part that a text leaves open at its end, from its first byte on.
-abbrev pub HasSeen : Skim → List ℕ → Type 0
-HasSeen skim text = (skim.length ≡ length text) × LeavesOpen text skim.length [] (shapes_of skim.levels.items) skim.part
-
--- it went so many bytes on
-abbrev pub HasGone : Skim → Skim → List ℕ → Type 0
-HasGone old new bytes = (new.length ≡ old.length + length bytes) × ((text rest : List ℕ) →
-    LeavesOpen text old.length (bytes ++ rest) (shapes_of old.levels.items) old.part → LeavesOpen text new.length rest (shapes_of new.levels.items) new.part)
-
--- a text that is open from its first byte on is an unfinished comment, or an unfinished element or discard
-abbrev pub IsOpenText : Bool → List ℕ → Type 0
-IsOpenText true text = IsBlankText text 0
-IsOpenText false text = IsUnfinished text 0
