@@ -21,16 +21,20 @@ use Rattle.lin_edn.proofs.Forth.{begins_run, close_run, enters, ends_run, run_go
 use Rattle.lin_edn.proofs.Fronts.{positive}
 use Rattle.lin_edn.proofs.Runs.{range_more, range_one, stops}
 
-along : (f : ℕ → Answer) (k at : ℕ) → ((i : ℕ) → at ≤ i → i < at + k → f i ≡ f (i + 1)) → f at ≡ f (at + k)
-along f zero at h = let e : at ≡ at + 0 = omega arith in ap f e
-along f (suc k) at h =
+along : (P : ℕ → Type 0) (k at : ℕ) → ((i : ℕ) → at ≤ i → i < at + k → P i → P (i + 1)) → P at → P (at + k)
+along P zero at h p = subst P (omega arith) p
+along P (suc k) at h p =
     let e : at + 1 + k ≡ at + suc k = omega arith in
-    h at (omega arith) (omega arith) ∙ along f k (at + 1) (λ i a b. h i (omega arith) (omega arith)) ∙ ap f e
+    subst P e (along P k (at + 1) (λ i a b. h i (omega arith) (omega arith)) (h at (omega arith) (omega arith) p))
 
-pub along_to : (f : ℕ → Answer) (at next : ℕ) → at ≤ next → ((i : ℕ) → at ≤ i → i < next → f i ≡ f (i + 1)) → f at ≡ f next
-along_to f at next le h =
-    let e : at + (next - at) ≡ next = omega arith in
-    along f (next - at) at (λ i a b. h i a (omega arith)) ∙ ap f e
+-- what holds at a place, and at each next one, holds at a later one
+pub along_to : (P : ℕ → Type 0) (at until : ℕ) → at ≤ until → ((i : ℕ) → at ≤ i → i < until → P i → P (i + 1)) → P at → P until
+along_to P at until le h p =
+    let e : at + (until - at) ≡ until = omega arith in
+    subst P e (along P (until - at) at (λ i a b. h i a (omega arith)) p)
+
+same_to : (f : ℕ → Answer) (at next : ℕ) → at ≤ next → ((i : ℕ) → at ≤ i → i < next → f i ≡ f (i + 1)) → f at ≡ f next
+same_to f at next le h = along_to (λ i. f at ≡ f i) at next le (λ i a b e. e ∙ h i a b) refl
 
 pub at_byte : (s : List ℕ) (i : ℕ) → i < length s → drop i s ≡ get_or s i 0 ∷ drop (i + 1) s
 at_byte s i lt =
@@ -41,7 +45,7 @@ pub run_row : (s : List ℕ) (at next p : ℕ) (st : List Frame) → p ≤ at �
     ((i : ℕ) → at ≤ i → i < next → is_stop (get_or s i 0) ≡ false) →
     run longest at st (in_run p (slice_range s p at)) (drop at s) ≡ run longest next st (in_run p (slice_range s p next)) (drop next s)
 run_row s at next p st before le within short h =
-    along_to (λ i. run longest i st (in_run p (slice_range s p i)) (drop i s)) at next le (λ i a b.
+    same_to (λ i. run longest i st (in_run p (slice_range s p i)) (drop i s)) at next le (λ i a b.
     let lt : i < length s = omega arith in
     let pi : p ≤ i = omega arith in
     ap (run longest i st (in_run p (slice_range s p i))) (at_byte s i lt)
@@ -52,7 +56,7 @@ pub tag_row : (s : List ℕ) (at next p : ℕ) (st : List Frame) → p + 1 ≤ a
     ((i : ℕ) → at ≤ i → i < next → is_stop (get_or s i 0) ≡ false) →
     run longest at st (in_tag p (slice_range s (p + 1) at)) (drop at s) ≡ run longest next st (in_tag p (slice_range s (p + 1) next)) (drop next s)
 tag_row s at next p st before le within short h =
-    along_to (λ i. run longest i st (in_tag p (slice_range s (p + 1) i)) (drop i s)) at next le (λ i a b.
+    same_to (λ i. run longest i st (in_tag p (slice_range s (p + 1) i)) (drop i s)) at next le (λ i a b.
     let lt : i < length s = omega arith in
     let pi : p + 1 ≤ i = omega arith in
     ap (run longest i st (in_tag p (slice_range s (p + 1) i))) (at_byte s i lt)
@@ -71,7 +75,7 @@ pub text_row : (s : List ℕ) (at next p : ℕ) (st : List Frame) → p ≤ at �
     ((i : ℕ) → at ≤ i → i < next → is_quoting (get_or s i 0) ≡ false) →
     run longest at st (in_text p (slice_range s p at)) (drop at s) ≡ run longest next st (in_text p (slice_range s p next)) (drop next s)
 text_row s at next p st before le within short h =
-    along_to (λ i. run longest i st (in_text p (slice_range s p i)) (drop i s)) at next le (λ i a b.
+    same_to (λ i. run longest i st (in_text p (slice_range s p i)) (drop i s)) at next le (λ i a b.
     let lt : i < length s = omega arith in
     let pi : p ≤ i = omega arith in
     ap (run longest i st (in_text p (slice_range s p i))) (at_byte s i lt)
@@ -82,7 +86,7 @@ pub comment_row : (s : List ℕ) (at next p : ℕ) (st : List Frame) → at ≤ 
     ((i : ℕ) → at ≤ i → i < next → is_newline (get_or s i 0) ≡ false) →
     run longest at st (in_comment p) (drop at s) ≡ run longest next st (in_comment p) (drop next s)
 comment_row s at next p st le within short h =
-    along_to (λ i. run longest i st (in_comment p) (drop i s)) at next le (λ i a b.
+    same_to (λ i. run longest i st (in_comment p) (drop i s)) at next le (λ i a b.
     let lt : i < length s = omega arith in
     ap (run longest i st (in_comment p)) (at_byte s i lt)
     ∙ comment_goes longest i st p (get_or s i 0) (drop (i + 1) s) (h i a b) (omega arith))
@@ -102,7 +106,7 @@ pub white_row : (s : List ℕ) (at next p : ℕ) (st : List Frame) → at ≤ ne
     ((i : ℕ) → at ≤ i → i < next → is_dark (get_or s i 0) ≡ false) →
     run longest at st between (drop at s) ≡ run longest next st between (drop next s)
 white_row s at next p st le within short h =
-    along_to (λ i. run longest i st between (drop i s)) at next le (λ i a b.
+    same_to (λ i. run longest i st between (drop i s)) at next le (λ i a b.
     let lt : i < length s = omega arith in
     let fits : i < outermost p st + longest = omega arith in
     ap (run longest i st between) (at_byte s i lt)

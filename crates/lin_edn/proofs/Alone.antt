@@ -5,7 +5,7 @@ use Rattle.lin_edn.specs.Machine.{Answer, complete, partial, too_long, run, betw
 use Rattle.lin_edn.specs.Value.{Value}
 use Rattle.lin_edn.proofs.Forth.{short_run, blank_run, spells_run}
 use Rattle.lin_edn.proofs.Order.{AnswerOrder, run_order}
-use Rattle.lin_edn.proofs.Rising.{blank_rises}
+use Rattle.lin_edn.proofs.Rising.{blank_past}
 
 -- an answer that isn't complete, and tells a place
 data Open : Answer → ℕ → Type 0 where
@@ -24,7 +24,7 @@ no_earlier a p q is_too_long h = h
 passed : (s : List ℕ) (a : Answer) (p q : ℕ) (t u : List ℕ) → run longest 0 [] between s ≡ a → Open a p →
     ShortBlanks s p t → Blank 64 p t q u → q ≤ p + longest → ⊥
 passed s a p q t u e o bs b le =
-    let lt : p < q = blank_rises b in
+    let lt : p < q = (blank_past b).0 in
     let later : q ≤ p = no_earlier a p q o (subst (AnswerOrder q) (sym (short_run bs ∙ blank_run longest b [] (omega arith) le) ∙ e) (run_order longest q u q [] between (omega arith) (omega arith))) in
     absurd (omega arith)
 

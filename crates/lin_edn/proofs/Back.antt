@@ -6,7 +6,7 @@ use Rattle.lin_edn.specs.Machine.{Mode, between, in_run, after_hash, after_backs
 use Rattle.lin_edn.specs.Run.{run_value}
 use Rattle.lin_edn.specs.Value.{Value, atom, tagged, made}
 use Rattle.lin_edn.specs.declared.EdnCause.TheVariants.{Unbalanced, OddMap, TooDeep}
-use Rattle.lin_edn.proofs.Rising.{one_rises, tag_rises, opens_rise, blanks_rise, row_rises}
+use Rattle.lin_edn.proofs.Rising.{blanks_tail, one_past, opens_past, row_tail, tag_past, tail_rises}
 
 -- what an answer says of the input
 abbrev pub What : List ℕ → Answer → Type 0
@@ -320,11 +320,11 @@ put_holds (awaits o tg h bs) e le = put_holds o (tagged_element tg h bs e) le
 pub reach : {n p : ℕ} {s t : List ℕ} {st : List Frame} → Open s n st p t → (j : ℕ) → p ≤ j → j < outermost p st + longest → IsInReach s j
 reach (none_open {q = q} {t = t} bs) j le lt = (q, t, bs, le, lt)
 reach (within {p = p} {q = q} {r = r} o i row) j le lt =
-    let a : p < q = opens_rise i in let b : q ≤ r = row_rises row in reach o j (omega arith) lt
+    let a : p < q = (opens_past i).0 in let b : q ≤ r = tail_rises (row_tail row) in reach o j (omega arith) lt
 reach (waits {p = p} {q = q} {r = r} o h d bs) j le lt =
-    let a : p < q = one_rises h in let b : q + 1 ≤ r = blanks_rise bs in reach o j (omega arith) lt
+    let a : p < q = (one_past h).0 in let b : q + 1 ≤ r = tail_rises (blanks_tail bs) in reach o j (omega arith) lt
 reach (awaits {p = p} {q = q} {r = r} o tg h bs) j le lt =
-    let a : p < q = tag_rises tg in let b : q ≤ r = blanks_rise bs in reach o j (omega arith) lt
+    let a : p < q = (tag_past tg).0 in let b : q ≤ r = tail_rises (blanks_tail bs) in reach o j (omega arith) lt
 
 pub closed_holds : {n q p : ℕ} {s0 s u : List ℕ} {st : List Frame} {vs : List Value} {k : Kind} {v : Value} →
     Open s0 n (frame k p vs ∷ st) q u → u ≡ closing k ∷ s → made k vs ≡ Some v → q < outermost p st + longest →
@@ -352,7 +352,7 @@ text_keeps s = record {
   unbalanced = λ {n} {p} o h f lt. (unbalanced o h f, reach o p (omega arith) lt);
   odd_map = λ {n} {p} o m lt. (odd_map o m, reach o p (omega arith) lt);
   too_deep = λ {p} o h lt. (too_deep o h, reach o p (omega arith) lt);
-  hash_too_deep = λ {p} {q} o i h lt. (hash_too_deep o i h, (let a : p < q = one_rises i in reach o q (omega arith) lt));
+  hash_too_deep = λ {p} {q} o i h lt. (hash_too_deep o i h, (let a : p < q = (one_past i).0 in reach o q (omega arith) lt));
   blank = nothing_open;
   comment = comment_open;
   partial = λ p. tt;

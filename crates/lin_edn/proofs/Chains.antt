@@ -6,8 +6,8 @@ use Rattle.lin_edn.specs.Grammar.{one, Comment, starts, goes, Discard, discards,
 use Rattle.lin_edn.specs.Machine.{complete, run, between}
 use Rattle.lin_edn.specs.Value.{Value, tagged}
 use Rattle.lin_edn.proofs.Forth.{blanks_run, element_run}
-use Rattle.lin_edn.proofs.Rising.{comment_rises, blank_rises, element_rises}
-use Rattle.lin_edn.proofs.Sizes.{same_tail, comment_tail, blank_tail}
+use Rattle.lin_edn.proofs.Rising.{blank_past, comment_past, element_past}
+use Rattle.lin_edn.proofs.Sizes.{same_tail}
 
 -- the first byte is of a class
 abbrev pub Begins : Class → List ℕ → Type 0
@@ -31,20 +31,20 @@ discard_begins (discards (one h) d bs e) = h
 
 -- a comment goes on to its newline
 comment_to : {p q r c : ℕ} {s t u : List ℕ} → Comment p s q t → Comment p s r (c ∷ u) → is_newline c ≡ true → q ≤ r
-comment_to {r = r} (starts (one {p = p} h)) j n = let a : p < r = comment_rises j in omega arith
+comment_to {r = r} (starts (one {p = p} h)) j n = let a : p < r = (comment_past j).0 in omega arith
 comment_to {r = r} {c = c} {u = u} (goes {q = q} {b = b} {t = t} i h) j n = further (comment_to i j n) (cases_lt q r)
   where
     further : q ≤ r → (q < r) ⊎ (r ≤ q) → q + 1 ≤ r
     further le (inl lt) = omega arith
     further le (inr ge) =
         let here : q ≡ r = omega arith in
-        let same : b ∷ t ≡ c ∷ u = same_tail (comment_tail i) (comment_tail j) here in absurd (cc)
+        let same : b ∷ t ≡ c ∷ u = same_tail (comment_past i).1 (comment_past j).1 here in absurd (cc)
 
 -- behind a tag that waits, an element is told
 pub end_of : (most : ℕ) {n p q o : ℕ} {s t u : List ℕ} {v : Value} → Blanks n p s q t → Element n q t v o u → n + 1 ≤ 64 → o ≤ most →
     run most p (tagging 0 0 [] ∷ []) between s ≡ complete (tagged 0 [] v) 0 o
 end_of most {q = q} {o = o} bs e fits le =
-    let a : q < o = element_rises e in
+    let a : q < o = (element_past e).0 in
     blanks_run most bs (tagging 0 0 []) [] (omega arith) (omega arith) ∙ element_run most e (tagging 0 0 [] ∷ []) (omega arith) (omega arith)
 
 same_end : {p q r o i : ℕ} {s t u x y : List ℕ} {v w : Value} → Blanks 63 p s q t → Element 63 q t v o x → Blanks 63 p s r u → Element 63 r u w i y → o ≡ i
@@ -79,15 +79,15 @@ chain_of (one_more_short bs b le) = one_more (chain_of bs) b le
 
 chain_rises : {p q : ℕ} {s t : List ℕ} → Chain p s q t → p ≤ q
 chain_rises (done {p = p}) = omega arith
-chain_rises (step {p = p} {q = q} {r = r} b le c) = let a : p < q = blank_rises b in let d : q ≤ r = chain_rises c in omega arith
+chain_rises (step {p = p} {q = q} {r = r} b le c) = let a : p < q = (blank_past b).0 in let d : q ≤ r = chain_rises c in omega arith
 
 rest_of : {p q r : ℕ} {s t u : List ℕ} → Chain p s q t → Chain p s r u → q ≤ r → Chain q t r u
 rest_of done c le = c
 rest_of (step {p = p} {q = o} {r = q} b short c) done le =
-    let a : p < o = blank_rises b in let d : o ≤ q = chain_rises c in absurd (omega arith)
+    let a : p < o = (blank_past b).0 in let d : o ≤ q = chain_rises c in absurd (omega arith)
 rest_of {r = r} {u = u} (step {q = o} {t = x} b short c) (step {q = i} {t = y} d fits e) le =
     let same : i ≡ o = same_blank d b in
-    rest_of c (subst (λ z. Chain o z r u) (same_tail (blank_tail d) (blank_tail b) same) (subst (λ n. Chain n y r u) same e)) le
+    rest_of c (subst (λ z. Chain o z r u) (same_tail (blank_past d).1 (blank_past b).1 same) (subst (λ n. Chain n y r u) same e)) le
 
 -- behind the nearer of two places there is a short blank
 pub next_blank : {p q : ℕ} {s t u : List ℕ} → ShortBlanks s p t → ShortBlanks s q u → p < q → (r : ℕ) × (x : List ℕ) × Blank 64 p t r x × (r ≤ p + longest)

@@ -5,7 +5,7 @@ use Rattle.lin_edn.specs.Grammar.{One, one, Inside, first, joined, character, ne
 use Rattle.lin_edn.specs.Machine.{Mode, between, in_run, after_hash, after_backslash, in_tag, in_text, in_escape, in_comment, complete, blank as blank_answer, Turn, go, stop, run, limited, ended, taken, begun, on_turn, put, deeper, begins, goes_on, quotes, apart, closed, too_long}
 use Rattle.lin_edn.specs.Run.{run_value}
 use Rattle.lin_edn.specs.Value.{Value, atom, tagged, made}
-use Rattle.lin_edn.proofs.Rising.{one_rises, inside_rises, tag_rises, text_rises, escape_rises, comment_rises, opens_rise, blank_rises, blanks_rise, element_rises, row_rises}
+use Rattle.lin_edn.proofs.Rising.{blank_past, blanks_tail, comment_past, element_past, escape_past, inside_past, one_past, opens_past, row_tail, tag_past, tail_rises, text_past}
 
 is_above : (a b : ℕ) → b < a → nat_le a b ≡ false
 is_above a b h = search (rules, tests)
@@ -92,40 +92,40 @@ hash_run most {p = p} {w = w} i st lt = one_run most i st (after_hash p w) lt (�
 pub inside_run : (most : ℕ) {p q : ℕ} {s t w : List ℕ} → Inside p s w q t → (st : List Frame) → q ≤ outermost p st + most →
     run most p st between s ≡ run most q st (in_run p w) t
 inside_run most (first {p = p} {q = q} {w = w} i) st le =
-    let a : p < q = one_rises i in one_run most i st (in_run p w) (omega arith) (λ c e. ap (λ x. go st (in_run p x)) (sym e))
+    let a : p < q = (one_past i).0 in one_run most i st (in_run p w) (omega arith) (λ c e. ap (λ x. go st (in_run p x)) (sym e))
 inside_run most (joined {p = p} {q = q} {b = b} {t = t} {w = w} i h) st le =
-    let a : p < q = one_rises i in
+    let a : p < q = (one_past i).0 in
     hash_run most i st (omega arith) ∙ hash_goes most q st p w b t joins _ h refl refl (omega arith)
 inside_run most (character {p = p} {q = q} {b = b} {t = t} {w = w} i) st le =
-    let a : p < q = one_rises i in
+    let a : p < q = (one_past i).0 in
     one_run most i st (after_backslash p w) (omega arith) (λ c e. ap (λ x. go st (after_backslash p x)) (sym e))
     ∙ slash_goes most q st p w b t (omega arith)
 inside_run most (next {p = p} {q = q} {b = b} {t = t} {w = w} i h) st le =
-    let a : p < q = inside_rises i in inside_run most i st (omega arith) ∙ run_goes most q st p w b t h (omega arith)
+    let a : p < q = (inside_past i).0 in inside_run most i st (omega arith) ∙ run_goes most q st p w b t h (omega arith)
 
 mutual
   pub text_run : (most : ℕ) {p q : ℕ} {s t w : List ℕ} → Text p s w q t → (st : List Frame) → q ≤ outermost p st + most →
       run most p st between s ≡ run most q st (in_text p w) t
   text_run most (opened {p = p} {q = q} {w = w} i) st le =
-      let a : p < q = one_rises i in one_run most i st (in_text p w) (omega arith) (λ c e. ap (λ x. go st (in_text p x)) (sym e))
+      let a : p < q = (one_past i).0 in one_run most i st (in_text p w) (omega arith) (λ c e. ap (λ x. go st (in_text p x)) (sym e))
   text_run most (opened_by_hash {p = p} {q = q} {b = b} {t = t} {w = w} i h) st le =
-      let a : p < q = one_rises i in
+      let a : p < q = (one_past i).0 in
       hash_run most i st (omega arith) ∙ hash_goes most q st p w b t opens_text _ h refl refl (omega arith)
   text_run most (plain {p = p} {q = q} {b = b} {t = t} {w = w} i h) st le =
-      let a : p < q = text_rises i in text_run most i st (omega arith) ∙ text_goes most q st p w b t stays h (omega arith)
+      let a : p < q = (text_past i).0 in text_run most i st (omega arith) ∙ text_goes most q st p w b t stays h (omega arith)
   text_run most (pair {p = p} {q = q} {b = b} {t = t} {w = w} i) st le =
-      let a : p < q = escape_rises i in escape_run most i st (omega arith) ∙ escape_goes most q st p w b t (omega arith)
+      let a : p < q = (escape_past i).0 in escape_run most i st (omega arith) ∙ escape_goes most q st p w b t (omega arith)
 
   pub escape_run : (most : ℕ) {p q : ℕ} {s t w : List ℕ} → Escape p s w q t → (st : List Frame) → q ≤ outermost p st + most →
       run most p st between s ≡ run most q st (in_escape p w) t
   escape_run most (escape {p = p} {q = q} {b = b} {t = t} {w = w} i h) st le =
-      let a : p < q = text_rises i in text_run most i st (omega arith) ∙ text_goes most q st p w b t escapes h (omega arith)
+      let a : p < q = (text_past i).0 in text_run most i st (omega arith) ∙ text_goes most q st p w b t escapes h (omega arith)
 
 pub comment_run : (most : ℕ) {p q : ℕ} {s t : List ℕ} → Comment p s q t → (st : List Frame) → q ≤ outermost p st + most →
     run most p st between s ≡ run most q st (in_comment p) t
-comment_run most (starts {p = p} {q = q} i) st le = let a : p < q = one_rises i in one_run most i st (in_comment p) (omega arith) (λ c e. refl)
+comment_run most (starts {p = p} {q = q} i) st le = let a : p < q = (one_past i).0 in one_run most i st (in_comment p) (omega arith) (λ c e. refl)
 comment_run most (goes {p = p} {q = q} {b = b} {t = t} i h) st le =
-    let a : p < q = comment_rises i in comment_run most i st (omega arith) ∙ comment_goes most q st p b t h (omega arith)
+    let a : p < q = (comment_past i).0 in comment_run most i st (omega arith) ∙ comment_goes most q st p b t h (omega arith)
 
 -- levels
 pub enters : (at p : ℕ) (st : List Frame) (t : Turn) → length st < 64 → deeper at p st t ≡ t
@@ -134,17 +134,17 @@ enters at p st t h = rw (is_above 64 (length st) h) refl
 pub tag_run : (most : ℕ) {p q : ℕ} {s t w : List ℕ} → Tag p s w q t → (st : List Frame) → length st < 64 → q ≤ outermost p st + most →
     run most p st between s ≡ run most q st (in_tag p w) t
 tag_run most (first_of_tag {p = p} {q = q} {b = b} {t = t} {w = w} i h) st lt le =
-    let a : p < q = one_rises i in
+    let a : p < q = (one_past i).0 in
     hash_run most i st (omega arith) ∙ hash_goes most q st p w b t names_tag _ h refl (enters q p st (go st (in_tag p (b ∷ []))) lt) (omega arith)
 tag_run most (next_of_tag {p = p} {q = q} {b = b} {t = t} {w = w} i h) st lt le =
-    let a : p < q = tag_rises i in tag_run most i st lt (omega arith) ∙ tag_goes most q st p w b t h (omega arith)
+    let a : p < q = (tag_past i).0 in tag_run most i st lt (omega arith) ∙ tag_goes most q st p w b t h (omega arith)
 
 pub opens_run : (most : ℕ) {p q : ℕ} {s t : List ℕ} {k : Kind} → Opens k p s q t → (st : List Frame) → length st < 64 → q ≤ outermost p st + most →
     run most p st between s ≡ run most q (frame k p [] ∷ st) between t
 opens_run most (bracket {k = k} (one {p = p} {b = b} {s = s} h)) st lt le =
     begins_run most p st b s (opener k) _ h (omega arith) (enters p p st (go (frame k p [] ∷ st) between) lt)
 opens_run most (set_bracket {p = p} {q = q} {b = b} {t = t} {w = w} i h) st lt le =
-    let a : p < q = one_rises i in
+    let a : p < q = (one_past i).0 in
     hash_run most i st (omega arith) ∙ hash_goes most q st p w b t opens_set _ h refl (enters q p st (go (frame a_set p [] ∷ st) between) lt) (omega arith)
 
 pub close_run : (most : ℕ) (k : Kind) (o : ℕ) (vs : List Value) (st : List Frame) (at : ℕ) (t : List ℕ) (v : Value) → made k vs ≡ Some v →
@@ -159,7 +159,7 @@ close_run most a_map o vs st at t v h lt = takes most at (frame a_map o vs ∷ s
 pub discard_opens : (most : ℕ) {p q b : ℕ} {s t w : List ℕ} → One hash p s w q (b ∷ t) → behind b ≡ discards_next → (st : List Frame) → length st < 64 →
     q + 1 ≤ outermost p st + most → run most p st between s ≡ run most (q + 1) (discarding p ∷ st) between t
 discard_opens most {p = p} {q = q} {b = b} {t = t} {w = w} h d st lt le =
-    let a : p < q = one_rises h in
+    let a : p < q = (one_past h).0 in
     hash_run most h st (omega arith)
     ∙ hash_goes most q st p w b t discards_next _ d refl (enters q p st (go (discarding p ∷ st) between) lt) (omega arith)
 
@@ -171,13 +171,13 @@ mutual
   pub discard_run : (most : ℕ) {n p q : ℕ} {s t : List ℕ} → Discard n p s q t → (st : List Frame) → length st + n ≤ 64 → q ≤ outermost p st + most →
       run most p st between s ≡ run most q st between t
   discard_run most (discards {n = n} {p = p} {q = q} {r = r} {o = o} {b = b} {t = t} {w = w} h d bs e) st fits le =
-      let a1 : p < q = one_rises h in let a2 : q + 1 ≤ r = blanks_rise bs in let a3 : r < o = element_rises e in
+      let a1 : p < q = (one_past h).0 in let a2 : q + 1 ≤ r = tail_rises (blanks_tail bs) in let a3 : r < o = (element_past e).0 in
       discard_opens most h d st (omega arith) (omega arith)
       ∙ blanks_run most bs (discarding p) st (omega arith) (omega arith) ∙ element_run most e (discarding p ∷ st) (omega arith) le
 
   pub blank_run : (most : ℕ) {n p q : ℕ} {s t : List ℕ} → Blank n p s q t → (st : List Frame) → length st + n ≤ 64 → q ≤ outermost p st + most →
       run most p st between s ≡ run most q st between t
-  blank_run most (white_byte {p = p} {q = q} i) st fits le = let a : p < q = one_rises i in one_run most i st between (omega arith) (λ c e. refl)
+  blank_run most (white_byte {p = p} {q = q} i) st fits le = let a : p < q = (one_past i).0 in one_run most i st between (omega arith) (λ c e. refl)
   blank_run most (comment {p = p} {q = q} {c = c} {t = t} i h) st fits le =
       comment_run most i st (omega arith) ∙ comment_ends most q st p c t h (omega arith)
   blank_run most (discarded d) st fits le = discard_run most d st fits le
@@ -186,7 +186,7 @@ mutual
       run most p (f ∷ st) between s ≡ run most q (f ∷ st) between t
   blanks_run most no_blank f st fits le = refl
   blanks_run most (one_more {q = q} {r = r} bs b) f st fits le =
-      let a : q < r = blank_rises b in
+      let a : q < r = (blank_past b).0 in
       blanks_run most bs f st fits (omega arith) ∙ blank_run most b (f ∷ st) fits le
 
   pub element_run : (most : ℕ) {n p q : ℕ} {s t : List ℕ} {v : Value} → Element n p s v q t → (st : List Frame) → length st + n ≤ 64 → q ≤ outermost p st + most →
@@ -194,16 +194,16 @@ mutual
   element_run most (a_run {p = p} {q = q} {c = c} {t = t} {w = w} i h) st fits le =
       inside_run most i st le ∙ ends_run most q st (in_run p w) (run_value p w) p c t (rw h refl)
   element_run most (hash_alone {p = p} {q = q} {c = c} {t = t} {w = w} i h) st fits le =
-      let a : p < q = one_rises i in
+      let a : p < q = (one_past i).0 in
       hash_run most i st (omega arith) ∙ ends_run most q st (after_hash p w) (atom p w) p c t (ap (λ x. apart x q st p w) h)
   element_run most (whole_text {p = p} {q = q} {c = c} {t = t} {w = w} i h) st fits le =
       text_run most i st (omega arith) ∙ text_goes most q st p w c t ends h (omega arith)
   element_run most (tagged_element {n = n} {p = p} {q = q} {r = r} {o = o} {c = c} {t = t} {w = w} tg h bs e) st fits le =
-      let a1 : p < q = tag_rises tg in let a2 : q ≤ r = blanks_rise bs in let a3 : r < o = element_rises e in
+      let a1 : p < q = (tag_past tg).0 in let a2 : q ≤ r = tail_rises (blanks_tail bs) in let a3 : r < o = (element_past e).0 in
       tag_opens most tg h st (omega arith) (omega arith)
       ∙ blanks_run most bs (tagging p (p + 1) w) st (omega arith) (omega arith) ∙ element_run most e (tagging p (p + 1) w ∷ st) (omega arith) le
   element_run most (collection {n = n} {p = p} {q = q} {r = r} {t = t} {u = u} {vs = vs} {v = v} {k = k} i row m) st fits le =
-      let a1 : p < q = opens_rise i in let a2 : q ≤ r = row_rises row in
+      let a1 : p < q = (opens_past i).0 in let a2 : q ≤ r = tail_rises (row_tail row) in
       opens_run most i st (omega arith) (omega arith)
       ∙ row_run most row k p st (omega arith) (omega arith)
       ∙ close_run most k p vs st r u v m (omega arith)
@@ -213,10 +213,10 @@ mutual
       run most p (frame k o [] ∷ st) between s ≡ run most q (frame k o vs ∷ st) between t
   row_run most empty k o st fits le = refl
   row_run most (blank {q = q} {r = r} {vs = vs} row b) k o st fits le =
-      let a : q < r = blank_rises b in
+      let a : q < r = (blank_past b).0 in
       row_run most row k o st fits (omega arith) ∙ blank_run most b (frame k o vs ∷ st) fits le
   row_run most (element {q = q} {r = r} {vs = vs} row e) k o st fits le =
-      let a : q < r = element_rises e in
+      let a : q < r = (element_past e).0 in
       row_run most row k o st fits (omega arith) ∙ element_run most e (frame k o vs ∷ st) fits le
 
 -- at the top
@@ -228,7 +228,7 @@ short_run (one_more_short bs b le) = short_run bs ∙ blank_run longest b [] (om
 pub long_run : (most : ℕ) {q : ℕ} {s t : List ℕ} → Blanks 64 0 s q t → q ≤ most → run most 0 [] between s ≡ run most q [] between t
 long_run most no_blank le = refl
 long_run most (one_more {q = q} {r = r} bs b) le =
-    let a : q < r = blank_rises b in
+    let a : q < r = (blank_past b).0 in
     long_run most bs (omega arith) ∙ blank_run most b [] (omega arith) (omega arith)
 
 pub spells_run : {p q : ℕ} {s : List ℕ} {v : Value} → Spells s v p q → run longest 0 [] between s ≡ complete v p q

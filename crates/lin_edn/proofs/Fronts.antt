@@ -10,7 +10,7 @@ use Rattle.lin_edn.specs.declared.EdnCause.{EdnCause}
 use Rattle.lin_edn.proofs.Back.{Stands, Bound, AfterTurn, step_holds}
 use Rattle.lin_edn.proofs.Forth.{element_run, long_run}
 use Rattle.lin_edn.proofs.Order.{TurnOrder, step_order, wider}
-use Rattle.lin_edn.proofs.Rising.{one_rises, inside_rises, tag_rises, text_rises, escape_rises, comment_rises, element_rises, below, first_below}
+use Rattle.lin_edn.proofs.Rising.{below, comment_past, element_past, escape_past, first_below, inside_past, one_past, tag_past, text_past}
 
 -- one more element makes an odd map even
 none_map : (k v : Value) (o : Option Entries) → option_map (entry k v) o ≡ None → o ≡ None
@@ -284,7 +284,7 @@ no_clash a at p q i k v e f = cc
 -- no text with a fault begins with blanks and an element
 not_read : (s : List ℕ) (j i : ℕ) (k : EdnCause) → run longest 0 [] between s ≡ fault j i k → Reads s → ⊥
 not_read s j i k h (reads {p = p} {q = q} {v = v} bs e) =
-    let rises : p < q = element_rises e in
+    let rises : p < q = (element_past e).0 in
     no_clash (run (q + longest) 0 [] between s) j p q i k v (wider longest (q + longest) (omega arith) s 0 [] between (fault j i k) (λ o f. cc) h)
     (long_run (q + longest) bs (omega arith) ∙ element_run (q + longest) e [] (omega arith) (omega arith))
 
@@ -365,28 +365,28 @@ end_facts front at (f ∷ st) between h len le =
     partial_facts front at _ len le (first_below k.1) (blanks_before k.1) (goes_on_at front at (f ∷ st) between (outermost (place_of f) st) h (between_end f st at))
 end_facts front at st (in_run p w) h len le =
     let k = (h []).1 in
-    partial_facts front at _ len le (below k.2 at (inside_rises k.3)) (blanks_before k.2) (goes_on_at front at st (in_run p w) (outermost p st) h (run_end st at p w))
+    partial_facts front at _ len le (below k.2 at (inside_past k.3).0) (blanks_before k.2) (goes_on_at front at st (in_run p w) (outermost p st) h (run_end st at p w))
 end_facts front at st (after_hash p w) h len le =
     let k = (h []).1 in
-    partial_facts front at _ len le (below k.2 at (one_rises k.3)) (blanks_before k.2) (goes_on_at front at st (after_hash p w) (outermost p st) h (hash_end st at p w))
+    partial_facts front at _ len le (below k.2 at (one_past k.3).0) (blanks_before k.2) (goes_on_at front at st (after_hash p w) (outermost p st) h (hash_end st at p w))
 end_facts front at st (after_backslash p w) h len le =
     let k = (h []).1 in
-    partial_facts front at _ len le (below k.2 at (one_rises k.3)) (blanks_before k.2)
+    partial_facts front at _ len le (below k.2 at (one_past k.3).0) (blanks_before k.2)
     (goes_on_at front at st (after_backslash p w) (outermost p st) h (backslash_end st at p w))
 end_facts front at st (in_tag p w) h len le =
     let k = (h []).1 in
-    partial_facts front at _ len le (below k.2 at (tag_rises k.3)) (blanks_before k.2) (goes_on_at front at st (in_tag p w) (outermost p st) h (tag_end st at p w))
+    partial_facts front at _ len le (below k.2 at (tag_past k.3).0) (blanks_before k.2) (goes_on_at front at st (in_tag p w) (outermost p st) h (tag_end st at p w))
 end_facts front at st (in_text p w) h len le =
     let k = (h []).1 in
-    partial_facts front at _ len le (below k.2 at (text_rises k.3)) (blanks_before k.2) (goes_on_at front at st (in_text p w) (outermost p st) h (text_end st at p w))
+    partial_facts front at _ len le (below k.2 at (text_past k.3).0) (blanks_before k.2) (goes_on_at front at st (in_text p w) (outermost p st) h (text_end st at p w))
 end_facts front at st (in_escape p w) h len le =
     let k = (h []).1 in
-    partial_facts front at _ len le (below k.2 at (escape_rises k.3)) (blanks_before k.2) (goes_on_at front at st (in_escape p w) (outermost p st) h (escape_end st at p w))
+    partial_facts front at _ len le (below k.2 at (escape_past k.3).0) (blanks_before k.2) (goes_on_at front at st (in_escape p w) (outermost p st) h (escape_end st at p w))
 end_facts front at [] (in_comment p) h len le = tt
 end_facts front at (f ∷ st) (in_comment p) h len le =
     let k = (h []).1 in
     let a : outermost (place_of f) st < p = first_below k.2 in
-    let b : p < at = comment_rises k.3 in
+    let b : p < at = (comment_past k.3).0 in
     partial_facts front at _ len le (omega arith) (blanks_before k.2)
     (goes_on_at front at (f ∷ st) (in_comment p) (outermost (place_of f) st) h (comment_end f st at p))
 

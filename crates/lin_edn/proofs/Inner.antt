@@ -8,8 +8,8 @@ use Rattle.lin_edn.specs.Rows.{IsElementAt}
 use Rattle.lin_edn.specs.Scans.{IsBehindTag}
 use Rattle.lin_edn.specs.Value.{Value, tagged, made}
 use Rattle.lin_edn.proofs.Back.{AfterOn, Keeps, holds, bound_here}
-use Rattle.lin_edn.proofs.Rising.{blanks_rise, element_rises}
-use Rattle.lin_edn.proofs.Sizes.{behind_tail, tail_drop}
+use Rattle.lin_edn.proofs.Rising.{blanks_tail, element_past, tail_rises, then}
+use Rattle.lin_edn.proofs.Sizes.{tail_drop}
 
 -- behind a tag that waits at the bottom, the bytes from a place on leave these open up to another place
 data Above (from : ℕ) (s : List ℕ) : ℕ → List Frame → ℕ → List ℕ → Type 0 where
@@ -77,7 +77,7 @@ inner s from v used b le =
     let rest = drop from s in
     let h = subst (Told from rest) b.3 (holds (Told from rest) (Above from rest) (above_keeps from rest) rest from (tagging 0 0 [] ∷ []) between (63, tag_alone no_blank) (omega arith)) in
     let same : h.0 ≡ v = (let f = h.1 in cc) in
-    let first : from ≤ h.2 = blanks_rise h.5 in
-    let later : h.2 < used = element_rises h.6 in
-    let behind_it : h.4 ≡ drop used s = tail_drop (behind_tail h.5 h.6) ∙ drop-drop (used - from) from s ∙ ap (λ n. drop n s) (omega arith) in
+    let first : from ≤ h.2 = tail_rises (blanks_tail h.5) in
+    let later : h.2 < used = (element_past h.6).0 in
+    let behind_it : h.4 ≡ drop used s = tail_drop (then (blanks_tail h.5) (element_past h.6).1) ∙ drop-drop (used - from) from s ∙ ap (λ n. drop n s) (omega arith) in
     (h.2, h.3, h.5, subst (λ x. Element 63 h.2 h.3 x used (drop used s)) same (subst (Element 63 h.2 h.3 h.0 used) behind_it h.6), h.7)

@@ -14,7 +14,7 @@ use Rattle.lin_edn.proofs.Forth.{short_run, long_run, blank_run, element_run}
 use Rattle.lin_edn.proofs.Fronts.{Facts, facts_of, long, positive}
 use Rattle.lin_edn.proofs.Longer.{blanks_stay, blank_longer, comment_longer, element_longer}
 use Rattle.lin_edn.proofs.Order.{AnswerOrder, run_order, wider, run_more, fault_less}
-use Rattle.lin_edn.proofs.Rising.{blank_rises, element_rises}
+use Rattle.lin_edn.proofs.Rising.{blank_past, element_past}
 use Rattle.lin_edn.proofs.Sizes.{blanks_sized, comment_sized, least_inside, short_tail, same_tail, tail_byte}
 use Rattle.lin_edn.proofs.Sound.{too_long_of}
 use Rattle.lin_edn.proofs.Wrong.{faulty_run}
@@ -22,12 +22,12 @@ use Rattle.lin_edn.proofs.Wrong.{faulty_run}
 -- what stands behind blanks, with a limit that is great enough
 element_told : (most : ℕ) {p q : ℕ} {s t u : List ℕ} {v : Value} → ShortBlanks s p t → Element 64 p t v q u → q ≤ most → run most 0 [] between s ≡ complete v p q
 element_told most {p = p} {q = q} bs e le =
-    let a : p < q = element_rises e in long_run most (long bs) (omega arith) ∙ element_run most e [] (omega arith) (omega arith)
+    let a : p < q = (element_past e).0 in long_run most (long bs) (omega arith) ∙ element_run most e [] (omega arith) (omega arith)
 
 -- what is answered begins behind a blank
 behind_blank : (most : ℕ) {p q : ℕ} {s t u : List ℕ} → ShortBlanks s p t → Blank 64 p t q u → q ≤ most → AnswerOrder q (run most 0 [] between s)
 behind_blank most {p = p} {q = q} {u = u} bs b le =
-    let a : p < q = blank_rises b in
+    let a : p < q = (blank_past b).0 in
     subst (AnswerOrder q) (sym (long_run most (long bs) (omega arith) ∙ blank_run most b [] (omega arith) (omega arith))) (run_order most q u q [] between (omega arith) (omega arith))
 
 behind_blanks : {p : ℕ} {s t : List ℕ} → ShortBlanks s p t → AnswerOrder p (run longest 0 [] between s)
@@ -36,7 +36,7 @@ behind_blanks {p = p} {t = t} bs = subst (AnswerOrder p) (sym (short_run bs)) (r
 -- a place has no blank and element
 not_both : {p q r : ℕ} {s t u x y : List ℕ} {v : Value} → ShortBlanks s p t → Blank 64 p t q u → ShortBlanks s p x → Element 64 p x v r y → ⊥
 not_both {p = p} {q = q} {r = r} bs b cs e =
-    let lt : p < q = blank_rises b in
+    let lt : p < q = (blank_past b).0 in
     let order : q ≤ p = subst (AnswerOrder q) (element_told (q + r) cs e (omega arith)) (behind_blank (q + r) bs b (omega arith)) in
     omega arith
 

@@ -15,9 +15,8 @@ use Rattle.lin_edn.proofs.Back.{closed_holds}
 use Rattle.lin_edn.proofs.Chains.{end_of}
 use Rattle.lin_edn.proofs.Fronts.{positive}
 use Rattle.lin_edn.proofs.Longer.{open_longer}
-use Rattle.lin_edn.proofs.Rising.{blanks_rise, element_rises}
-use Rattle.lin_edn.proofs.Sizes.{behind_tail, tail_size}
-use Rattle.lin_edn.proofs.Standing.{white_more}
+use Rattle.lin_edn.proofs.Rising.{blanks_tail, element_past, tail_rises, then, tail_size}
+use Rattle.lin_edn.proofs.Standing.{with_blanks, white_blanks}
 
 -- more bytes behind the text
 pub row_more : (r : Series) (s x : List ℕ) (vs : List Value) → IsRow r s vs → IsRow r (s ++ x) vs
@@ -42,7 +41,7 @@ pub row_white : (r : Series) (s : List ℕ) (vs : List Value) (next end : ℕ) �
     IsRow (record { is_vector = r.is_vector; at = next }) s vs
 row_white r s vs next end row stop inside short =
     let to_end : next ≤ end = stop.1 in
-    (omega arith, omega arith, more_in row.2 (λ q u. white_more s r.at next end stop inside 63 q u vs))
+    (omega arith, omega arith, more_in row.2 (λ q u before. with_blanks before (white_blanks s r.at r.at next end stop inside 63 no_blank)))
 
 -- the closing byte
 made_is : (b : Bool) (vs : List Value) → made (bracket_of b) vs ≡ Some (value_in b vs)
@@ -55,15 +54,11 @@ row_closed r s vs row lt short h =
     closed_holds row.2 (at_byte s r.at lt ∙ ap (λ c. c ∷ drop (r.at + 1) s) h) (made_is r.is_vector vs) (omega arith)
 
 -- an element
-with_blanks : {n p q r : ℕ} {s t u : List ℕ} {vs : List Value} → Row n p s vs q t → Blanks n q t r u → Row n p s vs r u
-with_blanks row no_blank = row
-with_blanks row (one_more bs b) = blank (with_blanks row bs) b
-
 pub element_inside : (s : List ℕ) (from : ℕ) (v : Value) (used : ℕ) → IsElementAt s from v used → (from < used) × (from < length s → used ≤ length s) × (from < length s)
 element_inside s from v used e =
-    let a : from ≤ e.0 = blanks_rise e.2 in
-    let b : e.0 < used = element_rises e.3 in
-    let size : from + length (drop from s) ≡ used + length (drop used s) = tail_size (behind_tail e.2 e.3) in
+    let a : from ≤ e.0 = tail_rises (blanks_tail e.2) in
+    let b : e.0 < used = (element_past e.3).0 in
+    let size : from + length (drop from s) ≡ used + length (drop used s) = tail_size (then (blanks_tail e.2) (element_past e.3).1) in
     let all = length-drop from s in
     (omega arith, (λ lt. omega arith), omega arith)
 

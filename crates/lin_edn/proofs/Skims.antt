@@ -250,17 +250,6 @@ end_run : (at : ℕ) (st : List Frame) (m : Mode) → run longest at st m [] ≡
 unfolding run
 end_run at st m = refl
 
--- a comment is open and nothing round it
-abbrev pub is_top_comment : Part → List Shape → Bool
-is_top_comment part.Between ls = false
-is_top_comment part.Run ls = false
-is_top_comment part.Hash ls = false
-is_top_comment part.Backslash ls = false
-is_top_comment part.Tag ls = false
-is_top_comment part.Text ls = false
-is_top_comment part.Escape ls = false
-is_top_comment part.Comment ls = length ls == 0
-
 partial_at : (text : List ℕ) (p : ℕ) → run longest 0 [] between text ≡ partial p → p ≡ 0 → IsUnfinished text 0
 partial_at text p e z = subst (IsUnfinished text) z (unfinished_of text p e)
 
@@ -270,33 +259,33 @@ blank_at text p e z = subst (IsBlankText text) z (subst (What text) e (what text
 not_zero : (n : ℕ) → (suc n == 0) ≡ false
 not_zero n = search (rules, tests)
 
-open_case : (text : List ℕ) (st : List Frame) (m : Mode) → 0 < length text → begun (length text) st m ≡ 0 →
-    run longest 0 [] between text ≡ at_end (length text) m st → IsOpenText (is_top_comment (part_of m) (each shape_of st)) text
-open_case text [] between lt b e = absurd (omega arith)
-open_case text (f ∷ st) between lt b e = partial_at text (outermost (place_of f) st) e b
-open_case text st (in_run p w) lt b e = partial_at text (outermost p st) e b
-open_case text st (after_hash p w) lt b e = partial_at text (outermost p st) e b
-open_case text st (after_backslash p w) lt b e = partial_at text (outermost p st) e b
-open_case text st (in_tag p w) lt b e = partial_at text (outermost p st) e b
-open_case text st (in_text p w) lt b e = partial_at text (outermost p st) e b
-open_case text st (in_escape p w) lt b e = partial_at text (outermost p st) e b
-open_case text [] (in_comment p) lt b e = blank_at text p e b
-open_case text (f ∷ st) (in_comment p) lt b e =
-    subst (λ x. IsOpenText x text) (sym (not_zero (length (each shape_of st)))) (partial_at text (outermost (place_of f) st) e b)
+open_case : (text : List ℕ) (st : List Frame) (m : Mode) (b : Bool) → (part_of m ≡ part.Comment → (length (each shape_of st) == 0) ≡ b) →
+    ((part_of m ≡ part.Comment → ⊥) → false ≡ b) → 0 < length text → begun (length text) st m ≡ 0 → run longest 0 [] between text ≡ at_end (length text) m st →
+    IsOpenText b text
+open_case text [] between b f g lt z e = absurd (omega arith)
+open_case text (h ∷ st) between b f g lt z e = subst (λ x. IsOpenText x text) (g (λ i. cc)) (partial_at text _ e z)
+open_case text st (in_run p w) b f g lt z e = subst (λ x. IsOpenText x text) (g (λ i. cc)) (partial_at text _ e z)
+open_case text st (after_hash p w) b f g lt z e = subst (λ x. IsOpenText x text) (g (λ i. cc)) (partial_at text _ e z)
+open_case text st (after_backslash p w) b f g lt z e = subst (λ x. IsOpenText x text) (g (λ i. cc)) (partial_at text _ e z)
+open_case text st (in_tag p w) b f g lt z e = subst (λ x. IsOpenText x text) (g (λ i. cc)) (partial_at text _ e z)
+open_case text st (in_text p w) b f g lt z e = subst (λ x. IsOpenText x text) (g (λ i. cc)) (partial_at text _ e z)
+open_case text st (in_escape p w) b f g lt z e = subst (λ x. IsOpenText x text) (g (λ i. cc)) (partial_at text _ e z)
+open_case text [] (in_comment p) b f g lt z e = subst (λ x. IsOpenText x text) (f refl) (blank_at text p e z)
+open_case text (h ∷ st) (in_comment p) b f g lt z e = subst (λ x. IsOpenText x text) (sym (not_zero (length (each shape_of st))) ∙ f refl) (partial_at text _ e z)
 
-pub seen_open : (skim : Skim) (text : List ℕ) → HasSeen skim text → 0 < length text → IsOpenText (is_top_comment skim.part (shapes_of skim.levels.items)) text
-seen_open skim text seen lt =
+-- what tells whether a comment alone is open
+pub seen_open : (skim : Skim) (text : List ℕ) (b : Bool) → (skim.part ≡ part.Comment → (length (shapes_of skim.levels.items) == 0) ≡ b) →
+    ((skim.part ≡ part.Comment → ⊥) → false ≡ b) → HasSeen skim text → 0 < length text → IsOpenText b text
+seen_open skim text b f g seen lt =
     let at = skim.length in
     let size : at ≡ length text = seen.0 in
-    let open_there = seen.1 in
-    let st = open_there.2 in
-    let state = state_of skim.part open_there.1 open_there.3 at st text open_there.4 [] open_there.5 open_there.6 in
+    let it = seen.1 in
+    let st = it.2 in
+    let state = state_of skim.part it.1 it.3 at st text it.4 [] it.5 it.6 in
     let m = state.0 in
-    let all : run longest 0 [] between text ≡ at_end (length text) m st =
-    stands_run text at st m [] state.3 open_there.0 ∙ end_run at st m ∙ ap (λ k. at_end k m st) size in
-    let since_first : begun (length text) st m ≡ 0 = ap (λ k. begun k st m) (sym size) ∙ state.2 ∙ open_there.8 in
-    subst (λ x. IsOpenText (is_top_comment x (shapes_of skim.levels.items)) text) state.1
-    (subst (λ x. IsOpenText (is_top_comment (part_of m) x) text) open_there.7 (open_case text st m lt since_first all))
+    open_case text st m b (λ i. ap (λ (ls : List Shape). length ls == 0) it.7 ∙ f (sym state.1 ∙ i)) (λ n. g (λ i. n (state.1 ∙ i))) lt
+    (ap (λ k. begun k st m) (sym size) ∙ state.2 ∙ it.8)
+    (stands_run text at st m [] state.3 it.0 ∙ end_run at st m ∙ ap (λ k. at_end k m st) size)
 
 -- going on
 pub nothing_gone : (skim : Skim) → HasGone skim skim []

@@ -2,27 +2,15 @@
 use Rattle.std.proofs.Common.{◌≡◌, ℕ, zero, suc, ◌+◌, ◌-◌, ◌<◌, ◌≤◌, true, false, not, List, [], ◌∷◌, length, drop, get_or, refl, sym, ap, subst, arith, ◌∙◌}
 use Rattle.std.specs.List.{slice_range}
 use Rattle.lin_edn.specs.Bytes.{Class, class, white, inside, quote, hash, is_white, is_stop, quoted, ends, behind, names_tag}
-use Rattle.lin_edn.specs.Grammar.{One, one, Inside, first, next, Tag, first_of_tag, next_of_tag, tagged_element, Blanks, one_more, Text, opened, plain, Blank, white_byte, Element, run as a_run, whole_text, Row, blank, ShortBlanks, one_more_short, longest}
+use Rattle.lin_edn.specs.Grammar.{One, one, Inside, first, next, Tag, first_of_tag, next_of_tag, tagged_element, Blanks, no_blank, one_more, Text, opened, plain, Blank, white_byte, Element, run as a_run, whole_text, Row, blank, ShortBlanks, one_more_short, longest}
 use Rattle.lin_edn.specs.Run.{run_value}
 use Rattle.lin_edn.specs.Scans.{IsStopAt, is_dark, is_quoting, is_inside}
 use Rattle.lin_edn.specs.Value.{Value, tagged, text as text_value}
-use Rattle.lin_edn.proofs.Ahead.{at_byte, lit, white_class, inside_of, stays_of}
+use Rattle.lin_edn.proofs.Ahead.{along_to, at_byte, lit, white_class, inside_of, stays_of}
 use Rattle.lin_edn.specs.Machine.{complete}
 use Rattle.lin_edn.proofs.Forth.{element_run}
 use Rattle.lin_edn.proofs.Fronts.{positive}
 use Rattle.lin_edn.proofs.Runs.{range_more, range_one}
-
-along : (P : ℕ → Type 0) (k at : ℕ) → ((i : ℕ) → at ≤ i → i < at + k → P i → P (i + 1)) → P at → P (at + k)
-along P zero at h p = subst P (omega arith) p
-along P (suc k) at h p =
-    let e : at + 1 + k ≡ at + suc k = omega arith in
-    subst P e (along P k (at + 1) (λ i a b. h i (omega arith) (omega arith)) (h at (omega arith) (omega arith) p))
-
--- what holds at a place, and at each next one, holds at a later one
-along_to : (P : ℕ → Type 0) (at until : ℕ) → at ≤ until → ((i : ℕ) → at ≤ i → i < until → P i → P (i + 1)) → P at → P until
-along_to P at until le h p =
-    let e : at + (until - at) ≡ until = omega arith in
-    subst P e (along P (until - at) at (λ i a b. h i a (omega arith)) p)
 
 -- one byte of a text
 pub one_at : (s : List ℕ) (i : ℕ) (k : Class) → i < length s → class (get_or s i 0) ≡ k → One k i (drop i s) (get_or s i 0 ∷ []) (i + 1) (drop (i + 1) s)
@@ -38,10 +26,6 @@ light c h = ap not (sym h)
 pub short_byte : (s : List ℕ) (i : ℕ) → i < length s → true ≡ is_white (get_or s i 0) → ShortBlanks s i (drop i s) → ShortBlanks s (i + 1) (drop (i + 1) s)
 short_byte s i lt h bs = one_more_short bs (blank_at 64 i s lt (light (get_or s i 0) h)) (let z : 0 < longest = positive in omega arith)
 
-pub row_byte : (s : List ℕ) (i : ℕ) → i < length s → true ≡ is_white (get_or s i 0) → (n p : ℕ) (t : List ℕ) (vs : List Value) →
-    Row n p t vs i (drop i s) → Row n p t vs (i + 1) (drop (i + 1) s)
-row_byte s i lt h n p t vs row = blank row (blank_at n i s lt (light (get_or s i 0) h))
-
 -- white bytes
 pub white_short : (s : List ℕ) (at until end : ℕ) → IsStopAt is_dark s at end until → end ≤ length s → ShortBlanks s at (drop at s) → ShortBlanks s until (drop until s)
 white_short s at until end h within =
@@ -49,11 +33,9 @@ white_short s at until end h within =
     along_to (λ i. ShortBlanks s i (drop i s)) at until h.0 (λ i a b bs.
     one_more_short bs (blank_at 64 i s (omega arith) (h.2 i a b)) (let z : 0 < longest = positive in omega arith))
 
-pub white_more : (s : List ℕ) (at until end : ℕ) → IsStopAt is_dark s at end until → end ≤ length s →
-    (n p : ℕ) (t : List ℕ) (vs : List Value) → Row n p t vs at (drop at s) → Row n p t vs until (drop until s)
-white_more s at until end h within n p t vs =
-    let before : until ≤ end = h.1 in
-    along_to (λ i. Row n p t vs i (drop i s)) at until h.0 (λ i a b row. blank row (blank_at n i s (omega arith) (h.2 i a b)))
+pub with_blanks : {n p q r : ℕ} {s t u : List ℕ} {vs : List Value} → Row n p s vs q t → Blanks n q t r u → Row n p s vs r u
+with_blanks row no_blank = row
+with_blanks row (one_more bs b) = blank (with_blanks row bs) b
 
 -- any white bytes
 pub blanks_byte : (s : List ℕ) (from i : ℕ) → i < length s → true ≡ is_white (get_or s i 0) → (n : ℕ) → Blanks n from (drop from s) i (drop i s) →

@@ -9,24 +9,24 @@ use Rattle.lin_edn.specs.declared.EdnCause.TheVariants.{Unbalanced, OddMap, TooD
 use Rattle.lin_edn.proofs.Back.{Stands, levels}
 use Rattle.lin_edn.proofs.Forth.{takes, begins_run, one_run, hash_run, inside_run, tag_run, text_run, escape_run, comment_run, hash_goes, opens_run, row_run, discard_opens, tag_opens, blanks_run, long_run}
 use Rattle.lin_edn.proofs.Fronts.{long}
-use Rattle.lin_edn.proofs.Rising.{one_rises, inside_rises, tag_rises, text_rises, escape_rises, comment_rises, opens_rise, blanks_rise, row_rises}
+use Rattle.lin_edn.proofs.Rising.{blanks_tail, comment_past, escape_past, inside_past, one_past, opens_past, row_tail, tag_past, tail_rises, text_past}
 
 -- up to what is open
 pub open_run : (most : ℕ) {n p : ℕ} {s t : List ℕ} {st : List Frame} → Open s n st p t → p ≤ most → run most 0 [] between s ≡ run most p st between t
 open_run most (none_open bs) le = long_run most (long bs) le
 open_run most (within {n = n} {p = p} {q = q} {r = r} {st = st} {k = k} o i row) le =
-    let a : p < q = opens_rise i in
-    let b : q ≤ r = row_rises row in
+    let a : p < q = (opens_past i).0 in
+    let b : q ≤ r = tail_rises (row_tail row) in
     let all : suc n + length st ≡ 64 = levels o in
     open_run most o (omega arith) ∙ opens_run most i st (omega arith) (omega arith) ∙ row_run most row k p st (omega arith) (omega arith)
 open_run most (waits {n = n} {p = p} {q = q} {r = r} {st = st} o h d bs) le =
-    let a : p < q = one_rises h in
-    let b : q + 1 ≤ r = blanks_rise bs in
+    let a : p < q = (one_past h).0 in
+    let b : q + 1 ≤ r = tail_rises (blanks_tail bs) in
     let all : suc n + length st ≡ 64 = levels o in
     open_run most o (omega arith) ∙ discard_opens most h d st (omega arith) (omega arith) ∙ blanks_run most bs (discarding p) st (omega arith) (omega arith)
 open_run most (awaits {n = n} {p = p} {q = q} {r = r} {w = w} {st = st} o tg h bs) le =
-    let a : p < q = tag_rises tg in
-    let b : q ≤ r = blanks_rise bs in
+    let a : p < q = (tag_past tg).0 in
+    let b : q ≤ r = tail_rises (blanks_tail bs) in
     let all : suc n + length st ≡ 64 = levels o in
     open_run most o (omega arith) ∙ tag_opens most tg h st (omega arith) (omega arith) ∙ blanks_run most bs (tagging p (p + 1) w) st (omega arith) (omega arith)
 
@@ -34,21 +34,21 @@ pub stands_run : (text : List ℕ) (at : ℕ) (st : List Frame) (m : Mode) (rest
     run longest 0 [] between text ≡ run longest at st m rest
 stands_run text at st between rest h le = open_run longest h.1 le
 stands_run text at st (in_run p w) rest h le =
-    let a : p < at = inside_rises h.3 in open_run longest h.2 (omega arith) ∙ inside_run longest h.3 st (omega arith)
+    let a : p < at = (inside_past h.3).0 in open_run longest h.2 (omega arith) ∙ inside_run longest h.3 st (omega arith)
 stands_run text at st (after_hash p w) rest h le =
-    let a : p < at = one_rises h.3 in open_run longest h.2 (omega arith) ∙ hash_run longest h.3 st (omega arith)
+    let a : p < at = (one_past h.3).0 in open_run longest h.2 (omega arith) ∙ hash_run longest h.3 st (omega arith)
 stands_run text at st (after_backslash p w) rest h le =
-    let a : p < at = one_rises h.3 in
+    let a : p < at = (one_past h.3).0 in
     open_run longest h.2 (omega arith) ∙ one_run longest h.3 st (after_backslash p w) (omega arith) (λ c e. ap (λ x. go st (after_backslash p x)) (sym e))
 stands_run text at st (in_tag p w) rest h le =
-    let a : p < at = tag_rises h.3 in let all : suc h.0 + length st ≡ 64 = levels h.2 in
+    let a : p < at = (tag_past h.3).0 in let all : suc h.0 + length st ≡ 64 = levels h.2 in
     open_run longest h.2 (omega arith) ∙ tag_run longest h.3 st (omega arith) (omega arith)
 stands_run text at st (in_text p w) rest h le =
-    let a : p < at = text_rises h.3 in open_run longest h.2 (omega arith) ∙ text_run longest h.3 st (omega arith)
+    let a : p < at = (text_past h.3).0 in open_run longest h.2 (omega arith) ∙ text_run longest h.3 st (omega arith)
 stands_run text at st (in_escape p w) rest h le =
-    let a : p < at = escape_rises h.3 in open_run longest h.2 (omega arith) ∙ escape_run longest h.3 st (omega arith)
+    let a : p < at = (escape_past h.3).0 in open_run longest h.2 (omega arith) ∙ escape_run longest h.3 st (omega arith)
 stands_run text at st (in_comment p) rest h le =
-    let a : p < at = comment_rises h.3 in open_run longest h.2 (omega arith) ∙ comment_run longest h.3 st (omega arith)
+    let a : p < at = (comment_past h.3).0 in open_run longest h.2 (omega arith) ∙ comment_run longest h.3 st (omega arith)
 
 -- a closing byte that doesn't close
 unfit : (at c : ℕ) (st : List Frame) → fits st c ≡ false → close at st c ≡ stop (fault at at Unbalanced)
@@ -72,13 +72,13 @@ full at p st t h = (let all : length st ≡ 64 = omega arith in ap (λ n. if nat
 hash_full : (most : ℕ) {p q b : ℕ} {s t w : List ℕ} → One hash p s w q (b ∷ t) → (st : List Frame) → 0 + length st ≡ 64 → q < outermost p st + most →
     (k : Behind) → behind b ≡ k → deepens k ≡ true → run most p st between s ≡ fault q p TooDeep
 hash_full most {p = p} {q = q} {b = b} {t = t} {w = w} i st all lt opens_set e d =
-    let a : p < q = one_rises i in
+    let a : p < q = (one_past i).0 in
     hash_run most i st (omega arith) ∙ hash_goes most q st p w b t opens_set (stop (fault q p TooDeep)) e refl (full q p st _ all) lt
 hash_full most {p = p} {q = q} {b = b} {t = t} {w = w} i st all lt discards_next e d =
-    let a : p < q = one_rises i in
+    let a : p < q = (one_past i).0 in
     hash_run most i st (omega arith) ∙ hash_goes most q st p w b t discards_next (stop (fault q p TooDeep)) e refl (full q p st _ all) lt
 hash_full most {p = p} {q = q} {b = b} {t = t} {w = w} i st all lt names_tag e d =
-    let a : p < q = one_rises i in
+    let a : p < q = (one_past i).0 in
     hash_run most i st (omega arith) ∙ hash_goes most q st p w b t names_tag (stop (fault q p TooDeep)) e refl (full q p st _ all) lt
 hash_full most i st all lt opens_text e d = absurd (cc)
 hash_full most i st all lt joins e d = absurd (cc)
@@ -92,5 +92,5 @@ faulty_run most (odd_map {p = p} {o = o} {t = t} {st = st} {vs = vs} {k = k} op 
 faulty_run most (too_deep {p = p} {c = c} {t = t} {st = st} {k = k} o h) lt =
     open_run most o (omega arith) ∙ begins_run most p st c t (opener k) (stop (fault p p TooDeep)) h (omega arith) (full p p st _ (levels o))
 faulty_run most (hash_too_deep {p = p} {q = q} {b = b} {st = st} o i h) lt =
-    let a : p < q = one_rises i in
+    let a : p < q = (one_past i).0 in
     open_run most o (omega arith) ∙ hash_full most i st (levels o) (omega arith) (behind b) refl h

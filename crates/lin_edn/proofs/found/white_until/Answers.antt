@@ -1,6 +1,6 @@
 use Rattle.std.proofs.Common.{◌≡◌, ℕ, ◌+◌, ◌<◌, ◌≤◌, drop, subst, arith}
-use Rattle.lin_edn.specs.Grammar.{ShortBlanks, Blanks, no_blank, Row}
-use Rattle.lin_edn.proofs.Standing.{short_byte, row_byte, blanks_byte, white_short, white_more, white_blanks}
+use Rattle.lin_edn.specs.Grammar.{ShortBlanks, Blanks, no_blank}
+use Rattle.lin_edn.proofs.Standing.{short_byte, blanks_byte, with_blanks, white_short, white_blanks}
 use Rattle.lin_edn.proofs.found.white_until.Goals as goal
 
 two : (n : ℕ) → n + 1 + 1 ≡ n + 2
@@ -17,12 +17,6 @@ returns-then-from-end-2-clause-short c = λ bs.
     let s = c.args.input.now in
     subst (λ i. ShortBlanks s i (drop i s)) c.if-from-end-2.true
     (short_byte s c.args.from (room _ _ _ c.if-from-end.false c.requires.begun c.requires.inside) c.if-not-is_white.ensures bs)
-
-pub returns-then-from-end-2-clause-row : goal.returns-then-from-end-2-clause-row
-returns-then-from-end-2-clause-row c = λ n p t vs row.
-    let s = c.args.input.now in
-    subst (λ i. Row n p t vs i (drop i s)) c.if-from-end-2.true
-    (row_byte s c.args.from (room _ _ _ c.if-from-end.false c.requires.begun c.requires.inside) c.if-not-is_white.ensures n p t vs row)
 
 pub returns-then-from-end-clause-blanks : goal.returns-then-from-end-clause-blanks
 returns-then-from-end-clause-blanks c = λ n. no_blank
@@ -44,10 +38,6 @@ pub returns-then-not-is_white-2-clause-short : goal.returns-then-not-is_white-2-
 returns-then-not-is_white-2-clause-short c =
     short_byte c.args.input.now c.args.from (room _ _ _ c.if-from-end.false c.requires.begun c.requires.inside) c.if-not-is_white.ensures
 
-pub returns-then-not-is_white-2-clause-row : goal.returns-then-not-is_white-2-clause-row
-returns-then-not-is_white-2-clause-row c =
-    row_byte c.args.input.now c.args.from (room _ _ _ c.if-from-end.false c.requires.begun c.requires.inside) c.if-not-is_white.ensures
-
 pub returns-clause-short : goal.returns-clause-short
 returns-clause-short c = λ bs.
     let s = c.args.input.now in
@@ -55,14 +45,6 @@ returns-clause-short c = λ bs.
     let second = short_byte s (c.args.from + 1) (next_room _ _ _ c.if-from-end.false c.if-from-end-2.false c.requires.begun c.requires.inside) c.if-not-is_white-2.ensures first in
     white_short s (c.args.from + 2) c.white_end.result c.args.end c.white_end.ensures c.requires.inside
     (subst (λ i. ShortBlanks s i (drop i s)) (two c.args.from) second)
-
-pub returns-clause-row : goal.returns-clause-row
-returns-clause-row c = λ n p t vs row.
-    let s = c.args.input.now in
-    let first = row_byte s c.args.from (room _ _ _ c.if-from-end.false c.requires.begun c.requires.inside) c.if-not-is_white.ensures n p t vs row in
-    let second = row_byte s (c.args.from + 1) (next_room _ _ _ c.if-from-end.false c.if-from-end-2.false c.requires.begun c.requires.inside) c.if-not-is_white-2.ensures n p t vs first in
-    white_more s (c.args.from + 2) c.white_end.result c.args.end c.white_end.ensures c.requires.inside n p t vs
-    (subst (λ i. Row n p t vs i (drop i s)) (two c.args.from) second)
 
 pub returns-clause-blanks : goal.returns-clause-blanks
 returns-clause-blanks c = λ n.
@@ -72,3 +54,12 @@ returns-clause-blanks c = λ n.
     let second = blanks_byte s from (from + 1) (next_room _ _ _ c.if-from-end.false c.if-from-end-2.false c.requires.begun c.requires.inside) c.if-not-is_white-2.ensures n first in
     white_blanks s from (from + 2) c.white_end.result c.args.end c.white_end.ensures c.requires.inside n
     (subst (λ i. Blanks n from (drop from s) i (drop i s)) (two from) second)
+
+pub returns-then-from-end-2-clause-row : goal.returns-then-from-end-2-clause-row
+returns-then-from-end-2-clause-row c = λ n p t vs row. with_blanks row (returns-then-from-end-2-clause-blanks c n)
+
+pub returns-then-not-is_white-2-clause-row : goal.returns-then-not-is_white-2-clause-row
+returns-then-not-is_white-2-clause-row c = λ n p t vs row. with_blanks row (returns-then-not-is_white-2-clause-blanks c n)
+
+pub returns-clause-row : goal.returns-clause-row
+returns-clause-row c = λ n p t vs row. with_blanks row (returns-clause-blanks c n)
