@@ -195,6 +195,26 @@ comment_end f st at p =
     let r = between_end f st (at + 1) in
     (10 ∷ r.0, λ s h. sooner (omega arith) (r.1 s (h.0, inner_skip h.2 (comment h.3 refl))))
 
+-- What is open ends in some bytes, and is told as partial before them; or nothing is open at the top but a comment.
+data Ends : ℕ → List Frame → Mode → Type 0 where
+  top : {at : ℕ} → Ends at [] between
+  top_comment : {at p : ℕ} → Ends at [] (in_comment p)
+  inner : {at : ℕ} {st : List Frame} {m : Mode} → CanEnd at st m (begun at st m) → at_end at m st ≡ partial (begun at st m) →
+      ((s x : List ℕ) → Stands s at st m x → begun at st m < at) → Ends at st m
+
+ends_of : (at : ℕ) (st : List Frame) (m : Mode) → Ends at st m
+ends_of at [] between = top
+ends_of at (f ∷ st) between = inner (between_end f st at) refl (λ s x k. first_below k.1)
+ends_of at st (in_run p w) = inner (run_end st at p w) refl (λ s x k. below k.2 at (inside_past k.3).0)
+ends_of at st (after_hash p w) = inner (hash_end st at p w) refl (λ s x k. below k.2 at (one_past k.3).0)
+ends_of at st (after_backslash p w) = inner (backslash_end st at p w) refl (λ s x k. below k.2 at (one_past k.3).0)
+ends_of at st (in_tag p w) = inner (tag_end st at p w) refl (λ s x k. below k.2 at (tag_past k.3).0)
+ends_of at st (in_text p w) = inner (text_end st at p w) refl (λ s x k. below k.2 at (text_past k.3).0)
+ends_of at st (in_escape p w) = inner (escape_end st at p w) refl (λ s x k. below k.2 at (escape_past k.3).0)
+ends_of at [] (in_comment p) = top_comment
+ends_of at (f ∷ st) (in_comment p) = inner (comment_end f st at p) refl
+    (λ s x k. let a : outermost (place_of f) st < p = first_below k.2 in let b : p < at = (comment_past k.3).0 in omega arith)
+
 -- what is read so far leads to a state, whatever follows
 abbrev pub Reached : List ℕ → ℕ → List Frame → Mode → Type 0
 Reached front at st m = (x : List ℕ) → (run longest 0 [] between (front ++ x) ≡ run longest at st m x) × Stands (front ++ x) at st m x
@@ -206,52 +226,29 @@ CanGoOn front at p = (x : List ℕ) × (q : ℕ) × (at ≤ q) × Whole (front +
 goes_on_at : (front : List ℕ) (at : ℕ) (st : List Frame) (m : Mode) (p : ℕ) → Reached front at st m → CanEnd at st m p → CanGoOn front at p
 goes_on_at front at st m p h r = let f = r.1 (front ++ r.0) (h r.0).1 in (r.0, f.0.0, f.0.1, f.0.2)
 
-ends : (front : List ℕ) (at : ℕ) (st : List Frame) (m : Mode) (p : ℕ) → Reached front at st m → CanEnd at st m p → IsViable front
-ends front at st m p h r = let f = r.1 (front ++ r.0) (h r.0).1 in (r.0, f.1)
-
 top_zero : {s u : List ℕ} {n at : ℕ} → Open s n [] at u → u ≡ 48 ∷ 32 ∷ [] → Reads s
 top_zero {s = s} {at = at} (none_open bs) e = reads (subst (λ y. Blanks 64 0 s at y) e (long bs)) (zero_run 64 at [])
 
 commented_zero : {s r : List ℕ} {n at p : ℕ} → Open s n [] p r → Blank 64 p r at (48 ∷ 32 ∷ []) → Reads s
 commented_zero {at = at} (none_open bs) b = reads (one_more (long bs) b) (zero_run 64 at [])
 
-viable : (front : List ℕ) (at : ℕ) (st : List Frame) (m : Mode) → Reached front at st m → IsViable front
-viable front at [] between h = (48 ∷ 32 ∷ [], top_zero (h (48 ∷ 32 ∷ [])).1.1 refl)
-viable front at (f ∷ st) between h = ends front at (f ∷ st) between (outermost (place_of f) st) h (between_end f st at)
-viable front at st (in_run p w) h = ends front at st (in_run p w) (outermost p st) h (run_end st at p w)
-viable front at st (after_hash p w) h = ends front at st (after_hash p w) (outermost p st) h (hash_end st at p w)
-viable front at st (after_backslash p w) h = ends front at st (after_backslash p w) (outermost p st) h (backslash_end st at p w)
-viable front at st (in_tag p w) h = ends front at st (in_tag p w) (outermost p st) h (tag_end st at p w)
-viable front at st (in_text p w) h = ends front at st (in_text p w) (outermost p st) h (text_end st at p w)
-viable front at st (in_escape p w) h = ends front at st (in_escape p w) (outermost p st) h (escape_end st at p w)
-viable front at [] (in_comment p) h =
-    let k = (h (10 ∷ 48 ∷ 32 ∷ [])).1 in (10 ∷ 48 ∷ 32 ∷ [], commented_zero k.2 (comment k.3 refl))
-viable front at (f ∷ st) (in_comment p) h = ends front at (f ∷ st) (in_comment p) (outermost (place_of f) st) h (comment_end f st at p)
+viable : {at : ℕ} {st : List Frame} {m : Mode} (front : List ℕ) → Ends at st m → Reached front at st m → IsViable front
+viable front top h = (48 ∷ 32 ∷ [], top_zero (h (48 ∷ 32 ∷ [])).1.1 refl)
+viable front top_comment h = let k = (h (10 ∷ 48 ∷ 32 ∷ [])).1 in (10 ∷ 48 ∷ 32 ∷ [], commented_zero k.2 (comment k.3 refl))
+viable front (inner r e lt) h = let f = r.1 (front ++ r.0) (h r.0).1 in (r.0, f.1)
 
 -- what is open can become whole
 abbrev CanBeThing : List ℕ → ℕ → ℕ → Type 0
 CanBeThing front at p = (x : List ℕ) × (q : ℕ) × (at ≤ q) × Thing (front ++ x) p q
 
-whole_thing : (front : List ℕ) (at p : ℕ) → CanGoOn front at p → CanBeThing front at p
-whole_thing front at p h = (h.0, h.1, h.2, element_or_discard h.3)
-
 whole_comment : {s r : List ℕ} {n at p : ℕ} → Open s n [] p r → (u : List ℕ) → Comment p r at u → u ≡ 10 ∷ [] → Thing s p (at + 1)
 whole_comment {r = r} {at = at} {p = p} (none_open bs) u i e = a_comment bs (subst (λ y. Comment p r at y) e i) refl
 
-thing : (front : List ℕ) (at : ℕ) (st : List Frame) (m : Mode) → Reached front at st m → begun at st m < at →
+thing : {at : ℕ} {st : List Frame} {m : Mode} (front : List ℕ) → Ends at st m → Reached front at st m → begun at st m < at →
     CanBeThing front at (begun at st m)
-thing front at [] between h lt = absurd (omega arith)
-thing front at (f ∷ st) between h lt = whole_thing front at _ (goes_on_at front at (f ∷ st) between (outermost (place_of f) st) h (between_end f st at))
-thing front at st (in_run p w) h lt = whole_thing front at _ (goes_on_at front at st (in_run p w) (outermost p st) h (run_end st at p w))
-thing front at st (after_hash p w) h lt = whole_thing front at _ (goes_on_at front at st (after_hash p w) (outermost p st) h (hash_end st at p w))
-thing front at st (after_backslash p w) h lt = whole_thing front at _ (goes_on_at front at st (after_backslash p w) (outermost p st) h (backslash_end st at p w))
-thing front at st (in_tag p w) h lt = whole_thing front at _ (goes_on_at front at st (in_tag p w) (outermost p st) h (tag_end st at p w))
-thing front at st (in_text p w) h lt = whole_thing front at _ (goes_on_at front at st (in_text p w) (outermost p st) h (text_end st at p w))
-thing front at st (in_escape p w) h lt = whole_thing front at _ (goes_on_at front at st (in_escape p w) (outermost p st) h (escape_end st at p w))
-thing front at [] (in_comment p) h lt =
-    let k = (h (10 ∷ [])).1 in (10 ∷ [], at + 1, omega arith, whole_comment k.2 (10 ∷ []) k.3 refl)
-thing front at (f ∷ st) (in_comment p) h lt =
-    whole_thing front at _ (goes_on_at front at (f ∷ st) (in_comment p) (outermost (place_of f) st) h (comment_end f st at p))
+thing front top h lt = absurd (omega arith)
+thing {at = at} front top_comment h lt = let k = (h (10 ∷ [])).1 in (10 ∷ [], at + 1, omega arith, whole_comment k.2 (10 ∷ []) k.3 refl)
+thing {at = at} {st = st} {m = m} front (inner r e b) h lt = let g = goes_on_at front at st m (begun at st m) h r in (g.0, g.1, g.2, element_or_discard g.3)
 
 -- what an answer says of the fronts of the input
 abbrev pub Facts : List ℕ → Answer → Type 0
@@ -297,7 +294,7 @@ least s front at st m c j i k h len e = (
   s,
   refl,
   len,
-  viable front at st m h,
+  viable front (ends_of at st m) h,
   λ w. not_read ((front ++ c ∷ []) ++ w.0) j i k (turns front at st m c (stop (fault j i k)) h e w.0) w.1,
 )
 
@@ -334,7 +331,7 @@ long_front s front at st m c p h len le a b =
     subst (λ n. take n (front ++ c ∷ s) ≡ front) (len ∙ there) (take-append_seam front (c ∷ s)) in (
       simp length-append (omega arith),
       subst (λ n. (t : List ℕ) × ShortBlanks (front ++ c ∷ s) n t) here (blanks_to (front ++ c ∷ s) at st m (c ∷ s) (h (c ∷ s)).1),
-      subst (λ l. CanBeThing l (p + longest) p) (sym all) (subst (λ n. CanBeThing front n p) there (subst (CanBeThing front at) here (thing front at st m h shorter))),
+      subst (λ l. CanBeThing l (p + longest) p) (sym all) (subst (λ n. CanBeThing front n p) there (subst (CanBeThing front at) here (thing front (ends_of at st m) h shorter))),
     )
 
 turn_facts : (s front : List ℕ) (at : ℕ) (st : List Frame) (m : Mode) (c : ℕ) → Reached front at st m → length front ≡ at → Bound at st m → (t : Turn) →
@@ -353,42 +350,20 @@ turn_facts s front at st m c h len le (stop (fault j i k)) e f ih = subst (IsLea
 turn_facts s front at st m c h len le (stop (too_long p)) e f ih = long_front s front at st m c p h len le f.0 f.1
 
 -- the end of the input
-partial_facts : (front : List ℕ) (at p : ℕ) → length front ≡ at → at ≤ p + longest → p < at → (t : List ℕ) × ShortBlanks (front ++ []) p t →
-    CanGoOn front at p → Facts front (partial p)
-partial_facts front at p len le lt bs g =
-    (omega arith, omega arith, subst (λ l. (t : List ℕ) × ShortBlanks l p t) (append-nil front) bs, subst (λ n. CanGoOn front n p) (sym len) g)
-
-end_facts : (front : List ℕ) (at : ℕ) (st : List Frame) (m : Mode) → Reached front at st m → length front ≡ at → Bound at st m → Facts front (at_end at m st)
-end_facts front at [] between h len le = tt
-end_facts front at (f ∷ st) between h len le =
+end_facts : {at : ℕ} {st : List Frame} {m : Mode} (front : List ℕ) → Ends at st m → Reached front at st m → length front ≡ at → Bound at st m →
+    Facts front (at_end at m st)
+end_facts front top h len le = tt
+end_facts front top_comment h len le = tt
+end_facts {at = at} {st = st} {m = m} front (inner r e b) h len le =
+    let p = begun at st m in
     let k = (h []).1 in
-    partial_facts front at _ len le (first_below k.1) (blanks_before k.1) (goes_on_at front at (f ∷ st) between (outermost (place_of f) st) h (between_end f st at))
-end_facts front at st (in_run p w) h len le =
-    let k = (h []).1 in
-    partial_facts front at _ len le (below k.2 at (inside_past k.3).0) (blanks_before k.2) (goes_on_at front at st (in_run p w) (outermost p st) h (run_end st at p w))
-end_facts front at st (after_hash p w) h len le =
-    let k = (h []).1 in
-    partial_facts front at _ len le (below k.2 at (one_past k.3).0) (blanks_before k.2) (goes_on_at front at st (after_hash p w) (outermost p st) h (hash_end st at p w))
-end_facts front at st (after_backslash p w) h len le =
-    let k = (h []).1 in
-    partial_facts front at _ len le (below k.2 at (one_past k.3).0) (blanks_before k.2)
-    (goes_on_at front at st (after_backslash p w) (outermost p st) h (backslash_end st at p w))
-end_facts front at st (in_tag p w) h len le =
-    let k = (h []).1 in
-    partial_facts front at _ len le (below k.2 at (tag_past k.3).0) (blanks_before k.2) (goes_on_at front at st (in_tag p w) (outermost p st) h (tag_end st at p w))
-end_facts front at st (in_text p w) h len le =
-    let k = (h []).1 in
-    partial_facts front at _ len le (below k.2 at (text_past k.3).0) (blanks_before k.2) (goes_on_at front at st (in_text p w) (outermost p st) h (text_end st at p w))
-end_facts front at st (in_escape p w) h len le =
-    let k = (h []).1 in
-    partial_facts front at _ len le (below k.2 at (escape_past k.3).0) (blanks_before k.2) (goes_on_at front at st (in_escape p w) (outermost p st) h (escape_end st at p w))
-end_facts front at [] (in_comment p) h len le = tt
-end_facts front at (f ∷ st) (in_comment p) h len le =
-    let k = (h []).1 in
-    let a : outermost (place_of f) st < p = first_below k.2 in
-    let b : p < at = (comment_past k.3).0 in
-    partial_facts front at _ len le (omega arith) (blanks_before k.2)
-    (goes_on_at front at (f ∷ st) (in_comment p) (outermost (place_of f) st) h (comment_end f st at p))
+    let before : p < at = b (front ++ []) [] k in
+    subst (Facts front) (sym e) (
+      omega arith,
+      omega arith,
+      subst (λ l. (t : List ℕ) × ShortBlanks l p t) (append-nil front) (blanks_to (front ++ []) at st m [] k),
+      subst (λ n. CanGoOn front n p) (sym len) (goes_on_at front at st m p h r),
+    )
 
 longer : (front : List ℕ) (c at : ℕ) → length front ≡ at → length (front ++ c ∷ []) ≡ at + 1
 longer front c at e = simp length-append (omega arith)
@@ -396,7 +371,7 @@ longer front c at e = simp length-append (omega arith)
 facts : (s front : List ℕ) (at : ℕ) (st : List Frame) (m : Mode) → Reached front at st m → length front ≡ at → Bound at st m → begun at st m ≤ at →
     Facts (front ++ s) (run longest at st m s)
 unfolding run
-facts [] front at st m h len le b = subst (λ l. Facts l (at_end at m st)) (sym (append-nil front)) (end_facts front at st m h len le)
+facts [] front at st m h len le b = subst (λ l. Facts l (at_end at m st)) (sym (append-nil front)) (end_facts front (ends_of at st m) h len le)
 facts (c ∷ s) front at st m h len le b =
     turn_facts s front at st m c h len le (step longest at st m c) refl (step_order longest (begun at st m) at st m c (omega arith) b)
     (λ st2 m2 h2 le2 b2. facts s (front ++ c ∷ []) (at + 1) st2 m2 h2 (longer front c at len) le2 b2)
