@@ -7,6 +7,7 @@ use Rattle.lin_edn.specs.Run.{run_value}
 use Rattle.lin_edn.specs.Value.{Value, atom, tagged, made}
 use Rattle.lin_edn.specs.declared.EdnCause.TheVariants.{Unbalanced, OddMap, TooDeep}
 use Rattle.lin_edn.proofs.Rising.{blanks_tail, one_past, opens_past, row_tail, tag_past, tail_rises}
+use Rattle.lin_edn.proofs.Limit.{is_past, is_under, same_number}
 
 -- what an answer says of the input
 abbrev pub What : List ℕ → Answer → Type 0
@@ -90,19 +91,6 @@ ended_fresh at c st (in_text p w) = tt
 ended_fresh at c st (in_escape p w) = tt
 ended_fresh at c st (in_comment p) = tt
 
--- tests of numbers
-is_below : (n : ℕ) → nat_le 64 n ≡ true → 64 ≤ n
-is_below n h = search (rules, tests)
-
-is_over : (n : ℕ) → nat_le 64 n ≡ false → n < 64
-is_over n h = search (rules, tests)
-
-same_byte : (a b : ℕ) → (a == b) ≡ true → a ≡ b
-same_byte a b h = search (rules, tests)
-
-in_limit : (a b : ℕ) → nat_le a b ≡ false → b < a
-in_limit a b h = search (rules, tests)
-
 -- the next byte begins a thing at the top, or belongs to that which is open
 pub bound_here : (p q : ℕ) (st : List Frame) → q ≤ outermost p st + longest → q ≤ outermost q st + longest
 bound_here p q [] le = omega arith
@@ -111,7 +99,8 @@ bound_here p q (f ∷ st) le = le
 next_bound : (at p : ℕ) (st : List Frame) → at < outermost p st + longest → at + 1 ≤ outermost p st + longest
 next_bound at p st lt = omega arith
 
--- one more byte, blank or element leaves it known which levels are open, and tells what an answer says
+-- `O` tells which levels the bytes up to a place leave open, `Says` what an answer says, and so they do with a blank, an element
+-- or an opening more
 pub record Keeps (Says : Answer → Type 0) (O : ℕ → List Frame → ℕ → List ℕ → Type 0) : Type 0 where
   pub levels : {n q : ℕ} {t : List ℕ} {st : List Frame} → O n st q t → n + length st ≡ 64
   pub skip : {n q r : ℕ} {t u : List ℕ} {st : List Frame} → O n st q t → Blank n q t r u → r ≤ outermost q st + longest → O n st r u
@@ -139,12 +128,12 @@ module _ (Says : Answer → Type 0) (O : ℕ → List Frame → ℕ → List ℕ
       ((m : ℕ) → O (suc m) st p r → AfterOn Says O (at + 1) s t) → (O 0 st p r → Says (fault at p TooDeep)) →
       (b : Bool) → nat_le 64 (length st) ≡ b → AfterOn Says O (at + 1) s (if b then stop (fault at p TooDeep) else t)
   level_if n at p r s st t o f g true e =
-      let le : 64 ≤ length st = is_below (length st) e in
+      let le : 64 ≤ length st = is_past 64 (length st) e in
       let all : n + length st ≡ 64 = keep.levels o in
       let z : n ≡ 0 = omega arith in
       g (subst (λ x. O x st p r) z o)
   level_if zero at p r s st t o f g false e =
-      let lt : length st < 64 = is_over (length st) e in
+      let lt : length st < 64 = is_under 64 (length st) e in
       let all : 0 + length st ≡ 64 = keep.levels o in absurd (omega arith)
   level_if (suc m) at p r s st t o f g false e = f m o
 
@@ -163,7 +152,7 @@ module _ (Says : Answer → Type 0) (O : ℕ → List Frame → ℕ → List ℕ
       at < outermost p st + longest → class c ≡ closer → (b : Bool) → (closing k == c) ≡ b →
       AfterOn Says O (at + 1) s (if b then closed (made k vs) p st at else stop (fault at at Unbalanced))
   fits_case n at p c s st vs k o lt h true e =
-      made_case n at p s st vs k (subst (λ x. O n (frame k p vs ∷ st) at (x ∷ s)) (sym (same_byte (closing k) c e)) o) lt (made k vs) refl
+      made_case n at p s st vs k (subst (λ x. O n (frame k p vs ∷ st) at (x ∷ s)) (sym (same_number (closing k) c e)) o) lt (made k vs) refl
   fits_case n at p c s st vs k o lt h false e = keep.unbalanced o h e lt
 
   close_holds : (n at c : ℕ) (s : List ℕ) (st : List Frame) → O n st at (c ∷ s) → at < outermost at st + longest → class c ≡ closer →
@@ -263,7 +252,7 @@ module _ (Says : Answer → Type 0) (O : ℕ → List Frame → ℕ → List ℕ
       (b : Bool) → nat_le (begun at st m + longest) at ≡ b →
       AfterOn Says O (at + 1) s (if b then stop (too_long (begun at st m)) else taken at st m c)
   limit_case at c s st m h fresh true e = keep.too_long (begun at st m)
-  limit_case at c s st m h fresh false e = taken_holds at c s st m h fresh (in_limit (begun at st m + longest) at e)
+  limit_case at c s st m h fresh false e = taken_holds at c s st m h fresh (is_under (begun at st m + longest) at e)
 
   limited_holds : (at c : ℕ) (s : List ℕ) (t : Turn) → AfterOn Says O at (c ∷ s) t → FreshTurn c t → AfterOn Says O (at + 1) s (limited longest at c t)
   limited_holds at c s (stop a) h fresh = h

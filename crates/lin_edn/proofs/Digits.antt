@@ -3,6 +3,7 @@ use Rattle.std.proofs.Common.{◌≡◌, ℕ, suc, ◌+◌, ◌*◌, ◌-◌, �
 use Rattle.lin_edn.specs.Bytes.{is_digit}
 use Rattle.lin_edn.specs.Numbers.{capped}
 use Rattle.lin_edn.specs.Run.{number_after}
+use Rattle.lin_edn.proofs.Limit.{is_above}
 
 digit_case : (b : Bool) (c : ℕ) (w : List ℕ) (n m : ℕ) → ((k : ℕ) → number_after k w ≡ Some m → k ≤ m) →
     (if b then number_after (n * 10 + (c - 48)) w else None) ≡ Some m → n ≤ m
@@ -14,12 +15,9 @@ rises : (w : List ℕ) (n m : ℕ) → number_after n w ≡ Some m → n ≤ m
 rises [] n m h = let e : n ≡ m = cc in omega arith
 rises (c ∷ w) n m h = digit_case (is_digit c) c w n m (λ k. rises w k m) h
 
-over : (n : ℕ) → 2 ^ 63 < n → nat_le n (2 ^ 63) ≡ false
-over n h = search (rules, tests)
-
 great : (k : ℕ) (o : Option ℕ) → 2 ^ 63 < k → ((m : ℕ) → o ≡ Some m → k ≤ m) → capped o ≡ None
 great k None h f = refl
-great k (Some m) h f = let a : k ≤ m = f m refl in rw (over m (omega arith)) refl
+great k (Some m) h f = let a : k ≤ m = f m refl in rw (is_above m (2 ^ 63) (omega arith)) refl
 
 -- a further digit is one too many
 pub too_great : (b : Bool) (n c : ℕ) (w : List ℕ) → 1000000000000000000 < n →

@@ -6,9 +6,7 @@ use Rattle.lin_edn.specs.Machine.{Mode, between, in_run, after_hash, after_backs
 use Rattle.lin_edn.specs.Run.{run_value}
 use Rattle.lin_edn.specs.Value.{Value, atom, tagged, made}
 use Rattle.lin_edn.proofs.Rising.{blank_past, blanks_tail, comment_past, element_past, escape_past, inside_past, one_past, opens_past, row_tail, tag_past, tail_rises, text_past}
-
-is_above : (a b : ℕ) → b < a → nat_le a b ≡ false
-is_above a b h = search (rules, tests)
+use Rattle.lin_edn.proofs.Limit.{is_above}
 
 -- a byte that ends nothing before itself and isn't one too many
 pub takes : (most at : ℕ) (st : List Frame) (m : Mode) (c : ℕ) (s : List ℕ) (t : Turn) → ended at st m c ≡ go st m →

@@ -8,6 +8,7 @@ use Rattle.lin_edn.specs.Value.{Value, made}
 use Rattle.lin_edn.proofs.Ahead.{at_byte, opens_map}
 use Rattle.lin_edn.proofs.Skims.{made_grown, made_empty}
 use Rattle.lin_edn.proofs.Standing.{one_at, hashes}
+use Rattle.lin_edn.proofs.Limit.{same_number}
 
 opens_vector : (c : ℕ) → c ≡ 91 → class c ≡ opener a_vector
 opens_vector c h = rw h refl
@@ -63,9 +64,6 @@ both true true h = (refl, refl)
 both true false h = absurd (true≢false (sym h))
 both false b h = absurd (true≢false (sym h))
 
-same_byte : (a b : ℕ) → (a == b) ≡ true → a ≡ b
-same_byte a b h = search (rules, tests)
-
 there : (o : Option Value) → is_some o ≡ true → (v : Value) × (o ≡ Some v)
 there (Some v) h = (v, refl)
 there None h = absurd (true≢false (sym h))
@@ -77,7 +75,7 @@ closed_here s from inner levels at shape room filled inside ends =
     let k = filled.0 in
     let vs = filled.1 in
     let can = both (closing k == get_or s at 0) (is_some (made k vs)) (ap (λ l. closes l (get_or s at 0)) (sym filled.4) ∙ ends) in
-    let byte : get_or s at 0 ≡ closing k = sym (same_byte (closing k) (get_or s at 0) can.0) in
+    let byte : get_or s at 0 ≡ closing k = sym (same_number (closing k) (get_or s at 0) can.0) in
     let whole = there (made k vs) can.1 in
     let one_less : suc (levels - 1) ≡ levels = omega arith in (
       whole.0,

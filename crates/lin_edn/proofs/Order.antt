@@ -7,6 +7,7 @@ use Rattle.lin_edn.specs.Run.{run_value}
 use Rattle.lin_edn.specs.Value.{Value, atom, text, tagged, made}
 use Rattle.lin_edn.specs.declared.EdnCause.{EdnCause}
 use Rattle.lin_edn.specs.declared.EdnCause.TheVariants.{Unbalanced, TooDeep}
+use Rattle.lin_edn.proofs.Limit.{is_above, is_past, is_under}
 
 -- what is open before a place begins between lo and that place
 abbrev pub IsWithin : ℕ → ℕ → List Frame → Mode → Type 0
@@ -143,9 +144,6 @@ ended_order lo at st (in_text p w) c a b = (a, b)
 ended_order lo at st (in_escape p w) c a b = (a, b)
 ended_order lo at st (in_comment p) c a b = (a, b)
 
-is_past : (a b : ℕ) → nat_le a b ≡ true → a ≤ b
-is_past a b h = search (rules, tests)
-
 limit_if : (most lo at : ℕ) (st : List Frame) (m : Mode) (c : ℕ) → lo ≤ begun at st m → begun at st m ≤ at → (b : Bool) → nat_le (begun at st m + most) at ≡ b →
     TurnOrder most lo at (if b then stop (too_long (begun at st m)) else taken at st m c)
 limit_if most lo at st m c a b true e = (a, is_past (begun at st m + most) at e)
@@ -200,12 +198,6 @@ run_order most lo (c ∷ s) at st m a b =
     (λ st2 m2 h. run_order most lo s (at + 1) st2 m2 h.0 h.1)
 
 -- an answer stays where the limit grows, unless it is that something is too long
-is_above : (a b : ℕ) → b < a → nat_le a b ≡ false
-is_above a b h = search (rules, tests)
-
-is_under : (a b : ℕ) → nat_le a b ≡ false → b < a
-is_under a b h = search (rules, tests)
-
 wide_taken : (less most at : ℕ) (s : List ℕ) (t : Turn) (a : Answer) →
     ((st : List Frame) (m : Mode) → run less (at + 1) st m s ≡ a → run most (at + 1) st m s ≡ a) →
     on_turn t (λ st' m'. run less (at + 1) st' m' s) ≡ a → on_turn t (λ st' m'. run most (at + 1) st' m' s) ≡ a

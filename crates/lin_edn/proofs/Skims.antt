@@ -17,6 +17,7 @@ use Rattle.lin_edn.proofs.Back.{What, what, Stands, AfterTurn, step_holds}
 use Rattle.lin_edn.proofs.Longer.{one_longer, inside_longer, tag_longer, text_longer, escape_longer, comment_longer, open_longer}
 use Rattle.lin_edn.proofs.Sound.{unfinished_of}
 use Rattle.lin_edn.proofs.Wrong.{stands_run}
+use Rattle.lin_edn.proofs.Limit.{is_above}
 
 -- the part that a machine is in
 abbrev pub part_of : Mode → Part
@@ -184,9 +185,6 @@ taken_matches at c st (in_escape p w) = follows st (in_text p (w ++ c ∷ [])) r
 taken_matches at c st (in_comment p) = newline_if at p st (is_newline c)
 
 -- a byte
-is_above : (a b : ℕ) → b < a → nat_le a b ≡ false
-is_above a b h = search (rules, tests)
-
 matched : (at b : ℕ) (t : Turn) (o : Option (List Shape × Part)) (r : List Shape × Part) → o ≡ Some r → Matches at b t o → Follows at b t r.0 r.1
 matched at b t None r e h = absurd (cc)
 matched at b t (Some x) r e h = let same : x ≡ r = cc in subst (λ y. Follows at b t y.0 y.1) same h

@@ -1,16 +1,11 @@
 use Rattle.std.proofs.Common.{◌≡◌, ℕ, ◌+◌, ◌≤◌, ◌<◌, ◌∙◌, sym, ap, arith, drop, length, nat_le, true, false, map, rules, tests}
 use Rattle.lin_edn.proofs.Ahead.{over_here, deep_here, map_ends}
+use Rattle.lin_edn.proofs.Limit.{is_under, is_within}
 use Rattle.lin_edn.specs.Grammar.{longest, outermost}
 use Rattle.lin_edn.specs.Levels.{frames_of}
 use Rattle.lin_edn.specs.Machine.{run, between, too_long}
 use Rattle.lin_edn.specs.View.{entry_view}
 use Rattle.lin_edn.proofs.reader.open_map.Goals as goal
-
-under : (a b : ℕ) → false ≡ nat_le a b → b < a
-under a b h = search (rules, tests)
-
-le_true : (a b : ℕ) → a ≤ b → nat_le a b ≡ true
-le_true a b h = search (rules, tests)
 
 pub returns-then-is_over : goal.returns-then-is_over
 returns-then-is_over c =
@@ -25,16 +20,16 @@ returns-then-depth-ge-DEEPEST c =
     let s = c.args.input.now in
     let st = frames_of c.args.stack.now.items in
     let e : c.outermost-begun.result ≡ outermost c.args.at st = rw c.deref.ensures.value at c.outermost-begun.ensures in
-    let short : c.args.at < c.outermost-begun.result + longest = under _ _ c.if-is_over.ensures in
+    let short : c.args.at < c.outermost-begun.result + longest = is_under _ _ (sym c.if-is_over.ensures) in
     let d : c.depth.result ≡ length st = rw c.deref-2.ensures.value at c.depth.ensures in
-    (c.args.at, deep_here s c.args.at st c.requires.inside c.requires.opens (omega arith) (le_true 64 (length st) (omega arith)))
+    (c.args.at, deep_here s c.args.at st c.requires.inside c.requires.opens (omega arith) (is_within 64 (length st) (omega arith)))
 
 pub returns-then-input-next-eq125 : goal.returns-then-input-next-eq125
 returns-then-input-next-eq125 c =
     let s = c.args.input.now in
     let st = frames_of c.args.stack.now.items in
     let e : c.outermost-begun.result ≡ outermost c.args.at st = rw c.deref.ensures.value at c.outermost-begun.ensures in
-    let short : c.args.at < c.outermost-begun.result + longest = under _ _ c.if-is_over.ensures in
+    let short : c.args.at < c.outermost-begun.result + longest = is_under _ _ (sym c.if-is_over.ensures) in
     let d : c.depth.result ≡ length st = rw c.deref-2.ensures.value at c.depth.ensures in
     let es = map entry_view c.open_pairs.new.entries.items in
     let next = c.in_ok-next.next in
@@ -51,7 +46,7 @@ returns c =
     let s = c.args.input.now in
     let st = frames_of c.args.stack.now.items in
     let e : c.outermost-begun.result ≡ outermost c.args.at st = rw c.deref.ensures.value at c.outermost-begun.ensures in
-    let short : c.args.at < c.outermost-begun.result + longest = under _ _ c.if-is_over.ensures in
+    let short : c.args.at < c.outermost-begun.result + longest = is_under _ _ (sym c.if-is_over.ensures) in
     let d : c.depth.result ≡ length st = rw c.deref-2.ensures.value at c.depth.ensures in
     let next = c.in_ok-next.next in
     let end_in : c.window-end.result ≤ length s = c.window-end.ensures.within in
