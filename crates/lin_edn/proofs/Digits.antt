@@ -1,5 +1,5 @@
 -- Numbers behind further digits.
-use Rattle.std.proofs.Common.{◌≡◌, ℕ, suc, ◌+◌, ◌*◌, ◌-◌, ◌<◌, ◌≤◌, ◌^◌, Bool, true, false, if◌then◌else◌, List, [], ◌∷◌, length, drop, get_or, refl, ap, ◌∙◌, arith, Option, Some, None, nat_le, rules, tests, drop-cons}
+use Rattle.std.proofs.Common.{◌≡◌, ℕ, suc, ◌+◌, ◌*◌, ◌-◌, ◌<◌, ◌≤◌, ◌^◌, Bool, true, false, if◌then◌else◌, List, [], ◌∷◌, length, drop, get_or, refl, ap, ◌∙◌, arith, Option, Some, None, drop-cons}
 use Rattle.lin_edn.specs.Bytes.{is_digit}
 use Rattle.lin_edn.specs.Numbers.{capped}
 use Rattle.lin_edn.specs.Run.{number_after}

@@ -1,5 +1,5 @@
 -- Collections that are found in place, in words of the grammar.
-use Rattle.std.proofs.Common.{◌≡◌, ℕ, suc, ◌+◌, ◌-◌, ◌<◌, Bool, true, false, ◌&&◌, ◌==◌, List, [], ◌∷◌, ◌++◌, length, drop, get_or, Option, Some, None, refl, sym, ap, subst, arith, rules, tests, ◌∙◌, true≢false}
+use Rattle.std.proofs.Common.{◌≡◌, ℕ, suc, ◌+◌, ◌-◌, ◌<◌, Bool, true, false, ◌&&◌, ◌==◌, List, [], ◌∷◌, ◌++◌, length, drop, get_or, Option, Some, None, refl, sym, ap, subst, arith, ◌∙◌, true≢false}
 use Rattle.std.specs.Option.{is_some}
 use Rattle.lin_edn.specs.Bytes.{Kind, a_list, a_vector, a_set, a_map, class, opener, hash, behind, opens_set, closing}
 use Rattle.lin_edn.specs.Grammar.{One, Opens, bracket, set_bracket, Element, collection, Row, empty, element}

@@ -1,8 +1,8 @@
 -- A list or vector that is read element by element.
 use Rattle.std.proofs.Common.{◌≡◌, ℕ, ◌+◌, ◌≤◌, ◌<◌, Bool, true, false, List, [], ◌∷◌, ◌++◌, length, drop, get_or, Option, Some, None, Ok, MatchOption, refl, sym, ap, ◌∙◌, subst, arith, append_assoc, append-nil, length-append, length-drop}
 use Rattle.std.proofs.lemmas.List.{drop-append-le}
-use Rattle.lin_edn.specs.Bytes.{Kind, class, opener, closing}
-use Rattle.lin_edn.specs.Grammar.{one, Opens, bracket, Blanks, no_blank, one_more, Row, empty, blank, element, longest, no_blank_yet, Spells, Frame, frame, tagging, Open, none_open, within}
+use Rattle.lin_edn.specs.Bytes.{Kind, closing}
+use Rattle.lin_edn.specs.Grammar.{Opens, no_blank, Row, empty, blank, element, longest, no_blank_yet, Spells, Frame, frame, tagging, Open, none_open, within}
 use Rattle.lin_edn.specs.Machine.{run, between, complete}
 use Rattle.lin_edn.specs.Rows.{IsRow, IsElementAt, IsNoElementAt, IsAtNothing, bracket_of, value_in, row_value}
 use Rattle.lin_edn.specs.Scans.{IsStopAt, is_dark, IsBehindTag, IsNoneBehindTag, IsFound}

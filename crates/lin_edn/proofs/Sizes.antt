@@ -1,12 +1,12 @@
 -- Places count the bytes before them.
 use Rattle.std.proofs.Common.{◌≡◌, ℕ, ◌+◌, ◌-◌, ◌<◌, ◌≤◌, List, ◌∷◌, length, drop, get_or, get_or-drop, refl, ap, ◌∙◌, arith, length-append}
 use Rattle.std.proofs.lemmas.List.{drop-drop}
-use Rattle.lin_edn.specs.Grammar.{Comment, Blanks, Element, longest, ShortBlanks, no_blank_yet, one_more_short, Spells, spells, IsLeast, Faulty, unbalanced, odd_map, too_deep, hash_too_deep}
+use Rattle.lin_edn.specs.Grammar.{Comment, longest, ShortBlanks, no_blank_yet, one_more_short, Spells, spells, IsLeast, Faulty, unbalanced, odd_map, too_deep, hash_too_deep}
 use Rattle.lin_edn.specs.Reading.{IsWrong, Refuses}
 use Rattle.lin_edn.specs.Value.{Value}
 use Rattle.lin_edn.specs.declared.EdnCause.{EdnCause}
 use Rattle.lin_edn.specs.declared.EdnCause.TheVariants.{Unbalanced, OddMap, TooDeep, TooLong, OutOfMemory}
-use Rattle.lin_edn.proofs.Rising.{Tail, all, last, then, tail_size, tail_rises, one_past, comment_past, blank_past, blanks_tail, element_past}
+use Rattle.lin_edn.proofs.Rising.{Tail, all, last, then, tail_size, tail_rises, one_past, comment_past, blank_past, element_past}
 
 pub same_tail : {p q r : ℕ} {s t u : List ℕ} → Tail p s q t → Tail p s r u → q ≡ r → t ≡ u
 same_tail all all e = refl

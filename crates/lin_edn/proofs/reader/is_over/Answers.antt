@@ -1,4 +1,4 @@
-use Rattle.std.proofs.Common.{◌≡◌, ℕ, ◌+◌, ◌-◌, ◌<◌, ◌≤◌, nat_le, Bool, true, false, arith, rules, tests, refl, ◌∙◌, ap}
+use Rattle.std.proofs.Common.{◌≡◌, ℕ, ◌+◌, ◌-◌, ◌<◌, ◌≤◌, nat_le, Bool, true, false, arith, refl, ◌∙◌, ap}
 use Rattle.lin_edn.specs.Grammar.{longest}
 use Rattle.lin_edn.proofs.Limit.{is_above, is_past, is_under, is_within}
 use Rattle.lin_edn.proofs.reader.is_over.Goals as goal

@@ -1,4 +1,4 @@
-use Rattle.std.proofs.Common.{◌≡◌, ℕ, ◌+◌, ◌≤◌, ◌<◌, ◌∙◌, sym, ap, arith, drop, length, nat_le, true, false, map, rules, tests}
+use Rattle.std.proofs.Common.{◌≡◌, ◌+◌, ◌≤◌, ◌<◌, ◌∙◌, sym, ap, arith, drop, length, nat_le, true, map}
 use Rattle.lin_edn.proofs.Ahead.{over_here, deep_here, map_ends}
 use Rattle.lin_edn.proofs.Limit.{is_under, is_within}
 use Rattle.lin_edn.specs.Grammar.{longest, outermost}
