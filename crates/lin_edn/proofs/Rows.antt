@@ -54,19 +54,18 @@ row_closed r s vs row lt short h =
     closed_holds row.2 (at_byte s r.at lt ∙ ap (λ c. c ∷ drop (r.at + 1) s) h) (made_is r.is_vector vs) (omega arith)
 
 -- an element
-pub element_inside : (s : List ℕ) (from : ℕ) (v : Value) (used : ℕ) → IsElementAt s from v used → (from < used) × (from < length s → used ≤ length s) × (from < length s)
+pub element_inside : (s : List ℕ) (from : ℕ) (v : Value) (used : ℕ) → IsElementAt s from v used → (from < used) × (used ≤ length s)
 element_inside s from v used e =
     let a : from ≤ e.0 = tail_rises (blanks_tail e.2) in
     let b : e.0 < used = (element_past e.3).0 in
     let size : from + length (drop from s) ≡ used + length (drop used s) = tail_size (then (blanks_tail e.2) (element_past e.3).1) in
     let all = length-drop from s in
-    (omega arith, (λ lt. omega arith), omega arith)
+    (omega arith, omega arith)
 
 pub row_element : (r : Series) (s : List ℕ) (vs : List Value) (v : Value) (used : ℕ) → IsRow r s vs → IsElementAt s r.at v used →
     IsRow (record { is_vector = r.is_vector; at = used }) s (vs ++ v ∷ [])
 row_element r s vs v used row e =
-    let inside = element_inside s r.at v used e in
-    (inside.1 inside.2, e.4, more_in row.2 (λ q u before. element (with_blanks before e.2) e.3))
+    ((element_inside s r.at v used e).1, e.4, more_in row.2 (λ q u before. element (with_blanks before e.2) e.3))
 
 -- blanks and elements
 joined : {n p q r : ℕ} {s t u : List ℕ} {vs ws : List Value} → Row n p s vs q t → Row n q t ws r u → Row n p s (vs ++ ws) r u
@@ -93,8 +92,9 @@ none_there s from none = λ v used e. none v used (0, [], 0, end_of longest e.2 
 pub nothing_past : (r : Series) (s : List ℕ) (end : ℕ) → ((i : ℕ) → i < 0 + longest → i < length s → i < end) → end ≤ r.at → IsAtNothing r s
 nothing_past r s end whole le = (
   λ v used e.
-      let inside = element_inside s r.at v used e in
+      let later : r.at < used = (element_inside s r.at v used e).0 in
+      let inside : used ≤ length s = (element_inside s r.at v used e).1 in
       let short : used ≤ longest = e.4 in
-      let h : r.at < end = whole r.at (omega arith) inside.2 in omega arith,
+      let h : r.at < end = whole r.at (omega arith) (omega arith) in omega arith,
   λ lt short e. (let h : r.at < end = whole r.at (omega arith) lt in omega arith),
 )

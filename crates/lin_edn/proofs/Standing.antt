@@ -26,18 +26,19 @@ light c h = ap not (sym h)
 pub short_byte : (s : List ℕ) (i : ℕ) → i < length s → true ≡ is_white (get_or s i 0) → ShortBlanks s i (drop i s) → ShortBlanks s (i + 1) (drop (i + 1) s)
 short_byte s i lt h bs = one_more_short bs (blank_at 64 i s lt (light (get_or s i 0) h)) (let z : 0 < longest = positive in omega arith)
 
--- white bytes
+-- white bytes as short blanks
 pub white_short : (s : List ℕ) (at until end : ℕ) → IsStopAt is_dark s at end until → end ≤ length s → ShortBlanks s at (drop at s) → ShortBlanks s until (drop until s)
 white_short s at until end h within =
     let before : until ≤ end = h.1 in
     along_to (λ i. ShortBlanks s i (drop i s)) at until h.0 (λ i a b bs.
     one_more_short bs (blank_at 64 i s (omega arith) (h.2 i a b)) (let z : 0 < longest = positive in omega arith))
 
+-- blanks behind blanks and elements
 pub with_blanks : {n p q r : ℕ} {s t u : List ℕ} {vs : List Value} → Row n p s vs q t → Blanks n q t r u → Row n p s vs r u
 with_blanks row no_blank = row
 with_blanks row (one_more bs b) = blank (with_blanks row bs) b
 
--- any white bytes
+-- white bytes as blanks
 pub blanks_byte : (s : List ℕ) (from i : ℕ) → i < length s → true ≡ is_white (get_or s i 0) → (n : ℕ) → Blanks n from (drop from s) i (drop i s) →
     Blanks n from (drop from s) (i + 1) (drop (i + 1) s)
 blanks_byte s from i lt h n bs = one_more bs (blank_at n i s lt (light (get_or s i 0) h))
