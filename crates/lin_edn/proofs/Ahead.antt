@@ -5,7 +5,7 @@ use Rattle.std.specs.List.{slice_range}
 use Rattle.lin_edn.specs.Bytes.{Kind, a_map, Class, white, semicolon, opener, closer, quote, backslash, hash, inside, class, is_white, is_stop, is_newline, quoted, stays}
 use Rattle.lin_edn.specs.Grammar.{Frame, frame, longest, outermost}
 use Rattle.lin_edn.specs.Levels.{flat}
-use Rattle.lin_edn.specs.Machine.{Answer, Turn, stop, fault, too_long, deeper, between, in_run, in_tag, in_text, in_comment, go, run, begun, on_turn, put}
+use Rattle.lin_edn.specs.Machine.{Mode, Turn, stop, fault, too_long, deeper, between, in_run, in_tag, in_text, in_comment, go, run, begun, on_turn, put}
 use Rattle.lin_edn.specs.Run.{run_value}
 use Rattle.lin_edn.specs.Scans.{IsStopAt, IsAhead, ArePairs, is_dark, is_quoting, is_inside}
 use Rattle.lin_edn.specs.declared.reader.Mode.{Mode as CodeMode}
@@ -33,35 +33,34 @@ along_to P at until le h p =
     let e : at + (until - at) ≡ until = omega arith in
     subst P e (along P (until - at) at (λ i a b. h i a (omega arith)) p)
 
-same_to : (f : ℕ → Answer) (at next : ℕ) → at ≤ next → ((i : ℕ) → at ≤ i → i < next → f i ≡ f (i + 1)) → f at ≡ f next
-same_to f at next le h = along_to (λ i. f at ≡ f i) at next le (λ i a b e. e ∙ h i a b) refl
-
 pub at_byte : (s : List ℕ) (i : ℕ) → i < length s → drop i s ≡ get_or s i 0 ∷ drop (i + 1) s
 at_byte s i lt =
     let e : suc i ≡ i + 1 = omega arith in
     drop-cons s i 0 lt ∙ ap (λ k. get_or s i 0 ∷ drop k s) e
 
+-- bytes that change nothing but the place and what is open beside the levels
+mode_row : (s : List ℕ) (at next : ℕ) (st : List Frame) (m : ℕ → Mode) → at ≤ next → next ≤ length s →
+    ((i : ℕ) → at ≤ i → i < next → run longest i st (m i) (get_or s i 0 ∷ drop (i + 1) s) ≡ run longest (i + 1) st (m (i + 1)) (drop (i + 1) s)) →
+    run longest at st (m at) (drop at s) ≡ run longest next st (m next) (drop next s)
+mode_row s at next st m le within h =
+    along_to (λ i. run longest at st (m at) (drop at s) ≡ run longest i st (m i) (drop i s)) at next le
+    (λ i a b e. e ∙ ap (run longest i st (m i)) (at_byte s i (omega arith)) ∙ h i a b) refl
+
 pub run_row : (s : List ℕ) (at next p : ℕ) (st : List Frame) → p ≤ at → at ≤ next → next ≤ length s → next ≤ outermost p st + longest →
     ((i : ℕ) → at ≤ i → i < next → is_stop (get_or s i 0) ≡ false) →
     run longest at st (in_run p (slice_range s p at)) (drop at s) ≡ run longest next st (in_run p (slice_range s p next)) (drop next s)
 run_row s at next p st before le within short h =
-    same_to (λ i. run longest i st (in_run p (slice_range s p i)) (drop i s)) at next le (λ i a b.
-    let lt : i < length s = omega arith in
-    let pi : p ≤ i = omega arith in
-    ap (run longest i st (in_run p (slice_range s p i))) (at_byte s i lt)
-    ∙ run_goes longest i st p (slice_range s p i) (get_or s i 0) (drop (i + 1) s) (h i a b) (omega arith)
-    ∙ ap (λ w. run longest (i + 1) st (in_run p w) (drop (i + 1) s)) (sym (range_more s p i pi lt)))
+    mode_row s at next st (λ i. in_run p (slice_range s p i)) le within (λ i a b.
+    run_goes longest i st p (slice_range s p i) (get_or s i 0) (drop (i + 1) s) (h i a b) (omega arith)
+    ∙ ap (λ w. run longest (i + 1) st (in_run p w) (drop (i + 1) s)) (sym (range_more s p i (omega arith) (omega arith))))
 
 pub tag_row : (s : List ℕ) (at next p : ℕ) (st : List Frame) → p + 1 ≤ at → at ≤ next → next ≤ length s → next ≤ outermost p st + longest →
     ((i : ℕ) → at ≤ i → i < next → is_stop (get_or s i 0) ≡ false) →
     run longest at st (in_tag p (slice_range s (p + 1) at)) (drop at s) ≡ run longest next st (in_tag p (slice_range s (p + 1) next)) (drop next s)
 tag_row s at next p st before le within short h =
-    same_to (λ i. run longest i st (in_tag p (slice_range s (p + 1) i)) (drop i s)) at next le (λ i a b.
-    let lt : i < length s = omega arith in
-    let pi : p + 1 ≤ i = omega arith in
-    ap (run longest i st (in_tag p (slice_range s (p + 1) i))) (at_byte s i lt)
-    ∙ tag_goes longest i st p (slice_range s (p + 1) i) (get_or s i 0) (drop (i + 1) s) (h i a b) (omega arith)
-    ∙ ap (λ w. run longest (i + 1) st (in_tag p w) (drop (i + 1) s)) (sym (range_more s (p + 1) i pi lt)))
+    mode_row s at next st (λ i. in_tag p (slice_range s (p + 1) i)) le within (λ i a b.
+    tag_goes longest i st p (slice_range s (p + 1) i) (get_or s i 0) (drop (i + 1) s) (h i a b) (omega arith)
+    ∙ ap (λ w. run longest (i + 1) st (in_tag p w) (drop (i + 1) s)) (sym (range_more s (p + 1) i (omega arith) (omega arith))))
 
 plain_if : (a b : Bool) → (a || b) ≡ false → (a ≡ false) × (b ≡ false)
 plain_if true b h = absurd (cc)
@@ -75,21 +74,15 @@ pub text_row : (s : List ℕ) (at next p : ℕ) (st : List Frame) → p ≤ at �
     ((i : ℕ) → at ≤ i → i < next → is_quoting (get_or s i 0) ≡ false) →
     run longest at st (in_text p (slice_range s p at)) (drop at s) ≡ run longest next st (in_text p (slice_range s p next)) (drop next s)
 text_row s at next p st before le within short h =
-    same_to (λ i. run longest i st (in_text p (slice_range s p i)) (drop i s)) at next le (λ i a b.
-    let lt : i < length s = omega arith in
-    let pi : p ≤ i = omega arith in
-    ap (run longest i st (in_text p (slice_range s p i))) (at_byte s i lt)
-    ∙ text_goes longest i st p (slice_range s p i) (get_or s i 0) (drop (i + 1) s) stays (stays_of (get_or s i 0) (h i a b)) (omega arith)
-    ∙ ap (λ w. run longest (i + 1) st (in_text p w) (drop (i + 1) s)) (sym (range_more s p i pi lt)))
+    mode_row s at next st (λ i. in_text p (slice_range s p i)) le within (λ i a b.
+    text_goes longest i st p (slice_range s p i) (get_or s i 0) (drop (i + 1) s) stays (stays_of (get_or s i 0) (h i a b)) (omega arith)
+    ∙ ap (λ w. run longest (i + 1) st (in_text p w) (drop (i + 1) s)) (sym (range_more s p i (omega arith) (omega arith))))
 
 pub comment_row : (s : List ℕ) (at next p : ℕ) (st : List Frame) → at ≤ next → next ≤ length s → next ≤ outermost p st + longest →
     ((i : ℕ) → at ≤ i → i < next → is_newline (get_or s i 0) ≡ false) →
     run longest at st (in_comment p) (drop at s) ≡ run longest next st (in_comment p) (drop next s)
 comment_row s at next p st le within short h =
-    same_to (λ i. run longest i st (in_comment p) (drop i s)) at next le (λ i a b.
-    let lt : i < length s = omega arith in
-    ap (run longest i st (in_comment p)) (at_byte s i lt)
-    ∙ comment_goes longest i st p (get_or s i 0) (drop (i + 1) s) (h i a b) (omega arith))
+    mode_row s at next st (λ i. in_comment p) le within (λ i a b. comment_goes longest i st p (get_or s i 0) (drop (i + 1) s) (h i a b) (omega arith))
 
 pub lit : (b : Bool) → not b ≡ false → b ≡ true
 lit true h = refl
@@ -106,12 +99,9 @@ pub white_row : (s : List ℕ) (at next p : ℕ) (st : List Frame) → at ≤ ne
     ((i : ℕ) → at ≤ i → i < next → is_dark (get_or s i 0) ≡ false) →
     run longest at st between (drop at s) ≡ run longest next st between (drop next s)
 white_row s at next p st le within short h =
-    same_to (λ i. run longest i st between (drop i s)) at next le (λ i a b.
-    let lt : i < length s = omega arith in
+    mode_row s at next st (λ i. between) le within (λ i a b.
     let fits : i < outermost p st + longest = omega arith in
-    ap (run longest i st between) (at_byte s i lt)
-    ∙ begins_run longest i st (get_or s i 0) (drop (i + 1) s) white (go st between)
-    (white_class (get_or s i 0) (lit (is_white (get_or s i 0)) (h i a b))) (room i p st fits) refl)
+    begins_run longest i st (get_or s i 0) (drop (i + 1) s) white (go st between) (white_class (get_or s i 0) (lit (is_white (get_or s i 0)) (h i a b))) (room i p st fits) refl)
 
 pub inside_of : (k : Class) → is_inside k ≡ true → k ≡ inside
 inside_of white h = absurd (cc)
