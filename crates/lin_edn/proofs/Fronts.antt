@@ -1,41 +1,59 @@
 -- What is read so far can be finished.
-use Rattle.std.proofs.Common.{◌≡◌, ℕ, suc, ◌+◌, ◌<◌, ◌≤◌, List, [], ◌∷◌, ◌++◌, length, take, refl, sym, ap, ◌∙◌, arith, Option, Some, None, option_map, subst, append_assoc, append-nil, length-append}
+use Rattle.std.proofs.Common.{◌≡◌, true, false, not, is_some, ℕ, suc, ◌+◌, ◌<◌, ◌≤◌, List, [], ◌∷◌, ◌++◌, length, take, refl, sym, ap, ◌∙◌, arith, Option, Some, None, option_map, subst, append_assoc, append-nil, length-append}
 use Rattle.std.proofs.Math.Seq.{take-append_seam}
 use Rattle.lin_edn.specs.Bytes.{Kind, a_list, a_vector, a_set, a_map, closing}
 use Rattle.lin_edn.specs.Grammar.{one, first, character, whole_text, pair, Comment, Discard, discards, Blank, white_byte, comment, discarded, Blanks, no_blank, one_more, Element, run as a_run, hash_alone, tagged_element, collection, Row, blank as blank_row, element, longest, ShortBlanks, no_blank_yet, one_more_short, Whole, an_element, a_discard, Thing, element_or_discard, a_comment, Reads, reads, IsViable, IsLeast, Frame, frame, discarding, tagging, Open, none_open, within, waits, awaits, outermost, place_of}
 use Rattle.lin_edn.specs.Machine.{Mode, between, in_run, after_hash, after_backslash, in_tag, in_text, in_escape, in_comment, Answer, complete, blank, partial, fault, too_long, Turn, go, stop, run, step, on_turn, at_end, begun}
 use Rattle.lin_edn.specs.Run.{run_value}
-use Rattle.lin_edn.specs.Value.{Value, Entries, atom, text, tagged, map, entry, no_entries, made, pairs_from}
+use Rattle.lin_edn.specs.Skimming.{grown}
+use Rattle.lin_edn.specs.Value.{Value, Entries, atom, text, tagged, map, entry, made, pairs_from}
 use Rattle.lin_edn.specs.declared.EdnCause.{EdnCause}
 use Rattle.lin_edn.proofs.Back.{Stands, Bound, AfterTurn, step_holds}
 use Rattle.lin_edn.proofs.Forth.{element_run, long_run}
 use Rattle.lin_edn.proofs.Order.{TurnOrder, step_order, wider}
 use Rattle.lin_edn.proofs.Rising.{below, comment_past, element_past, escape_past, first_below, inside_past, one_past, tag_past, text_past}
 
--- one more element makes an odd map even
-none_map : (k v : Value) (o : Option Entries) → option_map (entry k v) o ≡ None → o ≡ None
-none_map k v None h = refl
-none_map k v (Some es) h = absurd (cc)
+-- whether a level can be closed after one more element
+some_map : (f : Entries → Value) (o : Option Entries) → is_some (option_map f o) ≡ is_some o
+some_map f None = refl
+some_map f (Some es) = refl
 
-none_made : (o : Option Entries) → option_map map o ≡ None → o ≡ None
-none_made None h = refl
-none_made (Some es) h = absurd (cc)
+some_entry : (k v : Value) (o : Option Entries) → is_some (option_map (entry k v) o) ≡ is_some o
+some_entry k v None = refl
+some_entry k v (Some es) = refl
 
-paired : (o : Option Value) (vs : List Value) (w : Value) → pairs_from o vs ≡ None → (es : Entries) × (pairs_from o (vs ++ w ∷ []) ≡ Some es)
-paired None [] w h = absurd (cc)
-paired (Some k) [] w h = (entry k w no_entries, refl)
-paired None (v ∷ vs) w h = paired (Some v) vs w h
-paired (Some k) (v ∷ vs) w h =
-    let r = paired None vs w (none_map k v (pairs_from None vs) h) in
-    (entry k v r.0, ap (option_map (entry k v)) r.1)
+paired : (o : Option Value) (vs : List Value) (v : Value) → is_some (pairs_from o (vs ++ v ∷ [])) ≡ not (is_some (pairs_from o vs))
+paired None [] v = refl
+paired (Some k) [] v = refl
+paired None (w ∷ vs) v = paired (Some w) vs v
+paired (Some k) (w ∷ vs) v =
+    some_entry k w (pairs_from None (vs ++ v ∷ [])) ∙ paired None vs v ∙ ap not (sym (some_entry k w (pairs_from None vs)))
+
+pub made_grown : (k : Kind) (vs : List Value) (v : Value) → is_some (made k (vs ++ v ∷ [])) ≡ grown k (is_some (made k vs))
+made_grown a_list vs v = refl
+made_grown a_vector vs v = refl
+made_grown a_set vs v = refl
+made_grown a_map vs v =
+    some_map map (pairs_from None (vs ++ v ∷ [])) ∙ paired None vs v ∙ ap not (sym (some_map map (pairs_from None vs)))
+
+pub made_empty : (k : Kind) → is_some (made k []) ≡ true
+made_empty a_list = refl
+made_empty a_vector = refl
+made_empty a_set = refl
+made_empty a_map = refl
+
+grown_again : (k : Kind) → grown k false ≡ true
+grown_again a_list = refl
+grown_again a_vector = refl
+grown_again a_set = refl
+grown_again a_map = refl
+
+some_of : (o : Option Value) → is_some o ≡ true → (v : Value) × (o ≡ Some v)
+some_of None e = absurd (cc)
+some_of (Some v) e = (v, refl)
 
 made_next : (k : Kind) (vs : List Value) (w : Value) → made k vs ≡ None → (v : Value) × (made k (vs ++ w ∷ []) ≡ Some v)
-made_next a_list vs w h = absurd (cc)
-made_next a_vector vs w h = absurd (cc)
-made_next a_set vs w h = absurd (cc)
-made_next a_map vs w h =
-    let r = paired None vs w (none_made (pairs_from None vs) h) in
-    (map r.0, ap (option_map map) r.1)
+made_next k vs w h = some_of (made k (vs ++ w ∷ [])) (made_grown k vs w ∙ ap (λ o. grown k (is_some o)) h ∙ grown_again k)
 
 -- the run `0`, with a space after it
 abbrev zero_at : ℕ → Value

@@ -6,7 +6,7 @@ use Rattle.lin_edn.specs.Grammar.{One, Opens, bracket, set_bracket, Element, col
 use Rattle.lin_edn.specs.Skimming.{Shape, brackets, closes, grown}
 use Rattle.lin_edn.specs.Value.{Value, made}
 use Rattle.lin_edn.proofs.Ahead.{at_byte, opens_map}
-use Rattle.lin_edn.proofs.Skims.{made_grown, made_empty}
+use Rattle.lin_edn.proofs.Fronts.{made_grown, made_empty}
 use Rattle.lin_edn.proofs.Standing.{one_at, hashes}
 use Rattle.lin_edn.proofs.Limit.{same_number}
 

@@ -1,19 +1,20 @@
 -- The reader without values goes with the machine.
-use Rattle.std.proofs.Common.{◌≡◌, ℕ, zero, suc, ◌+◌, ◌<◌, Bool, true, false, not, ◌&&◌, ◌==◌, nat_le, if◌then◌else◌, List, [], ◌∷◌, ◌++◌, length, ◌≤◌, drop, length-drop, map as each, refl, sym, ap, ◌∙◌, arith, Option, Some, None, option_map, is_some, subst, rules, tests, append_assoc, append-nil, length-append}
+use Rattle.std.proofs.Common.{◌≡◌, ℕ, zero, suc, ◌+◌, ◌<◌, Bool, true, false, ◌&&◌, ◌==◌, nat_le, if◌then◌else◌, List, [], ◌∷◌, ◌++◌, length, ◌≤◌, drop, length-drop, map as each, refl, sym, ap, ◌∙◌, arith, Option, Some, None, is_some, subst, rules, tests, append_assoc, append-nil, length-append}
 use Rattle.std.proofs.lemmas.List.{length-map}
-use Rattle.lin_edn.specs.Bytes.{Kind, a_list, a_vector, a_set, a_map, Class, class, white, semicolon, opener, closer, quote, backslash, hash, inside, is_stop, is_newline, closing, Behind, behind, opens_set, opens_text, discards, joins, stands_apart, names_tag, Quoted, quoted, ends, escapes, stays}
+use Rattle.lin_edn.specs.Bytes.{a_set, Class, class, white, semicolon, opener, closer, quote, backslash, hash, inside, is_stop, is_newline, closing, Behind, behind, opens_set, opens_text, discards, joins, stands_apart, names_tag, Quoted, quoted, ends, escapes, stays}
 use Rattle.lin_edn.specs.Grammar.{no_blank_yet, Open, none_open, Frame, frame, discarding, tagging, longest, IsUnfinished, IsBlankText, outermost}
 use Rattle.lin_edn.specs.Machine.{Mode, between, in_run, after_hash, after_backslash, in_tag, in_text, in_escape, in_comment, partial, blank, fault, too_long, Turn, go, stop, run, step, limited, ended, taken, begun, put, deeper, begins, goes_on, quotes, apart, close, closed, at_end}
 use Rattle.lin_edn.specs.Run.{run_value}
 use Rattle.lin_edn.specs.Rows.{IsRow, bracket_of}
-use Rattle.lin_edn.specs.Skimming.{Shape, brackets, a_discard, a_tag, shape_of, grown, still, put_shape, with_part, apart_shape, ended_shape, deeper_shape, close_shape, begins_shape, goes_on_shape, quotes_shape, taken_shape, IsIn, LeavesOpen, HasSeen, HasGone, shapes_of, IsOpenText}
-use Rattle.lin_edn.specs.Value.{Value, Entries, atom, text as a_text, tagged, made, map, pairs_from, entry}
+use Rattle.lin_edn.specs.Skimming.{Shape, brackets, a_discard, a_tag, shape_of, still, put_shape, with_part, apart_shape, ended_shape, deeper_shape, close_shape, begins_shape, goes_on_shape, quotes_shape, taken_shape, IsIn, LeavesOpen, HasSeen, HasGone, shapes_of, IsOpenText}
+use Rattle.lin_edn.specs.Value.{Value, atom, text as a_text, tagged, made}
 use Rattle.lin_edn.specs.declared.EdnCause.TheVariants.{Unbalanced, TooDeep}
 use Rattle.lin_edn.specs.declared.series.Series.{Series}
 use Rattle.lin_edn.specs.declared.skim.Part.{Part}
 use Rattle.lin_edn.specs.declared.skim.Part.TheVariants as part
 use Rattle.lin_edn.specs.declared.skim.Skim.{Skim}
 use Rattle.lin_edn.proofs.Back.{What, what, Stands, AfterTurn, step_holds}
+use Rattle.lin_edn.proofs.Fronts.{made_empty, made_grown}
 use Rattle.lin_edn.proofs.Longer.{one_longer, inside_longer, tag_longer, text_longer, escape_longer, comment_longer, open_longer}
 use Rattle.lin_edn.proofs.Sound.{unfinished_of}
 use Rattle.lin_edn.proofs.Wrong.{stands_run}
@@ -29,35 +30,6 @@ part_of (in_tag p w) = part.Tag
 part_of (in_text p w) = part.Text
 part_of (in_escape p w) = part.Escape
 part_of (in_comment p) = part.Comment
-
--- whether a level can be closed after one more element
-some_map : (f : Entries → Value) (o : Option Entries) → is_some (option_map f o) ≡ is_some o
-some_map f None = refl
-some_map f (Some es) = refl
-
-some_entry : (k v : Value) (o : Option Entries) → is_some (option_map (entry k v) o) ≡ is_some o
-some_entry k v None = refl
-some_entry k v (Some es) = refl
-
-paired : (o : Option Value) (vs : List Value) (v : Value) → is_some (pairs_from o (vs ++ v ∷ [])) ≡ not (is_some (pairs_from o vs))
-paired None [] v = refl
-paired (Some k) [] v = refl
-paired None (w ∷ vs) v = paired (Some w) vs v
-paired (Some k) (w ∷ vs) v =
-    some_entry k w (pairs_from None (vs ++ v ∷ [])) ∙ paired None vs v ∙ ap not (sym (some_entry k w (pairs_from None vs)))
-
-pub made_grown : (k : Kind) (vs : List Value) (v : Value) → is_some (made k (vs ++ v ∷ [])) ≡ grown k (is_some (made k vs))
-made_grown a_list vs v = refl
-made_grown a_vector vs v = refl
-made_grown a_set vs v = refl
-made_grown a_map vs v =
-    some_map map (pairs_from None (vs ++ v ∷ [])) ∙ paired None vs v ∙ ap not (sym (some_map map (pairs_from None vs)))
-
-pub made_empty : (k : Kind) → is_some (made k []) ≡ true
-made_empty a_list = refl
-made_empty a_vector = refl
-made_empty a_set = refl
-made_empty a_map = refl
 
 -- a turn goes on to a state of this shape, and what stands at the top began where it did
 pub data Follows : ℕ → ℕ → Turn → List Shape → Part → Type 0 where
