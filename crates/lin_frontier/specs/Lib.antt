@@ -10,6 +10,7 @@ pub mod MemberLaws
 pub mod Rounds
 pub mod RoundLaws
 pub mod Masks
+pub mod Sharing
 pub mod MemberExamples
 pub mod Placing
 pub mod Searching

@@ -32,6 +32,7 @@ pub struct Completion<'a, O: SeqObject> {
 }
 
 /// Puts the member last.
+#[inline(always)]
 pub fn push_member<S: Eq + Hash + Drop>(
     members: &mut Vec<Member<S>>,
     member: Member<S>,
@@ -45,6 +46,7 @@ pub fn push_member<S: Eq + Hash + Drop>(
 }
 
 /// Puts the value last, if it is wanted.
+#[inline(always)]
 pub fn push_if<S: Drop>(values: &mut Vec<S>, value: S, is_wanted: bool) -> Result<(), OutOfMemory>
     ensures { OnOk result (values.new.items ≡ (if is_wanted then values.old.items ++ value ∷ [] else values.old.items)) }
 {
@@ -59,6 +61,7 @@ pub fn push_if<S: Drop>(values: &mut Vec<S>, value: S, is_wanted: bool) -> Resul
 
 impl<'a, O: SeqObject> Completion<'a, O> {
     /// What is on offer behind the state of the member.
+    #[inline(always)]
     fn offers_behind(
         &self,
         alloc: Global,
@@ -69,8 +72,10 @@ impl<'a, O: SeqObject> Completion<'a, O> {
         ensures offered { IfOk result (AreBehind (O.step self.now.object.now) (O.observing self.now.object.now) self.now.pending.now member.now) }
         ensures tried { IsTriedAtMost (length self.now.pending.now) meter.old meter.new }
     {
-        let mut offers = member.offers().watched(self.object, alloc, self.pending)?;
-        offers.offer_all(
+        let mut list = member
+            .offers()
+            .watched_list(self.object, alloc, self.pending)?;
+        list.offer_all(
             self.object,
             alloc,
             member.config(),
@@ -79,10 +84,12 @@ impl<'a, O: SeqObject> Completion<'a, O> {
             steps,
             meter,
         )?;
+        let offers = Offers::of(alloc, list)?;
         Ok(offers)
     }
 
     /// Places the operation in each way that the object has, unless it is treated as an observer.
+    #[inline(always)]
     fn place_update(
         &self,
         alloc: Global,
@@ -104,6 +111,7 @@ impl<'a, O: SeqObject> Completion<'a, O> {
 
     /// Puts in `out`, which is written over, what placing one open update makes of the configuration. Crashed ones that have
     /// the same call are placed in the order of their invocations, since nothing that follows tells them apart.
+    #[inline(always)]
     fn updates(
         &self,
         alloc: Global,
@@ -128,6 +136,7 @@ impl<'a, O: SeqObject> Completion<'a, O> {
     }
 
     /// Takes in what neither a start nor a visited member dominates.
+    #[inline(always)]
     fn visit(
         &self,
         alloc: Global,
@@ -158,6 +167,7 @@ impl<'a, O: SeqObject> Completion<'a, O> {
     }
 
     /// Whether the operation can give the reply in this state.
+    #[inline(always)]
     fn gives(
         &self,
         alloc: Global,
@@ -180,6 +190,7 @@ impl<'a, O: SeqObject> Completion<'a, O> {
     }
 
     /// A round in which the operation can take the reply, if there is one.
+    #[inline(always)]
     fn round_given(
         &self,
         alloc: Global,
@@ -202,6 +213,7 @@ impl<'a, O: SeqObject> Completion<'a, O> {
 
     /// Puts in `out` what the operation, an observer, makes of the member with its reply; or, where it can't take it,
     /// answers what is on offer behind the member.
+    #[inline(always)]
     fn observe(
         &self,
         alloc: Global,
@@ -243,6 +255,7 @@ impl<'a, O: SeqObject> Completion<'a, O> {
 
     /// Puts in `out` what the operation, an update, makes of the member with its reply, and answers what is on offer
     /// behind the member.
+    #[inline(always)]
     fn update(
         &self,
         alloc: Global,
@@ -277,6 +290,7 @@ impl<'a, O: SeqObject> Completion<'a, O> {
 
     /// Puts in `out` what the operation makes of the member with its reply. Where more can come of the member, answers
     /// what is on offer behind it.
+    #[inline(always)]
     fn complete(
         &self,
         alloc: Global,
@@ -371,7 +385,8 @@ impl<'a, O: SeqObject> Completion<'a, O> {
         }
         let mut seen = Seen::new(alloc, self.pending, starts)?;
         let mut visited = Vec::new(alloc);
-        let mut out = Vec::with_capacity(alloc, starts.len())?;
+        // Room for what is found, and for what is put behind it.
+        let mut out = Vec::with_capacity(alloc, starts.len().saturating_add(3))?;
         let mut next = Vec::new(alloc);
         let mut steps = Vec::new(alloc);
         for start in starts {

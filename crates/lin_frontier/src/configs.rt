@@ -33,6 +33,7 @@ impl<S: Eq + Hash> Model for Config<S> {
 
 impl<S: Eq + Hash> Config<S> {
     /// The configuration in which nothing is placed.
+    #[inline(always)]
     pub fn new(alloc: Global, state: S) -> Self
         ensures { result ≡ (state, []) }
     {
@@ -43,6 +44,7 @@ impl<S: Eq + Hash> Config<S> {
     }
 
     /// The configuration of these.
+    #[inline(always)]
     pub(crate) fn of(state: S, placed: Pairs) -> Self
         ensures { result ≡ (state, placed) }
     {
@@ -72,6 +74,7 @@ impl<S: Eq + Hash> Config<S> {
 }
 
 /// Puts a copy of the pair last.
+#[inline(always)]
 fn append_pair(alloc: Global, copy: &mut Pairs, pair: &(u64, Reply)) -> Result<(), OutOfMemory>
     ensures { OnOk result (copy.new ≡ copy.old ++ pair.now ∷ []) }
 {
@@ -79,6 +82,7 @@ fn append_pair(alloc: Global, copy: &mut Pairs, pair: &(u64, Reply)) -> Result<(
 }
 
 /// Puts copies of the pairs last.
+#[inline(always)]
 pub(crate) fn append_pairs(
     alloc: Global,
     copy: &mut Pairs,
@@ -93,6 +97,7 @@ pub(crate) fn append_pairs(
 }
 
 /// Where a pair of the process belongs.
+#[inline(always)]
 fn place_of(placed: &[(u64, Reply)], process: u64) -> usize
     ensures within { result ≤ length placed.now }
     ensures place { (reply : ReplyOf) → insert_pair process reply placed.now ≡ take result placed.now ++ (process, reply) ∷ drop result placed.now }
@@ -108,6 +113,7 @@ fn place_of(placed: &[(u64, Reply)], process: u64) -> usize
 }
 
 /// Whether no operation of the process is placed.
+#[inline(always)]
 pub fn is_absent(placed: &[(u64, Reply)], process: u64) -> bool
     ensures { IsTrue result ↔ IsAbsent process placed.now }
 {
@@ -120,6 +126,7 @@ pub fn is_absent(placed: &[(u64, Reply)], process: u64) -> bool
 }
 
 /// Whether the pair is of the process, with this reply.
+#[inline(always)]
 pub fn is_pair(pair: &(u64, Reply), process: u64, reply: &Reply) -> bool
     ensures { IsTrue result ↔ (pair.now ≡ (process, reply.now)) }
 {
@@ -127,6 +134,7 @@ pub fn is_pair(pair: &(u64, Reply), process: u64, reply: &Reply) -> bool
 }
 
 /// Whether the operation of the process is placed with this reply.
+#[inline(always)]
 pub fn is_placed(placed: &[(u64, Reply)], process: u64, reply: &Reply) -> bool
     ensures { IsTrue result ↔ Contains placed.now (process, reply.now) }
 {
@@ -140,6 +148,7 @@ pub fn is_placed(placed: &[(u64, Reply)], process: u64, reply: &Reply) -> bool
 
 impl<S: Eq + Hash> Config<S> {
     /// The configuration with this state and the same operations placed.
+    #[inline(always)]
     pub fn with_state(&self, alloc: Global, state: S) -> Result<Config<S>, OutOfMemory>
     where
         S: Drop,
@@ -153,6 +162,7 @@ impl<S: Eq + Hash> Config<S> {
     }
 
     /// The configuration with this state after one more operation is placed.
+    #[inline(always)]
     pub fn with_placed(
         &self,
         alloc: Global,
@@ -175,6 +185,7 @@ impl<S: Eq + Hash> Config<S> {
     }
 
     /// The configuration with this state, and without the operation of the process.
+    #[inline(always)]
     pub fn without(&self, alloc: Global, state: S, process: u64) -> Result<Config<S>, OutOfMemory>
     where
         S: Drop,

@@ -107,7 +107,7 @@ pub fn listed<O: SeqObject>(
             return Ok(None);
         }
     }
-    let none = Offers::new(alloc);
+    let none = Offers::none();
     let placing = Expansion {
         object,
         pending,

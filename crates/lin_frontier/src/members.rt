@@ -52,7 +52,7 @@ impl<S: Eq + Hash> Member<S> {
     {
         Member {
             config: Config::new(alloc, state),
-            offers: Offers::new(alloc),
+            offers: Offers::none(),
             path: Path { node: 0, round: 0 },
         }
     }
@@ -94,6 +94,7 @@ impl<S: Eq + Hash> Member<S> {
 }
 
 /// The same member on its own memory, with the offers that may still be taken.
+#[inline(always)]
 pub fn copied<O: SeqObject>(
     object: &O,
     alloc: Global,
@@ -118,6 +119,7 @@ pub fn copied<O: SeqObject>(
 }
 
 /// The member that placed the operation of the process, without it.
+#[inline(always)]
 pub fn taken_out<O: SeqObject>(
     object: &O,
     alloc: Global,
@@ -143,6 +145,7 @@ pub fn taken_out<O: SeqObject>(
 }
 
 /// The member after the observer took the reply in the round.
+#[inline(always)]
 pub fn answered<O: SeqObject>(
     object: &O,
     alloc: Global,
@@ -173,6 +176,7 @@ pub fn answered<O: SeqObject>(
 }
 
 /// A node more under the parent.
+#[inline(always)]
 fn pushed(
     parent: u32,
     placed: Placed,
@@ -190,6 +194,7 @@ fn pushed(
 }
 
 /// The path with the operation put in the round.
+#[inline(always)]
 fn in_round(
     path: Path,
     placed: Placed,
@@ -208,6 +213,7 @@ fn in_round(
 }
 
 /// The path with a new round, which the operation begins.
+#[inline(always)]
 fn in_next_round(path: Path, placed: Placed, nodes: &mut RoundNodes) -> Result<Path, OutOfMemory>
     ensures grown { IsGrown nodes.old nodes.new }
     ensures round { IfOk result (λ next. next.round ≡ path.round + 1) }
@@ -222,6 +228,7 @@ fn in_next_round(path: Path, placed: Placed, nodes: &mut RoundNodes) -> Result<P
 }
 
 /// The member of these, whose path goes on from this one by a round, which the operation begins.
+#[inline(always)]
 pub fn advanced<S: Eq + Hash + Drop>(
     alloc: Global,
     config: Config<S>,
@@ -235,7 +242,7 @@ pub fn advanced<S: Eq + Hash + Drop>(
     ensures round { IfOk result (λ next. next.1.round ≡ path.round + 1) }
     ensures node { IfOk result (λ next. IsNodeOf nodes.new next.1.node path.node (placed, None)) }
 {
-    let offers = offers.copy(alloc)?;
+    let offers = offers.copy()?;
     let path = in_next_round(path, placed, nodes)?;
     Ok(Member {
         config,
@@ -255,7 +262,7 @@ pub fn same<O: SeqObject>(
     let state = object.copy_state(alloc, member.config.state())?;
     Ok(Member {
         config: member.config.with_state(alloc, state)?,
-        offers: member.offers.copy(alloc)?,
+        offers: member.offers.copy()?,
         path: member.path,
     })
 }
@@ -271,7 +278,7 @@ pub fn bare<O: SeqObject>(
     let state = object.copy_state(alloc, member.config.state())?;
     Ok(Member {
         config: member.config.with_state(alloc, state)?,
-        offers: Offers::new(alloc),
+        offers: Offers::none(),
         path: member.path,
     })
 }
@@ -308,12 +315,13 @@ pub fn bare_next<S: Eq + Hash + Drop>(
     let path = continued(path, placed, spot, nodes)?;
     Ok(Member {
         config,
-        offers: Offers::new(alloc),
+        offers: Offers::none(),
         path,
     })
 }
 
 /// The reply, placed at the position.
+#[inline(always)]
 pub fn placed_at(alloc: Global, at: usize, reply: &Reply) -> Result<Placed, OutOfMemory>
     ensures { IfOk result (λ placed. placed ≡ record { at = at; reply = reply.now }) }
 {

@@ -1,5 +1,5 @@
 //! What is on offer: the replies that observers may still be given, each with a round whose state gave it.
-ghost use Rattle.std.specs.Prelude.{◌≡◌, ◌&&◌, nat_eq, [], ◌∷◌, ◌++◌, ℕ, IfOk, IfSome, IfNone, OnOk, Contains, length};
+ghost use Rattle.std.specs.Prelude.{◌≡◌, ◌&&◌, nat_eq, IsTrue, [], ◌∷◌, ◌++◌, ℕ, IfOk, IfSome, IfNone, OnOk, Contains, length};
 ghost use Rattle.lin_history.specs.declared.calls.Reply.{Reply as ReplyOf};
 ghost use Rattle.lin_frontier.specs.Searching.{is_observing as is_observing_in, is_watching as is_watching_in, watched as watched_of, Gives, GivesOne, GivesAny, IsOffering};
 ghost use Rattle.lin_frontier.specs.Walks.{IsTriedAtMost};
@@ -11,14 +11,42 @@ use lin_objects::SeqObject;
 use smallvec::SmallVec;
 use std::alloc::Global;
 use std::marker::Model;
+use std::rc::Rc;
 
-/// Offers in the order in which they were made: each is a round, and a process with the reply that the round's state gave
-/// to its pending call.
+/// Offers that are being made, in the order in which they were: each is a round, and a process with the reply that the round's
+/// state gave to its pending call.
+#[derive(Drop)]
+pub struct OfferList {
+    items: SmallVec<(usize, (u64, Reply)), 4>,
+    bits: u64,
+}
+
+impl Model for OfferList {
+    ghost use Rattle.std.specs.Prelude.{ℕ, List};
+    ghost use Rattle.lin_history.specs.declared.calls.Reply.{Reply as ReplyOf};
+
+    ghost Value = { List (ℕ × (ℕ × ReplyOf)) };
+
+    ghost view = { λ o. o.items.items };
+}
+
+/// Offers that are made. Members that have the same ones share them.
 #[derive(Drop)]
 pub struct Offers {
-    items: SmallVec<(usize, (u64, Reply)), 2>,
+    /// None where nothing is on offer.
+    list: Option<Rc<OfferList>>,
     /// A bit of each. It tells of most offers that they aren't there; nothing is promised of it.
     bits: u64,
+}
+
+impl Model for Offers {
+    ghost use Rattle.std.specs.Prelude.{ℕ, List};
+    ghost use Rattle.lin_history.specs.declared.calls.Reply.{Reply as ReplyOf};
+    ghost use Rattle.lin_frontier.specs.Sharing.{shared};
+
+    ghost Value = { List (ℕ × (ℕ × ReplyOf)) };
+
+    ghost view = { λ o. shared o.list };
 }
 
 /// A bit for a reply on offer to the process.
@@ -30,16 +58,8 @@ fn offer_bit(process: u64, reply: &Reply) -> u64 {
     1 << ((process % 64 + 7 * value) % 64)
 }
 
-impl Model for Offers {
-    ghost use Rattle.std.specs.Prelude.{ℕ, List};
-    ghost use Rattle.lin_history.specs.declared.calls.Reply.{Reply as ReplyOf};
-
-    ghost Value = { List (ℕ × (ℕ × ReplyOf)) };
-
-    ghost view = { λ o. o.items.items };
-}
-
 /// Whether the operation is of the process, and observes.
+#[inline(always)]
 fn does_observe<O: SeqObject>(object: &O, operation: &Open, process: u64) -> bool
     ensures { result ≡ (nat_eq operation.now.process process && O.observing object.now operation.now.call) }
 {
@@ -47,6 +67,7 @@ fn does_observe<O: SeqObject>(object: &O, operation: &Open, process: u64) -> boo
 }
 
 /// Whether an operation of the process observes.
+#[inline(always)]
 fn is_observing<O: SeqObject>(object: &O, pending: &[Open], process: u64) -> bool
     ensures { result ≡ is_observing_in (O.observing object.now) pending.now process }
 {
@@ -59,30 +80,186 @@ fn is_observing<O: SeqObject>(object: &O, pending: &[Open], process: u64) -> boo
 }
 
 /// Whether the process waits for the reply of an operation that observes, and has not crashed.
+#[inline(always)]
 pub fn is_watching<O: SeqObject>(object: &O, pending: &Pending, process: u64) -> bool
     ensures { result ≡ is_watching_in (O.observing object.now) pending.now process }
 {
     is_observing(object, pending.as_slice(), process) && !pending.is_crashed(process)
 }
 
+/// Whether all offers may still be taken: whether they are to processes that watch.
+#[inline(always)]
+fn are_watched<O: SeqObject>(
+    object: &O,
+    pending: &Pending,
+    offers: &[(usize, (u64, Reply))],
+) -> bool
+    ensures { IsTrue result → watched_of (O.observing object.now) pending.now offers.now ≡ offers.now }
+{
+    for offer in offers {
+        if !is_watching(object, pending, offer.1.0) {
+            return false;
+        }
+    }
+    true
+}
+
+/// The offers that may still be taken, to be gone on with.
+#[inline(always)]
+fn watched_list<O: SeqObject>(
+    object: &O,
+    alloc: Global,
+    pending: &Pending,
+    offers: &[(usize, (u64, Reply))],
+) -> Result<OfferList, OutOfMemory>
+    ensures { IfOk result (λ kept. kept ≡ watched_of (O.observing object.now) pending.now offers.now) }
+{
+    let mut kept = OfferList::new(alloc);
+    for offer in offers {
+        if is_watching(object, pending, offer.1.0) {
+            kept.push(offer.0, offer.1.0, offer.1.1.copy(alloc)?)?;
+        }
+    }
+    Ok(kept)
+}
+
+/// The first round in which the process was offered the reply.
+fn round_in(offers: &[(usize, (u64, Reply))], process: u64, reply: &Reply) -> Option<usize>
+    ensures some { IfSome result (λ round. Contains offers.now (round, (process, reply.now))) }
+    ensures none { IfNone result ((round : ℕ) → Contains offers.now (round, (process, reply.now)) → ⊥) }
+{
+    for offer in offers {
+        if is_pair(&offer.1, process, reply) {
+            return Some(offer.0);
+        }
+    }
+    None
+}
+
 impl Offers {
     /// Nothing on offer.
-    pub fn new(alloc: Global) -> Self
+    #[inline(always)]
+    pub fn none() -> Self
         ensures { result ≡ [] }
     {
         Offers {
+            list: None,
+            bits: 0,
+        }
+    }
+
+    /// The offers of the list, made.
+    #[inline(always)]
+    pub fn of(alloc: Global, list: OfferList) -> Result<Offers, OutOfMemory>
+        ensures { IfOk result (λ offers. offers ≡ list) }
+    {
+        if list.as_slice().is_empty() {
+            return Ok(Offers::none());
+        }
+        let bits = list.bits;
+        let shared = Rc::new(alloc, list)?;
+        Ok(Offers {
+            list: Some(shared),
+            bits,
+        })
+    }
+
+    #[inline(always)]
+    pub fn as_slice(&self) -> &[(usize, (u64, Reply))]
+        ensures { result.now ≡ self.now }
+    {
+        match &self.list {
+            Some(list) => list.as_ref().as_slice(),
+            None => &[],
+        }
+    }
+
+    /// Whether the reply may be on offer to the process, as far as the bits tell.
+    #[inline(always)]
+    pub fn may_offer(&self, process: u64, reply: &Reply) -> bool {
+        self.bits | offer_bit(process, reply) == self.bits
+    }
+
+    /// Whether each of the others may be among these, as far as the bits tell.
+    #[inline(always)]
+    pub fn may_hold(&self, others: &Offers) -> bool {
+        self.bits | others.bits == self.bits
+    }
+
+    /// The same offers.
+    #[inline(always)]
+    pub fn copy(&self) -> Result<Offers, OutOfMemory>
+        ensures { IfOk result (λ copy. copy ≡ self.now) }
+    {
+        match &self.list {
+            Some(list) => Ok(Offers {
+                list: Some(list.clone()?),
+                bits: self.bits,
+            }),
+            None => Ok(Offers::none()),
+        }
+    }
+
+    /// The offers that may still be taken: those to processes that watch.
+    #[inline(always)]
+    pub fn watched<O: SeqObject>(
+        &self,
+        object: &O,
+        alloc: Global,
+        pending: &Pending,
+    ) -> Result<Offers, OutOfMemory>
+        ensures { IfOk result (λ kept. kept ≡ watched_of (O.observing object.now) pending.now self.now) }
+    {
+        if are_watched(object, pending, self.as_slice()) {
+            return self.copy();
+        }
+        let kept = watched_list(object, alloc, pending, self.as_slice())?;
+        Offers::of(alloc, kept)
+    }
+
+    /// The same, to be gone on with.
+    #[inline(always)]
+    pub fn watched_list<O: SeqObject>(
+        &self,
+        object: &O,
+        alloc: Global,
+        pending: &Pending,
+    ) -> Result<OfferList, OutOfMemory>
+        ensures { IfOk result (λ kept. kept ≡ watched_of (O.observing object.now) pending.now self.now) }
+    {
+        watched_list(object, alloc, pending, self.as_slice())
+    }
+
+    /// The first round in which the process was offered the reply.
+    #[inline(always)]
+    pub fn round_of(&self, process: u64, reply: &Reply) -> Option<usize>
+        ensures some { IfSome result (λ round. Contains self.now (round, (process, reply.now))) }
+        ensures none { IfNone result ((round : ℕ) → Contains self.now (round, (process, reply.now)) → ⊥) }
+    {
+        round_in(self.as_slice(), process, reply)
+    }
+}
+
+impl OfferList {
+    /// Nothing on offer yet.
+    #[inline(always)]
+    fn new(alloc: Global) -> Self
+        ensures { result ≡ [] }
+    {
+        OfferList {
             items: SmallVec::new(alloc),
             bits: 0,
         }
     }
 
-    pub fn as_slice(&self) -> &[(usize, (u64, Reply))]
+    #[inline(always)]
+    fn as_slice(&self) -> &[(usize, (u64, Reply))]
         ensures { result.now ≡ self.now }
     {
         self.items.as_slice()
     }
 
-    /// One more offer.
+    #[inline(always)]
     fn push(&mut self, round: usize, process: u64, reply: Reply) -> Result<(), OutOfMemory>
         ensures { OnOk result (self.new ≡ self.old ++ (round, (process, reply)) ∷ []) }
     {
@@ -93,81 +270,19 @@ impl Offers {
         }
     }
 
-    /// Whether the reply may be on offer to the process, as far as the bits tell.
-    pub fn may_offer(&self, process: u64, reply: &Reply) -> bool {
-        self.bits | offer_bit(process, reply) == self.bits
-    }
-
-    /// Whether each of the others may be among these, as far as the bits tell.
-    pub fn may_hold(&self, others: &Offers) -> bool {
-        self.bits | others.bits == self.bits
-    }
-
-    /// Takes memory for so many offers more at once, where they don't fit in.
-    fn reserve(&mut self, count: usize) -> Result<(), OutOfMemory>
-        ensures { OnOk result (self.new ≡ self.old) }
-    {
-        if count > 2 {
-            self.items.reserve(count)?;
-        }
-        Ok(())
-    }
-
-    /// The same offers on their own memory.
-    pub fn copy(&self, alloc: Global) -> Result<Offers, OutOfMemory>
-        ensures { IfOk result (λ copy. copy ≡ self.now) }
-    {
-        let mut copy = Offers::new(alloc);
-        copy.reserve(self.items.len())?;
-        for offer in self.items.as_slice() {
-            copy.push(offer.0, offer.1.0, offer.1.1.copy(alloc)?)?;
-        }
-        Ok(copy)
-    }
-
-    /// The offers that may still be taken: those to processes that watch.
-    pub fn watched<O: SeqObject>(
-        &self,
-        object: &O,
-        alloc: Global,
-        pending: &Pending,
-    ) -> Result<Offers, OutOfMemory>
-        ensures { IfOk result (λ kept. kept ≡ watched_of (O.observing object.now) pending.now self.now) }
-    {
-        let mut kept = Offers::new(alloc);
-        kept.reserve(self.items.len())?;
-        for offer in self.items.as_slice() {
-            if is_watching(object, pending, offer.1.0) {
-                kept.push(offer.0, offer.1.0, offer.1.1.copy(alloc)?)?;
-            }
-        }
-        Ok(kept)
-    }
-
-    /// The first round in which the process was offered the reply.
-    pub fn round_of(&self, process: u64, reply: &Reply) -> Option<usize>
-        ensures some { IfSome result (λ round. Contains self.now (round, (process, reply.now))) }
-        ensures none { IfNone result ((round : ℕ) → Contains self.now (round, (process, reply.now)) → ⊥) }
-    {
-        for offer in self.items.as_slice() {
-            if is_pair(&offer.1, process, reply) {
-                return Some(offer.0);
-            }
-        }
-        None
-    }
-
     /// Offers the reply in the round, unless it was offered before.
+    #[inline(always)]
     fn offer(&mut self, round: usize, process: u64, reply: Reply) -> Result<(), OutOfMemory>
         ensures { OnOk result (IsOffering (λ x. x ≡ (process, reply)) round self.old self.new) }
     {
-        if self.round_of(process, &reply).is_some() {
+        if round_in(self.as_slice(), process, &reply).is_some() {
             return Ok(());
         }
         self.push(round, process, reply)
     }
 
     /// Offers in the round what the state gives to the operation. `steps` is only written over.
+    #[inline(always)]
     fn offer_given<O: SeqObject>(
         &mut self,
         object: &O,
@@ -191,6 +306,7 @@ impl Offers {
 
     /// Offers in the round what the configuration's state gives to the operation, if its process watches and has no place
     /// in the configuration.
+    #[inline(always)]
     fn offer_one<O: SeqObject>(
         &mut self,
         object: &O,

@@ -36,6 +36,7 @@ pub fn bit_of(process: u64) -> u64
 
 impl Pairs {
     /// No pair.
+    #[inline(always)]
     pub fn new(alloc: Global) -> Self
         ensures { result ≡ [] }
     {
@@ -46,6 +47,7 @@ impl Pairs {
     }
 
     /// Takes memory for so many pairs more at once, where they don't fit in.
+    #[inline(always)]
     pub fn reserve(&mut self, count: usize) -> Result<(), OutOfMemory>
         ensures { OnOk result (self.new ≡ self.old) }
     {
@@ -62,6 +64,7 @@ impl Pairs {
     }
 
     /// One more pair, put last.
+    #[inline(always)]
     pub fn push(&mut self, process: u64, reply: Reply) -> Result<(), OutOfMemory>
         ensures { OnOk result (self.new ≡ self.old ++ (process, reply) ∷ []) }
     {

@@ -112,6 +112,7 @@ impl RoundNodes {
     }
 
     /// One node more: the parent's rounds, with the operation put in the round, or behind all where none is given.
+    #[inline(always)]
     pub(crate) fn push(
         &mut self,
         parent: NodeId,
@@ -208,6 +209,7 @@ impl Round {
         self.items.as_slice()
     }
 
+    #[inline(always)]
     fn push(&mut self, placed: Placed) -> Result<(), OutOfMemory>
         ensures { OnOk result (self.new ≡ self.old ++ placed ∷ []) }
     {

@@ -27,7 +27,7 @@ fn settled<O: SeqObject>(
 {
     let state = object.copy_state(alloc, member.state())?;
     let placed = settle(alloc, pending.as_slice(), member.placed())?;
-    let offers = member.offers().copy(alloc)?;
+    let offers = member.offers().copy()?;
     Ok(Member {
         config: Config::of(state, placed),
         offers,

@@ -102,7 +102,7 @@ returns-clause-listing g c =
     some_maps c.in_ok-found-2.found _ _ _ (λ out e w functions h well_formed opened covering.
     gathered_listing _ _ _ _ c.members_cover_configurations.ensures.listing (g.O.SeqObject.unchanged c.args.object.now) c.ends_are_unique.ensures c.well_formed_is_alternating.ensures _ _ _ _ _ out
     (all_gathered g c) e w functions h well_formed opened covering)
-    (rw c.new-none.ensures at c.in_ok-found-2.ensures.extended) (rw c.new-none.ensures at c.in_ok-found-2.ensures.worked_off)
+    (rw c.none-none.ensures at c.in_ok-found-2.ensures.extended) (rw c.none-none.ensures at c.in_ok-found-2.ensures.worked_off)
 
 pub returns-clause-bare : goal.returns-clause-bare
 returns-clause-bare g c = IfSome_then c.in_ok-found-2.found c.in_ok-found-2.ensures.extended (λ out e. extended_bare _ _ _ _ _ _ _ _ _ e c.loop-member.invariant.gathering.bare)
@@ -114,7 +114,7 @@ pub returns-clause-over : goal.returns-clause-over
 returns-clause-over g c =
     none_maps c.in_ok-found-2.found (λ over functions h well_formed opened covering. over functions h well_formed opened
     (c.loop-member.invariant.gathering.spelled functions h well_formed opened covering.spelled) c.loop-member.invariant.gathering.different)
-    (rw c.new-none.ensures at c.in_ok-found-2.ensures.over)
+    (rw c.none-none.ensures at c.in_ok-found-2.ensures.over)
 
 pub returns-clause-tried : goal.returns-clause-tried
 returns-clause-tried g c = tried_more 0 _ _ _ _ _ (omega arith) c.loop-member.invariant.tried c.reach.ensures.tried

@@ -5,7 +5,7 @@ use Rattle.lin_frontier.specs.Searching.{GivesOne, IsOffering}
 use Rattle.lin_frontier.proofs.Offering.{IsOver, offering_none, offering_nothing, offering_more}
 use Rattle.lin_frontier.proofs.Counting.{tried_none, tried_more}
 use Rattle.lin_frontier.proofs.Pruned.{crashed_waits_not}
-use Rattle.lin_frontier.proofs.offers.Offers.offer_all.Goals as goal
+use Rattle.lin_frontier.proofs.offers.OfferList.offer_all.Goals as goal
 
 pub loop-operation-init : goal.loop-operation-init
 loop-operation-init g c = record { offered = offering_none _ _ _; tried = tried_none _ _ }

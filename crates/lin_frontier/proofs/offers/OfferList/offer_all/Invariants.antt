@@ -2,7 +2,7 @@ use Rattle.std.proofs.Common.{take}
 use Rattle.lin_frontier.specs.Searching.{GivesOne, IsOffering}
 use Rattle.lin_frontier.specs.Walks.{IsTriedAtMost}
 use Rattle.lin_frontier.proofs.Offering.{IsOver}
-use Rattle.lin_frontier.proofs.offers.Offers.offer_all.Given as goal
+use Rattle.lin_frontier.proofs.offers.OfferList.offer_all.Given as goal
 
 abbrev pub invariant-loop-operation : goal.invariant-loop-operation
 invariant-loop-operation g l = record {

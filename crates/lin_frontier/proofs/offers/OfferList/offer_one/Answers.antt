@@ -1,6 +1,6 @@
 use Rattle.std.proofs.Common.{sym, ◌∙◌}
 use Rattle.lin_frontier.proofs.Offering.{offering_same}
-use Rattle.lin_frontier.proofs.offers.Offers.offer_one.Goals as goal
+use Rattle.lin_frontier.proofs.offers.OfferList.offer_one.Goals as goal
 
 pub returns-clause-offered : goal.returns-clause-offered
 returns-clause-offered g c =

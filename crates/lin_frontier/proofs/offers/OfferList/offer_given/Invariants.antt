@@ -1,6 +1,6 @@
 use Rattle.std.proofs.Common.{vec_len}
 use Rattle.lin_frontier.proofs.Offering.{IsGiving}
-use Rattle.lin_frontier.proofs.offers.Offers.offer_given.Given as goal
+use Rattle.lin_frontier.proofs.offers.OfferList.offer_given.Given as goal
 
 abbrev pub invariant-loop-reply : goal.invariant-loop-reply
 invariant-loop-reply g l = IsGiving (λ a. g.O.SeqObject.step l.object l.state l.operation.call a.0 a.1) l.operation.process l.round l.fn.self l.steps.items l.self

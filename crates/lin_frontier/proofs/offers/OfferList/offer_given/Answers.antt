@@ -1,7 +1,7 @@
 use Rattle.std.proofs.Common.{◌∙◌, sym}
 use Rattle.std.proofs.lemmas.List.Elements.{Contains-get_or}
 use Rattle.lin_frontier.proofs.Offering.{giving_start, giving_step, giving_end}
-use Rattle.lin_frontier.proofs.offers.Offers.offer_given.Goals as goal
+use Rattle.lin_frontier.proofs.offers.OfferList.offer_given.Goals as goal
 
 pub loop-reply-init : goal.loop-reply-init
 loop-reply-init g c =
