@@ -61,7 +61,6 @@ pub fn push_if<S: Drop>(values: &mut Vec<S>, value: S, is_wanted: bool) -> Resul
 
 impl<'a, O: SeqObject> Completion<'a, O> {
     /// What is on offer behind the state of the member.
-    #[inline(always)]
     fn offers_behind(
         &self,
         alloc: Global,
@@ -89,7 +88,6 @@ impl<'a, O: SeqObject> Completion<'a, O> {
     }
 
     /// Places the operation in each way that the object has, unless it is treated as an observer.
-    #[inline(always)]
     fn place_update(
         &self,
         alloc: Global,
@@ -111,7 +109,6 @@ impl<'a, O: SeqObject> Completion<'a, O> {
 
     /// Puts in `out`, which is written over, what placing one open update makes of the configuration. Crashed ones that have
     /// the same call are placed in the order of their invocations, since nothing that follows tells them apart.
-    #[inline(always)]
     fn updates(
         &self,
         alloc: Global,
@@ -136,7 +133,6 @@ impl<'a, O: SeqObject> Completion<'a, O> {
     }
 
     /// Takes in what neither a start nor a visited member dominates.
-    #[inline(always)]
     fn visit(
         &self,
         alloc: Global,
@@ -167,7 +163,6 @@ impl<'a, O: SeqObject> Completion<'a, O> {
     }
 
     /// Whether the operation can give the reply in this state.
-    #[inline(always)]
     fn gives(
         &self,
         alloc: Global,
@@ -190,7 +185,6 @@ impl<'a, O: SeqObject> Completion<'a, O> {
     }
 
     /// A round in which the operation can take the reply, if there is one.
-    #[inline(always)]
     fn round_given(
         &self,
         alloc: Global,
@@ -213,7 +207,6 @@ impl<'a, O: SeqObject> Completion<'a, O> {
 
     /// Puts in `out` what the operation, an observer, makes of the member with its reply; or, where it can't take it,
     /// answers what is on offer behind the member.
-    #[inline(always)]
     fn observe(
         &self,
         alloc: Global,
@@ -255,7 +248,6 @@ impl<'a, O: SeqObject> Completion<'a, O> {
 
     /// Puts in `out` what the operation, an update, makes of the member with its reply, and answers what is on offer
     /// behind the member.
-    #[inline(always)]
     fn update(
         &self,
         alloc: Global,
@@ -290,7 +282,6 @@ impl<'a, O: SeqObject> Completion<'a, O> {
 
     /// Puts in `out` what the operation makes of the member with its reply. Where more can come of the member, answers
     /// what is on offer behind it.
-    #[inline(always)]
     fn complete(
         &self,
         alloc: Global,

@@ -121,7 +121,6 @@ fn all_absent<O: SeqObject>(
 const FEW: usize = 8;
 
 /// Puts those that placed fewest operations first, so that a search comes early to what dominates.
-#[inline(always)]
 fn put_fewest_first<S: Eq + Hash + Drop>(members: &mut Vec<&Member<S>>)
     ensures { IsPermutation members.old.items members.new.items }
 {
@@ -131,7 +130,6 @@ fn put_fewest_first<S: Eq + Hash + Drop>(members: &mut Vec<&Member<S>>)
 }
 
 /// The members in which the operation of the process has no place.
-#[inline(always)]
 fn absent_ones<'m, S: Eq + Hash + Drop>(
     alloc: Global,
     members: &'m [Member<S>],
@@ -169,7 +167,6 @@ fn push_taken_out<O: SeqObject>(
 }
 
 /// The members that placed the operation with the reply, without it, put last.
-#[inline(always)]
 pub(crate) fn push_all_taken_out<O: SeqObject>(
     object: &O,
     alloc: Global,
@@ -189,7 +186,6 @@ pub(crate) fn push_all_taken_out<O: SeqObject>(
 }
 
 /// The members after the operation completed with the reply, or `None` where more than the limit come up.
-#[inline(always)]
 fn after_ok<O: SeqObject>(
     completion: &Completion<O>,
     alloc: Global,
@@ -221,7 +217,6 @@ fn after_ok<O: SeqObject>(
 
 /// The members after the event, or `None` where a search comes to more than the limit. The operations that are pending
 /// are those that are open after it.
-#[inline(always)]
 fn next_members<O: SeqObject>(
     object: &O,
     alloc: Global,
@@ -258,7 +253,6 @@ fn next_members<O: SeqObject>(
 }
 
 /// The same operations.
-#[inline(always)]
 fn copies(alloc: Global, pending: &[Open]) -> Result<Vec<Open>, OutOfMemory>
     ensures { IfOk result (λ copies. copies.items ≡ pending.now) }
 {
@@ -279,7 +273,6 @@ fn copies(alloc: Global, pending: &[Open]) -> Result<Vec<Open>, OutOfMemory>
 }
 
 /// The operations that are open after the event.
-#[inline(always)]
 pub(crate) fn open_after(
     alloc: Global,
     before: &[Open],

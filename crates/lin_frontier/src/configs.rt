@@ -33,7 +33,6 @@ impl<S: Eq + Hash> Model for Config<S> {
 
 impl<S: Eq + Hash> Config<S> {
     /// The configuration in which nothing is placed.
-    #[inline(always)]
     pub fn new(alloc: Global, state: S) -> Self
         ensures { result ≡ (state, []) }
     {
@@ -44,7 +43,6 @@ impl<S: Eq + Hash> Config<S> {
     }
 
     /// The configuration of these.
-    #[inline(always)]
     pub(crate) fn of(state: S, placed: Pairs) -> Self
         ensures { result ≡ (state, placed) }
     {
@@ -97,7 +95,6 @@ pub(crate) fn append_pairs(
 }
 
 /// Where a pair of the process belongs.
-#[inline(always)]
 fn place_of(placed: &[(u64, Reply)], process: u64) -> usize
     ensures within { result ≤ length placed.now }
     ensures place { (reply : ReplyOf) → insert_pair process reply placed.now ≡ take result placed.now ++ (process, reply) ∷ drop result placed.now }
@@ -113,7 +110,6 @@ fn place_of(placed: &[(u64, Reply)], process: u64) -> usize
 }
 
 /// Whether no operation of the process is placed.
-#[inline(always)]
 pub fn is_absent(placed: &[(u64, Reply)], process: u64) -> bool
     ensures { IsTrue result ↔ IsAbsent process placed.now }
 {
@@ -126,7 +122,6 @@ pub fn is_absent(placed: &[(u64, Reply)], process: u64) -> bool
 }
 
 /// Whether the pair is of the process, with this reply.
-#[inline(always)]
 pub fn is_pair(pair: &(u64, Reply), process: u64, reply: &Reply) -> bool
     ensures { IsTrue result ↔ (pair.now ≡ (process, reply.now)) }
 {
@@ -134,7 +129,6 @@ pub fn is_pair(pair: &(u64, Reply), process: u64, reply: &Reply) -> bool
 }
 
 /// Whether the operation of the process is placed with this reply.
-#[inline(always)]
 pub fn is_placed(placed: &[(u64, Reply)], process: u64, reply: &Reply) -> bool
     ensures { IsTrue result ↔ Contains placed.now (process, reply.now) }
 {

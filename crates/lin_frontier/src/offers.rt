@@ -59,7 +59,6 @@ fn offer_bit(process: u64, reply: &Reply) -> u64 {
 }
 
 /// Whether the operation is of the process, and observes.
-#[inline(always)]
 fn does_observe<O: SeqObject>(object: &O, operation: &Open, process: u64) -> bool
     ensures { result ≡ (nat_eq operation.now.process process && O.observing object.now operation.now.call) }
 {
@@ -67,7 +66,6 @@ fn does_observe<O: SeqObject>(object: &O, operation: &Open, process: u64) -> boo
 }
 
 /// Whether an operation of the process observes.
-#[inline(always)]
 fn is_observing<O: SeqObject>(object: &O, pending: &[Open], process: u64) -> bool
     ensures { result ≡ is_observing_in (O.observing object.now) pending.now process }
 {
@@ -80,7 +78,6 @@ fn is_observing<O: SeqObject>(object: &O, pending: &[Open], process: u64) -> boo
 }
 
 /// Whether the process waits for the reply of an operation that observes, and has not crashed.
-#[inline(always)]
 pub fn is_watching<O: SeqObject>(object: &O, pending: &Pending, process: u64) -> bool
     ensures { result ≡ is_watching_in (O.observing object.now) pending.now process }
 {
@@ -88,7 +85,6 @@ pub fn is_watching<O: SeqObject>(object: &O, pending: &Pending, process: u64) ->
 }
 
 /// Whether all offers may still be taken: whether they are to processes that watch.
-#[inline(always)]
 fn are_watched<O: SeqObject>(
     object: &O,
     pending: &Pending,
@@ -138,7 +134,6 @@ fn round_in(offers: &[(usize, (u64, Reply))], process: u64, reply: &Reply) -> Op
 
 impl Offers {
     /// Nothing on offer.
-    #[inline(always)]
     pub fn none() -> Self
         ensures { result ≡ [] }
     {
@@ -164,7 +159,6 @@ impl Offers {
         })
     }
 
-    #[inline(always)]
     pub fn as_slice(&self) -> &[(usize, (u64, Reply))]
         ensures { result.now ≡ self.now }
     {
@@ -175,13 +169,11 @@ impl Offers {
     }
 
     /// Whether the reply may be on offer to the process, as far as the bits tell.
-    #[inline(always)]
     pub fn may_offer(&self, process: u64, reply: &Reply) -> bool {
         self.bits | offer_bit(process, reply) == self.bits
     }
 
     /// Whether each of the others may be among these, as far as the bits tell.
-    #[inline(always)]
     pub fn may_hold(&self, others: &Offers) -> bool {
         self.bits | others.bits == self.bits
     }
@@ -231,7 +223,6 @@ impl Offers {
     }
 
     /// The first round in which the process was offered the reply.
-    #[inline(always)]
     pub fn round_of(&self, process: u64, reply: &Reply) -> Option<usize>
         ensures some { IfSome result (λ round. Contains self.now (round, (process, reply.now))) }
         ensures none { IfNone result ((round : ℕ) → Contains self.now (round, (process, reply.now)) → ⊥) }
@@ -242,7 +233,6 @@ impl Offers {
 
 impl OfferList {
     /// Nothing on offer yet.
-    #[inline(always)]
     fn new(alloc: Global) -> Self
         ensures { result ≡ [] }
     {
@@ -252,7 +242,6 @@ impl OfferList {
         }
     }
 
-    #[inline(always)]
     fn as_slice(&self) -> &[(usize, (u64, Reply))]
         ensures { result.now ≡ self.now }
     {
@@ -271,7 +260,6 @@ impl OfferList {
     }
 
     /// Offers the reply in the round, unless it was offered before.
-    #[inline(always)]
     fn offer(&mut self, round: usize, process: u64, reply: Reply) -> Result<(), OutOfMemory>
         ensures { OnOk result (IsOffering (λ x. x ≡ (process, reply)) round self.old self.new) }
     {
@@ -282,7 +270,6 @@ impl OfferList {
     }
 
     /// Offers in the round what the state gives to the operation. `steps` is only written over.
-    #[inline(always)]
     fn offer_given<O: SeqObject>(
         &mut self,
         object: &O,
@@ -306,7 +293,6 @@ impl OfferList {
 
     /// Offers in the round what the configuration's state gives to the operation, if its process watches and has no place
     /// in the configuration.
-    #[inline(always)]
     fn offer_one<O: SeqObject>(
         &mut self,
         object: &O,

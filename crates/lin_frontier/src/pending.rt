@@ -93,7 +93,6 @@ pub fn take_in(pending: &mut Vec<Open>, at: usize, event: &Event) -> Result<(), 
 }
 
 /// Whether the operation is of the process, and has crashed.
-#[inline(always)]
 fn has_crashed(operation: &Open, process: u64) -> bool
     ensures { result ≡ (nat_eq operation.now.process process && operation.now.crashed) }
 {
@@ -101,7 +100,6 @@ fn has_crashed(operation: &Open, process: u64) -> bool
 }
 
 /// Whether an operation of the process has crashed.
-#[inline(always)]
 fn is_crashed(operations: &[Open], process: u64) -> bool
     ensures { result ≡ is_crashed_in operations.now process }
 {
@@ -163,7 +161,6 @@ impl<'a> Pending<'a> {
     }
 
     /// Whether an operation of the process has crashed.
-    #[inline(always)]
     pub fn is_crashed(&self, process: u64) -> bool
         ensures { result ≡ is_crashed_in self.now process }
     {
@@ -179,7 +176,6 @@ impl<'a> Pending<'a> {
     }
 
     /// Whether the pairs may be part of the others, which have no more but for crashed operations, as far as the bits tell.
-    #[inline(always)]
     pub fn may_cover(&self, pairs: &Pairs, others: &Pairs) -> bool
         ensures { All (λ x. Contains others.now x) pairs.now → All (λ x. Contains pairs.now x ⊎ (is_crashed_in self.now x.0 ≡ true)) others.now → IsTrue result }
     {

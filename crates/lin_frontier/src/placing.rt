@@ -45,7 +45,6 @@ fn place<O: SeqObject>(
 }
 
 /// Places the operation in each way that the object has, if it has no place in the configuration yet.
-#[inline(always)]
 pub fn place_if_absent<O: SeqObject>(
     object: &O,
     alloc: Global,
