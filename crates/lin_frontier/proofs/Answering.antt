@@ -22,7 +22,7 @@ use Rattle.lin_frontier.specs.Frontiers.{IsPending}
 use Rattle.lin_frontier.specs.MemberLaws.{IsTaken, IsSearched, ObserverSearchLaw, UpdateSearchLaw}
 use Rattle.lin_frontier.specs.Members.{Member, IsComplete, IsOnOffer, IsWatching, IsGiven, IsUpdate, DominatesAt, Dominates}
 use Rattle.lin_frontier.specs.Placing.{IsAbsent, insert_pair}
-use Rattle.lin_frontier.specs.Searching.{is_watching, is_crashed, rest_of, CanTake, DominatesOver, GivesAny, HasBehind, IsMade, IsPassed, IsReturnOf, IsSearchedFor, IsSearchedIn}
+use Rattle.lin_frontier.specs.Searching.{is_watching, is_crashed, rest_of, CanTake, DominatesOver, GivesAny, IsMade, IsPassed, IsReturnOf, IsSearchedFor, IsSearchedIn}
 use Rattle.lin_frontier.proofs.Awaiting.{open_pending, pending_crashed}
 use Rattle.lin_frontier.proofs.Crashes.{crash_before, crashed_open, ok_no_info}
 use Rattle.lin_frontier.proofs.Dominating.{dominates_itself}
@@ -205,26 +205,35 @@ module _ (observes : Call → Bool) (functions : ℤ → Name → Bool) (h : Lis
       never_given m never given =
           never m.1.round (inr (refl, (refl, given.next, subst (λ a. step m.0.state a given.next reply) (same_call given.at given.key given.call given.is_open) given.steps)))
 
-      -- what an update comes to that returns
-      returned_to : (m n : Member S) (d : S × List (ℕ × Reply)) → IsRising m.placed → n.state ≡ d.0 → n.placed ≡ m.placed → HasBehind step observes pending m n
+      -- what dominates what an update comes to that returns
+      returned_to : (m n : Member S) (d : S × List (ℕ × Reply)) → IsRising n.placed → DominatesOver step observes pending m n (d.0, m.placed)
           → DominatesAt observes (with_event h event) n d.0 m.placed (λ x. IsOnOffer m x ⊎ IsGiven step h m.state x)
-      returned_to m n d rising state placed behind = record {
-        sorted = subst IsRising (sym placed) rising;
-        same = state;
-        part = λ x there. subst (λ l. Contains l x) placed there;
-        rest = λ x there. inl (subst (λ l. Contains l x) (sym placed) there);
-        offered = λ x watching absent had. behind x (watches x.0 watching) (elim had [
+      returned_to m n d rising over = record {
+        sorted = rising;
+        same = over.same;
+        part = λ x there. All-contains (λ (y : ℕ × Reply). Contains m.placed y) n.placed x over.part there;
+        rest = rest;
+        offered = λ x watching absent had. over.offered x (watches x.0 watching) (absent_from x.0 n.placed absent) (elim had [
           | inl offered ↦ inl offered
           | inr given ↦ inr (gives (m.state, m.placed) x
               (λ same. (passes observes functions h event name reply body unique alternates pending opened).shut watching.at x.0 watching.key watching.call same watching.is_open)
-              (watches x.0 watching) (subst (λ l. IsAbsent x.0 l) placed (absent_from x.0 n.placed absent)) given)
+              (watches x.0 watching) (absent_from x.0 m.placed (λ other there. elim (rest (x.0, other) there) [
+                | inl has ↦ absent other has
+                | inr crashed ↦ watching.alive crashed
+              ])) given)
         ]);
       }
+        where
+          rest : (x : ℕ × Reply) → Contains m.placed x → Contains n.placed x ⊎ HasCrashed (with_event h event) x.0
+          rest x there = elim (All-contains (λ (y : ℕ × Reply). Contains n.placed y ⊎ (is_crashed pending y.0 ≡ true)) m.placed x over.rest there) [
+            | inl has ↦ inl has
+            | inr crashed ↦ inr (crashed_to functions (with_event h event) pending opened unique alternates x.0 crashed)
+          ]
 
       pub returned_complete : (begin : S) → IsWellFormed functions (with_event h event) → ObserverSearchLaw begin step → UpdateSearchLaw begin step → (nodes : List (ℕ × (Placed × Option ℕ))) (members out : List (Member S × Path))
           → (r : IsReturnOf step observes o reply pending nodes members out) → ((m : Member S × Path) → Contains members m → IsRising m.0.placed) → ((m : Member S × Path) → Contains r.searched.visited m → IsRising m.0.placed)
-          → IsComplete begin step observes h (map (λ k. k.0) members) → IsComplete begin step observes (with_event h event) (map (λ k. k.0) out)
-      returned_complete begin well_formed by_observer by_update nodes members out r rising visited_rising complete = by (observes o.call) refl
+          → ((m : Member S × Path) → Contains r.found m → IsRising m.0.placed) → IsComplete begin step observes h (map (λ k. k.0) members) → IsComplete begin step observes (with_event h event) (map (λ k. k.0) out)
+      returned_complete begin well_formed by_observer by_update nodes members out r rising visited_rising found_rising complete = by (observes o.call) refl
         where
           visited : List (Member S × Path)
           visited = r.searched.visited
@@ -289,7 +298,7 @@ module _ (observes : Call → Bool) (functions : ℤ → Name → Bool) (h : Lis
               let placing = u.1 in
               let call = same_call u.0.at placing.key placing.call (subst (λ q. IsOpen h u.0.at q placing.key placing.call) process placing.is_open) in
               let found = (passed update k.0 k.1).0.returns update d.0 (subst (λ a. step k.0.0.state a d.0 reply) call (subst (λ a. step k.0.0.state placing.call d.0 a) same placing.steps)) in
-              (found.0.0, in_map (λ (x : Member S × Path). x.0) out found.0 (found_out found.0 found.1), returned_to k.0.0 found.0.0 d (visited_rising k.0 k.1) found.2 found.3 found.4))
+              (found.0.0, in_map (λ (x : Member S × Path). x.0) out found.0 (found_out found.0 found.1), returned_to k.0.0 found.0.0 d (found_rising found.0 found.1) found.2))
 
           by : (b : Bool) → observes o.call ≡ b → IsComplete begin step observes (with_event h event) (map (λ k. k.0) out)
           by true e =

@@ -11,9 +11,10 @@ use Rattle.lin_frontier.specs.declared.pending.Open.{Open}
 use Rattle.lin_frontier.specs.Members.{Member, IsOnOffer}
 use Rattle.lin_frontier.specs.Nodes.{IsGrown}
 use Rattle.lin_frontier.specs.Placing.{IsAbsent, insert_pair}
-use Rattle.lin_frontier.specs.Searching.{is_watching, AreBehind, AreUpdates, BeginsRound, HasBehind, IsCompleted, IsDone, IsFinding, IsFromBehind, IsPassed, IsReached, start, next, IsSearchedIn, IsSearchOf, IsSuccessor, IsVisiting}
+use Rattle.lin_frontier.specs.Searching.{is_watching, AreBehind, AreUpdates, BeginsRound, DominatesIn, DominatesOver, GivesAny, IsCompleted, IsDone, IsFinding, IsFromBehind, IsPassed, IsReached, start, next, IsSearchedIn, IsSearchOf, IsSuccessor, IsVisiting}
 use Rattle.lin_frontier.proofs.Closing.{any_default}
 use Rattle.lin_frontier.proofs.Inserting.{kept_by, passed_by}
+use Rattle.lin_frontier.proofs.Undominated.{above_itself}
 use Rattle.lin_frontier.proofs.Visiting.{grown_grown, not_grown, node_stays, begins_still}
 
 -- one of the first list stands in both joined, and so does one of the second
@@ -47,11 +48,24 @@ module _ {S : Type 0} (step : S → Call → S → Reply → Type 0) (observes :
     | inr new ↦ inr new
   ]
 
-  pub has_behind : (m : Member S × Path) (n : Member S) → AreBehind step observes pending m n.offers → HasBehind step observes pending m.0 n
-  has_behind m n behind x watching had = elim had [
+  has_behind : (m : Member S × Path) (offers : List (ℕ × (ℕ × Reply))) → AreBehind step observes pending m offers → (x : ℕ × Reply) → is_watching observes pending x.0 ≡ true
+      → IsOnOffer m.0 x ⊎ GivesAny step observes pending (m.0.state, m.0.placed) x → (k : ℕ) × Contains offers (k, x)
+  has_behind m offers behind x watching had = elim had [
     | inl offered ↦ (offered.0, behind.kept (offered.0, x) (kept_by (λ (y : ℕ × (ℕ × Reply)). is_watching observes pending y.1.0) m.0.offers (offered.0, x) watching offered.1))
     | inr given ↦ behind.complete x given
   ]
+
+  -- what dominates with all that is on offer behind the member
+  pub over_behind : (m : Member S × Path) (n : Member S) (d : S × List (ℕ × Reply)) (offers : List (ℕ × (ℕ × Reply))) → AreBehind step observes pending m offers → DominatesIn observes pending n d.0 d.1 offers
+      → DominatesOver step observes pending m.0 n d
+  over_behind m n d offers behind above = record {
+    same = above.same;
+    part = above.part;
+    rest = above.rest;
+    offered = λ x watching absent had.
+        let o = has_behind m offers behind x watching had in
+        All-contains (λ (y : ℕ × (ℕ × Reply)). is_watching observes pending y.1.0 ≡ true → IsAbsent y.1.0 n.placed → IsOnOffer n y.1) offers (o.0, x) above.offered o.1 watching absent;
+  }
 
   -- what holds with nodes holds with more
   pub successor_stays : (nodes now : List (ℕ × (Placed × Option ℕ))) (m n : Member S × Path) → IsGrown nodes now → IsSuccessor step observes pending nodes m n → IsSuccessor step observes pending now m n
@@ -73,7 +87,7 @@ module _ {S : Type 0} (step : S → Call → S → Reply → Type 0) (observes :
       pub nodes_grown : IsGrown first nodes
       pub rest_of : All (λ a. step m.0.state operation.call a.0 a.1) rest
       pub finding : IsFinding step observes operation reply pending nodes m old now
-      pub taken : (s : S) → step m.0.state operation.call s reply → Contains rest (s, reply) ⊎ ((n : Member S × Path) × Contains now n × (n.0.state ≡ s) × (n.0.placed ≡ m.0.placed) × HasBehind step observes pending m.0 n.0)
+      pub taken : (s : S) → step m.0.state operation.call s reply → Contains rest (s, reply) ⊎ ((n : Member S × Path) × Contains now n × DominatesOver step observes pending m.0 n.0 (s, m.0.placed))
 
     module _ (m : Member S × Path) (first : List (ℕ × (Placed × Option ℕ))) (old : List (Member S × Path)) where
       pub returning_start : (rest : List (S × Reply)) → All (λ a. step m.0.state operation.call a.0 a.1) rest → ((a : S × Reply) → step m.0.state operation.call a.0 a.1 → Contains rest a) → IsReturning m first first old rest old
@@ -84,8 +98,9 @@ module _ {S : Type 0} (step : S → Call → S → Reply → Type 0) (observes :
         taken = λ s steps. inl (each (s, reply) steps);
       }
 
-      -- a step with another reply
-      pub returning_skip : (more rest : List (S × Reply)) (nodes : List (ℕ × (Placed × Option ℕ))) (now : List (Member S × Path)) (a : S × Reply) → more ≡ rest ++ a ∷ [] → (a.1 ≡ reply → ⊥)
+      -- a step that is passed over: it has another reply, or something that was found dominates what it leads to
+      pub returning_skip : (more rest : List (S × Reply)) (nodes : List (ℕ × (Placed × Option ℕ))) (now : List (Member S × Path)) (a : S × Reply) → more ≡ rest ++ a ∷ []
+          → (a.1 ≡ reply → (n : Member S × Path) × Contains now n × DominatesOver step observes pending m.0 n.0 (a.0, m.0.placed))
           → IsReturning m first nodes old more now → IsReturning m first nodes old rest now
       returning_skip more rest nodes now a popped other h = record {
         nodes_grown = h.nodes_grown;
@@ -94,11 +109,22 @@ module _ {S : Type 0} (step : S → Call → S → Reply → Type 0) (observes :
         taken = λ t steps. elim (h.taken t steps) [
           | inl in_more ↦ elim (Contains-push_cases rest a (t, reply) (subst (λ l. Contains l (t, reply)) popped in_more)) [
             | inl in_rest ↦ inl in_rest
-            | inr same ↦ absurd (other (ap (λ (b : S × Reply). b.1) same))
+            | inr same ↦ inr (let found = other (ap (λ (b : S × Reply). b.1) same) in (found.0, found.1, subst (λ s. DominatesOver step observes pending m.0 found.0.0 (s, m.0.placed)) (ap (λ (b : S × Reply). b.0) same) found.2))
           ]
           | inr found ↦ inr found
         ];
       }
+
+      -- what a found member dominates, put together
+      pub returning_found : (more rest : List (S × Reply)) (nodes : List (ℕ × (Placed × Option ℕ))) (now : List (Member S × Path)) (a : S × Reply) (n : Member S × Path) (c d : S × List (ℕ × Reply)) (offers : List (ℕ × (ℕ × Reply)))
+          → more ≡ rest ++ a ∷ [] → Contains now n → DominatesIn observes pending n.0 d.0 d.1 offers → d ≡ (a.0, c.1) → c ≡ (m.0.state, m.0.placed) → AreBehind step observes pending m offers
+          → IsReturning m first nodes old more now → IsReturning m first nodes old rest now
+      returning_found more rest nodes now a n c d offers popped there above config same behind h =
+          returning_skip more rest nodes now a popped (λ _. (
+            n,
+            there,
+            subst (λ (e : S × List (ℕ × Reply)). DominatesOver step observes pending m.0 n.0 e) (config ∙ ap (λ (e : S × List (ℕ × Reply)). (a.0, e.1)) same) (over_behind m n.0 d offers behind above),
+          )) h
 
       pub returning_step : (more rest : List (S × Reply)) (nodes after : List (ℕ × (Placed × Option ℕ))) (now then' : List (Member S × Path)) (a : S × Reply) (n : Member S × Path) → more ≡ rest ++ a ∷ [] → a.1 ≡ reply
           → IsGrown nodes after → BeginsRound after m.1 n.1 (record { at = operation.at; reply = reply }) → n.0.state ≡ a.0 → n.0.placed ≡ m.0.placed → AreBehind step observes pending m n.0.offers
@@ -125,9 +151,14 @@ module _ {S : Type 0} (step : S → Call → S → Reply → Type 0) (observes :
         taken = λ t steps. elim (h.taken t steps) [
           | inl in_more ↦ elim (Contains-push_cases rest a (t, reply) (subst (λ l. Contains l (t, reply)) popped in_more)) [
             | inl in_rest ↦ inl in_rest
-            | inr same ↦ inr (n, subst (λ l. Contains l n) (sym pushed) (Contains-push now n), state ∙ ap (λ (b : S × Reply). b.0) same, placed, has_behind m n.0 behind)
+            | inr same ↦ inr (
+              n,
+              subst (λ l. Contains l n) (sym pushed) (Contains-push now n),
+              subst (λ s. DominatesOver step observes pending m.0 n.0 (s, m.0.placed)) (state ∙ ap (λ (b : S × Reply). b.0) same)
+                  (subst (λ l. DominatesOver step observes pending m.0 n.0 (n.0.state, l)) placed (over_behind m n.0 (n.0.state, n.0.placed) n.0.offers behind (above_itself observes pending n.0))),
+            )
           ]
-          | inr found ↦ inr (found.0, still found.0 found.1, found.2, found.3, found.4)
+          | inr found ↦ inr (found.0, still found.0 found.1, found.2)
         ];
       }
         where
@@ -154,7 +185,7 @@ module _ {S : Type 0} (step : S → Call → S → Reply → Type 0) (observes :
         → IsPassed step observes operation reply pending now m
     passed_stays m out now kept p = record {
       never = p.never;
-      returns = λ update s steps. let r = p.returns update s steps in (r.0, kept r.0 r.1, r.2, r.3, r.4);
+      returns = λ update s steps. let r = p.returns update s steps in (r.0, kept r.0 r.1, r.2);
     }
 
     pub searched_stays : (m : Member S) (visited now : List (Member S × Path)) → ((n : Member S × Path) → Contains visited n → Contains now n) → IsSearchedIn step observes pending visited m → IsSearchedIn step observes pending now m
@@ -272,14 +303,7 @@ module _ {S : Type 0} (step : S → Call → S → Reply → Type 0) (observes :
                   absent = k.absent;
                   member = f.0;
                   there = f.1;
-                  dominates = record {
-                    same = f.2.same;
-                    part = f.2.part;
-                    rest = f.2.rest;
-                    offered = λ x watching absent had.
-                        let o = has_behind m (record { state = m.0.state; placed = m.0.placed; offers = offers }) behind x watching had in
-                        All-contains (λ (y : ℕ × (ℕ × Reply)). is_watching observes pending y.1.0 ≡ true → IsAbsent y.1.0 f.0.0.placed → IsOnOffer f.0.0 y.1) offers (o.0, x) f.2.offered o.1 watching absent;
-                  };
+                  dominates = over_behind m f.0.0 (d.0, insert_pair k.placed.process p.reply m.0.placed) offers behind f.2;
                 }
 
         -- the one or the other

@@ -27,7 +27,7 @@ use Rattle.lin_frontier.specs.Nodes.{IsGrown}
 use Rattle.lin_frontier.specs.Placing.{IsAbsent}
 use Rattle.lin_frontier.specs.RoundLaws.{ExactLaw, TrailStartLaw, FewerLaw, TrailPlacesLaw, TrailInvocationLaw, TrailInfoLaw, TrailFailLaw, TrailOkLaw, TrailObserverLaw, TrailReturnLaw}
 use Rattle.lin_frontier.specs.Rounds.{IsTrailOf, root}
-use Rattle.lin_frontier.specs.Searching.{CompletesOpen, IsNextOf, IsPruned, IsReturnOf}
+use Rattle.lin_frontier.specs.Searching.{CompletesOpen, IsNextOf, IsPruned, IsReached, IsReturnOf}
 use Rattle.lin_frontier.specs.Settling.{AreFewer, IsThinned}
 use Rattle.lin_frontier.proofs.Answering.{returned_complete}
 use Rattle.lin_frontier.proofs.Awaiting.{open_pending}
@@ -89,9 +89,7 @@ module _ {S : Type 0} (start : S) (step : S → Call → S → Reply → Type 0)
           → IsCovering start step observes (with_event h event) out nodes
       returned name reply body o there of r = record {
         complete = returned_complete observes functions h event name reply body laws.unique alternates pending opened step before next.opened earlier o there of start next.well_formed laws.observer laws.update nodes members out r rising
-            (λ m within. spelled_rising start step observes h nodes m
-            (free_reached observes functions h event name reply body laws.unique alternates pending opened start step nodes earlier_well_formed laws.places r.starts begun m (r.searched.reached m within)).0)
-            c.complete;
+            (λ m within. reached_rising m (r.searched.reached m within)) found_rising c.complete;
         spelled = returned_spelled observes functions h event name reply body laws.unique alternates pending opened start step nodes before next.opened next.well_formed o there of earlier_well_formed observing laws.places
             laws.trail_observer laws.trail_return laws.trail_ok members out r c.spelled;
       }
@@ -100,6 +98,20 @@ module _ {S : Type 0} (start : S) (step : S → Call → S → Reply → Type 0)
           begun m within =
               let s = r.begun.sound m within in
               subst (λ k. IsSpelled start step observes h nodes k × IsAbsent event.process k.0.placed) (sym s.3) (c.spelled s.0 s.1, subst (λ q. IsAbsent q s.0.0.placed) of s.2)
+
+          reached_rising : (m : Member S × Path) → IsReached step observes pending nodes r.starts m → IsRising m.0.placed
+          reached_rising m way =
+              spelled_rising start step observes h nodes m
+              (free_reached observes functions h event name reply body laws.unique alternates pending opened start step nodes earlier_well_formed laws.places r.starts begun m way).0
+
+          found_rising : (n : Member S × Path) → Contains r.found n → IsRising n.0.placed
+          found_rising n within =
+              let s = r.searched.sound n within in
+              let rising_there = reached_rising s.0 s.1 in
+              elim s.2 [
+                | inl a ↦ subst IsRising (sym (ap (λ (k : Member S). k.placed) a.same)) rising_there
+                | inr u ↦ subst IsRising (sym u.placed) rising_there
+              ]
 
       by : (b : Body) → event.body ≡ b → IsNextOf step observes event.process b before pending nodes members out → IsCovering start step observes (with_event h event) out nodes
       by (Invoke call) body m =

@@ -59,6 +59,11 @@ giving_end {S} step state o round old rest now none h = record {
 pub offering_nothing : (Q : ℕ × Reply → Type 0) (round : ℕ) (now : List (ℕ × (ℕ × Reply))) → ((x : ℕ × Reply) → Q x → ⊥) → IsOffering Q round now now
 offering_nothing Q round now never = record { kept = λ x there. there; sound = λ x there. inl there; complete = λ x q. absurd (never x q) }
 
+-- where nothing was on offer either
+pub offering_empty : (Q : ℕ × Reply → Type 0) (round : ℕ) (old now : List (ℕ × (ℕ × Reply))) → now ≡ [] → ((x : ℕ × (ℕ × Reply)) → Contains old x → ⊥) → ((x : ℕ × Reply) → Q x → ⊥) → IsOffering Q round old now
+offering_empty Q round old now empty none never =
+    subst (IsOffering Q round old) (sym empty) (record { kept = λ x there. absurd (none x there); sound = λ x there. absurd (let inside = there.1 in omega arith); complete = λ x q. absurd (never x q) })
+
 -- of one of the operations
 abbrev pub IsOver : {A X : Type 0} → (A → X → Type 0) → List A → X → Type 0
 IsOver {A} Q xs x = (o : A) × Contains xs o × Q o x

@@ -1,5 +1,5 @@
 -- What lists of pending operations tell of domination, and members with only the offers that somebody waits for.
-use Rattle.std.proofs.Common.{◌≡◌, ◌⊎◌, ◌&&◌, ◌||◌, ℕ, ℤ, suc, Bool, true, false, not, nat_eq, List, [], ◌∷◌, Contains, inl, inr, refl, sym, ap, subst, ◌∙◌, arith, get_or, true≢false}
+use Rattle.std.proofs.Common.{◌≡◌, ◌⊎◌, ◌&&◌, ◌||◌, ℕ, ℤ, suc, Bool, true, false, not, nat_eq, List, [], ◌∷◌, All, Contains, inl, inr, refl, sym, ap, subst, ◌∙◌, arith, get_or, true≢false}
 use Rattle.std.specs.List.{list_any}
 use Rattle.std.proofs.lemmas.Bool.Decides.{Decides-eqb as Decides-nat_eq}
 use Rattle.std.proofs.lemmas.List.Folds.{list_any_at}
@@ -41,6 +41,11 @@ true_not : (b : Bool) → not b ≡ true → b ≡ true → ⊥
 true_not true h p = true≢false (sym h)
 true_not false h p = true≢false (sym p)
 
+left_out : (a b : Bool) → a ≡ true → (a && not b) ≡ false → b ≡ true
+left_out true true p h = refl
+left_out true false p h = absurd (true≢false h)
+left_out false b p h = absurd (true≢false (sym p))
+
 -- one of which the test is true, and the other way round
 pub any_true : {A : Type 0} (f : A → Bool) (xs : List A) → list_any f xs ≡ true → (x : A) × Contains xs x × (f x ≡ true)
 any_true f [] h = absurd (true≢false (sym h))
@@ -58,6 +63,15 @@ pub crashed_waits_not : (observes : Call → Bool) (pending : List Open) (o : Op
 crashed_waits_not observes pending o there crashed waits =
     true_not (is_crashed pending o.process) (and_right (is_observing observes pending o.process) (not (is_crashed pending o.process)) waits)
     (true_any (λ (k : Open). nat_eq k.process o.process && k.crashed) pending o there (and_both (nat_eq o.process o.process) o.crashed ((Decides-nat_eq o.process o.process).1 refl) crashed))
+
+-- nobody waits where each operation that observes has crashed
+pub none_waits : (observes : Call → Bool) (pending : List Open) → All (λ (o : Open). (observes o.call && not o.crashed) ≡ false) pending → (q : ℕ) → is_watching observes pending q ≡ true → ⊥
+none_waits observes pending none q waits =
+    let seen = and_left (is_observing observes pending q) (not (is_crashed pending q)) waits in
+    let o = any_true (λ (o : Open). nat_eq o.process q && observes o.call) pending seen in
+    crashed_waits_not observes pending o.0 o.1
+    (left_out (observes o.0.call) o.0.crashed (and_right (nat_eq o.0.process q) (observes o.0.call) o.2) (All-contains (λ (k : Open). (observes k.call && not k.crashed) ≡ false) pending o.0 none o.1))
+    (subst (λ p. is_watching observes pending p ≡ true) (sym ((Decides-nat_eq o.0.process q).0 (and_left (nat_eq o.0.process q) (observes o.0.call) o.2))) waits)
 
 module _ (functions : ℤ → Name → Bool) (h : List Event) (pending : List Open) (opened : IsPending h pending) (unique : EndsAreUnique) (alternates : IsAlternating functions h) where
   pub crashed_to : (q : ℕ) → is_crashed pending q ≡ true → HasCrashed h q

@@ -112,11 +112,7 @@ in_rounds rounds [] = rounds
 in_rounds rounds ((p, None) ∷ entries) = in_rounds (begin_round p rounds) entries
 in_rounds rounds ((p, Some round) ∷ entries) = in_rounds (put round p rounds) entries
 
--- the second member has on offer what the first has to processes that watch, and what the state of the first gives
-abbrev pub HasBehind : {S : Type 0} → (S → Call → S → Reply → Type 0) → (Call → Bool) → List Open → Member S → Member S → Type 0
-HasBehind step observes pending m n = (x : ℕ × Reply) → is_watching observes pending x.0 ≡ true → IsOnOffer m x ⊎ GivesAny step observes pending (m.state, m.placed) x → IsOnOffer n x
-
--- it has nothing else on offer, and from no other round
+-- the second member has on offer nothing but what the first has to processes that watch, and what the state of the first gives in its last round
 abbrev pub IsFromBehind : {S : Type 0} → (S → Call → S → Reply → Type 0) → (Call → Bool) → List Open → Member S × Path → Member S → Type 0
 IsFromBehind step observes pending m n = (x : ℕ × (ℕ × Reply)) → Contains n.offers x
     → (Contains m.0.offers x × (is_watching observes pending x.1.0 ≡ true)) ⊎ ((x.0 ≡ m.1.round) × GivesAny step observes pending (m.0.state, m.0.placed) x.1)
@@ -168,18 +164,18 @@ abbrev pub IsDone : {S : Type 0} → (Call → Bool) → Open → List Open → 
 IsDone {S} observes operation pending out m = (observes operation.call ≡ true)
     × (n : Member S × Path) × Contains out n × (n.0 ≡ record { state = m.state; placed = m.placed; offers = watched observes pending m.offers })
 
--- an observer can't take the reply there; and what an update that returns makes of the member is among those that were found
-pub record IsPassed {S : Type 0} (step : S → Call → S → Reply → Type 0) (observes : Call → Bool) (operation : Open) (reply : Reply) (pending : List Open) (out : List (Member S × Path)) (m : Member S × Path) : Type 0 where
-  pub never : observes operation.call ≡ true → (round : ℕ) → CanTake step operation reply m round → ⊥
-  pub returns : observes operation.call ≡ false → (next : S) → step m.0.state operation.call next reply
-      → (n : Member S × Path) × Contains out n × (n.0.state ≡ next) × (n.0.placed ≡ m.0.placed) × HasBehind step observes pending m.0 n.0
-
 -- the member dominates the state with these placed, come by from another member: it has on offer what is behind that
 pub record DominatesOver {S : Type 0} (step : S → Call → S → Reply → Type 0) (observes : Call → Bool) (pending : List Open) (m n : Member S) (d : S × List (ℕ × Reply)) : Type 0 where
   pub same : n.state ≡ d.0
   pub part : All (λ x. Contains d.1 x) n.placed
   pub rest : All (λ x. Contains n.placed x ⊎ (is_crashed pending x.0 ≡ true)) d.1
   pub offered : (x : ℕ × Reply) → is_watching observes pending x.0 ≡ true → IsAbsent x.0 n.placed → IsOnOffer m x ⊎ GivesAny step observes pending (m.state, m.placed) x → IsOnOffer n x
+
+-- an observer can't take the reply there; and what an update that returns makes of the member is dominated by one of those that were found
+pub record IsPassed {S : Type 0} (step : S → Call → S → Reply → Type 0) (observes : Call → Bool) (operation : Open) (reply : Reply) (pending : List Open) (out : List (Member S × Path)) (m : Member S × Path) : Type 0 where
+  pub never : observes operation.call ≡ true → (round : ℕ) → CanTake step operation reply m round → ⊥
+  pub returns : observes operation.call ≡ false → (next : S) → step m.0.state operation.call next reply
+      → (n : Member S × Path) × Contains out n × DominatesOver step observes pending m.0 n.0 (next, m.0.placed)
 
 -- what placing the update with the reply makes of the member, where this state follows, is dominated by one of those visited; or what placing
 -- one makes of it that stands for the update

@@ -11,11 +11,11 @@ ghost use Rattle.lin_frontier.specs.Walks.{IsTriedAtMost};
 use crate::configs::Config;
 use crate::exchanges::waits_for_like;
 use crate::members::{Member, Path, advanced, answered, placed_at};
-use crate::offers::Offers;
+use crate::offers::{OfferList, Offers, may_be_watched};
 use crate::pending::{Open, Pending};
 use crate::placing::place_if_absent;
 use crate::rounds::RoundNodes;
-use crate::seen::Seen;
+use crate::seen::{Seen, is_found};
 use lin_history::{Meter, OutOfMemory, Reply};
 use lin_objects::SeqObject;
 use lin_order::Placed;
@@ -61,6 +61,7 @@ pub fn push_if<S: Drop>(values: &mut Vec<S>, value: S, is_wanted: bool) -> Resul
 
 impl<'a, O: SeqObject> Completion<'a, O> {
     /// What is on offer behind the state of the member.
+    #[inline(always)]
     fn offers_behind(
         &self,
         alloc: Global,
@@ -71,9 +72,26 @@ impl<'a, O: SeqObject> Completion<'a, O> {
         ensures offered { IfOk result (AreBehind (O.step self.now.object.now) (O.observing self.now.object.now) self.now.pending.now member.now) }
         ensures tried { IsTriedAtMost (length self.now.pending.now) meter.old meter.new }
     {
-        let mut list = member
-            .offers()
-            .watched_list(self.object, alloc, self.pending)?;
+        if may_be_watched(self.object, self.pending) {
+            return self.offers_to_watchers(alloc, member, steps, meter);
+        }
+        Ok(Offers::none())
+    }
+
+    /// The same where a process may watch.
+    #[inline(never)]
+    fn offers_to_watchers(
+        &self,
+        alloc: Global,
+        member: &Member<O::State>,
+        steps: &mut Vec<(O::State, Reply)>,
+        meter: &mut Meter,
+    ) -> Result<Offers, OutOfMemory>
+        ensures offered { IfOk result (AreBehind (O.step self.now.object.now) (O.observing self.now.object.now) self.now.pending.now member.now) }
+        ensures tried { IsTriedAtMost (length self.now.pending.now) meter.old meter.new }
+    {
+        let mut list = OfferList::new(alloc);
+        list.push_watched(self.object, alloc, self.pending, member.offers())?;
         list.offer_all(
             self.object,
             alloc,
@@ -272,8 +290,11 @@ impl<'a, O: SeqObject> Completion<'a, O> {
             if reply != *self.reply {
                 continue;
             }
-            let placed = placed_at(alloc, self.operation.at, self.reply)?;
             let config = member.config().with_state(alloc, state)?;
+            if is_found(self.object, self.pending, out, &config, &offers) {
+                continue;
+            }
+            let placed = placed_at(alloc, self.operation.at, self.reply)?;
             let next = advanced(alloc, config, &offers, member.path(), placed, nodes)?;
             push_member(out, next)?;
         }
@@ -358,11 +379,12 @@ impl<'a, O: SeqObject> Completion<'a, O> {
     }
 
     /// What the operation makes of the members with its reply, on all ways from them by placing updates; `None` where
-    /// more members than the limit come up.
+    /// more members than the limit come up. `room` is for how many of them memory is taken at first.
     pub fn search(
         &self,
         alloc: Global,
         starts: &[&Member<O::State>],
+        room: usize,
         limit: usize,
         nodes: &mut RoundNodes,
         meter: &mut Meter,
@@ -376,8 +398,7 @@ impl<'a, O: SeqObject> Completion<'a, O> {
         }
         let mut seen = Seen::new(alloc, self.pending, starts)?;
         let mut visited = Vec::new(alloc);
-        // Room for what is found, and for what is put behind it.
-        let mut out = Vec::with_capacity(alloc, starts.len().saturating_add(3))?;
+        let mut out = Vec::with_capacity(alloc, room)?;
         let mut next = Vec::new(alloc);
         let mut steps = Vec::new(alloc);
         for start in starts {

@@ -66,6 +66,7 @@ pub(crate) enum Found<O: SeqObject> {
 }
 
 /// Copies of all the members.
+#[inline(never)]
 fn all_copied<O: SeqObject>(
     object: &O,
     alloc: Global,
@@ -101,6 +102,7 @@ fn push_absent<O: SeqObject>(
 }
 
 /// Copies of the members in which the operation of the process has no place.
+#[inline(never)]
 fn all_absent<O: SeqObject>(
     object: &O,
     alloc: Global,
@@ -200,7 +202,9 @@ fn after_ok<O: SeqObject>(
 {
     let process = completion.operation.process;
     let starts = absent_ones(alloc, members, process)?;
-    let Some(mut found) = completion.search(alloc, &starts, limit, nodes, meter)? else {
+    // What the search finds, and then the members that placed the operation.
+    let room = members.len().saturating_add(3);
+    let Some(mut found) = completion.search(alloc, &starts, room, limit, nodes, meter)? else {
         return Ok(None);
     };
     push_all_taken_out(

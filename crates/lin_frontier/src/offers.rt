@@ -1,5 +1,5 @@
 //! What is on offer: the replies that observers may still be given, each with a round whose state gave it.
-ghost use Rattle.std.specs.Prelude.{◌≡◌, ◌&&◌, nat_eq, IsTrue, [], ◌∷◌, ◌++◌, ℕ, IfOk, IfSome, IfNone, OnOk, Contains, length};
+ghost use Rattle.std.specs.Prelude.{◌≡◌, ◌&&◌, nat_eq, not, IsTrue, IsFalse, true, [], ◌∷◌, ◌++◌, ℕ, IfOk, IfSome, IfNone, OnOk, Contains, length};
 ghost use Rattle.lin_history.specs.declared.calls.Reply.{Reply as ReplyOf};
 ghost use Rattle.lin_frontier.specs.Searching.{is_observing as is_observing_in, is_watching as is_watching_in, watched as watched_of, Gives, GivesOne, GivesAny, IsOffering};
 ghost use Rattle.lin_frontier.specs.Walks.{IsTriedAtMost};
@@ -84,6 +84,25 @@ pub fn is_watching<O: SeqObject>(object: &O, pending: &Pending, process: u64) ->
     is_observing(object, pending.as_slice(), process) && !pending.is_crashed(process)
 }
 
+/// Whether the operation observes, and has not crashed.
+fn may_watch<O: SeqObject>(object: &O, operation: &Open) -> bool
+    ensures { result ≡ (O.observing object.now operation.now.call && not operation.now.crashed) }
+{
+    object.observes(&operation.call) && !operation.crashed
+}
+
+/// Whether any operation observes, and has not crashed. Where none does, no process watches.
+pub fn may_be_watched<O: SeqObject>(object: &O, pending: &Pending) -> bool
+    ensures { IsFalse result → (process : ℕ) → is_watching_in (O.observing object.now) pending.now process ≡ true → ⊥ }
+{
+    for operation in pending.as_slice() {
+        if may_watch(object, operation) {
+            return true;
+        }
+    }
+    false
+}
+
 /// Whether all offers may still be taken: whether they are to processes that watch.
 fn are_watched<O: SeqObject>(
     object: &O,
@@ -98,25 +117,6 @@ fn are_watched<O: SeqObject>(
         }
     }
     true
-}
-
-/// The offers that may still be taken, to be gone on with.
-#[inline(always)]
-fn watched_list<O: SeqObject>(
-    object: &O,
-    alloc: Global,
-    pending: &Pending,
-    offers: &[(usize, (u64, Reply))],
-) -> Result<OfferList, OutOfMemory>
-    ensures { IfOk result (λ kept. kept ≡ watched_of (O.observing object.now) pending.now offers.now) }
-{
-    let mut kept = OfferList::new(alloc);
-    for offer in offers {
-        if is_watching(object, pending, offer.1.0) {
-            kept.push(offer.0, offer.1.0, offer.1.1.copy(alloc)?)?;
-        }
-    }
-    Ok(kept)
 }
 
 /// The first round in which the process was offered the reply.
@@ -205,21 +205,9 @@ impl Offers {
         if are_watched(object, pending, self.as_slice()) {
             return self.copy();
         }
-        let kept = watched_list(object, alloc, pending, self.as_slice())?;
+        let mut kept = OfferList::new(alloc);
+        kept.push_watched(object, alloc, pending, self)?;
         Offers::of(alloc, kept)
-    }
-
-    /// The same, to be gone on with.
-    #[inline(always)]
-    pub fn watched_list<O: SeqObject>(
-        &self,
-        object: &O,
-        alloc: Global,
-        pending: &Pending,
-    ) -> Result<OfferList, OutOfMemory>
-        ensures { IfOk result (λ kept. kept ≡ watched_of (O.observing object.now) pending.now self.now) }
-    {
-        watched_list(object, alloc, pending, self.as_slice())
     }
 
     /// The first round in which the process was offered the reply.
@@ -233,7 +221,8 @@ impl Offers {
 
 impl OfferList {
     /// Nothing on offer yet.
-    fn new(alloc: Global) -> Self
+    #[inline(always)]
+    pub fn new(alloc: Global) -> Self
         ensures { result ≡ [] }
     {
         OfferList {
@@ -246,6 +235,25 @@ impl OfferList {
         ensures { result.now ≡ self.now }
     {
         self.items.as_slice()
+    }
+
+    /// Puts the offers last that may still be taken.
+    #[inline(always)]
+    pub fn push_watched<O: SeqObject>(
+        &mut self,
+        object: &O,
+        alloc: Global,
+        pending: &Pending,
+        offers: &Offers,
+    ) -> Result<(), OutOfMemory>
+        ensures { OnOk result (self.new ≡ self.old ++ watched_of (O.observing object.now) pending.now offers.now) }
+    {
+        for offer in offers.as_slice() {
+            if is_watching(object, pending, offer.1.0) {
+                self.push(offer.0, offer.1.0, offer.1.1.copy(alloc)?)?;
+            }
+        }
+        Ok(())
     }
 
     #[inline(always)]

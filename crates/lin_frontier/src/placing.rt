@@ -14,7 +14,7 @@ use std::alloc::Global;
 
 /// Places the operation, which has no place in the configuration yet, in each way that the object has. `steps` is only
 /// written over.
-#[inline(always)]
+#[inline(never)]
 fn place<O: SeqObject>(
     object: &O,
     alloc: Global,
@@ -45,6 +45,7 @@ fn place<O: SeqObject>(
 }
 
 /// Places the operation in each way that the object has, if it has no place in the configuration yet.
+#[inline(always)]
 pub fn place_if_absent<O: SeqObject>(
     object: &O,
     alloc: Global,

@@ -154,6 +154,19 @@ fn one_dominates<O: SeqObject>(
     false
 }
 
+/// Whether one of those found dominates, as far as they are few.
+pub fn is_found<O: SeqObject>(
+    object: &O,
+    pending: &Pending,
+    found: &[Member<O::State>],
+    config: &Config<O::State>,
+    offers: &Offers,
+) -> bool
+    ensures { IsTrue result → (m : MemberOf O.State × PathOf) × Contains found.now m × DominatesIn (O.observing object.now) pending.now m.0 config.now.0 config.now.1 offers.now }
+{
+    found.len() <= FEW && is_visited_dominated(object, pending, found, config, offers)
+}
+
 impl Seen {
     /// Nothing is seen yet but the starts, which are noted where they are many.
     pub fn new<S: Eq + Hash>(

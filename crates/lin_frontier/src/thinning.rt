@@ -36,6 +36,7 @@ fn settled<O: SeqObject>(
 }
 
 /// Each member so, with its place as its node.
+#[inline(never)]
 fn shadows<O: SeqObject>(
     object: &O,
     alloc: Global,
@@ -59,6 +60,7 @@ fn shadows<O: SeqObject>(
 }
 
 /// The members at the places that the nodes of the others name.
+#[inline(never)]
 fn picked<O: SeqObject>(
     object: &O,
     alloc: Global,

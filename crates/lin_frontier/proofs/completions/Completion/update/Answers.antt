@@ -2,7 +2,7 @@ use Rattle.std.proofs.Common.{ap, not, sym, ◌∙◌, true≢false}
 use Rattle.std.proofs.lemmas.List.Elements.{Contains-get_or}
 use Rattle.lin_history.specs.Replies.{reply_Decides}
 use Rattle.lin_frontier.proofs.Masking.{not_false}
-use Rattle.lin_frontier.proofs.Completing.{returning_start, returning_skip, returning_made}
+use Rattle.lin_frontier.proofs.Completing.{returning_start, returning_skip, returning_found, returning_made}
 use Rattle.lin_frontier.proofs.Visiting.{begins_from}
 use Rattle.lin_frontier.proofs.completions.Completion.update.Goals as goal
 
@@ -15,7 +15,13 @@ loop-state-init g c =
 pub loop-state-preserved-then-ne : goal.loop-state-preserved-then-ne
 loop-state-preserved-then-ne g c =
     returning_skip _ _ _ _ _ _ _ _ c.loop-state.steps.items c.pop.new.self.items c.loop-state.nodes c.loop-state.out.items (c.in-Some.state, c.in-Some.reply) c.in-Some.ensures.items
-    (λ same. true≢false (sym c.if-ne.true ∙ c.ne.ensures ∙ ap not ((reply_Decides c.in-Some.reply c.args.self.now.reply.now).1 same))) c.loop-state.invariant
+    (λ same. absurd (true≢false (sym c.if-ne.true ∙ c.ne.ensures ∙ ap not ((reply_Decides c.in-Some.reply c.args.self.now.reply.now).1 same)))) c.loop-state.invariant
+
+pub loop-state-preserved-then-is_found : goal.loop-state-preserved-then-is_found
+loop-state-preserved-then-is_found g c =
+    let found = (rw c.deref.ensures.value at c.is_found.ensures) c.if-is_found.true in
+    returning_found _ _ _ _ _ _ _ _ c.loop-state.steps.items c.pop.new.self.items c.loop-state.nodes c.loop-state.out.items (c.in-Some.state, c.in-Some.reply) found.0 c.config.result.now c.in_ok-config.config c.in_ok-offers.offers
+    c.in-Some.ensures.items found.1 found.2 c.in_ok-config.ensures c.config.ensures c.in_ok-offers.ensures.offered c.loop-state.invariant
 
 pub loop-state-preserved-in_ok-push_member : goal.loop-state-preserved-in_ok-push_member
 loop-state-preserved-in_ok-push_member g c =
