@@ -128,6 +128,7 @@ fn lacks_one<O: SeqObject>(
 }
 
 /// Whether the member covers the configuration, and has all of the offers that matter. What it lacks is mostly an offer.
+#[inline(never)]
 fn covers_with_offers<O: SeqObject>(
     object: &O,
     pending: &Pending,
@@ -148,6 +149,7 @@ fn covers_with_offers<O: SeqObject>(
 
 /// Whether the member has the same state as the configuration, no more placed but for crashed operations, and all of the
 /// offers that matter. Most members that don't are told by their bits, before anything is called.
+#[inline(always)]
 pub fn dominates<O: SeqObject>(
     object: &O,
     pending: &Pending,
