@@ -1,59 +1,11 @@
--- What is added to offers: the replies of a list of steps, from the last on, and those of one operation after the other.
-use Rattle.std.proofs.Common.{◌≡◌, ◌⊎◌, ℕ, ◌+◌, ◌<◌, List, [], ◌∷◌, ◌++◌, length, Contains, All, inl, inr, sym, ap, subst, arith, Some, get_or, take}
-use Rattle.std.proofs.lemmas.List.{take_more}
-use Rattle.std.proofs.lemmas.List.Elements.{All-pop, Contains-push, Contains-push_cases, Contains-append_left}
+-- What is added to offers: the replies of a list of steps, and those of one operation after the other.
+use Rattle.std.proofs.Common.{◌≡◌, ℕ, ◌+◌, ◌<◌, ◌≤◌, List, [], ◌∷◌, ◌++◌, length, Contains, inl, inr, sym, ap, subst, arith, get_or, take}
+use Rattle.std.proofs.lemmas.List.{take_all, take_more}
+use Rattle.std.proofs.lemmas.List.Elements.{All-contains, Contains-push, Contains-push_cases, Contains-append_left}
 use Rattle.lin_history.specs.declared.calls.Call.{Call}
 use Rattle.lin_history.specs.declared.calls.Reply.{Reply}
 use Rattle.lin_frontier.specs.declared.pending.Open.{Open}
-use Rattle.lin_frontier.specs.Searching.{Gives, IsOffering}
-
--- of the steps that P holds of, the replies of `rest` are still to be offered to the process
-pub record IsGiving {S : Type 0} (P : S × Reply → Type 0) (process round : ℕ) (old : List (ℕ × (ℕ × Reply))) (rest : List (S × Reply)) (now : List (ℕ × (ℕ × Reply))) : Type 0 where
-  pub kept : (x : ℕ × (ℕ × Reply)) → Contains old x → Contains now x
-  pub sound : (x : ℕ × (ℕ × Reply)) → Contains now x → Contains old x ⊎ ((x.0 ≡ round) × ((x.1.0 ≡ process) × (next : S) × P (next, x.1.1)))
-  pub rest_of : All P rest
-  pub taken : (a : S × Reply) → P a → Contains rest a ⊎ ((k : ℕ) × Contains now (k, (process, a.1)))
-
-module _ {S : Type 0} (P : S × Reply → Type 0) (process round : ℕ) (old : List (ℕ × (ℕ × Reply))) where
-  pub giving_start : (rest : List (S × Reply)) → All P rest → ((a : S × Reply) → P a → Contains rest a) → IsGiving P process round old rest old
-  giving_start rest all each = record {
-    kept = λ x there. there;
-    sound = λ x there. inl there;
-    rest_of = all;
-    taken = λ a p. inl (each a p);
-  }
-
-  pub giving_step : (more rest : List (S × Reply)) (now then' : List (ℕ × (ℕ × Reply))) (a : S × Reply) → more ≡ rest ++ a ∷ [] → IsOffering (λ x. x ≡ (process, a.1)) round now then'
-      → IsGiving P process round old more now → IsGiving P process round old rest then'
-  giving_step more rest now then' a popped offered h =
-      let parts = All-pop P more rest (Some a) popped h.rest_of in
-      record {
-        kept = λ x there. offered.kept x (h.kept x there);
-        sound = λ x there. elim (offered.sound x there) [
-          | inl before ↦ h.sound x before
-          | inr new ↦ inr (new.0, (ap (λ (y : ℕ × Reply). y.0) new.1, a.0, subst (λ r. P (a.0, r)) (sym (ap (λ (y : ℕ × Reply). y.1) new.1)) parts.1))
-        ];
-        rest_of = parts.0;
-        taken = λ b p. elim (h.taken b p) [
-          | inl in_more ↦ elim (Contains-push_cases rest a b (subst (λ l. Contains l b) popped in_more)) [
-            | inl in_rest ↦ inl in_rest
-            | inr same ↦ inr (offered.complete (process, b.1) (ap (λ (c : S × Reply). (process, c.1)) (sym same)))
-          ]
-          | inr there ↦ inr (there.0, offered.kept (there.0, (process, b.1)) there.1)
-        ];
-      }
-
--- all replies of the operation are offered
-pub giving_end : {S : Type 0} (step : S → Call → S → Reply → Type 0) (state : S) (o : Open) (round : ℕ) (old : List (ℕ × (ℕ × Reply))) (rest : List (S × Reply)) (now : List (ℕ × (ℕ × Reply))) → length rest ≡ 0
-    → IsGiving (λ a. step state o.call a.0 a.1) o.process round old rest now → IsOffering (Gives step state o) round old now
-giving_end {S} step state o round old rest now none h = record {
-  kept = h.kept;
-  sound = h.sound;
-  complete = λ x g. elim (h.taken (g.1, x.1) g.2) [
-    | inl in_rest ↦ absurd (let inside = in_rest.1 in omega arith)
-    | inr there ↦ (there.0, subst (λ q. Contains now (there.0, (q, x.1))) (sym g.0) there.1)
-  ];
-}
+use Rattle.lin_frontier.specs.Searching.{AreSteps, Gives, IsOffering, Told}
 
 -- where there is nothing to offer
 pub offering_nothing : (Q : ℕ × Reply → Type 0) (round : ℕ) (now : List (ℕ × (ℕ × Reply))) → ((x : ℕ × Reply) → Q x → ⊥) → IsOffering Q round now now
@@ -107,3 +59,20 @@ offering_same R Q round old now to from h = record {
   ];
   complete = λ x q. h.complete x (from x q);
 }
+
+-- the replies of all steps are offered
+pub offering_told : {S : Type 0} (process round : ℕ) (old : List (ℕ × (ℕ × Reply))) (steps : List (S × Reply)) (i : ℕ) (now : List (ℕ × (ℕ × Reply))) → length steps ≤ i
+    → IsOffering (IsOver (λ a x. x ≡ (process, a.1)) (take i steps)) round old now → IsOffering (Told process steps) round old now
+offering_told {S} process round old steps i now past h =
+    offering_same (IsOver (λ (a : S × Reply) (x : ℕ × Reply). x ≡ (process, a.1)) steps) (Told process steps) round old now
+    (λ x over. (ap (λ (y : ℕ × Reply). y.0) over.2, over.0.0, subst (λ r. Contains steps (over.0.0, r)) (sym (ap (λ (y : ℕ × Reply). y.1) over.2)) over.1))
+    (λ x told. ((told.1, x.1), told.2, ap (λ q. (q, x.1)) told.0))
+    (subst (λ l. IsOffering (IsOver (λ (a : S × Reply) (x : ℕ × Reply). x ≡ (process, a.1)) l) round old now) (take_all i steps past) h)
+
+-- what the steps by the operation's call tell its process the state gives to the operation
+pub offering_steps : {S : Type 0} (step : S → Call → S → Reply → Type 0) (state : S) (o : Open) (round : ℕ) (old : List (ℕ × (ℕ × Reply))) (steps : List (S × Reply)) (now : List (ℕ × (ℕ × Reply)))
+    → AreSteps step state o.call steps → IsOffering (Told o.process steps) round old now → IsOffering (Gives step state o) round old now
+offering_steps step state o round old steps now are h =
+    offering_same (Told o.process steps) (Gives step state o) round old now
+    (λ x told. (told.0, told.1, All-contains (λ a. step state o.call a.0 a.1) steps (told.1, x.1) are.sound told.2))
+    (λ x gives. (gives.0, gives.1, are.complete (gives.1, x.1) gives.2)) h

@@ -213,6 +213,19 @@ pub record IsFinding {S : Type 0} (step : S → Call → S → Reply → Type 0)
   pub kept : (n : Member S × Path) → Contains old n → Contains now n
   pub sound : (n : Member S × Path) → Contains now n → Contains old n ⊎ IsCompleted step observes operation reply pending nodes m n
 
+-- the steps by the call from the state, with their replies
+pub record AreSteps {S : Type 0} (step : S → Call → S → Reply → Type 0) (state : S) (call : Call) (steps : List (S × Reply)) : Type 0 where
+  pub sound : All (λ a. step state call a.0 a.1) steps
+  pub complete : (a : S × Reply) → step state call a.0 a.1 → Contains steps a
+
+-- of the call that is known these are the steps
+abbrev pub Knows : {S : Type 0} → (S → Call → S → Reply → Type 0) → S → Option Call → List (S × Reply) → Type 0
+Knows step state known steps = (call : Call) → known ≡ Some call → AreSteps step state call steps
+
+-- one of the steps has the reply, for the process
+abbrev pub Told : {S : Type 0} → ℕ → List (S × Reply) → ℕ × Reply → Type 0
+Told {S} process steps x = (x.0 ≡ process) × (next : S) × Contains steps (next, x.1)
+
 -- what is on offer behind the member
 abbrev pub AreBehind : {S : Type 0} → (S → Call → S → Reply → Type 0) → (Call → Bool) → List Open → Member S × Path → List (ℕ × (ℕ × Reply)) → Type 0
 AreBehind step observes pending m offers = IsOffering (GivesAny step observes pending (m.0.state, m.0.placed)) m.1.round (watched observes pending m.0.offers) offers

@@ -1,12 +1,12 @@
 //! What is on offer: the replies that observers may still be given, each with a round whose state gave it.
-ghost use Rattle.std.specs.Prelude.{◌≡◌, ◌&&◌, nat_eq, not, IsTrue, IsFalse, true, [], ◌∷◌, ◌++◌, ℕ, IfOk, IfSome, IfNone, OnOk, Contains, length};
+ghost use Rattle.std.specs.Prelude.{◌≡◌, ◌&&◌, nat_eq, not, IsTrue, IsFalse, true, [], ◌∷◌, ◌++◌, ℕ, IfOk, IfSome, IfNone, OnOk, Contains, Some, length};
 ghost use Rattle.lin_history.specs.declared.calls.Reply.{Reply as ReplyOf};
-ghost use Rattle.lin_frontier.specs.Searching.{is_observing as is_observing_in, is_watching as is_watching_in, watched as watched_of, Gives, GivesOne, GivesAny, IsOffering};
+ghost use Rattle.lin_frontier.specs.Searching.{is_observing as is_observing_in, is_watching as is_watching_in, watched as watched_of, AreSteps, GivesOne, GivesAny, IsOffering, Knows, Told};
 ghost use Rattle.lin_frontier.specs.Walks.{IsTriedAtMost};
 
 use crate::configs::{Config, is_absent, is_pair};
 use crate::pending::{Open, Pending};
-use lin_history::{Meter, OutOfMemory, Reply, Val};
+use lin_history::{Call, Meter, OutOfMemory, Reply, Val};
 use lin_objects::SeqObject;
 use smallvec::SmallVec;
 use std::alloc::Global;
@@ -117,6 +117,41 @@ fn are_watched<O: SeqObject>(
         }
     }
     true
+}
+
+/// Whether that is the call which is known.
+fn is_known(known: Option<Call>, call: &Call) -> bool
+    ensures { IsTrue result → known ≡ Some call.now }
+{
+    match known {
+        Some(other) => other == *call,
+        None => false,
+    }
+}
+
+/// Puts the steps by the call in `steps`, unless they are there: those of the call that is known. Most observers have the
+/// same call, so one try tells what a state gives to all of them.
+fn know<O: SeqObject>(
+    object: &O,
+    alloc: Global,
+    state: &O::State,
+    call: &Call,
+    known: &mut Option<Call>,
+    steps: &mut Vec<(O::State, Reply)>,
+    meter: &mut Meter,
+) -> Result<(), OutOfMemory>
+    requires { Knows (O.step object.now) state.now known.old steps.old.items }
+    ensures steps { OnOk result (AreSteps (O.step object.now) state.now call.now steps.new.items) }
+    ensures knows { OnOk result (Knows (O.step object.now) state.now known.new steps.new.items) }
+    ensures tried { IsTriedAtMost 1 meter.old meter.new }
+{
+    if is_known(*known, call) {
+        return Ok(());
+    }
+    meter.tick_try();
+    object.outcomes(alloc, state, call, steps)?;
+    *known = Some(*call);
+    Ok(())
 }
 
 /// The first round in which the process was offered the reply.
@@ -277,24 +312,18 @@ impl OfferList {
         self.push(round, process, reply)
     }
 
-    /// Offers in the round what the state gives to the operation. `steps` is only written over.
-    fn offer_given<O: SeqObject>(
+    /// Offers the replies of the steps in the round to the process.
+    fn offer_steps<S>(
         &mut self,
-        object: &O,
         alloc: Global,
-        state: &O::State,
-        operation: &Open,
+        process: u64,
         round: usize,
-        steps: &mut Vec<(O::State, Reply)>,
-        meter: &mut Meter,
+        steps: &[(S, Reply)],
     ) -> Result<(), OutOfMemory>
-        ensures offered { OnOk result (IsOffering (Gives (O.step object.now) state.now operation.now) round self.old self.new) }
-        ensures tried { IsTriedAtMost 1 meter.old meter.new }
+        ensures { OnOk result (IsOffering (Told process steps.now) round self.old self.new) }
     {
-        meter.tick_try();
-        object.outcomes(alloc, state, &operation.call, steps)?;
-        while let Some((_, reply)) = steps.pop() {
-            self.offer(round, operation.process, reply)?;
+        for step in steps {
+            self.offer(round, process, step.1.copy(alloc)?)?;
         }
         Ok(())
     }
@@ -309,10 +338,13 @@ impl OfferList {
         pending: &Pending,
         operation: &Open,
         round: usize,
+        known: &mut Option<Call>,
         steps: &mut Vec<(O::State, Reply)>,
         meter: &mut Meter,
     ) -> Result<(), OutOfMemory>
+        requires { Knows (O.step object.now) config.now.0 known.old steps.old.items }
         ensures offered { OnOk result (IsOffering (GivesOne (O.step object.now) (O.observing object.now) pending.now config.now operation.now) round self.old self.new) }
+        ensures knows { OnOk result (Knows (O.step object.now) config.now.0 known.new steps.new.items) }
         ensures tried { IsTriedAtMost 1 meter.old meter.new }
     {
         if !is_watching(object, pending, operation.process) {
@@ -321,19 +353,20 @@ impl OfferList {
         if !is_absent(config.placed(), operation.process) {
             return Ok(());
         }
-        self.offer_given(
+        know(
             object,
             alloc,
             config.state(),
-            operation,
-            round,
+            &operation.call,
+            known,
             steps,
             meter,
         )?;
+        self.offer_steps(alloc, operation.process, round, steps)?;
         Ok(())
     }
 
-    /// Offers in the round what the configuration's state gives to the operations.
+    /// Offers in the round what the configuration's state gives to the operations. `steps` is only written over.
     pub fn offer_all<O: SeqObject>(
         &mut self,
         object: &O,
@@ -347,12 +380,13 @@ impl OfferList {
         ensures offered { OnOk result (IsOffering (GivesAny (O.step object.now) (O.observing object.now) pending.now config.now) round self.old self.new) }
         ensures tried { IsTriedAtMost (length pending.now) meter.old meter.new }
     {
+        let mut known = None;
         for operation in pending.as_slice() {
             if operation.crashed {
                 continue;
             }
             self.offer_one(
-                object, alloc, config, pending, operation, round, steps, meter,
+                object, alloc, config, pending, operation, round, &mut known, steps, meter,
             )?;
         }
         Ok(())

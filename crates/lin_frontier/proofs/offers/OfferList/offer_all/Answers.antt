@@ -1,5 +1,6 @@
 use Rattle.std.proofs.Common.{◌+◌, arith, subst}
 use Rattle.std.proofs.lemmas.List.{take_all}
+use Rattle.std.proofs.lemmas.Option.{none-some}
 use Rattle.std.proofs.lemmas.List.Elements.{Contains-get_or}
 use Rattle.lin_frontier.specs.Searching.{GivesOne, IsOffering}
 use Rattle.lin_frontier.proofs.Offering.{IsOver, offering_none, offering_nothing, offering_more}
@@ -7,8 +8,11 @@ use Rattle.lin_frontier.proofs.Counting.{tried_none, tried_more}
 use Rattle.lin_frontier.proofs.Pruned.{crashed_waits_not}
 use Rattle.lin_frontier.proofs.offers.OfferList.offer_all.Goals as goal
 
+pub offer_one-requires : goal.offer_one-requires
+offer_one-requires g c = c.loop-operation.invariant.knows
+
 pub loop-operation-init : goal.loop-operation-init
-loop-operation-init g c = record { offered = offering_none _ _ _; tried = tried_none _ _ }
+loop-operation-init g c = record { offered = offering_none _ _ _; knows = λ call is. absurd (none-some call is); tried = tried_none _ _ }
 
 -- nobody waits for the reply of one that crashed
 pub loop-operation-preserved-then-operation : goal.loop-operation-preserved-then-operation
@@ -21,6 +25,7 @@ loop-operation-preserved-then-operation g c =
     record {
       offered = offering_more (GivesOne (g.O.SeqObject.step c.args.object.now) observes xs c.args.config.now) c.args.round c.args.self.now xs i _ c.loop-operation.self c.loop-operation.self inside
           (offering_nothing _ c.args.round c.loop-operation.self (λ x gives. crashed_waits_not observes xs _ (Contains-get_or xs i _ inside) (rw same at c.if-operation.true) gives.0)) c.loop-operation.invariant.offered;
+      knows = c.loop-operation.invariant.knows;
       tried = tried_more i 0 (i + 1) _ _ _ (omega arith) c.loop-operation.invariant.tried (tried_none 0 _);
     }
 
@@ -32,6 +37,7 @@ loop-operation-preserved g c =
     record {
       offered = offering_more (GivesOne (g.O.SeqObject.step c.args.object.now) (g.O.SeqObject.observing c.args.object.now) xs c.args.config.now) c.args.round c.args.self.now xs
           i _ c.loop-operation.self c.offer_one.new.self (rw same at c.loop-operation-test.true) (rw same at c.in_ok-offer_one.ensures.offered) c.loop-operation.invariant.offered;
+      knows = c.in_ok-offer_one.ensures.knows;
       tried = tried_more i 1 (i + 1) _ _ _ (omega arith) c.loop-operation.invariant.tried c.offer_one.ensures.tried;
     }
 

@@ -1,5 +1,5 @@
 use Rattle.std.proofs.Common.{take}
-use Rattle.lin_frontier.specs.Searching.{GivesOne, IsOffering}
+use Rattle.lin_frontier.specs.Searching.{GivesOne, IsOffering, Knows}
 use Rattle.lin_frontier.specs.Walks.{IsTriedAtMost}
 use Rattle.lin_frontier.proofs.Offering.{IsOver}
 use Rattle.lin_frontier.proofs.offers.OfferList.offer_all.Given as goal
@@ -7,5 +7,6 @@ use Rattle.lin_frontier.proofs.offers.OfferList.offer_all.Given as goal
 abbrev pub invariant-loop-operation : goal.invariant-loop-operation
 invariant-loop-operation g l = record {
   offered : IsOffering (IsOver (GivesOne (g.O.SeqObject.step l.object) (g.O.SeqObject.observing l.object) l.pending l.config) (take l.operation-index l.pending)) l.round l.fn.self l.self;
+  knows : Knows (g.O.SeqObject.step l.object) l.config.0 l.known l.steps.items;
   tried : IsTriedAtMost l.operation-index l.fn.meter l.meter;
 }
