@@ -6,7 +6,7 @@ ghost use Rattle.lin_frontier.specs.declared.pending.Open.{Open as OpenOf};
 ghost use Rattle.lin_order.specs.ConfigurationLaws.{with_event};
 ghost use Rattle.lin_frontier.specs.Frontiers.{IsNextEvent, IsPending};
 
-use lin_frontier::Open;
+use lin_frontier::{Open, append_operations};
 use lin_history::{Body, Event, OutOfMemory, ends_are_unique, well_formed_is_alternating};
 use std::alloc::Global;
 
@@ -74,7 +74,7 @@ impl Pending {
     {
         self.operations.truncate(crashed);
         self.crashed = crashed;
-        append(&mut self.operations, live)
+        append_operations(&mut self.operations, live)
     }
 
     /// Takes one more event in: its operation is open from then on, or no longer, or has crashed.
@@ -130,25 +130,4 @@ impl Pending {
         self.operations.swap(self.crashed, place);
         self.crashed += 1;
     }
-}
-
-/// Puts operations equal to the others behind what the list has.
-pub(crate) fn append(operations: &mut Vec<Open>, others: &[Open]) -> Result<(), OutOfMemory>
-    ensures all { OnOk result (operations.new.items ≡ operations.old.items ++ others.now) }
-    ensures front { take (length operations.old.items) operations.new.items ≡ operations.old.items }
-    ensures more { length operations.old.items ≤ length operations.new.items }
-{
-    for other in others {
-        let copy = Open {
-            process: other.process,
-            at: other.at,
-            call: other.call,
-            crashed: other.crashed,
-        };
-        match operations.push(copy) {
-            Ok(()) => {}
-            Err(_) => return Err(OutOfMemory),
-        }
-    }
-    Ok(())
 }

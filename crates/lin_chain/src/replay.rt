@@ -12,10 +12,10 @@ ghost use Rattle.lin_frontier.specs.Frontiers.{IsNextEvent, IsOver, IsPending};
 ghost use Rattle.lin_frontier.specs.Rounds.{joined, SpellsRounds};
 ghost use Rattle.lin_chain.specs.Replays.{IsCurrent, IsLegalOrderAs, IsLinearizableAs, IsPrepared, IsReplay, Members, held_count};
 
-use crate::pending::{Pending, append};
+use crate::pending::Pending;
 use lin_frontier::{
-    Advance, Compressed, NodeId, Open, RoundNodes, members_spell_legal_orders,
-    nothing_is_open_at_first,
+    Advance, Compressed, NodeId, Open, RoundNodes, Scratch, append_operations,
+    members_spell_legal_orders, nothing_is_open_at_first,
 };
 use lin_history::{Event, Meter, OutOfMemory, beginnings_are_well_formed};
 use lin_objects::{Any, Kind};
@@ -50,6 +50,8 @@ pub(crate) struct Replay {
     /// What is open after them. Behind the crashed ones it holds anything where there is no present frontier.
     pending: Pending,
     nodes: RoundNodes,
+    /// Memory that each step uses again.
+    scratch: Scratch<Any>,
 }
 
 /// What one more event made of the present frontier.
@@ -80,6 +82,7 @@ impl Replay {
             present: None,
             pending: Pending::new(alloc),
             nodes: RoundNodes::new(alloc),
+            scratch: Scratch::new(alloc),
         }
     }
 
@@ -194,7 +197,7 @@ impl Replay {
             return Err(OutOfMemory);
         }
         let mut live = Vec::new(self.alloc);
-        append(&mut live, self.pending.live())?;
+        append_operations(&mut live, self.pending.live())?;
         if let Some(frontier) = self.present.take() {
             self.checkpoints.push_reserved(Checkpoint {
                 frontier,
@@ -258,6 +261,7 @@ impl Replay {
             budget,
             &mut self.nodes,
             meter,
+            &mut self.scratch,
         )?;
         match step {
             Advance::Same => {
@@ -266,7 +270,9 @@ impl Replay {
             }
             Advance::Next(next) => {
                 self.pending.take_in(self.reached, event);
-                self.present = Some(next);
+                if let Some(frontier) = self.present.replace(next) {
+                    self.scratch.take_back(frontier);
+                }
                 self.reached += 1;
                 Ok(Taken::Next)
             }

@@ -15,6 +15,7 @@ use crate::offers::{OfferList, Offers, may_be_watched};
 use crate::pending::{Open, Pending};
 use crate::placing::place_if_absent;
 use crate::rounds::RoundNodes;
+use crate::scratch::Scratch;
 use crate::seen::{Seen, is_found};
 use lin_history::{Meter, OutOfMemory, Reply};
 use lin_objects::SeqObject;
@@ -388,6 +389,7 @@ impl<'a, O: SeqObject> Completion<'a, O> {
         limit: usize,
         nodes: &mut RoundNodes,
         meter: &mut Meter,
+        scratch: &mut Scratch<O>,
     ) -> Result<Option<Vec<Member<O::State>>>, OutOfMemory>
         ensures grown { IsGrown nodes.old nodes.new }
         ensures found { IfOk result (λ found. IfSome found (λ out. IsSearchOf (O.step self.now.object.now) (O.observing self.now.object.now) self.now.operation.now self.now.reply.now self.now.pending.now nodes.new (map (λ m. m.now) starts.now) out.items)) }
@@ -397,10 +399,10 @@ impl<'a, O: SeqObject> Completion<'a, O> {
             return Ok(None);
         }
         let mut seen = Seen::new(alloc, self.pending, starts)?;
-        let mut visited = Vec::new(alloc);
-        let mut out = Vec::with_capacity(alloc, room)?;
-        let mut next = Vec::new(alloc);
-        let mut steps = Vec::new(alloc);
+        let mut visited = scratch.visited();
+        let mut out = scratch.found(room)?;
+        let mut next = scratch.next();
+        let mut steps = scratch.steps();
         for start in starts {
             let path = start.path();
             let found = self.work_off(alloc, start, &mut out, &mut next, nodes, &mut steps, meter)?;
@@ -438,6 +440,7 @@ impl<'a, O: SeqObject> Completion<'a, O> {
             tried += 1;
             at += 1;
         }
+        scratch.keep_search(visited, next, steps);
         Ok(Some(out))
     }
 }

@@ -23,11 +23,12 @@ use crate::member_laws::{
 };
 use crate::members::{Member, copied, taken_out};
 use crate::nodes::NodeId;
-use crate::pending::{Open, Pending, open_of, take_in};
+use crate::pending::{Open, Pending, append_operations, open_of, take_in};
 use crate::round_laws::{
     members_are_exact, rounds_after_events, rounds_spell_members, rounds_take_operations,
 };
 use crate::rounds::RoundNodes;
+use crate::scratch::Scratch;
 use crate::thinning::thinned;
 use lin_history::{
     Body, Event, Meter, OutOfMemory, Reply, ends_are_unique, well_formed_is_alternating,
@@ -195,6 +196,7 @@ fn after_ok<O: SeqObject>(
     limit: usize,
     nodes: &mut RoundNodes,
     meter: &mut Meter,
+    scratch: &mut Scratch<O>,
 ) -> Result<Option<Vec<Member<O::State>>>, OutOfMemory>
     ensures grown { IsGrown nodes.old nodes.new }
     ensures next { IfOk result (λ found. IfSome found (λ out. IsReturnOf (O.step completion.now.object.now) (O.observing completion.now.object.now) completion.now.operation.now completion.now.reply.now completion.now.pending.now nodes.new members.now out.items)) }
@@ -204,7 +206,7 @@ fn after_ok<O: SeqObject>(
     let starts = absent_ones(alloc, members, process)?;
     // What the search finds, and then the members that placed the operation.
     let room = members.len().saturating_add(3);
-    let Some(mut found) = completion.search(alloc, &starts, room, limit, nodes, meter)? else {
+    let Some(mut found) = completion.search(alloc, &starts, room, limit, nodes, meter, scratch)? else {
         return Ok(None);
     };
     push_all_taken_out(
@@ -231,6 +233,7 @@ fn next_members<O: SeqObject>(
     limit: usize,
     nodes: &mut RoundNodes,
     meter: &mut Meter,
+    scratch: &mut Scratch<O>,
 ) -> Result<Option<Vec<Member<O::State>>>, OutOfMemory>
     ensures grown { IsGrown nodes.old nodes.new }
     ensures next { IfOk result (λ found. IfSome found (λ out. CompletesOpen event.now before.now → IsNextOf (O.step object.now) (O.observing object.now) event.now.process event.now.body before.now pending.now nodes.new members.now out.items)) }
@@ -251,42 +254,24 @@ fn next_members<O: SeqObject>(
                 reply,
                 pending,
             };
-            after_ok(&completion, alloc, members, limit, nodes, meter)
+            after_ok(&completion, alloc, members, limit, nodes, meter, scratch)
         }
     }
 }
 
-/// The same operations.
-fn copies(alloc: Global, pending: &[Open]) -> Result<Vec<Open>, OutOfMemory>
-    ensures { IfOk result (λ copies. copies.items ≡ pending.now) }
-{
-    let mut copies = Vec::with_capacity(alloc, pending.len())?;
-    for operation in pending {
-        let copy = Open {
-            process: operation.process,
-            at: operation.at,
-            call: operation.call,
-            crashed: operation.crashed,
-        };
-        match copies.push(copy) {
-            Ok(()) => {}
-            Err(_) => return Err(OutOfMemory),
-        }
-    }
-    Ok(copies)
-}
-
-/// The operations that are open after the event.
+/// The operations that are open after the event, in the list.
 pub(crate) fn open_after(
-    alloc: Global,
+    list: Vec<Open>,
     before: &[Open],
     at: usize,
     event: &Event,
 ) -> Result<Vec<Open>, OutOfMemory>
+    requires { list.items ≡ [] }
     ensures pending { IfOk result (λ after. (functions : ℤ → NameOf → Bool) (h : List EventOf) → IsNextEvent functions h before.now at event.now → IsPending (with_event h event.now) after.items) }
     ensures len { IfOk result (λ after. length after.items ≤ length before.now + 1) }
 {
-    let mut after = copies(alloc, before)?;
+    let mut after = list;
+    append_operations(&mut after, before)?;
     take_in(&mut after, at, event)?;
     Ok(after)
 }
@@ -302,6 +287,7 @@ fn advanced<O: SeqObject>(
     limit: usize,
     nodes: &mut RoundNodes,
     meter: &mut Meter,
+    scratch: &mut Scratch<O>,
 ) -> Result<Option<Vec<Member<O::State>>>, OutOfMemory>
     ensures grown { IsGrown nodes.old nodes.new }
     ensures next { IfOk result (λ found. IfSome found (λ out. (functions : ℤ → NameOf → Bool) (h : List EventOf) → IsNextEvent functions h before.now at event.now
@@ -318,15 +304,16 @@ fn advanced<O: SeqObject>(
     rounds_spell_members(object);
     rounds_take_operations(object);
     rounds_after_events(object);
-    let after = open_after(alloc, before, at, event)?;
+    let after = open_after(scratch.open(), before, at, event)?;
     let pending = Pending::of(&after);
     let Some(found) = next_members(
-        object, alloc, members, before, &pending, event, limit, nodes, meter,
+        object, alloc, members, before, &pending, event, limit, nodes, meter, scratch,
     )?
     else {
         return Ok(None);
     };
     let kept = thinned(object, alloc, &pending, found)?;
+    scratch.keep_open(after);
     Ok(Some(kept))
 }
 
@@ -336,6 +323,11 @@ impl<O: SeqObject> Compressed<O> {
         ensures { result ≡ length self.now }
     {
         self.members.len()
+    }
+
+    /// Its members.
+    pub(crate) fn into_members(self) -> Vec<Member<O::State>> {
+        self.members
     }
 
     /// The node of the member at the place.
@@ -377,6 +369,7 @@ impl<O: SeqObject> Compressed<O> {
         limit: usize,
         nodes: &mut RoundNodes,
         meter: &mut Meter,
+        scratch: &mut Scratch<O>,
     ) -> Result<Found<O>, OutOfMemory>
         // Where the frontier is one of a history, with these operations open, the answer speaks of that history with the event behind
         // it, which has to be well-formed.
@@ -411,6 +404,7 @@ impl<O: SeqObject> Compressed<O> {
             limit,
             nodes,
             meter,
+            scratch,
         ) {
             Ok(Some(members)) => {
                 if members.is_empty() {

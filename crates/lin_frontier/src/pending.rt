@@ -1,5 +1,5 @@
 //! The operations that are open.
-ghost use Rattle.std.specs.Prelude.{◌≡◌, ◌⊎◌, ◌&&◌, ◌+◌, ◌≤◌, [], ℤ, true, nat_eq, All, Bool, Contains, IsTrue, List, IfNone, IfSome, length, OnOk, OnErr, filter, map, not, ◌==◌};
+ghost use Rattle.std.specs.Prelude.{◌≡◌, ◌⊎◌, ◌&&◌, ◌+◌, ◌≤◌, [], ℤ, true, nat_eq, All, Bool, Contains, IsTrue, List, IfNone, IfSome, length, OnOk, OnErr, filter, map, not, take, ◌==◌, ◌++◌};
 ghost use Rattle.lin_history.specs.declared.calls.Name.{Name as NameOf};
 ghost use Rattle.lin_history.specs.declared.events.Event.{Event as EventOf};
 ghost use Rattle.lin_order.specs.ConfigurationLaws.{with_event};
@@ -58,6 +58,27 @@ fn mark_crashed(pending: &mut Vec<Open>, process: u64)
     for open in pending.iter_mut() {
         open.crashed |= open.process == process;
     }
+}
+
+/// Puts operations equal to the others behind what the list has.
+pub fn append_operations(operations: &mut Vec<Open>, others: &[Open]) -> Result<(), OutOfMemory>
+    ensures all { OnOk result (operations.new.items ≡ operations.old.items ++ others.now) }
+    ensures front { take (length operations.old.items) operations.new.items ≡ operations.old.items }
+    ensures more { length operations.old.items ≤ length operations.new.items }
+{
+    for other in others {
+        let copy = Open {
+            process: other.process,
+            at: other.at,
+            call: other.call,
+            crashed: other.crashed,
+        };
+        match operations.push(copy) {
+            Ok(()) => {}
+            Err(_) => return Err(OutOfMemory),
+        }
+    }
+    Ok(())
 }
 
 /// Takes one more event in: its operation is open from then on, or no longer, or has crashed.

@@ -26,6 +26,7 @@ use crate::parts::pruned_many;
 use crate::pending::{Open, Pending};
 use crate::round_laws::{members_are_exact, rounds_after_events};
 use crate::rounds::RoundNodes;
+use crate::scratch::Scratch;
 use lin_history::{Body, Event, Meter, OutOfMemory, ends_are_unique, well_formed_is_alternating};
 use lin_objects::SeqObject;
 use lin_order::legal_orders_end;
@@ -34,8 +35,15 @@ use std::alloc::Global;
 /// Below this budget all configurations are counted after each event.
 const COUNTED: usize = 1_024;
 
-/// Where a search comes to more members, the configurations before the event are counted instead.
+/// A search comes to so many members at most, unless the budget is large.
 const LONGEST_SEARCH: usize = 4_096;
+
+/// Where a search comes to more members than these, the configurations before the event are counted instead.
+fn longest_search(budget: usize) -> usize
+    ensures { result ≤ budget }
+{
+    budget.min(LONGEST_SEARCH).max(budget / 16)
+}
 
 /// What one more event makes of a compressed frontier, within a budget of configurations.
 #[derive(Drop)]
@@ -106,7 +114,7 @@ fn after_listing<O: SeqObject>(
     let Body::Ok(_, reply) = &event.body else {
         unreachable!()
     };
-    let operations = open_after(alloc, pending, at, event)?;
+    let operations = open_after(Vec::new(alloc), pending, at, event)?;
     let after = Pending::of(&operations);
     let mut found = Vec::new(alloc);
     push_all_taken_out(
@@ -148,6 +156,7 @@ impl<O: SeqObject> Compressed<O> {
         budget: u32,
         nodes: &mut RoundNodes,
         meter: &mut Meter,
+        scratch: &mut Scratch<O>,
     ) -> Result<Advance<O>, OutOfMemory>
         // Where the frontier is one of a history, with these operations open, the answer speaks of that history with the event behind
         // it, which has to be well-formed.
@@ -197,6 +206,7 @@ impl<O: SeqObject> Compressed<O> {
             budget as usize,
             nodes,
             meter,
+            scratch,
         );
         match step {
             Ok(Advance::Next(next)) => Ok(Advance::Next(next)),
@@ -257,6 +267,7 @@ impl<O: SeqObject> Compressed<O> {
         budget: usize,
         nodes: &mut RoundNodes,
         meter: &mut Meter,
+        scratch: &mut Scratch<O>,
     ) -> Result<Advance<O>, OutOfMemory>
         ensures next { IfOk result (λ step. (next : List (MemberOf O.State × PathOf)) → step ≡ Advance.Next next → (functions : ℤ → NameOf → Bool) (h : List EventOf)
             → IsNextEvent functions h pending.now at event.now → IsCompressed (O.starts object.now) (O.step object.now) (O.observing object.now) h self.now nodes.old
@@ -277,8 +288,10 @@ impl<O: SeqObject> Compressed<O> {
         ensures tries { meter.new.tries ≤ meter.old.tries + budget * (3 * length pending.now + 4) }
         ensures scans { meter.new.scans ≡ meter.old.scans }
     {
-        let limit = budget.min(LONGEST_SEARCH);
-        match self.advance_up_to(alloc, object, pending, at, event, limit, nodes, meter)? {
+        let limit = longest_search(budget);
+        match self.advance_up_to(
+            alloc, object, pending, at, event, limit, nodes, meter, scratch,
+        )? {
             Found::Empty => Ok(Advance::Empty),
             Found::Next(next) => {
                 if next.is_over(alloc, object, pending, at, event, budget, nodes, meter)? {
@@ -314,7 +327,7 @@ impl<O: SeqObject> Compressed<O> {
         if COUNTED <= budget {
             return Ok(false);
         }
-        let operations = open_after(alloc, pending, at, event)?;
+        let operations = open_after(Vec::new(alloc), pending, at, event)?;
         let after = Pending::of(&operations);
         exceeds(object, alloc, &after, &self.members, budget, nodes, meter)
     }

@@ -1,5 +1,5 @@
 //! Frontiers that keep what decides: how many members are left after worked histories, and what comes of drawn ones.
-use crate::drawn::{Draw, drawn_history, has_legal_order};
+use crate::drawn::{Draw, drawn_history, has_legal_order, register_history};
 use crate::events::{fail, info, invoke, ok, write};
 use crate::exact_sets::{Came, came_of};
 use lin_frontier::{Advance, Compressed, Open, RoundNodes, take_in};
@@ -464,6 +464,81 @@ fn a_long_search_counts_what_was_before(rt: HostRuntime) -> Result<(), Fail> {
         came_within(alloc, kind, &nine, 2_305),
         Ok(Came::Sound(256))
     );
+    Ok(())
+}
+
+#[test]
+fn a_larger_budget_searches_longer(rt: HostRuntime) -> Result<(), Fail> {
+    let alloc = rt.alloc();
+    let kind = Kind::Register;
+    let mut events = open_writes(alloc, 11)?;
+    for process in 20..24 {
+        events.push(invoke(process, Call::Read))?;
+    }
+    events.push(done(0, Name::Write))?;
+    // The search comes to 1 + 10 * 2^9 members: by each set of the other writes, with each of it last. A sixteenth of the usual budget
+    // is fewer, and there are more configurations than it before the event.
+    assert_eq!(rt;
+        came_within(alloc, kind, &events, AMPLE),
+        Ok(Came::OverBefore)
+    );
+    assert_eq!(rt;
+        came_within(alloc, kind, &events, 1_000_000),
+        Ok(Came::Sound(1_024))
+    );
+    Ok(())
+}
+
+/// What a walk through events comes to.
+#[derive(Clone, Copy, Debug, PartialEq, Eq)]
+struct Counts {
+    /// The members after each event, all together.
+    members: u64,
+    tries: u64,
+    nodes: u64,
+}
+
+/// What the events come to, where they have a legal order.
+fn counts_of(
+    alloc: Global,
+    kind: Kind,
+    events: &[Event],
+) -> Result<Option<Counts>, OutOfMemory> {
+    let object = Any { kind };
+    let mut nodes = RoundNodes::new(alloc);
+    let mut meter = Meter::new();
+    let mut pending: Vec<Open> = Vec::new(alloc);
+    let mut frontier = Compressed::start(alloc, &object, &nodes)?;
+    let mut members = 0u64;
+    for at in 0..events.len() {
+        let event = &events[at];
+        match frontier.advance(
+            alloc, &object, &pending, at, event, AMPLE, &mut nodes, &mut meter,
+        )? {
+            Advance::Same => {}
+            Advance::Next(next) => frontier = next,
+            _ => return Ok(None),
+        }
+        take_in(&mut pending, at, event)?;
+        members = members.saturating_add(frontier.len() as u64);
+    }
+    Ok(Some(Counts {
+        members,
+        tries: meter.tries(),
+        nodes: nodes.len() as u64,
+    }))
+}
+
+#[test]
+fn a_register_with_five_clients_keeps_few_members(rt: HostRuntime) -> Result<(), Fail> {
+    let alloc = rt.alloc();
+    let events = register_history(alloc, 20_000, &mut Draw { seed: 11 })?;
+    let counts = counts_of(alloc, Kind::Register, &events)?;
+    // For an event on average at most 2.8 members, 3 tries and 2 new nodes.
+    let few = counts.map(|counts| {
+        counts.members <= 56_000 && counts.tries <= 60_000 && counts.nodes <= 40_000
+    });
+    assert_eq!(rt; few, Some(true));
     Ok(())
 }
 

@@ -1,5 +1,5 @@
 //! Drawn histories of one object, and whether they have a legal order, found by trying all lists of operations.
-use lin_history::{Body, Call, Event, IntSet, OutOfMemory, Reply, Val};
+use lin_history::{Body, Call, Event, IntSet, Name, OutOfMemory, Reply, Val};
 use lin_objects::{Any, Kind, Kinds, SeqObject};
 use lin_order::{Placed, check_order};
 use std::alloc::Global;
@@ -66,6 +66,45 @@ impl Draw {
             _ => Ok(Reply::Done),
         }
     }
+}
+
+/// So many events of five clients on a register, half of whose operations write one of five values. Each operation takes effect
+/// as it returns.
+pub(crate) fn register_history(
+    alloc: Global,
+    count: usize,
+    draw: &mut Draw,
+) -> Result<Vec<Event>, OutOfMemory> {
+    let mut events = Vec::new(alloc);
+    let mut calls = [None; 5];
+    let mut state = Val::Nil;
+    for _ in 0..count {
+        let process = draw.below(5);
+        if let Some(open) = calls.get_mut(process as usize) {
+            let (body, next) = match *open {
+                None => {
+                    let call = if draw.below(2) == 0 {
+                        Call::Read
+                    } else {
+                        Call::Write(Val::Int(draw.below(5).cast_signed()))
+                    };
+                    (Body::Invoke(call), Some(call))
+                }
+                Some(Call::Write(value)) => {
+                    state = value;
+                    (Body::Ok(Name::Write, Reply::Done), None)
+                }
+                Some(_) => (Body::Ok(Name::Read, Reply::Value(state)), None),
+            };
+            *open = next;
+            events.push(Event {
+                process,
+                key: 0,
+                body,
+            })?;
+        }
+    }
+    Ok(events)
 }
 
 /// What a process of a drawn history is about.

@@ -9,7 +9,7 @@ use Rattle.lin_frontier.proofs.completions.Completion.search.Goals as goal
 pub loop-start-init : goal.loop-start-init
 loop-start-init g c = record {
   within = omega arith;
-  working = working_alone _ _ _ _ _ _ _ c.new-visited.result.items c.in_ok-out.out.items c.new-visited.ensures.items c.in_ok-out.ensures.items;
+  working = working_alone _ _ _ _ _ _ _ c.visited-visited.result.items c.in_ok-out.out.items c.visited-visited.ensures c.in_ok-out.ensures;
   tried = tried_none _ _;
 }
 

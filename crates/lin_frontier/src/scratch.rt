@@ -1,0 +1,112 @@
+//! Memory that is used again from event to event.
+ghost use Rattle.std.specs.Prelude.{◌≡◌, [], IfOk};
+
+use crate::compressed::Compressed;
+use crate::configs::Config;
+use crate::members::Member;
+use crate::pending::Open;
+use lin_history::{OutOfMemory, Reply};
+use lin_objects::SeqObject;
+use lin_order::Placed;
+use std::alloc::Global;
+use std::marker::Model;
+use std::mem;
+
+/// Lists whose memory is used again by each search. What they hold means nothing: a list is given out, and comes back when it is
+/// done with.
+#[derive(Drop)]
+pub struct Scratch<O: SeqObject> {
+    alloc: Global,
+    found: Vec<Member<O::State>>,
+    visited: Vec<Member<O::State>>,
+    next: Vec<(Config<O::State>, Placed)>,
+    steps: Vec<(O::State, Reply)>,
+    open: Vec<Open>,
+}
+
+impl<O: SeqObject> Model for Scratch<O> {
+    ghost Value = { Unit {0} };
+
+    ghost view = { λ _. tt };
+}
+
+impl<O: SeqObject> Scratch<O> {
+    /// No memory yet.
+    pub fn new(alloc: Global) -> Self {
+        Scratch {
+            alloc,
+            found: Vec::new(alloc),
+            visited: Vec::new(alloc),
+            next: Vec::new(alloc),
+            steps: Vec::new(alloc),
+            open: Vec::new(alloc),
+        }
+    }
+
+    /// Takes the memory of a frontier that is done with.
+    pub fn take_back(&mut self, frontier: Compressed<O>) {
+        self.found = frontier.into_members();
+    }
+
+    /// An empty list for members that are found, with room for so many.
+    #[inline(always)]
+    pub(crate) fn found(&mut self, room: usize) -> Result<Vec<Member<O::State>>, OutOfMemory>
+        ensures { IfOk result (λ list. list.items ≡ []) }
+    {
+        let mut list = mem::replace(&mut self.found, Vec::new(self.alloc));
+        list.clear();
+        list.reserve(room)?;
+        Ok(list)
+    }
+
+    /// An empty list for members that are visited.
+    #[inline(always)]
+    pub(crate) fn visited(&mut self) -> Vec<Member<O::State>>
+        ensures { result.items ≡ [] }
+    {
+        let mut list = mem::replace(&mut self.visited, Vec::new(self.alloc));
+        list.clear();
+        list
+    }
+
+    /// A list for what placing updates makes of a member.
+    #[inline(always)]
+    pub(crate) fn next(&mut self) -> Vec<(Config<O::State>, Placed)> {
+        mem::replace(&mut self.next, Vec::new(self.alloc))
+    }
+
+    /// A list for the steps of a call.
+    #[inline(always)]
+    pub(crate) fn steps(&mut self) -> Vec<(O::State, Reply)> {
+        mem::replace(&mut self.steps, Vec::new(self.alloc))
+    }
+
+    /// An empty list for operations that are open.
+    #[inline(always)]
+    pub(crate) fn open(&mut self) -> Vec<Open>
+        ensures { result.items ≡ [] }
+    {
+        let mut list = mem::replace(&mut self.open, Vec::new(self.alloc));
+        list.clear();
+        list
+    }
+
+    /// Takes the lists of a search back.
+    #[inline(always)]
+    pub(crate) fn keep_search(
+        &mut self,
+        visited: Vec<Member<O::State>>,
+        next: Vec<(Config<O::State>, Placed)>,
+        steps: Vec<(O::State, Reply)>,
+    ) {
+        self.visited = visited;
+        self.next = next;
+        self.steps = steps;
+    }
+
+    /// Takes the list of open operations back.
+    #[inline(always)]
+    pub(crate) fn keep_open(&mut self, open: Vec<Open>) {
+        self.open = open;
+    }
+}
