@@ -270,15 +270,22 @@ impl Replay {
             }
             Advance::Next(next) => {
                 self.pending.take_in(self.reached, event);
-                if let Some(frontier) = self.present.replace(next) {
-                    self.scratch.take_back(frontier);
-                }
+                self.put(next);
                 self.reached += 1;
                 Ok(Taken::Next)
             }
             Advance::Empty => Ok(Taken::Empty),
             Advance::Over => Ok(Taken::Over),
             Advance::OverBefore => Ok(Taken::OverBefore),
+        }
+    }
+
+    /// Makes the frontier the present one. The memory of the one before is used again.
+    fn put(&mut self, frontier: Compressed<Any>)
+        ensures { self.new ≡ record self.old { present = Some frontier } }
+    {
+        if let Some(before) = self.present.replace(frontier) {
+            self.scratch.take_back(before);
         }
     }
 

@@ -28,8 +28,9 @@ returns-in-Next-clause-right c = λ functions h well there prepared.
     let self = c.args.self.now in
     let before = take self.reached h in
     let cover = c.in_ok-step.ensures.next c.in-Next.next c.in-Next.is functions before (passed (goal.at.returns-in-Next-clause-right c).In_ok-step functions h well there prepared) (known (goal.at.returns-in-Next-clause-right c).In_ok-step h prepared).compressed in
-    replay_advanced self c.in-Next.next c.take_in.new.self c.advance.new.nodes h c.args.event.now prepared there cover (c.in_ok-step.ensures.some c.in-Next.next c.in-Next.is)
-    (c.take_in.ensures.open functions before (next (goal.at.returns-in-Next-clause-right c).In_ok-step functions h well there prepared)) c.advance.ensures.grown c.take_in.ensures.more c.take_in.ensures.front
+    subst (λ (r : Replay). IsReplay (record r { reached = r.reached + 1 }) h) (sym c.put.ensures)
+    (replay_advanced self c.in-Next.next c.take_in.new.self c.advance.new.nodes h c.args.event.now prepared there cover (c.in_ok-step.ensures.some c.in-Next.next c.in-Next.is)
+    (c.take_in.ensures.open functions before (next (goal.at.returns-in-Next-clause-right c).In_ok-step functions h well there prepared)) c.advance.ensures.grown c.take_in.ensures.more c.take_in.ensures.front)
 
 pub returns-in-Empty-clause-empty : goal.returns-in-Empty-clause-empty
 returns-in-Empty-clause-empty c = λ _ functions h well there prepared lin.
