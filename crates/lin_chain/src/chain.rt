@@ -14,7 +14,7 @@ ghost use Rattle.lin_chain.specs.Replays.{IsLegalOrderAs};
 
 use crate::refuting::refutation_of;
 use crate::replay::{Replay, SPACING, Taken};
-use lin_frontier::members_spell_legal_orders;
+use lin_frontier::{Scratch, members_spell_legal_orders};
 use lin_history::{Event, Meter, OutOfMemory};
 use lin_objects::{Any, Kind};
 use lin_order::{Placed, Refutation, empty_is_legal};
@@ -161,7 +161,8 @@ impl Chain {
         members_spell_legal_orders::<Any>();
         self.retry(budget);
         if self.end.is_alive() {
-            self.go_on(events, picks, budget, meter)?;
+            let mut scratch = self.replay.scratch();
+            self.go_on(events, picks, budget, meter, &mut scratch)?;
         }
         self.ready = picks.len();
         Ok(self.end)
@@ -191,6 +192,7 @@ impl Chain {
         picks: &[usize],
         budget: u32,
         meter: &mut Meter,
+        scratch: &mut Scratch<Any>,
     ) -> Result<(), OutOfMemory>
         requires alive { end_in self.old ≡ End.Alive }
         requires right { IsRight self.old (events_at events.now picks.now) }
@@ -208,13 +210,19 @@ impl Chain {
     {
         while self.end.is_alive() && self.replay.reached < picks.len() {
             let event = &events[picks[self.replay.reached]];
-            self.take_in(event, budget, meter)?;
+            self.take_in(event, budget, meter, scratch)?;
         }
         Ok(())
     }
 
     /// Takes one more event in.
-    fn take_in(&mut self, event: &Event, budget: u32, meter: &mut Meter) -> Result<(), OutOfMemory>
+    fn take_in(
+        &mut self,
+        event: &Event,
+        budget: u32,
+        meter: &mut Meter,
+        scratch: &mut Scratch<Any>,
+    ) -> Result<(), OutOfMemory>
         requires alive { end_in self.old ≡ End.Alive }
         requires right { (h : List EventOf) × IsRight self.old h }
         requires fits { self.old.replay.reached < usize.MAX }
@@ -232,7 +240,7 @@ impl Chain {
         members_spell_legal_orders::<Any>();
         let at = self.replay.reached;
         self.replay.prepare()?;
-        self.end = match self.replay.take_in(event, budget, meter)? {
+        self.end = match self.replay.take_in(event, budget, meter, scratch)? {
             Taken::Next => End::Alive,
             Taken::Empty => End::Dead(at),
             Taken::Over => End::Over(at),

@@ -50,8 +50,6 @@ pub(crate) struct Replay {
     /// What is open after them. Behind the crashed ones it holds anything where there is no present frontier.
     pending: Pending,
     nodes: RoundNodes,
-    /// Memory that each step uses again.
-    scratch: Scratch<Any>,
 }
 
 /// What one more event made of the present frontier.
@@ -82,8 +80,12 @@ impl Replay {
             present: None,
             pending: Pending::new(alloc),
             nodes: RoundNodes::new(alloc),
-            scratch: Scratch::new(alloc),
         }
+    }
+
+    /// Memory for steps to use again.
+    pub(crate) fn scratch(&self) -> Scratch<Any> {
+        Scratch::new(self.alloc)
     }
 
     /// What the object is.
@@ -231,6 +233,7 @@ impl Replay {
         event: &Event,
         budget: u32,
         meter: &mut Meter,
+        scratch: &mut Scratch<Any>,
     ) -> Result<Taken, OutOfMemory>
         requires some { 0 < length self.old.checkpoints.items }
         requires room { vec_len self.old.pending.operations < vec_capacity self.old.pending.operations }
@@ -261,7 +264,7 @@ impl Replay {
             budget,
             &mut self.nodes,
             meter,
-            &mut self.scratch,
+            scratch,
         )?;
         match step {
             Advance::Same => {
@@ -270,7 +273,7 @@ impl Replay {
             }
             Advance::Next(next) => {
                 self.pending.take_in(self.reached, event);
-                self.put(next);
+                self.put(next, scratch);
                 self.reached += 1;
                 Ok(Taken::Next)
             }
@@ -281,11 +284,11 @@ impl Replay {
     }
 
     /// Makes the frontier the present one. The memory of the one before is used again.
-    fn put(&mut self, frontier: Compressed<Any>)
+    fn put(&mut self, frontier: Compressed<Any>, scratch: &mut Scratch<Any>)
         ensures { self.new ≡ record self.old { present = Some frontier } }
     {
         if let Some(before) = self.present.replace(frontier) {
-            self.scratch.take_back(before);
+            scratch.take_back(before);
         }
     }
 

@@ -30,6 +30,16 @@ impl<O: SeqObject> Model for Scratch<O> {
     ghost view = { λ _. tt };
 }
 
+/// The list, emptied, with one that has no memory in its place.
+#[inline(always)]
+fn emptied<T: Drop>(alloc: Global, list: &mut Vec<T>) -> Vec<T>
+    ensures { result.items ≡ [] }
+{
+    let mut emptied = mem::replace(list, Vec::new(alloc));
+    emptied.clear();
+    emptied
+}
+
 impl<O: SeqObject> Scratch<O> {
     /// No memory yet.
     pub fn new(alloc: Global) -> Self {
@@ -53,8 +63,7 @@ impl<O: SeqObject> Scratch<O> {
     pub(crate) fn found(&mut self, room: usize) -> Result<Vec<Member<O::State>>, OutOfMemory>
         ensures { IfOk result (λ list. list.items ≡ []) }
     {
-        let mut list = mem::replace(&mut self.found, Vec::new(self.alloc));
-        list.clear();
+        let mut list = emptied(self.alloc, &mut self.found);
         list.reserve(room)?;
         Ok(list)
     }
@@ -64,21 +73,19 @@ impl<O: SeqObject> Scratch<O> {
     pub(crate) fn visited(&mut self) -> Vec<Member<O::State>>
         ensures { result.items ≡ [] }
     {
-        let mut list = mem::replace(&mut self.visited, Vec::new(self.alloc));
-        list.clear();
-        list
+        emptied(self.alloc, &mut self.visited)
     }
 
-    /// A list for what placing updates makes of a member.
+    /// An empty list for what placing updates makes of a member.
     #[inline(always)]
     pub(crate) fn next(&mut self) -> Vec<(Config<O::State>, Placed)> {
-        mem::replace(&mut self.next, Vec::new(self.alloc))
+        emptied(self.alloc, &mut self.next)
     }
 
-    /// A list for the steps of a call.
+    /// An empty list for the steps of a call.
     #[inline(always)]
     pub(crate) fn steps(&mut self) -> Vec<(O::State, Reply)> {
-        mem::replace(&mut self.steps, Vec::new(self.alloc))
+        emptied(self.alloc, &mut self.steps)
     }
 
     /// An empty list for operations that are open.
@@ -86,9 +93,7 @@ impl<O: SeqObject> Scratch<O> {
     pub(crate) fn open(&mut self) -> Vec<Open>
         ensures { result.items ≡ [] }
     {
-        let mut list = mem::replace(&mut self.open, Vec::new(self.alloc));
-        list.clear();
-        list
+        emptied(self.alloc, &mut self.open)
     }
 
     /// Takes the lists of a search back.

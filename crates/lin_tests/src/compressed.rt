@@ -2,11 +2,12 @@
 use crate::drawn::{Draw, drawn_history, has_legal_order, register_history};
 use crate::events::{fail, info, invoke, ok, write};
 use crate::exact_sets::{Came, came_of};
-use lin_frontier::{Advance, Compressed, Open, RoundNodes, take_in};
+use lin_frontier::{Advance, Compressed, Open, RoundNodes, Scratch, take_in};
 use lin_history::{Body, Call, Event, Meter, Name, OutOfMemory, Reply, Val};
 use lin_objects::{Any, Kind, Kinds};
 use lin_order::check_order;
 use std::alloc::Global;
+use std::mem;
 use std::test::Fail;
 
 fn done(process: u64, name: Name) -> Event {
@@ -50,12 +51,21 @@ fn came_within(
     let mut nodes = RoundNodes::new(alloc);
     let mut meter = Meter::new();
     let mut pending: Vec<Open> = Vec::new(alloc);
+    let mut scratch = Scratch::new(alloc);
     let mut frontier = Compressed::start(alloc, &object, &nodes)?;
     for at in 0..events.len() {
         let event = &events[at];
         let kept = nodes.len();
         let came = match frontier.advance(
-            alloc, &object, &pending, at, event, budget, &mut nodes, &mut meter,
+            alloc,
+            &object,
+            &pending,
+            at,
+            event,
+            budget,
+            &mut nodes,
+            &mut meter,
+            &mut scratch,
         )? {
             Advance::Same => {
                 frontier = frontier.copy(alloc, &object)?;
@@ -63,7 +73,7 @@ fn came_within(
                 continue;
             }
             Advance::Next(next) => {
-                frontier = next;
+                scratch.take_back(mem::replace(&mut frontier, next));
                 take_in(&mut pending, at, event)?;
                 continue;
             }
@@ -508,15 +518,24 @@ fn counts_of(
     let mut nodes = RoundNodes::new(alloc);
     let mut meter = Meter::new();
     let mut pending: Vec<Open> = Vec::new(alloc);
+    let mut scratch = Scratch::new(alloc);
     let mut frontier = Compressed::start(alloc, &object, &nodes)?;
     let mut members = 0u64;
     for at in 0..events.len() {
         let event = &events[at];
         match frontier.advance(
-            alloc, &object, &pending, at, event, AMPLE, &mut nodes, &mut meter,
+            alloc,
+            &object,
+            &pending,
+            at,
+            event,
+            AMPLE,
+            &mut nodes,
+            &mut meter,
+            &mut scratch,
         )? {
             Advance::Same => {}
-            Advance::Next(next) => frontier = next,
+            Advance::Next(next) => scratch.take_back(mem::replace(&mut frontier, next)),
             _ => return Ok(None),
         }
         take_in(&mut pending, at, event)?;
