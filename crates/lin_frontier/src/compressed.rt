@@ -206,7 +206,8 @@ fn after_ok<O: SeqObject>(
     let starts = absent_ones(alloc, members, process)?;
     // What the search finds, and then the members that placed the operation.
     let room = members.len().saturating_add(3);
-    let Some(mut found) = completion.search(alloc, &starts, room, limit, nodes, meter, scratch)? else {
+    let Some(mut found) = completion.search(alloc, &starts, room, limit, nodes, meter, scratch)?
+    else {
         return Ok(None);
     };
     push_all_taken_out(
