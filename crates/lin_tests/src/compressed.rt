@@ -509,11 +509,7 @@ struct Counts {
 }
 
 /// What the events come to, where they have a legal order.
-fn counts_of(
-    alloc: Global,
-    kind: Kind,
-    events: &[Event],
-) -> Result<Option<Counts>, OutOfMemory> {
+fn counts_of(alloc: Global, kind: Kind, events: &[Event]) -> Result<Option<Counts>, OutOfMemory> {
     let object = Any { kind };
     let mut nodes = RoundNodes::new(alloc);
     let mut meter = Meter::new();
