@@ -40,19 +40,30 @@ fn is_sound(
     Ok(true)
 }
 
-/// What comes of the events, one after the other, up to the first that leaves no frontier.
-fn came_within(
+/// What a walk through events costs.
+#[derive(Clone, Copy, Debug, PartialEq, Eq)]
+struct Counts {
+    /// The members after each event, all together.
+    members: u64,
+    tries: u64,
+    nodes: u64,
+}
+
+/// What comes of the events, one after the other, up to the first that leaves no frontier; and what that costs.
+fn walked(
     alloc: Global,
     kind: Kind,
     events: &[Event],
     budget: u32,
-) -> Result<Came, OutOfMemory> {
+) -> Result<(Came, Counts), OutOfMemory> {
     let object = Any { kind };
     let mut nodes = RoundNodes::new(alloc);
     let mut meter = Meter::new();
-    let mut pending: Vec<Open> = Vec::new(alloc);
     let mut scratch = Scratch::new(alloc);
+    let mut pending: Vec<Open> = Vec::new(alloc);
     let mut frontier = Compressed::start(alloc, &object, &nodes)?;
+    let mut members = 0u64;
+    let mut ended = None;
     for at in 0..events.len() {
         let event = &events[at];
         let kept = nodes.len();
@@ -69,29 +80,49 @@ fn came_within(
         )? {
             Advance::Same => {
                 frontier = frontier.copy(alloc, &object)?;
-                take_in(&mut pending, at, event)?;
-                continue;
+                None
             }
             Advance::Next(next) => {
                 scratch.take_back(mem::replace(&mut frontier, next));
-                take_in(&mut pending, at, event)?;
-                continue;
+                None
             }
-            Advance::Empty => Came::Empty,
-            Advance::Over => Came::Over,
-            Advance::OverBefore => Came::OverBefore,
+            Advance::Empty => Some(Came::Empty),
+            Advance::Over => Some(Came::Over),
+            Advance::OverBefore => Some(Came::OverBefore),
         };
-        return Ok(if nodes.len() == kept {
-            came
-        } else {
-            Came::Unsound(0)
-        });
+        if let Some(came) = came {
+            ended = Some(if nodes.len() == kept {
+                came
+            } else {
+                Came::Unsound(0)
+            });
+            break;
+        }
+        take_in(&mut pending, at, event)?;
+        members = members.saturating_add(frontier.len() as u64);
     }
-    if is_sound(alloc, kind, events, &frontier, &nodes)? {
-        Ok(Came::Sound(frontier.len()))
-    } else {
-        Ok(Came::Unsound(frontier.len()))
-    }
+    let counts = Counts {
+        members,
+        tries: meter.tries(),
+        nodes: nodes.len() as u64,
+    };
+    let came = match ended {
+        Some(came) => came,
+        None if is_sound(alloc, kind, events, &frontier, &nodes)? => Came::Sound(frontier.len()),
+        None => Came::Unsound(frontier.len()),
+    };
+    Ok((came, counts))
+}
+
+/// What comes of the events, one after the other, up to the first that leaves no frontier.
+fn came_within(
+    alloc: Global,
+    kind: Kind,
+    events: &[Event],
+    budget: u32,
+) -> Result<Came, OutOfMemory> {
+    let (came, _counts) = walked(alloc, kind, events, budget)?;
+    Ok(came)
 }
 
 #[test]
@@ -499,61 +530,16 @@ fn a_larger_budget_searches_longer(rt: HostRuntime) -> Result<(), Fail> {
     Ok(())
 }
 
-/// What a walk through events comes to.
-#[derive(Clone, Copy, Debug, PartialEq, Eq)]
-struct Counts {
-    /// The members after each event, all together.
-    members: u64,
-    tries: u64,
-    nodes: u64,
-}
-
-/// What the events come to, where they have a legal order.
-fn counts_of(alloc: Global, kind: Kind, events: &[Event]) -> Result<Option<Counts>, OutOfMemory> {
-    let object = Any { kind };
-    let mut nodes = RoundNodes::new(alloc);
-    let mut meter = Meter::new();
-    let mut pending: Vec<Open> = Vec::new(alloc);
-    let mut scratch = Scratch::new(alloc);
-    let mut frontier = Compressed::start(alloc, &object, &nodes)?;
-    let mut members = 0u64;
-    for at in 0..events.len() {
-        let event = &events[at];
-        match frontier.advance(
-            alloc,
-            &object,
-            &pending,
-            at,
-            event,
-            AMPLE,
-            &mut nodes,
-            &mut meter,
-            &mut scratch,
-        )? {
-            Advance::Same => {}
-            Advance::Next(next) => scratch.take_back(mem::replace(&mut frontier, next)),
-            _ => return Ok(None),
-        }
-        take_in(&mut pending, at, event)?;
-        members = members.saturating_add(frontier.len() as u64);
-    }
-    Ok(Some(Counts {
-        members,
-        tries: meter.tries(),
-        nodes: nodes.len() as u64,
-    }))
-}
-
 #[test]
 fn a_register_with_five_clients_keeps_few_members(rt: HostRuntime) -> Result<(), Fail> {
     let alloc = rt.alloc();
     let events = register_history(alloc, 20_000, &mut Draw { seed: 11 })?;
-    let counts = counts_of(alloc, Kind::Register, &events)?;
+    let (came, counts) = walked(alloc, Kind::Register, &events, AMPLE)?;
+    assert_eq!(rt; matches!(came, Came::Sound(_)), true);
     // For an event on average at most 2.8 members, 3 tries and 2 new nodes.
-    let few = counts.map(|counts| {
-        counts.members <= 56_000 && counts.tries <= 60_000 && counts.nodes <= 40_000
-    });
-    assert_eq!(rt; few, Some(true));
+    assert_eq!(rt; counts.members <= 56_000, true);
+    assert_eq!(rt; counts.tries <= 60_000, true);
+    assert_eq!(rt; counts.nodes <= 40_000, true);
     Ok(())
 }
 
