@@ -11,6 +11,7 @@ use Rattle.lin_history.specs.Operations.{IsOpen}
 use Rattle.lin_history.specs.WellFormed.{IsWellFormed}
 use Rattle.lin_history.specs.WellFormedLaws.{EndsAreUnique}
 use Rattle.lin_history.proofs.OneMore.{one_open, one_call}
+use Rattle.lin_objects.specs.Commuting.{GoesFirst}
 use Rattle.lin_order.specs.declared.placed.Placed.{Placed}
 use Rattle.lin_order.specs.ConfigurationLaws.{with_event}
 use Rattle.lin_order.specs.Configurations.{IsRising, IsAdded, IsPlacing}
@@ -19,10 +20,10 @@ use Rattle.lin_frontier.specs.declared.pending.Open.{Open}
 use Rattle.lin_frontier.specs.Covers.{HasCrashed}
 use Rattle.lin_frontier.specs.Exchanges.{AreAlike, Exchange, IsExchanged}
 use Rattle.lin_frontier.specs.Frontiers.{IsPending}
-use Rattle.lin_frontier.specs.MemberLaws.{IsTaken, IsSearched, ObserverSearchLaw, UpdateSearchLaw}
+use Rattle.lin_frontier.specs.MemberLaws.{IsTaken, IsSearched, CommutingOkLaw, ObserverSearchLaw, UpdateSearchLaw}
 use Rattle.lin_frontier.specs.Members.{Member, IsComplete, IsOnOffer, IsWatching, IsGiven, IsUpdate, DominatesAt, Dominates}
 use Rattle.lin_frontier.specs.Placing.{IsAbsent, insert_pair}
-use Rattle.lin_frontier.specs.Searching.{is_watching, is_crashed, rest_of, CanTake, DominatesOver, GivesAny, IsMade, IsPassed, IsReturnOf, IsSearchedFor, IsSearchedIn}
+use Rattle.lin_frontier.specs.Searching.{is_watching, is_crashed, rest_of, CanTake, DominatesOver, GivesAny, GoesAhead, IsMade, IsMadeAtOnce, IsPassed, IsReached, IsReturnOf, IsSearchOf, IsSearchedFor, IsSearchedIn}
 use Rattle.lin_frontier.proofs.Awaiting.{open_pending, pending_crashed}
 use Rattle.lin_frontier.proofs.Crashes.{crash_before, crashed_open, ok_no_info}
 use Rattle.lin_frontier.proofs.Dominating.{dominates_itself}
@@ -230,14 +231,14 @@ module _ (observes : Call → Bool) (functions : ℤ → Name → Bool) (h : Lis
             | inr crashed ↦ inr (crashed_to functions (with_event h event) pending opened unique alternates x.0 crashed)
           ]
 
-      pub returned_complete : (begin : S) → IsWellFormed functions (with_event h event) → ObserverSearchLaw begin step → UpdateSearchLaw begin step → (nodes : List (ℕ × (Placed × Option ℕ))) (members out : List (Member S × Path))
-          → (r : IsReturnOf step observes o reply pending nodes members out) → ((m : Member S × Path) → Contains members m → IsRising m.0.placed) → ((m : Member S × Path) → Contains r.searched.visited m → IsRising m.0.placed)
+      pub returned_complete : (begin : S) → IsWellFormed functions (with_event h event) → ObserverSearchLaw begin step → UpdateSearchLaw begin step → CommutingOkLaw begin step → (nodes : List (ℕ × (Placed × Option ℕ))) (members out : List (Member S × Path))
+          → (r : IsReturnOf step observes o reply pending nodes members out) → ((m : Member S × Path) → Contains members m → IsRising m.0.placed) → ((m : Member S × Path) → IsReached step observes pending nodes r.starts m → IsRising m.0.placed)
           → ((m : Member S × Path) → Contains r.found m → IsRising m.0.placed) → IsComplete begin step observes h (map (λ k. k.0) members) → IsComplete begin step observes (with_event h event) (map (λ k. k.0) out)
-      returned_complete begin well_formed by_observer by_update nodes members out r rising visited_rising found_rising complete = by (observes o.call) refl
+      returned_complete begin well_formed by_observer by_update by_commuting nodes members out r rising reached_rising found_rising complete = elim r.searched [
+        | inl s ↦ by_search s
+        | inr a ↦ at_once a.0 a.1
+      ]
         where
-          visited : List (Member S × Path)
-          visited = r.searched.visited
-
           found_out : (n : Member S × Path) → Contains r.found n → Contains out n
           found_out n there = subst (λ l. Contains l n) (sym r.both) (Contains-append_left r.found r.made n there)
 
@@ -248,60 +249,97 @@ module _ (observes : Call → Bool) (functions : ℤ → Name → Bool) (h : Lis
               (taken_to members r.made out (subst (λ q. IsMade (λ x. Contains x.0.placed (q, reply)) (rest_of observes pending q) members r.made) o_of r.taken)
               (λ n within. subst (λ l. Contains l n) (sym r.both) (Contains-append_right r.found r.made n within)) k.0 k.1)
 
-          begun : (m : Member S) → Contains (map (λ k. k.0) members) m → ((other : Reply) → Contains m.placed (event.process, other) → ⊥) → (n : Member S) × Contains (map (λ k. k.0) visited) n × Dominates observes h n m
-          begun m there absent =
-              let k = from_map (λ (x : Member S × Path). x.0) members m there in
-              let free = subst (λ q. IsAbsent q k.0.0.placed) (sym o_of) (subst (λ (x : Member S). IsAbsent event.process x.placed) (sym k.2) (absent_from event.process m.placed absent)) in (
-                k.0.0,
-                in_map (λ (x : Member S × Path). x.0) visited k.0 (r.searched.begins k.0 (r.begun.complete k.0 k.1 free)),
-                subst (Dominates observes h k.0.0) k.2 (dominates_itself observes h k.0.0 (rising k.0 k.1)),
-              )
-
           own_call : (b : Bool) → observes o.call ≡ b → (at : ℕ) (key : ℤ) (call : Call) → IsOpen h at event.process key call → observes call ≡ b
           own_call b e at key call is = ap observes (same_call at key call is) ∙ e
 
-          answered : observes o.call ≡ true → (m : Member S) → Contains (map (λ k. k.0) visited) m
-              → ((n : Member S) × Contains (map (λ k. k.0) out) n × Dominates observes (with_event h event) n m)
-              ⊎ ((IsOnOffer m (event.process, reply) → ⊥) × (IsGiven step h m.state (event.process, reply) → ⊥) × IsSearched step observes h event.process (map (λ k. k.0) visited) m)
-          answered observer m there =
-              let k = from_map (λ (x : Member S × Path). x.0) visited m there in
-              subst (λ (x : Member S). ((n : Member S) × Contains (map (λ k. k.0) out) n × Dominates observes (with_event h event) n x)
-              ⊎ ((IsOnOffer x (event.process, reply) → ⊥) × (IsGiven step h x.state (event.process, reply) → ⊥) × IsSearched step observes h event.process (map (λ k. k.0) visited) x)) k.2
-              (elim (r.searched.each k.0 k.1) [
-                | inl done ↦ inl (
-                  done.1.0,
-                  in_map (λ (x : Member S × Path). x.0) out done.1 (found_out done.1 done.2),
-                  subst (λ (x : Member S). Dominates observes (with_event h event) x k.0.0) (sym done.3)
-                      (copy_dominates functions (with_event h event) pending opened unique alternates observes k.0 (visited_rising k.0 k.1)),
-                )
-                | inr p ↦ inr (never_offered k.0 (p.0.never observer), never_given k.0 (p.0.never observer), searched_to visited visited_rising k.0.0 p.1)
-              ])
-
-          passed : observes o.call ≡ false → (k : Member S × Path) → Contains visited k → IsPassed step observes o reply pending r.found k × IsSearchedIn step observes pending visited k.0
-          passed update k there = elim (r.searched.each k there) [
-            | inl done ↦ absurd (true≢false (sym done.0 ∙ update))
-            | inr p ↦ p
-          ]
-
-          searched : observes o.call ≡ false → (m : Member S) → Contains (map (λ k. k.0) visited) m → IsSearched step observes h event.process (map (λ k. k.0) visited) m
-          searched update m there =
-              let k = from_map (λ (x : Member S × Path). x.0) visited m there in
-              subst (IsSearched step observes h event.process (map (λ x. x.0) visited)) k.2 (searched_to visited visited_rising k.0.0 (passed update k.0 k.1).1)
-
-          returns : observes o.call ≡ false → (m : Member S) → Contains (map (λ k. k.0) visited) m → (d : S × List (ℕ × Reply)) (u : IsUpdate step observes h (m.state, m.placed) d) → u.1.process ≡ event.process → u.0.reply ≡ reply
-              → (n : Member S) × Contains (map (λ k. k.0) out) n × DominatesAt observes (with_event h event) n d.0 m.placed (λ x. IsOnOffer m x ⊎ IsGiven step h m.state x)
-          returns update m there =
-              let k = from_map (λ (x : Member S × Path). x.0) visited m there in
-              subst (λ (x : Member S). (d : S × List (ℕ × Reply)) (u : IsUpdate step observes h (x.state, x.placed) d) → u.1.process ≡ event.process → u.0.reply ≡ reply
-              → (n : Member S) × Contains (map (λ k. k.0) out) n × DominatesAt observes (with_event h event) n d.0 x.placed (λ y. IsOnOffer x y ⊎ IsGiven step h x.state y)) k.2
-              (λ d u process same.
+          -- what an update makes of a member at once
+          returned : observes o.call ≡ false → (k : Member S × Path) → IsPassed step observes o reply pending r.found k → (d : S × List (ℕ × Reply)) (u : IsUpdate step observes h (k.0.state, k.0.placed) d) → u.1.process ≡ event.process
+              → u.0.reply ≡ reply → (n : Member S) × Contains (map (λ k. k.0) out) n × DominatesAt observes (with_event h event) n d.0 k.0.placed (λ y. IsOnOffer k.0 y ⊎ IsGiven step h k.0.state y)
+          returned update k passed d u process same =
               let placing = u.1 in
               let call = same_call u.0.at placing.key placing.call (subst (λ q. IsOpen h u.0.at q placing.key placing.call) process placing.is_open) in
-              let found = (passed update k.0 k.1).0.returns update d.0 (subst (λ a. step k.0.0.state a d.0 reply) call (subst (λ a. step k.0.0.state placing.call d.0 a) same placing.steps)) in
-              (found.0.0, in_map (λ (x : Member S × Path). x.0) out found.0 (found_out found.0 found.1), returned_to k.0.0 found.0.0 d (found_rising found.0 found.1) found.2))
+              let found = passed.returns update d.0 (subst (λ a. step k.0.state a d.0 reply) call (subst (λ a. step k.0.state placing.call d.0 a) same placing.steps)) in
+              (found.0.0, in_map (λ (x : Member S × Path). x.0) out found.0 (found_out found.0 found.1), returned_to k.0 found.0.0 d (found_rising found.0 found.1) found.2)
 
-          by : (b : Bool) → observes o.call ≡ b → IsComplete begin step observes (with_event h event) (map (λ k. k.0) out)
-          by true e =
-              by_observer observes functions h event name reply body well_formed (own_call true e) (map (λ k. k.0) members) (map (λ k. k.0) visited) (map (λ k. k.0) out) taken begun (answered e) complete
-          by false e =
-              by_update observes functions h event name reply body well_formed (own_call false e) (map (λ k. k.0) members) (map (λ k. k.0) visited) (map (λ k. k.0) out) taken begun (searched e) (returns e) complete
+          -- where the operation goes ahead of all others
+          at_once : GoesAhead step observes o pending → IsMadeAtOnce step observes o reply pending nodes r.starts r.found → IsComplete begin step observes (with_event h event) (map (λ k. k.0) out)
+          at_once ahead made =
+              by_commuting observes functions h event name reply body well_formed (own_call false ahead.update)
+              (λ at q key call is. let t = open_pending (with_event h event) pending opened at q key call is in ap observes (sym t.4) ∙ (beside t.0 t.1).0)
+              (λ at other_at q key other_key call other is other_is.
+              let t = open_pending (with_event h event) pending opened other_at q other_key other other_is in
+              subst (λ a. GoesFirst step a other) (sym (same_call at key call is)) (subst (GoesFirst step o.call) t.4 (beside t.0 t.1).1))
+              (map (λ k. k.0) members) (map (λ k. k.0) out) taken emitted complete
+            where
+              beside : (t : Open) → Contains pending t → (observes t.call ≡ false) × GoesFirst step o.call t.call
+              beside t there = All-contains (λ (p : Open). (observes p.call ≡ false) × GoesFirst step o.call p.call) pending t ahead.beside there
+
+              emitted : (m : Member S) → Contains (map (λ k. k.0) members) m → ((other : Reply) → Contains m.placed (event.process, other) → ⊥) → (d : S × List (ℕ × Reply)) (u : IsUpdate step observes h (m.state, m.placed) d) → u.1.process ≡ event.process
+                  → u.0.reply ≡ reply → (n : Member S) × Contains (map (λ k. k.0) out) n × DominatesAt observes (with_event h event) n d.0 m.placed (λ x. IsOnOffer m x ⊎ IsGiven step h m.state x)
+              emitted m there absent =
+                  let k = from_map (λ (x : Member S × Path). x.0) members m there in
+                  let free = subst (λ q. IsAbsent q k.0.0.placed) (sym o_of) (subst (λ (x : Member S). IsAbsent event.process x.placed) (sym k.2) (absent_from event.process m.placed absent)) in
+                  subst (λ (x : Member S). (d : S × List (ℕ × Reply)) (u : IsUpdate step observes h (x.state, x.placed) d) → u.1.process ≡ event.process → u.0.reply ≡ reply
+                  → (n : Member S) × Contains (map (λ k. k.0) out) n × DominatesAt observes (with_event h event) n d.0 x.placed (λ y. IsOnOffer x y ⊎ IsGiven step h x.state y)) k.2
+                  (returned ahead.update k.0 (made.each k.0 (r.begun.complete k.0 k.1 free)))
+
+          -- where they are searched for
+          by_search : IsSearchOf step observes o reply pending nodes r.starts r.found → IsComplete begin step observes (with_event h event) (map (λ k. k.0) out)
+          by_search s = by (observes o.call) refl
+            where
+              visited : List (Member S × Path)
+              visited = s.visited
+
+              visited_rising : (m : Member S × Path) → Contains visited m → IsRising m.0.placed
+              visited_rising m there = reached_rising m (s.reached m there)
+
+              begun : (m : Member S) → Contains (map (λ k. k.0) members) m → ((other : Reply) → Contains m.placed (event.process, other) → ⊥) → (n : Member S) × Contains (map (λ k. k.0) visited) n × Dominates observes h n m
+              begun m there absent =
+                  let k = from_map (λ (x : Member S × Path). x.0) members m there in
+                  let free = subst (λ q. IsAbsent q k.0.0.placed) (sym o_of) (subst (λ (x : Member S). IsAbsent event.process x.placed) (sym k.2) (absent_from event.process m.placed absent)) in (
+                    k.0.0,
+                    in_map (λ (x : Member S × Path). x.0) visited k.0 (s.begins k.0 (r.begun.complete k.0 k.1 free)),
+                    subst (Dominates observes h k.0.0) k.2 (dominates_itself observes h k.0.0 (rising k.0 k.1)),
+                  )
+
+              answered : observes o.call ≡ true → (m : Member S) → Contains (map (λ k. k.0) visited) m
+                  → ((n : Member S) × Contains (map (λ k. k.0) out) n × Dominates observes (with_event h event) n m)
+                  ⊎ ((IsOnOffer m (event.process, reply) → ⊥) × (IsGiven step h m.state (event.process, reply) → ⊥) × IsSearched step observes h event.process (map (λ k. k.0) visited) m)
+              answered observer m there =
+                  let k = from_map (λ (x : Member S × Path). x.0) visited m there in
+                  subst (λ (x : Member S). ((n : Member S) × Contains (map (λ k. k.0) out) n × Dominates observes (with_event h event) n x)
+                  ⊎ ((IsOnOffer x (event.process, reply) → ⊥) × (IsGiven step h x.state (event.process, reply) → ⊥) × IsSearched step observes h event.process (map (λ k. k.0) visited) x)) k.2
+                  (elim (s.each k.0 k.1) [
+                    | inl done ↦ inl (
+                      done.1.0,
+                      in_map (λ (x : Member S × Path). x.0) out done.1 (found_out done.1 done.2),
+                      subst (λ (x : Member S). Dominates observes (with_event h event) x k.0.0) (sym done.3)
+                          (copy_dominates functions (with_event h event) pending opened unique alternates observes k.0 (visited_rising k.0 k.1)),
+                    )
+                    | inr p ↦ inr (never_offered k.0 (p.0.never observer), never_given k.0 (p.0.never observer), searched_to visited visited_rising k.0.0 p.1)
+                  ])
+
+              passed : observes o.call ≡ false → (k : Member S × Path) → Contains visited k → IsPassed step observes o reply pending r.found k × IsSearchedIn step observes pending visited k.0
+              passed update k there = elim (s.each k there) [
+                | inl done ↦ absurd (true≢false (sym done.0 ∙ update))
+                | inr p ↦ p
+              ]
+
+              searched : observes o.call ≡ false → (m : Member S) → Contains (map (λ k. k.0) visited) m → IsSearched step observes h event.process (map (λ k. k.0) visited) m
+              searched update m there =
+                  let k = from_map (λ (x : Member S × Path). x.0) visited m there in
+                  subst (IsSearched step observes h event.process (map (λ x. x.0) visited)) k.2 (searched_to visited visited_rising k.0.0 (passed update k.0 k.1).1)
+
+              returns : observes o.call ≡ false → (m : Member S) → Contains (map (λ k. k.0) visited) m → (d : S × List (ℕ × Reply)) (u : IsUpdate step observes h (m.state, m.placed) d) → u.1.process ≡ event.process → u.0.reply ≡ reply
+                  → (n : Member S) × Contains (map (λ k. k.0) out) n × DominatesAt observes (with_event h event) n d.0 m.placed (λ x. IsOnOffer m x ⊎ IsGiven step h m.state x)
+              returns update m there =
+                  let k = from_map (λ (x : Member S × Path). x.0) visited m there in
+                  subst (λ (x : Member S). (d : S × List (ℕ × Reply)) (u : IsUpdate step observes h (x.state, x.placed) d) → u.1.process ≡ event.process → u.0.reply ≡ reply
+                  → (n : Member S) × Contains (map (λ k. k.0) out) n × DominatesAt observes (with_event h event) n d.0 x.placed (λ y. IsOnOffer x y ⊎ IsGiven step h x.state y)) k.2
+                  (returned update k.0 (passed update k.0 k.1).0)
+
+              by : (b : Bool) → observes o.call ≡ b → IsComplete begin step observes (with_event h event) (map (λ k. k.0) out)
+              by true e =
+                  by_observer observes functions h event name reply body well_formed (own_call true e) (map (λ k. k.0) members) (map (λ k. k.0) visited) (map (λ k. k.0) out) taken begun (answered e) complete
+              by false e =
+                  by_update observes functions h event name reply body well_formed (own_call false e) (map (λ k. k.0) members) (map (λ k. k.0) visited) (map (λ k. k.0) out) taken begun (searched e) (returns e) complete

@@ -14,6 +14,12 @@ tried_more a b most m n k within s t =
     let q = t.tries in
     record { steps = t.steps ∙ s.steps; scans = t.scans ∙ s.scans; tries = omega arith }
 
+-- no more than a number, so no more than a greater one
+pub tried_up : (a b : ℕ) (m n : Meter) → a ≤ b → IsTriedAtMost a m n → IsTriedAtMost b m n
+tried_up a b m n within s =
+    let p = s.tries in
+    record { steps = s.steps; scans = s.scans; tries = omega arith }
+
 -- one turn more, of those that are worked off
 pub tried_turn : (at most : ℕ) (m n k : Meter) → IsTriedAtMost (at * most) m n → IsTriedAtMost most n k → IsTriedAtMost ((at + 1) * most) m k
 tried_turn at most m n k s t =

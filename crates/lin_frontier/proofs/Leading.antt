@@ -37,7 +37,7 @@ module _ {S : Type 0} (step : S → Call → S → Reply → Type 0) (observes :
   Between x = IsOffered step observes h (IsOnOffer n) (n.state, n.placed) (m.state, leads.placed) leads.way x ⊎ IsGiven step h m.state x
 
   -- what meets a configuration from the member meets it from the one that leads to it
-  meets_from : (t : S) (q : List (ℕ × Reply)) → Meets step observes h (m.state, m.placed) (IsOnOffer m) t q → Meets step observes h (n.state, n.placed) (IsOnOffer n) t q
+  pub meets_from : (t : S) (q : List (ℕ × Reply)) → Meets step observes h (m.state, m.placed) (IsOnOffer m) t q → Meets step observes h (n.state, n.placed) (IsOnOffer n) t q
   meets_from t q is = record {
     placed = f.placed;
     way = after step observes h (IsOnOffer n) (n.state, n.placed) (m.state, leads.placed) leads.way (t, f.placed) f.way';

@@ -37,12 +37,14 @@ pub mod Joining
 pub mod Putting
 pub mod Visiting
 pub mod Completing
+pub mod Ahead
 pub mod Trailing
 pub mod Sounding
 pub mod ReadReturned
 pub mod ReadEarly
 pub mod Awaiting
 pub mod Leading
+pub mod Commuting
 pub mod Making
 pub mod Knowing
 pub mod Masking

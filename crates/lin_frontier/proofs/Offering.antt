@@ -1,7 +1,10 @@
 -- What is added to offers: the replies of a list of steps, and those of one operation after the other.
-use Rattle.std.proofs.Common.{◌≡◌, ℕ, ◌+◌, ◌<◌, ◌≤◌, List, [], ◌∷◌, ◌++◌, length, Contains, inl, inr, sym, ap, subst, arith, get_or, take}
+use Rattle.std.proofs.Common.{◌≡◌, ℕ, ◌+◌, ◌<◌, ◌≤◌, List, [], ◌∷◌, ◌++◌, length, Contains, inl, inr, sym, ap, subst, arith, get_or, take, Option, Some, None, IfSome, OnOk, true, true≢false}
 use Rattle.std.proofs.lemmas.List.{take_all, take_more}
 use Rattle.std.proofs.lemmas.List.Elements.{All-contains, Contains-push, Contains-push_cases, Contains-append_left}
+use Rattle.std.specs.Option.{is_some}
+use Rattle.std.specs.declared.result.Result.{Result}
+use Rattle.std.specs.declared.result.Result.TheVariants.{Ok, Err}
 use Rattle.lin_history.specs.declared.calls.Call.{Call}
 use Rattle.lin_history.specs.declared.calls.Reply.{Reply}
 use Rattle.lin_frontier.specs.declared.pending.Open.{Open}
@@ -15,6 +18,27 @@ offering_nothing Q round now never = record { kept = λ x there. there; sound = 
 pub offering_empty : (Q : ℕ × Reply → Type 0) (round : ℕ) (old now : List (ℕ × (ℕ × Reply))) → now ≡ [] → ((x : ℕ × (ℕ × Reply)) → Contains old x → ⊥) → ((x : ℕ × Reply) → Q x → ⊥) → IsOffering Q round old now
 offering_empty Q round old now empty none never =
     subst (IsOffering Q round old) (sym empty) (record { kept = λ x there. absurd (none x there); sound = λ x there. absurd (let inside = there.1 in omega arith); complete = λ x q. absurd (never x q) })
+
+-- where it is on offer already
+pub offering_there : (pair : ℕ × Reply) (round : ℕ) (now : List (ℕ × (ℕ × Reply))) (found : Option ℕ) → is_some found ≡ true → IfSome found (λ k. Contains now (k, pair)) → IsOffering (λ x. x ≡ pair) round now now
+offering_there pair round now None some there = absurd (true≢false (sym some))
+offering_there pair round now (Some k) some there = record { kept = λ x here. here; sound = λ x here. inl here; complete = λ x same. (k, subst (λ y. Contains now (k, y)) (sym same) there) }
+
+-- where it is put last
+pub offering_last : (pair : ℕ × Reply) (round : ℕ) (old now : List (ℕ × (ℕ × Reply))) → now ≡ old ++ (round, pair) ∷ [] → IsOffering (λ x. x ≡ pair) round old now
+offering_last pair round old now put = subst (IsOffering (λ x. x ≡ pair) round old) (sym put) (record {
+  kept = λ x there. Contains-append_left old ((round, pair) ∷ []) x there;
+  sound = λ x there. elim (Contains-push_cases old (round, pair) x there) [
+    | inl before ↦ inl before
+    | inr same ↦ inr (sym (ap (λ (y : ℕ × (ℕ × Reply)). y.0) same), sym (ap (λ (y : ℕ × (ℕ × Reply)). y.1) same))
+  ];
+  complete = λ x same. (round, subst (λ y. Contains (old ++ (round, pair) ∷ []) (round, y)) (sym same) (Contains-push old (round, pair)));
+})
+
+-- and that where the call that puts it there may be refused
+pub offering_put : {X E : Type 0} (r : Result X E) (pair : ℕ × Reply) (round : ℕ) (old now : List (ℕ × (ℕ × Reply))) → OnOk r (now ≡ old ++ (round, pair) ∷ []) → OnOk r (IsOffering (λ x. x ≡ pair) round old now)
+offering_put (Ok x) pair round old now put = offering_last pair round old now put
+offering_put (Err e) pair round old now put = put
 
 -- of one of the operations
 abbrev pub IsOver : {A X : Type 0} → (A → X → Type 0) → List A → X → Type 0

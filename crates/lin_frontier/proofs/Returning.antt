@@ -41,10 +41,10 @@ module _ {S : Type 0} (start : S) (step : S → Call → S → Reply → Type 0)
 
   module _ {c : S × List (ℕ × Reply)} {wider : List (ℕ × Reply)} (found : IsCovered step observes h members (c.0, wider)) (was : IsAdded event.process reply c.1 wider) where
     -- without the pair of the process
-    own : IsExchanged found.exchange c.1 (without event.process found.placed) × IsAdded event.process reply (without event.process found.placed) found.placed
+    pub own : IsExchanged found.exchange c.1 (without event.process found.placed) × IsAdded event.process reply (without event.process found.placed) found.placed
     own = exchanged_without found.exchange event.process reply c.1 wider found.placed (fixed found.exchange event.process not_crashed) found.exchanged was
 
-    there_too : (n : Member S) × Contains others n × LeadsToCover step observes (with_event h event) n (c.0, without event.process found.placed) → IsCovered step observes (with_event h event) others c
+    pub there_too : (n : Member S) × Contains others n × LeadsToCover step observes (with_event h event) n (c.0, without event.process found.placed) → IsCovered step observes (with_event h event) others c
     there_too n = record {
       exchange = then' found.exchange;
       placed = without event.process found.placed;

@@ -8,6 +8,7 @@ use Rattle.lin_history.specs.declared.events.Body.TheVariants.{Invoke, Ok, Fail,
 use Rattle.lin_history.specs.declared.events.Event.{Event}
 use Rattle.lin_history.specs.Operations.{IsCrashed, IsOpen}
 use Rattle.lin_history.specs.WellFormed.{IsWellFormed, Completes}
+use Rattle.lin_objects.specs.Commuting.{GoesFirst}
 use Rattle.lin_objects.specs.Observing.{IsObserving}
 use Rattle.lin_order.specs.declared.placed.Placed.{Placed}
 use Rattle.lin_order.specs.ConfigurationLaws.{with_event}
@@ -133,6 +134,20 @@ UpdateSearchLaw {S} start step = (observes : Call → Bool) (functions : ℤ →
     → ((m : Member S) → Contains visited m → IsSearched step observes h event.process visited m)
     → ((m : Member S) → Contains visited m → (d : S × List (ℕ × Reply)) (u : IsUpdate step observes h (m.state, m.placed) d) → u.1.process ≡ event.process → u.0.reply ≡ reply
     → (n : Member S) × Contains others n × DominatesAt observes (with_event h event) n d.0 m.placed (λ x. IsOnOffer m x ⊎ IsGiven step h m.state x))
+    → IsComplete start step observes h members → IsComplete start step observes (with_event h event) others
+
+-- after the ok of an update that commutes with all that is open beside it, and where nobody observes: members that placed it with this reply,
+-- without it; and of the others what placing it with the reply makes of each, without it, is held. Nothing else is searched: what could be placed
+-- ahead of it can be placed behind it
+abbrev pub CommutingOkLaw : {S : Type 0} → S → (S → Call → S → Reply → Type 0) → Type 0
+CommutingOkLaw {S} start step = (observes : Call → Bool) (functions : ℤ → Name → Bool) (h : List Event) (event : Event) (name : Name) (reply : Reply) → event.body ≡ Ok name reply
+    → IsWellFormed functions (with_event h event) → ((at : ℕ) (key : ℤ) (call : Call) → IsOpen h at event.process key call → observes call ≡ false)
+    → ((at process : ℕ) (key : ℤ) (call : Call) → IsOpen (with_event h event) at process key call → observes call ≡ false)
+    → ((at other_at process : ℕ) (key other_key : ℤ) (call other : Call) → IsOpen h at event.process key call → IsOpen (with_event h event) other_at process other_key other → GoesFirst step call other)
+    → (members others : List (Member S))
+    → ((m : Member S) → Contains members m → IsTaken observes (with_event h event) event.process reply others m)
+    → ((m : Member S) → Contains members m → ((other : Reply) → Contains m.placed (event.process, other) → ⊥) → (d : S × List (ℕ × Reply)) (u : IsUpdate step observes h (m.state, m.placed) d)
+    → u.1.process ≡ event.process → u.0.reply ≡ reply → (n : Member S) × Contains others n × DominatesAt observes (with_event h event) n d.0 m.placed (λ x. IsOnOffer m x ⊎ IsGiven step h m.state x))
     → IsComplete start step observes h members → IsComplete start step observes (with_event h event) others
 
 -- what a search makes of a member by an update dominates what the update comes to, but for what is on offer to a process

@@ -7,6 +7,7 @@ use Rattle.lin_history.specs.declared.calls.Reply.{Reply}
 use Rattle.lin_history.specs.declared.events.Body.{Body}
 use Rattle.lin_history.specs.declared.events.Body.TheVariants.{Invoke, Ok, Fail, Info}
 use Rattle.lin_history.specs.declared.events.Event.{Event}
+use Rattle.lin_objects.specs.Commuting.{GoesFirst}
 use Rattle.lin_order.specs.declared.placed.Placed.{Placed}
 use Rattle.lin_frontier.specs.declared.members.Path.{Path}
 use Rattle.lin_frontier.specs.declared.pending.Open.{Open}
@@ -201,6 +202,21 @@ pub record IsSearchOf {S : Type 0} (step : S → Call → S → Reply → Type 0
   pub each : (m : Member S × Path) → Contains visited m → IsDone observes operation pending out m.0 ⊎ (IsPassed step observes operation reply pending out m × IsSearchedIn step observes pending visited m.0)
   pub sound : (n : Member S × Path) → Contains out n → (m : Member S × Path) × IsReached step observes pending nodes starts m × IsCompleted step observes operation reply pending nodes m n
 
+-- the operation can be taken ahead of all that are open beside it: it is no observer, none of them is, and it commutes with each
+pub record GoesAhead {S : Type 0} (step : S → Call → S → Reply → Type 0) (observes : Call → Bool) (operation : Open) (pending : List Open) : Type 0 where
+  pub update : observes operation.call ≡ false
+  pub beside : All (λ o. (observes o.call ≡ false) × GoesFirst step operation.call o.call) pending
+
+-- what the operation, an update, makes of these members with the reply, without any other update ahead of it
+pub record IsMadeAtOnce {S : Type 0} (step : S → Call → S → Reply → Type 0) (observes : Call → Bool) (operation : Open) (reply : Reply) (pending : List Open) (nodes : List (ℕ × (Placed × Option ℕ))) (starts out : List (Member S × Path)) : Type 0 where
+  pub each : (m : Member S × Path) → Contains starts m → IsPassed step observes operation reply pending out m
+  pub sound : (n : Member S × Path) → Contains out n → (m : Member S × Path) × Contains starts m × IsCompleted step observes operation reply pending nodes m n
+
+-- found at once, where the operation goes ahead, or by a search
+abbrev pub IsFoundFrom : {S : Type 0} → (S → Call → S → Reply → Type 0) → (Call → Bool) → Open → Reply → List Open → List (ℕ × (Placed × Option ℕ)) → List (Member S × Path) → List (Member S × Path) → Type 0
+IsFoundFrom step observes operation reply pending nodes starts out =
+    IsSearchOf step observes operation reply pending nodes starts out ⊎ (GoesAhead step observes operation pending × IsMadeAtOnce step observes operation reply pending nodes starts out)
+
 -- the visited members with those that no visited one dominates, each with a round more
 pub record IsVisiting {S : Type 0} (observes : Call → Bool) (pending : List Open) (next : List ((S × List (ℕ × Reply)) × Placed)) (offers : List (ℕ × (ℕ × Reply))) (path : Path) (nodes : List (ℕ × (Placed × Option ℕ))) (old now : List (Member S × Path)) : Type 0 where
   pub added : List (Member S × Path)
@@ -242,12 +258,12 @@ rest_of observes pending process m = (record { state = m.0.state; placed = witho
 abbrev pub IsMadeOne : {B : Type 0} → Type 0 → B → List B → List B → Type 0
 IsMadeOne P y old now = (P × (now ≡ old ++ y ∷ [])) ⊎ ((P → ⊥) × (now ≡ old))
 
--- what an ok makes of members: those that placed the operation with the reply, without it, and what a search for the reply finds from the others
+-- what an ok makes of members: those that placed the operation with the reply, without it, and what is found for the reply from the others
 pub record IsReturnOf {S : Type 0} (step : S → Call → S → Reply → Type 0) (observes : Call → Bool) (operation : Open) (reply : Reply) (pending : List Open) (nodes : List (ℕ × (Placed × Option ℕ))) (members out : List (Member S × Path)) : Type 0 where
   pub starts : List (Member S × Path)
   pub begun : IsMade (λ m. IsAbsent operation.process m.0.placed) (λ m. m) members starts
   pub found : List (Member S × Path)
-  pub searched : IsSearchOf step observes operation reply pending nodes starts found
+  pub searched : IsFoundFrom step observes operation reply pending nodes starts found
   pub made : List (Member S × Path)
   pub taken : IsMade (λ m. Contains m.0.placed (operation.process, reply)) (rest_of observes pending operation.process) members made
   pub both : out ≡ found ++ made

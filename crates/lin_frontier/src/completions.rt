@@ -5,7 +5,8 @@ ghost use Rattle.lin_frontier.specs.Members.{Member as MemberOf};
 ghost use Rattle.lin_frontier.specs.declared.members.Path.{Path as PathOf};
 ghost use Rattle.lin_frontier.specs.Nodes.{IsGrown};
 ghost use Rattle.lin_frontier.specs.Placing.{IsTried};
-ghost use Rattle.lin_frontier.specs.Searching.{AreBehind, AreUpdates, PlacesIfUpdate, CanTake, IsVisiting, IsFinding, IsDone, IsPassed, IsSearchOf};
+ghost use Rattle.lin_objects.specs.Commuting.{GoesFirst};
+ghost use Rattle.lin_frontier.specs.Searching.{AreBehind, AreUpdates, PlacesIfUpdate, CanTake, GoesAhead, IsVisiting, IsFinding, IsFoundFrom, IsDone, IsMadeAtOnce, IsPassed, IsSearchOf};
 ghost use Rattle.lin_frontier.specs.Walks.{IsTriedAtMost};
 
 use crate::configs::Config;
@@ -379,9 +380,78 @@ impl<'a, O: SeqObject> Completion<'a, O> {
         Ok(())
     }
 
+    /// Whether the operation can be taken ahead of this one: that one is no observer, and they commute.
+    fn goes_ahead_of(&self, other: &Open) -> bool
+        ensures { IsTrue result → (O.observing self.now.object.now other.now.call ≡ false) × GoesFirst (O.step self.now.object.now) self.now.operation.now.call other.now.call }
+    {
+        !self.object.observes(&other.call)
+            && self.object.commutes(&self.operation.call, &other.call)
+    }
+
+    /// Whether the operation can be taken ahead of all that are open beside it.
+    fn goes_ahead(&self) -> bool
+        ensures { IsTrue result → GoesAhead (O.step self.now.object.now) (O.observing self.now.object.now) self.now.operation.now self.now.pending.now }
+    {
+        if self.object.observes(&self.operation.call) {
+            return false;
+        }
+        for other in self.pending.as_slice() {
+            if !self.goes_ahead_of(other) {
+                return false;
+            }
+        }
+        true
+    }
+
+    /// What the operation, an update, makes of the members with its reply, with no other update placed ahead of it.
+    fn at_once(
+        &self,
+        alloc: Global,
+        starts: &[&Member<O::State>],
+        room: usize,
+        nodes: &mut RoundNodes,
+        meter: &mut Meter,
+        scratch: &mut Scratch<O>,
+    ) -> Result<Vec<Member<O::State>>, OutOfMemory>
+        requires { O.observing self.now.object.now self.now.operation.now.call ≡ false }
+        ensures grown { IsGrown nodes.old nodes.new }
+        ensures made { IfOk result (λ out. IsMadeAtOnce (O.step self.now.object.now) (O.observing self.now.object.now) self.now.operation.now self.now.reply.now self.now.pending.now nodes.new (map (λ m. m.now) starts.now) out.items) }
+        ensures tried { IsTriedAtMost (length starts.now * (2 * length self.now.pending.now + 1)) meter.old meter.new }
+    {
+        let mut out = scratch.found(room)?;
+        let mut steps = scratch.steps();
+        for start in starts {
+            self.update(alloc, start, &mut out, nodes, &mut steps, meter)?;
+        }
+        scratch.keep_steps(steps);
+        Ok(out)
+    }
+
+    /// What the operation makes of the members with its reply: at once where it goes ahead of all others, else by a search.
+    pub fn found_from(
+        &self,
+        alloc: Global,
+        starts: &[&Member<O::State>],
+        room: usize,
+        limit: usize,
+        nodes: &mut RoundNodes,
+        meter: &mut Meter,
+        scratch: &mut Scratch<O>,
+    ) -> Result<Option<Vec<Member<O::State>>>, OutOfMemory>
+        ensures grown { IsGrown nodes.old nodes.new }
+        ensures found { IfOk result (λ found. IfSome found (λ out. IsFoundFrom (O.step self.now.object.now) (O.observing self.now.object.now) self.now.operation.now self.now.reply.now self.now.pending.now nodes.new (map (λ m. m.now) starts.now) out.items)) }
+        ensures tried { IsTriedAtMost (limit * (2 * length self.now.pending.now + 1)) meter.old meter.new }
+    {
+        if starts.len() <= limit && self.goes_ahead() {
+            let found = self.at_once(alloc, starts, room, nodes, meter, scratch)?;
+            return Ok(Some(found));
+        }
+        self.search(alloc, starts, room, limit, nodes, meter, scratch)
+    }
+
     /// What the operation makes of the members with its reply, on all ways from them by placing updates; `None` where
     /// more members than the limit come up. `room` is for how many of them memory is taken at first.
-    pub fn search(
+    fn search(
         &self,
         alloc: Global,
         starts: &[&Member<O::State>],

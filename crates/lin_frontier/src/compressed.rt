@@ -204,9 +204,9 @@ fn after_ok<O: SeqObject>(
 {
     let process = completion.operation.process;
     let starts = absent_ones(alloc, members, process)?;
-    // What the search finds, and then the members that placed the operation.
+    // What is found, and then the members that placed the operation.
     let room = members.len().saturating_add(3);
-    let Some(mut found) = completion.search(alloc, &starts, room, limit, nodes, meter, scratch)?
+    let Some(mut found) = completion.found_from(alloc, &starts, room, limit, nodes, meter, scratch)?
     else {
         return Ok(None);
     };

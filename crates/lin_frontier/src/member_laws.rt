@@ -1,5 +1,5 @@
 //! Laws of the members of a compressed frontier. The functions do nothing.
-ghost use Rattle.lin_frontier.specs.MemberLaws.{CrashedLaw, DominationLaw, DroppingLaw, DropOneLaw, FailKeepsLaw, InfoKeepsLaw, InvocationKeepsLaw, LeadsOnLaw, LedToLaw, ListedLaw, ListingLaw, ListingOkLaw, ObserverSearchLaw, OffersGoLaw, PlaceLaw, SkippedLaw, SpreadingLaw, StartCompleteLaw, SuccessorLaw, ThinningLaw, TransitiveLaw, UpdateSearchLaw};
+ghost use Rattle.lin_frontier.specs.MemberLaws.{CommutingOkLaw, CrashedLaw, DominationLaw, DroppingLaw, DropOneLaw, FailKeepsLaw, InfoKeepsLaw, InvocationKeepsLaw, LeadsOnLaw, LedToLaw, ListedLaw, ListingLaw, ListingOkLaw, ObserverSearchLaw, OffersGoLaw, PlaceLaw, SkippedLaw, SpreadingLaw, StartCompleteLaw, SuccessorLaw, ThinningLaw, TransitiveLaw, UpdateSearchLaw};
 
 use lin_history::{ends_are_unique, well_formed_is_alternating};
 use lin_objects::SeqObject;
@@ -59,10 +59,11 @@ pub(crate) fn ended_offers_go<O: SeqObject>(object: &O)
     well_formed_is_alternating();
 }
 
-/// What an ok makes of a complete list of members, as a search does it.
+/// What an ok makes of a complete list of members, as a search does it, or at once where the operation goes ahead of all others.
 pub(crate) fn members_after_ok<O: SeqObject>(object: &O)
     ensures observer { ObserverSearchLaw (O.starts object.now) (O.step object.now) }
     ensures update { UpdateSearchLaw (O.starts object.now) (O.step object.now) }
+    ensures commuting { CommutingOkLaw (O.starts object.now) (O.step object.now) }
 {
     configurations_after_events(object);
     ends_are_unique();

@@ -109,6 +109,12 @@ impl<O: SeqObject> Scratch<O> {
         self.steps = steps;
     }
 
+    /// Takes the list for steps back.
+    #[inline(always)]
+    pub(crate) fn keep_steps(&mut self, steps: Vec<(O::State, Reply)>) {
+        self.steps = steps;
+    }
+
     /// Takes the list of open operations back.
     #[inline(always)]
     pub(crate) fn keep_open(&mut self, open: Vec<Open>) {

@@ -3,6 +3,7 @@ pub mod Sameness
 pub mod Replies
 pub mod Operations
 pub mod Names
+pub mod Numbers
 pub mod Table
 pub mod Fields
 pub mod Stream

@@ -66,14 +66,14 @@ impl Call {
 }
 
 impl Reply {
-    /// An equal reply on its own memory.
-    pub fn copy(&self, alloc: Global) -> Result<Reply, OutOfMemory>
+    /// An equal reply. Sets share their members, so it takes no memory.
+    pub fn copy(&self, _alloc: Global) -> Result<Reply, OutOfMemory>
         ensures { IfOk result (λ copy. copy ≡ self.now) }
     {
         match self {
             Reply::Done => Ok(Reply::Done),
             Reply::Value(value) => Ok(Reply::Value(*value)),
-            Reply::Members(members) => Ok(Reply::Members(members.copy(alloc)?)),
+            Reply::Members(members) => Ok(Reply::Members(members.copy()?)),
         }
     }
 }

@@ -22,7 +22,7 @@ pub use laws::{
     statuses_after_events, well_formed_is_alternating,
 };
 pub use meter::Meter;
-pub use numbers::{IntSet, OutOfMemory, sets};
+pub use numbers::{IntSet, Numbers, OutOfMemory, sets};
 pub use shapes::{Cause, Shape, Status};
 pub use table::{EventFault, event_of};
 

@@ -1,16 +1,19 @@
 //! Want of memory, and sets of numbers as replies hold them.
-ghost use Rattle.std.specs.Prelude.{◌≡◌, [], List, ℤ, IfOk, OnOk, OnErr, IsTrue, ◌↔◌, ◌<◌, ◌-◌, ◌<ℤ◌, true, length, slice_index_or};
+ghost use Rattle.std.specs.Prelude.{◌≡◌, [], List, ℤ, IfOk, IfSome, IfNone, OnOk, OnErr, IsTrue, ◌↔◌, ◌<◌, ◌≤◌, ◌-◌, ◌<ℤ◌, true, length, drop, slice_index_or};
+ghost use Rattle.std.specs.List.{insert};
 ghost use Rattle.std.specs.Cmp.Lexicographic.{pointwise, lists_equiv, lists_per};
 ghost use Rattle.std.specs.Cmp.{int_eq_equiv, partial_equiv_from_equiv};
 ghost use Rattle.std.specs.Ordering.{int_eq};
 ghost use Rattle.std.specs.Hash as fed;
 ghost use Rattle.std.specs.Hash.{same_Alike};
+ghost use Rattle.lin_history.specs.Numbers.{listed};
 ghost use Rattle.lin_history.specs.Sets.{IsRising, with_member, members_of, StaysRising, HasMember, AreSameSets};
 ghost use Rattle.lin_history.specs.Sameness.{numbers_Decides};
 
 use std::alloc::{AllocError, AllocFailed, Global};
 use std::hash::{Hash, Hasher};
 use std::marker::Model;
+use std::rc::Rc;
 
 /// Memory that was asked for was refused.
 #[derive(Clone, Copy, Debug, PartialEq, Eq)]
@@ -28,18 +31,127 @@ impl<T: Drop> From<AllocFailed<T>> for OutOfMemory {
     }
 }
 
+/// A list of numbers. Copies share it, and one that is changed gets a list of its own.
+#[derive(Drop)]
+pub struct Numbers {
+    /// None only where the list is empty, which takes no memory.
+    list: Option<Rc<Vec<i64>>>,
+    alloc: Global,
+}
+
+impl Model for Numbers {
+    ghost Value = { List ℤ };
+
+    ghost view = { λ a. listed a.list };
+}
+
+impl PartialEq for Numbers {
+    ghost eq = { λ v w. pointwise int_eq v w };
+
+    ghost laws = { lists_per (partial_equiv_from_equiv int_eq_equiv) };
+
+    fn eq(&self, other: &Self) -> bool {
+        self.as_slice() == other.as_slice()
+    }
+}
+
+impl Eq for Numbers {
+    ghost laws = { lists_equiv int_eq_equiv };
+}
+
+impl Hash for Numbers {
+    ghost hash_input = { λ v. fed.slice fed.i64 v };
+
+    ghost respects_eq = { (same_Alike (fed.slice fed.i64) numbers_Decides).fed };
+
+    fn hash<H: Hasher>(&self, state: &mut H) {
+        self.as_slice().hash(state);
+    }
+}
+
+impl Numbers {
+    /// No numbers.
+    pub fn new(alloc: Global) -> Self
+        ensures { result ≡ [] }
+    {
+        Numbers { list: None, alloc }
+    }
+
+    /// The numbers of the list.
+    pub fn from_vec(alloc: Global, items: Vec<i64>) -> Result<Self, OutOfMemory>
+        ensures { IfOk result (λ numbers. numbers ≡ items.items) }
+    {
+        let list = Rc::new(alloc, items)?;
+        Ok(Numbers {
+            list: Some(list),
+            alloc,
+        })
+    }
+
+    pub fn as_slice(&self) -> &[i64]
+        ensures { result.now ≡ self.now }
+    {
+        match &self.list {
+            Some(list) => list.as_slice(),
+            None => &[],
+        }
+    }
+
+    /// The same numbers.
+    pub fn copy(&self) -> Result<Numbers, OutOfMemory>
+        ensures { IfOk result (λ copy. copy ≡ self.now) }
+    {
+        let list = match &self.list {
+            Some(list) => Some(list.clone()?),
+            None => None,
+        };
+        Ok(Numbers {
+            list,
+            alloc: self.alloc,
+        })
+    }
+
+    /// Puts a number in at a place; refused, the numbers stay. In time linear in them.
+    pub fn insert(&mut self, at: usize, number: i64) -> Result<(), OutOfMemory>
+        requires { at ≤ length self.old }
+        ensures ok { OnOk result (self.new ≡ insert self.old at number) }
+        ensures err { OnErr result (self.new ≡ self.old) }
+    {
+        if let Some(list) = &mut self.list
+            && let Some(own) = Rc::get_mut(list)
+        {
+            own.insert(at, number)?;
+            return Ok(());
+        }
+        let mut own = Vec::with_capacity(self.alloc, self.as_slice().len() + 1)?;
+        own.extend_from_slice(self.as_slice())?;
+        own.insert(at, number)?;
+        self.list = Some(Rc::new(self.alloc, own)?);
+        Ok(())
+    }
+
+    /// All but the first number, in time linear in them.
+    pub fn without_first(&self) -> Result<Numbers, OutOfMemory>
+        requires { 0 < length self.now }
+        ensures { IfOk result (λ rest. rest ≡ drop 1 self.now) }
+    {
+        let rest = Vec::from_slice(self.alloc, &self.as_slice()[1..])?;
+        Numbers::from_vec(self.alloc, rest)
+    }
+}
+
 /// A set of numbers, kept as a strictly rising list.
 #[derive(Drop)]
 pub struct IntSet {
-    items: Vec<i64>,
+    numbers: Numbers,
 }
 
 impl Model for IntSet {
     ghost Value = { List ℤ };
 
-    ghost view = { λ a. a.items.items };
+    ghost view = { λ a. a.numbers };
 
-    ghost invariant = { λ a. IsRising a.items.items };
+    ghost invariant = { λ a. IsRising a.numbers };
 }
 
 impl PartialEq for IntSet {
@@ -48,7 +160,7 @@ impl PartialEq for IntSet {
     ghost laws = { lists_per (partial_equiv_from_equiv int_eq_equiv) };
 
     fn eq(&self, other: &Self) -> bool {
-        self.items.as_slice() == other.items.as_slice()
+        self.numbers == other.numbers
     }
 }
 
@@ -62,7 +174,7 @@ impl Hash for IntSet {
     ghost respects_eq = { (same_Alike (fed.slice fed.i64) numbers_Decides).fed };
 
     fn hash<H: Hasher>(&self, state: &mut H) {
-        self.items.as_slice().hash(state);
+        self.numbers.hash(state);
     }
 }
 
@@ -72,27 +184,24 @@ impl IntSet {
         ensures { result ≡ [] }
     {
         IntSet {
-            items: Vec::new(alloc),
+            numbers: Numbers::new(alloc),
         }
     }
 
     /// The set of the numbers, which are strictly rising.
-    pub fn from_rising(items: Vec<i64>) -> Self
+    pub fn from_rising(alloc: Global, items: Vec<i64>) -> Result<Self, OutOfMemory>
         requires { IsRising items.items }
-        ensures { result ≡ items.items }
+        ensures { IfOk result (λ set. set ≡ items.items) }
     {
-        IntSet { items }
+        let numbers = Numbers::from_vec(alloc, items)?;
+        Ok(IntSet { numbers })
     }
 
-    /// The set of the numbers, in any order and with repeats. Takes no memory.
-    pub fn from_members(mut items: Vec<i64>) -> Self
-        ensures { result ≡ members_of items.items }
+    /// The set of the numbers, in any order and with repeats.
+    pub fn from_members(alloc: Global, items: Vec<i64>) -> Result<Self, OutOfMemory>
+        ensures { IfOk result (λ set. set ≡ members_of items.items) }
     {
-        if !is_rising(items.as_slice()) {
-            items.sort_unstable();
-            items.dedup();
-        }
-        IntSet { items }
+        IntSet::from_rising(alloc, in_order(items))
     }
 
     /// Puts a number in; refused, the set is unchanged.
@@ -100,16 +209,9 @@ impl IntSet {
         ensures ok { OnOk result (self.new ≡ with_member member self.old) }
         ensures err { OnErr result (self.new ≡ self.old) }
     {
-        if is_above(self.items.as_slice(), member) {
-            self.items.push(member)?;
-            return Ok(());
-        }
-        match self.items.binary_search(&member) {
-            Ok(_) => Ok(()),
-            Err(at) => {
-                self.items.insert(at, member)?;
-                Ok(())
-            }
+        match place_for(self.numbers.as_slice(), member) {
+            Some(at) => self.numbers.insert(at, member),
+            None => Ok(()),
         }
     }
 
@@ -118,15 +220,42 @@ impl IntSet {
         ensures items { result.now ≡ self.now }
         ensures rising { IsRising self.now }
     {
-        self.items.as_slice()
+        self.numbers.as_slice()
     }
 
-    /// An equal set on its own memory.
-    pub fn copy(&self, alloc: Global) -> Result<IntSet, OutOfMemory>
+    /// An equal set.
+    pub fn copy(&self) -> Result<IntSet, OutOfMemory>
         ensures { IfOk result (λ copy. copy ≡ self.now) }
     {
-        let items = Vec::from_slice(alloc, self.items.as_slice())?;
-        Ok(IntSet { items })
+        let numbers = self.numbers.copy()?;
+        Ok(IntSet { numbers })
+    }
+}
+
+/// The numbers strictly rising, each once.
+fn in_order(mut items: Vec<i64>) -> Vec<i64>
+    ensures rising { IsRising result.items }
+    ensures members { result.items ≡ members_of items.items }
+{
+    if !is_rising(items.as_slice()) {
+        items.sort_unstable();
+        items.dedup();
+    }
+    items
+}
+
+/// Where a number has to be put into rising ones, unless it is there.
+fn place_for(items: &[i64], member: i64) -> Option<usize>
+    requires { IsRising items.now }
+    ensures some { IfSome result (λ at. (at ≤ length items.now) × (with_member member items.now ≡ insert items.now at member)) }
+    ensures none { IfNone result (with_member member items.now ≡ items.now) }
+{
+    if is_above(items, member) {
+        return Some(items.len());
+    }
+    match items.binary_search(&member) {
+        Ok(_) => None,
+        Err(at) => Some(at),
     }
 }
 

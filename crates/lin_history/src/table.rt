@@ -4,6 +4,7 @@ ghost use Rattle.lin_edn.specs.Value.{values_of, entries_of};
 ghost use Rattle.lin_edn.specs.View.{view, entry_view};
 ghost use Rattle.lin_history.specs.Table as table;
 ghost use Rattle.lin_history.specs.Table.{bare as bare_value, is_word as says, under, is_several, event, IsAnswer};
+ghost use Rattle.lin_history.specs.declared.calls.Reply.TheVariants.{Members};
 ghost use Rattle.lin_history.specs.Fields.{found, IsPut, IsKept, IsFields, IsReply, IsBody};
 
 use crate::calls::{Call, Name, Reply, Val};
@@ -259,6 +260,15 @@ fn integers(alloc: Global, items: &[Edn]) -> Result<Vec<i64>, OutOfMemory>
     Ok(found)
 }
 
+/// The set of the integers of a collection of integers.
+fn set_of(alloc: Global, items: &[Edn]) -> Result<IntSet, OutOfMemory>
+    requires { IsSome (table.ints_of (values_of (map view items.now))) }
+    ensures { IfOk result (λ members. table.members_in (values_of (map view items.now)) ≡ Some (Members members)) }
+{
+    let found = integers(alloc, items)?;
+    IntSet::from_members(alloc, found)
+}
+
 /// The integers of a collection as the members of a set.
 fn members_in(alloc: Global, items: &[Edn]) -> Result<Reply, EventFault>
     ensures { IsReply (table.members_in (values_of (map view items.now))) result }
@@ -266,8 +276,8 @@ fn members_in(alloc: Global, items: &[Edn]) -> Result<Reply, EventFault>
     if !are_integers(items) {
         return Err(EventFault::BadValue);
     }
-    match integers(alloc, items) {
-        Ok(found) => Ok(Reply::Members(IntSet::from_members(found))),
+    match set_of(alloc, items) {
+        Ok(members) => Ok(Reply::Members(members)),
         Err(_) => Err(EventFault::OutOfMemory),
     }
 }

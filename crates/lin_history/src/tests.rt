@@ -684,6 +684,12 @@ fn sets_copies_and_counts(rt: HostRuntime) -> Result<(), Fail> {
         set.insert(member)?;
     }
     assert_eq!(rt; set.as_slice(), [1, 2, 3].as_slice());
+    // A copy that is changed leaves the set as it is, and the other way round.
+    let mut copy = set.copy()?;
+    copy.insert(0)?;
+    set.insert(9)?;
+    assert_eq!(rt; copy.as_slice(), [0, 1, 2, 3].as_slice());
+    assert_eq!(rt; set.as_slice(), [1, 2, 3, 9].as_slice());
     let event = Event {
         process: 4,
         key: 5,

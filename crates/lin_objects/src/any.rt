@@ -2,6 +2,7 @@
 ghost use Rattle.std.specs.Prelude.{◌≡◌, ◌≢◌, true, IfOk, OnOk, Contains, AllPairs};
 ghost use Rattle.lin_history.specs.declared.calls.Reply.{Reply as ReplyOf};
 ghost use Rattle.lin_objects.specs.Steps.{start as start_of, allows as allows_of, Step};
+ghost use Rattle.lin_objects.specs.Commuting.{commutes as commutes_of, commuting_go_first};
 ghost use Rattle.lin_objects.specs.Observing.{IsObserving, observes as observes_of, observers_keep};
 ghost use Rattle.lin_objects.specs.States.{state_same};
 ghost use Rattle.lin_objects.specs.OnlySteps.{IsOnlyStep};
@@ -33,6 +34,10 @@ impl SeqObject for Any {
 
     ghost unchanged = { λ a. observers_keep a.kind };
 
+    ghost commuting = { λ a. commutes_of a.kind };
+
+    ghost swapped = { λ a. commuting_go_first a.kind };
+
     fn start(&self, alloc: Global) -> State {
         match self.kind {
             Kind::Register | Kind::CasRegister => State::Value(Val::Nil),
@@ -58,6 +63,17 @@ impl SeqObject for Any {
         match self.kind {
             Kind::Register | Kind::CasRegister => matches!(call, Call::Read),
             Kind::Fifo | Kind::Set | Kind::Mutex => false,
+        }
+    }
+
+    /// Two that add to a set, and two that read it.
+    fn commutes(&self, call: &Call, other: &Call) -> bool {
+        match self.kind {
+            Kind::Set => matches!(
+                (call, other),
+                (Call::Add(_), Call::Add(_)) | (Call::Read, Call::Read)
+            ),
+            Kind::Register | Kind::CasRegister | Kind::Fifo | Kind::Mutex => false,
         }
     }
 
@@ -95,7 +111,7 @@ fn only_step(
         Kind::Register => Ok(register_step(state, call)),
         Kind::CasRegister => Ok(cas_register_step(state, call)),
         Kind::Fifo => fifo_step(alloc, state, call),
-        Kind::Set => set_step(alloc, state, call),
+        Kind::Set => set_step(state, call),
         Kind::Mutex => Ok(mutex_step(state, call)),
     }
 }
@@ -139,12 +155,12 @@ fn fifo_step(
 {
     match (state, call) {
         (State::Queue(queue), Call::Enqueue(number)) => {
-            let next = queue.with_last(alloc, *number)?;
+            let next = queue.with_last(*number)?;
             Ok(Some((State::Queue(next), Reply::Done)))
         }
         (State::Queue(queue), Call::Dequeue) => match queue.as_slice().first() {
             Some(number) => {
-                let next = queue.without_first(alloc)?;
+                let next = queue.without_first()?;
                 Ok(Some((State::Queue(next), Reply::Value(Val::Int(*number)))))
             }
             None => Ok(Some((State::Queue(IntQueue::new(alloc)), Reply::Value(Val::Nil)))),
@@ -154,22 +170,18 @@ fn fifo_step(
 }
 
 /// A set's step.
-fn set_step(
-    alloc: Global,
-    state: &State,
-    call: &Call,
-) -> Result<Option<(State, Reply)>, OutOfMemory>
+fn set_step(state: &State, call: &Call) -> Result<Option<(State, Reply)>, OutOfMemory>
     ensures { IfOk result (IsOnlyStep Kind.Set state.now call.now) }
 {
     match (state, call) {
         (State::Members(members), Call::Add(number)) => {
-            let mut next = members.copy(alloc)?;
+            let mut next = members.copy()?;
             next.insert(*number)?;
             Ok(Some((State::Members(next), Reply::Done)))
         }
         (State::Members(members), Call::Read) => {
-            let next = members.copy(alloc)?;
-            let reply = members.copy(alloc)?;
+            let next = members.copy()?;
+            let reply = members.copy()?;
             Ok(Some((State::Members(next), Reply::Members(reply))))
         }
         _ => Ok(None),

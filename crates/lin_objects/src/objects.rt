@@ -3,6 +3,7 @@ ghost use Rattle.std.specs.Prelude.{◌≡◌, ◌≢◌, Bool, true, IfOk, OnOk
 ghost use Rattle.lin_history.specs.declared.calls.Name.{Name as NameOf};
 ghost use Rattle.lin_history.specs.declared.calls.Call.{Call as CallOf};
 ghost use Rattle.lin_history.specs.declared.calls.Reply.{Reply as ReplyOf};
+ghost use Rattle.lin_objects.specs.Commuting.{IsCommuting};
 ghost use Rattle.lin_objects.specs.Observing.{IsObserving};
 
 use lin_history::{Call, Name, OutOfMemory, Reply};
@@ -31,6 +32,12 @@ pub trait SeqObject {
     /// A call that observes leaves the state as it is.
     ghost unchanged: { (object : Self) → IsObserving (step object) (observing object) };
 
+    /// Whether the two calls are known to commute.
+    ghost commuting: { Self → CallOf → CallOf → Bool };
+
+    /// Of two calls that commute either can be taken first.
+    ghost swapped: { (object : Self) → IsCommuting (step object) (commuting object) };
+
     /// The state in which the object begins; takes no memory.
     fn start(&self, alloc: Global) -> Self::State
         ensures { result ≡ starts self.now };
@@ -44,7 +51,12 @@ pub trait SeqObject {
     fn observes(&self, call: &Call) -> bool
         ensures { result ≡ observing self.now call.now };
 
-    /// An equal state on its own memory.
+    /// Whether the two calls are known to commute: wherever the other can be taken and then the call, the call can be taken
+    /// first, with the same replies, and both lead to the same state.
+    fn commutes(&self, call: &Call, other: &Call) -> bool
+        ensures { result ≡ commuting self.now call.now other.now };
+
+    /// An equal state.
     fn copy_state(&self, alloc: Global, state: &Self::State) -> Result<Self::State, OutOfMemory>
         ensures { IfOk result (λ copy. copy ≡ state.now) };
 

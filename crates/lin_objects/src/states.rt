@@ -7,21 +7,21 @@ ghost use Rattle.std.specs.Hash as fed;
 ghost use Rattle.std.specs.Hash.{same_Alike};
 ghost use Rattle.lin_history.specs.Sameness.{numbers_Decides};
 
-use lin_history::{IntSet, OutOfMemory, Val};
+use lin_history::{IntSet, Numbers, OutOfMemory, Val};
 use std::alloc::Global;
 use std::hash::{Hash, Hasher};
 use std::marker::Model;
 
-/// Numbers that wait in a queue, the oldest first.
+/// Numbers that wait in a queue, the oldest first. Copies share them.
 #[derive(Drop)]
 pub struct IntQueue {
-    items: Vec<i64>,
+    numbers: Numbers,
 }
 
 impl Model for IntQueue {
     ghost Value = { List ℤ };
 
-    ghost view = { λ a. a.items.items };
+    ghost view = { λ a. a.numbers };
 }
 
 impl PartialEq for IntQueue {
@@ -30,7 +30,7 @@ impl PartialEq for IntQueue {
     ghost laws = { lists_per (partial_equiv_from_equiv int_eq_equiv) };
 
     fn eq(&self, other: &Self) -> bool {
-        self.items.as_slice() == other.items.as_slice()
+        self.numbers == other.numbers
     }
 }
 
@@ -44,7 +44,7 @@ impl Hash for IntQueue {
     ghost respects_eq = { (same_Alike (fed.slice fed.i64) numbers_Decides).fed };
 
     fn hash<H: Hasher>(&self, state: &mut H) {
-        self.items.as_slice().hash(state);
+        self.numbers.hash(state);
     }
 }
 
@@ -54,56 +54,49 @@ impl IntQueue {
         ensures { result ≡ [] }
     {
         IntQueue {
-            items: Vec::new(alloc),
+            numbers: Numbers::new(alloc),
         }
     }
 
     /// The queue of these numbers, the oldest first.
-    pub fn from_vec(items: Vec<i64>) -> Self
-        ensures { result ≡ items.items }
+    pub fn from_vec(alloc: Global, items: Vec<i64>) -> Result<Self, OutOfMemory>
+        ensures { IfOk result (λ queue. queue ≡ items.items) }
     {
-        IntQueue { items }
-    }
-
-    /// The numbers, the oldest first.
-    pub fn into_vec(self) -> Vec<i64>
-        ensures { result.items ≡ self }
-    {
-        self.items
+        let numbers = Numbers::from_vec(alloc, items)?;
+        Ok(IntQueue { numbers })
     }
 
     /// The numbers, the oldest first.
     pub fn as_slice(&self) -> &[i64]
         ensures { result.now ≡ self.now }
     {
-        self.items.as_slice()
+        self.numbers.as_slice()
     }
 
-    /// An equal queue on its own memory.
-    pub fn copy(&self, alloc: Global) -> Result<IntQueue, OutOfMemory>
+    /// An equal queue.
+    pub fn copy(&self) -> Result<IntQueue, OutOfMemory>
         ensures { IfOk result (λ copy. copy ≡ self.now) }
     {
-        let items = Vec::from_slice(alloc, self.items.as_slice())?;
-        Ok(IntQueue { items })
+        let numbers = self.numbers.copy()?;
+        Ok(IntQueue { numbers })
     }
 
-    /// A queue with this number behind those that wait, on its own memory.
-    pub(crate) fn with_last(&self, alloc: Global, number: i64) -> Result<IntQueue, OutOfMemory>
+    /// A queue with this number behind those that wait, in time linear in them.
+    pub(crate) fn with_last(&self, number: i64) -> Result<IntQueue, OutOfMemory>
         ensures { IfOk result (λ next. next ≡ self.now ++ number ∷ []) }
     {
-        let mut items = Vec::with_capacity(alloc, self.items.len() + 1)?;
-        items.extend_from_slice(self.items.as_slice())?;
-        items.push(number)?;
-        Ok(IntQueue { items })
+        let mut numbers = self.numbers.copy()?;
+        numbers.insert(self.as_slice().len(), number)?;
+        Ok(IntQueue { numbers })
     }
 
-    /// A queue of all but the oldest number, on its own memory.
-    pub(crate) fn without_first(&self, alloc: Global) -> Result<IntQueue, OutOfMemory>
+    /// A queue of all but the oldest number, in time linear in those that wait.
+    pub(crate) fn without_first(&self) -> Result<IntQueue, OutOfMemory>
         requires { 0 < length self.now }
         ensures { IfOk result (λ next. next ≡ drop 1 self.now) }
     {
-        let items = Vec::from_slice(alloc, &self.items.as_slice()[1..])?;
-        Ok(IntQueue { items })
+        let numbers = self.numbers.without_first()?;
+        Ok(IntQueue { numbers })
     }
 }
 
@@ -121,14 +114,14 @@ pub enum State {
 }
 
 impl State {
-    /// An equal state on its own memory, in time linear in the state.
-    pub fn copy(&self, alloc: Global) -> Result<State, OutOfMemory>
+    /// An equal state. Queues and sets share their numbers, so it takes no memory.
+    pub fn copy(&self, _alloc: Global) -> Result<State, OutOfMemory>
         ensures { IfOk result (λ copy. copy ≡ self.now) }
     {
         match self {
             State::Value(value) => Ok(State::Value(*value)),
-            State::Queue(queue) => Ok(State::Queue(queue.copy(alloc)?)),
-            State::Members(members) => Ok(State::Members(members.copy(alloc)?)),
+            State::Queue(queue) => Ok(State::Queue(queue.copy()?)),
+            State::Members(members) => Ok(State::Members(members.copy()?)),
             State::Held(held) => Ok(State::Held(*held)),
         }
     }

@@ -179,11 +179,48 @@ fn reads_of_registers_observe(rt: HostRuntime) -> Result<(), Fail> {
     Ok(())
 }
 
+/// How many ordered pairs of the calls the object says commute.
+fn commuting_pairs<O: SeqObject>(object: &O, calls: &[Call]) -> usize {
+    let mut count = 0usize;
+    for call in calls {
+        for other in calls {
+            if object.commutes(call, other) {
+                count = count.saturating_add(1);
+            }
+        }
+    }
+    count
+}
+
+#[test]
+fn calls_of_sets_commute_with_their_like(rt: HostRuntime) -> Result<(), Fail> {
+    let calls = [Call::Add(1), Call::Add(2), Call::Read];
+    let set = Any { kind: Kind::Set };
+    assert!(rt; set.commutes(&Call::Add(1), &Call::Add(2)));
+    assert!(rt; set.commutes(&Call::Read, &Call::Read));
+    assert!(rt; !set.commutes(&Call::Add(1), &Call::Read));
+    // Both adds with both, and the read with the read.
+    assert_eq!(rt; commuting_pairs(&set, &calls), 5);
+    let calls = [
+        Call::Read,
+        Call::Write(int(1)),
+        Call::Cas(int(1), int(2)),
+        Call::Enqueue(1),
+        Call::Dequeue,
+        Call::Acquire,
+        Call::Release,
+    ];
+    for kind in [Kind::Register, Kind::CasRegister, Kind::Fifo, Kind::Mutex] {
+        assert_eq!(rt; commuting_pairs(&Any { kind }, &calls), 0);
+    }
+    Ok(())
+}
+
 #[test]
 fn queues_are_made_of_vectors(rt: HostRuntime) -> Result<(), Fail> {
     let numbers = [3, 1, 2].to_vec(rt.alloc())?;
-    let queue = IntQueue::from_vec(numbers).copy(rt.alloc())?;
-    assert_eq!(rt; queue.into_vec().as_slice(), [3, 1, 2].as_slice());
+    let queue = IntQueue::from_vec(rt.alloc(), numbers)?.copy()?;
+    assert_eq!(rt; queue.as_slice(), [3, 1, 2].as_slice());
     Ok(())
 }
 

@@ -146,7 +146,7 @@ fn orders_of_the_other_kinds(rt: HostRuntime) -> Result<(), Fail> {
     members.insert(1)?;
     let both = Placed {
         at: 4,
-        reply: Reply::Members(members.copy(alloc)?),
+        reply: Reply::Members(members.copy()?),
     };
     let set = [
         invoke(0, 0, Call::Add(1)),
@@ -373,7 +373,7 @@ fn all_orders_of_small_histories(rt: HostRuntime) -> Result<(), Fail> {
         invoke(1, 0, Call::Add(2)),
         ok(1, 0, Name::Add, Reply::Done),
         invoke(1, 0, Call::Read),
-        ok(1, 0, Name::Read, Reply::Members(one.copy(alloc)?)),
+        ok(1, 0, Name::Read, Reply::Members(one.copy()?)),
     ];
     let replies = [Reply::Done, Reply::Members(one), Reply::Value(Val::Nil)];
     let found = compared(alloc, Kind::Set, &set, &[0, 1, 3], &replies)?;

@@ -35,10 +35,10 @@ pub enum OrderFault {
     OutOfMemory,
 }
 
-impl From<AllocError> for OrderFault {
+impl From<OutOfMemory> for OrderFault {
     ghost from_gives = { λ _ fault. fault ≡ order_faults.OutOfMemory };
 
-    fn from(_error: AllocError) -> OrderFault {
+    fn from(_error: OutOfMemory) -> OrderFault {
         OrderFault::OutOfMemory
     }
 }

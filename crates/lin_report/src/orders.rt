@@ -6,9 +6,9 @@ ghost use Rattle.lin_report.specs.Orders.{is_braced, is_rising, members_of, orde
 use crate::faults::OrderFault;
 use crate::integers::{integer, number};
 use crate::parts::{end_of_part, next_word};
-use lin_history::{IntSet, Reply, Val};
+use lin_history::{IntSet, OutOfMemory, Reply, Val};
 use lin_order::Placed;
-use std::alloc::{AllocError, Global};
+use std::alloc::Global;
 
 /// Whether a number is above the last of rising ones, and so above all of them.
 fn is_above(numbers: &[i64], number: i64) -> bool
@@ -21,12 +21,12 @@ fn is_above(numbers: &[i64], number: i64) -> bool
 }
 
 /// The numbers that a text writes with commas between them, where they rise strictly.
-fn read_members(alloc: Global, text: &[u8]) -> Result<Option<IntSet>, AllocError>
+fn read_members(alloc: Global, text: &[u8]) -> Result<Option<IntSet>, OutOfMemory>
     ensures { IfOk result (λ members. members ≡ members_of text.now) }
 {
     let mut members = Vec::new(alloc);
     if text.is_empty() {
-        return Ok(Some(IntSet::from_rising(members)));
+        return Ok(Some(IntSet::new(alloc)));
     }
     let mut from = 0;
     'parts: loop {
@@ -39,7 +39,7 @@ fn read_members(alloc: Global, text: &[u8]) -> Result<Option<IntSet>, AllocError
         }
         members.push(member)?;
         if end == text.len() {
-            return Ok(Some(IntSet::from_rising(members)));
+            return Ok(Some(IntSet::from_rising(alloc, members)?));
         }
         from = end + 1;
     }
@@ -57,7 +57,7 @@ fn between_braces(text: &[u8]) -> Option<&[u8]>
 }
 
 /// The reply that a text writes.
-fn read_reply(alloc: Global, text: &[u8]) -> Result<Option<Reply>, AllocError>
+fn read_reply(alloc: Global, text: &[u8]) -> Result<Option<Reply>, OutOfMemory>
     ensures { IfOk result (λ reply. reply ≡ reply_of text.now) }
 {
     if text == b"done".as_slice() {
@@ -81,7 +81,7 @@ fn place_of_sign(word: &[u8]) -> Option<usize>
 }
 
 /// The pair that a word writes.
-fn read_pair(alloc: Global, word: &[u8]) -> Result<Option<Placed>, AllocError>
+fn read_pair(alloc: Global, word: &[u8]) -> Result<Option<Placed>, OutOfMemory>
     ensures { IfOk result (λ pair. pair ≡ pair_of word.now) }
 {
     let Some(sign) = place_of_sign(word) else {

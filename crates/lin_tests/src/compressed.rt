@@ -3,7 +3,7 @@ use crate::drawn::{Draw, drawn_history, has_legal_order, register_history};
 use crate::events::{fail, info, invoke, ok, write};
 use crate::exact_sets::{Came, came_of};
 use lin_frontier::{Advance, Compressed, Open, RoundNodes, Scratch, take_in};
-use lin_history::{Body, Call, Event, Meter, Name, OutOfMemory, Reply, Val};
+use lin_history::{Body, Call, Event, IntSet, Meter, Name, OutOfMemory, Reply, Val};
 use lin_objects::{Any, Kind, Kinds};
 use lin_order::check_order;
 use std::alloc::Global;
@@ -540,6 +540,42 @@ fn a_register_with_five_clients_keeps_few_members(rt: HostRuntime) -> Result<(),
     assert_eq!(rt; counts.members <= 56_000, true);
     assert_eq!(rt; counts.tries <= 60_000, true);
     assert_eq!(rt; counts.nodes <= 40_000, true);
+    Ok(())
+}
+
+/// Processes add to a set a number each, and all adds are open before the first returns; then one process reads these numbers.
+fn adds_and_a_read(alloc: Global, processes: u64, seen: &[i64]) -> Result<Vec<Event>, OutOfMemory> {
+    let mut events = Vec::new(alloc);
+    for process in 0..processes {
+        events.push(invoke(process, Call::Add(process.cast_signed())))?;
+    }
+    for process in 0..processes {
+        events.push(done(process, Name::Add))?;
+    }
+    let mut members = IntSet::new(alloc);
+    for member in seen {
+        members.insert(*member)?;
+    }
+    events.push(invoke(0, Call::Read))?;
+    events.push(ok(0, Name::Read, Reply::Members(members)))?;
+    Ok(events)
+}
+
+#[test]
+fn adds_of_many_clients_keep_one_member(rt: HostRuntime) -> Result<(), Fail> {
+    let alloc = rt.alloc();
+    let all: Vec<i64> = (0..40).collect(alloc)?;
+    let events = adds_and_a_read(alloc, 40, &all)?;
+    let (came, counts) = walked(alloc, Kind::Set, &events, AMPLE)?;
+    assert_eq!(rt; came, Came::Sound(1));
+    // One member after each event, and one try for each completion.
+    assert_eq!(rt; counts.members, 82);
+    assert_eq!(rt; counts.tries, 41);
+    let events = adds_and_a_read(alloc, 40, &all[1..])?;
+    assert_eq!(rt;
+        came_within(alloc, Kind::Set, &events, AMPLE),
+        Ok(Came::Empty)
+    );
     Ok(())
 }
 

@@ -9,5 +9,5 @@ returns-then-not-is_above c =
     members_fall c.args.text.now c.parts.from c.end_of_part-end.result c.parts.members.items _ c.in-Some.member c.parts.invariant c.end_of_part-end.ensures.part c.in-Some.ensures
     (grind (arith, to_z-of_z))
 
-pub from_rising-requires-then-end-text : goal.from_rising-requires-then-end-text
-from_rising-requires-then-end-text c = rising_is c.push.new.self.items (grind (arith, to_z-of_z))
+pub from_rising-requires : goal.from_rising-requires
+from_rising-requires c = rising_is c.push.new.self.items (grind (arith, to_z-of_z))

@@ -30,6 +30,13 @@ loop-state-preserved-in_ok-push_member g c =
     (begins_from _ c.args.member.now.1 c.path.result c.in_ok-next.next.1 _ c.in_ok-placed.placed c.path.ensures c.in_ok-placed.ensures c.in_ok-next.ensures.round c.in_ok-next.ensures.node) c.in_ok-next.ensures.same c.in_ok-config.ensures c.config.ensures
     c.in_ok-offers.ensures.offered c.requires c.in_ok-push_member.ensures c.loop-state.invariant
 
+pub loop-state-preserved-in_ok-push_member-2 : goal.loop-state-preserved-in_ok-push_member-2
+loop-state-preserved-in_ok-push_member-2 g c =
+    returning_made _ _ _ _ _ _ _ _ c.loop-state.steps.items c.pop.new.self.items c.loop-state.nodes c.advanced.new.nodes c.loop-state.out.items c.push_member.new.members.items (c.in-Some.state, c.in-Some.reply) c.in_ok-next.next
+    c.config.result.now c.in_ok-config.config c.in_ok-offers.offers c.in-Some.ensures.items ((reply_Decides c.in-Some.reply c.args.self.now.reply.now).0 (not_false _ (sym c.ne.ensures ∙ c.if-ne.false))) c.advanced.ensures.grown
+    (begins_from _ c.args.member.now.1 c.path.result c.in_ok-next.next.1 _ c.in_ok-placed.placed c.path.ensures c.in_ok-placed.ensures c.in_ok-next.ensures.round c.in_ok-next.ensures.node) c.in_ok-next.ensures.same c.in_ok-config.ensures c.config.ensures
+    c.in_ok-offers.ensures.offered c.requires c.in_ok-push_member.ensures c.loop-state.invariant
+
 pub loop-state-preserved : goal.loop-state-preserved
 loop-state-preserved g c =
     returning_made _ _ _ _ _ _ _ _ c.loop-state.steps.items c.pop.new.self.items c.loop-state.nodes c.advanced.new.nodes c.loop-state.out.items c.push_member.new.members.items (c.in-Some.state, c.in-Some.reply) c.in_ok-next.next
