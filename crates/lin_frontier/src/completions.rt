@@ -292,7 +292,7 @@ impl<'a, O: SeqObject> Completion<'a, O> {
             if reply != *self.reply {
                 continue;
             }
-            let config = member.config().with_state(alloc, state)?;
+            let config = member.config().with_state(state)?;
             if is_found(self.object, self.pending, out, &config, &offers) {
                 continue;
             }

@@ -355,7 +355,7 @@ impl<O: SeqObject> Compressed<O> {
         rounds_spell_members(object);
         let _ = nodes.len();
         let mut members = Vec::new(alloc);
-        push_member(&mut members, Member::start(alloc, object.start(alloc)))?;
+        push_member(&mut members, Member::start(object.start(alloc)))?;
         Ok(Compressed { members })
     }
 

@@ -8,7 +8,7 @@ ghost use Rattle.lin_history.specs.declared.calls.Reply.{Reply as ReplyOf};
 ghost use Rattle.lin_frontier.specs.Placing.{IsAbsent, insert_pair, without};
 ghost use Rattle.lin_frontier.specs.Sameness.{pair_eq, placed_Decides};
 
-use crate::pairs::Pairs;
+use crate::pairs::{PairList, Pairs};
 use lin_history::{OutOfMemory, Reply};
 use std::alloc::Global;
 use std::hash::{Hash, Hasher};
@@ -33,12 +33,12 @@ impl<S: Eq + Hash> Model for Config<S> {
 
 impl<S: Eq + Hash> Config<S> {
     /// The configuration in which nothing is placed.
-    pub fn new(alloc: Global, state: S) -> Self
+    pub fn new(state: S) -> Self
         ensures { result ≡ (state, []) }
     {
         Config {
             state,
-            placed: Pairs::new(alloc),
+            placed: Pairs::none(),
         }
     }
 
@@ -73,7 +73,7 @@ impl<S: Eq + Hash> Config<S> {
 
 /// Puts a copy of the pair last.
 #[inline(always)]
-fn append_pair(alloc: Global, copy: &mut Pairs, pair: &(u64, Reply)) -> Result<(), OutOfMemory>
+fn append_pair(alloc: Global, copy: &mut PairList, pair: &(u64, Reply)) -> Result<(), OutOfMemory>
     ensures { OnOk result (copy.new ≡ copy.old ++ pair.now ∷ []) }
 {
     copy.push(pair.0, pair.1.copy(alloc)?)
@@ -81,9 +81,9 @@ fn append_pair(alloc: Global, copy: &mut Pairs, pair: &(u64, Reply)) -> Result<(
 
 /// Puts copies of the pairs last.
 #[inline(always)]
-pub(crate) fn append_pairs(
+fn append_pairs(
     alloc: Global,
-    copy: &mut Pairs,
+    copy: &mut PairList,
     pairs: &[(u64, Reply)],
 ) -> Result<(), OutOfMemory>
     ensures { OnOk result (copy.new ≡ copy.old ++ pairs.now) }
@@ -143,15 +143,12 @@ pub fn is_placed(placed: &[(u64, Reply)], process: u64, reply: &Reply) -> bool
 impl<S: Eq + Hash> Config<S> {
     /// The configuration with this state and the same operations placed.
     #[inline(always)]
-    pub fn with_state(&self, alloc: Global, state: S) -> Result<Config<S>, OutOfMemory>
+    pub fn with_state(&self, state: S) -> Result<Config<S>, OutOfMemory>
     where
         S: Drop,
         ensures { IfOk result (λ c. c ≡ (state, self.now.1)) }
     {
-        let pairs = self.placed.as_slice();
-        let mut placed = Pairs::new(alloc);
-        placed.reserve(pairs.len())?;
-        append_pairs(alloc, &mut placed, pairs)?;
+        let placed = self.placed.copy()?;
         Ok(Config { state, placed })
     }
 
@@ -170,11 +167,12 @@ impl<S: Eq + Hash> Config<S> {
     {
         let pairs = self.placed.as_slice();
         let at = place_of(pairs, process);
-        let mut placed = Pairs::new(alloc);
-        placed.reserve(pairs.len().saturating_add(1))?;
-        append_pairs(alloc, &mut placed, &pairs[..at])?;
-        placed.push(process, reply)?;
-        append_pairs(alloc, &mut placed, &pairs[at..])?;
+        let mut list = PairList::new(alloc);
+        list.reserve(pairs.len().saturating_add(1))?;
+        append_pairs(alloc, &mut list, &pairs[..at])?;
+        list.push(process, reply)?;
+        append_pairs(alloc, &mut list, &pairs[at..])?;
+        let placed = Pairs::of(alloc, list)?;
         Ok(Config { state, placed })
     }
 
@@ -186,14 +184,15 @@ impl<S: Eq + Hash> Config<S> {
         ensures { IfOk result (λ c. c ≡ (state, without process self.now.1)) }
     {
         let pairs = self.placed.as_slice();
-        let mut placed = Pairs::new(alloc);
-        placed.reserve(pairs.len())?;
+        let mut list = PairList::new(alloc);
+        list.reserve(pairs.len())?;
         for pair in pairs {
             if pair.0 == process {
                 continue;
             }
-            append_pair(alloc, &mut placed, pair)?;
+            append_pair(alloc, &mut list, pair)?;
         }
+        let placed = Pairs::of(alloc, list)?;
         Ok(Config { state, placed })
     }
 }

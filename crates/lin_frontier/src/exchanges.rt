@@ -4,8 +4,8 @@ ghost use Rattle.lin_frontier.specs.declared.pending.Open.{Open as OpenOf};
 ghost use Rattle.lin_frontier.specs.Placing.{IsAbsent};
 ghost use Rattle.lin_frontier.specs.Settling.{renamed_pair, IsRenamed};
 
-use crate::configs::{append_pairs, is_absent};
-use crate::pairs::Pairs;
+use crate::configs::is_absent;
+use crate::pairs::{PairList, Pairs};
 use crate::pending::Open;
 use lin_history::{OutOfMemory, Reply};
 use std::alloc::Global;
@@ -78,7 +78,7 @@ fn stand_in<'a>(pending: &'a [Open], placed: &[(u64, Reply)], operation: &Open) 
 /// Puts a copy of the pair last, with the other process in place of this one.
 fn append_renamed(
     alloc: Global,
-    pairs: &mut Pairs,
+    pairs: &mut PairList,
     pair: &(u64, Reply),
     process: u64,
     other: u64,
@@ -99,24 +99,19 @@ fn renamed(
 ) -> Result<Pairs, OutOfMemory>
     ensures { IfOk result (λ out. out ≡ map (renamed_pair process other) pairs.now) }
 {
-    let mut out = Pairs::new(alloc);
-    out.reserve(pairs.len())?;
+    let mut list = PairList::new(alloc);
+    list.reserve(pairs.len())?;
     for pair in pairs {
-        append_renamed(alloc, &mut out, pair, process, other)?;
+        append_renamed(alloc, &mut list, pair, process, other)?;
     }
-    Ok(out)
+    Pairs::of(alloc, list)
 }
 
 /// The pairs with each crashed operation in the place of the first like it that isn't placed.
-pub fn settle(
-    alloc: Global,
-    pending: &[Open],
-    placed: &[(u64, Reply)],
-) -> Result<Pairs, OutOfMemory>
+pub fn settle(alloc: Global, pending: &[Open], placed: &Pairs) -> Result<Pairs, OutOfMemory>
     ensures { IfOk result (λ out. IsRenamed pending.now placed.now out) }
 {
-    let mut now = Pairs::new(alloc);
-    append_pairs(alloc, &mut now, placed)?;
+    let mut now = placed.copy()?;
     for operation in pending {
         if let Some(other) = stand_in(pending, now.as_slice(), operation) {
             now = renamed(alloc, now.as_slice(), operation.process, other.process)?;

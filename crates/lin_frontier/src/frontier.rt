@@ -128,7 +128,7 @@ impl<O: SeqObject> Frontier<O> {
     {
         configurations_at_start(object);
         let mut configs = IndexMap::with_capacity(alloc, 1)?;
-        match configs.insert(Config::new(alloc, object.start(alloc)), 0) {
+        match configs.insert(Config::new(object.start(alloc)), 0) {
             Ok(_) => Ok(Frontier { configs }),
             Err(_) => Err(OutOfMemory),
         }

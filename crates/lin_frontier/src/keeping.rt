@@ -20,7 +20,7 @@ pub fn copy_config<O: SeqObject>(
     ensures { IfOk result (λ copy. copy ≡ config.now) }
 {
     let state = object.copy_state(alloc, config.state())?;
-    config.with_state(alloc, state)
+    config.with_state(state)
 }
 
 /// What the event leaves of the configuration, or `None` where it doesn't stay.

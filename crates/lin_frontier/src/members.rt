@@ -47,11 +47,11 @@ impl<S: Eq + Hash> Model for Member<S> {
 
 impl<S: Eq + Hash> Member<S> {
     /// The one member before any event.
-    pub fn start(alloc: Global, state: S) -> Self
+    pub fn start(state: S) -> Self
         ensures { result ≡ (first_member state, record { node = 0; round = 0 }) }
     {
         Member {
-            config: Config::new(alloc, state),
+            config: Config::new(state),
             offers: Offers::none(),
             path: Path { node: 0, round: 0 },
         }
@@ -112,7 +112,7 @@ pub fn copied<O: SeqObject>(
 {
     let state = object.copy_state(alloc, member.config.state())?;
     Ok(Member {
-        config: member.config.with_state(alloc, state)?,
+        config: member.config.with_state(state)?,
         offers: member.offers.watched(object, alloc, pending)?,
         path: member.path,
     })
@@ -165,7 +165,7 @@ pub fn answered<O: SeqObject>(
     ensures node { IfOk result (λ next. IsNodeOf nodes.new next.1.node member.now.1.node (placed, Some round)) }
 {
     let state = object.copy_state(alloc, member.config.state())?;
-    let config = member.config.with_state(alloc, state)?;
+    let config = member.config.with_state(state)?;
     let offers = member.offers.watched(object, alloc, pending)?;
     let path = in_round(member.path, placed, round, nodes)?;
     Ok(Member {
@@ -261,7 +261,7 @@ pub fn same<O: SeqObject>(
 {
     let state = object.copy_state(alloc, member.config.state())?;
     Ok(Member {
-        config: member.config.with_state(alloc, state)?,
+        config: member.config.with_state(state)?,
         offers: member.offers.copy()?,
         path: member.path,
     })
@@ -277,7 +277,7 @@ pub fn bare<O: SeqObject>(
 {
     let state = object.copy_state(alloc, member.config.state())?;
     Ok(Member {
-        config: member.config.with_state(alloc, state)?,
+        config: member.config.with_state(state)?,
         offers: Offers::none(),
         path: member.path,
     })

@@ -17,7 +17,7 @@ use std::rc::Rc;
 /// state gave to its pending call.
 #[derive(Drop)]
 pub struct OfferList {
-    items: SmallVec<(usize, (u64, Reply)), 4>,
+    items: SmallVec<(usize, (u64, Reply)), 2>,
     bits: u64,
 }
 

@@ -1,21 +1,22 @@
 //! Processes with the replies that their operations took.
-ghost use Rattle.std.specs.Prelude.{◌≡◌, ◌%◌, ◌^◌, ◌∷◌, ◌++◌, [], OnOk};
+ghost use Rattle.std.specs.Prelude.{◌≡◌, ◌%◌, ◌^◌, ◌∷◌, ◌++◌, [], IfOk, OnOk};
 ghost use Rattle.lin_frontier.specs.Masks.{mask_of};
 
 use lin_history::{OutOfMemory, Reply};
 use smallvec::SmallVec;
 use std::alloc::Global;
 use std::marker::Model;
+use std::rc::Rc;
 
-/// Pairs of a process and a reply, with a mask that tells of most pairs at once that they aren't part of others.
+/// Pairs of a process and a reply that are being put together.
 #[derive(Drop)]
-pub struct Pairs {
+pub struct PairList {
     items: SmallVec<(u64, Reply), 2>,
     /// The bits of the processes.
     mask: u64,
 }
 
-impl Model for Pairs {
+impl Model for PairList {
     ghost use Rattle.std.specs.Prelude.{◌≡◌, ℕ, List};
     ghost use Rattle.lin_history.specs.declared.calls.Reply.{Reply as ReplyOf};
     ghost use Rattle.lin_frontier.specs.Masks.{mask_of};
@@ -27,6 +28,29 @@ impl Model for Pairs {
     ghost invariant = { λ p. p.mask ≡ mask_of p.items.items };
 }
 
+/// Pairs of a process and a reply, with a mask that tells of most pairs at once that they aren't part of others. Copies
+/// share them.
+#[derive(Drop)]
+pub struct Pairs {
+    /// None where there is no pair.
+    list: Option<Rc<PairList>>,
+    /// The bits of the processes.
+    mask: u64,
+}
+
+impl Model for Pairs {
+    ghost use Rattle.std.specs.Prelude.{◌≡◌, ℕ, List};
+    ghost use Rattle.lin_history.specs.declared.calls.Reply.{Reply as ReplyOf};
+    ghost use Rattle.lin_frontier.specs.Masks.{mask_of};
+    ghost use Rattle.lin_frontier.specs.Sharing.{shared};
+
+    ghost Value = { List (ℕ × ReplyOf) };
+
+    ghost view = { λ p. shared p.list };
+
+    ghost invariant = { λ p. p.mask ≡ mask_of (shared p.list) };
+}
+
 /// The bit of the process, which every 64th process has too.
 pub fn bit_of(process: u64) -> u64
     ensures { result ≡ 2 ^ (process % 64) }
@@ -34,13 +58,13 @@ pub fn bit_of(process: u64) -> u64
     1 << (process % 64)
 }
 
-impl Pairs {
-    /// No pair.
+impl PairList {
+    /// No pair yet.
     #[inline(always)]
     pub fn new(alloc: Global) -> Self
         ensures { result ≡ [] }
     {
-        Pairs {
+        PairList {
             items: SmallVec::new(alloc),
             mask: 0,
         }
@@ -57,10 +81,17 @@ impl Pairs {
         Ok(())
     }
 
-    pub fn as_slice(&self) -> &[(u64, Reply)]
+    fn as_slice(&self) -> &[(u64, Reply)]
         ensures { result.now ≡ self.now }
     {
         self.items.as_slice()
+    }
+
+    /// The bits of the processes.
+    fn mask(&self) -> u64
+        ensures { result ≡ mask_of self.now }
+    {
+        self.mask
     }
 
     /// One more pair, put last.
@@ -74,6 +105,57 @@ impl Pairs {
                 Ok(())
             }
             Err(_) => Err(OutOfMemory),
+        }
+    }
+}
+
+impl Pairs {
+    /// No pair.
+    pub fn none() -> Self
+        ensures { result ≡ [] }
+    {
+        Pairs {
+            list: None,
+            mask: 0,
+        }
+    }
+
+    /// The pairs of the list.
+    #[inline(always)]
+    pub fn of(alloc: Global, list: PairList) -> Result<Pairs, OutOfMemory>
+        ensures { IfOk result (λ pairs. pairs ≡ list) }
+    {
+        if list.as_slice().is_empty() {
+            return Ok(Pairs::none());
+        }
+        let mask = list.mask();
+        let shared = Rc::new(alloc, list)?;
+        Ok(Pairs {
+            list: Some(shared),
+            mask,
+        })
+    }
+
+    /// The same pairs.
+    #[inline(always)]
+    pub fn copy(&self) -> Result<Pairs, OutOfMemory>
+        ensures { IfOk result (λ copy. copy ≡ self.now) }
+    {
+        match &self.list {
+            Some(list) => Ok(Pairs {
+                list: Some(list.clone()?),
+                mask: self.mask,
+            }),
+            None => Ok(Pairs::none()),
+        }
+    }
+
+    pub fn as_slice(&self) -> &[(u64, Reply)]
+        ensures { result.now ≡ self.now }
+    {
+        match &self.list {
+            Some(list) => list.as_ref().as_slice(),
+            None => &[],
         }
     }
 

@@ -26,7 +26,7 @@ fn settled<O: SeqObject>(
     ensures node { IfOk result (λ k. k.1.node ≡ node) }
 {
     let state = object.copy_state(alloc, member.state())?;
-    let placed = settle(alloc, pending.as_slice(), member.placed())?;
+    let placed = settle(alloc, pending.as_slice(), member.config().pairs())?;
     let offers = member.offers().copy()?;
     Ok(Member {
         config: Config::of(state, placed),

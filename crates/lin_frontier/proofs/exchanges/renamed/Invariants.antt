@@ -3,4 +3,4 @@ use Rattle.lin_frontier.specs.Settling.{renamed_pair}
 use Rattle.lin_frontier.proofs.exchanges.renamed.Given as goal
 
 abbrev pub invariant-loop-pair : goal.invariant-loop-pair
-invariant-loop-pair l = l.out ≡ map (renamed_pair l.process l.other) (take l.pair-index l.pairs)
+invariant-loop-pair l = l.list ≡ map (renamed_pair l.process l.other) (take l.pair-index l.pairs)

@@ -3,4 +3,4 @@ use Rattle.lin_frontier.specs.Placing.{without}
 use Rattle.lin_frontier.proofs.configs.Config.without.Given as goal
 
 abbrev pub invariant-loop-pair : goal.invariant-loop-pair
-invariant-loop-pair g l = l.placed ≡ without l.process (take l.pair-index l.self.1)
+invariant-loop-pair g l = l.list ≡ without l.process (take l.pair-index l.self.1)
