@@ -1,5 +1,5 @@
 -- After the ok of an update that commutes with all that is open beside it: it can be placed first on each way.
-use Rattle.std.proofs.Common.{◌≡◌, ◌≢◌, ◌⊎◌, ℕ, ℤ, Bool, false, true, List, [], Contains, inl, inr, refl, sym, ap, subst, ◌∙◌, arith, true≢false}
+use Rattle.std.proofs.Common.{◌≡◌, ◌≢◌, ◌⊎◌, ℕ, ℤ, Bool, false, List, [], Contains, inl, inr, refl, sym, subst, ◌∙◌, arith, true≢false}
 use Rattle.lin_history.specs.declared.calls.Call.{Call}
 use Rattle.lin_history.specs.declared.calls.Name.{Name}
 use Rattle.lin_history.specs.declared.calls.Reply.{Reply}
@@ -10,19 +10,19 @@ use Rattle.lin_history.specs.Operations.{IsOpen}
 use Rattle.lin_history.specs.WellFormed.{Completes}
 use Rattle.lin_history.specs.WellFormedLaws.{EndsAreUnique, WellFormedIsAlternating}
 use Rattle.lin_objects.specs.Commuting.{GoesFirst}
-use Rattle.lin_order.specs.Configurations.{IsAdded, IsRising}
+use Rattle.lin_order.specs.Configurations.{IsAdded}
 use Rattle.lin_order.specs.ConfigurationLaws.{with_event, AfterOk, OkLaw}
 use Rattle.lin_frontier.specs.Covers.{HasCrashed}
 use Rattle.lin_frontier.specs.MemberLaws.{CommutingOkLaw, IsTaken}
-use Rattle.lin_frontier.specs.Members.{Member, IsComplete, IsCovered, IsGiven, IsOffered, IsOnOffer, IsUpdate, IsWatching, LeadsToCover, LeadsToMember, DominatesAt, Way, WayOf, here, more}
+use Rattle.lin_frontier.specs.Members.{Member, IsComplete, IsCovered, IsGiven, IsOffered, IsOnOffer, IsUpdate, LeadsToMember, DominatesAt, Way, here, more}
 use Rattle.lin_frontier.specs.Placing.{without}
 use Rattle.lin_frontier.proofs.Choosing.{can_add, stands}
 use Rattle.lin_frontier.proofs.Crashes.{never_crashed, ok_no_info, passes_ok}
 use Rattle.lin_frontier.proofs.Following.{Follows, follow}
 use Rattle.lin_frontier.proofs.Leading.{meets_from}
 use Rattle.lin_frontier.proofs.Returning.{own, there_too}
-use Rattle.lin_frontier.proofs.Taking.{Split, at_placing, held_placed, placed_it, rest_of}
-use Rattle.lin_frontier.proofs.Ways.{Meets, way_kept, way_start, from_covers, to_covers}
+use Rattle.lin_frontier.proofs.Taking.{at_placing, held_placed, placed_it, rest_of}
+use Rattle.lin_frontier.proofs.Ways.{Meets, way_start, from_covers, to_covers}
 
 module _ {S : Type 0} (step : S → Call → S → Reply → Type 0) (observes : Call → Bool) (h g : List Event) (process : ℕ) (reply : Reply) (own_call : Call)
     (stays : (at q : ℕ) (key : ℤ) (call : Call) → q ≢ process → IsOpen h at q key call → IsOpen g at q key call)

@@ -17,7 +17,7 @@ use std::rc::Rc;
 /// state gave to its pending call.
 #[derive(Drop)]
 pub struct OfferList {
-    items: SmallVec<(usize, (u64, Reply)), 2>,
+    items: SmallVec<(usize, (u64, Reply)), 4>,
     bits: u64,
 }
 
@@ -272,6 +272,11 @@ impl OfferList {
         self.items.as_slice()
     }
 
+    /// Whether the reply may be on offer to the process, as far as the bits tell.
+    fn may_offer(&self, process: u64, reply: &Reply) -> bool {
+        self.bits | offer_bit(process, reply) == self.bits
+    }
+
     /// Puts the offers last that may still be taken.
     #[inline(always)]
     pub fn push_watched<O: SeqObject>(
@@ -306,7 +311,7 @@ impl OfferList {
     fn offer(&mut self, round: usize, process: u64, reply: Reply) -> Result<(), OutOfMemory>
         ensures { OnOk result (IsOffering (λ x. x ≡ (process, reply)) round self.old self.new) }
     {
-        if round_in(self.as_slice(), process, &reply).is_some() {
+        if self.may_offer(process, &reply) && round_in(self.as_slice(), process, &reply).is_some() {
             return Ok(());
         }
         self.push(round, process, reply)

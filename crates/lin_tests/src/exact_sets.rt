@@ -274,7 +274,7 @@ fn configurations_and_nodes_are_read(rt: HostRuntime) -> Result<(), Fail> {
     }
     nodes.cut(0);
     assert_eq!(rt; nodes.len(), 0);
-    let config = Config::new(alloc, object.start(alloc));
+    let config = Config::new(object.start(alloc));
     assert!(rt; config.placed().is_empty());
     assert!(rt; *config.state() == State::Value(Val::Nil));
     Ok(())

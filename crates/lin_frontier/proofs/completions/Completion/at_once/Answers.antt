@@ -1,6 +1,5 @@
-use Rattle.std.proofs.Common.{◌≡◌, ◌+◌, ◌*◌, ◌≤◌, arith, length, map, subst, ◌∙◌, sym}
-use Rattle.std.proofs.lemmas.List.{length-map}
-use Rattle.lin_frontier.proofs.Ahead.{at_once_next, at_once_end}
+use Rattle.std.proofs.Common.{◌+◌, ◌*◌, arith, length}
+use Rattle.lin_frontier.proofs.Ahead.{at_once_next}
 use Rattle.lin_frontier.proofs.Counting.{tried_turn, tried_up}
 use Rattle.lin_frontier.proofs.completions.Completion.at_once.Goals as goal
 
