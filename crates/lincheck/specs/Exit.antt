@@ -1,5 +1,5 @@
 -- The exit status of a run, and what a line has the program do.
-use Rattle.std.specs.Prelude.{◌≡◌, ◌≤◌, ◌⊎◌, ℕ, List, [], Option, Some, None, option_map, Result, Ok, Err}
+use Rattle.std.specs.Prelude.{◌≡◌, ◌≤◌, ◌⊎◌, ℕ, Bool, List, [], Option, Some, None, option_map, Result, Ok, Err}
 use Rattle.clap.specs.declared.error.kind.ErrorKind.{ErrorKind}
 use Rattle.clap.specs.declared.error.kind.ErrorKind.TheVariants as kind
 use Rattle.lin_report.specs.Reports.{IsCheckRun}
@@ -11,6 +11,8 @@ use Rattle.lin_report.specs.declared.faults.RunFault.{RunFault}
 use Rattle.lin_report.specs.declared.faults.RunFault.TheVariants.{ReadFailed, WriteFailed, OutOfMemory, TooMuch}
 use Rattle.lin_report.specs.declared.runs.Settings.{Settings}
 use Rattle.lincheck.specs.declared.endings.Ending.{Ending}
+use Rattle.lincheck.specs.declared.system.Message.{Message}
+use Rattle.lincheck.specs.declared.system.Message.TheVariants.{Refusal, NotOpened, Fault, OutOfMemory as NoMemory}
 use Rattle.lincheck.specs.declared.words.Line.{Line}
 use Rattle.lincheck.specs.declared.words.Line.TheVariants.{Verify, Check, Edit}
 
@@ -63,14 +65,44 @@ abbrev pub IsEndingOf : Line → Option (List ℕ) → Option (List ℕ) → Opt
 IsEndingOf line old new commands commands' before after ending =
     (outcome : Result Status RunFault) × IsRunOf line old new commands commands' before after outcome × (ending.status ≡ exit_status outcome) × (ending.fault ≡ fault_of_run outcome)
 
--- The program ends so on a line: with the exit status of a run over a file, commands and a writer that hold this at first.
-abbrev pub EndsOver : Line → Option (List ℕ) → Option (List ℕ) → Option (List ℕ) → ℕ → Type 0
-EndsOver line file commands out status =
-    (file' : Option (List ℕ)) × (commands' : Option (List ℕ)) × (out' : Option (List ℕ)) × (ending : Ending)
-    × IsEndingOf line file file' commands commands' out out' ending × (status ≡ ending.status)
+-- The words of a system, which mean what it answers: it opened the file of that name as this one, or couldn't; commands are read here, and
+-- runs write there; it was told the message, or that couldn't be done, and from the one system it is the other then.
+pub record SystemWords (S F C O : Type 0) : Type 1 where
+  pub opens : S → List ℕ → F → Type 0
+  pub lacks : S → List ℕ → Type 0
+  pub reads : S → C → Type 0
+  pub writes : S → O → Type 0
+  pub tells : S → Message → Bool → S → Type 0
 
--- The program may end so on a line: with the exit status of a run, over nothing where the line names no file; or with 6, as where the
--- file can't be opened.
-abbrev pub Ends : Line → ℕ → Type 0
-Ends line status = (status ≡ 6)
-    ⊎ ((file : Option (List ℕ)) × (commands : Option (List ℕ)) × (out : Option (List ℕ)) × (file_of line ≡ None → file ≡ Some []) × EndsOver line file commands out status)
+-- The bytes that a file, the commands and the output hold are given by three functions.
+module _ {S F C O : Type 0} (system : SystemWords S F C O) (held : F → Option (List ℕ)) (commanded : C → Option (List ℕ)) (written : O → Option (List ℕ)) (old new : S) where
+  -- one message was told, one that P holds of, or couldn't be told
+  abbrev pub IsTold : (Message → Type 0) → Type 0
+  IsTold P = (m : Message) × P m × (told : Bool) × system.tells old m told new
+
+  -- why a run ended early was told, and nothing where it didn't
+  abbrev pub IsFaultTold : Option RunFault → Type 0
+  IsFaultTold None = new ≡ old
+  IsFaultTold (Some fault) = IsTold (λ m. m ≡ Fault fault)
+
+  -- The program ends so on a line: with the exit status of a run of it, over a file that holds this at first, the commands and the output
+  -- of the system; and it tells why the run ended early, if it did, and nothing else.
+  abbrev pub EndsOver : Line → Option (List ℕ) → ℕ → Type 0
+  EndsOver line file status =
+      (commands : C) × system.reads old commands × (out : O) × system.writes old out
+      × (file' : Option (List ℕ)) × (commands' : Option (List ℕ)) × (out' : Option (List ℕ)) × (ending : Ending)
+      × IsEndingOf line file file' (commanded commands) commands' (written out) out' ending × IsFaultTold ending.fault × (status ≡ ending.status)
+
+  abbrev pub IsNotOpened : List ℕ → Message → Type 0
+  IsNotOpened path (NotOpened name) = name.now ≡ path
+  IsNotOpened path _ = ⊥
+
+  -- The program ends so on a line whose file has this name: over that file, as the system opens it; or with 6 where the system can't open
+  -- it, which is told. A line without a name is run over nothing.
+  abbrev pub EndsWith : Line → Option (List ℕ) → ℕ → Type 0
+  EndsWith line None status = EndsOver line (Some []) status
+  EndsWith line (Some path) status = ((file : F) × system.opens old path file × EndsOver line (held file) status)
+      ⊎ (system.lacks old path × IsTold (IsNotOpened path) × (status ≡ 6))
+
+  abbrev pub Ends : Line → ℕ → Type 0
+  Ends line status = EndsWith line (file_of line) status

@@ -11,7 +11,9 @@ use Rattle.clap.specs.declared.error.kind.ErrorKind.TheVariants.{OutOfMemory}
 use Rattle.lin_objects.specs.declared.kinds.Kind.{Kind}
 use Rattle.lin_objects.specs.declared.kinds.Kind.TheVariants.{Register, CasRegister, Fifo, Set as SetKind, Mutex}
 use Rattle.lin_report.specs.declared.runs.Settings.{Settings}
-use Rattle.lincheck.specs.Exit.{Ends, refusal_status}
+use Rattle.lincheck.specs.Exit.{Ends, SystemWords, refusal_status}
+use Rattle.lincheck.specs.declared.system.Message.{Message}
+use Rattle.lincheck.specs.declared.system.Message.TheVariants.{Refusal, OutOfMemory as NoMemory}
 use Rattle.lincheck.specs.declared.words.Line.{Line}
 use Rattle.lincheck.specs.declared.words.Line.TheVariants.{Verify, Check, Edit}
 
@@ -112,8 +114,14 @@ abbrev pub IsLineOf : List Text → Line → Type 0
 IsLineOf words line = (parser : ValueParser) × IsKindParser parser × (fault_of (program_app parser) words ≡ [])
     × (found : Text × List Row) × (subcommand_of (program_app parser) words ≡ Some found) × Says found line
 
--- The program may end so on these words: as it ends on the line that they say, or with the exit status of their refusal, and with 6
--- where that couldn't be told.
-abbrev pub IsEnd : List Text → ℕ → Type 0
-IsEnd words status = ((line : Line) × IsLineOf words line × Ends line status)
-    ⊎ ((e : Error) × IsRefusalOf words e × ((status ≡ refusal_status (kind_of e)) ⊎ (status ≡ 6)))
+-- the message tells of the error
+abbrev pub TellsOf : Error → Message → Type 0
+TellsOf e (Refusal error) = error.now ≡ e
+TellsOf e NoMemory = kind_of e ≡ OutOfMemory
+TellsOf e _ = ⊥
+
+-- The program ends so on these words: as it ends on the line that they say; or it tells of their refusal, and ends with its exit status, or
+-- with 6 where that couldn't be told.
+abbrev pub IsEnd : {S F C O : Type 0} → SystemWords S F C O → (F → Option (List ℕ)) → (C → Option (List ℕ)) → (O → Option (List ℕ)) → S → S → List Text → ℕ → Type 0
+IsEnd system held commanded written old new words status = ((line : Line) × IsLineOf words line × Ends system held commanded written old new line status)
+    ⊎ ((e : Error) × IsRefusalOf words e × (m : Message) × TellsOf e m × (told : Bool) × system.tells old m told new × (status ≡ (if told then refusal_status (kind_of e) else 6)))

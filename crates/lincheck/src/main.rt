@@ -7,6 +7,7 @@ ghost use Rattle.lincheck.specs.Program.{IsLineOf, IsRefusalOf, IsEnd};
 
 mod command;
 mod endings;
+mod system;
 mod words;
 
 use clap::Error;
@@ -15,10 +16,11 @@ pub use endings::{Ending, exit_of, exit_of_refusal, run};
 use endings::{FAILED, LINE_REFUSED};
 use lin_report::Counted;
 use std::alloc::{AllocError, Global};
-use std::fs::File;
-use std::io::{Read, Write};
+use std::io::Read;
 use std::process::ExitCode;
 use std::{env, io};
+use system::Host;
+pub use system::{Message, System};
 pub use words::Line;
 
 /// What a command line says, the program's name first.
@@ -40,93 +42,84 @@ pub fn line<'a>(alloc: Global, words: &'a [&'a str]) -> Result<Line<'a>, Error>
     }
 }
 
-/// Runs on an opened file with the commands and the writer, tells why the run ended early, if it did, and gives the exit status.
-fn run_on<R: Read + Drop, C: Read + Drop, W: Write + Drop>(
-    rt: &HostRuntime,
-    line: Line,
-    file: R,
-    commands: C,
-    out: W,
-) -> u8
+/// Runs on an opened file, tells why the run ended early, if it did, and gives the exit status.
+fn run_on<S: System, R: Read + Drop>(alloc: Global, system: &mut S, line: Line, file: R) -> u8
     requires { IsRunnable line }
-    ensures { EndsOver line.entry (R.remaining file) (C.remaining commands) (W.contents out) result }
+    ensures { EndsOver S.words S.File.remaining S.Commands.remaining S.Out.contents system.old system.new line.entry (R.remaining file) result }
 {
     let ending = run(
-        rt.alloc(),
+        alloc,
         line,
         &mut Counted::new(file),
-        &mut Counted::new(commands),
-        &mut Counted::new(out),
+        &mut Counted::new(system.commands()),
+        &mut Counted::new(system.out()),
     );
     if let Some(fault) = ending.fault {
-        let _printed = println!(rt; "lincheck: {fault}");
+        let _is_told = system.tell(&Message::Fault(fault));
     }
     ending.status
 }
 
 /// Opens the line's file, if it names one, and runs.
-fn run_line(rt: &HostRuntime, line: Line) -> u8
+fn run_line<S: System>(alloc: Global, system: &mut S, line: Line) -> u8
     requires { IsRunnable line }
-    ensures { Ends line.entry result }
+    ensures { Ends S.words S.File.remaining S.Commands.remaining S.Out.contents system.old system.new line.entry result }
 {
     let Some(path) = line.path() else {
-        return run_on(rt, line, b"".as_slice(), rt.stdin(), io::writer(rt));
+        return run_on(alloc, system, line, b"".as_slice());
     };
-    match File::open(rt, path) {
-        Ok(file) => run_on(rt, line, file, rt.stdin(), io::writer(rt)),
-        Err(_) => {
-            let _printed = println!(rt; "lincheck: cannot open {path}");
+    match system.open(path) {
+        Some(file) => run_on(alloc, system, line, file),
+        None => {
+            let _is_told = system.tell(&Message::NotOpened(path));
             FAILED
         }
     }
 }
 
-/// Tells that memory was refused.
-fn tell_out_of_memory(rt: &HostRuntime) -> u8
-    ensures { result ≡ 6 }
-{
-    let _printed = println!(rt; "lincheck: 3 OutOfMemory");
-    FAILED
-}
-
-/// Tells why there are no words of a command line.
-fn tell_no_words(rt: &HostRuntime, error: &io::Error) -> u8 {
-    if error.kind() == io::ErrorKind::OutOfMemory {
-        return tell_out_of_memory(rt);
-    }
-    let _printed = println!(rt; "lincheck: the command line is no text");
-    LINE_REFUSED
-}
-
 /// Runs what the words say, and gives the exit status.
-fn run_words(rt: HostRuntime, words: &[&str]) -> u8
-    ensures { IsEnd (map (λ w. w.now) words.entry.now) result }
+pub fn run_words<S: System>(alloc: Global, system: &mut S, words: &[&str]) -> u8
+    ensures { IsEnd S.words S.File.remaining S.Commands.remaining S.Out.contents system.old system.new (map (λ w. w.now) words.entry.now) result }
 {
-    match line(rt.alloc(), words) {
-        Ok(line) => run_line(&rt, line),
-        Err(error) if error.kind() == ErrorKind::OutOfMemory => tell_out_of_memory(&rt),
+    match line(alloc, words) {
+        Ok(line) => run_line(alloc, system, line),
+        Err(error) if error.kind() == ErrorKind::OutOfMemory => {
+            let _is_told = system.tell(&Message::OutOfMemory);
+            FAILED
+        }
         Err(error) => {
-            let is_told = println!(rt; "{error}").is_ok();
+            let is_told = system.tell(&Message::Refusal(&error));
             exit_of_refusal(&error, is_told)
         }
     }
 }
 
+/// Tells why there are no words of a command line, and gives the exit status.
+fn end_without_words<S: System>(system: &mut S, error: &io::Error) -> u8 {
+    if error.kind() == io::ErrorKind::OutOfMemory {
+        let _is_told = system.tell(&Message::OutOfMemory);
+        return FAILED;
+    }
+    let _is_told = system.tell(&Message::NoText);
+    LINE_REFUSED
+}
+
 fn main(rt: HostRuntime) -> ExitCode {
     let alloc = rt.alloc();
+    let mut host = Host { runtime: &rt };
     let arguments = match env::args(&rt) {
         Ok(arguments) => arguments,
-        Err(error) => return ExitCode::from(tell_no_words(&rt, &error)),
+        Err(error) => return ExitCode::from(end_without_words(&mut host, &error)),
     };
     let owned: Vec<String> = match arguments.collect(alloc) {
         Ok(owned) => owned,
-        Err(_) => return ExitCode::from(tell_out_of_memory(&rt)),
+        Err(error) => return ExitCode::from(end_without_words(&mut host, &io::Error::from(error))),
     };
     let words: Vec<&str> = match owned.iter().map(|word| word.as_str()).collect(alloc) {
         Ok(words) => words,
-        Err(_) => return ExitCode::from(tell_out_of_memory(&rt)),
+        Err(error) => return ExitCode::from(end_without_words(&mut host, &io::Error::from(error))),
     };
-    ExitCode::from(run_words(rt, words.as_slice()))
+    ExitCode::from(run_words(alloc, &mut host, words.as_slice()))
 }
 
 #[cfg(test)]

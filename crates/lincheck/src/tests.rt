@@ -1,7 +1,8 @@
 //! Command lines, and the statuses with which they end.
-use crate::{Ending, Line, exit_of_refusal, line, run};
+use crate::{Ending, Line, Message, System, exit_of_refusal, line, run, run_words};
 use lin_objects::Kind;
 use lin_report::{Counted, Settings};
+use std::alloc::Global;
 use std::test::Fail;
 
 /// The status with which the program ends where the words give no line.
@@ -128,4 +129,64 @@ fn commands_are_carried_out(rt: HostRuntime) -> Result<(), Fail> {
     let lines = b"ok 2\nno prefix 2\nrefused command 1 UnknownCommand\n";
     assert!(rt; printed.as_slice() == lines.as_slice());
     Ok(())
+}
+
+/// A system with one file, which counts what it is told.
+#[derive(Drop)]
+struct OneFile {
+    alloc: Global,
+    told: usize,
+}
+
+impl System for OneFile {
+    type File = &'static [u8];
+
+    type Commands = &'static [u8];
+
+    type Out = Vec<u8>;
+
+    ghost words = { record { opens = λ _ _ _. Unit {0}; lacks = λ _ _. Unit {0}; reads = λ _ _. Unit {0}; writes = λ _ _. Unit {0}; tells = λ _ _ _ _. Unit {0} } };
+
+    fn open(&self, path: &str) -> Option<&'static [u8]> {
+        let file = b"{:process 0 :type :invoke :f :read} {:process 0 :type :ok :f :read :value 1} ";
+        (path == "a.edn").then_some(file.as_slice())
+    }
+
+    fn commands(&self) -> &'static [u8] {
+        b"pull\nask\n".as_slice()
+    }
+
+    fn out(&self) -> Vec<u8> {
+        Vec::new(self.alloc)
+    }
+
+    fn tell(&mut self, _message: &Message) -> bool {
+        self.told = self.told.saturating_add(1);
+        true
+    }
+}
+
+#[test]
+fn words_end_as_their_line_does_on_the_system(rt: HostRuntime) {
+    let rows: [(&[&str], u8, usize); 7] = [
+        (&["lincheck", "check", "a.edn"], 1, 0),
+        (&["lincheck", "check", "b.edn"], 6, 1),
+        (&["lincheck", "verify", "a.edn", "0=1"], 1, 0),
+        (&["lincheck", "edit", "a.edn"], 1, 0),
+        (&["lincheck", "edit", "b.edn"], 6, 1),
+        (&["lincheck", "frob"], 5, 1),
+        (&["lincheck", "--help"], 0, 1),
+    ];
+    for (words, status, told) in &rows {
+        let mut system = OneFile {
+            alloc: rt.alloc(),
+            told: 0,
+        };
+        assert_eq!(rt;
+            run_words(rt.alloc(), &mut system, words),
+            *status,
+            "{words:?}"
+        );
+        assert_eq!(rt; system.told, *told, "{words:?}");
+    }
 }
