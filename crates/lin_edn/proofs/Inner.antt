@@ -1,60 +1,83 @@
--- What stands behind a tag that waits for its element, in words of the grammar.
-use Rattle.std.proofs.Common.{◌≡◌, ℕ, true, suc, ◌+◌, ◌-◌, ◌<◌, ◌≤◌, List, [], ◌∷◌, length, drop, ap, ◌∙◌, Some, refl, subst, arith}
+-- What stands behind one tag or two that wait for their element, in words of the grammar.
+use Rattle.std.proofs.Common.{◌≡◌, ℕ, true, suc, ◌+◌, ◌-◌, ◌<◌, ◌≤◌, Bool, false, List, [], ◌∷◌, length, drop, ap, ◌∙◌, Some, Result, Ok, Err, None, IfOk, IfSome, Option, refl, subst, arith}
 use Rattle.std.proofs.lemmas.List.{drop-drop}
 use Rattle.lin_edn.specs.Bytes.{Kind, hash, behind, discards as discards_next, is_stop, closing}
 use Rattle.lin_edn.specs.Grammar.{One, Tag, Opens, discards, Blank, discarded, Blanks, no_blank, one_more, Element, tagged_element, collection, Row, empty, blank, element, longest, Frame, frame, discarding, tagging, outermost}
-use Rattle.lin_edn.specs.Machine.{Answer, complete, blank as blank_answer, partial, fault, too_long, between, put}
+use Rattle.lin_edn.specs.Machine.{Answer, complete, blank as blank_answer, partial, fault, too_long, run, between, put}
 use Rattle.lin_edn.specs.Rows.{IsElementAt}
-use Rattle.lin_edn.specs.Scans.{IsBehindTag}
+use Rattle.lin_edn.specs.Scans.{IsBehindTag, IsBehindTwo, IsFound}
 use Rattle.lin_edn.specs.Value.{Value, tagged, made}
+use Rattle.lin_edn.specs.View.{view}
+use Rattle.lin_edn.specs.declared.Edn.{Edn}
+use Rattle.lin_edn.specs.declared.EdnFault.{EdnFault}
 use Rattle.lin_edn.proofs.Back.{AfterOn, Keeps, holds, bound_here}
 use Rattle.lin_edn.proofs.Rising.{blanks_tail, element_past, tail_rises, then}
 use Rattle.lin_edn.proofs.Sizes.{tail_drop}
 
--- behind a tag that waits at the bottom, the bytes from a place on leave these open up to another place
-data Above (from : ℕ) (s : List ℕ) : ℕ → List Frame → ℕ → List ℕ → Type 0 where
-  tag_alone : {q : ℕ} {t : List ℕ} → Blanks 63 from s q t → Above from s 63 (tagging 0 0 [] ∷ []) q t
-  within : {n p q r : ℕ} {t u x : List ℕ} {st : List Frame} {vs : List Value} {k : Kind} →
-      Above from s (suc n) st p t → Opens k p t q u → Row n q u vs r x → Above from s n (frame k p vs ∷ st) r x
-  waits : {n p q r b : ℕ} {t u x w : List ℕ} {st : List Frame} →
-      Above from s (suc n) st p t → One hash p t w q (b ∷ u) → behind b ≡ discards_next → Blanks n (q + 1) u r x → Above from s n (discarding p ∷ st) r x
-  awaits : {n p q r c : ℕ} {t u x w : List ℕ} {st : List Frame} →
-      Above from s (suc n) st p t → Tag p t w q (c ∷ u) → is_stop c ≡ true → Blanks n q (c ∷ u) r x → Above from s n (tagging p (p + 1) w ∷ st) r x
+-- the tags that wait at the bottom, two or one
+abbrev waiting : Bool → List Frame
+waiting true = tagging 0 0 [] ∷ tagging 0 0 [] ∷ []
+waiting false = tagging 0 0 [] ∷ []
+
+-- how many levels they leave
+abbrev levels_left : Bool → ℕ
+levels_left true = 62
+levels_left false = 63
+
+-- an element behind them
+abbrev wrapped : Bool → Value → Value
+wrapped true v = tagged 0 [] (tagged 0 [] v)
+wrapped false v = tagged 0 [] v
+
+-- behind two tags or one that wait at the bottom, the bytes from a place on leave these open up to another place
+data Above (from : ℕ) (s : List ℕ) : Bool → ℕ → List Frame → ℕ → List ℕ → Type 0 where
+  one_waits : {q : ℕ} {t : List ℕ} → Blanks 63 from s q t → Above from s false 63 (tagging 0 0 [] ∷ []) q t
+  two_wait : {q : ℕ} {t : List ℕ} → Blanks 62 from s q t → Above from s true 62 (tagging 0 0 [] ∷ tagging 0 0 [] ∷ []) q t
+  within : {two : Bool} {n p q r : ℕ} {t u x : List ℕ} {st : List Frame} {vs : List Value} {k : Kind} →
+      Above from s two (suc n) st p t → Opens k p t q u → Row n q u vs r x → Above from s two n (frame k p vs ∷ st) r x
+  waits : {two : Bool} {n p q r b : ℕ} {t u x w : List ℕ} {st : List Frame} →
+      Above from s two (suc n) st p t → One hash p t w q (b ∷ u) → behind b ≡ discards_next → Blanks n (q + 1) u r x → Above from s two n (discarding p ∷ st) r x
+  awaits : {two : Bool} {n p q r c : ℕ} {t u x w : List ℕ} {st : List Frame} →
+      Above from s two (suc n) st p t → Tag p t w q (c ∷ u) → is_stop c ≡ true → Blanks n q (c ∷ u) r x → Above from s two n (tagging p (p + 1) w ∷ st) r x
 
 -- what is answered holds what stands there
-abbrev Told : ℕ → List ℕ → Answer → Type 0
-Told from s (complete w o q) = (v : Value) × (w ≡ tagged 0 [] v) × (p : ℕ) × (t u : List ℕ) × Blanks 63 from s p t × Element 63 p t v q u × (q ≤ longest)
-Told from s (blank_answer p) = Unit {0}
-Told from s (partial p) = Unit {0}
-Told from s (fault j p k) = Unit {0}
-Told from s (too_long p) = Unit {0}
+abbrev Told : Bool → ℕ → List ℕ → Answer → Type 0
+Told two from s (complete w o q) = (v : Value) × (w ≡ wrapped two v) × (p : ℕ) × (t u : List ℕ)
+    × Blanks (levels_left two) from s p t × Element (levels_left two) p t v q u × (q ≤ longest)
+Told two from s (blank_answer p) = Unit {0}
+Told two from s (partial p) = Unit {0}
+Told two from s (fault j p k) = Unit {0}
+Told two from s (too_long p) = Unit {0}
 
-above_levels : {from : ℕ} {s : List ℕ} {n q : ℕ} {t : List ℕ} {st : List Frame} → Above from s n st q t → n + length st ≡ 64
-above_levels (tag_alone bs) = refl
+above_levels : {from : ℕ} {s : List ℕ} {two : Bool} {n q : ℕ} {t : List ℕ} {st : List Frame} → Above from s two n st q t → n + length st ≡ 64
+above_levels (one_waits bs) = refl
+above_levels (two_wait bs) = refl
 above_levels (within {n = n} {st = st} o i row) = let e : suc n + length st ≡ 64 = above_levels o in omega arith
 above_levels (waits {n = n} {st = st} o h d bs) = let e : suc n + length st ≡ 64 = above_levels o in omega arith
 above_levels (awaits {n = n} {st = st} o tg h bs) = let e : suc n + length st ≡ 64 = above_levels o in omega arith
 
-above_skip : {from : ℕ} {s : List ℕ} {n q r : ℕ} {t u : List ℕ} {st : List Frame} → Above from s n st q t → Blank n q t r u → Above from s n st r u
-above_skip (tag_alone bs) b = tag_alone (one_more bs b)
+above_skip : {from : ℕ} {s : List ℕ} {two : Bool} {n q r : ℕ} {t u : List ℕ} {st : List Frame} → Above from s two n st q t → Blank n q t r u → Above from s two n st r u
+above_skip (one_waits bs) b = one_waits (one_more bs b)
+above_skip (two_wait bs) b = two_wait (one_more bs b)
 above_skip (within o i row) b = within o i (blank row b)
 above_skip (waits o h d bs) b = waits o h d (one_more bs b)
 above_skip (awaits o tg h bs) b = awaits o tg h (one_more bs b)
 
-above_put : {from : ℕ} {s : List ℕ} {n p q : ℕ} {t u : List ℕ} {st : List Frame} {v : Value} → Above from s n st p t → Element n p t v q u → q ≤ outermost p st + longest →
-    AfterOn (Told from s) (Above from s) q u (put v p st q)
-above_put {p = p} {q = q} {t = t} {u = u} {v = v} (tag_alone bs) e le = (v, refl, p, t, u, bs, e, omega arith)
+above_put : {from : ℕ} {s : List ℕ} {two : Bool} {n p q : ℕ} {t u : List ℕ} {st : List Frame} {v : Value} → Above from s two n st p t → Element n p t v q u → q ≤ outermost p st + longest →
+    AfterOn (Told two from s) (Above from s two) q u (put v p st q)
+above_put {p = p} {q = q} {t = t} {u = u} {v = v} (one_waits bs) e le = (v, refl, p, t, u, bs, e, omega arith)
+above_put {p = p} {q = q} {t = t} {u = u} {v = v} (two_wait bs) e le = (v, refl, p, t, u, bs, e, omega arith)
 above_put (within {n = n} o i row) e le = ((n, within o i (element row e)), le)
 above_put {q = q} (waits {n = n} {p = o} {st = st} op h d bs) e le = ((suc n, above_skip op (discarded (discards h d bs e))), bound_here o q st le)
 above_put (awaits o tg h bs) e le = above_put o (tagged_element tg h bs e) le
 
-above_closed : {from : ℕ} {s : List ℕ} {n p q : ℕ} {t u : List ℕ} {st : List Frame} {vs : List Value} {k : Kind} {v : Value} → Above from s n (frame k p vs ∷ st) q u →
-    u ≡ closing k ∷ t → made k vs ≡ Some v → q < outermost p st + longest → AfterOn (Told from s) (Above from s) (q + 1) t (put v p st (q + 1))
+above_closed : {from : ℕ} {s : List ℕ} {two : Bool} {n p q : ℕ} {t u : List ℕ} {st : List Frame} {vs : List Value} {k : Kind} {v : Value} → Above from s two n (frame k p vs ∷ st) q u →
+    u ≡ closing k ∷ t → made k vs ≡ Some v → q < outermost p st + longest → AfterOn (Told two from s) (Above from s two) (q + 1) t (put v p st (q + 1))
 above_closed {k = k} (within {n = n} {p = p} {q = q} {r = r} {u = u} {st = st} {vs = vs} o i row) e m lt =
     let le : r + 1 ≤ outermost p st + longest = omega arith in above_put o (collection i (subst (λ x. Row n q u vs r x) e row) m) le
 
-above_keeps : (from : ℕ) (s : List ℕ) → Keeps (Told from s) (Above from s)
-above_keeps from s = record {
+above_keeps : (two : Bool) (from : ℕ) (s : List ℕ) → Keeps (Told two from s) (Above from s two)
+above_keeps two from s = record {
   levels = above_levels;
   skip = λ o b le. above_skip o b;
   puts = above_put;
@@ -72,12 +95,46 @@ above_keeps from s = record {
   too_long = λ p. tt;
 }
 
-pub inner : (s : List ℕ) (from : ℕ) (v : Value) (used : ℕ) → IsBehindTag s from v used → from ≤ longest → IsElementAt s from v used
-inner s from v used b le =
+-- before the first byte
+none_above : (two : Bool) (from : ℕ) (s : List ℕ) → Above from s two (levels_left two) (waiting two) from s
+none_above true from s = two_wait no_blank
+none_above false from s = one_waits no_blank
+
+begins_above : (two : Bool) (from : ℕ) → from ≤ longest → from ≤ outermost from (waiting two) + longest
+begins_above true from le = omega arith
+begins_above false from le = omega arith
+
+-- what the machine finds behind the tags stands there
+inside_tags : (two : Bool) (s : List ℕ) (from : ℕ) (w : Value) (o used : ℕ) → run longest from (waiting two) between (drop from s) ≡ complete w o used → from ≤ longest →
+    (v : Value) × (w ≡ wrapped two v) × IsElementAt (levels_left two) s from v used
+inside_tags two s from w o used b le =
     let rest = drop from s in
-    let h = subst (Told from rest) b.3 (holds (Told from rest) (Above from rest) (above_keeps from rest) rest from (tagging 0 0 [] ∷ []) between (63, tag_alone no_blank) (omega arith)) in
-    let same : h.0 ≡ v = (let f = h.1 in cc) in
+    let h = subst (Told two from rest) b
+    (holds (Told two from rest) (Above from rest two) (above_keeps two from rest) rest from (waiting two) between (levels_left two, none_above two from rest) (begins_above two from le)) in
     let first : from ≤ h.2 = tail_rises (blanks_tail h.5) in
     let later : h.2 < used = (element_past h.6).0 in
     let behind_it : h.4 ≡ drop used s = tail_drop (then (blanks_tail h.5) (element_past h.6).1) ∙ drop-drop (used - from) from s ∙ ap (λ n. drop n s) (omega arith) in
-    (h.2, h.3, h.5, subst (λ x. Element 63 h.2 h.3 x used (drop used s)) same (subst (Element 63 h.2 h.3 h.0 used) behind_it h.6), h.7)
+    (h.0, h.1, (h.2, h.3, h.5, subst (Element (levels_left two) h.2 h.3 h.0 used) behind_it h.6, h.7))
+
+pub inner : (s : List ℕ) (from : ℕ) (v : Value) (used : ℕ) → IsBehindTag s from v used → from ≤ longest → IsElementAt 63 s from v used
+inner s from v used b le =
+    let h = inside_tags false s from (tagged b.0 b.1 v) b.2 used b.3 le in
+    let same : h.0 ≡ v = (let f = h.1 in cc) in subst (λ x. IsElementAt 63 s from x used) same h.2
+
+pub inner_two : (s : List ℕ) (from : ℕ) (v : Value) (used : ℕ) → IsBehindTwo s from v used → from ≤ longest → IsElementAt 62 s from v used
+inner_two s from v used b le =
+    let h = inside_tags true s from (tagged b.0 b.2 (tagged b.1 b.3 v)) b.4 used b.5 le in
+    let same : h.0 ≡ v = (let f = h.1 in cc) in subst (λ x. IsElementAt 62 s from x used) same h.2
+
+-- if one is found
+pub inner_if : (s : List ℕ) (from : ℕ) (r : Result (Option (Edn × ℕ)) EdnFault) → IsFound s from r → from ≤ longest →
+    IfOk r (λ found. IfSome found (λ x. IsElementAt 63 s from (view x.0) x.1))
+inner_if s from (Ok (Some x)) h le = inner s from (view x.0) x.1 h le
+inner_if s from (Ok None) h le = tt
+inner_if s from (Err f) h le = tt
+
+pub inner_two_if : (s : List ℕ) (from : ℕ) (r : Result (Option (Edn × ℕ)) EdnFault) → IfOk r (λ found. IfSome found (λ x. IsBehindTwo s from (view x.0) x.1)) →
+    from ≤ longest → IfOk r (λ found. IfSome found (λ x. IsElementAt 62 s from (view x.0) x.1))
+inner_two_if s from (Ok (Some x)) h le = inner_two s from (view x.0) x.1 h le
+inner_two_if s from (Ok None) h le = tt
+inner_two_if s from (Err f) h le = tt

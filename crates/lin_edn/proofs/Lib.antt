@@ -23,4 +23,5 @@ pub mod Skims
 pub mod Sound
 pub mod Standing
 pub mod Unique
+pub mod Untagged
 pub mod Wrong

@@ -1,5 +1,5 @@
 -- A list or vector that is read element by element.
-use Rattle.std.proofs.Common.{◌≡◌, ℕ, ◌+◌, ◌≤◌, ◌<◌, Bool, true, false, List, [], ◌∷◌, ◌++◌, length, drop, get_or, Option, Some, None, Ok, MatchOption, refl, sym, ap, ◌∙◌, subst, arith, append_assoc, append-nil, length-append, length-drop}
+use Rattle.std.proofs.Common.{◌≡◌, ℕ, ◌+◌, ◌≤◌, ◌<◌, Bool, true, false, List, [], ◌∷◌, ◌++◌, length, drop, get_or, Option, Some, None, Result, Ok, Err, IfOk, IfSome, MatchOption, refl, sym, ap, ◌∙◌, subst, arith, append_assoc, append-nil, length-append, length-drop}
 use Rattle.std.proofs.lemmas.List.{drop-append-le}
 use Rattle.lin_edn.specs.Bytes.{Kind, closing}
 use Rattle.lin_edn.specs.Grammar.{Opens, no_blank, Row, empty, blank, element, longest, no_blank_yet, Spells, Frame, frame, tagging, Open, none_open, within}
@@ -9,6 +9,7 @@ use Rattle.lin_edn.specs.Scans.{IsStopAt, is_dark, IsBehindTag, IsNoneBehindTag,
 use Rattle.lin_edn.specs.Value.{Value, tagged, made}
 use Rattle.lin_edn.specs.View.{view}
 use Rattle.lin_edn.specs.declared.Edn.{Edn}
+use Rattle.lin_edn.specs.declared.EdnFault.{EdnFault}
 use Rattle.lin_edn.specs.declared.series.Series.{Series}
 use Rattle.lin_edn.proofs.Ahead.{at_byte}
 use Rattle.lin_edn.proofs.Back.{closed_holds}
@@ -54,7 +55,7 @@ row_closed r s vs row lt short h =
     closed_holds row.2 (at_byte s r.at lt ∙ ap (λ c. c ∷ drop (r.at + 1) s) h) (made_is r.is_vector vs) (omega arith)
 
 -- an element
-pub element_inside : (s : List ℕ) (from : ℕ) (v : Value) (used : ℕ) → IsElementAt s from v used → (from < used) × (used ≤ length s)
+pub element_inside : {levels : ℕ} (s : List ℕ) (from : ℕ) (v : Value) (used : ℕ) → IsElementAt levels s from v used → (from < used) × (used ≤ length s)
 element_inside s from v used e =
     let a : from ≤ e.0 = tail_rises (blanks_tail e.2) in
     let b : e.0 < used = (element_past e.3).0 in
@@ -62,7 +63,13 @@ element_inside s from v used e =
     let all = length-drop from s in
     (omega arith, omega arith)
 
-pub row_element : (r : Series) (s : List ℕ) (vs : List Value) (v : Value) (used : ℕ) → IsRow r s vs → IsElementAt s r.at v used →
+pub found_inside : (levels : ℕ) (s : List ℕ) (from : ℕ) (r : Result (Option (Edn × ℕ)) EdnFault) →
+    IfOk r (λ found. IfSome found (λ x. IsElementAt levels s from (view x.0) x.1)) → IfOk r (λ found. IfSome found (λ x. (from < x.1) × (x.1 ≤ length s)))
+found_inside levels s from (Ok (Some x)) h = element_inside s from (view x.0) x.1 h
+found_inside levels s from (Ok None) h = tt
+found_inside levels s from (Err f) h = tt
+
+pub row_element : (r : Series) (s : List ℕ) (vs : List Value) (v : Value) (used : ℕ) → IsRow r s vs → IsElementAt 63 s r.at v used →
     IsRow (record { is_vector = r.is_vector; at = used }) s (vs ++ v ∷ [])
 row_element r s vs v used row e =
     ((element_inside s r.at v used e).1, e.4, more_in row.2 (λ q u before. element (with_blanks before e.2) e.3))

@@ -29,13 +29,13 @@ row_end r = r.at
 abbrev pub IsRow : Series → List ℕ → List Value → Type 0
 IsRow r s vs = (r.at ≤ length s) × (r.at ≤ longest) × Open s 63 (frame (bracket_of r.is_vector) 0 vs ∷ []) r.at (drop r.at s)
 
--- in a list or vector that begins with the first byte, blanks and an element stand from a place up to another, within the longest length
-abbrev pub IsElementAt : List ℕ → ℕ → Value → ℕ → Type 0
-IsElementAt s from v used = (p : ℕ) × (t : List ℕ) × Blanks 63 from (drop from s) p t × Element 63 p t v used (drop used s) × (used ≤ longest)
+-- in a list or vector with so many levels inside, blanks and an element stand from a place up to another, within the longest length
+abbrev pub IsElementAt : ℕ → List ℕ → ℕ → Value → ℕ → Type 0
+IsElementAt levels s from v used = (p : ℕ) × (t : List ℕ) × Blanks levels from (drop from s) p t × Element levels p t v used (drop used s) × (used ≤ longest)
 
--- no element stands there, be it behind blanks
+-- in one that begins with the first byte no element stands there, be it behind blanks
 abbrev pub IsNoElementAt : List ℕ → ℕ → Type 0
-IsNoElementAt s from = (v : Value) (used : ℕ) → IsElementAt s from v used → ⊥
+IsNoElementAt s from = (v : Value) (used : ℕ) → IsElementAt 63 s from v used → ⊥
 
 -- neither a whole element nor the closing byte stands where a text is read to
 abbrev pub IsAtNothing : Series → List ℕ → Type 0

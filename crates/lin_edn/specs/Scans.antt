@@ -76,7 +76,12 @@ GoesFrom s at m old new w = IsWent s at w (frames_of new) (run longest at (frame
 abbrev pub IsBehindTag : List ℕ → ℕ → Value → ℕ → Type 0
 IsBehindTag s from v used = (i : ℕ) × (w : List ℕ) × (p : ℕ) × (run longest from (tagging 0 0 [] ∷ []) between (drop from s) ≡ complete (tagged i w v) p used)
 
--- it finds none
+-- behind two tags that wait, which leave a level less, the machine finds an element from a place up to another
+abbrev pub IsBehindTwo : List ℕ → ℕ → Value → ℕ → Type 0
+IsBehindTwo s from v used = (i j : ℕ) × (w x : List ℕ) × (p : ℕ)
+    × (run longest from (tagging 0 0 [] ∷ tagging 0 0 [] ∷ []) between (drop from s) ≡ complete (tagged i w (tagged j x v)) p used)
+
+-- behind one it finds none
 abbrev pub IsNoneBehindTag : List ℕ → ℕ → Type 0
 IsNoneBehindTag s from = (v : Value) (used : ℕ) → IsBehindTag s from v used → ⊥
 

@@ -1,12 +1,12 @@
 //! A list or vector that is read element by element.
 
-ghost use Rattle.std.specs.Prelude.{◌≡◌, ℕ, ◌<◌, ◌≤◌, ◌++◌, [], List, Ok, IfSome, IfNone, MatchOption, length, drop, map};
+ghost use Rattle.std.specs.Prelude.{◌≡◌, ℕ, ◌<◌, ◌≤◌, ◌++◌, [], List, Ok, IfOk, IfSome, IfNone, MatchOption, length, drop, map};
 ghost use Rattle.lin_edn.specs.Bytes as bytes;
 ghost use Rattle.lin_edn.specs.Grammar.{longest, tagging, Row};
 ghost use Rattle.lin_edn.specs.Levels.{frame_view};
 ghost use Rattle.lin_edn.specs.Machine.{Answer, complete};
-ghost use Rattle.lin_edn.specs.Rows.{IsRow, IsNext, IsBracketless, bracket_of, row_end};
-ghost use Rattle.lin_edn.specs.Scans.{AreOpened, IsFound};
+ghost use Rattle.lin_edn.specs.Rows.{IsRow, IsNext, IsElementAt, IsBracketless, bracket_of, row_end};
+ghost use Rattle.lin_edn.specs.Scans.{AreOpened, IsBehindTwo, IsFound};
 ghost use Rattle.lin_edn.specs.Turns.{Answers};
 ghost use Rattle.lin_edn.specs.Value.{Value, tagged};
 ghost use Rattle.lin_edn.specs.View.{view, entry_view};
@@ -16,6 +16,9 @@ use crate::reader::{USUAL_ENTRIES, open_pairs, scan_on, window};
 use crate::scan::white_end;
 use crate::{Edn, EdnCause, EdnFault, Entry, Next, Span};
 use std::alloc::Global;
+
+// The greatest number of levels within a list or vector without a tag.
+const INNER_LEVELS: usize = 63;
 
 /// A list or vector in front of a text, whose elements are read one by one, so that none has to be kept.
 #[derive(Clone, Copy)]
@@ -166,6 +169,41 @@ fn other_within<'a>(
     Ok(untagged(scan_on(alloc, stack, input, from)?))
 }
 
+/// The element at a place behind an open list or vector, be it behind blanks, and where it ends, within so many levels: 62 or 63.
+/// Nothing where none is found.
+pub fn element_within<'a>(
+    alloc: Global,
+    text: &'a [u8],
+    from: usize,
+    levels: usize,
+) -> Result<Option<(Edn<'a>, usize)>, EdnFault>
+    requires levels { (62 ≤ levels) × (levels ≤ 63) }
+    requires begun { (from ≤ length text.now) × (from ≤ longest) }
+    ensures within { IfOk result (λ found. IfSome found (λ r. (from < r.1) × (r.1 ≤ length text.now))) }
+    ensures element { IfOk result (λ found. IfSome found (λ r. IsElementAt levels text.now from (view r.0) r.1)) }
+{
+    if levels == INNER_LEVELS {
+        return other_within(alloc, text, from);
+    }
+    deeper_within(alloc, text, from)
+}
+
+/// Reads an element that has a level less.
+#[inline(never)]
+fn deeper_within<'a>(
+    alloc: Global,
+    input: &'a [u8],
+    from: usize,
+) -> Result<Option<(Edn<'a>, usize)>, EdnFault>
+    requires { from ≤ length input.now }
+    ensures { IfOk result (λ found. IfSome found (λ r. IsBehindTwo input.now from (view r.0) r.1)) }
+{
+    let mut stack = Vec::new(alloc);
+    push(&mut stack, waiting_tag(input))?;
+    push(&mut stack, waiting_tag(input))?;
+    Ok(untagged_twice(scan_on(alloc, stack, input, from)?))
+}
+
 /// Goes on in a map that holds more than pairs of runs, behind those that it begins with.
 #[inline(never)]
 fn map_within<'a>(
@@ -212,5 +250,19 @@ fn untagged<'a>(next: Next<'a>) -> Option<(Edn<'a>, usize)>
             _ => None,
         },
         _ => None,
+    }
+}
+
+/// The element behind two such tags.
+fn untagged_twice<'a>(next: Next<'a>) -> Option<(Edn<'a>, usize)>
+    ensures { (answer : Answer) → Answers answer (Ok next.entry) → IfSome result
+        (λ r. (i j : ℕ) × (w x : List ℕ) × (p : ℕ) × (answer ≡ complete (tagged i w (tagged j x (view r.0))) p r.1)) }
+{
+    match untagged(next) {
+        Some((element, used)) => match element {
+            Edn::Tagged(_, inner) => Some((Box::into_inner(inner), used)),
+            _ => None,
+        },
+        None => None,
     }
 }

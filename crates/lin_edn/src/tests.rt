@@ -1,4 +1,6 @@
-use crate::{Edn, EdnCause, EdnFault, Inside, Next, Series, Skim, nested_until, next_element};
+use crate::{
+    Edn, EdnCause, EdnFault, Inside, Next, Series, Skim, element_within, nested_until, next_element,
+};
 use std::alloc::{AllocError, Global};
 use std::test::Fail;
 
@@ -350,6 +352,50 @@ fn levels_within(rt: HostRuntime) -> Result<(), Fail> {
     assert!(rt; skims_in(alloc, deepest.as_slice()));
     let deeper = padded(alloc, b"[", b'(', 64, b"1")?;
     assert!(rt; !skims_in(alloc, deeper.as_slice()));
+    Ok(())
+}
+
+/// What an element is that was found, and where it ends.
+fn found(element: Result<Option<(Edn, usize)>, EdnFault>) -> Option<(u8, usize)> {
+    match element {
+        Ok(Some((element, used))) => Some((letter(&element), used)),
+        _ => None,
+    }
+}
+
+#[test]
+#[tactic(auto, unfolding(crate::specs::Grammar::longest))]
+fn elements_within(rt: HostRuntime) -> Result<(), Fail> {
+    let alloc = rt.alloc();
+    let map = b"[{1 #{2}} 3]";
+    assert_eq!(rt; found(element_within(alloc, map, 1, 63)), Some((b'm', 9)));
+    assert_eq!(rt; found(element_within(alloc, map, 1, 62)), Some((b'm', 9)));
+    assert_eq!(rt; found(element_within(alloc, map, 9, 62)), Some((b'i', 11)));
+    // The bracket that is open closes nothing here.
+    assert_eq!(rt; found(element_within(alloc, map, 11, 62)), None);
+    let tagged = b"#a ( #_ 1 ; 2)\n #b #c \"\\\"\" ";
+    assert_eq!(rt;
+        found(element_within(alloc, tagged, 4, 62)),
+        Some((b'#', 26))
+    );
+    let unfinished = b"[{:a 1";
+    assert_eq!(rt; found(element_within(alloc, unfinished, 1, 63)), None);
+    let deepest = padded(alloc, b"", b'(', 62, b"")?;
+    let deepest = padded(alloc, deepest.as_slice(), b')', 62, b"")?;
+    assert_eq!(rt;
+        found(element_within(alloc, deepest.as_slice(), 0, 62)),
+        Some((b'l', 124))
+    );
+    let deeper = padded(alloc, b"", b'(', 63, b"")?;
+    let deeper = padded(alloc, deeper.as_slice(), b')', 63, b"")?;
+    assert_eq!(rt;
+        found(element_within(alloc, deeper.as_slice(), 0, 62)),
+        None
+    );
+    assert_eq!(rt;
+        found(element_within(alloc, deeper.as_slice(), 0, 63)),
+        Some((b'l', 126))
+    );
     Ok(())
 }
 

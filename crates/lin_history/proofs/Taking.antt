@@ -7,7 +7,7 @@ use Rattle.lin_edn.specs.Grammar.{Element, Row, empty, element, longest, spells,
 use Rattle.lin_edn.specs.Rows.{IsRow, row_end}
 use Rattle.lin_edn.specs.Value.{Value, map, tagged, Entries, values_of}
 use Rattle.lin_edn.specs.declared.series.Series.{Series}
-use Rattle.lin_history.specs.Reads.{IsTold, IsElement}
+use Rattle.lin_history.specs.Reads.{IsTold, IsToldOn, IsElement}
 use Rattle.lin_history.specs.Stream.{Told, before, told_by, maps_in}
 use Rattle.lin_history.specs.Table.{event, event_in, bare}
 use Rattle.lin_history.specs.Usual.{IsTaken, events_of}
@@ -15,7 +15,7 @@ use Rattle.lin_history.specs.declared.events.Event.{Event}
 use Rattle.lin_history.specs.declared.numbers.OutOfMemory.{OutOfMemory}
 use Rattle.lin_history.specs.declared.table.EventFault.{EventFault}
 use Rattle.lin_history.specs.declared.usual.Taken.{Taken}
-use Rattle.lin_history.proofs.Waiting.{waits_more}
+use Rattle.lin_history.proofs.Waiting.{told_on}
 
 -- what a map tells that says an event, or none
 told_case : (o : Option Event) → before (Ok o) (record { events = []; ends = None }) ≡ record { events = events_of o; ends = None }
@@ -31,11 +31,10 @@ tells k v o old new h put =
     let told = told_one k v o h in
     (ap (λ (t : Told). t.ends) told, put ∙ ap (λ (t : Told). old ++ t.events) (sym told))
 
-pub waits_one : (r : Result (Unit {0}) OutOfMemory) (o : Option Event) (es fs : List Event) (ends : Option EventFault) → OnOk r (fs ≡ es ++ events_of o) → is_some ends ≡ false →
-    OnOk r ((k : Bool) (vs : List Value) (v : Value) → event k v ≡ Ok o → told_by k (values_of vs) ≡ record { events = es; ends = ends } →
-    told_by k (values_of (vs ++ v ∷ [])) ≡ record { events = fs; ends = ends })
-waits_one (Ok u) o es fs ends put n = λ k vs v h told. waits_more k vs v es fs ends n (tells k v o es fs h put) told
-waits_one (Err e) o es fs ends put n = tt
+pub told_event : (r : Result (Unit {0}) OutOfMemory) (o : Option Event) (old new : List Event) (ends : Option EventFault) → OnOk r (new ≡ old ++ events_of o) →
+    is_some ends ≡ false → OnOk r ((k : Bool) (v : Value) → event k v ≡ Ok o → IsToldOn k v old ends new ends)
+told_event (Ok u) o old new ends put n = λ k v h. told_on k v old new ends n (tells k v o old new h put)
+told_event (Err e) o old new ends put n = tt
 
 -- a map with a tag or none says what it says without
 pub said_so : (k : Bool) (s : List ℕ) (from levels : ℕ) (taken : Taken) (t : IsTaken k s from levels taken) → event k t.value ≡ Ok taken.event

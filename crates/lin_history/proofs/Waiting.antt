@@ -1,12 +1,12 @@
 -- What waits of a list or vector that is read map by map.
-use Rattle.std.proofs.Common.{◌≡◌, ◌≢◌, ℕ, ◌+◌, ◌≤◌, Bool, true, false, List, [], ◌∷◌, ◌++◌, Option, Some, None, Result, Ok, Err, length, drop, refl, sym, ap, ◌∙◌, subst, zero-add, add-zero, true≢false}
+use Rattle.std.proofs.Common.{◌≡◌, ◌≢◌, ℕ, ◌+◌, ◌≤◌, Bool, true, false, List, [], ◌∷◌, ◌++◌, Option, Some, None, Result, Ok, Err, length, drop, refl, sym, ap, ◌∙◌, subst, append-nil, zero-add, add-zero, true≢false}
 use Rattle.std.specs.Option.{is_some}
 use Rattle.lin_edn.specs.Value.{Value, values_of}
 use Rattle.lin_edn.specs.Grammar.{Spells}
 use Rattle.lin_edn.specs.Rows.{value_in}
 use Rattle.lin_history.specs.Table.{event}
 use Rattle.lin_history.specs.Stream.{Told, before, told, told_by, Gives, nothing, element}
-use Rattle.lin_history.specs.Reads.{IsReadTo, IsTold}
+use Rattle.lin_history.specs.Reads.{IsReadTo, IsTold, IsToldOn}
 use Rattle.lin_history.specs.declared.events.Event.{Event}
 use Rattle.lin_history.specs.declared.follow.Read.{Read}
 use Rattle.lin_history.specs.declared.follow.FollowFault.TheVariants as fault
@@ -51,13 +51,38 @@ waits_more k vs v es fs None h t e = told_then k vs v es None e ∙ cc
 waits_more k vs v es fs (Some f) h t e = absurd (true≢false h)
 
 -- a fault of a map ends what waits
-pub waits_fault : (k : Bool) (vs : List Value) (v : Value) (es fs : List Event) (o : Option EventFault) (f : EventFault) → is_some o ≡ false → f ≢ cause.OutOfMemory →
-    IsTold (told_by k (values_of (v ∷ []))) es fs (Err f) →
-    told_by k (values_of vs) ≡ record { events = es; ends = o } → told_by k (values_of (vs ++ v ∷ [])) ≡ record { events = fs; ends = Some f }
-waits_fault k vs v es fs None f h n t e =
-    let tells = told_fault (told_by k (values_of (v ∷ []))) es fs f n t in
-    told_then k vs v es None e ∙ cc
-waits_fault k vs v es fs (Some g) f h n t e = absurd (true≢false h)
+pub waits_fault : (k : Bool) (vs : List Value) (v : Value) (es : List Event) (o : Option EventFault) (f : EventFault) → is_some o ≡ false →
+    (told_by k (values_of (v ∷ []))).ends ≡ Some f → told_by k (values_of vs) ≡ record { events = es; ends = o } →
+    told_by k (values_of (vs ++ v ∷ [])) ≡ record { events = es ++ (told_by k (values_of (v ∷ []))).events; ends = Some f }
+waits_fault k vs v es None f h ends e = told_then k vs v es None e ∙ cc
+waits_fault k vs v es (Some g) f h ends e = absurd (true≢false h)
+
+-- what a map tells is put behind what was told: nothing behind a fault
+pub told_behind_fault : (k : Bool) (v : Value) (old : List Event) (o : Option EventFault) → is_some o ≡ true → IsToldOn k v old o old o
+told_behind_fault k v old o h = (
+  [],
+  sym (append-nil old),
+  λ vs es e. subst (λ l. told_by k (values_of (vs ++ v ∷ [])) ≡ record { events = l; ends = o }) (sym (append-nil es)) (waits_behind_fault k vs v es o h e),
+)
+
+-- its event, if it says one
+pub told_on : (k : Bool) (v : Value) (old new : List Event) (o : Option EventFault) → is_some o ≡ false →
+    IsTold (told_by k (values_of (v ∷ []))) old new (Ok tt) → IsToldOn k v old o new o
+told_on k v old new o h t =
+    let more = (told_by k (values_of (v ∷ []))).events in
+    (more, t.1, λ vs es e. waits_more k vs v es (es ++ more) o h (t.0, refl) e)
+
+-- its fault
+pub told_fault_on : (k : Bool) (v : Value) (old new : List Event) (o : Option EventFault) (f : EventFault) → is_some o ≡ false → f ≢ cause.OutOfMemory →
+    IsTold (told_by k (values_of (v ∷ []))) old new (Err f) → IsToldOn k v old o new (Some f)
+told_fault_on k v old new o f h n t =
+    let tells = told_fault (told_by k (values_of (v ∷ []))) old new f n t in
+    ((told_by k (values_of (v ∷ []))).events, tells.1, λ vs es e. waits_fault k vs v es o f h tells.0 e)
+
+-- what waits, where one more map is told
+pub waits_on : (k : Bool) (v : Value) (old new : List Event) (o o' : Option EventFault) → IsToldOn k v old o new o' → (vs : List Value) →
+    told_by k (values_of vs) ≡ record { events = old; ends = o } → told_by k (values_of (vs ++ v ∷ [])) ≡ record { events = new; ends = o' }
+waits_on k v old new o o' t vs e = t.2 vs old e ∙ ap (λ (es : List Event). record { events = es; ends = o' }) (sym t.1)
 
 -- a list or vector tells what its maps tell
 pub row_told : (k b : Bool) (vs : List Value) → told k (value_in b vs) ≡ told_by k (values_of vs)

@@ -1,8 +1,8 @@
 -- What the code reads of the bytes that are held: cited by the contracts of private functions alone.
-use Rattle.std.specs.Prelude.{◌≡◌, ℕ, ◌+◌, ◌<◌, ◌≤◌, Bool, true, false, List, ◌++◌, length, drop, Option, Some, None, Result, Ok, Err}
-use Rattle.lin_edn.specs.Value.{Value}
+use Rattle.std.specs.Prelude.{◌≡◌, ℕ, ◌+◌, ◌<◌, ◌≤◌, Bool, true, false, List, [], ◌∷◌, ◌++◌, length, drop, Option, Some, None, Result, Ok, Err}
+use Rattle.lin_edn.specs.Value.{Value, values_of}
 use Rattle.lin_edn.specs.Grammar.{Spells}
-use Rattle.lin_history.specs.Stream.{Told, told, Gives, IsStream}
+use Rattle.lin_history.specs.Stream.{Told, told, told_by, Gives, IsStream}
 use Rattle.lin_history.specs.Sees.{is_fault}
 use Rattle.lin_history.specs.declared.events.Event.{Event}
 use Rattle.lin_history.specs.declared.table.EventFault.{EventFault}
@@ -19,6 +19,11 @@ abbrev pub IsTold : Told → List Event → List Event → Result (Unit {0}) Eve
 IsTold t old new (Ok _) = (t.ends ≡ None) × (new ≡ old ++ t.events)
 IsTold t old new (Err cause.OutOfMemory) = (es : List Event) × (new ≡ old ++ es)
 IsTold t old new (Err f) = (t.ends ≡ Some f) × (new ≡ old ++ t.events)
+
+-- what a map tells, behind others that told something and end so far, is put behind what was told
+abbrev pub IsToldOn : Bool → Value → List Event → Option EventFault → List Event → Option EventFault → Type 0
+IsToldOn keyed v old ends new ends' = (more : List Event) × (new ≡ old ++ more) × ((vs : List Value) (es : List Event) →
+    told_by keyed (values_of vs) ≡ record { events = es; ends = ends } → told_by keyed (values_of (vs ++ v ∷ [])) ≡ record { events = es ++ more; ends = ends' })
 
 -- an outcome whose places count from a place on
 abbrev pub behind : ℕ → Result (Unit {0}) FollowFault → Result (Unit {0}) FollowFault

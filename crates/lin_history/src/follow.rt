@@ -1,5 +1,5 @@
 //! The events of a stream that comes in pieces.
-ghost use Rattle.std.specs.Prelude.{◌≡◌, ◌+◌, ◌≤◌, ◌++◌, [], ◌∷◌, true, false, Bool, ℕ, List, Err, map, length, drop, MatchOption, OnOk, OnErr};
+ghost use Rattle.std.specs.Prelude.{◌≡◌, ◌+◌, ◌≤◌, ◌++◌, [], ◌∷◌, true, false, Bool, ℕ, List, Ok, Err, map, length, drop, MatchOption, OnOk, OnErr};
 ghost use Rattle.lin_edn.specs.Value.{values_of};
 ghost use Rattle.lin_edn.specs.View.{view};
 ghost use Rattle.lin_edn.specs.Skimming.{IsOpenText};
@@ -7,6 +7,7 @@ ghost use Rattle.lin_history.specs.Stream.{told, told_by, StreamsAreUnique};
 ghost use Rattle.lin_history.specs.Sees.{Sees, Takes, TakesAll, Feeds, StaysFaulty, FaultsStay, most};
 ghost use Rattle.lin_history.specs.Reads.{IsTold, IsReadOn, IsReadTo, IsFront, IsStanding, IsRead};
 ghost use Rattle.lin_history.specs.Rests.{IsOpen, IsWhole, IsSeen, Knows, IsUnaware, GoesOn, IsReadHeld};
+ghost use Rattle.lin_history.specs.Whole.{IsWholeRow};
 ghost use Rattle.lin_history.specs.declared.events.Event.{Event as TheEvent};
 ghost use Rattle.lin_history.specs.declared.follow.FollowFault.{FollowFault as TheFault};
 
@@ -15,7 +16,7 @@ use crate::numbers::OutOfMemory;
 use crate::row::{Far, Row, begin_row, put_all, put_event, read_maps, tell_one};
 use crate::table::{EventFault, bare};
 use crate::usual::next_usual;
-use crate::whole::read_row;
+use crate::whole::{WholeRow, read_row};
 use lin_edn::{
     Edn, EdnCause, Next, Skim, blanks_are_skipped, blanks_in_front, more_bytes, next_element,
     places, readings_are_unique,
@@ -467,10 +468,27 @@ fn read_front(
             put_event(ready, taken.event)?;
             Ok(Front::Element(taken.used))
         }
-        None => match read_row(keyed, text, ready)? {
-            Some(used) => Ok(Front::Element(used)),
+        None => match read_row(alloc, keyed, text, ready)? {
+            Some(row) => Ok(front_of(row, place)),
             None => read_element(alloc, keyed, text, place, ready),
         },
+    }
+}
+
+/// What a list or vector is in front of a text, which stands from a place of the stream on.
+fn front_of(row: WholeRow, place: u64) -> Front
+    requires { place + row.at ≤ most }
+    ensures { (keyed : Bool) (text : List ℕ) (old new : List TheEvent) → IsWholeRow keyed text old new row → IsFront keyed text place old new (Ok result) }
+{
+    match row.ends {
+        None => Front::Element(row.used),
+        Some(cause) => ends(
+            row.used,
+            Err(FollowFault::Event {
+                at: place + row.at as u64,
+                cause,
+            }),
+        ),
     }
 }
 

@@ -27,4 +27,6 @@ pub use shapes::{Cause, Shape, Status};
 pub use table::{EventFault, event_of};
 
 #[cfg(test)]
+mod row_tests;
+#[cfg(test)]
 mod tests;

@@ -4,7 +4,7 @@ ghost use Rattle.lin_edn.specs.Rows.{row_end};
 ghost use Rattle.lin_edn.specs.Value.{Value, values_of};
 ghost use Rattle.lin_edn.specs.View.{view};
 ghost use Rattle.lin_history.specs.Stream.{told_by};
-ghost use Rattle.lin_history.specs.Reads.{IsTold};
+ghost use Rattle.lin_history.specs.Reads.{IsTold, IsToldOn, IsPutBehind};
 ghost use Rattle.lin_history.specs.Rests.{told_of, IsOpen, IsWaiting, IsFar};
 ghost use Rattle.lin_history.specs.Table.{event as told_in};
 ghost use Rattle.lin_history.specs.Usual.{IsTaken, events_of};
@@ -88,21 +88,24 @@ fn pass_usual(row: &mut Row, taken: Taken) -> Result<(), OutOfMemory>
         → IsOpen keyed row.new s × (row_end row.old.series < row_end row.new.series)) }
 {
     let used = taken.used;
-    wait_for(row, taken.event)?;
+    wait_for(&mut row.waiting, row.ends, taken.event)?;
     row.series.pass(used);
     Ok(())
 }
 
-/// Lets the event of a usual map, if it says one, wait behind those before it, unless a fault stands there.
-fn wait_for(row: &mut Row, event: Option<Event>) -> Result<(), OutOfMemory>
-    ensures series { row.new.series ≡ row.old.series }
-    ensures told { OnOk result ((k : Bool) (vs : List Value) (v : Value) → told_in k v ≡ Ok event → told_by k (values_of vs) ≡ told_of row.old
-        → told_by k (values_of (vs ++ v ∷ [])) ≡ told_of row.new) }
+/// Puts the event of a usual map, if it says one, behind those before it, unless a fault stands there.
+pub(crate) fn wait_for(
+    waiting: &mut VecDeque<Event>,
+    ends: Option<EventFault>,
+    event: Option<Event>,
+) -> Result<(), OutOfMemory>
+    ensures ok { OnOk result ((k : Bool) (v : Value) → told_in k v ≡ Ok event → IsToldOn k v waiting.old.items ends waiting.new.items ends) }
+    ensures err { OnErr result (IsPutBehind waiting.old.items waiting.new.items) }
 {
-    if row.ends.is_some() {
+    if ends.is_some() {
         return Ok(());
     }
-    put_event(&mut row.waiting, event)
+    put_event(waiting, event)
 }
 
 /// Takes a map that is read, and gives its entries back for their room.
@@ -116,7 +119,7 @@ fn take_map<'a>(
     ensures told { OnOk result ((vs : List Value) → told_by keyed (values_of vs) ≡ told_of row.old
         → told_by keyed (values_of (vs ++ view element.entry ∷ [])) ≡ told_of row.new) }
 {
-    wait(alloc, keyed, &element, row)?;
+    wait(alloc, keyed, &element, &mut row.waiting, &mut row.ends)?;
     Ok(room_of(alloc, element))
 }
 
@@ -128,21 +131,26 @@ fn room_of<'a>(alloc: Global, element: Edn<'a>) -> Vec<Entry<'a>> {
     }
 }
 
-/// Lets the event of a map wait behind those before it, unless a fault stands there.
-fn wait(alloc: Global, keyed: bool, element: &Edn, row: &mut Row) -> Result<(), OutOfMemory>
-    ensures series { row.new.series ≡ row.old.series }
-    ensures told { OnOk result ((vs : List Value) → told_by keyed (values_of vs) ≡ told_of row.old
-        → told_by keyed (values_of (vs ++ view element.now ∷ [])) ≡ told_of row.new) }
+/// Puts the event of a map behind those before it, unless a fault stands there; a fault ends them.
+pub(crate) fn wait(
+    alloc: Global,
+    keyed: bool,
+    element: &Edn,
+    waiting: &mut VecDeque<Event>,
+    ends: &mut Option<EventFault>,
+) -> Result<(), OutOfMemory>
+    ensures ok { OnOk result (IsToldOn keyed (view element.now) waiting.old.items ends.old waiting.new.items ends.new) }
+    ensures err { OnErr result (IsPutBehind waiting.old.items waiting.new.items) }
 {
-    if row.ends.is_some() {
+    if ends.is_some() {
         return Ok(());
     }
-    match tell_one(alloc, keyed, element, &mut row.waiting) {
+    match tell_one(alloc, keyed, element, waiting) {
         Ok(()) => Ok(()),
         Err(fault) => match fault {
             EventFault::OutOfMemory => Err(OutOfMemory),
             cause => {
-                row.ends = Some(cause);
+                *ends = Some(cause);
                 Ok(())
             }
         },

@@ -14,7 +14,7 @@ const RECORDED: &[u8] = b"; a recorded test
 ";
 
 /// The events that are ready, taken one after the other.
-fn taken(alloc: Global, follow: &mut Follow) -> Result<Vec<Event>, Fail> {
+pub(crate) fn taken(alloc: Global, follow: &mut Follow) -> Result<Vec<Event>, Fail> {
     let mut events = Vec::new(alloc);
     for _ in 0..follow.ready() {
         if let Some(event) = follow.take() {
@@ -24,7 +24,7 @@ fn taken(alloc: Global, follow: &mut Follow) -> Result<Vec<Event>, Fail> {
     Ok(events)
 }
 
-fn event(process: u64, body: Body) -> Event {
+pub(crate) fn event(process: u64, body: Body) -> Event {
     Event {
         process,
         key: 0,
@@ -92,7 +92,12 @@ fn a_fault_stands_and_the_events_before_it_are_ready(rt: HostRuntime) -> Result<
     Ok(())
 }
 
-fn end_of(rt: &impl Abort, alloc: Global, text: &[u8], events: usize) -> Result<(), FollowFault> {
+pub(crate) fn end_of(
+    rt: &impl Abort,
+    alloc: Global,
+    text: &[u8],
+    events: usize,
+) -> Result<(), FollowFault> {
     let mut follow = Follow::new(alloc, false);
     let fed = follow.feed(text);
     assert_eq!(rt; follow.ready(), events);
@@ -327,7 +332,7 @@ fn are_alike(a: Result<(), FollowFault>, b: Result<(), FollowFault>) -> bool {
 }
 
 /// A text tells the same whether its maps are usual or not, and wherever it is cut.
-fn tells_the_same(
+pub(crate) fn tells_the_same(
     rt: &impl Abort,
     alloc: Global,
     keyed: bool,
@@ -444,7 +449,7 @@ fn usual_maps_say_what_other_maps_say(rt: HostRuntime) -> Result<(), Fail> {
 }
 
 /// A read with an ignored value in so many vectors, behind some bytes and before others.
-fn nesting(
+pub(crate) fn nesting(
     alloc: Global,
     front: &[u8],
     levels: usize,
@@ -546,7 +551,7 @@ fn tags_in_front_of_lists_and_vectors_are_read_over(rt: HostRuntime) -> Result<(
 }
 
 /// The place that tells that a text nests too deep, if that is how it ends.
-fn too_deep_at(alloc: Global, text: &[u8]) -> Option<u64> {
+pub(crate) fn too_deep_at(alloc: Global, text: &[u8]) -> Option<u64> {
     let mut follow = Follow::new(alloc, false);
     match follow.feed(text) {
         Err(

@@ -1,4 +1,4 @@
-use Rattle.std.proofs.Common.{◌≡◌, sym, subst}
+use Rattle.std.proofs.Common.{◌≡◌, subst}
 use Rattle.std.proofs.lemmas.List.Filters.{dedup_is}
 use Rattle.lin_history.specs.Sets.{IsRising, members_of}
 use Rattle.lin_history.proofs.Rising.{members_are, sorted_are_members}

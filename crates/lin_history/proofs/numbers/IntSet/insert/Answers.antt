@@ -1,4 +1,4 @@
-use Rattle.std.proofs.Common.{◌≡◌, ℤ, List, sym, subst, ◌∙◌, OnOk, OnErr}
+use Rattle.std.proofs.Common.{◌≡◌, ℤ, List, sym, subst, OnOk, OnErr}
 use Rattle.std.specs.declared.result.Result.{Result}
 use Rattle.std.specs.declared.result.Result.TheVariants.{Ok, Err}
 use Rattle.std.specs.List.{insert}
