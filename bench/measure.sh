@@ -57,6 +57,9 @@ for shape in lines vector; do
     "$here/generate.sh" 195000 100 "$shape" > "$folder/shaped.edn"
     recording "195000 events in ${shape/vector/one vector}, \`empty\`" empty < "$folder/shaped.edn"
 done
+# A backslash in a text makes a map unusual.
+"$here/generate.sh" 160000 100 vector | sed '1s/^/#h /; s/:index/:note "a \\\\ b", :index/' > "$folder/unusual.edn"
+recording "160000 unusual events in one vector behind a tag, \`empty\`" empty < "$folder/unusual.edn"
 
 for round in 1 2 3 4 5 6 7 8 9; do
     for row in $(seq "$rows"); do measure "$row"; done
