@@ -1,6 +1,6 @@
 #!/usr/bin/env bash
 # Generated histories, each with an order that is legal by the way it was made: whatever the spelling (a map a line, one vector, tags
-# and comments between), `verify` has to say yes of that order and no of the empty one, and `check` has to say yes.
+# and comments between, one vector behind a tag), `verify` has to say yes of that order and no of the empty one, and `check` has to say yes.
 # usage: tests/generated.sh   (the program has to be built)
 set -u
 cd "$(dirname "$0")/.."
@@ -23,7 +23,9 @@ prints() { # wanted, command
 bench/generate.sh 2000 100 lines "$folder/order" > "$folder/lines.edn"
 bench/generate.sh 2000 100 vector > "$folder/vector.edn"
 sed 's/^{/#jepsen.history.Op {/; s/, :time/ ,:time/; s/$/ ; #_ a comment/' "$folder/lines.edn" > "$folder/tagged.edn"
-for spelling in lines vector tagged; do
+# One vector behind a tag, whose maps aren't read in place: a backslash stands in each.
+sed '1s/^/#h /; s/, :index/, :note "a \\\\ b", :index/' "$folder/vector.edn" > "$folder/unusual.edn"
+for spelling in lines vector tagged unusual; do
     prints yes ./lincheck verify "$folder/$spelling.edn" "$(cat "$folder/order")"
     prints no ./lincheck verify "$folder/$spelling.edn" empty
     prints "$(printf 'events 2000 objects 1\nobject 0 register: yes\nwhole: yes')" ./lincheck check "$folder/$spelling.edn"
