@@ -1,5 +1,7 @@
 -- The exit status of a run, and what a line has the program do.
-use Rattle.std.specs.Prelude.{◌≡◌, ◌≤◌, ◌⊎◌, ℕ, Bool, List, [], Option, Some, None, option_map, Result, Ok, Err}
+use Rattle.std.specs.Prelude.{◌≡◌, ◌≤◌, ◌⊎◌, ℕ, Bool, List, [], Option, Some, None, option_map, Result, Ok, Err, if◌then◌else◌}
+use Rattle.std.specs.declared.io.ErrorKind.{ErrorKind as IoKind}
+use Rattle.std.specs.declared.io.ErrorKind.TheVariants as io_kind
 use Rattle.clap.specs.declared.error.kind.ErrorKind.{ErrorKind}
 use Rattle.clap.specs.declared.error.kind.ErrorKind.TheVariants as kind
 use Rattle.lin_report.specs.Reports.{IsCheckRun}
@@ -12,7 +14,7 @@ use Rattle.lin_report.specs.declared.faults.RunFault.TheVariants.{ReadFailed, Wr
 use Rattle.lin_report.specs.declared.runs.Settings.{Settings}
 use Rattle.lincheck.specs.declared.endings.Ending.{Ending}
 use Rattle.lincheck.specs.declared.system.Message.{Message}
-use Rattle.lincheck.specs.declared.system.Message.TheVariants.{Refusal, NotOpened, Fault, OutOfMemory as NoMemory}
+use Rattle.lincheck.specs.declared.system.Message.TheVariants.{NotOpened, Fault, OutOfMemory as NoMemory, NoText}
 use Rattle.lincheck.specs.declared.words.Line.{Line}
 use Rattle.lincheck.specs.declared.words.Line.TheVariants.{Verify, Check, Edit}
 
@@ -73,6 +75,12 @@ pub record SystemWords (S F C O : Type 0) : Type 1 where
   pub reads : S → C → Type 0
   pub writes : S → O → Type 0
   pub tells : S → Message → Bool → S → Type 0
+
+-- There are no words of a command line. The program tells that memory ran out, where that is why, and ends with 6; else that the words are no
+-- text, and ends with 5, or with 6 where that couldn't be told.
+abbrev pub EndsWithoutWords : {S F C O : Type 0} → SystemWords S F C O → IoKind → S → S → ℕ → Type 0
+EndsWithoutWords system io_kind.OutOfMemory old new status = (told : Bool) × system.tells old NoMemory told new × (status ≡ 6)
+EndsWithoutWords system _ old new status = (told : Bool) × system.tells old NoText told new × (status ≡ (if told then 5 else 6))
 
 -- The bytes that a file, the commands and the output hold are given by three functions.
 module _ {S F C O : Type 0} (system : SystemWords S F C O) (held : F → Option (List ℕ)) (commanded : C → Option (List ℕ)) (written : O → Option (List ℕ)) (old new : S) where

@@ -2,7 +2,8 @@
 #![tactic(auto)]
 
 ghost use Rattle.std.specs.Prelude.{◌≡◌, IfOk, IfErr, map};
-ghost use Rattle.lincheck.specs.Exit.{IsRunnable, Ends, EndsOver};
+ghost use Rattle.std.specs.IoError.{error_kind};
+ghost use Rattle.lincheck.specs.Exit.{IsRunnable, Ends, EndsOver, EndsWithoutWords};
 ghost use Rattle.lincheck.specs.Program.{IsLineOf, IsRefusalOf, IsEnd};
 
 mod command;
@@ -95,13 +96,22 @@ pub fn run_words<S: System>(alloc: Global, system: &mut S, words: &[&str]) -> u8
 }
 
 /// Tells why there are no words of a command line, and gives the exit status.
-fn end_without_words<S: System>(system: &mut S, error: &io::Error) -> u8 {
-    if error.kind() == io::ErrorKind::OutOfMemory {
-        let _is_told = system.tell(&Message::OutOfMemory);
-        return FAILED;
+fn end_without_words<S: System>(system: &mut S, error: &io::Error) -> u8
+    ensures { EndsWithoutWords S.words (error_kind error.now) system.old system.new result }
+{
+    match error.kind() {
+        io::ErrorKind::OutOfMemory => {
+            let _is_told = system.tell(&Message::OutOfMemory);
+            FAILED
+        }
+        _ => {
+            if system.tell(&Message::NoText) {
+                LINE_REFUSED
+            } else {
+                FAILED
+            }
+        }
     }
-    let _is_told = system.tell(&Message::NoText);
-    LINE_REFUSED
 }
 
 fn main(rt: HostRuntime) -> ExitCode {

@@ -1,8 +1,11 @@
 //! Command lines, and the statuses with which they end.
-use crate::{Ending, Line, Message, System, exit_of_refusal, line, run, run_words};
+use crate::{
+    Ending, Line, Message, System, end_without_words, exit_of_refusal, line, run, run_words,
+};
 use lin_objects::Kind;
 use lin_report::{Counted, Settings};
 use std::alloc::Global;
+use std::io;
 use std::test::Fail;
 
 /// The status with which the program ends where the words give no line.
@@ -188,5 +191,23 @@ fn words_end_as_their_line_does_on_the_system(rt: HostRuntime) {
             "{words:?}"
         );
         assert_eq!(rt; system.told, *told, "{words:?}");
+    }
+}
+
+#[test]
+fn words_that_are_missing_are_told(rt: HostRuntime) {
+    for (kind, status) in [
+        (io::ErrorKind::InvalidData, 5),
+        (io::ErrorKind::OutOfMemory, 6),
+    ] {
+        let mut system = OneFile {
+            alloc: rt.alloc(),
+            told: 0,
+        };
+        assert_eq!(rt;
+            end_without_words(&mut system, &io::Error::from(kind)),
+            status
+        );
+        assert_eq!(rt; system.told, 1);
     }
 }
