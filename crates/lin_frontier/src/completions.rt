@@ -16,13 +16,15 @@ use crate::offers::{OfferList, Offers, may_be_watched};
 use crate::pending::{Open, Pending};
 use crate::placing::place_if_absent;
 use crate::rounds::RoundNodes;
-use crate::scratch::Scratch;
+use crate::scratch::{Scratch, give_up_all};
 use crate::seen::{Seen, is_found};
+use crate::spare::Pool;
 use lin_history::{Meter, OutOfMemory, Reply};
 use lin_objects::SeqObject;
 use lin_order::Placed;
 use std::alloc::Global;
 use std::hash::Hash;
+use std::rc::Rc;
 
 /// An operation that completes with the reply, and the operations that are open beside it.
 #[derive(Drop)]
@@ -70,12 +72,13 @@ impl<'a, O: SeqObject> Completion<'a, O> {
         member: &Member<O::State>,
         steps: &mut Vec<(O::State, Reply)>,
         meter: &mut Meter,
+        pool: &mut Pool,
     ) -> Result<Offers, OutOfMemory>
         ensures offered { IfOk result (AreBehind (O.step self.now.object.now) (O.observing self.now.object.now) self.now.pending.now member.now) }
         ensures tried { IsTriedAtMost (length self.now.pending.now) meter.old meter.new }
     {
         if may_be_watched(self.object, self.pending) {
-            return self.offers_to_watchers(alloc, member, steps, meter);
+            return self.offers_to_watchers(alloc, member, steps, meter, pool);
         }
         Ok(Offers::none())
     }
@@ -88,11 +91,16 @@ impl<'a, O: SeqObject> Completion<'a, O> {
         member: &Member<O::State>,
         steps: &mut Vec<(O::State, Reply)>,
         meter: &mut Meter,
+        pool: &mut Pool,
     ) -> Result<Offers, OutOfMemory>
         ensures offered { IfOk result (AreBehind (O.step self.now.object.now) (O.observing self.now.object.now) self.now.pending.now member.now) }
         ensures tried { IsTriedAtMost (length self.now.pending.now) meter.old meter.new }
     {
-        let mut list = OfferList::new(alloc);
+        let mut shared = OfferList::emptied(alloc, &mut pool.offers)?;
+        // It has one owner, so it can be written.
+        let Some(list) = Rc::get_mut(&mut shared) else {
+            return Err(OutOfMemory);
+        };
         list.push_watched(self.object, alloc, self.pending, member.offers())?;
         list.offer_all(
             self.object,
@@ -103,8 +111,7 @@ impl<'a, O: SeqObject> Completion<'a, O> {
             steps,
             meter,
         )?;
-        let offers = Offers::of(alloc, list)?;
-        Ok(offers)
+        Ok(Offers::of(shared, &mut pool.offers))
     }
 
     /// Places the operation in each way that the object has, unless it is treated as an observer.
@@ -116,6 +123,7 @@ impl<'a, O: SeqObject> Completion<'a, O> {
         out: &mut Vec<(Config<O::State>, Placed)>,
         steps: &mut Vec<(O::State, Reply)>,
         meter: &mut Meter,
+        pool: &mut Pool,
     ) -> Result<(), OutOfMemory>
         ensures placed { OnOk result (IsTried (PlacesIfUpdate (O.step self.now.object.now) (O.observing self.now.object.now) operation.now config.now) out.old.items out.new.items) }
         ensures tried { IsTriedAtMost 1 meter.old meter.new }
@@ -123,7 +131,16 @@ impl<'a, O: SeqObject> Completion<'a, O> {
         if self.object.observes(&operation.call) {
             return Ok(());
         }
-        place_if_absent(self.object, alloc, config, operation, out, steps, meter)?;
+        place_if_absent(
+            self.object,
+            alloc,
+            config,
+            operation,
+            out,
+            steps,
+            meter,
+            &mut pool.pairs,
+        )?;
         Ok(())
     }
 
@@ -136,6 +153,7 @@ impl<'a, O: SeqObject> Completion<'a, O> {
         out: &mut Vec<(Config<O::State>, Placed)>,
         steps: &mut Vec<(O::State, Reply)>,
         meter: &mut Meter,
+        pool: &mut Pool,
     ) -> Result<(), OutOfMemory>
         ensures placed { OnOk result (AreUpdates (O.step self.now.object.now) (O.observing self.now.object.now) self.now.pending.now config.now out.new.items) }
         ensures tried { IsTriedAtMost (length self.now.pending.now) meter.old meter.new }
@@ -145,7 +163,7 @@ impl<'a, O: SeqObject> Completion<'a, O> {
         let mut at = 0;
         while let Some(operation) = operations.get(at) {
             if !waits_for_like(&operations[..at], config.placed(), operation) {
-                self.place_update(alloc, config, operation, out, steps, meter)?;
+                self.place_update(alloc, config, operation, out, steps, meter, pool)?;
             }
             at += 1;
         }
@@ -163,6 +181,7 @@ impl<'a, O: SeqObject> Completion<'a, O> {
         seen: &mut Seen,
         visited: &mut Vec<Member<O::State>>,
         nodes: &mut RoundNodes,
+        pool: &mut Pool,
     ) -> Result<(), OutOfMemory>
         ensures grown { IsGrown nodes.old nodes.new }
         ensures visited { OnOk result (IsVisiting (O.observing self.now.object.now) self.now.pending.now next.old.items offers.now path nodes.new
@@ -170,9 +189,11 @@ impl<'a, O: SeqObject> Completion<'a, O> {
     {
         while let Some((config, placed)) = next.pop() {
             if seen.has_start(self.object, self.pending, starts, &config, offers) {
+                config.give_up(&mut pool.pairs);
                 continue;
             }
             if seen.has_visited(self.object, self.pending, visited, &config, offers) {
+                config.give_up(&mut pool.pairs);
                 continue;
             }
             let member = advanced(alloc, config, offers, path, placed, nodes)?;
@@ -235,6 +256,7 @@ impl<'a, O: SeqObject> Completion<'a, O> {
         nodes: &mut RoundNodes,
         steps: &mut Vec<(O::State, Reply)>,
         meter: &mut Meter,
+        pool: &mut Pool,
     ) -> Result<Option<Offers>, OutOfMemory>
         requires { O.observing self.now.object.now self.now.operation.now.call ≡ true }
         ensures grown { IsGrown nodes.old nodes.new }
@@ -255,12 +277,13 @@ impl<'a, O: SeqObject> Completion<'a, O> {
                     round,
                     placed,
                     nodes,
+                    pool,
                 )?;
                 push_member(out, next)?;
                 Ok(None)
             }
             None => {
-                let offers = self.offers_behind(alloc, member, steps, meter)?;
+                let offers = self.offers_behind(alloc, member, steps, meter, pool)?;
                 Ok(Some(offers))
             }
         }
@@ -276,6 +299,7 @@ impl<'a, O: SeqObject> Completion<'a, O> {
         nodes: &mut RoundNodes,
         steps: &mut Vec<(O::State, Reply)>,
         meter: &mut Meter,
+        pool: &mut Pool,
     ) -> Result<Offers, OutOfMemory>
         requires { O.observing self.now.object.now self.now.operation.now.call ≡ false }
         ensures grown { IsGrown nodes.old nodes.new }
@@ -284,7 +308,7 @@ impl<'a, O: SeqObject> Completion<'a, O> {
         ensures offered { IfOk result (AreBehind (O.step self.now.object.now) (O.observing self.now.object.now) self.now.pending.now member.now) }
         ensures tried { IsTriedAtMost (length self.now.pending.now + 1) meter.old meter.new }
     {
-        let offers = self.offers_behind(alloc, member, steps, meter)?;
+        let offers = self.offers_behind(alloc, member, steps, meter, pool)?;
         meter.tick_try();
         self.object
             .outcomes(alloc, member.state(), &self.operation.call, steps)?;
@@ -313,6 +337,7 @@ impl<'a, O: SeqObject> Completion<'a, O> {
         nodes: &mut RoundNodes,
         steps: &mut Vec<(O::State, Reply)>,
         meter: &mut Meter,
+        pool: &mut Pool,
     ) -> Result<Option<Offers>, OutOfMemory>
         ensures grown { IsGrown nodes.old nodes.new }
         ensures found { OnOk result (IsFinding (O.step self.now.object.now) (O.observing self.now.object.now) self.now.operation.now self.now.reply.now self.now.pending.now nodes.new member.now out.old.items out.new.items) }
@@ -322,9 +347,9 @@ impl<'a, O: SeqObject> Completion<'a, O> {
         ensures tried { IsTriedAtMost (length self.now.pending.now + 1) meter.old meter.new }
     {
         if self.object.observes(&self.operation.call) {
-            return self.observe(alloc, member, out, nodes, steps, meter);
+            return self.observe(alloc, member, out, nodes, steps, meter, pool);
         }
-        let offers = self.update(alloc, member, out, nodes, steps, meter)?;
+        let offers = self.update(alloc, member, out, nodes, steps, meter, pool)?;
         Ok(Some(offers))
     }
 
@@ -339,6 +364,7 @@ impl<'a, O: SeqObject> Completion<'a, O> {
         nodes: &mut RoundNodes,
         steps: &mut Vec<(O::State, Reply)>,
         meter: &mut Meter,
+        pool: &mut Pool,
     ) -> Result<Option<Offers>, OutOfMemory>
         ensures grown { IsGrown nodes.old nodes.new }
         ensures found { OnOk result (IsFinding (O.step self.now.object.now) (O.observing self.now.object.now) self.now.operation.now self.now.reply.now self.now.pending.now nodes.new member.now out.old.items out.new.items) }
@@ -348,9 +374,9 @@ impl<'a, O: SeqObject> Completion<'a, O> {
         ensures placed { IfOk result (λ found. IfSome found (λ _. AreUpdates (O.step self.now.object.now) (O.observing self.now.object.now) self.now.pending.now (member.now.0.state, member.now.0.placed) next.new.items)) }
         ensures tried { IsTriedAtMost (2 * length self.now.pending.now + 1) meter.old meter.new }
     {
-        match self.complete(alloc, member, out, nodes, steps, meter)? {
+        match self.complete(alloc, member, out, nodes, steps, meter, pool)? {
             Some(offers) => {
-                self.updates(alloc, member.config(), next, steps, meter)?;
+                self.updates(alloc, member.config(), next, steps, meter, pool)?;
                 Ok(Some(offers))
             }
             None => Ok(None),
@@ -368,6 +394,7 @@ impl<'a, O: SeqObject> Completion<'a, O> {
         seen: &mut Seen,
         visited: &mut Vec<Member<O::State>>,
         nodes: &mut RoundNodes,
+        pool: &mut Pool,
     ) -> Result<(), OutOfMemory>
         ensures grown { IsGrown nodes.old nodes.new }
         ensures none { OnOk result (IfNone found ((visited.new.items ≡ visited.old.items) × (nodes.new ≡ nodes.old))) }
@@ -375,7 +402,10 @@ impl<'a, O: SeqObject> Completion<'a, O> {
             (map (λ m. m.now) starts.now ++ visited.old.items) (map (λ m. m.now) starts.now ++ visited.new.items))) }
     {
         if let Some(offers) = found {
-            self.visit(alloc, path, next, &offers, starts, seen, visited, nodes)?;
+            self.visit(
+                alloc, path, next, &offers, starts, seen, visited, nodes, pool,
+            )?;
+            offers.give_up(&mut pool.offers);
         }
         Ok(())
     }
@@ -412,6 +442,7 @@ impl<'a, O: SeqObject> Completion<'a, O> {
         nodes: &mut RoundNodes,
         meter: &mut Meter,
         scratch: &mut Scratch<O>,
+        pool: &mut Pool,
     ) -> Result<Vec<Member<O::State>>, OutOfMemory>
         requires { O.observing self.now.object.now self.now.operation.now.call ≡ false }
         ensures grown { IsGrown nodes.old nodes.new }
@@ -421,7 +452,7 @@ impl<'a, O: SeqObject> Completion<'a, O> {
         let mut out = scratch.found(room)?;
         let mut steps = scratch.steps();
         for start in starts {
-            self.update(alloc, start, &mut out, nodes, &mut steps, meter)?;
+            self.update(alloc, start, &mut out, nodes, &mut steps, meter, pool)?;
         }
         scratch.keep_steps(steps);
         Ok(out)
@@ -437,16 +468,17 @@ impl<'a, O: SeqObject> Completion<'a, O> {
         nodes: &mut RoundNodes,
         meter: &mut Meter,
         scratch: &mut Scratch<O>,
+        pool: &mut Pool,
     ) -> Result<Option<Vec<Member<O::State>>>, OutOfMemory>
         ensures grown { IsGrown nodes.old nodes.new }
         ensures found { IfOk result (λ found. IfSome found (λ out. IsFoundFrom (O.step self.now.object.now) (O.observing self.now.object.now) self.now.operation.now self.now.reply.now self.now.pending.now nodes.new (map (λ m. m.now) starts.now) out.items)) }
         ensures tried { IsTriedAtMost (limit * (2 * length self.now.pending.now + 1)) meter.old meter.new }
     {
         if starts.len() <= limit && self.goes_ahead() {
-            let found = self.at_once(alloc, starts, room, nodes, meter, scratch)?;
+            let found = self.at_once(alloc, starts, room, nodes, meter, scratch, pool)?;
             return Ok(Some(found));
         }
-        self.search(alloc, starts, room, limit, nodes, meter, scratch)
+        self.search(alloc, starts, room, limit, nodes, meter, scratch, pool)
     }
 
     /// What the operation makes of the members with its reply, on all ways from them by placing updates; `None` where
@@ -460,6 +492,7 @@ impl<'a, O: SeqObject> Completion<'a, O> {
         nodes: &mut RoundNodes,
         meter: &mut Meter,
         scratch: &mut Scratch<O>,
+        pool: &mut Pool,
     ) -> Result<Option<Vec<Member<O::State>>>, OutOfMemory>
         ensures grown { IsGrown nodes.old nodes.new }
         ensures found { IfOk result (λ found. IfSome found (λ out. IsSearchOf (O.step self.now.object.now) (O.observing self.now.object.now) self.now.operation.now self.now.reply.now self.now.pending.now nodes.new (map (λ m. m.now) starts.now) out.items)) }
@@ -475,7 +508,9 @@ impl<'a, O: SeqObject> Completion<'a, O> {
         let mut steps = scratch.steps();
         for start in starts {
             let path = start.path();
-            let found = self.work_off(alloc, start, &mut out, &mut next, nodes, &mut steps, meter)?;
+            let found = self.work_off(
+                alloc, start, &mut out, &mut next, nodes, &mut steps, meter, pool,
+            )?;
             self.visit_found(
                 alloc,
                 path,
@@ -485,6 +520,7 @@ impl<'a, O: SeqObject> Completion<'a, O> {
                 &mut seen,
                 &mut visited,
                 nodes,
+                pool,
             )?;
         }
         let mut tried = starts.len();
@@ -495,7 +531,7 @@ impl<'a, O: SeqObject> Completion<'a, O> {
             }
             let path = member.path();
             let found = self.work_off(
-                alloc, member, &mut out, &mut next, nodes, &mut steps, meter,
+                alloc, member, &mut out, &mut next, nodes, &mut steps, meter, pool,
             )?;
             self.visit_found(
                 alloc,
@@ -506,10 +542,12 @@ impl<'a, O: SeqObject> Completion<'a, O> {
                 &mut seen,
                 &mut visited,
                 nodes,
+                pool,
             )?;
             tried += 1;
             at += 1;
         }
+        give_up_all(&mut visited, pool);
         scratch.keep_search(visited, next, steps);
         Ok(Some(out))
     }

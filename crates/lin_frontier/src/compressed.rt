@@ -29,6 +29,7 @@ use crate::round_laws::{
 };
 use crate::rounds::RoundNodes;
 use crate::scratch::Scratch;
+use crate::spare::Pool;
 use crate::thinning::thinned;
 use lin_history::{
     Body, Event, Meter, OutOfMemory, Reply, ends_are_unique, well_formed_is_alternating,
@@ -73,12 +74,13 @@ fn all_copied<O: SeqObject>(
     alloc: Global,
     pending: &Pending,
     members: &[Member<O::State>],
+    pool: &mut Pool,
 ) -> Result<Vec<Member<O::State>>, OutOfMemory>
     ensures { IfOk result (λ out. IsMade (λ m. Unit {0}) (copy_of (O.observing object.now) pending.now) members.now out.items) }
 {
     let mut out = Vec::with_capacity(alloc, members.len())?;
     for member in members {
-        push_member(&mut out, copied(object, alloc, pending, member)?)?;
+        push_member(&mut out, copied(object, alloc, pending, member, pool)?)?;
     }
     Ok(out)
 }
@@ -91,13 +93,14 @@ fn push_absent<O: SeqObject>(
     member: &Member<O::State>,
     process: u64,
     out: &mut Vec<Member<O::State>>,
+    pool: &mut Pool,
 ) -> Result<(), OutOfMemory>
     ensures { OnOk result (IsMadeOne (IsAbsent process member.now.0.placed) (copy_of (O.observing object.now) pending.now member.now) out.old.items out.new.items) }
 {
     if !is_absent(member.placed(), process) {
         return Ok(());
     }
-    let copy = copied(object, alloc, pending, member)?;
+    let copy = copied(object, alloc, pending, member, pool)?;
     push_member(out, copy)?;
     Ok(())
 }
@@ -110,12 +113,13 @@ fn all_absent<O: SeqObject>(
     pending: &Pending,
     members: &[Member<O::State>],
     process: u64,
+    pool: &mut Pool,
 ) -> Result<Vec<Member<O::State>>, OutOfMemory>
     ensures { IfOk result (λ out. IsMade (λ m. IsAbsent process m.0.placed) (copy_of (O.observing object.now) pending.now) members.now out.items) }
 {
     let mut out = Vec::new(alloc);
     for member in members {
-        push_absent(object, alloc, pending, member, process, &mut out)?;
+        push_absent(object, alloc, pending, member, process, &mut out, pool)?;
     }
     Ok(out)
 }
@@ -158,13 +162,14 @@ fn push_taken_out<O: SeqObject>(
     process: u64,
     reply: &Reply,
     out: &mut Vec<Member<O::State>>,
+    pool: &mut Pool,
 ) -> Result<(), OutOfMemory>
     ensures { OnOk result (IsMadeOne (Contains member.now.0.placed (process, reply.now)) (rest_of (O.observing object.now) pending.now process member.now) out.old.items out.new.items) }
 {
     if !is_placed(member.placed(), process, reply) {
         return Ok(());
     }
-    let rest = taken_out(object, alloc, pending, member, process)?;
+    let rest = taken_out(object, alloc, pending, member, process, pool)?;
     push_member(out, rest)?;
     Ok(())
 }
@@ -178,12 +183,13 @@ pub(crate) fn push_all_taken_out<O: SeqObject>(
     process: u64,
     reply: &Reply,
     out: &mut Vec<Member<O::State>>,
+    pool: &mut Pool,
 ) -> Result<(), OutOfMemory>
     ensures { OnOk result ((made : List (MemberOf O.State × PathOf)) × IsMade (λ m. Contains m.0.placed (process, reply.now)) (rest_of (O.observing object.now) pending.now process) members.now made
         × (out.new.items ≡ out.old.items ++ made)) }
 {
     for member in members {
-        push_taken_out(object, alloc, pending, member, process, reply, out)?;
+        push_taken_out(object, alloc, pending, member, process, reply, out, pool)?;
     }
     Ok(())
 }
@@ -197,6 +203,7 @@ fn after_ok<O: SeqObject>(
     nodes: &mut RoundNodes,
     meter: &mut Meter,
     scratch: &mut Scratch<O>,
+    pool: &mut Pool,
 ) -> Result<Option<Vec<Member<O::State>>>, OutOfMemory>
     ensures grown { IsGrown nodes.old nodes.new }
     ensures next { IfOk result (λ found. IfSome found (λ out. IsReturnOf (O.step completion.now.object.now) (O.observing completion.now.object.now) completion.now.operation.now completion.now.reply.now completion.now.pending.now nodes.new members.now out.items)) }
@@ -206,7 +213,9 @@ fn after_ok<O: SeqObject>(
     let starts = absent_ones(alloc, members, process)?;
     // What is found, and then the members that placed the operation.
     let room = members.len().saturating_add(3);
-    let Some(mut found) = completion.found_from(alloc, &starts, room, limit, nodes, meter, scratch)?
+    let Some(mut found) = completion.found_from(
+        alloc, &starts, room, limit, nodes, meter, scratch, pool,
+    )?
     else {
         return Ok(None);
     };
@@ -218,6 +227,7 @@ fn after_ok<O: SeqObject>(
         process,
         completion.reply,
         &mut found,
+        pool,
     )?;
     Ok(Some(found))
 }
@@ -235,6 +245,7 @@ fn next_members<O: SeqObject>(
     nodes: &mut RoundNodes,
     meter: &mut Meter,
     scratch: &mut Scratch<O>,
+    pool: &mut Pool,
 ) -> Result<Option<Vec<Member<O::State>>>, OutOfMemory>
     ensures grown { IsGrown nodes.old nodes.new }
     ensures next { IfOk result (λ found. IfSome found (λ out. CompletesOpen event.now before.now → IsNextOf (O.step object.now) (O.observing object.now) event.now.process event.now.body before.now pending.now nodes.new members.now out.items)) }
@@ -242,9 +253,16 @@ fn next_members<O: SeqObject>(
     ensures tried { IsTriedAtMost (limit * (2 * length pending.now + 1)) meter.old meter.new }
 {
     match &event.body {
-        Body::Invoke(_) => Ok(Some(all_copied(object, alloc, pending, members)?)),
-        Body::Info(_) => Ok(Some(all_copied(object, alloc, pending, members)?)),
-        Body::Fail(_) => Ok(Some(all_absent(object, alloc, pending, members, event.process)?)),
+        Body::Invoke(_) => Ok(Some(all_copied(object, alloc, pending, members, pool)?)),
+        Body::Info(_) => Ok(Some(all_copied(object, alloc, pending, members, pool)?)),
+        Body::Fail(_) => Ok(Some(all_absent(
+            object,
+            alloc,
+            pending,
+            members,
+            event.process,
+            pool,
+        )?)),
         Body::Ok(_, reply) => {
             let Some(operation) = open_of(before, event.process) else {
                 return Ok(Some(Vec::new(alloc)));
@@ -255,7 +273,16 @@ fn next_members<O: SeqObject>(
                 reply,
                 pending,
             };
-            after_ok(&completion, alloc, members, limit, nodes, meter, scratch)
+            after_ok(
+                &completion,
+                alloc,
+                members,
+                limit,
+                nodes,
+                meter,
+                scratch,
+                pool,
+            )
         }
     }
 }
@@ -307,13 +334,15 @@ fn advanced<O: SeqObject>(
     rounds_after_events(object);
     let after = open_after(scratch.open(), before, at, event)?;
     let pending = Pending::of(&after);
+    let mut pool = scratch.pool();
     let Some(found) = next_members(
-        object, alloc, members, before, &pending, event, limit, nodes, meter, scratch,
+        object, alloc, members, before, &pending, event, limit, nodes, meter, scratch, &mut pool,
     )?
     else {
         return Ok(None);
     };
     let kept = thinned(object, alloc, &pending, found)?;
+    scratch.keep_pool(pool);
     scratch.keep_open(after);
     Ok(Some(kept))
 }

@@ -9,10 +9,12 @@ ghost use Rattle.lin_frontier.specs.Placing.{IsAbsent, insert_pair, without};
 ghost use Rattle.lin_frontier.specs.Sameness.{pair_eq, placed_Decides};
 
 use crate::pairs::{PairList, Pairs};
+use crate::spare::Spare;
 use lin_history::{OutOfMemory, Reply};
 use std::alloc::Global;
 use std::hash::{Hash, Hasher};
 use std::marker::Model;
+use std::rc::Rc;
 
 /// A state of the object, and the open operations that were placed on the way to it: each by its process, with the reply
 /// that it took, by rising process.
@@ -160,6 +162,7 @@ impl<S: Eq + Hash> Config<S> {
         state: S,
         process: u64,
         reply: Reply,
+        spare: &mut Spare<PairList>,
     ) -> Result<Config<S>, OutOfMemory>
     where
         S: Drop,
@@ -167,33 +170,72 @@ impl<S: Eq + Hash> Config<S> {
     {
         let pairs = self.placed.as_slice();
         let at = place_of(pairs, process);
-        let mut list = PairList::new(alloc);
+        let mut shared = PairList::emptied(alloc, spare)?;
+        // It has one owner, so it can be written.
+        let Some(list) = Rc::get_mut(&mut shared) else {
+            return Err(OutOfMemory);
+        };
         list.reserve(pairs.len().saturating_add(1))?;
-        append_pairs(alloc, &mut list, &pairs[..at])?;
+        append_pairs(alloc, list, &pairs[..at])?;
         list.push(process, reply)?;
-        append_pairs(alloc, &mut list, &pairs[at..])?;
-        let placed = Pairs::of(alloc, list)?;
+        append_pairs(alloc, list, &pairs[at..])?;
+        let placed = Pairs::of(shared, spare);
         Ok(Config { state, placed })
+    }
+
+    /// The same on new memory.
+    pub fn with_placed_anew(
+        &self,
+        alloc: Global,
+        state: S,
+        process: u64,
+        reply: Reply,
+    ) -> Result<Config<S>, OutOfMemory>
+    where
+        S: Drop,
+        ensures { IfOk result (λ c. c ≡ (state, insert_pair process reply self.now.1)) }
+    {
+        let mut spare = Spare::new(alloc);
+        self.with_placed(alloc, state, process, reply, &mut spare)
     }
 
     /// The configuration with this state, and without the operation of the process.
     #[inline(always)]
-    pub fn without(&self, alloc: Global, state: S, process: u64) -> Result<Config<S>, OutOfMemory>
+    pub fn without(
+        &self,
+        alloc: Global,
+        state: S,
+        process: u64,
+        spare: &mut Spare<PairList>,
+    ) -> Result<Config<S>, OutOfMemory>
     where
         S: Drop,
         ensures { IfOk result (λ c. c ≡ (state, without process self.now.1)) }
     {
         let pairs = self.placed.as_slice();
-        let mut list = PairList::new(alloc);
+        let mut shared = PairList::emptied(alloc, spare)?;
+        // It has one owner, so it can be written.
+        let Some(list) = Rc::get_mut(&mut shared) else {
+            return Err(OutOfMemory);
+        };
         list.reserve(pairs.len())?;
         for pair in pairs {
             if pair.0 == process {
                 continue;
             }
-            append_pair(alloc, &mut list, pair)?;
+            append_pair(alloc, list, pair)?;
         }
-        let placed = Pairs::of(alloc, list)?;
+        let placed = Pairs::of(shared, spare);
         Ok(Config { state, placed })
+    }
+
+    /// Gives the list of what is placed up, to be used again.
+    #[inline(always)]
+    pub(crate) fn give_up(self, spare: &mut Spare<PairList>)
+    where
+        S: Drop,
+    {
+        self.placed.give_up(spare);
     }
 }
 

@@ -7,8 +7,10 @@ ghost use Rattle.lin_frontier.specs.Settling.{renamed_pair, IsRenamed};
 use crate::configs::is_absent;
 use crate::pairs::{PairList, Pairs};
 use crate::pending::Open;
+use crate::spare::Spare;
 use lin_history::{OutOfMemory, Reply};
 use std::alloc::Global;
+use std::rc::Rc;
 
 /// Whether the one operation crashed, as the other one did, has the same call, and isn't placed yet.
 fn is_like(other: &Open, placed: &[(u64, Reply)], operation: &Open) -> bool
@@ -99,12 +101,17 @@ fn renamed(
 ) -> Result<Pairs, OutOfMemory>
     ensures { IfOk result (λ out. out ≡ map (renamed_pair process other) pairs.now) }
 {
-    let mut list = PairList::new(alloc);
+    let mut spare = Spare::new(alloc);
+    let mut shared = PairList::emptied(alloc, &mut spare)?;
+    // It has one owner, so it can be written.
+    let Some(list) = Rc::get_mut(&mut shared) else {
+        return Err(OutOfMemory);
+    };
     list.reserve(pairs.len())?;
     for pair in pairs {
-        append_renamed(alloc, &mut list, pair, process, other)?;
+        append_renamed(alloc, list, pair, process, other)?;
     }
-    Pairs::of(alloc, list)
+    Ok(Pairs::of(shared, &mut spare))
 }
 
 /// The pairs with each crashed operation in the place of the first like it that isn't placed.

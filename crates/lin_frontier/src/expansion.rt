@@ -24,6 +24,7 @@ use crate::pending::{Pending, open_of};
 use crate::placing::place_if_absent;
 use crate::round_laws::{rounds_spell_members, rounds_take_operations};
 use crate::rounds::RoundNodes;
+use crate::spare::Spare;
 use lin_history::{Meter, OutOfMemory, Reply, well_formed_is_alternating};
 use lin_objects::SeqObject;
 use lin_order::Placed;
@@ -90,7 +91,7 @@ impl<'a, O: SeqObject> Expansion<'a, O> {
         let placed = placed_at(alloc, operation.at, &offer.1.1)?;
         let state = self.object.copy_state(alloc, config.state())?;
         let reply = offer.1.1.copy(alloc)?;
-        let next = config.with_placed(alloc, state, process, reply)?;
+        let next = config.with_placed_anew(alloc, state, process, reply)?;
         self.visit(alloc, path, next, placed, Some(offer.0), found, nodes)?;
         Ok(())
     }
@@ -130,6 +131,7 @@ impl<'a, O: SeqObject> Expansion<'a, O> {
     {
         let mut out = Vec::new(alloc);
         let mut steps = Vec::new(alloc);
+        let mut spare = Spare::new(alloc);
         for operation in self.pending.as_slice() {
             place_if_absent(
                 self.object,
@@ -139,6 +141,7 @@ impl<'a, O: SeqObject> Expansion<'a, O> {
                 &mut out,
                 &mut steps,
                 meter,
+                &mut spare,
             )?;
         }
         Ok(out)

@@ -6,6 +6,7 @@ ghost use Rattle.lin_frontier.specs.Placing.{IsKept, IsKeeping};
 
 use crate::configs::{Config, is_absent, is_placed};
 use crate::nodes::NodeId;
+use crate::spare::Spare;
 use indexmap::IndexMap;
 use lin_history::{Body, Event, OutOfMemory};
 use lin_objects::SeqObject;
@@ -40,7 +41,8 @@ fn keep<O: SeqObject>(
                 return Ok(None);
             }
             let state = object.copy_state(alloc, config.state())?;
-            Ok(Some(config.without(alloc, state, event.process)?))
+            let mut spare = Spare::new(alloc);
+            Ok(Some(config.without(alloc, state, event.process, &mut spare)?))
         }
         Body::Fail(_) => {
             if !is_absent(config.placed(), event.process) {

@@ -26,6 +26,7 @@ mod rounds;
 mod scratch;
 mod search;
 mod seen;
+mod spare;
 mod thinning;
 mod within;
 

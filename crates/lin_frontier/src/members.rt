@@ -11,6 +11,7 @@ use crate::configs::Config;
 use crate::offers::Offers;
 use crate::pending::Pending;
 use crate::rounds::RoundNodes;
+use crate::spare::Pool;
 use lin_history::{OutOfMemory, Reply};
 use lin_objects::SeqObject;
 use lin_order::Placed;
@@ -91,6 +92,16 @@ impl<S: Eq + Hash> Member<S> {
     {
         self.path
     }
+
+    /// Gives its lists up, to be used again.
+    #[inline(always)]
+    pub fn give_up(self, pool: &mut Pool)
+    where
+        S: Drop,
+    {
+        self.config.give_up(&mut pool.pairs);
+        self.offers.give_up(&mut pool.offers);
+    }
 }
 
 /// The same member on its own memory, with the offers that may still be taken.
@@ -100,6 +111,7 @@ pub fn copied<O: SeqObject>(
     alloc: Global,
     pending: &Pending,
     member: &Member<O::State>,
+    pool: &mut Pool,
 ) -> Result<Member<O::State>, OutOfMemory>
     ensures { IfOk result (λ copy. copy ≡ (
       record {
@@ -113,7 +125,9 @@ pub fn copied<O: SeqObject>(
     let state = object.copy_state(alloc, member.config.state())?;
     Ok(Member {
         config: member.config.with_state(state)?,
-        offers: member.offers.watched(object, alloc, pending)?,
+        offers: member
+            .offers
+            .watched(object, alloc, pending, &mut pool.offers)?,
         path: member.path,
     })
 }
@@ -126,6 +140,7 @@ pub fn taken_out<O: SeqObject>(
     pending: &Pending,
     member: &Member<O::State>,
     process: u64,
+    pool: &mut Pool,
 ) -> Result<Member<O::State>, OutOfMemory>
     ensures { IfOk result (λ rest. rest ≡ (
       record {
@@ -138,8 +153,12 @@ pub fn taken_out<O: SeqObject>(
 {
     let state = object.copy_state(alloc, member.config.state())?;
     Ok(Member {
-        config: member.config.without(alloc, state, process)?,
-        offers: member.offers.watched(object, alloc, pending)?,
+        config: member
+            .config
+            .without(alloc, state, process, &mut pool.pairs)?,
+        offers: member
+            .offers
+            .watched(object, alloc, pending, &mut pool.offers)?,
         path: member.path,
     })
 }
@@ -154,6 +173,7 @@ pub fn answered<O: SeqObject>(
     round: usize,
     placed: Placed,
     nodes: &mut RoundNodes,
+    pool: &mut Pool,
 ) -> Result<Member<O::State>, OutOfMemory>
     ensures grown { IsGrown nodes.old nodes.new }
     ensures same { IfOk result (λ next. next.0 ≡ (record {
@@ -166,7 +186,9 @@ pub fn answered<O: SeqObject>(
 {
     let state = object.copy_state(alloc, member.config.state())?;
     let config = member.config.with_state(state)?;
-    let offers = member.offers.watched(object, alloc, pending)?;
+    let offers = member
+        .offers
+        .watched(object, alloc, pending, &mut pool.offers)?;
     let path = in_round(member.path, placed, round, nodes)?;
     Ok(Member {
         config,

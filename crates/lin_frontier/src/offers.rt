@@ -6,6 +6,7 @@ ghost use Rattle.lin_frontier.specs.Walks.{IsTriedAtMost};
 
 use crate::configs::{Config, is_absent, is_pair};
 use crate::pending::{Open, Pending};
+use crate::spare::Spare;
 use lin_history::{Call, Meter, OutOfMemory, Reply, Val};
 use lin_objects::SeqObject;
 use smallvec::SmallVec;
@@ -180,18 +181,26 @@ impl Offers {
 
     /// The offers of the list, made.
     #[inline(always)]
-    pub fn of(alloc: Global, list: OfferList) -> Result<Offers, OutOfMemory>
-        ensures { IfOk result (λ offers. offers ≡ list) }
+    pub fn of(list: Rc<OfferList>, spare: &mut Spare<OfferList>) -> Offers
+        ensures { result ≡ list.value }
     {
-        if list.as_slice().is_empty() {
-            return Ok(Offers::none());
+        if list.as_ref().as_slice().is_empty() {
+            spare.put(list);
+            return Offers::none();
         }
-        let bits = list.bits;
-        let shared = Rc::new(alloc, list)?;
-        Ok(Offers {
-            list: Some(shared),
+        let bits = list.as_ref().bits;
+        Offers {
+            list: Some(list),
             bits,
-        })
+        }
+    }
+
+    /// Gives the list up, to be used again.
+    #[inline(always)]
+    pub fn give_up(self, spare: &mut Spare<OfferList>) {
+        if let Some(list) = self.list {
+            spare.put(list);
+        }
     }
 
     pub fn as_slice(&self) -> &[(usize, (u64, Reply))]
@@ -234,15 +243,20 @@ impl Offers {
         object: &O,
         alloc: Global,
         pending: &Pending,
+        spare: &mut Spare<OfferList>,
     ) -> Result<Offers, OutOfMemory>
         ensures { IfOk result (λ kept. kept ≡ watched_of (O.observing object.now) pending.now self.now) }
     {
         if are_watched(object, pending, self.as_slice()) {
             return self.copy();
         }
-        let mut kept = OfferList::new(alloc);
-        kept.push_watched(object, alloc, pending, self)?;
-        Offers::of(alloc, kept)
+        let mut kept = OfferList::emptied(alloc, spare)?;
+        // It has one owner, so it can be written.
+        let Some(list) = Rc::get_mut(&mut kept) else {
+            return Err(OutOfMemory);
+        };
+        list.push_watched(object, alloc, pending, self)?;
+        Ok(Offers::of(kept, spare))
     }
 
     /// The first round in which the process was offered the reply.
@@ -264,6 +278,33 @@ impl OfferList {
             items: SmallVec::new(alloc),
             bits: 0,
         }
+    }
+
+    /// Nothing on offer any more.
+    #[inline(always)]
+    fn clear(&mut self)
+        ensures { self.new ≡ [] }
+    {
+        self.items.clear();
+        self.bits = 0;
+    }
+
+    /// A list with nothing on offer yet, which has one owner: one that nobody has any more, or a new one.
+    #[inline(always)]
+    pub fn emptied(
+        alloc: Global,
+        spare: &mut Spare<OfferList>,
+    ) -> Result<Rc<OfferList>, OutOfMemory>
+        ensures { IfOk result (λ list. list.value ≡ []) }
+    {
+        if let Some(mut list) = spare.take()
+            && let Some(own) = Rc::get_mut(&mut list)
+        {
+            own.clear();
+            return Ok(list);
+        }
+        let list = Rc::new(alloc, OfferList::new(alloc))?;
+        Ok(list)
     }
 
     fn as_slice(&self) -> &[(usize, (u64, Reply))]

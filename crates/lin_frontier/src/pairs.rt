@@ -2,6 +2,7 @@
 ghost use Rattle.std.specs.Prelude.{◌≡◌, ◌%◌, ◌^◌, ◌∷◌, ◌++◌, [], IfOk, OnOk};
 ghost use Rattle.lin_frontier.specs.Masks.{mask_of};
 
+use crate::spare::Spare;
 use lin_history::{OutOfMemory, Reply};
 use smallvec::SmallVec;
 use std::alloc::Global;
@@ -81,6 +82,30 @@ impl PairList {
         Ok(())
     }
 
+    /// No pair any more.
+    #[inline(always)]
+    fn clear(&mut self)
+        ensures { self.new ≡ [] }
+    {
+        self.items.clear();
+        self.mask = 0;
+    }
+
+    /// A list with no pair yet, which has one owner: one that nobody has any more, or a new one.
+    #[inline(always)]
+    pub fn emptied(alloc: Global, spare: &mut Spare<PairList>) -> Result<Rc<PairList>, OutOfMemory>
+        ensures { IfOk result (λ list. list.value ≡ []) }
+    {
+        if let Some(mut list) = spare.take()
+            && let Some(own) = Rc::get_mut(&mut list)
+        {
+            own.clear();
+            return Ok(list);
+        }
+        let list = Rc::new(alloc, PairList::new(alloc))?;
+        Ok(list)
+    }
+
     fn as_slice(&self) -> &[(u64, Reply)]
         ensures { result.now ≡ self.now }
     {
@@ -122,18 +147,26 @@ impl Pairs {
 
     /// The pairs of the list.
     #[inline(always)]
-    pub fn of(alloc: Global, list: PairList) -> Result<Pairs, OutOfMemory>
-        ensures { IfOk result (λ pairs. pairs ≡ list) }
+    pub fn of(list: Rc<PairList>, spare: &mut Spare<PairList>) -> Pairs
+        ensures { result ≡ list.value }
     {
-        if list.as_slice().is_empty() {
-            return Ok(Pairs::none());
+        if list.as_ref().as_slice().is_empty() {
+            spare.put(list);
+            return Pairs::none();
         }
-        let mask = list.mask();
-        let shared = Rc::new(alloc, list)?;
-        Ok(Pairs {
-            list: Some(shared),
+        let mask = list.as_ref().mask();
+        Pairs {
+            list: Some(list),
             mask,
-        })
+        }
+    }
+
+    /// Gives the list up, to be used again.
+    #[inline(always)]
+    pub fn give_up(self, spare: &mut Spare<PairList>) {
+        if let Some(list) = self.list {
+            spare.put(list);
+        }
     }
 
     /// The same pairs.

@@ -5,8 +5,10 @@ ghost use Rattle.lin_frontier.specs.Sameness.{config_same};
 ghost use Rattle.lin_frontier.specs.Walks.{IsTriedAtMost};
 
 use crate::configs::{Config, is_absent};
+use crate::pairs::PairList;
 use crate::pending::Open;
 use crate::search::Steps;
+use crate::spare::Spare;
 use lin_history::{Meter, OutOfMemory, Reply};
 use lin_objects::SeqObject;
 use lin_order::Placed;
@@ -23,6 +25,7 @@ fn place<O: SeqObject>(
     out: &mut Vec<(Config<O::State>, Placed)>,
     steps: &mut Vec<(O::State, Reply)>,
     meter: &mut Meter,
+    spare: &mut Spare<PairList>,
 ) -> Result<(), OutOfMemory>
     requires { IsAbsent operation.now.process config.now.1 }
     ensures placed { OnOk result (IsTried (PlacesOne (O.step object.now) operation.now config.now) out.old.items out.new.items) }
@@ -35,7 +38,7 @@ fn place<O: SeqObject>(
             at: operation.at,
             reply: reply.copy(alloc)?,
         };
-        let next = config.with_placed(alloc, state, operation.process, reply)?;
+        let next = config.with_placed(alloc, state, operation.process, reply, spare)?;
         match out.push((next, placed)) {
             Ok(()) => {}
             Err(_) => return Err(OutOfMemory),
@@ -54,12 +57,13 @@ pub fn place_if_absent<O: SeqObject>(
     out: &mut Vec<(Config<O::State>, Placed)>,
     steps: &mut Vec<(O::State, Reply)>,
     meter: &mut Meter,
+    spare: &mut Spare<PairList>,
 ) -> Result<(), OutOfMemory>
     ensures placed { OnOk result (IsTried (PlacesOne (O.step object.now) operation.now config.now) out.old.items out.new.items) }
     ensures tried { IsTriedAtMost 1 meter.old meter.new }
 {
     if is_absent(config.placed(), operation.process) {
-        return place(object, alloc, config, operation, out, steps, meter);
+        return place(object, alloc, config, operation, out, steps, meter, spare);
     }
     Ok(())
 }
@@ -90,6 +94,7 @@ impl<'a, O: SeqObject> Steps for Placing<'a, O> {
     ) -> Result<Vec<(Config<O::State>, Placed)>, OutOfMemory> {
         let mut out = Vec::new(alloc);
         let mut steps = Vec::new(alloc);
+        let mut spare = Spare::new(alloc);
         if is_absent(state.placed(), self.new.process) {
             place(
                 self.object,
@@ -99,6 +104,7 @@ impl<'a, O: SeqObject> Steps for Placing<'a, O> {
                 &mut out,
                 &mut steps,
                 meter,
+                &mut spare,
             )?;
             return Ok(out);
         }
@@ -111,6 +117,7 @@ impl<'a, O: SeqObject> Steps for Placing<'a, O> {
                 &mut out,
                 &mut steps,
                 meter,
+                &mut spare,
             )?;
         }
         Ok(out)

@@ -5,10 +5,12 @@ use crate::compressed::Compressed;
 use crate::configs::Config;
 use crate::members::Member;
 use crate::pending::Open;
+use crate::spare::Pool;
 use lin_history::{OutOfMemory, Reply};
 use lin_objects::SeqObject;
 use lin_order::Placed;
 use std::alloc::Global;
+use std::hash::Hash;
 use std::marker::Model;
 use std::mem;
 
@@ -22,6 +24,7 @@ pub struct Scratch<O: SeqObject> {
     next: Vec<(Config<O::State>, Placed)>,
     steps: Vec<(O::State, Reply)>,
     open: Vec<Open>,
+    pool: Pool,
 }
 
 impl<O: SeqObject> Model for Scratch<O> {
@@ -40,6 +43,13 @@ fn emptied<T: Drop>(alloc: Global, list: &mut Vec<T>) -> Vec<T>
     emptied
 }
 
+/// Gives the lists of all the members up, to be used again.
+pub(crate) fn give_up_all<S: Eq + Hash + Drop>(members: &mut Vec<Member<S>>, pool: &mut Pool) {
+    while let Some(member) = members.pop() {
+        member.give_up(pool);
+    }
+}
+
 impl<O: SeqObject> Scratch<O> {
     /// No memory yet.
     pub fn new(alloc: Global) -> Self {
@@ -50,12 +60,27 @@ impl<O: SeqObject> Scratch<O> {
             next: Vec::new(alloc),
             steps: Vec::new(alloc),
             open: Vec::new(alloc),
+            pool: Pool::new(alloc),
         }
     }
 
     /// Takes the memory of a frontier that is done with.
     pub fn take_back(&mut self, frontier: Compressed<O>) {
-        self.found = frontier.into_members();
+        let mut members = frontier.into_members();
+        give_up_all(&mut members, &mut self.pool);
+        self.found = members;
+    }
+
+    /// Lists that members had.
+    #[inline(always)]
+    pub(crate) fn pool(&mut self) -> Pool {
+        mem::replace(&mut self.pool, Pool::new(self.alloc))
+    }
+
+    /// Takes the lists back.
+    #[inline(always)]
+    pub(crate) fn keep_pool(&mut self, pool: Pool) {
+        self.pool = pool;
     }
 
     /// An empty list for members that are found, with room for so many.

@@ -27,6 +27,7 @@ use crate::pending::{Open, Pending};
 use crate::round_laws::{members_are_exact, rounds_after_events};
 use crate::rounds::RoundNodes;
 use crate::scratch::Scratch;
+use crate::spare::Pool;
 use lin_history::{Body, Event, Meter, OutOfMemory, ends_are_unique, well_formed_is_alternating};
 use lin_objects::SeqObject;
 use lin_order::legal_orders_end;
@@ -125,6 +126,7 @@ fn after_listing<O: SeqObject>(
         event.process,
         reply,
         &mut found,
+        &mut Pool::new(alloc),
     )?;
     let kept = pruned_many(object, alloc, &after, found)?;
     Ok(kept)
