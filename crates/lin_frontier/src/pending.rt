@@ -16,7 +16,7 @@ use lin_history::{
 use std::marker::Model;
 
 /// An operation that is open: it has neither returned nor failed.
-#[derive(Drop)]
+#[derive(Clone, Copy)]
 pub struct Open {
     pub process: u64,
     /// The position of its invocation among the object's events.
@@ -66,19 +66,10 @@ pub fn append_operations(operations: &mut Vec<Open>, others: &[Open]) -> Result<
     ensures front { take (length operations.old.items) operations.new.items ≡ operations.old.items }
     ensures more { length operations.old.items ≤ length operations.new.items }
 {
-    for other in others {
-        let copy = Open {
-            process: other.process,
-            at: other.at,
-            call: other.call,
-            crashed: other.crashed,
-        };
-        match operations.push(copy) {
-            Ok(()) => {}
-            Err(_) => return Err(OutOfMemory),
-        }
+    match operations.extend_from_slice(others) {
+        Ok(()) => Ok(()),
+        Err(_) => Err(OutOfMemory),
     }
-    Ok(())
 }
 
 /// Takes one more event in: its operation is open from then on, or no longer, or has crashed.
