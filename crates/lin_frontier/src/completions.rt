@@ -1,5 +1,5 @@
 //! What members lead to when an operation completes: the ways of placing open updates until it can have its reply.
-ghost use Rattle.std.specs.Prelude.{◌≡◌, ◌⊎◌, ◌↔◌, if◌then◌else◌, IsTrue, ◌∷◌, ◌++◌, ◌+◌, ◌*◌, [], ℕ, true, false, length, map, Contains, IfOk, IfSome, IfNone, OnOk};
+ghost use Rattle.std.specs.Prelude.{◌≡◌, ◌⊎◌, ◌↔◌, if◌then◌else◌, IsTrue, ◌∷◌, ◌++◌, ◌+◌, ◌*◌, ◌≤◌, [], ℕ, true, false, length, map, Contains, IfOk, IfSome, IfNone, OnOk};
 ghost use Rattle.lin_history.specs.declared.calls.Reply.{Reply as ReplyOf};
 ghost use Rattle.lin_frontier.specs.Members.{Member as MemberOf};
 ghost use Rattle.lin_frontier.specs.declared.members.Path.{Path as PathOf};
@@ -438,23 +438,22 @@ impl<'a, O: SeqObject> Completion<'a, O> {
         &self,
         alloc: Global,
         starts: &[&Member<O::State>],
-        room: usize,
+        found: Vec<Member<O::State>>,
         nodes: &mut RoundNodes,
+        steps: &mut Vec<(O::State, Reply)>,
         meter: &mut Meter,
-        scratch: &mut Scratch<O>,
         pool: &mut Pool,
     ) -> Result<Vec<Member<O::State>>, OutOfMemory>
-        requires { O.observing self.now.object.now self.now.operation.now.call ≡ false }
+        requires update { O.observing self.now.object.now self.now.operation.now.call ≡ false }
+        requires empty { found.items ≡ [] }
         ensures grown { IsGrown nodes.old nodes.new }
         ensures made { IfOk result (λ out. IsMadeAtOnce (O.step self.now.object.now) (O.observing self.now.object.now) self.now.operation.now self.now.reply.now self.now.pending.now nodes.new (map (λ m. m.now) starts.now) out.items) }
         ensures tried { IsTriedAtMost (length starts.now * (2 * length self.now.pending.now + 1)) meter.old meter.new }
     {
-        let mut out = scratch.found(room)?;
-        let mut steps = scratch.steps();
+        let mut out = found;
         for start in starts {
-            self.update(alloc, start, &mut out, nodes, &mut steps, meter, pool)?;
+            self.update(alloc, start, &mut out, nodes, steps, meter, pool)?;
         }
-        scratch.keep_steps(steps);
         Ok(out)
     }
 
@@ -468,59 +467,71 @@ impl<'a, O: SeqObject> Completion<'a, O> {
         nodes: &mut RoundNodes,
         meter: &mut Meter,
         scratch: &mut Scratch<O>,
-        pool: &mut Pool,
     ) -> Result<Option<Vec<Member<O::State>>>, OutOfMemory>
         ensures grown { IsGrown nodes.old nodes.new }
         ensures found { IfOk result (λ found. IfSome found (λ out. IsFoundFrom (O.step self.now.object.now) (O.observing self.now.object.now) self.now.operation.now self.now.reply.now self.now.pending.now nodes.new (map (λ m. m.now) starts.now) out.items)) }
         ensures tried { IsTriedAtMost (limit * (2 * length self.now.pending.now + 1)) meter.old meter.new }
     {
-        if starts.len() <= limit && self.goes_ahead() {
-            let found = self.at_once(alloc, starts, room, nodes, meter, scratch, pool)?;
-            return Ok(Some(found));
+        if starts.len() > limit {
+            return Ok(None);
         }
-        self.search(alloc, starts, room, limit, nodes, meter, scratch, pool)
+        let found = scratch.found(room)?;
+        if self.goes_ahead() {
+            let made = self.at_once(
+                alloc,
+                starts,
+                found,
+                nodes,
+                &mut scratch.steps,
+                meter,
+                &mut scratch.pool,
+            )?;
+            return Ok(Some(made));
+        }
+        scratch.visited.clear();
+        self.search(
+            alloc,
+            starts,
+            found,
+            limit,
+            nodes,
+            meter,
+            &mut scratch.visited,
+            &mut scratch.next,
+            &mut scratch.steps,
+            &mut scratch.pool,
+        )
     }
 
-    /// What the operation makes of the members with its reply, on all ways from them by placing updates; `None` where
-    /// more members than the limit come up. `room` is for how many of them memory is taken at first.
+    /// What the operation makes of the members with its reply, on all ways from them by placing updates, put in the empty list;
+    /// `None` where more members than the limit come up.
     fn search(
         &self,
         alloc: Global,
         starts: &[&Member<O::State>],
-        room: usize,
+        found: Vec<Member<O::State>>,
         limit: usize,
         nodes: &mut RoundNodes,
         meter: &mut Meter,
-        scratch: &mut Scratch<O>,
+        visited: &mut Vec<Member<O::State>>,
+        next: &mut Vec<(Config<O::State>, Placed)>,
+        steps: &mut Vec<(O::State, Reply)>,
         pool: &mut Pool,
     ) -> Result<Option<Vec<Member<O::State>>>, OutOfMemory>
+        requires within { length starts.now ≤ limit }
+        requires empty { found.items ≡ [] }
+        requires unvisited { visited.old.items ≡ [] }
         ensures grown { IsGrown nodes.old nodes.new }
         ensures found { IfOk result (λ found. IfSome found (λ out. IsSearchOf (O.step self.now.object.now) (O.observing self.now.object.now) self.now.operation.now self.now.reply.now self.now.pending.now nodes.new (map (λ m. m.now) starts.now) out.items)) }
         ensures tried { IsTriedAtMost (limit * (2 * length self.now.pending.now + 1)) meter.old meter.new }
     {
-        if starts.len() > limit {
-            return Ok(None);
-        }
         let mut seen = Seen::new(alloc, self.pending, starts)?;
-        let mut visited = scratch.visited();
-        let mut out = scratch.found(room)?;
-        let mut next = scratch.next();
-        let mut steps = scratch.steps();
+        let mut out = found;
         for start in starts {
             let path = start.path();
-            let found = self.work_off(
-                alloc, start, &mut out, &mut next, nodes, &mut steps, meter, pool,
-            )?;
+            let found = self.work_off(alloc, start, &mut out, next, nodes, steps, meter, pool)?;
             self.visit_found(
-                alloc,
-                path,
-                found,
-                &mut next,
-                starts,
-                &mut seen,
-                &mut visited,
-                nodes,
-                pool,
+                alloc, path, found, next, starts, &mut seen, visited, nodes, pool,
             )?;
         }
         let mut tried = starts.len();
@@ -530,25 +541,14 @@ impl<'a, O: SeqObject> Completion<'a, O> {
                 return Ok(None);
             }
             let path = member.path();
-            let found = self.work_off(
-                alloc, member, &mut out, &mut next, nodes, &mut steps, meter, pool,
-            )?;
+            let found = self.work_off(alloc, member, &mut out, next, nodes, steps, meter, pool)?;
             self.visit_found(
-                alloc,
-                path,
-                found,
-                &mut next,
-                starts,
-                &mut seen,
-                &mut visited,
-                nodes,
-                pool,
+                alloc, path, found, next, starts, &mut seen, visited, nodes, pool,
             )?;
             tried += 1;
             at += 1;
         }
-        give_up_all(&mut visited, pool);
-        scratch.keep_search(visited, next, steps);
+        give_up_all(visited, pool);
         Ok(Some(out))
     }
 }

@@ -203,7 +203,6 @@ fn after_ok<O: SeqObject>(
     nodes: &mut RoundNodes,
     meter: &mut Meter,
     scratch: &mut Scratch<O>,
-    pool: &mut Pool,
 ) -> Result<Option<Vec<Member<O::State>>>, OutOfMemory>
     ensures grown { IsGrown nodes.old nodes.new }
     ensures next { IfOk result (λ found. IfSome found (λ out. IsReturnOf (O.step completion.now.object.now) (O.observing completion.now.object.now) completion.now.operation.now completion.now.reply.now completion.now.pending.now nodes.new members.now out.items)) }
@@ -213,9 +212,7 @@ fn after_ok<O: SeqObject>(
     let starts = absent_ones(alloc, members, process)?;
     // What is found, and then the members that placed the operation.
     let room = members.len().saturating_add(3);
-    let Some(mut found) = completion.found_from(
-        alloc, &starts, room, limit, nodes, meter, scratch, pool,
-    )?
+    let Some(mut found) = completion.found_from(alloc, &starts, room, limit, nodes, meter, scratch)?
     else {
         return Ok(None);
     };
@@ -227,7 +224,7 @@ fn after_ok<O: SeqObject>(
         process,
         completion.reply,
         &mut found,
-        pool,
+        &mut scratch.pool,
     )?;
     Ok(Some(found))
 }
@@ -245,7 +242,6 @@ fn next_members<O: SeqObject>(
     nodes: &mut RoundNodes,
     meter: &mut Meter,
     scratch: &mut Scratch<O>,
-    pool: &mut Pool,
 ) -> Result<Option<Vec<Member<O::State>>>, OutOfMemory>
     ensures grown { IsGrown nodes.old nodes.new }
     ensures next { IfOk result (λ found. IfSome found (λ out. CompletesOpen event.now before.now → IsNextOf (O.step object.now) (O.observing object.now) event.now.process event.now.body before.now pending.now nodes.new members.now out.items)) }
@@ -253,15 +249,21 @@ fn next_members<O: SeqObject>(
     ensures tried { IsTriedAtMost (limit * (2 * length pending.now + 1)) meter.old meter.new }
 {
     match &event.body {
-        Body::Invoke(_) => Ok(Some(all_copied(object, alloc, pending, members, pool)?)),
-        Body::Info(_) => Ok(Some(all_copied(object, alloc, pending, members, pool)?)),
+        Body::Invoke(_) => Ok(Some(all_copied(
+            object,
+            alloc,
+            pending,
+            members,
+            &mut scratch.pool,
+        )?)),
+        Body::Info(_) => Ok(Some(all_copied(object, alloc, pending, members, &mut scratch.pool)?)),
         Body::Fail(_) => Ok(Some(all_absent(
             object,
             alloc,
             pending,
             members,
             event.process,
-            pool,
+            &mut scratch.pool,
         )?)),
         Body::Ok(_, reply) => {
             let Some(operation) = open_of(before, event.process) else {
@@ -273,16 +275,7 @@ fn next_members<O: SeqObject>(
                 reply,
                 pending,
             };
-            after_ok(
-                &completion,
-                alloc,
-                members,
-                limit,
-                nodes,
-                meter,
-                scratch,
-                pool,
-            )
+            after_ok(&completion, alloc, members, limit, nodes, meter, scratch)
         }
     }
 }
@@ -334,15 +327,13 @@ fn advanced<O: SeqObject>(
     rounds_after_events(object);
     let after = open_after(scratch.open(), before, at, event)?;
     let pending = Pending::of(&after);
-    let mut pool = scratch.pool();
     let Some(found) = next_members(
-        object, alloc, members, before, &pending, event, limit, nodes, meter, scratch, &mut pool,
+        object, alloc, members, before, &pending, event, limit, nodes, meter, scratch,
     )?
     else {
         return Ok(None);
     };
     let kept = thinned(object, alloc, &pending, found)?;
-    scratch.keep_pool(pool);
     scratch.keep_open(after);
     Ok(Some(kept))
 }

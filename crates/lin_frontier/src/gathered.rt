@@ -50,7 +50,7 @@ impl<O: SeqObject> Gathered<O> {
         Gathered {
             members: Vec::new(alloc),
             configs: IndexMap::new(alloc),
-            places: Places::new(alloc),
+            places: Places::new(),
         }
     }
 

@@ -6,15 +6,16 @@ use std::alloc::Global;
 /// The places of the first members of a list, by their keys.
 #[derive(Drop)]
 pub struct Places {
-    by_key: IndexMap<u64, Vec<usize>>,
+    /// None where no member was noted: most searches note none, and move this.
+    by_key: Option<Box<IndexMap<u64, Vec<usize>>>>,
     count: usize,
 }
 
 impl Places {
     /// Of no member.
-    pub fn new(alloc: Global) -> Self {
+    pub fn new() -> Self {
         Places {
-            by_key: IndexMap::new(alloc),
+            by_key: None,
             count: 0,
         }
     }
@@ -26,7 +27,7 @@ impl Places {
 
     /// Where members with the key stand, if there are any.
     pub fn of(&self, key: u64) -> Option<&[usize]> {
-        match self.by_key.get(&key) {
+        match self.by_key.as_ref()?.get(&key) {
             Some(places) => Some(places.as_slice()),
             None => None,
         }
@@ -39,7 +40,13 @@ impl Places {
             return Err(OutOfMemory);
         };
         self.count = count;
-        if let Some(places) = self.by_key.get_mut(&key) {
+        if self.by_key.is_none() {
+            self.by_key = Some(Box::new(alloc, IndexMap::new(alloc))?);
+        }
+        let Some(by_key) = &mut self.by_key else {
+            return Err(OutOfMemory);
+        };
+        if let Some(places) = by_key.get_mut(&key) {
             return match places.push(at) {
                 Ok(()) => Ok(()),
                 Err(_) => Err(OutOfMemory),
@@ -47,7 +54,7 @@ impl Places {
         }
         let mut places = Vec::new(alloc);
         places.push(at)?;
-        match self.by_key.insert(key, places) {
+        match by_key.insert(key, places) {
             Ok(_) => Ok(()),
             Err(_) => Err(OutOfMemory),
         }

@@ -11,7 +11,6 @@ use lin_objects::SeqObject;
 use lin_order::Placed;
 use std::alloc::Global;
 use std::hash::Hash;
-use std::marker::Model;
 use std::mem;
 
 /// Lists whose memory is used again by each search. What they hold means nothing: a list is given out, and comes back when it is
@@ -20,17 +19,11 @@ use std::mem;
 pub struct Scratch<O: SeqObject> {
     alloc: Global,
     found: Vec<Member<O::State>>,
-    visited: Vec<Member<O::State>>,
-    next: Vec<(Config<O::State>, Placed)>,
-    steps: Vec<(O::State, Reply)>,
     open: Vec<Open>,
-    pool: Pool,
-}
-
-impl<O: SeqObject> Model for Scratch<O> {
-    ghost Value = { Unit {0} };
-
-    ghost view = { λ _. tt };
+    pub(crate) visited: Vec<Member<O::State>>,
+    pub(crate) next: Vec<(Config<O::State>, Placed)>,
+    pub(crate) steps: Vec<(O::State, Reply)>,
+    pub(crate) pool: Pool,
 }
 
 /// The list, emptied, with one that has no memory in its place.
@@ -56,10 +49,10 @@ impl<O: SeqObject> Scratch<O> {
         Scratch {
             alloc,
             found: Vec::new(alloc),
+            open: Vec::new(alloc),
             visited: Vec::new(alloc),
             next: Vec::new(alloc),
             steps: Vec::new(alloc),
-            open: Vec::new(alloc),
             pool: Pool::new(alloc),
         }
     }
@@ -69,18 +62,6 @@ impl<O: SeqObject> Scratch<O> {
         let mut members = frontier.into_members();
         give_up_all(&mut members, &mut self.pool);
         self.found = members;
-    }
-
-    /// Lists that members had.
-    #[inline(always)]
-    pub(crate) fn pool(&mut self) -> Pool {
-        mem::replace(&mut self.pool, Pool::new(self.alloc))
-    }
-
-    /// Takes the lists back.
-    #[inline(always)]
-    pub(crate) fn keep_pool(&mut self, pool: Pool) {
-        self.pool = pool;
     }
 
     /// An empty list for members that are found, with room for so many.
@@ -93,51 +74,12 @@ impl<O: SeqObject> Scratch<O> {
         Ok(list)
     }
 
-    /// An empty list for members that are visited.
-    #[inline(always)]
-    pub(crate) fn visited(&mut self) -> Vec<Member<O::State>>
-        ensures { result.items ≡ [] }
-    {
-        emptied(self.alloc, &mut self.visited)
-    }
-
-    /// An empty list for what placing updates makes of a member.
-    #[inline(always)]
-    pub(crate) fn next(&mut self) -> Vec<(Config<O::State>, Placed)> {
-        emptied(self.alloc, &mut self.next)
-    }
-
-    /// An empty list for the steps of a call.
-    #[inline(always)]
-    pub(crate) fn steps(&mut self) -> Vec<(O::State, Reply)> {
-        emptied(self.alloc, &mut self.steps)
-    }
-
     /// An empty list for operations that are open.
     #[inline(always)]
     pub(crate) fn open(&mut self) -> Vec<Open>
         ensures { result.items ≡ [] }
     {
         emptied(self.alloc, &mut self.open)
-    }
-
-    /// Takes the lists of a search back.
-    #[inline(always)]
-    pub(crate) fn keep_search(
-        &mut self,
-        visited: Vec<Member<O::State>>,
-        next: Vec<(Config<O::State>, Placed)>,
-        steps: Vec<(O::State, Reply)>,
-    ) {
-        self.visited = visited;
-        self.next = next;
-        self.steps = steps;
-    }
-
-    /// Takes the list for steps back.
-    #[inline(always)]
-    pub(crate) fn keep_steps(&mut self, steps: Vec<(O::State, Reply)>) {
-        self.steps = steps;
     }
 
     /// Takes the list of open operations back.

@@ -174,7 +174,7 @@ impl Seen {
         pending: &Pending,
         starts: &[&Member<S>],
     ) -> Result<Self, OutOfMemory> {
-        let mut places = Places::new(alloc);
+        let mut places = Places::new();
         if starts.len() > FEW {
             for member in starts {
                 places.note(alloc, key(pending, member.config()))?;
@@ -182,7 +182,7 @@ impl Seen {
         }
         Ok(Seen {
             starts: places,
-            visited: Places::new(alloc),
+            visited: Places::new(),
         })
     }
 

@@ -9,7 +9,7 @@ use Rattle.lin_frontier.proofs.completions.Completion.search.Goals as goal
 pub loop-start-init : goal.loop-start-init
 loop-start-init g c = record {
   within = omega arith;
-  working = working_alone _ _ _ _ _ _ _ c.visited-visited.result.items c.in_ok-out.out.items c.visited-visited.ensures c.in_ok-out.ensures;
+  working = working_alone _ _ _ _ _ _ _ c.args.visited.now.items c.args.found.items c.requires.unvisited c.requires.empty;
   tried = tried_none _ _;
 }
 
@@ -18,7 +18,7 @@ returns-in_err-found-clause-grown g c = grown_grown _ _ _ c.loop-start.invariant
 
 pub returns-in_err-found-clause-tried : goal.returns-in_err-found-clause-tried
 returns-in_err-found-clause-tried g c =
-    tried_turns (c.loop-start.start-index + 1) c.args.limit (2 * length c.args.self.now.pending.now + 1) _ _ (omega (arith, c.if-starts-limit.false, c.loop-start-test.true))
+    tried_turns (c.loop-start.start-index + 1) c.args.limit (2 * length c.args.self.now.pending.now + 1) _ _ (omega (arith, c.requires.within, c.loop-start-test.true))
     (tried_turn c.loop-start.start-index (2 * length c.args.self.now.pending.now + 1) _ _ _ c.loop-start.invariant.tried c.work_off.ensures.tried)
 
 pub returns-in_err-visit_found-clause-grown : goal.returns-in_err-visit_found-clause-grown
@@ -27,7 +27,7 @@ returns-in_err-visit_found-clause-grown g c =
 
 pub returns-in_err-visit_found-clause-tried : goal.returns-in_err-visit_found-clause-tried
 returns-in_err-visit_found-clause-tried g c =
-    tried_turns (c.loop-start.start-index + 1) c.args.limit (2 * length c.args.self.now.pending.now + 1) _ _ (omega (arith, c.if-starts-limit.false, c.loop-start-test.true))
+    tried_turns (c.loop-start.start-index + 1) c.args.limit (2 * length c.args.self.now.pending.now + 1) _ _ (omega (arith, c.requires.within, c.loop-start-test.true))
     (tried_turn c.loop-start.start-index (2 * length c.args.self.now.pending.now + 1) _ _ _ c.loop-start.invariant.tried c.work_off.ensures.tried)
 
 pub loop-start-preserved : goal.loop-start-preserved
@@ -50,7 +50,7 @@ loop-member-init g c =
     let all : c.loop-start.start-index ≡ length c.args.starts.now = omega (arith, c.loop-start-test.false, c.loop-start.invariant.within) in
     record {
       counted = omega arith;
-      within = omega (arith, c.if-starts-limit.false);
+      within = omega (arith, c.requires.within);
       working = subst (λ n. IsWorking (g.O.SeqObject.step c.args.self.now.object.now) (g.O.SeqObject.observing c.args.self.now.object.now) c.args.self.now.pending.now c.args.self.now.operation.now c.args.self.now.reply.now
           (map (λ m. m.now) c.args.starts.now) c.args.nodes.now c.loop-start.nodes n (map (λ m. m.now) c.args.starts.now ++ c.loop-start.visited.items) c.loop-start.out.items) all c.loop-start.invariant.working;
       tried = subst (λ n. IsTriedAtMost (n * (2 * length c.args.self.now.pending.now + 1)) c.args.meter.now c.loop-start.meter) all c.loop-start.invariant.tried;
