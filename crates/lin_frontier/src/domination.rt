@@ -26,6 +26,13 @@ fn is_part(pairs: &[(u64, Reply)], others: &[(u64, Reply)]) -> bool
     true
 }
 
+/// Whether the pairs are the same. Mostly they are, where one configuration covers another.
+fn are_same(pairs: &[(u64, Reply)], others: &[(u64, Reply)]) -> bool
+    ensures { IsTrue result → pairs.now ≡ others.now }
+{
+    pairs == others
+}
+
 /// Whether the pair is among the others or of a crashed operation.
 fn is_placed_or_crashed(pending: &Pending, others: &[(u64, Reply)], pair: &(u64, Reply)) -> bool
     ensures { IsTrue result ↔ (Contains others.now pair.now ⊎ (is_crashed_in pending.now pair.now.0 ≡ true)) }
@@ -101,6 +108,9 @@ pub fn covers<O: SeqObject>(
     }
     if !is_same_state::<O>(config.state(), other.state()) {
         return false;
+    }
+    if are_same(config.placed(), other.placed()) {
+        return true;
     }
     if !is_part(config.placed(), other.placed()) {
         return false;

@@ -9,7 +9,6 @@ use crate::pending::{Open, Pending};
 use crate::spare::Spare;
 use lin_history::{Call, Meter, OutOfMemory, Reply, Val};
 use lin_objects::SeqObject;
-use smallvec::SmallVec;
 use std::alloc::Global;
 use std::marker::Model;
 use std::rc::Rc;
@@ -18,7 +17,7 @@ use std::rc::Rc;
 /// state gave to its pending call.
 #[derive(Drop)]
 pub struct OfferList {
-    items: SmallVec<(usize, (u64, Reply)), 4>,
+    items: Vec<(usize, (u64, Reply))>,
     bits: u64,
 }
 
@@ -275,7 +274,7 @@ impl OfferList {
         ensures { result ≡ [] }
     {
         OfferList {
-            items: SmallVec::new(alloc),
+            items: Vec::new(alloc),
             bits: 0,
         }
     }
