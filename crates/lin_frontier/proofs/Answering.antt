@@ -30,7 +30,7 @@ use Rattle.lin_frontier.proofs.Dominating.{dominates_itself}
 use Rattle.lin_frontier.proofs.Exchanging.{change, change_first, change_neither, exchanged_added, exchanged_itself, no_exchange, open_call}
 use Rattle.lin_frontier.proofs.Inserting.{absent_from, kept_by, insert_added, insert_is, none_from, without_is}
 use Rattle.lin_frontier.proofs.Onward.{in_map, from_map}
-use Rattle.lin_frontier.proofs.Pruned.{copy_dominates, watching_from, crashed_to}
+use Rattle.lin_frontier.proofs.Pruned.{copy_dominates, watching_from, watching_to, crashed_to}
 use Rattle.lin_frontier.proofs.Returned.{passes}
 
 module _ (observes : Call → Bool) (functions : ℤ → Name → Bool) (h : List Event) (event : Event) (name : Name) (reply : Reply) (body : event.body ≡ Ok name reply)
@@ -83,10 +83,13 @@ module _ (observes : Call → Bool) (functions : ℤ → Name → Bool) (h : Lis
   module _ {S : Type 0} (step : S → Call → S → Reply → Type 0) where
     gives : (c : S × List (ℕ × Reply)) (x : ℕ × Reply) → x.0 ≢ event.process → is_watching observes pending x.0 ≡ true → IsAbsent x.0 c.1 → IsGiven step h c.0 x → GivesAny step observes pending c x
     gives c x other watching absent given =
-        let o = other_open given.at x.0 given.key given.call other given.is_open in (
+        let o = other_open given.at x.0 given.key given.call other given.is_open in
+        let k = watching_to functions (with_event h event) pending opened unique alternates observes x.0 watching in
+        let s = opened.sound o.0 o.1 in (
           o.0,
           o.1,
           (
+            ap observes (open_call functions (with_event h event) alternates o.0.at k.at x.0 s.0 k.key o.0.call k.call (subst (λ q. IsOpen (with_event h event) o.0.at q s.0 o.0.call) o.3 s.1) k.is_open) ∙ k.observer,
             subst (λ q. is_watching observes pending q ≡ true) (sym o.3) watching,
             subst (λ q. IsAbsent q c.1) (sym o.3) absent,
             (sym o.3, given.next, subst (λ a. step c.0 a given.next x.1) (sym o.4) given.steps),

@@ -69,9 +69,9 @@ module _ (observes : Call → Bool) (functions : ℤ → Name → Bool) (h : Lis
     was_given c x gives =
         let o = gives.0 in
         let one = gives.2 in
-        let to = one.2 in
+        let to = one.3 in
         let s = opened.sound o gives.1 in (
-          was_watching x.0 (subst (λ q. is_watching observes pending q ≡ true) (sym to.0) one.0),
+          was_watching x.0 (subst (λ q. is_watching observes pending q ≡ true) (sym to.0) one.1),
           record { at = o.at; key = s.0; call = o.call; next = to.1; is_open = subst (λ q. IsOpen h o.at q s.0 o.call) (sym to.0) (was_open o.at o.process s.0 o.call s.1); steps = to.2 },
         )
 
@@ -84,7 +84,7 @@ module _ (observes : Call → Bool) (functions : ℤ → Name → Bool) (h : Lis
     no_offer : (m : Member S × Path) (n : Member S) → IsFromBehind step observes pending m n → (round : ℕ) (other : Reply) → Contains n.offers (round, (event.process, other)) → ⊥
     no_offer m n behind round other there = elim (behind (round, (event.process, other)) there) [
       | inl before ↦ nobody before.1
-      | inr new ↦ nobody (subst (λ q. is_watching observes pending q ≡ true) (sym new.1.2.2.0) new.1.2.0)
+      | inr new ↦ nobody (subst (λ q. is_watching observes pending q ≡ true) (sym new.1.2.3.0) new.1.2.1)
     ]
 
     -- rounds lead to the member, in which the operation has no place

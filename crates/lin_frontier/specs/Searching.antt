@@ -41,9 +41,9 @@ pub record IsOffering (R : ℕ × Reply → Type 0) (round : ℕ) (old now : Lis
 abbrev pub Gives : {S : Type 0} → (S → Call → S → Reply → Type 0) → S → Open → ℕ × Reply → Type 0
 Gives {S} step state operation x = (x.0 ≡ operation.process) × (next : S) × step state operation.call next x.1
 
--- the configuration's state gives the reply to the operation, whose process watches and has no place in it
+-- the configuration's state gives the reply to the operation, which observes, and whose process watches and has no place in it
 abbrev pub GivesOne : {S : Type 0} → (S → Call → S → Reply → Type 0) → (Call → Bool) → List Open → S × List (ℕ × Reply) → Open → ℕ × Reply → Type 0
-GivesOne step observes pending c o x = (is_watching observes pending o.process ≡ true) × IsAbsent o.process c.1 × Gives step c.0 o x
+GivesOne step observes pending c o x = (observes o.call ≡ true) × (is_watching observes pending o.process ≡ true) × IsAbsent o.process c.1 × Gives step c.0 o x
 
 -- it does so to one of the operations
 abbrev pub GivesAny : {S : Type 0} → (S → Call → S → Reply → Type 0) → (Call → Bool) → List Open → S × List (ℕ × Reply) → ℕ × Reply → Type 0

@@ -373,7 +373,7 @@ impl OfferList {
         Ok(())
     }
 
-    /// Offers in the round what the configuration's state gives to the operation, if its process watches and has no place
+    /// Offers in the round what the configuration's state gives to the operation, if it observes, and its process watches and has no place
     /// in the configuration.
     fn offer_one<O: SeqObject>(
         &mut self,
@@ -392,6 +392,9 @@ impl OfferList {
         ensures knows { OnOk result (Knows (O.step object.now) config.now.0 known.new steps.new.items) }
         ensures tried { IsTriedAtMost 1 meter.old meter.new }
     {
+        if !object.observes(&operation.call) {
+            return Ok(());
+        }
         if !is_watching(object, pending, operation.process) {
             return Ok(());
         }

@@ -24,7 +24,7 @@ loop-operation-preserved-then-operation g c =
     let observes = g.O.SeqObject.observing c.args.object.now in
     record {
       offered = offering_more (GivesOne (g.O.SeqObject.step c.args.object.now) observes xs c.args.config.now) c.args.round c.args.self.now xs i _ c.loop-operation.self c.loop-operation.self inside
-          (offering_nothing _ c.args.round c.loop-operation.self (λ x gives. crashed_waits_not observes xs _ (Contains-get_or xs i _ inside) (rw same at c.if-operation.true) gives.0)) c.loop-operation.invariant.offered;
+          (offering_nothing _ c.args.round c.loop-operation.self (λ x gives. crashed_waits_not observes xs _ (Contains-get_or xs i _ inside) (rw same at c.if-operation.true) gives.1)) c.loop-operation.invariant.offered;
       knows = c.loop-operation.invariant.knows;
       tried = tried_more i 0 (i + 1) _ _ _ (omega arith) c.loop-operation.invariant.tried (tried_none 0 _);
     }
