@@ -16,7 +16,7 @@ use crate::offers::{OfferList, Offers, may_be_watched};
 use crate::pending::{Open, Pending};
 use crate::placing::place_if_absent;
 use crate::rounds::RoundNodes;
-use crate::scratch::{Scratch, give_up_all};
+use crate::scratch::{Scratch, empty, give_up_all};
 use crate::seen::{Seen, is_found};
 use crate::spare::Pool;
 use lin_history::{Meter, OutOfMemory, Reply};
@@ -158,7 +158,7 @@ impl<'a, O: SeqObject> Completion<'a, O> {
         ensures placed { OnOk result (AreUpdates (O.step self.now.object.now) (O.observing self.now.object.now) self.now.pending.now config.now out.new.items) }
         ensures tried { IsTriedAtMost (length self.now.pending.now) meter.old meter.new }
     {
-        out.clear();
+        empty(out);
         let operations = self.pending.as_slice();
         let mut at = 0;
         while let Some(operation) = operations.get(at) {
@@ -488,7 +488,7 @@ impl<'a, O: SeqObject> Completion<'a, O> {
             )?;
             return Ok(Some(made));
         }
-        scratch.visited.clear();
+        empty(&mut scratch.visited);
         self.search(
             alloc,
             starts,

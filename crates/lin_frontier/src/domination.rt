@@ -71,7 +71,20 @@ fn has_offer<O: SeqObject>(
     !is_absent(member.placed(), process)
 }
 
-/// Whether the member has each of the offers, apart from those that nobody waits for.
+/// The same; the member may have it at the place.
+fn has_offer_at<O: SeqObject>(
+    object: &O,
+    pending: &Pending,
+    member: &Member<O::State>,
+    at: usize,
+    offer: &(usize, (u64, Reply)),
+) -> bool
+    ensures { IsTrue result ↔ (is_watching_in (O.observing object.now) pending.now offer.now.1.0 ≡ true → IsAbsent offer.now.1.0 member.now.0.placed → IsOnOffer member.now.0 offer.now.1) }
+{
+    member.offers().stands_at(at, &offer.1) || has_offer(object, pending, member, offer)
+}
+
+/// Whether the member has each of the offers, apart from those that nobody waits for. Mostly it has them in the same places.
 fn has_offers<O: SeqObject>(
     object: &O,
     pending: &Pending,
@@ -80,10 +93,12 @@ fn has_offers<O: SeqObject>(
 ) -> bool
     ensures { IsTrue result ↔ All (λ x. is_watching_in (O.observing object.now) pending.now x.1.0 ≡ true → IsAbsent x.1.0 member.now.0.placed → IsOnOffer member.now.0 x.1) offers.now }
 {
+    let mut at: usize = 0;
     for offer in offers.as_slice() {
-        if !has_offer(object, pending, member, offer) {
+        if !has_offer_at(object, pending, member, at, offer) {
             return false;
         }
+        at = at.wrapping_add(1);
     }
     true
 }

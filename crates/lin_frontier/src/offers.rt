@@ -258,6 +258,16 @@ impl Offers {
         Ok(Offers::of(kept, spare))
     }
 
+    /// Whether it is at the place that the reply is on offer to the process.
+    pub fn stands_at(&self, at: usize, pair: &(u64, Reply)) -> bool
+        ensures { IsTrue result → (round : ℕ) × Contains self.now (round, pair.now) }
+    {
+        match self.as_slice().get(at) {
+            Some(offer) => is_pair(&offer.1, pair.0, &pair.1),
+            None => false,
+        }
+    }
+
     /// The first round in which the process was offered the reply.
     pub fn round_of(&self, process: u64, reply: &Reply) -> Option<usize>
         ensures some { IfSome result (λ round. Contains self.now (round, (process, reply.now))) }

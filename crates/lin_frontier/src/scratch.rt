@@ -26,13 +26,23 @@ pub struct Scratch<O: SeqObject> {
     pub(crate) pool: Pool,
 }
 
+/// Empties the list. Mostly it is empty, which is seen without a call.
+#[inline(always)]
+pub(crate) fn empty<T: Drop>(list: &mut Vec<T>)
+    ensures { list.new.items ≡ [] }
+{
+    if !list.is_empty() {
+        list.clear();
+    }
+}
+
 /// The list, emptied, with one that has no memory in its place.
 #[inline(always)]
 fn emptied<T: Drop>(alloc: Global, list: &mut Vec<T>) -> Vec<T>
     ensures { result.items ≡ [] }
 {
     let mut emptied = mem::replace(list, Vec::new(alloc));
-    emptied.clear();
+    empty(&mut emptied);
     emptied
 }
 

@@ -309,6 +309,7 @@ impl<O: SeqObject> Compressed<O> {
 
     /// Whether the budget is so small that all configurations are counted, and there are more of them. The frontier is that after
     /// the event, the operations are those that were open before it.
+    #[inline(always)]
     fn is_over(
         &self,
         alloc: Global,
@@ -329,6 +330,28 @@ impl<O: SeqObject> Compressed<O> {
         if COUNTED <= budget {
             return Ok(false);
         }
+        self.exceeds_after(alloc, object, pending, at, event, budget, nodes, meter)
+    }
+
+    /// Whether there are more configurations than the budget.
+    #[inline(never)]
+    fn exceeds_after(
+        &self,
+        alloc: Global,
+        object: &O,
+        pending: &[Open],
+        at: usize,
+        event: &Event,
+        budget: usize,
+        nodes: &mut RoundNodes,
+        meter: &mut Meter,
+    ) -> Result<bool, OutOfMemory>
+        ensures over { IfOk result (λ over. over ≡ true → (functions : ℤ → NameOf → Bool) (h : List EventOf) → IsNextEvent functions h pending.now at event.now
+            → IsCompressed (O.starts object.now) (O.step object.now) (O.observing object.now) (with_event h event.now) self.now nodes.old
+            → IsOver (O.starts object.now) (O.step object.now) (with_event h event.now) budget) }
+        ensures nodes { nodes.new ≡ nodes.old }
+        ensures tried { IsTriedAtMost (budget * (length pending.now + 1)) meter.old meter.new }
+    {
         let operations = open_after(Vec::new(alloc), pending, at, event)?;
         let after = Pending::of(&operations);
         exceeds(object, alloc, &after, &self.members, budget, nodes, meter)

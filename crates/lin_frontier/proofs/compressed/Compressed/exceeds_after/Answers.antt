@@ -4,7 +4,7 @@ use Rattle.lin_frontier.specs.Compressed.{IsCovering}
 use Rattle.lin_frontier.specs.Frontiers.{IsPending}
 use Rattle.lin_frontier.proofs.Answered.{if_ok_weaker}
 use Rattle.lin_frontier.proofs.Counting.{tried_longer}
-use Rattle.lin_frontier.proofs.compressed.Compressed.is_over.Goals as goal
+use Rattle.lin_frontier.proofs.compressed.Compressed.exceeds_after.Goals as goal
 
 pub returns-clause-over : goal.returns-clause-over
 returns-clause-over g c =
