@@ -26,7 +26,7 @@ fn is_part(pairs: &[(u64, Reply)], others: &[(u64, Reply)]) -> bool
     true
 }
 
-/// Whether the pairs are the same. Mostly they are, where one configuration covers another.
+/// Whether the pairs are the same.
 fn are_same(pairs: &[(u64, Reply)], others: &[(u64, Reply)]) -> bool
     ensures { IsTrue result → pairs.now ≡ others.now }
 {
@@ -124,13 +124,27 @@ pub fn covers<O: SeqObject>(
     if !is_same_state::<O>(config.state(), other.state()) {
         return false;
     }
-    if are_same(config.placed(), other.placed()) {
-        return true;
-    }
     if !is_part(config.placed(), other.placed()) {
         return false;
     }
     is_part_but_crashed(pending, other.placed(), config.placed())
+}
+
+/// The same, where the one mostly has the same placed as the other, if it covers it.
+fn covers_alike<O: SeqObject>(
+    pending: &Pending,
+    config: &Config<O::State>,
+    other: &Config<O::State>,
+) -> bool
+    ensures { IsTrue result ↔ CoversIn pending.now config.now other.now }
+{
+    if !is_same_state::<O>(config.state(), other.state()) {
+        return false;
+    }
+    if are_same(config.placed(), other.placed()) {
+        return true;
+    }
+    covers::<O>(pending, config, other)
 }
 
 /// Whether the member surely lacks one of the offers: one that its bits tell of.
@@ -166,7 +180,7 @@ fn covers_with_offers<O: SeqObject>(
     if !member.offers().may_hold(offers) && lacks_one(object, pending, member, offers) {
         return false;
     }
-    if !covers::<O>(pending, member.config(), config) {
+    if !covers_alike::<O>(pending, member.config(), config) {
         return false;
     }
     has_offers(object, pending, member, offers)

@@ -1,6 +1,4 @@
-use Rattle.std.proofs.Common.{◌≡◌, ◌⊎◌, true, inl, refl, subst, sym, ◌∙◌, All, Contains, true≢false}
-use Rattle.std.proofs.lemmas.List.Elements.{All-contains_itself, All-weaker}
-use Rattle.lin_frontier.specs.Searching.{is_crashed}
+use Rattle.std.proofs.Common.{sym, ◌∙◌, true≢false}
 use Rattle.lin_frontier.proofs.domination.covers.Goals as goal
 
 pub returns-then-not-may_cover : goal.returns-then-not-may_cover
@@ -17,23 +15,9 @@ returns-then-not-is_same_state g c =
       λ d. absurd (true≢false (sym (same.1 d.same) ∙ c.if-not-is_same_state.true)),
     )
 
-pub returns-then-are_same : goal.returns-then-are_same
-returns-then-are_same g c =
-    let state = (rw (c.state.ensures, c.state-2.ensures) at c.is_same_state.ensures).0 c.if-not-is_same_state.false in
-    let same = (rw (c.placed.ensures, c.placed-2.ensures) at c.are_same.ensures) c.if-are_same.true in
-    let these = c.args.config.now.1 in
-    let itself = All-contains_itself these in (
-      λ _. record {
-        same = state;
-        part = subst (λ l. All (λ x. Contains l x) these) same itself;
-        rest = subst (λ l. All (λ x. Contains these x ⊎ (is_crashed c.args.pending.now x.0 ≡ true)) l) same (All-weaker (λ x. Contains these x) (λ x. Contains these x ⊎ (is_crashed c.args.pending.now x.0 ≡ true)) (λ x there. inl there) these itself);
-      },
-      λ _. refl,
-    )
-
 pub returns-then-not-is_part : goal.returns-then-not-is_part
 returns-then-not-is_part g c =
-    let part = rw (c.placed-3.ensures, c.placed-4.ensures) at c.is_part.ensures in (
+    let part = rw (c.placed.ensures, c.placed-2.ensures) at c.is_part.ensures in (
       λ t. absurd (true≢false (sym t)),
       λ d. absurd (true≢false (sym (part.1 d.part) ∙ c.if-not-is_part.true)),
     )
@@ -41,8 +25,8 @@ returns-then-not-is_part g c =
 pub returns : goal.returns
 returns g c =
     let same = rw (c.state.ensures, c.state-2.ensures) at c.is_same_state.ensures in
-    let part = rw (c.placed-3.ensures, c.placed-4.ensures) at c.is_part.ensures in
-    let rest = rw (c.placed-5.ensures, c.placed-6.ensures) at c.is_part_but_crashed.ensures in (
+    let part = rw (c.placed.ensures, c.placed-2.ensures) at c.is_part.ensures in
+    let rest = rw (c.placed-3.ensures, c.placed-4.ensures) at c.is_part_but_crashed.ensures in (
       λ t. record { same = same.0 c.if-not-is_same_state.false; part = part.0 c.if-not-is_part.false; rest = rest.0 t },
       λ d. rest.1 d.rest,
     )
