@@ -71,7 +71,7 @@ fn has_offer<O: SeqObject>(
     !is_absent(member.placed(), process)
 }
 
-/// The same; the member may have it at the place.
+/// Whether the member has the offer, or nobody waits for it. It is looked for first at the place.
 fn has_offer_at<O: SeqObject>(
     object: &O,
     pending: &Pending,
@@ -130,7 +130,7 @@ pub fn covers<O: SeqObject>(
     is_part_but_crashed(pending, other.placed(), config.placed())
 }
 
-/// The same, where the one mostly has the same placed as the other, if it covers it.
+/// Whether the configuration covers the other one, told at once where the same operations are placed in both.
 fn covers_alike<O: SeqObject>(
     pending: &Pending,
     config: &Config<O::State>,

@@ -13,8 +13,8 @@ use std::alloc::Global;
 use std::hash::Hash;
 use std::mem;
 
-/// Lists whose memory is used again by each search. What they hold means nothing: a list is given out, and comes back when it is
-/// done with.
+/// Lists whose memory is used again by each search. What they hold between searches means nothing: each list is emptied before it
+/// is used.
 #[derive(Drop)]
 pub struct Scratch<O: SeqObject> {
     alloc: Global,
