@@ -1,5 +1,5 @@
 -- What is kept of the first events, after each of the steps that change it.
-use Rattle.std.proofs.Common.{◌≡◌, ◌+◌, ◌-◌, ◌*◌, ◌<◌, ◌≤◌, ℕ, ℤ, zero, suc, Bool, List, [], ◌∷◌, ◌++◌, length, Contains, Option, Some, None, inl, inr, refl, sym, ap, ◌∙◌, subst, arith, get_or, slice_get, take, All, AllPairs, Vec, Global, add-one}
+use Rattle.std.proofs.Common.{◌≡◌, ◌+◌, ◌-◌, ◌*◌, ◌<◌, ◌≤◌, ℕ, ℤ, zero, suc, Bool, List, [], ◌∷◌, ◌++◌, length, Option, Some, None, inl, inr, refl, sym, ap, ◌∙◌, subst, arith, get_or, slice_get, take, All, AllPairs, Vec, Global, add-one}
 use Rattle.std.proofs.lemmas.Bool.{cases_lt, cases_order}
 use Rattle.std.proofs.lemmas.List.{length-take, length-take-le, get_or-take, take_all, take-take, take-append-le, length_push, append-nil}
 use Rattle.std.proofs.lemmas.List.Quantifiers.{all_pairs_push}
@@ -11,7 +11,6 @@ use Rattle.lin_history.specs.WellFormed.{IsWellFormed}
 use Rattle.lin_history.specs.WellFormedLaws.{BeginningsAreWellFormed}
 use Rattle.lin_objects.specs.declared.kinds.Kind.{Kind}
 use Rattle.lin_objects.specs.declared.states.State.{State}
-use Rattle.lin_history.specs.declared.calls.Reply.{Reply}
 use Rattle.lin_objects.specs.Observing.{observes}
 use Rattle.lin_objects.specs.Steps.{Step, start}
 use Rattle.lin_order.specs.declared.placed.Placed.{Placed}

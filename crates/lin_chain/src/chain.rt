@@ -83,6 +83,13 @@ impl Chain {
         self.end
     }
 
+    /// Of which kind the object is.
+    pub fn kind(&self) -> Kind
+        ensures { result ≡ kind_in self.now }
+    {
+        self.replay.kind()
+    }
+
     /// How many frontiers are held.
     pub fn kept(&self) -> usize
         ensures held { result ≡ kept_count self.now }

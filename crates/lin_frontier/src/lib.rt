@@ -37,4 +37,4 @@ pub use nodes::{NodeId, Nodes};
 pub use pending::{Open, append_operations, nothing_is_open_at_first, take_in};
 pub use rounds::RoundNodes;
 pub use scratch::Scratch;
-pub use within::{Advance, members_spell_legal_orders};
+pub use within::{Advance, is_counted, members_spell_legal_orders};

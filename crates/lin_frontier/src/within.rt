@@ -39,6 +39,11 @@ const COUNTED: usize = 1_024;
 /// A search comes to so many members at most, unless the budget is large.
 const LONGEST_SEARCH: usize = 4_096;
 
+/// Whether the budget is so small that all configurations are counted after each event.
+pub fn is_counted(budget: usize) -> bool {
+    budget < COUNTED
+}
+
 /// Where a search comes to more members than these, the configurations before the event are counted instead.
 fn longest_search(budget: usize) -> usize
     ensures { result ≤ budget }
@@ -327,7 +332,7 @@ impl<O: SeqObject> Compressed<O> {
         ensures nodes { nodes.new ≡ nodes.old }
         ensures tried { IsTriedAtMost (budget * (length pending.now + 1)) meter.old meter.new }
     {
-        if COUNTED <= budget {
+        if !is_counted(budget) {
             return Ok(false);
         }
         self.exceeds_after(alloc, object, pending, at, event, budget, nodes, meter)

@@ -12,7 +12,10 @@ mod tests;
 #[cfg(test)]
 mod tests_refutes;
 #[cfg(test)]
+mod tests_witnesses;
+#[cfg(test)]
 mod tests_work;
+mod witnesses;
 mod work;
 
 pub use answers::{Answer, Refuted, Scope, Verdict, answers_are_verdicts};

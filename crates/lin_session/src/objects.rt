@@ -49,7 +49,7 @@ impl Objects {
     }
 
     /// Where the key is listed.
-    fn find(&self, key: i64) -> Option<usize>
+    pub(crate) fn find(&self, key: i64) -> Option<usize>
         ensures found { IfSome result (λ i. slice_get self.now.keys.keys i ≡ Some key) }
         ensures none { IfNone result (Contains self.now.keys.keys key → ⊥) }
     {
@@ -602,7 +602,7 @@ impl Objects {
 }
 
 /// The verdict that the findings give: the failing prefix, unless an object is over at an earlier position.
-fn told(failing: Option<usize>, over: Option<usize>) -> Verdict
+pub(crate) fn told(failing: Option<usize>, over: Option<usize>) -> Verdict
     ensures { IsTold failing over result }
 {
     match failing {

@@ -182,6 +182,9 @@ impl Session {
 
     /// As `ask`, but without making an order: where nothing changed since a question of the scope, no memory is taken, and
     /// the time is linear in the number of objects of the scope.
+    ///
+    /// But where the verdict would be undecided, and the budget isn't so small that all configurations are counted, a legal order
+    /// of each object that is over is looked for, each time. If one is found, the object is a yes, though `ask` and `refute` say undecided.
     pub fn judge(&mut self, alloc: Global, scope: Scope) -> Result<Verdict, OutOfMemory>
         ensures verdict { IfOk result (IsVerdict self.old.present scope) }
         ensures present { self.new.present ≡ self.old.present }
@@ -208,9 +211,17 @@ impl Session {
                     self.budget,
                     &mut self.meter,
                 )?;
+                let reconsidered = self.objects.reconsidered(
+                    alloc,
+                    scope,
+                    &self.events,
+                    &self.kinds,
+                    self.budget,
+                    verdict,
+                );
                 self.objects.mark(scope);
                 self.low = None;
-                Ok(verdict)
+                Ok(reconsidered)
             }
             Shape::Bad { at, cause } => {
                 self.low = None;

@@ -12,7 +12,7 @@ pub(crate) struct Draw {
 
 impl Draw {
     /// A number below the bound, or 0 where that is 0.
-    fn below(&mut self, bound: u64) -> u64 {
+    pub(crate) fn below(&mut self, bound: u64) -> u64 {
         self.seed = self
             .seed
             .wrapping_mul(6_364_136_223_846_793_005)

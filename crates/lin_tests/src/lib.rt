@@ -37,3 +37,5 @@ mod refutations;
 mod register;
 #[cfg(test)]
 mod table;
+#[cfg(test)]
+mod witnesses;

@@ -1,4 +1,4 @@
-use Rattle.std.proofs.Common.{ap, sym, subst, ◌∙◌}
+use Rattle.std.proofs.Common.{sym, subst}
 use Rattle.lin_frontier.specs.Frontiers.{IsNextEvent}
 use Rattle.lin_chain.specs.declared.replay.Replay.{Replay}
 use Rattle.lin_chain.proofs.replay.Replay.stay.Goals as goal

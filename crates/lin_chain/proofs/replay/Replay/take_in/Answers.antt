@@ -1,4 +1,4 @@
-use Rattle.std.proofs.Common.{ℤ, ◌+◌, ◌∙◌, Bool, List, Some, ap, inl, inr, sym, subst, take}
+use Rattle.std.proofs.Common.{ℤ, ◌+◌, ◌∙◌, Bool, List, ap, inl, inr, sym, subst, take}
 use Rattle.lin_chain.specs.declared.replay.Replay.{Replay}
 use Rattle.lin_history.specs.declared.calls.Name.{Name}
 use Rattle.lin_history.specs.declared.events.Event.{Event}

@@ -1,0 +1,102 @@
+//! A legal order as a witness: found by a search that promises nothing, and checked.
+ghost use Rattle.std.specs.Prelude.{◌≡◌, ◌∷◌, ◌++◌, [], ℤ, All, IfOk, IsTrue, OnOk};
+ghost use Rattle.lin_order.specs.Parts.{events_at};
+ghost use Rattle.lin_chain.specs.Replays.{IsLinearizableAs};
+
+use crate::acts::Acts;
+use crate::attempts::Attempt;
+use lin_history::{Event, OutOfMemory};
+use lin_objects::{Kind, Kinds};
+use lin_order::{Placed, check_order};
+use std::alloc::Global;
+
+/// Puts the event at the place last, if there is one.
+fn append_at(
+    alloc: Global,
+    own: &mut Vec<Event>,
+    events: &[Event],
+    at: usize,
+) -> Result<(), OutOfMemory>
+    ensures { OnOk result (own.new.items ≡ own.old.items ++ events_at events.now (at ∷ [])) }
+{
+    if let Some(event) = events.get(at) {
+        own.push(event.copy(alloc)?)?;
+    }
+    Ok(())
+}
+
+/// The events at the places, on their own memory.
+fn picked(alloc: Global, events: &[Event], picks: &[usize]) -> Result<Vec<Event>, OutOfMemory>
+    ensures { IfOk result (λ own. own.items ≡ events_at events.now picks.now) }
+{
+    let mut own = Vec::with_capacity(alloc, picks.len())?;
+    for pick in picks {
+        append_at(alloc, &mut own, events, *pick)?;
+    }
+    Ok(own)
+}
+
+/// The operations with their replies.
+fn placed(alloc: Global, acts: &Acts, operations: &[usize]) -> Result<Vec<Placed>, OutOfMemory> {
+    let mut order = Vec::new(alloc);
+    for at in operations {
+        if let Some(act) = acts.act(*at) {
+            order.push(Placed {
+                at: *at,
+                reply: act.reply(),
+            })?;
+        }
+    }
+    Ok(order)
+}
+
+/// An order of the events of a register, if the search finds one.
+fn attempted(alloc: Global, events: &[Event]) -> Result<Option<Vec<Placed>>, OutOfMemory> {
+    let acts = Acts::of(alloc, events)?;
+    let mut attempt = Attempt::new(alloc, &acts);
+    match attempt.run()? {
+        Some(operations) => Ok(Some(placed(alloc, &acts, &operations)?)),
+        None => Ok(None),
+    }
+}
+
+/// Whether the search finds an order of the events of a register of the kind, which all are of one key, and it is a legal one.
+fn is_shown(alloc: Global, kind: Kind, events: &[Event]) -> Result<bool, OutOfMemory>
+    requires { (key : ℤ) × All (λ event. event.key ≡ key) events.now }
+    ensures { IfOk result (λ shown. IsTrue shown → IsLinearizableAs kind events.now) }
+{
+    let Some(order) = attempted(alloc, events)? else {
+        return Ok(false);
+    };
+    check_order(alloc, events, &Kinds::new(alloc, kind), &order)
+}
+
+/// The same of the events at the places.
+fn is_shown_of(
+    alloc: Global,
+    kind: Kind,
+    events: &[Event],
+    picks: &[usize],
+) -> Result<bool, OutOfMemory>
+    requires { (key : ℤ) × All (λ event. event.key ≡ key) (events_at events.now picks.now) }
+    ensures { IfOk result (λ shown. IsTrue shown → IsLinearizableAs kind (events_at events.now picks.now)) }
+{
+    let own = picked(alloc, events, picks)?;
+    is_shown(alloc, kind, own.as_slice())
+}
+
+/// Whether a legal order of the events at the places was found, which all are of one key.
+///
+/// Only orders of registers are looked for. Takes time and memory linear in the events, apart from how many operations are open at a time.
+/// Where memory is refused none is found.
+pub fn finds_order(alloc: Global, kind: Kind, events: &[Event], picks: &[usize]) -> bool
+    requires { (key : ℤ) × All (λ event. event.key ≡ key) (events_at events.now picks.now) }
+    ensures { IsTrue result → IsLinearizableAs kind (events_at events.now picks.now) }
+{
+    match kind {
+        Kind::Register | Kind::CasRegister => {
+            is_shown_of(alloc, kind, events, picks).unwrap_or(false)
+        }
+        Kind::Fifo | Kind::Set | Kind::Mutex => false,
+    }
+}

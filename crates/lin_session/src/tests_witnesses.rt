@@ -1,0 +1,76 @@
+//! Objects that have more configurations than the budget, and whose legal orders are looked for.
+use crate::tests::{read, registers, saw, write, wrote};
+use crate::{Answer, Scope, Verdict};
+use lin_history::{Event, Val};
+use std::alloc::Global;
+use std::test::Fail;
+
+const OBJECT: Scope = Scope::Object(0);
+
+/// Eleven clients write at once, and the first of these writes returns.
+fn writes_at_once(alloc: Global) -> Result<Vec<Event>, Fail> {
+    let mut events = Vec::new(alloc);
+    for process in 0..11 {
+        events.push(write(process, 0, process.cast_signed()))?;
+    }
+    events.push(wrote(0, 0))?;
+    Ok(events)
+}
+
+#[test]
+fn an_order_of_many_open_writes_is_found(rt: HostRuntime) -> Result<(), Fail> {
+    let alloc = rt.alloc();
+    let history = writes_at_once(alloc)?;
+    let mut session = registers(&rt, alloc, 1_024, &history)?;
+    assert!(rt;
+        matches!(
+            session.ask(alloc, Scope::Whole)?,
+            Answer::Undecided { at: 10 }
+        )
+    );
+    assert!(rt; session.judge(alloc, Scope::Whole)? == Verdict::Yes);
+    assert!(rt; session.judge(alloc, OBJECT)? == Verdict::Yes);
+    // Nothing changed since: the same again.
+    assert!(rt; session.judge(alloc, OBJECT)? == Verdict::Yes);
+    Ok(())
+}
+
+#[test]
+fn none_is_looked_for_where_configurations_are_counted(rt: HostRuntime) -> Result<(), Fail> {
+    let alloc = rt.alloc();
+    let history = writes_at_once(alloc)?;
+    // Eight open writes have 8 * 128 + 1 configurations.
+    let mut session = registers(&rt, alloc, 1_023, &history)?;
+    assert!(rt; session.judge(alloc, Scope::Whole)? == Verdict::Undecided { at: 7 });
+    Ok(())
+}
+
+#[test]
+fn none_is_found_where_there_is_none(rt: HostRuntime) -> Result<(), Fail> {
+    let alloc = rt.alloc();
+    let mut history = writes_at_once(alloc)?;
+    history.push(read(11, 0))?;
+    history.push(saw(11, 0, Val::Int(77)))?;
+    let mut session = registers(&rt, alloc, 1_024, &history)?;
+    assert!(rt; session.judge(alloc, Scope::Whole)? == Verdict::Undecided { at: 10 });
+    assert!(rt; session.judge(alloc, OBJECT)? == Verdict::Undecided { at: 10 });
+    Ok(())
+}
+
+#[test]
+fn a_failure_of_another_object_is_no_longer_hidden(rt: HostRuntime) -> Result<(), Fail> {
+    let alloc = rt.alloc();
+    let mut history = writes_at_once(alloc)?;
+    history.push(read(11, 1))?;
+    history.push(saw(11, 1, Val::Int(5)))?;
+    let mut session = registers(&rt, alloc, 1_024, &history)?;
+    assert!(rt;
+        matches!(
+            session.ask(alloc, Scope::Whole)?,
+            Answer::Undecided { at: 10 }
+        )
+    );
+    assert!(rt; session.judge(alloc, Scope::Whole)? == Verdict::No { prefix: 14 });
+    assert!(rt; session.judge(alloc, Scope::Object(1))? == Verdict::No { prefix: 14 });
+    Ok(())
+}

@@ -1,0 +1,172 @@
+//! Legal orders looked for where objects have more configurations than the budget.
+ghost use Rattle.std.specs.Prelude.{◌≡◌, ◌<◌, ℕ, ℤ, All, Some, length, slice_get};
+ghost use Rattle.lin_history.specs.WellFormed.{IsWellFormed};
+ghost use Rattle.lin_objects.specs.Kinds.{functions_of, kind_of};
+ghost use Rattle.lin_order.specs.Parts.{events_at};
+ghost use Rattle.lin_chain.specs.Chains.{end_in, kind_in};
+ghost use Rattle.lin_chain.specs.Ends.{IsEndOf};
+ghost use Rattle.lin_session.specs.Answers.{IsVerdict, IsObjectVerdict, IsWholeVerdict};
+ghost use Rattle.lin_session.specs.declared.kept.Object.{Object as ObjectOf};
+ghost use Rattle.lin_session.specs.Costs.{AreJudged, IsJudged};
+ghost use Rattle.lin_session.specs.Judgements.{AreFound, IsFinding};
+ghost use Rattle.lin_session.specs.Objects.{AreRight, split_in};
+
+use crate::answers::{Scope, Verdict};
+use crate::kept::{Object, Objects};
+use crate::objects::told;
+use crate::work::least_of;
+use lin_chain::{End, finds_order};
+use lin_frontier::is_counted;
+use lin_history::{Event, beginnings_are_well_formed};
+use lin_objects::Kinds;
+use lin_order::{
+    absent_keys_are_legal, linearizability_is_local, parts_keep_operations, parts_keep_orders,
+    parts_of_prefixes, positions_spell_parts, prefixes_are_linearizable,
+};
+use std::alloc::Global;
+
+impl Object {
+    /// Where its chain stands; but alive, where that is over and a legal order of its events is found.
+    fn end_with_order(&self, alloc: Global, events: &[Event]) -> End
+        requires { (key : ℤ) × All (λ event. event.key ≡ key) (events_at events.now self.now.picks.items) }
+        ensures { (budget : ℕ) → IsEndOf (kind_in self.now.chain) budget (events_at events.now self.now.picks.items) (end_in self.now.chain)
+            → IsEndOf (kind_in self.now.chain) budget (events_at events.now self.now.picks.items) result }
+    {
+        match self.chain.end() {
+            End::Over(_) if finds_order(alloc, self.chain.kind(), events, &self.picks) =>
+                End::Alive,
+            end => end,
+        }
+    }
+}
+
+impl Objects {
+    /// What is found of the object that is listed here, which was judged, with a legal order looked for.
+    fn finding_with_order(
+        &self,
+        alloc: Global,
+        i: usize,
+        events: &[Event],
+        kinds: &Kinds,
+        budget: u32,
+    ) -> (Option<usize>, Option<usize>)
+        requires listed { i < length self.now.keys.keys }
+        requires few { length events.now < usize.MAX }
+        requires split { split_in self.now ≡ length events.now }
+        requires right { AreRight self.now (kind_of kinds.now) budget events.now }
+        requires well_formed { IsWellFormed (functions_of (kind_of kinds.now)) events.now }
+        requires judged { (key : ℤ) (object : ObjectOf) → slice_get self.now.keys.keys i ≡ Some key → slice_get self.now.objects.items i ≡ Some object → IsJudged (kind_of kinds.now) budget events.now key object }
+        ensures { (key : ℤ) → slice_get self.now.keys.keys i ≡ Some key → IsFinding (kind_of kinds.now) budget events.now key result.0 result.1 }
+    {
+        positions_spell_parts();
+        parts_of_prefixes();
+        parts_keep_orders();
+        beginnings_are_well_formed();
+        let object = &self.objects[i];
+        object.finding(object.end_with_order(alloc, events))
+    }
+
+    /// What is found of all objects, which were judged, with legal orders looked for: the shortest prefix that fails one, and the first
+    /// position at which one is over.
+    fn findings_with_orders(
+        &self,
+        alloc: Global,
+        events: &[Event],
+        kinds: &Kinds,
+        budget: u32,
+    ) -> (Option<usize>, Option<usize>)
+        requires few { length events.now < usize.MAX }
+        requires split { split_in self.now ≡ length events.now }
+        requires right { AreRight self.now (kind_of kinds.now) budget events.now }
+        requires well_formed { IsWellFormed (functions_of (kind_of kinds.now)) events.now }
+        requires judged { AreJudged (kind_of kinds.now) budget events.now self.now Scope.Whole }
+        ensures { AreFound (kind_of kinds.now) budget events.now self.now.keys.keys result.0 result.1 }
+    {
+        let mut failing = None;
+        let mut over = None;
+        for i in 0..self.objects.len() {
+            let found = self.finding_with_order(alloc, i, events, kinds, budget);
+            failing = least_of(failing, found.0);
+            over = least_of(over, found.1);
+        }
+        (failing, over)
+    }
+
+    /// Whether the object of the key, which was judged, is linearizable.
+    fn object_with_order(
+        &self,
+        alloc: Global,
+        key: i64,
+        events: &[Event],
+        kinds: &Kinds,
+        budget: u32,
+    ) -> Verdict
+        requires few { length events.now < usize.MAX }
+        requires split { split_in self.now ≡ length events.now }
+        requires right { AreRight self.now (kind_of kinds.now) budget events.now }
+        requires well_formed { IsWellFormed (functions_of (kind_of kinds.now)) events.now }
+        requires judged { AreJudged (kind_of kinds.now) budget events.now self.now (Scope.Object key) }
+        ensures { IsObjectVerdict (kind_of kinds.now) budget events.now key result }
+    {
+        absent_keys_are_legal();
+        match self.find(key) {
+            Some(i) => {
+                let (failing, over) = self.finding_with_order(alloc, i, events, kinds, budget);
+                told(failing, over)
+            }
+            None => Verdict::Yes,
+        }
+    }
+
+    /// Whether the whole is linearizable. All objects were judged.
+    fn whole_with_orders(
+        &self,
+        alloc: Global,
+        events: &[Event],
+        kinds: &Kinds,
+        budget: u32,
+    ) -> Verdict
+        requires few { length events.now < usize.MAX }
+        requires split { split_in self.now ≡ length events.now }
+        requires right { AreRight self.now (kind_of kinds.now) budget events.now }
+        requires well_formed { IsWellFormed (functions_of (kind_of kinds.now)) events.now }
+        requires judged { AreJudged (kind_of kinds.now) budget events.now self.now Scope.Whole }
+        ensures { IsWholeVerdict (kind_of kinds.now) budget events.now result }
+    {
+        absent_keys_are_legal();
+        prefixes_are_linearizable();
+        parts_keep_orders();
+        beginnings_are_well_formed();
+        linearizability_is_local();
+        let (failing, over) = self.findings_with_orders(alloc, events, kinds, budget);
+        told(failing, over)
+    }
+
+    /// The verdict for the scope, whose objects were judged. Where it is undecided, legal orders of the objects that are over are looked
+    /// for, unless the budget is so small that all configurations are counted.
+    pub(crate) fn reconsidered(
+        &self,
+        alloc: Global,
+        scope: Scope,
+        events: &[Event],
+        kinds: &Kinds,
+        budget: u32,
+        verdict: Verdict,
+    ) -> Verdict
+        requires few { length events.now < usize.MAX }
+        requires split { split_in self.now ≡ length events.now }
+        requires right { AreRight self.now (kind_of kinds.now) budget events.now }
+        requires well_formed { IsWellFormed (functions_of (kind_of kinds.now)) events.now }
+        requires judged { AreJudged (kind_of kinds.now) budget events.now self.now scope }
+        requires verdict { IsVerdict (record { history = events.now; kinds = kinds.now; budget = budget }) scope verdict }
+        ensures { IsVerdict (record { history = events.now; kinds = kinds.now; budget = budget }) scope result }
+    {
+        match verdict {
+            Verdict::Undecided { .. } if !is_counted(budget as usize) => match scope {
+                Scope::Object(key) => self.object_with_order(alloc, key, events, kinds, budget),
+                Scope::Whole => self.whole_with_orders(alloc, events, kinds, budget),
+            },
+            _ => verdict,
+        }
+    }
+}
