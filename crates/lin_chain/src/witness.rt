@@ -60,11 +60,26 @@ fn attempted(alloc: Global, events: &[Event]) -> Result<Option<Vec<Placed>>, Out
     }
 }
 
+/// Whether all events are of the key.
+fn are_of(events: &[Event], key: i64) -> bool
+    ensures { IsTrue result → All (λ event. event.key ≡ key) events.now }
+{
+    for event in events {
+        if event.key != key {
+            return false;
+        }
+    }
+    true
+}
+
 /// Whether the search finds an order of the events of a register of the kind, which all are of one key, and it is a legal one.
 fn is_shown(alloc: Global, kind: Kind, events: &[Event]) -> Result<bool, OutOfMemory>
-    requires { (key : ℤ) × All (λ event. event.key ≡ key) events.now }
     ensures { IfOk result (λ shown. IsTrue shown → IsLinearizableAs kind events.now) }
 {
+    let key = events.first().map_or(0, |event| event.key);
+    if !are_of(events, key) {
+        return Ok(false);
+    }
     let Some(order) = attempted(alloc, events)? else {
         return Ok(false);
     };
@@ -78,19 +93,17 @@ fn is_shown_of(
     events: &[Event],
     picks: &[usize],
 ) -> Result<bool, OutOfMemory>
-    requires { (key : ℤ) × All (λ event. event.key ≡ key) (events_at events.now picks.now) }
     ensures { IfOk result (λ shown. IsTrue shown → IsLinearizableAs kind (events_at events.now picks.now)) }
 {
     let own = picked(alloc, events, picks)?;
     is_shown(alloc, kind, own.as_slice())
 }
 
-/// Whether a legal order of the events at the places was found, which all are of one key.
+/// Whether a legal order of the events at the places was found, which all are of one key. Of events of several keys none is.
 ///
 /// Only orders of registers are looked for. Takes time and memory linear in the events, apart from how many operations are open at a time.
 /// Where memory is refused none is found.
 pub fn finds_order(alloc: Global, kind: Kind, events: &[Event], picks: &[usize]) -> bool
-    requires { (key : ℤ) × All (λ event. event.key ≡ key) (events_at events.now picks.now) }
     ensures { IsTrue result → IsLinearizableAs kind (events_at events.now picks.now) }
 {
     match kind {

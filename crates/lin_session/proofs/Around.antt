@@ -1,5 +1,5 @@
 -- What is kept of the objects, around an event that leaves or comes.
-use Rattle.std.proofs.Common.{◌≡◌, ◌≢◌, ◌<◌, ◌≤◌, ◌+◌, ◌-◌, ℕ, zero, suc, ℤ, Bool, true, false, true≢false, cond, min, All, get_or, List, [], ◌∷◌, ◌++◌, length, length-append, slice_get, set, take, Contains, Some, refl, sym, ap, subst, ◌∙◌, arith}
+use Rattle.std.proofs.Common.{◌≡◌, ◌≢◌, ◌<◌, ◌≤◌, ◌+◌, ◌-◌, ℕ, ℤ, Bool, true, false, cond, min, List, ◌∷◌, ◌++◌, length, length-append, slice_get, set, take, Contains, Some, refl, sym, ap, subst, ◌∙◌, arith}
 use Rattle.std.specs.Ordering.{int_eq}
 use Rattle.std.proofs.lemmas.Bool.Decides.{Decides-int_eq}
 use Rattle.std.specs.Prelude.{not}
@@ -31,19 +31,6 @@ part-same key event h other = by (int_eq event.key key) refl
     by : (b : Bool) → int_eq event.key key ≡ b → part key (event ∷ h) ≡ part key h
     by true e = absurd (other ((Decides-int_eq event.key key).0 e))
     by false e = ap (λ b. cond b (event ∷ part key h) (part key h)) e
-
--- each event of the part is of the key
-pub part_of_key : (key : ℤ) (h : List Event) → All (λ (event : Event). event.key ≡ key) (part key h)
-part_of_key key [] = λ k d within. absurd (omega (arith, within))
-part_of_key key (event ∷ h) = by (int_eq event.key key) refl (part_of_key key h)
-  where
-    ahead : event.key ≡ key → All (λ (e : Event). e.key ≡ key) (part key h) → (k : ℕ) (d : Event) → k < length (event ∷ part key h) → (get_or (event ∷ part key h) k d).key ≡ key
-    ahead same rest zero d within = same
-    ahead same rest (suc k) d within = rest k d (omega (arith, within))
-
-    by : (b : Bool) → int_eq event.key key ≡ b → All (λ (e : Event). e.key ≡ key) (part key h) → All (λ (e : Event). e.key ≡ key) (part key (event ∷ h))
-    by true e rest = let same = (Decides-int_eq event.key key).0 e in subst (All (λ (e : Event). e.key ≡ key)) (sym (part-more key event h same)) (ahead same rest)
-    by false e rest = subst (All (λ (e : Event). e.key ≡ key)) (sym (part-same key event h (λ same. true≢false (sym ((Decides-int_eq event.key key).1 same) ∙ e)))) rest
 
 pub part_few : (key : ℤ) (h : List Event) → length (part key h) ≤ length h
 part_few key h = omega (arith, length-filter_both (λ (e : Event). int_eq e.key key) (λ e. not (int_eq e.key key)) (λ e. refl) h)

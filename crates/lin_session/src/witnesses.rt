@@ -1,5 +1,5 @@
 //! Legal orders looked for where objects have more configurations than the budget.
-ghost use Rattle.std.specs.Prelude.{◌≡◌, ◌<◌, ℕ, ℤ, All, Some, length, slice_get};
+ghost use Rattle.std.specs.Prelude.{◌≡◌, ◌<◌, ℕ, ℤ, Some, length, slice_get};
 ghost use Rattle.lin_history.specs.WellFormed.{IsWellFormed};
 ghost use Rattle.lin_objects.specs.Kinds.{functions_of, kind_of};
 ghost use Rattle.lin_order.specs.Parts.{events_at};
@@ -28,7 +28,6 @@ use std::alloc::Global;
 impl Object {
     /// Where its chain stands; but alive, where that is over and a legal order of its events is found.
     fn end_with_order(&self, alloc: Global, events: &[Event]) -> End
-        requires { (key : ℤ) × All (λ event. event.key ≡ key) (events_at events.now self.now.picks.items) }
         ensures { (budget : ℕ) → IsEndOf (kind_in self.now.chain) budget (events_at events.now self.now.picks.items) (end_in self.now.chain)
             → IsEndOf (kind_in self.now.chain) budget (events_at events.now self.now.picks.items) result }
     {

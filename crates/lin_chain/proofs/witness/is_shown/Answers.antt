@@ -13,4 +13,4 @@ returns c =
     let h = c.args.events.now in
     let checked = rw (c.new.ensures, c.deref.ensures.value) at c.check_order-2.ensures in
     IfOk-weaker c.check_order-2.result (λ legal. IsTrue legal ↔ IsLegalOrder (kind_of (same_for_all kind)) h c.in-Some.order.items) (λ legal. IsTrue legal → IsLinearizableAs kind h)
-    (λ legal both is. shown kind c.requires.0 h c.in-Some.order.items c.requires.1 (both.0 is)) checked
+    (λ legal both is. shown kind _ h c.in-Some.order.items (c.are_of.ensures c.if-not-are_of.false) (both.0 is)) checked

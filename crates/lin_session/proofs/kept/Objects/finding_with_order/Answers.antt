@@ -8,7 +8,6 @@ use Rattle.lin_chain.specs.Ends.{IsEndOf}
 use Rattle.lin_session.specs.Objects.{IsObject}
 use Rattle.lin_session.proofs.Asking.{IsPlaceIn-end, picks_inside, length_spelled, spelled, finding_of}
 use Rattle.lin_session.proofs.Found.{object_within}
-use Rattle.lin_session.proofs.Around.{part_of_key}
 use Rattle.lin_session.proofs.kept.Objects.finding_with_order.Goals as goal
 use Rattle.lin_session.proofs.kept.Objects.finding_with_order.Goals.{After-index-object}
 
@@ -41,11 +40,6 @@ ended c key key_at =
 spelled_length : (c : After-index-object) → length (events_at c.args.events.now c.index-object.result.now.picks.items) ≡ length c.index-object.result.now.picks.items
 spelled_length c =
     length_spelled c.positions_spell_parts.ensures (kind_of c.args.kinds.now) c.args.budget c.args.events.now c.args.self.now.split (key_there c) c.index-object.result.now c.requires.split (there c (key_there c) (key_is c))
-
-pub end_with_order-requires : goal.end_with_order-requires
-end_with_order-requires c =
-    let b = (goal.at.end_with_order-requires c).After-index-object in
-    (key_there b, subst (λ l. All (λ (e : Event). e.key ≡ key_there b) l) (sym (spells b (key_there b) (key_is b))) (part_of_key (key_there b) c.args.events.now))
 
 pub finding-requires-clause-place : goal.finding-requires-clause-place
 finding-requires-clause-place c =
