@@ -101,7 +101,7 @@ fn history(
 
 /// Of how many drawn histories an order is found.
 fn found(alloc: Global, kind: Kind, count: u64) -> Result<u64, OutOfMemory> {
-    let mut found = 0;
+    let mut found: u64 = 0;
     for seed in 0..count {
         let events = history(alloc, kind, 700, &mut Draw { seed })?;
         let mut picks = Vec::new(alloc);
@@ -109,7 +109,7 @@ fn found(alloc: Global, kind: Kind, count: u64) -> Result<u64, OutOfMemory> {
             picks.push(at)?;
         }
         if finds_order(alloc, kind, &events, &picks) {
-            found += 1;
+            found = found.saturating_add(1);
         }
     }
     Ok(found)
