@@ -41,9 +41,8 @@ pub fn session_of(
     requires few { length events.items ≤ limit }
     ensures { IfOk result (λ session. session.present ≡ opened settings events.items) }
 {
-    let mut session = open(alloc, settings);
-    for event in events {
-        append(&mut session, event)?;
-    }
+    let Ok(session) = Session::of(alloc, settings.kind, settings.budget, events) else {
+        unreachable!()
+    };
     Ok(session)
 }

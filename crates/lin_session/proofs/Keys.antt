@@ -1,24 +1,51 @@
 -- The keys of a history.
-use Rattle.std.proofs.Common.{ℤ, ◌<◌, List, length, map, get_or, Contains, sym, ap, ◌∙◌, arith}
-use Rattle.std.proofs.lemmas.List.{get_or-map, length-map, get_or_default}
+use Rattle.std.proofs.Common.{◌≡◌, ◌⊎◌, ◌↔◌, inl, inr, ℤ, Bool, true, false, List, [], ◌∷◌, ◌++◌, Contains, refl, ap, subst, ◌∙◌, if◌then◌else◌}
+use Rattle.std.specs.Ordering.{int_eq}
+use Rattle.std.specs.List.{list_any}
+use Rattle.std.proofs.lemmas.Bool.Decides.{Decides-int_eq}
+use Rattle.std.proofs.lemmas.List.Elements.{Contains-append_left, Contains-push, Contains-push_cases}
+use Rattle.std.proofs.lemmas.Map.Views.{Contains-from_any}
+use Rattle.indexmap.specs.IndexSet.{insert_key}
 use Rattle.lin_history.specs.declared.events.Event.{Event}
-use Rattle.lin_history.specs.declared.events.Body.TheVariants.{Invoke}
-use Rattle.lin_history.specs.declared.calls.Call.TheVariants.{Read}
 use Rattle.lin_session.specs.Sessions.{Occurs}
 
-abbrev pub key_in : Event → ℤ
-key_in event = event.key
+-- just the keys of the history, in any order, some more than once
+abbrev pub AreKeysIn : List Event → List ℤ → Type 0
+AreKeysIn h keys = (key : ℤ) → Contains keys key ↔ Occurs h key
 
-any_event : ℤ → Event
-any_event key = record { process = 0; key = key; body = Invoke Read }
+-- one more event has its own key
+Occurs-more : (h : List Event) (event : Event) (key : ℤ) → Occurs (h ++ event ∷ []) key → Occurs h key ⊎ (event.key ≡ key)
+Occurs-more h event key (other, there, same) = elim (Contains-push_cases h event other there) [
+  | inl before ↦ inl (other, before, same)
+  | inr is ↦ inr (ap (λ (e : Event). e.key) is ∙ same)
+]
 
-pub Occurs-mapped : (h : List Event) (key : ℤ) → Contains (map key_in h) key → Occurs h key
-unfolding any_event
-Occurs-mapped h key (k, within, is) =
-    let inside : k < length h = omega (arith, length-map h key_in) in
-    let event : Event = get_or h k (any_event key) in
-    (event, (k, inside, get_or_default h k event (any_event key) inside), sym (get_or-map key_in h k (any_event key) key inside) ∙ is)
+Occurs-before : (h : List Event) (event : Event) (key : ℤ) → Occurs h key → Occurs (h ++ event ∷ []) key
+Occurs-before h event key (other, there, same) = (other, Contains-append_left h (event ∷ []) other there, same)
 
-pub Contains-mapped : (h : List Event) (key : ℤ) → Occurs h key → Contains (map key_in h) key
-Contains-mapped h key (event, (k, within, is), same) =
-    (k, omega (arith, length-map h key_in), get_or-map key_in h k event key within ∙ ap key_in is ∙ same)
+-- it is listed already
+pub AreKeysIn-passed : (h : List Event) (keys : List ℤ) (event : Event) → Contains keys event.key → AreKeysIn h keys → AreKeysIn (h ++ event ∷ []) keys
+AreKeysIn-passed h keys event listed are = λ key. (
+  (λ there. Occurs-before h event key ((are key).0 there)),
+  (λ occurs. elim (Occurs-more h event key occurs) [
+    | inl before ↦ (are key).1 before
+    | inr same ↦ subst (Contains keys) same listed
+  ]),
+)
+
+-- its key is listed last, unless it is listed already
+pub AreKeysIn-inserted : (h : List Event) (keys : List ℤ) (event : Event) → AreKeysIn h keys → AreKeysIn (h ++ event ∷ []) (insert_key int_eq keys event.key)
+AreKeysIn-inserted h keys event are = by (list_any (int_eq event.key) keys) refl
+  where
+    by : (b : Bool) → list_any (int_eq event.key) keys ≡ b → AreKeysIn (h ++ event ∷ []) (if b then keys else keys ++ event.key ∷ [])
+    by true e = AreKeysIn-passed h keys event (Contains-from_any (λ x y. (Decides-int_eq x y).0) event.key keys e) are
+    by false e = λ key. (
+      (λ there. elim (Contains-push_cases keys event.key key there) [
+        | inl before ↦ Occurs-before h event key ((are key).0 before)
+        | inr same ↦ (event, Contains-push h event, same)
+      ]),
+      (λ occurs. elim (Occurs-more h event key occurs) [
+        | inl before ↦ Contains-append_left keys (event.key ∷ []) key ((are key).1 before)
+        | inr same ↦ subst (Contains (keys ++ event.key ∷ [])) same (Contains-push keys event.key)
+      ]),
+    )

@@ -48,12 +48,15 @@ impl Objects {
         }
     }
 
-    /// Where the key is listed.
+    /// Where the key is listed. The key that was listed last needs no hash.
     pub(crate) fn find(&self, key: i64) -> Option<usize>
         ensures found { IfSome result (λ i. slice_get self.now.keys.keys i ≡ Some key) }
         ensures none { IfNone result (Contains self.now.keys.keys key → ⊥) }
     {
-        self.keys.get_index_of(&key)
+        match self.keys.last() {
+            Some(last) if *last == key => Some(self.keys.len() - 1),
+            _ => self.keys.get_index_of(&key),
+        }
     }
 
     /// Forgets where the events from the position on stand.

@@ -1,5 +1,5 @@
 //! A history that is edited, with what was found of it kept up to date.
-ghost use Rattle.std.specs.Prelude.{◌≡◌, ◌≢◌, ◌↔◌, ◌<◌, ◌≤◌, ◌⊎◌, ◌+◌, ◌-◌, ◌∷◌, ◌++◌, [], ℕ, ℤ, true, false, map, Err, None, Some, IfOk, IfErr, IfSome, IfNone, IsOk, OnOk, OnErr, length, slice_get, slice_set, remove, take, if◌then◌else◌};
+ghost use Rattle.std.specs.Prelude.{◌≡◌, ◌≢◌, ◌↔◌, ◌<◌, ◌≤◌, ◌⊎◌, ◌+◌, ◌-◌, ◌∷◌, ◌++◌, [], ℕ, ℤ, true, false, Contains, Err, None, Some, IfOk, IfErr, IfSome, IfNone, IsOk, OnOk, OnErr, length, slice_get, slice_set, remove, take, if◌then◌else◌};
 ghost use Rattle.lin_history.specs.WellFormed.{IsWellFormed};
 ghost use Rattle.lin_objects.specs.declared.kinds.Kind.{Kind as KindOf};
 ghost use Rattle.lin_objects.specs.Kinds.{functions_of, is_named, kind_of, named_count, same_for_all, with_kind};
@@ -11,13 +11,14 @@ ghost use Rattle.lin_order.specs.Parts.{part};
 ghost use Rattle.lin_chain.specs.Ends.{IsEndOf};
 ghost use Rattle.lin_session.specs.Marks.{AreMarked, IsNothingDue, IsWithoutOrder};
 ghost use Rattle.lin_session.specs.Refuting.{IsRefuted, IsUnrefuted};
-ghost use Rattle.lin_session.specs.Sessions.{AreKeys};
+ghost use Rattle.lin_session.specs.Sessions.{AreKeys, Occurs};
 ghost use Rattle.lin_session.specs.Work.{AreSameMarks, anew, cost_in, low_after, mark_after, mark_of, touched_at, truncated, unasked};
 
 use crate::answers::{Answer, Refuted, Scope, Verdict};
 use crate::edits::{Edit, EditFault};
 use crate::kept::Objects;
 use crate::work::{least_of, round_down};
+use indexmap::IndexSet;
 use lin_chain::{End, RefuteFault};
 use lin_history::{Event, Meter, OutOfMemory, Shape};
 use lin_objects::{Kind, Kinds, KindsFault};
@@ -69,17 +70,43 @@ impl Session {
         ensures refused { (result ≡ Err EditFault.BadBudget) ↔ (IsBudget budget → ⊥) }
         ensures fault { IfErr result (λ fault. fault ≡ EditFault.BadBudget) }
     {
+        let mut session = Session::of(alloc, default, budget, Vec::new(alloc))?;
+        session.low = None;
+        Ok(session)
+    }
+
+    /// The history of these events, with all objects of one kind.
+    ///
+    /// The events are taken over as they are: no memory is taken for them, and nothing is looked at yet. The budget is from 1
+    /// to 1,000,000, and else `BadBudget`; under such a budget, more than 1,000,000 events are `Full`.
+    pub fn of(
+        alloc: Global,
+        default: Kind,
+        budget: u32,
+        events: Vec<Event>,
+    ) -> Result<Session, EditFault>
+        ensures opened { IfOk result (λ session. session.present ≡ record { history = events.items; kinds = same_for_all default; budget = budget }) }
+        ensures unsettled { IfOk result (λ session. session.low ≡ Some 0) }
+        ensures marks { IfOk result (λ session. (key : ℤ) → mark_of session.marks key ≡ unasked) }
+        ensures unused { IfOk result (λ session. session.meter ≡ record { scans = 0; steps = 0; tries = 0 }) }
+        ensures refused { (result ≡ Err EditFault.BadBudget) ↔ (IsBudget budget → ⊥) }
+        ensures full { (result ≡ Err EditFault.Full) ↔ (IsBudget budget × (1000000 < length events.items)) }
+        ensures fault { IfErr result (λ fault. (fault ≡ EditFault.BadBudget) ⊎ (fault ≡ EditFault.Full)) }
+    {
         if !is_budget(budget) {
             return Err(EditFault::BadBudget);
         }
+        if events.len() > EVENTS {
+            return Err(EditFault::Full);
+        }
         Ok(Session {
-            events: Vec::new(alloc),
+            events,
             kinds: Kinds::new(alloc, default),
             budget,
             scan: Scan::new(alloc),
             objects: Objects::new(alloc),
             meter: Meter::new(),
-            low: None,
+            low: Some(0),
         })
     }
 
@@ -126,12 +153,13 @@ impl Session {
         let _budget = self.budget;
     }
 
-    /// The keys of the history, each once, rising. Takes time and memory linear in the number of events, and sorts them.
+    /// The keys of the history, each once, rising. Looks at each event, and takes memory for the keys alone, which it sorts.
     pub fn objects(&self, alloc: Global) -> Result<Vec<i64>, OutOfMemory>
         ensures { IfOk result (λ keys. AreKeys self.now.present.history keys.items) }
     {
         let mut keys = keys_of(alloc, &self.events)?;
         keys.sort_unstable();
+        // `keys_of` doesn't promise that each is there once.
         keys.dedup();
         Ok(keys)
     }
@@ -462,12 +490,20 @@ fn drop_last(events: &mut Vec<Event>, objects: &mut Objects)
     events.truncate(last);
 }
 
-/// The key of each event.
+/// The keys of the events. Where the key that was listed last comes again, no hash is needed.
 fn keys_of(alloc: Global, events: &[Event]) -> Result<Vec<i64>, OutOfMemory>
-    ensures { IfOk result (λ keys. keys.items ≡ map (λ event. event.key) events.now) }
+    ensures { IfOk result (λ keys. (key : ℤ) → Contains keys.items key ↔ Occurs events.now key) }
 {
-    let keys: Vec<i64> = events.iter().map(|event| event.key).collect(alloc)?;
-    Ok(keys)
+    let mut keys = IndexSet::new(alloc);
+    for event in events {
+        match keys.last() {
+            Some(last) if *last == event.key => {}
+            _ => {
+                keys.insert(event.key)?;
+            }
+        }
+    }
+    Ok(Vec::from_slice(alloc, keys.as_slice())?)
 }
 
 /// Whether the budget can be set.

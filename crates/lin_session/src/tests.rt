@@ -67,7 +67,18 @@ pub(crate) fn registers(
     budget: u32,
     history: &[Event],
 ) -> Result<Session, Fail> {
-    let mut session = Session::new(alloc, Kind::Register, budget).expect(rt, "a budget");
+    objects(rt, alloc, Kind::Register, budget, history)
+}
+
+/// A session of objects of a kind to which these events were appended.
+pub(crate) fn objects(
+    rt: &impl Abort,
+    alloc: Global,
+    kind: Kind,
+    budget: u32,
+    history: &[Event],
+) -> Result<Session, Fail> {
+    let mut session = Session::new(alloc, kind, budget).expect(rt, "a budget");
     for event in history {
         make(rt, &mut session, Edit::Append(event.copy(alloc)?));
     }
@@ -188,6 +199,43 @@ fn a_budget_is_from_one_to_a_million(rt: HostRuntime) -> Result<(), Fail> {
     assert!(rt; fault_of(&mut session, Edit::SetBudget(0)) == Some(EditFault::BadBudget));
     assert!(rt; fault_of(&mut session, Edit::SetBudget(1)) == None);
     assert!(rt; session.budget() == 1);
+    Ok(())
+}
+
+#[test]
+fn a_session_is_of_events(rt: HostRuntime) -> Result<(), Fail> {
+    let alloc = rt.alloc();
+    let mut events = Vec::new(alloc);
+    for event in stale_read() {
+        events.push(event)?;
+    }
+    let mut session = Session::of(alloc, Kind::Register, 65_536, events).expect(&rt, "a budget");
+    assert!(rt; session.len() == 4);
+    assert!(rt; session.event(3) == Some(&saw(1, 0, Val::Nil)));
+    told(&rt, alloc, &mut session, OBJECT, Verdict::No { prefix: 4 })?;
+    Ok(())
+}
+
+/// Why there is no session of so many events under the budget, if there is none.
+fn fault_of_events(
+    alloc: Global,
+    budget: u32,
+    count: usize,
+) -> Result<Option<EditFault>, OutOfMemory> {
+    let mut events = Vec::new(alloc);
+    for _ in 0..count {
+        events.push(read(0, 0))?;
+    }
+    Ok(Session::of(alloc, Kind::Register, budget, events).err())
+}
+
+#[test]
+fn a_session_is_of_a_million_events(rt: HostRuntime) -> Result<(), Fail> {
+    let alloc = rt.alloc();
+    assert!(rt; fault_of_events(alloc, 1, 1_000_000)? == None);
+    assert!(rt; fault_of_events(alloc, 1, 1_000_001)? == Some(EditFault::Full));
+    assert!(rt; fault_of_events(alloc, 0, 1_000_001)? == Some(EditFault::BadBudget));
+    assert!(rt; fault_of_events(alloc, 1_000_001, 0)? == Some(EditFault::BadBudget));
     Ok(())
 }
 

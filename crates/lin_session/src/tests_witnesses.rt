@@ -1,8 +1,10 @@
 //! Objects that have more configurations than the budget, and whose legal orders are looked for.
-use crate::tests::{read, registers, saw, write, wrote};
-use crate::{Answer, Scope, Verdict};
+use crate::tests::{objects, read, registers, saw, write, wrote};
+use crate::{Answer, Scope, Session, Verdict};
 use lin_history::{Event, Val};
+use lin_objects::Kind;
 use std::alloc::Global;
+use std::process::Abort;
 use std::test::Fail;
 
 const OBJECT: Scope = Scope::Object(0);
@@ -17,11 +19,29 @@ fn writes_at_once(alloc: Global) -> Result<Vec<Event>, Fail> {
     Ok(events)
 }
 
+/// A session of registers with compare-and-set: a choice is kept for each of their open writes.
+fn cas_registers(rt: &impl Abort, alloc: Global, history: &[Event]) -> Result<Session, Fail> {
+    objects(rt, alloc, Kind::CasRegister, 1_024, history)
+}
+
+#[test]
+fn many_open_writes_of_a_register_are_decided(rt: HostRuntime) -> Result<(), Fail> {
+    let alloc = rt.alloc();
+    let mut history = writes_at_once(alloc)?;
+    let mut session = registers(&rt, alloc, 1_024, &history)?;
+    assert!(rt; matches!(session.ask(alloc, Scope::Whole)?, Answer::Yes(_)));
+    history.push(read(11, 0))?;
+    history.push(saw(11, 0, Val::Int(77)))?;
+    let mut session = registers(&rt, alloc, 1_024, &history)?;
+    assert!(rt; session.judge(alloc, Scope::Whole)? == Verdict::No { prefix: 14 });
+    Ok(())
+}
+
 #[test]
 fn an_order_of_many_open_writes_is_found(rt: HostRuntime) -> Result<(), Fail> {
     let alloc = rt.alloc();
     let history = writes_at_once(alloc)?;
-    let mut session = registers(&rt, alloc, 1_024, &history)?;
+    let mut session = cas_registers(&rt, alloc, &history)?;
     assert!(rt;
         matches!(
             session.ask(alloc, Scope::Whole)?,
@@ -51,7 +71,7 @@ fn none_is_found_where_there_is_none(rt: HostRuntime) -> Result<(), Fail> {
     let mut history = writes_at_once(alloc)?;
     history.push(read(11, 0))?;
     history.push(saw(11, 0, Val::Int(77)))?;
-    let mut session = registers(&rt, alloc, 1_024, &history)?;
+    let mut session = cas_registers(&rt, alloc, &history)?;
     assert!(rt; session.judge(alloc, Scope::Whole)? == Verdict::Undecided { at: 10 });
     assert!(rt; session.judge(alloc, OBJECT)? == Verdict::Undecided { at: 10 });
     Ok(())
@@ -63,7 +83,7 @@ fn a_failure_of_another_object_is_no_longer_hidden(rt: HostRuntime) -> Result<()
     let mut history = writes_at_once(alloc)?;
     history.push(read(11, 1))?;
     history.push(saw(11, 1, Val::Int(5)))?;
-    let mut session = registers(&rt, alloc, 1_024, &history)?;
+    let mut session = cas_registers(&rt, alloc, &history)?;
     assert!(rt;
         matches!(
             session.ask(alloc, Scope::Whole)?,

@@ -132,18 +132,21 @@ module _ (beginnings : BadWithinBeginnings) where
                   (subst (λ n. IsBad (functions_of kinds) h n cause) here there.1)
             ]
 
-  -- one more event, that is bad
-  pub right_bad : (kinds : ℤ → Kind) (h : List Event) (old : Scan) (event : Event) (cause : Cause) → IsRight old kinds h → old.shape ≡ Good → IsEvent h (ready_count old) event
-      → IsFirstCause (functions_of kinds) (status_at old.table (count_in old.table) event.process) event cause
-      → IsRight (record { ready = ready_count old + 1; shape = Bad (ready_count old) cause; table = old.table }) kinds h
-  right_bad kinds h old event cause right good stands caused = record {
+  -- one more event, that is bad: its table is as the one before it
+  pub right_bad : (kinds : ℤ → Kind) (h : List Event) (old : Scan) (table : Statuses) (event : Event) (cause : Cause) → IsRight old kinds h → old.shape ≡ Good → IsEvent h (ready_count old) event
+      → IsFirstCause (functions_of kinds) (status_at old.table (count_in old.table) event.process) event cause → count_in table ≡ count_in old.table
+      → ((k process : ℕ) → k ≤ count_in old.table → status_at table k process ≡ status_at old.table k process)
+      → IsRight (record { ready = ready_count old + 1; shape = Bad (ready_count old) cause; table = table }) kinds h
+  right_bad kinds h old table event cause right good stands caused count same = record {
     within = let inside = slice_get_within h (ready_count old) event stands in omega arith;
     shaped = (
       bad_shorter (functions_of kinds) h (ready_count old + 1) (ready_count old) cause (omega arith) (record { event = event; stands = stands; status = _; found = so_far.found; caused = caused }),
       λ k other below bad. so_far.good k other below (bad_longer (functions_of kinds) h (ready_count old + 1) k other bad),
     );
-    counted = so_far.all;
-    listed = right.listed;
+    counted = count ∙ so_far.all;
+    listed = λ k process upto.
+        let within : k ≤ count_in old.table = omega arith in
+        subst (IsStatus (take k h) process) (sym (same k process within)) (right.listed k process within);
   }
     where
       so_far : Before kinds h old event
@@ -237,13 +240,6 @@ right_alike same_shape at kinds other h edited scan upto agree right = record {
         let there = get_taken (ready_count scan) h k event stands in
         let below : k < ready_count scan = there.0 in
         agree.keys k event (omega arith) there.1
-
--- what a step looked at: the event after those that were taken in
-pub looked_good : (shape : Shape) (n m : ℕ) → m ≡ n → shape ≡ Good → looked_at shape (m + 1) ≡ n + 1
-looked_good shape n m count good = ap (λ s. looked_at s (m + 1)) good ∙ ap (λ k. k + 1) count
-
-pub looked_bad : (shape : Shape) (n m : ℕ) (cause : Cause) → shape ≡ Bad n cause → looked_at shape m ≡ n + 1
-looked_bad shape n m cause bad = ap (λ s. looked_at s m) bad
 
 -- while a scan settles: it is right, has taken in no less than at first, and has counted each event that it looked at
 pub record Settling (kinds : ℤ → Kind) (h : List Event) (first now : Scan) (before meter : Meter) : Type 0 where

@@ -110,14 +110,14 @@ impl Scan {
     {
         bad_positions();
         statuses_after_events();
-        match first_cause(self.table.status(event.process), event, kinds) {
-            Some(cause) => {
-                self.shape = Shape::Bad {
-                    at: self.ready,
-                    cause,
-                }
-            }
-            None => self.table.take_in(event)?,
+        let status = self.table.take_in(event)?;
+        // A bad event is taken back: to ask for the status first would take one more look-up for each good one.
+        if let Some(cause) = first_cause(status, event, kinds) {
+            self.table.take_back();
+            self.shape = Shape::Bad {
+                at: self.ready,
+                cause,
+            };
         }
         self.ready += 1;
         Ok(())

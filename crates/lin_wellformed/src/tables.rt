@@ -1,5 +1,5 @@
 //! What each process is, looked up in near-constant time, and taken back event by event.
-ghost use Rattle.std.specs.Prelude.{◌≡◌, ◌+◌, ◌<◌, ◌≤◌, min, ℕ, OnOk, OnErr, nat_eq, if◌then◌else◌};
+ghost use Rattle.std.specs.Prelude.{◌≡◌, ◌+◌, ◌<◌, ◌≤◌, min, ℕ, IfOk, OnOk, OnErr, nat_eq, if◌then◌else◌};
 ghost use Rattle.lin_history.specs.WellFormed.{left_by};
 ghost use Rattle.lin_wellformed.specs.Tables.{count_in, status_at};
 
@@ -54,18 +54,9 @@ impl Table {
         self.changes.len()
     }
 
-    /// What the process is after all of them.
-    pub(crate) fn status(&self, process: u64) -> Status
-        ensures { result ≡ status_at self.now (count_in self.now) process }
-    {
-        match self.processes.get(&process) {
-            Some(status) => *status,
-            None => Status::Idle,
-        }
-    }
-
-    /// One more event: its process is what the event leaves it as.
-    pub(crate) fn take_in(&mut self, event: &Event) -> Result<(), OutOfMemory>
+    /// One more event: its process is what the event leaves it as. Tells what that was before.
+    pub(crate) fn take_in(&mut self, event: &Event) -> Result<Status, OutOfMemory>
+        ensures was { IfOk result (λ status. status ≡ status_at self.old (count_in self.old) event.now.process) }
         ensures count { OnOk result (count_in self.new ≡ count_in self.old + 1) }
         ensures before { OnOk result ((k process : ℕ) → k ≤ count_in self.old → status_at self.new k process ≡ status_at self.old k process) }
         ensures after { OnOk result ((process : ℕ) → status_at self.new (count_in self.old + 1) process ≡ (if nat_eq event.now.process process then left_by event.now else status_at self.old (count_in self.old) process)) }
@@ -76,11 +67,12 @@ impl Table {
         }
         match self.processes.insert(event.process, status_after(event)) {
             Ok(before) => {
+                let before = before.unwrap_or(Status::Idle);
                 self.changes.push_reserved(Change {
                     process: event.process,
-                    before: before.unwrap_or(Status::Idle),
+                    before,
                 });
-                Ok(())
+                Ok(before)
             }
             Err(_) => Err(OutOfMemory),
         }
@@ -97,7 +89,7 @@ impl Table {
     }
 
     /// Takes the last event back: its process is again what it was before it.
-    fn take_back(&mut self)
+    pub(crate) fn take_back(&mut self)
         requires { 0 < count_in self.old }
         ensures count { count_in self.new + 1 ≡ count_in self.old }
         ensures before { (k process : ℕ) → k < count_in self.old → status_at self.new k process ≡ status_at self.old k process }

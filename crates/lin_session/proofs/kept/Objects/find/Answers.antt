@@ -5,12 +5,12 @@ use Rattle.std.proofs.lemmas.Int.{to_z-of_z}
 use Rattle.lin_session.proofs.Found.{found_at, not_found}
 use Rattle.lin_session.proofs.kept.Objects.find.Goals as goal
 
-pub returns-clause-found : goal.returns-clause-found
-returns-clause-found c =
+pub returns-in_default-clause-found : goal.returns-in_default-clause-found
+returns-in_default-clause-found c =
     let is_key : to_z w64 (of_z w64 c.args.key) ≡ c.args.key = to_z-of_z w64 c.args.key c.ranges.key in
     found_at c.args.self.now.keys.keys c.args.key _ (c.get_index_of.ensures.index ∙ ap (λ k. position (int_eq k) c.args.self.now.keys.keys) is_key)
 
-pub returns-clause-none : goal.returns-clause-none
-returns-clause-none c =
+pub returns-in_default-clause-none : goal.returns-in_default-clause-none
+returns-in_default-clause-none c =
     let is_key : to_z w64 (of_z w64 c.args.key) ≡ c.args.key = to_z-of_z w64 c.args.key c.ranges.key in
     not_found c.args.self.now.keys.keys c.args.key _ (c.get_index_of.ensures.found ∙ ap (λ k. list_any (int_eq k) c.args.self.now.keys.keys) is_key)

@@ -1,6 +1,5 @@
-use Rattle.std.proofs.Common.{◌≡◌, ℤ, pos, Some, All, length, slice_get, get_or, sym, subst, arith}
+use Rattle.std.proofs.Common.{◌≡◌, ℤ, pos, Some, length, slice_get, get_or, sym, subst, arith}
 use Rattle.std.proofs.lemmas.Option.{slice_get-get_or}
-use Rattle.lin_history.specs.declared.events.Event.{Event}
 use Rattle.lin_objects.specs.Kinds.{kind_of}
 use Rattle.lin_order.specs.Parts.{events_at, part}
 use Rattle.lin_chain.specs.Chains.{end_in, kind_in}

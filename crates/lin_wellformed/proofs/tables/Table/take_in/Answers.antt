@@ -10,10 +10,10 @@ returns-in-Ok-clause-before c = λ k process upto.
     let old = c.self.inside.processes.entries in
     let new = c.insert.new.self.entries in
     let changed = c.args.event.now.process in
-    let last : Change = record { process = changed; before = c.unwrap_or.result } in
-    let was = c.unwrap_or.ensures ∙ ap (λ o. unwrap_or o Idle) c.in-Ok.ensures.old in
+    let last : Change = record { process = changed; before = c.unwrap_or-before.result } in
+    let was = c.unwrap_or-before.ensures ∙ ap (λ o. unwrap_or o Idle) c.in-Ok.ensures.old in
     let puts = status_put old new changed c.status_after.result c.in-Ok.ensures.updates.0 in
-    let back = status_put_back old new changed c.status_after.result c.unwrap_or.result was puts in
+    let back = status_put_back old new changed c.status_after.result c.unwrap_or-before.result was puts in
     let items = c.push_reserved.ensures.items ∙ ap (λ l. l ++ last ∷ []) c.reserve.ensures.items in
     let after : Statuses = record { listed = new; changes = c.push_reserved.new.self.items } in
     subst (λ (t : Statuses). k ≤ count_in t → status_at after k process ≡ status_at t k process) c.self.view_is
