@@ -12,6 +12,7 @@ use Rattle.lin_history.specs.WellFormedLaws.{BeginningsAreWellFormed}
 use Rattle.lin_objects.specs.declared.kinds.Kind.{Kind}
 use Rattle.lin_objects.specs.declared.states.State.{State}
 use Rattle.lin_objects.specs.Observing.{observes}
+use Rattle.lin_objects.specs.Overwriting.{overwrites}
 use Rattle.lin_objects.specs.Steps.{Step, start}
 use Rattle.lin_order.specs.declared.placed.Placed.{Placed}
 use Rattle.lin_order.specs.ConfigurationLaws.{with_event}
@@ -103,7 +104,7 @@ replay_renamed a nodes h same right = subst (λ n. IsReplay (record a { nodes = 
 
 -- the first checkpoint
 pub replay_begun : (a : Replay) (v : Vec Checkpoint Global) (c : Checkpoint) (h : List Event) → a.checkpoints.items ≡ [] → v.items ≡ c ∷ []
-    → c.nodes ≡ length a.nodes → c.crashed ≡ 0 → c.live.items ≡ [] → IsCompressed (start a.object.kind) (Step a.object.kind) (observes a.object.kind) [] c.frontier a.nodes → length c.frontier ≡ 1 → IsPending [] []
+    → c.nodes ≡ length a.nodes → c.crashed ≡ 0 → c.live.items ≡ [] → IsCompressed (start a.object.kind) (Step a.object.kind) (observes a.object.kind) (overwrites a.object.kind) [] c.frontier a.nodes → length c.frontier ≡ 1 → IsPending [] []
     → IsReplay a h → (IsReplay (record a { checkpoints = v }) h) × (a.reached < 64 * length v.items)
 replay_begun a v c h none one nodes crashed live cover some opened right = (
   record {
@@ -136,7 +137,7 @@ replay_begun a v c h none one nodes crashed live cover some opened right = (
     first : IsCheckpoint (record a { checkpoints = v }) h 0 c
     first = record {
       known = record {
-        compressed = subst (IsCompressed (start a.object.kind) (Step a.object.kind) (observes a.object.kind) [] c.frontier) (sym (ap (λ n. take n a.nodes) nodes ∙ take_all (length a.nodes) a.nodes (omega arith))) cover;
+        compressed = subst (IsCompressed (start a.object.kind) (Step a.object.kind) (observes a.object.kind) (overwrites a.object.kind) [] c.frontier) (sym (ap (λ n. take n a.nodes) nodes ∙ take_all (length a.nodes) a.nodes (omega arith))) cover;
         some = omega (arith, some);
         opened = subst (IsPending []) (sym (ap (λ l. take c.crashed a.pending.operations.items ++ l) live ∙ append-nil (take c.crashed a.pending.operations.items) ∙ ap (λ n. take n a.pending.operations.items) crashed)) opened;
       };
@@ -329,7 +330,7 @@ pub event_taken : (h : List Event) (n : ℕ) (event : Event) → IsEvent h n eve
 event_taken h n event there = ap (λ m. take m h) (add-one n) ∙ take_next n h event there
 
 pub replay_advanced : (a : Replay) (next : Members) (pending : Pending) (nodes : Links) (h : List Event) (event : Event) → IsPrepared a h → IsEvent h a.reached event
-    → IsCompressed (start a.object.kind) (Step a.object.kind) (observes a.object.kind) (with_event (take a.reached h) event) next nodes → 0 < length next → IsPending (with_event (take a.reached h) event) pending.operations.items
+    → IsCompressed (start a.object.kind) (Step a.object.kind) (observes a.object.kind) (overwrites a.object.kind) (with_event (take a.reached h) event) next nodes → 0 < length next → IsPending (with_event (take a.reached h) event) pending.operations.items
     → IsGrown a.nodes nodes → a.pending.crashed ≤ pending.crashed → take a.pending.crashed pending.operations.items ≡ take a.pending.crashed a.pending.operations.items
     → IsReplay (record a { reached = a.reached + 1; present = Some next; pending = pending; nodes = nodes }) h
 replay_advanced a next pending nodes h event prepared there cover some opened grown crashed front = record {
@@ -416,7 +417,7 @@ replay_back a v number place last nodes h edited right inside same made at_last 
 
 -- each node of a member spells a legal order, for each kind
 abbrev pub SpellsOrders : Type 0
-SpellsOrders = (kind : Kind) → CompressedSpellLegalOrders (start kind) (Step kind) (observes kind)
+SpellsOrders = (kind : Kind) → CompressedSpellLegalOrders (start kind) (Step kind) (observes kind) (overwrites kind)
 
 -- the node of a member spells a legal order
 pub member_order : SpellsOrders → (kind : Kind) (h : List Event) (f : Members) (nodes : Links) (pending : List Open) → IsKnown kind h f nodes pending → (node : ℕ) (i : ℕ) → (m : Member State × Path) × (slice_get f i ≡ Some m) × (m.1.node ≡ node)

@@ -4,6 +4,7 @@ use Rattle.lin_history.specs.declared.events.Event.{Event}
 use Rattle.lin_objects.specs.declared.kinds.Kind.{Kind}
 use Rattle.lin_objects.specs.declared.states.State.{State}
 use Rattle.lin_objects.specs.Observing.{observes}
+use Rattle.lin_objects.specs.Overwriting.{overwrites}
 use Rattle.lin_objects.specs.Steps.{Step, start}
 use Rattle.lin_order.specs.declared.placed.Placed.{Placed}
 use Rattle.lin_order.specs.Linearizable.{IsLinearizableBy, IsLegalOrderBy}
@@ -37,7 +38,7 @@ held_count replay = length replay.checkpoints.items + (if is_some replay.present
 
 -- the frontier is one of the events, and isn't empty; and these operations are open then
 pub record IsKnown (kind : Kind) (h : List Event) (frontier : Members) (nodes : Links) (pending : List Open) : Type 0 where
-  pub compressed : IsCompressed (start kind) (Step kind) (observes kind) h frontier nodes
+  pub compressed : IsCompressed (start kind) (Step kind) (observes kind) (overwrites kind) h frontier nodes
   pub some : 0 < length frontier
   pub opened : IsPending h pending
 

@@ -48,11 +48,11 @@ module _ (observes : Call → Bool) (functions : ℤ → Name → Bool) (h : Lis
     | inr crashed ↦ absurd (w.alive (crashed_then q crashed))
   ]
 
-  watches : (q : ℕ) → IsWatching observes (with_event h event) q → is_watching observes pending q ≡ true
+  pub watches : (q : ℕ) → IsWatching observes (with_event h event) q → is_watching observes pending q ≡ true
   watches q w = watching_from functions (with_event h event) pending opened unique alternates observes q w
 
   -- an operation of another process is open still
-  other_open : (at q : ℕ) (key : ℤ) (call : Call) → q ≢ event.process → IsOpen h at q key call → (o : Open) × Contains pending o × (o.at ≡ at) × (o.process ≡ q) × (o.call ≡ call)
+  pub other_open : (at q : ℕ) (key : ℤ) (call : Call) → q ≢ event.process → IsOpen h at q key call → (o : Open) × Contains pending o × (o.at ≡ at) × (o.process ≡ q) × (o.call ≡ call)
   other_open at q key call other is = open_pending (with_event h event) pending opened at q key call ((passes observes functions h event name reply body unique alternates pending opened).opens at q key call other is)
 
   -- the crashed operation of the process has the call of the pending one
@@ -64,7 +64,7 @@ module _ (observes : Call → Bool) (functions : ℤ → Name → Bool) (h : Lis
       (p.opens c.0 o.process c.1 c.2 (λ same. p.shut o.at o.process s.0 o.call same s.1) (crashed_open unique h o.process c)) s.1
 
   -- pending operations that crashed, and have the same call, are alike
-  pending_alike : (o t : Open) → Contains pending o → Contains pending t → IsTrue o.crashed → IsTrue t.crashed → o.call ≡ t.call → AreAlike h o.process t.process
+  pub pending_alike : (o t : Open) → Contains pending o → Contains pending t → IsTrue o.crashed → IsTrue t.crashed → o.call ≡ t.call → AreAlike h o.process t.process
   pending_alike o t o_there t_there o_crashed t_crashed same =
       let c = crashed_then o.process (pending_crashed (with_event h event) pending opened o o_there o_crashed) in
       let d = crashed_then t.process (pending_crashed (with_event h event) pending opened t t_there t_crashed) in
@@ -81,7 +81,7 @@ module _ (observes : Call → Bool) (functions : ℤ → Name → Bool) (h : Lis
       }
 
   module _ {S : Type 0} (step : S → Call → S → Reply → Type 0) where
-    gives : (c : S × List (ℕ × Reply)) (x : ℕ × Reply) → x.0 ≢ event.process → is_watching observes pending x.0 ≡ true → IsAbsent x.0 c.1 → IsGiven step h c.0 x → GivesAny step observes pending c x
+    pub gives : (c : S × List (ℕ × Reply)) (x : ℕ × Reply) → x.0 ≢ event.process → is_watching observes pending x.0 ≡ true → IsAbsent x.0 c.1 → IsGiven step h c.0 x → GivesAny step observes pending c x
     gives c x other watching absent given =
         let o = other_open given.at x.0 given.key given.call other given.is_open in
         let k = watching_to functions (with_event h event) pending opened unique alternates observes x.0 watching in
@@ -176,36 +176,39 @@ module _ (observes : Call → Bool) (functions : ℤ → Name → Bool) (h : Lis
               )
         ]
 
+    -- the member without the operation, which it placed
+    pub rest_dominates : (m : Member S × Path) (rest : List (ℕ × Reply)) → IsAdded event.process reply rest m.0.placed
+        → DominatesAt observes (with_event h event) (rest_of observes pending event.process m).0 m.0.state rest (IsOnOffer m.0)
+    rest_dominates m rest added =
+        let same = without_is event.process reply rest m.0.placed added in
+        record {
+          sorted = subst IsRising same added.before;
+          same = refl;
+          part = λ x has. subst (λ l. Contains l x) (sym same) has;
+          rest = λ x has. inl (subst (λ l. Contains l x) same has);
+          offered = λ x watching absent o. (o.0, kept_by (λ (y : ℕ × (ℕ × Reply)). is_watching observes pending y.1.0) m.0.offers (o.0, x) (watches x.0 watching) o.1);
+        }
+
     -- the members that placed the operation
     taken_to : (members made out : List (Member S × Path)) → IsMade (λ m. Contains m.0.placed (event.process, reply)) (rest_of observes pending event.process) members made
         → ((n : Member S × Path) → Contains made n → Contains out n) → (m : Member S × Path) → Contains members m → IsTaken observes (with_event h event) event.process reply (map (λ k. k.0) out) m.0
     taken_to members made out is within m there rest added =
         let n = rest_of observes pending event.process m in
-        let same = without_is event.process reply rest m.0.placed added in (
-          n.0,
-          in_map (λ (k : Member S × Path). k.0) out n (within n (is.complete m there added.has)),
-          record {
-            sorted = subst IsRising same added.before;
-            same = refl;
-            part = λ x has. subst (λ l. Contains l x) (sym same) has;
-            rest = λ x has. inl (subst (λ l. Contains l x) same has);
-            offered = λ x watching absent o. (o.0, kept_by (λ (y : ℕ × (ℕ × Reply)). is_watching observes pending y.1.0) m.0.offers (o.0, x) (watches x.0 watching) o.1);
-          },
-        )
+        (n.0, in_map (λ (k : Member S × Path). k.0) out n (within n (is.complete m there added.has)), rest_dominates m rest added)
 
     module _ (before : List Open) (was : IsPending h before) (alternates_before : IsAlternating functions h) (o : Open) (o_there : Contains before o) (o_of : o.process ≡ event.process) where
       -- the process has no other open operation
-      same_call : (at : ℕ) (key : ℤ) (call : Call) → IsOpen h at event.process key call → call ≡ o.call
+      pub same_call : (at : ℕ) (key : ℤ) (call : Call) → IsOpen h at event.process key call → call ≡ o.call
       same_call at key call is =
           let s = was.sound o o_there in
           let own = subst (λ q. IsOpen h o.at q s.0 o.call) o_of s.1 in
           let same = one_open functions h alternates_before at o.at event.process key s.0 call o.call is own in
           one_call h at event.process event.process key s.0 call o.call is.begins (subst (λ k. IsOpen h k event.process s.0 o.call) (sym same) own).begins
 
-      never_offered : (m : Member S × Path) → ((round : ℕ) → CanTake step o reply m round → ⊥) → IsOnOffer m.0 (event.process, reply) → ⊥
+      pub never_offered : (m : Member S × Path) → ((round : ℕ) → CanTake step o reply m round → ⊥) → IsOnOffer m.0 (event.process, reply) → ⊥
       never_offered m never offered = never offered.0 (inl (subst (λ q. Contains m.0.offers (offered.0, (q, reply))) (sym o_of) offered.1))
 
-      never_given : (m : Member S × Path) → ((round : ℕ) → CanTake step o reply m round → ⊥) → IsGiven step h m.0.state (event.process, reply) → ⊥
+      pub never_given : (m : Member S × Path) → ((round : ℕ) → CanTake step o reply m round → ⊥) → IsGiven step h m.0.state (event.process, reply) → ⊥
       never_given m never given =
           never m.1.round (inr (refl, (refl, given.next, subst (λ a. step m.0.state a given.next reply) (same_call given.at given.key given.call given.is_open) given.steps)))
 

@@ -14,7 +14,7 @@ use Rattle.lin_order.specs.Configurations.{IsAdded}
 use Rattle.lin_order.specs.ConfigurationLaws.{with_event, AfterOk, OkLaw}
 use Rattle.lin_frontier.specs.Covers.{HasCrashed}
 use Rattle.lin_frontier.specs.MemberLaws.{CommutingOkLaw, IsTaken}
-use Rattle.lin_frontier.specs.Members.{Member, IsComplete, IsCovered, IsGiven, IsOffered, IsOnOffer, IsUpdate, LeadsToMember, DominatesAt, Way, here, more}
+use Rattle.lin_frontier.specs.Members.{Meets, Member, IsComplete, IsCovered, IsGiven, IsOffered, IsOnOffer, IsUpdate, LeadsToMember, DominatesAt, Way, here, more}
 use Rattle.lin_frontier.specs.Placing.{without}
 use Rattle.lin_frontier.proofs.Choosing.{can_add, stands}
 use Rattle.lin_frontier.proofs.Crashes.{never_crashed, ok_no_info, passes_ok}
@@ -22,7 +22,7 @@ use Rattle.lin_frontier.proofs.Following.{Follows, follow}
 use Rattle.lin_frontier.proofs.Leading.{meets_from}
 use Rattle.lin_frontier.proofs.Returning.{own, there_too}
 use Rattle.lin_frontier.proofs.Taking.{at_placing, held_placed, placed_it, rest_of}
-use Rattle.lin_frontier.proofs.Ways.{Meets, way_start, from_covers, to_covers}
+use Rattle.lin_frontier.proofs.Ways.{way_start, from_covers, to_covers}
 
 module _ {S : Type 0} (step : S → Call → S → Reply → Type 0) (observes : Call → Bool) (h g : List Event) (process : ℕ) (reply : Reply) (own_call : Call)
     (stays : (at q : ℕ) (key : ℤ) (call : Call) → q ≢ process → IsOpen h at q key call → IsOpen g at q key call)
@@ -122,7 +122,7 @@ module _ {S : Type 0} (start : S) (step : S → Call → S → Reply → Type 0)
                 rest = λ x there. inl there;
                 offered = λ x watches none offered. absurd (true≢false (sym watches.observer ∙ quiet watches.at x.0 watches.key watches.call watches.is_open));
               }) d placed added
-              (rest_of step observes functions h event name reply body alternates others (m.state, m.placed) (IsOnOffer m) c.0 placed is (IsLedTo m) split) in
+              (rest_of step observes h (m.state, m.placed) (IsOnOffer m) c.0 placed is (IsLedTo m) split) in
               there_too start step observes unique functions h event name reply body alternates after members others taken complete found was (
                 n.2,
                 n.3,

@@ -1,6 +1,6 @@
 -- Counts of tries.
-use Rattle.std.proofs.Common.{◌≡◌, ℕ, suc, ◌+◌, ◌*◌, ◌≤◌, refl, ap, ◌∙◌, arith}
-use Rattle.std.proofs.Math.Nat.{suc-mul}
+use Rattle.std.proofs.Common.{◌≡◌, ℕ, suc, ◌+◌, ◌*◌, ◌≤◌, refl, ap, subst, ◌∙◌, arith}
+use Rattle.std.proofs.Math.Nat.{mul-add, suc-mul}
 use Rattle.std.proofs.lemmas.Nat.{mul-le}
 use Rattle.lin_history.specs.declared.meter.Meter.{Meter}
 use Rattle.lin_frontier.specs.Walks.{IsTriedAtMost}
@@ -33,11 +33,14 @@ tried_turns at budget most m n within s =
     let q = mul-le at most budget most within (omega arith) in
     record { steps = s.steps; scans = s.scans; tries = omega arith }
 
--- of a list that is at most one longer
-pub tried_within : (limit a b : ℕ) (m n : Meter) → a ≤ b + 1 → IsTriedAtMost (limit * (2 * a + 1)) m n → IsTriedAtMost (limit * (2 * b + 3)) m n
-tried_within limit a b m n within s =
+-- of a list that is at most one longer, and of so many members each
+pub tried_within : (limit k a b : ℕ) (m n : Meter) → a ≤ b + 1 → IsTriedAtMost (limit * (2 * a + 1) + k * (2 * ((a + 1) * (a + 1)))) m n → IsTriedAtMost (limit * (2 * b + 3) + k * (2 * ((b + 2) * (b + 2)))) m n
+tried_within limit k a b m n within s =
     let p = s.tries in
     let q = mul-le limit (2 * a + 1) limit (2 * b + 3) (omega arith) (omega arith) in
+    let r = mul-le (a + 1) (a + 1) (b + 2) (b + 2) (omega arith) (omega arith) in
+    let t = mul-le 2 ((a + 1) * (a + 1)) 2 ((b + 2) * (b + 2)) (omega arith) r in
+    let u = mul-le k (2 * ((a + 1) * (a + 1))) k (2 * ((b + 2) * (b + 2))) (omega arith) t in
     record { steps = s.steps; scans = s.scans; tries = omega arith }
 
 -- of a longer list
@@ -46,3 +49,17 @@ tried_longer budget a b m n within s =
     let p = s.tries in
     let q = mul-le budget a budget b (omega arith) within in
     record { steps = s.steps; scans = s.scans; tries = omega arith }
+
+-- counted from a meter with the same tries, for as many members
+pub tried_since : (old mid new : Meter) (most k among each : ℕ) → mid.tries ≡ old.tries → k ≡ among → IsTriedAtMost (most + k * each) mid new → new.tries ≤ old.tries + (most + among * each)
+tried_since old mid new most k among each same many s = subst (λ j. new.tries ≤ old.tries + (most + j * each)) many (subst (λ t. new.tries ≤ t + (most + k * each)) same s.tries)
+
+-- a search within the budget, and a count behind it
+pub tried_both : (old mid new : Meter) (limit budget len more : ℕ) → limit ≤ budget → mid.tries ≤ old.tries + (limit * (2 * len + 3) + more) → IsTriedAtMost (budget * (2 * len + 1)) mid new → new.tries ≤ old.tries + (budget * (4 * len + 4) + more)
+tried_both old mid new limit budget len more within first s =
+    let p = s.tries in
+    let q = mul-le limit (2 * len + 3) budget (2 * len + 3) within (omega arith) in
+    let apart : budget * ((2 * len + 3) + (2 * len + 1)) ≡ budget * (2 * len + 3) + budget * (2 * len + 1) = mul-add budget (2 * len + 3) (2 * len + 1) in
+    let all : (2 * len + 3) + (2 * len + 1) ≡ 4 * len + 4 = omega arith in
+    let same = ap (λ n. budget * n) all in
+    omega (arith, first, apart, same)

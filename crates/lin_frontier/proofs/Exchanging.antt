@@ -14,12 +14,11 @@ use Rattle.lin_order.specs.declared.placed.Placed.{Placed}
 use Rattle.lin_order.specs.Configurations.{IsAdded, IsPlacing, IsPlacedOn, IsRising, none, more as further}
 use Rattle.lin_frontier.specs.Covers.{HasCrashed}
 use Rattle.lin_frontier.specs.Exchanges.{AreAlike, Exchange, IsExchanged}
-use Rattle.lin_frontier.specs.Members.{Member, IsCovered, IsOffered, IsReady, IsUpdate, LeadsToCover, Way, here, more}
+use Rattle.lin_frontier.specs.Members.{Meets, Member, IsCovered, IsOffered, IsReady, IsUpdate, LeadsToCover, Way, here, more}
 use Rattle.lin_frontier.specs.Placing.{without}
 use Rattle.lin_frontier.proofs.Choosing.{can_add, head_pairs, nothing_in, tail_pairs}
 use Rattle.lin_frontier.proofs.Following.{Passes}
 use Rattle.lin_frontier.proofs.Inserting.{first_or_rest, taken_out}
-use Rattle.lin_frontier.proofs.Ways.{Meets}
 
 -- the open operation of a process has one call
 pub open_call : (functions : ℤ → Name → Bool) (h : List Event) → IsAlternating functions h → (i j process : ℕ) (key other : ℤ) (c d : Call) → IsOpen h i process key c → IsOpen h j process other d → c ≡ d
@@ -120,6 +119,14 @@ module _ (h : List Event) (p q : ℕ) (alike : AreAlike h p q) where
   pub change_first : change.to p ≡ q
   unfolding change
   change_first = swap_first p q
+
+  pub change_second : change.to q ≡ p
+  unfolding change
+  change_second = swap_second p q
+
+  pub change_other : (n : ℕ) → n ≢ p → n ≢ q → change.to n ≡ n
+  unfolding change
+  change_other n not_p not_q = swap_other p q n not_p not_q
 
   -- where the second process has no place, it is put in place of the first
   pub change_renames : (n : ℕ) → n ≢ q → cond (nat_eq n p) q n ≡ change.to n

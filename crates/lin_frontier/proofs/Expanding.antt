@@ -24,9 +24,10 @@ use Rattle.lin_frontier.specs.Members.{Member}
 use Rattle.lin_frontier.specs.Nodes.{IsGrown}
 use Rattle.lin_frontier.specs.Placing.{IsAbsent, PlacesOne, insert_pair}
 use Rattle.lin_frontier.specs.RoundLaws.{TrailEndsLaw, TrailPlacesLaw, TrailTakesLaw}
-use Rattle.lin_frontier.specs.Rounds.{SpellsRounds, joined, begin_round, put, begins, puts}
+use Rattle.lin_frontier.specs.Rounds.{SpellsRounds, joined, begin_round, put, begins}
 use Rattle.lin_frontier.specs.Searching.{CoversIn, DominatesIn}
 use Rattle.lin_frontier.specs.Walks.{IsTriedAtMost}
+use Rattle.lin_frontier.proofs.Aheads.{puts_offered}
 use Rattle.lin_frontier.proofs.Closing.{any_default}
 use Rattle.lin_frontier.proofs.Inserting.{first_or_rest, none_from, insert_added}
 use Rattle.lin_frontier.proofs.Joining.{put_many}
@@ -179,7 +180,7 @@ module _ {S : Type 0} (start : S) (step : S → Call → S → Reply → Type 0)
             record {
               states = s.states;
               rounds = put x.0 p s.rounds;
-              spelled = subst (λ id. SpellsRounds nodes id (put x.0 p s.rounds)) (sym continues.1.1) (puts continues.1.2 (rounds_stay first nodes path.node s.rounds grown s.spelled));
+              spelled = subst (λ id. SpellsRounds nodes id (put x.0 p s.rounds)) (sym continues.1.1) (puts_offered start step observes h s.states s.rounds (member_at c offers) s.trail x.0 x.1 (inl offer) nodes continues.1.0 path.node p continues.1.2 (rounds_stay first nodes path.node s.rounds grown s.spelled));
               last = ap suc continues.0 ∙ s.last ∙ sym (put_many x.0 p s.rounds);
               trail = law observes observing functions h well_formed s.states s.rounds (member_at c offers) (member_at d offers) s.trail p x.1.0 opens.0 o.call open_x
                   (ap observes (open_call functions h ((alternating functions h).0 well_formed) p.at by.0 x.1.0 opens.0 by.1.key o.call by.1.call open_x by.1.is_open) ∙ by.1.observer)

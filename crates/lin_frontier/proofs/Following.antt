@@ -6,10 +6,10 @@ use Rattle.lin_history.specs.declared.events.Event.{Event}
 use Rattle.lin_history.specs.Operations.{IsOpen}
 use Rattle.lin_order.specs.Configurations.{IsRising}
 use Rattle.lin_frontier.specs.Covers.{HasCrashed}
-use Rattle.lin_frontier.specs.Members.{Member, IsWatching, Way, here, more, IsOffered, IsOnOffer, DominatesAt}
+use Rattle.lin_frontier.specs.Members.{Meets, Member, IsWatching, Way, here, more, IsOffered, IsOnOffer, DominatesAt}
 use Rattle.lin_frontier.proofs.Choosing.{can_add, stands}
 use Rattle.lin_frontier.proofs.Inserting.{rising_once}
-use Rattle.lin_frontier.proofs.Ways.{Meets, way_kept, way_was}
+use Rattle.lin_frontier.proofs.Ways.{way_kept, way_was}
 
 -- what the one history keeps of the other, but for some processes whose operations ended
 pub record Passes (observes : Call → Bool) (h g : List Event) (ended : ℕ → Type 0) : Type 0 where
@@ -71,18 +71,25 @@ module _ {S : Type 0} (step : S → Call → S → Reply → Type 0) (observes :
         ];
       }
 
+-- these placed operations, with these offers, do for those: no more are placed but what crashed is left out, and all that matters is on offer
+pub record DoesFor (observes : Call → Bool) (g : List Event) (new : List (ℕ × Reply)) (offers' : ℕ × Reply → Type 0) (kept : List (ℕ × Reply)) (offers : ℕ × Reply → Type 0) : Type 0 where
+  pub sorted : IsRising new
+  pub part : (x : ℕ × Reply) → Contains new x → Contains kept x
+  pub rest : (x : ℕ × Reply) → Contains kept x → Contains new x ⊎ HasCrashed g x.0
+  pub offered : (x : ℕ × Reply) → IsWatching observes g x.0 → ((other : Reply) → Contains new (x.0, other) → ⊥) → offers x → offers' x
+
 module _ {S : Type 0} (step : S → Call → S → Reply → Type 0) (observes : Call → Bool) (h g : List Event) (ended : ℕ → Type 0) (passes : Passes observes h g ended)
-    (s : S) (old kept : List (ℕ × Reply)) (offers : ℕ × Reply → Type 0) (m : Member S)
+    (s : S) (old kept new : List (ℕ × Reply)) (offers offers' : ℕ × Reply → Type 0)
     (within : (x : ℕ × Reply) → Contains kept x → Contains old x) (stays : (x : ℕ × Reply) → Contains kept x → ended x.0 → ⊥)
     (leaves : (x : ℕ × Reply) → Contains old x → Contains kept x ⊎ ended x.0)
-    (dominates : DominatesAt observes g m s kept offers) where
+    (does : DoesFor observes g new offers' kept offers) where
   -- what meets a configuration of the one history, meets in the other history what the configuration is without the ended operations
-  pub meets_over : (t : S) (q r : List (ℕ × Reply)) → IsRising r → ((x : ℕ × Reply) → Contains r x → Contains q x) → ((x : ℕ × Reply) → Contains r x → ended x.0 → ⊥)
+  pub meets_by : (t : S) (q r : List (ℕ × Reply)) → IsRising r → ((x : ℕ × Reply) → Contains r x → Contains q x) → ((x : ℕ × Reply) → Contains r x → ended x.0 → ⊥)
       → ((x : ℕ × Reply) → Contains q x → Contains r x ⊎ ended x.0) → (is : Meets step observes h (s, old) offers t q)
       → ((at p : ℕ) (key : ℤ) (call : Call) (reply : Reply) → IsOpen h at p key call → observes call ≡ false → ((other : Reply) → Contains old (p, other) → ⊥) → Contains is.placed (p, reply) → ended p → ⊥)
-      → Meets step observes g (m.state, m.placed) (IsOnOffer m) t r
-  meets_over t q r rising smaller none splits is never =
-      subst (λ b. Meets step observes g (b, m.placed) (IsOnOffer m) t r) (sym dominates.same) (record {
+      → Meets step observes g (s, new) offers' t r
+  meets_by t q r rising smaller none splits is never =
+      record {
         placed = f.placed;
         way = f.way';
         before = f.sorted;
@@ -98,9 +105,9 @@ module _ {S : Type 0} (step : S → Call → S → Reply → Type 0) (observes :
           ]
           | inr other ↦ elim other [
             | inl ready ↦ elim (passes.watches x.0 (none x there) ready.0) [
-              | inl watching ↦ elim (stands x.0 m.placed) [
-                | inl some ↦ inl (way_kept step observes g (s, m.placed) (t, f.placed) f.way' x
-                    (subst (λ a. Contains m.placed (x.0, a)) (rising_once r x.0 some.0 x.1 rising (inside (x.0, some.0) (way_kept step observes g (s, m.placed) (t, f.placed) f.way' (x.0, some.0) some.1)) there) some.1))
+              | inl watching ↦ elim (stands x.0 new) [
+                | inl some ↦ inl (way_kept step observes g (s, new) (t, f.placed) f.way' x
+                    (subst (λ a. Contains new (x.0, a)) (rising_once r x.0 some.0 x.1 rising (inside (x.0, some.0) (way_kept step observes g (s, new) (t, f.placed) f.way' (x.0, some.0) some.1)) there) some.1))
                 | inr absent ↦ inr (inl (
                   watching,
                   elim ready.1 [
@@ -114,20 +121,20 @@ module _ {S : Type 0} (step : S → Call → S → Reply → Type 0) (observes :
             | inr crashed ↦ inr (inr (passes.crashes x.0 crashed))
           ]
         ];
-      })
+      }
     where
-      f : Follows step observes h g (s, old) (s, m.placed) offers (IsOnOffer m) (λ x. HasCrashed g x.0 ⊎ ended x.0)
-          (λ x. IsWatching observes g x.0 × ((other : Reply) → Contains m.placed (x.0, other) → ⊥) × (ended x.0 → ⊥)) (t, is.placed) is.way
-      f = follow step observes h g s old m.placed offers (IsOnOffer m) _ _ dominates.sorted
-          (λ x there. within x (dominates.part x there))
+      f : Follows step observes h g (s, old) (s, new) offers offers' (λ x. HasCrashed g x.0 ⊎ ended x.0)
+          (λ x. IsWatching observes g x.0 × ((other : Reply) → Contains new (x.0, other) → ⊥) × (ended x.0 → ⊥)) (t, is.placed) is.way
+      f = follow step observes h g s old new offers offers' _ _ does.sorted
+          (λ x there. within x (does.part x there))
           (λ x there. elim (leaves x there) [
-            | inl stay ↦ elim (dominates.rest x stay) [
+            | inl stay ↦ elim (does.rest x stay) [
               | inl yes' ↦ inl yes'
               | inr crashed ↦ inr (inl crashed)
             ]
             | inr over ↦ inr (inr over)
           ])
-          (λ x keep is_offered. dominates.offered x keep.0 keep.1 is_offered)
+          (λ x keep is_offered. does.offered x keep.0 keep.1 is_offered)
           (λ x keep at key call is_open. passes.opens at x.0 key call keep.2 is_open)
           (t, is.placed) is.way
           (λ at p key call reply is_open no' absent there. passes.opens at p key call (never at p key call reply is_open no' absent there) is_open)
@@ -135,8 +142,23 @@ module _ {S : Type 0} (step : S → Call → S → Reply → Type 0) (observes :
       inside : (x : ℕ × Reply) → Contains f.placed x → Contains r x
       inside x there = elim (splits x (is.part x (f.part x there))) [
         | inl yes' ↦ yes'
-        | inr over ↦ elim (way_was step observes g (s, m.placed) (t, f.placed) f.way' x there) [
-          | inl begins ↦ absurd (stays x (dominates.part x begins) over)
+        | inr over ↦ elim (way_was step observes g (s, new) (t, f.placed) f.way' x there) [
+          | inl begins ↦ absurd (stays x (does.part x begins) over)
           | inr open' ↦ absurd (passes.shut open'.0 x.0 open'.1 open'.2 over open'.3)
         ]
       ]
+
+module _ {S : Type 0} (step : S → Call → S → Reply → Type 0) (observes : Call → Bool) (h g : List Event) (ended : ℕ → Type 0) (passes : Passes observes h g ended)
+    (s : S) (old kept : List (ℕ × Reply)) (offers : ℕ × Reply → Type 0) (m : Member S)
+    (within : (x : ℕ × Reply) → Contains kept x → Contains old x) (stays : (x : ℕ × Reply) → Contains kept x → ended x.0 → ⊥)
+    (leaves : (x : ℕ × Reply) → Contains old x → Contains kept x ⊎ ended x.0)
+    (dominates : DominatesAt observes g m s kept offers) where
+  -- the same of a member that dominates
+  pub meets_over : (t : S) (q r : List (ℕ × Reply)) → IsRising r → ((x : ℕ × Reply) → Contains r x → Contains q x) → ((x : ℕ × Reply) → Contains r x → ended x.0 → ⊥)
+      → ((x : ℕ × Reply) → Contains q x → Contains r x ⊎ ended x.0) → (is : Meets step observes h (s, old) offers t q)
+      → ((at p : ℕ) (key : ℤ) (call : Call) (reply : Reply) → IsOpen h at p key call → observes call ≡ false → ((other : Reply) → Contains old (p, other) → ⊥) → Contains is.placed (p, reply) → ended p → ⊥)
+      → Meets step observes g (m.state, m.placed) (IsOnOffer m) t r
+  meets_over t q r rising smaller none splits is never =
+      subst (λ b. Meets step observes g (b, m.placed) (IsOnOffer m) t r) (sym dominates.same)
+      (meets_by step observes h g ended passes s old kept m.placed offers (IsOnOffer m) within stays leaves
+      (record { sorted = dominates.sorted; part = dominates.part; rest = dominates.rest; offered = dominates.offered }) t q r rising smaller none splits is never)

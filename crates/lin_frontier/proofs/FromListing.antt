@@ -1,5 +1,5 @@
 -- What an ok makes of a list of all configurations: nothing is searched.
-use Rattle.std.proofs.Common.{◌≡◌, ℕ, ℤ, Bool, List, Contains, map, ◌⊎◌, inl, refl, sym, subst, Option}
+use Rattle.std.proofs.Common.{◌≡◌, ℕ, ℤ, Bool, false, true≢false, List, Contains, map, ◌⊎◌, inl, refl, sym, subst, Option}
 use Rattle.std.proofs.lemmas.List.Elements.{All-contains_itself, All-weaker}
 use Rattle.lin_history.specs.declared.calls.Call.{Call}
 use Rattle.lin_history.specs.declared.calls.Name.{Name}
@@ -36,11 +36,12 @@ covers_itself crashed c = record {
 module _ {S : Type 0} (start : S) (step : S → Call → S → Reply → Type 0) (observes : Call → Bool) (functions : ℤ → Name → Bool) (h : List Event) (event : Event) (well_formed : IsWellFormed functions (with_event h event))
     (pending : List Open) (opened : IsPending (with_event h event) pending) (alternating : WellFormedIsAlternating) (unique : EndsAreUnique) (name : Name) (reply : Reply) (body : event.body ≡ Ok name reply) where
   pub listing_taken : ListedLaw start step → ListingOkLaw start step → TrailOkLaw start step → (nodes : List (ℕ × (Placed × Option ℕ))) (list made : List (Member S × Path))
-      → IsMade (λ m. Contains m.0.placed (event.process, reply)) (rest_of observes pending event.process) list made → IsListingOf start step observes h list nodes → IsCovering start step observes (with_event h event) made nodes
+      → IsMade (λ m. Contains m.0.placed (event.process, reply)) (rest_of observes pending event.process) list made → IsListingOf start step observes h list nodes → IsCovering start step observes false (with_event h event) made nodes
   listing_taken listed ok trail nodes list made is l = record {
     complete = listed observes (with_event h event) (map (λ m. m.0) made) made_rising
         (ok functions h event name reply body well_formed (map (λ m. m.0) list) (map (λ m. m.0) made) rising each l.listing);
     spelled = spelled;
+    overwritten = λ is. absurd (true≢false (sym is));
   }
     where
       rising : (m : Member S) → Contains (map (λ k. k.0) list) m → IsRising m.placed

@@ -168,7 +168,7 @@ module _ {S : Type 0} (start : S) (step : S → Call → S → Reply → Type 0)
   -- all that was gathered, closed under placing
   pub gathered_listing : ListingLaw start step → IsObserving step observes → EndsAreUnique → WellFormedIsAlternating → (first nodes after : List (ℕ × (Placed × Option ℕ))) (members all out : List (Member S × Path))
       → IsGathering first nodes members members all → IsExtended start step observes pending [] nodes after all out → AreWorkedOff step observes pending [] true out → (functions : ℤ → Name → Bool) (h : List Event)
-      → IsWellFormed functions h → IsPending h pending → IsCovering start step observes h members first → IsListingOf start step observes h out after
+      → IsWellFormed functions h → IsPending h pending → IsCovering start step observes false h members first → IsListingOf start step observes h out after
   gathered_listing law observing unique alternating first nodes after members all out g e w functions h well_formed opened covering =
       let s = g.spelled functions h well_formed opened covering.spelled in
       let bare = extended_bare start step observes pending [] nodes after all out e g.bare in

@@ -1,5 +1,5 @@
 -- An invocation: the members are the same.
-use Rattle.std.proofs.Common.{ℕ, ℤ, Bool, List, map, get_or, Option, ◌≡◌, inl, inr}
+use Rattle.std.proofs.Common.{ℕ, ℤ, Bool, true, false, List, map, get_or, Option, ◌≡◌, inl, inr, refl}
 use Rattle.lin_history.specs.declared.calls.Call.{Call}
 use Rattle.lin_history.specs.declared.calls.Name.{Name}
 use Rattle.lin_history.specs.declared.calls.Reply.{Reply}
@@ -14,11 +14,13 @@ use Rattle.lin_frontier.specs.declared.members.Path.{Path}
 use Rattle.lin_frontier.specs.Compressed.{IsCompressed}
 use Rattle.lin_frontier.specs.MemberLaws.{InvocationKeepsLaw}
 use Rattle.lin_frontier.specs.Members.{Member, Dominates}
+use Rattle.lin_frontier.specs.Overwritten.{IsAbove, IsCompleteFor}
+use Rattle.lin_frontier.specs.OverwrittenLaws.{AllowsOnLaw, InvocationWithLaw}
 use Rattle.lin_frontier.specs.RoundLaws.{TrailInvocationLaw}
 use Rattle.lin_frontier.proofs.Crashes.{crash_before, invoke_no_info, passes_invoke}
 
-module _ {S : Type 0} (start : S) (step : S → Call → S → Reply → Type 0) (observes : Call → Bool) (functions : ℤ → Name → Bool) (h : List Event) (event : Event) (call : Call) (body : event.body ≡ Invoke call)
-    (well_formed : IsWellFormed functions (with_event h event)) (alternates : IsAlternating functions (with_event h event)) where
+module _ {S : Type 0} (start : S) (step : S → Call → S → Reply → Type 0) (observes : Call → Bool) (overwriting : Bool) (functions : ℤ → Name → Bool) (h : List Event) (event : Event) (call : Call)
+    (body : event.body ≡ Invoke call) (well_formed : IsWellFormed functions (with_event h event)) (alternates : IsAlternating functions (with_event h event)) where
   -- what dominates then dominated before: nobody waits for a reply that was on offer before but then
   dominated_before : (m n : Member S) → Dominates observes (with_event h event) m n → Dominates observes h m n
   dominated_before m n d = record {
@@ -41,11 +43,14 @@ module _ {S : Type 0} (start : S) (step : S → Call → S → Reply → Type 0)
     ];
   }
 
-  pub invoked_compressed : IsObserving step observes → InvocationKeepsLaw start step → TrailInvocationLaw start step → (nodes : List (ℕ × (Placed × Option ℕ))) (members : List (Member S × Path))
-      → IsCompressed start step observes h members nodes → IsCompressed start step observes (with_event h event) members nodes
-  invoked_compressed observing keeps trail nodes members c = record {
+  above_before : (m n : Member S × Path) → IsAbove observes (with_event h event) m n → IsAbove observes h m n
+  above_before m n above = (dominated_before m.0 n.0 above.0, above.1)
+
+  pub invoked_compressed : IsObserving step observes → InvocationKeepsLaw start step → InvocationWithLaw start step → TrailInvocationLaw start step → AllowsOnLaw S → (nodes : List (ℕ × (Placed × Option ℕ))) (members : List (Member S × Path))
+      → IsCompressed start step observes overwriting h members nodes → IsCompressed start step observes overwriting (with_event h event) members nodes
+  invoked_compressed observing keeps keeps_with trail on nodes members c = record {
     covering = record {
-      complete = keeps observes observing functions h event call body well_formed (map (λ m. m.0) members) c.covering.complete;
+      complete = by overwriting c.covering.complete;
       spelled = λ m there. let s = c.covering.spelled m there in record {
         states = s.states;
         rounds = s.rounds;
@@ -53,10 +58,15 @@ module _ {S : Type 0} (start : S) (step : S → Call → S → Reply → Type 0)
         last = s.last;
         trail = trail observes functions h event call body well_formed s.states s.rounds m.0 s.trail;
       };
+      overwritten = λ is m there rounds spelled. on observes h event m m rounds refl (λ x within. within) (c.covering.overwritten is m there rounds spelled);
     };
     apart = λ i j d below inside.
         let a = c.apart i j d below inside in (
-          λ above. a.0 (dominated_before (get_or members i d).0 (get_or members j d).0 above),
-          λ above. a.1 (dominated_before (get_or members j d).0 (get_or members i d).0 above),
+          λ above. a.0 (above_before (get_or members i d) (get_or members j d) above),
+          λ above. a.1 (above_before (get_or members j d) (get_or members i d) above),
         );
   }
+    where
+      by : (overwriting : Bool) → IsCompleteFor start step observes overwriting h members → IsCompleteFor start step observes overwriting (with_event h event) members
+      by false complete = keeps observes observing functions h event call body well_formed (map (λ m. m.0) members) complete
+      by true complete = keeps_with observes observing functions h event call body well_formed members complete

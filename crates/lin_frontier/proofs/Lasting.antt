@@ -13,10 +13,10 @@ use Rattle.lin_order.specs.declared.placed.Placed.{Placed}
 use Rattle.lin_order.specs.Configurations.{IsAdded, IsPlacing, IsPlacedOn, none, more as further}
 use Rattle.lin_order.specs.ConfigurationLaws.{with_event, FailLaw, InfoLaw, InvocationLaw}
 use Rattle.lin_frontier.specs.Covers.{HasCrashed}
-use Rattle.lin_frontier.specs.Members.{Member, IsOnOffer, IsReady, IsWatching, more, LeadsToCover}
+use Rattle.lin_frontier.specs.Members.{Meets, Member, IsOnOffer, IsReady, IsWatching, more, LeadsToCover}
 use Rattle.lin_frontier.specs.MemberLaws.{LeadsOnLaw, PlaceLaw, InvocationKeepsLaw, InfoKeepsLaw, FailKeepsLaw}
 use Rattle.lin_frontier.proofs.Choosing.{can_add}
-use Rattle.lin_frontier.proofs.Ways.{Meets, way_kept, way_start, from_covers, to_covers}
+use Rattle.lin_frontier.proofs.Ways.{way_kept, way_start, from_covers, to_covers}
 use Rattle.lin_frontier.proofs.Following.{Passes, Follows, follow, meets_over}
 use Rattle.lin_frontier.proofs.Dominating.{dominates_itself, covers_on, covers_sorted}
 use Rattle.lin_frontier.proofs.Crashes.{crash_before, crash_or, fail_no_info, invoke_no_info, never_crashed, passes_invoke, passes_info, passes_fail}
@@ -70,13 +70,20 @@ module _ {S : Type 0} (step : S → Call → S → Reply → Type 0) (observes :
       wider : (placed : List (ℕ × Reply)) × IsAdded u.process p.reply is.placed placed
       wider = can_add u.process p.reply is.placed is.before (λ other there. u.added.absent other (is.part (u.process, other) there))
 
+  -- placing an open operation, from any beginning
+  pub place_meets : (b : S × List (ℕ × Reply)) (offers : ℕ × Reply → Type 0) (c d : S × List (ℕ × Reply)) (p : Placed) → Meets step observes h b offers c.0 c.1 → IsPlacing step h c p d → Meets step observes h b offers d.0 d.1
+  place_meets b offers c d p is u = elim (cases_Bool (observes u.call)) [
+    | inl yes' ↦ place_observer b offers c d p is u yes'
+    | inr none_observes ↦ place_update b offers c d p is u none_observes
+  ]
+
+  pub placed_on_meets : (b : S × List (ℕ × Reply)) (offers : ℕ × Reply → Type 0) (c : S × List (ℕ × Reply)) {order : List Placed} (d : S × List (ℕ × Reply)) → Meets step observes h b offers c.0 c.1
+      → IsPlacedOn step h c order d → Meets step observes h b offers d.0 d.1
+  placed_on_meets b offers c d is none = is
+  placed_on_meets b offers c d is (further {d = e} {p = p} way placing) = place_meets b offers e d p (placed_on_meets b offers c e is way) placing
+
   pub place_covers : (m : Member S) (c d : S × List (ℕ × Reply)) (p : Placed) → LeadsToCover step observes h m c → IsPlacing step h c p d → LeadsToCover step observes h m d
-  place_covers m c d p is u =
-      let meets = from_covers step observes h m c u.added.before is in
-      to_covers step observes h m d (elim (cases_Bool (observes u.call)) [
-        | inl yes' ↦ place_observer (m.state, m.placed) (IsOnOffer m) c d p meets u yes'
-        | inr none_observes ↦ place_update (m.state, m.placed) (IsOnOffer m) c d p meets u none_observes
-      ])
+  place_covers m c d p is u = to_covers step observes h m d (place_meets (m.state, m.placed) (IsOnOffer m) c d p (from_covers step observes h m c u.added.before is) u)
 
   pub placed_on_covers : (m : Member S) (b : S × List (ℕ × Reply)) {order : List Placed} (c : S × List (ℕ × Reply)) → LeadsToCover step observes h m b → IsPlacedOn step h b order c → LeadsToCover step observes h m c
   placed_on_covers m b c is none = is

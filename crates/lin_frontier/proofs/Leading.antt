@@ -4,12 +4,12 @@ use Rattle.lin_history.specs.declared.calls.Call.{Call}
 use Rattle.lin_history.specs.declared.calls.Reply.{Reply}
 use Rattle.lin_history.specs.declared.events.Event.{Event}
 use Rattle.lin_frontier.specs.Covers.{HasCrashed}
-use Rattle.lin_frontier.specs.Members.{Member, IsGiven, IsOffered, IsOnOffer, IsWatching, LeadsToMember, Way, here, more}
+use Rattle.lin_frontier.specs.Members.{Meets, Member, IsGiven, IsOffered, IsOnOffer, IsWatching, LeadsToMember, Way, here, more}
 use Rattle.lin_frontier.specs.MemberLaws.{LedToLaw}
 use Rattle.lin_frontier.proofs.Choosing.{stands}
 use Rattle.lin_frontier.proofs.Exchanging.{covered_by}
 use Rattle.lin_frontier.proofs.Inserting.{rising_once}
-use Rattle.lin_frontier.proofs.Ways.{Meets, way_kept, from_covers, to_covers}
+use Rattle.lin_frontier.proofs.Ways.{way_kept, from_covers, to_covers}
 use Rattle.lin_frontier.proofs.Following.{Follows, follow}
 
 module _ {S : Type 0} (step : S → Call → S → Reply → Type 0) (observes : Call → Bool) (h : List Event) (offers : ℕ × Reply → Type 0) (b c : S × List (ℕ × Reply)) (first : Way step observes h b c) where

@@ -16,6 +16,7 @@ pub mod PendingAfter
 pub mod Offering
 pub mod Undominated
 pub mod InRounds
+pub mod Aheads
 pub mod Each
 pub mod Choosing
 pub mod Ways
@@ -26,6 +27,10 @@ pub mod Crashes
 pub mod Lasting
 pub mod Taking
 pub mod Returning
+pub mod Standing
+pub mod Overwriting
+pub mod Asked
+pub mod Placings
 pub mod Searching
 pub mod Searched
 pub mod Spreading
@@ -39,6 +44,8 @@ pub mod Visiting
 pub mod Completing
 pub mod Ahead
 pub mod Trailing
+pub mod GoingAhead
+pub mod Allowing
 pub mod Sounding
 pub mod ReadReturned
 pub mod ReadEarly
@@ -51,8 +58,12 @@ pub mod Masking
 pub mod Parting
 pub mod Pruned
 pub mod Onward
+pub mod Alone
 pub mod Returned
 pub mod Answering
+pub mod Early
+pub mod AnsweringWith
+pub mod ReturnedWith
 pub mod Compressing
 pub mod Expanding
 pub mod Merging
@@ -61,3 +72,7 @@ pub mod Gathering
 pub mod FromListing
 pub mod Invoked
 pub mod ListedCompressed
+pub mod Aboves
+pub mod LastingWith
+pub mod Advancing
+pub mod ReturningAll

@@ -1,5 +1,5 @@
 -- A listing is a covering, in which each member leads to its own configuration.
-use Rattle.std.proofs.Common.{map, Contains, subst}
+use Rattle.std.proofs.Common.{map, Contains, subst, sym, true≢false}
 use Rattle.lin_history.specs.declared.calls.Call.{Call}
 use Rattle.lin_history.specs.declared.calls.Reply.{Reply}
 use Rattle.lin_order.specs.Configurations.{IsRising}
@@ -13,6 +13,7 @@ pub listing_covers : {S : Type 0} (start : S) (step : S → Call → S → Reply
 listing_covers {S} start step law observes h members nodes l = record {
   complete = law observes h (map (λ m. m.0) members) rising l.listing;
   spelled = l.spelled;
+  overwritten = λ is. absurd (true≢false (sym is));
 }
   where
     rising : (m : Member S) → Contains (map (λ k. k.0) members) m → IsRising m.placed

@@ -1,5 +1,5 @@
 -- What is made of the elements of a list, from the left.
-use Rattle.std.proofs.Common.{◌≡◌, ℕ, ◌+◌, ◌<◌, ◌≤◌, List, [], ◌∷◌, ◌++◌, length, Contains, inl, inr, refl, sym, ap, subst, ◌∙◌, arith, append_assoc, get_or, take, map, Bool, true, false, cond, IsTrue, ◌↔◌, true≢false}
+use Rattle.std.proofs.Common.{◌≡◌, ℕ, zero, suc, drop, set, ◌+◌, ◌<◌, ◌≤◌, List, [], ◌∷◌, ◌++◌, length, Contains, inl, inr, refl, sym, ap, subst, ◌∙◌, arith, append_assoc, get_or, take, map, Bool, true, false, cond, IsTrue, ◌↔◌, true≢false}
 use Rattle.std.proofs.lemmas.List.{append-nil, map-append, take_more, take_all}
 use Rattle.std.proofs.lemmas.List.Elements.{Contains-push, Contains-push_cases, Contains-append_left}
 use Rattle.lin_frontier.specs.Searching.{IsMade, IsMadeOne}
@@ -63,3 +63,18 @@ module _ {A B : Type 0} (P : A → Type 0) (make : A → B) where
 
   pub behind_all : (old : List B) (xs : List A) (i : ℕ) (now : List B) → length xs ≤ i → IsMadeBehind old (take i xs) now → IsMadeBehind old xs now
   behind_all old xs i now past h = subst (λ l. IsMadeBehind old l now) (take_all i xs past) h
+
+-- a list whose first elements are written over
+written_here : {A : Type 0} (f : A → A) (xs : List A) (i : ℕ) (d : A) → i < length xs → set (map f (take i xs) ++ drop i xs) i (f (get_or (map f (take i xs) ++ drop i xs) i d)) ≡ map f (take (suc i) xs) ++ drop (suc i) xs
+written_here f [] i d inside = absurd (omega arith)
+written_here f (x ∷ xs) zero d inside = refl
+written_here f (x ∷ xs) (suc i) d inside = ap (λ l. f x ∷ l) (written_here f xs i d (omega arith))
+
+pub written_next : {A : Type 0} (f : A → A) (xs : List A) (i : ℕ) (d : A) → i < length xs → set (map f (take i xs) ++ drop i xs) i (f (get_or (map f (take i xs) ++ drop i xs) i d)) ≡ map f (take (i + 1) xs) ++ drop (i + 1) xs
+written_next f xs i d inside = let one : suc i ≡ i + 1 = omega arith in written_here f xs i d inside ∙ ap (λ n. map f (take n xs) ++ drop n xs) one
+
+pub written_all : {A : Type 0} (f : A → A) (xs : List A) (i : ℕ) → length xs ≤ i → map f (take i xs) ++ drop i xs ≡ map f xs
+written_all f [] zero past = refl
+written_all f [] (suc i) past = refl
+written_all f (x ∷ xs) zero past = absurd (omega arith)
+written_all f (x ∷ xs) (suc i) past = ap (λ l. f x ∷ l) (written_all f xs i (omega arith))

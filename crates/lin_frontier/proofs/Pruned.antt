@@ -29,15 +29,15 @@ pub and_right : (a b : Bool) → (a && b) ≡ true → b ≡ true
 and_right true b h = h
 and_right false b h = absurd (true≢false (sym h))
 
-and_both : (a b : Bool) → a ≡ true → b ≡ true → (a && b) ≡ true
+pub and_both : (a b : Bool) → a ≡ true → b ≡ true → (a && b) ≡ true
 and_both true b p q = q
 and_both false b p q = absurd (true≢false (sym p))
 
-not_true : (b : Bool) → (b ≡ true → ⊥) → not b ≡ true
+pub not_true : (b : Bool) → (b ≡ true → ⊥) → not b ≡ true
 not_true true h = absurd (h refl)
 not_true false h = refl
 
-true_not : (b : Bool) → not b ≡ true → b ≡ true → ⊥
+pub true_not : (b : Bool) → not b ≡ true → b ≡ true → ⊥
 true_not true h p = true≢false (sym h)
 true_not false h p = true≢false (sym p)
 
@@ -55,7 +55,7 @@ any_true {A} f (y ∷ ys) h = by (f y) refl (any_true f ys)
     by true e more = (y, (0, omega arith, refl), e)
     by false e more = let r = more (sym (ap (λ b. b || list_any f ys) e) ∙ h) in (r.0, (suc r.1.0, omega (arith, r.1.1), r.1.2), r.2)
 
-true_any : {A : Type 0} (f : A → Bool) (xs : List A) (x : A) → Contains xs x → f x ≡ true → list_any f xs ≡ true
+pub true_any : {A : Type 0} (f : A → Bool) (xs : List A) (x : A) → Contains xs x → f x ≡ true → list_any f xs ≡ true
 true_any f xs x there is = list_any_at f xs there.0 x there.1 (ap f there.2 ∙ is)
 
 -- nobody waits for the reply of an operation that crashed

@@ -1,5 +1,5 @@
 -- The rounds of members after an ok.
-use Rattle.std.proofs.Common.{◌≡◌, ◌⊎◌, ◌≢◌, ℕ, ℤ, suc, Bool, true, List, [], ◌∷◌, ◌++◌, length, length-append, Contains, inl, inr, refl, sym, ap, subst, ◌∙◌, arith, Option}
+use Rattle.std.proofs.Common.{◌≡◌, ◌≢◌, ℕ, ℤ, suc, Bool, true, List, [], ◌∷◌, ◌++◌, length, length-append, Contains, inl, inr, refl, sym, ap, subst, ◌∙◌, arith, Option}
 use Rattle.std.proofs.lemmas.List.Elements.{Contains-append_cases}
 use Rattle.std.proofs.lemmas.Option.{slice_get_within}
 use Rattle.lin_history.specs.declared.calls.Call.{Call}
@@ -23,9 +23,10 @@ use Rattle.lin_frontier.specs.Compressed.{IsSpelled}
 use Rattle.lin_frontier.specs.Frontiers.{IsPending}
 use Rattle.lin_frontier.specs.Members.{Member, IsWatching, IsGiven}
 use Rattle.lin_frontier.specs.Placing.{IsAbsent, insert_pair}
-use Rattle.lin_frontier.specs.RoundLaws.{OffersFrom, TrailPlacesLaw, TrailOkLaw, TrailObserverLaw, TrailReturnLaw}
-use Rattle.lin_frontier.specs.Rounds.{SpellsRounds, begin_round, put, begins, puts}
+use Rattle.lin_frontier.specs.RoundLaws.{IsOfferFrom, OffersFrom, TrailPlacesLaw, TrailOkLaw, TrailObserverLaw, TrailReturnLaw}
+use Rattle.lin_frontier.specs.Rounds.{SpellsRounds, begin_round, put, begins}
 use Rattle.lin_frontier.specs.Searching.{is_watching, rest_of, GivesAny, IsAnswered, IsFromBehind, IsReached, start, next, IsReturned, IsReturnOf}
+use Rattle.lin_frontier.proofs.Aheads.{puts_offered}
 use Rattle.lin_frontier.proofs.Crashes.{crash_kept, passes_ok}
 use Rattle.lin_frontier.proofs.Following.{Passes}
 use Rattle.lin_frontier.proofs.Inserting.{absent_from, none_from, passed_by, insert_added, taken_out}
@@ -59,10 +60,13 @@ module _ (observes : Call → Bool) (functions : ℤ → Name → Bool) (h : Lis
   pub nobody : is_watching observes pending event.process ≡ true → ⊥
   nobody w = let k = watching_to functions (with_event h event) pending opened unique alternates observes event.process w in passes.shut k.at event.process k.key k.call refl k.is_open
 
-  pub was_watching : (q : ℕ) → is_watching observes pending q ≡ true → IsWatching observes h q
-  was_watching q w =
-      let k = watching_to functions (with_event h event) pending opened unique alternates observes q w in
+  -- what watches after the ok did so before
+  pub watching_before : (q : ℕ) → IsWatching observes (with_event h event) q → IsWatching observes h q
+  watching_before q k =
       record { at = k.at; key = k.key; call = k.call; is_open = was_open k.at q k.key k.call k.is_open; observer = k.observer; alive = λ c. k.alive (crash_kept h event q c) }
+
+  was_watching : (q : ℕ) → is_watching observes pending q ≡ true → IsWatching observes h q
+  was_watching q w = watching_before q (watching_to functions (with_event h event) pending opened unique alternates observes q w)
 
   module _ {S : Type 0} (begin : S) (step : S → Call → S → Reply → Type 0) (nodes : List (ℕ × (Placed × Option ℕ))) where
     was_given : (c : S × List (ℕ × Reply)) (x : ℕ × Reply) → GivesAny step observes pending c x → IsWatching observes h x.0 × IsGiven step h c.0 x
@@ -75,13 +79,13 @@ module _ (observes : Call → Bool) (functions : ℤ → Name → Bool) (h : Lis
           record { at = o.at; key = s.0; call = o.call; next = to.1; is_open = subst (λ q. IsOpen h o.at q s.0 o.call) (sym to.0) (was_open o.at o.process s.0 o.call s.1); steps = to.2 },
         )
 
-    offers_from : (m : Member S × Path) (n : Member S) (rounds : List (List Placed)) → suc m.1.round ≡ length rounds → IsFromBehind step observes pending m n → OffersFrom step observes h rounds m.0 n
+    pub offers_from : (m : Member S × Path) (n : Member S) (rounds : List (List Placed)) → suc m.1.round ≡ length rounds → IsFromBehind step observes pending m n → OffersFrom step observes h rounds m.0 n
     offers_from m n rounds last behind round x there = elim (behind (round, x) there) [
       | inl before ↦ inl before.0
       | inr new ↦ let g = was_given (m.0.state, m.0.placed) x new.1 in inr (ap suc new.0 ∙ last, g.0, g.1)
     ]
 
-    no_offer : (m : Member S × Path) (n : Member S) → IsFromBehind step observes pending m n → (round : ℕ) (other : Reply) → Contains n.offers (round, (event.process, other)) → ⊥
+    pub no_offer : (m : Member S × Path) (n : Member S) → IsFromBehind step observes pending m n → (round : ℕ) (other : Reply) → Contains n.offers (round, (event.process, other)) → ⊥
     no_offer m n behind round other there = elim (behind (round, (event.process, other)) there) [
       | inl before ↦ nobody before.1
       | inr new ↦ nobody (subst (λ q. is_watching observes pending q ≡ true) (sym new.1.2.3.0) new.1.2.1)
@@ -134,34 +138,42 @@ module _ (observes : Call → Bool) (functions : ℤ → Name → Bool) (h : Lis
     }
 
     module _ (before : List Open) (was : IsPending h before) (well_formed : IsWellFormed functions (with_event h event)) (o : Open) (o_there : Contains before o) (o_of : o.process ≡ event.process) where
-      opens : (key : ℤ) × IsOpen h o.at event.process key o.call
+      pub opens : (key : ℤ) × IsOpen h o.at event.process key o.call
       opens = let s = was.sound o o_there in (s.0, subst (λ q. IsOpen h o.at q s.0 o.call) o_of s.1)
 
-      -- an observer took the reply
-      spelled_answered : IsObserving step observes → TrailObserverLaw begin step → (m n : Member S × Path) → IsSpelled begin step observes h nodes m → IsAbsent event.process m.0.placed
+      -- an observer took the reply, which was offered to it
+      answered_offer : (m n : Member S × Path) (k : IsSpelled begin step observes h nodes m) (a : IsAnswered step observes o reply pending nodes m n) → IsOfferFrom step h k.rounds m.0 a.round (event.process, reply)
+      answered_offer m n k a = elim a.takes [
+        | inl there ↦ inl (subst (λ q. Contains m.0.offers (a.round, (q, reply))) o_of there)
+        | inr given ↦ inr (ap suc given.0 ∙ k.last, record { at = o.at; key = opens.0; call = o.call; next = given.1.1; is_open = opens.1; steps = given.1.2 })
+      ]
+
+      pub answered_spells : (m n : Member S × Path) (k : IsSpelled begin step observes h nodes m) (a : IsAnswered step observes o reply pending nodes m n) → SpellsRounds nodes n.1.node (put a.round (record { at = o.at; reply = reply }) k.rounds)
+      answered_spells m n k a =
+          subst (λ id. SpellsRounds nodes id (put a.round (record { at = o.at; reply = reply }) k.rounds)) (sym a.node.1)
+          (puts_offered begin step observes h k.states k.rounds m.0 k.trail a.round (event.process, reply) (answered_offer m n k a) nodes a.node.0 m.1.node (record { at = o.at; reply = reply }) a.node.2 k.spelled)
+
+      pub answered_offers : (m n : Member S × Path) → IsAnswered step observes o reply pending nodes m n → (x : ℕ × (ℕ × Reply)) → Contains n.0.offers x → Contains m.0.offers x × (is_watching observes pending x.1.0 ≡ true)
+      answered_offers m n a x there = passed_by (λ (y : ℕ × (ℕ × Reply)). is_watching observes pending y.1.0) m.0.offers x (subst (λ (l : Member S). Contains l.offers x) a.same there)
+
+      pub spelled_answered : IsObserving step observes → TrailObserverLaw begin step → (m n : Member S × Path) → IsSpelled begin step observes h nodes m → IsAbsent event.process m.0.placed
           → IsAnswered step observes o reply pending nodes m n → IsSpelled begin step observes (with_event h event) nodes n
       spelled_answered observing law m n k absent a = record {
         states = k.states;
         rounds = put a.round p k.rounds;
-        spelled = subst (λ id. SpellsRounds nodes id (put a.round p k.rounds)) (sym a.node.1) (puts a.node.2 k.spelled);
+        spelled = answered_spells m n k a;
         last = ap suc a.last ∙ k.last ∙ sym (put_many a.round p k.rounds);
-        trail = law observes observing functions h event name reply body well_formed k.states k.rounds m.0 n.0 k.trail o.at opens.0 o.call opens.1 a.observer a.round offered (none_from event.process m.0.placed absent)
+        trail = law observes observing functions h event name reply body well_formed k.states k.rounds m.0 n.0 k.trail o.at opens.0 o.call opens.1 a.observer a.round (answered_offer m n k a) (none_from event.process m.0.placed absent)
             (sym (ap (λ (x : Member S). x.state) a.same)) (sym (ap (λ (x : Member S). x.placed) a.same))
-            (λ x there. (passed_by (λ (y : ℕ × (ℕ × Reply)). is_watching observes pending y.1.0) m.0.offers x (subst (λ (l : Member S). Contains l.offers x) a.same there)).0)
-            (λ round other there. nobody (passed_by (λ (y : ℕ × (ℕ × Reply)). is_watching observes pending y.1.0) m.0.offers (round, (event.process, other)) (subst (λ (l : Member S). Contains l.offers (round, (event.process, other))) a.same there)).1);
+            (λ x there. (answered_offers m n a x there).0)
+            (λ round other there. nobody (answered_offers m n a (round, (event.process, other)) there).1);
       }
         where
           p : Placed
           p = record { at = o.at; reply = reply }
 
-          offered : Contains m.0.offers (a.round, (event.process, reply)) ⊎ ((suc a.round ≡ length k.rounds) × IsGiven step h m.0.state (event.process, reply))
-          offered = elim a.takes [
-            | inl there ↦ inl (subst (λ q. Contains m.0.offers (a.round, (q, reply))) o_of there)
-            | inr given ↦ inr (ap suc given.0 ∙ k.last, record { at = o.at; key = opens.0; call = o.call; next = given.1.1; is_open = opens.1; steps = given.1.2 })
-          ]
-
       -- an update returned
-      spelled_update : TrailReturnLaw begin step → (m n : Member S × Path) → IsSpelled begin step observes h nodes m → IsAbsent event.process m.0.placed
+      pub spelled_update : TrailReturnLaw begin step → (m n : Member S × Path) → IsSpelled begin step observes h nodes m → IsAbsent event.process m.0.placed
           → IsReturned step observes o reply pending nodes m n → IsSpelled begin step observes (with_event h event) nodes n
       spelled_update law m n k absent r = record {
         states = k.states ++ n.0.state ∷ [];

@@ -64,7 +64,7 @@ module _ {S : Type 0} (pending : List Open) (members : List (Member S × Path)) 
             other = x.0.0;
             own_settled = own.settled;
             other_settled = subst (λ (k : Member S × Path). IsSettled pending k.0 x.0.0) (some_same (sym other.stands ∙ x.2)) other.settled;
-            dominates = y.2;
+            dominates = y.2.0;
           },
         );
   }

@@ -6,12 +6,12 @@ use Rattle.lin_history.specs.declared.calls.Reply.{Reply}
 use Rattle.lin_history.specs.declared.events.Event.{Event}
 use Rattle.lin_order.specs.Configurations.{IsAdded, IsRising}
 use Rattle.lin_frontier.specs.Covers.{HasCrashed}
-use Rattle.lin_frontier.specs.Members.{Member, IsOnOffer, Way, here, more, IsOffered, IsReady, LeadsToCover, DominatesAt}
+use Rattle.lin_frontier.specs.Members.{Meets, Member, IsOnOffer, Way, here, more, IsOffered, IsReady, LeadsToCover, DominatesAt}
 use Rattle.lin_frontier.specs.MemberLaws.{IsSpread, SpreadingLaw}
 use Rattle.lin_frontier.proofs.Choosing.{can_add, stands}
 use Rattle.lin_frontier.proofs.Exchanging.{covered_by}
 use Rattle.lin_frontier.proofs.Inserting.{rising_once}
-use Rattle.lin_frontier.proofs.Ways.{Meets, way_kept, from_covers, to_covers}
+use Rattle.lin_frontier.proofs.Ways.{way_kept, from_covers, to_covers}
 use Rattle.lin_frontier.proofs.Following.{meets_over}
 use Rattle.lin_frontier.proofs.Dominating.{covers_on, covers_sorted, passes_itself}
 

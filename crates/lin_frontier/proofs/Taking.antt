@@ -12,11 +12,11 @@ use Rattle.lin_order.specs.Configurations.{IsAdded}
 use Rattle.lin_order.specs.ConfigurationLaws.{with_event}
 use Rattle.lin_frontier.specs.Exchanges.{Exchange, IsExchanged}
 use Rattle.lin_frontier.specs.Placing.{without}
-use Rattle.lin_frontier.specs.Members.{Member, IsUpdate, Way, here, more, IsOffered, IsOnOffer, WayOf, LeadsToCover, DominatesAt}
+use Rattle.lin_frontier.specs.Members.{Meets, Member, IsUpdate, Way, here, more, IsOffered, IsOnOffer, WayOf, LeadsToCover, DominatesAt}
 use Rattle.lin_frontier.specs.MemberLaws.{IsTaken}
 use Rattle.lin_frontier.proofs.Inserting.{rising_once, taken_out}
-use Rattle.lin_frontier.proofs.Ways.{Meets, way_kept, way_start, to_covers}
-use Rattle.lin_frontier.proofs.Following.{meets_over}
+use Rattle.lin_frontier.proofs.Ways.{way_kept, way_start, to_covers}
+use Rattle.lin_frontier.proofs.Following.{DoesFor, meets_by}
 use Rattle.lin_frontier.proofs.Crashes.{passes_ok}
 
 -- one of the other members dominates the end of the way, once crashed operations of the same call are exchanged
@@ -40,11 +40,11 @@ pub record Split {S : Type 0} (step : S → Call → S → Reply → Type 0) (ob
 
 module _ {S : Type 0} (step : S → Call → S → Reply → Type 0) (observes : Call → Bool) (h : List Event) where
   -- the whole way is a first part
-  whole : (offers : ℕ × Reply → Type 0) (b : S × List (ℕ × Reply)) (holds : (d : S × List (ℕ × Reply)) → Way step observes h b d → Type 0)
+  pub whole : (offers : ℕ × Reply → Type 0) (b : S × List (ℕ × Reply)) (holds : (d : S × List (ℕ × Reply)) → Way step observes h b d → Type 0)
       → (c : S × List (ℕ × Reply)) (way : Way step observes h b c) → holds c way → Split step observes h offers b c way holds
   whole offers b holds c way has = record { mid = c; first = way; has = has; second = here; offered = λ x is. is }
 
-  longer : (offers : ℕ × Reply → Type 0) (b : S × List (ℕ × Reply)) (holds : (d : S × List (ℕ × Reply)) → Way step observes h b d → Type 0)
+  pub longer : (offers : ℕ × Reply → Type 0) (b : S × List (ℕ × Reply)) (holds : (d : S × List (ℕ × Reply)) → Way step observes h b d → Type 0)
       → (d c : S × List (ℕ × Reply)) (way : Way step observes h b d) (u : IsUpdate step observes h d c) → Split step observes h offers b d way holds
       → Split step observes h offers b c (more way u) holds
   longer offers b holds d c way u r = record {
@@ -83,51 +83,6 @@ module _ {S : Type 0} (step : S → Call → S → Reply → Type 0) (observes :
     ]))
   ]
 
--- what was there stays, or is of the process
-was_of : (process : ℕ) (reply : Reply) (kept old : List (ℕ × Reply)) → IsAdded process reply kept old → (x : ℕ × Reply) → Contains old x → Contains kept x ⊎ (x.0 ≡ process)
-was_of process reply kept old added x there = elim (added.was x there) [
-  | inl stays ↦ inl stays
-  | inr new ↦ inr (sym (ap (λ (y : ℕ × Reply). y.0) new))
-]
-
-module _ {S : Type 0} (step : S → Call → S → Reply → Type 0) (observes : Call → Bool) (functions : ℤ → Name → Bool) (h : List Event) (event : Event) (name : Name) (reply : Reply)
-    (body : event.body ≡ Ok name reply) (alternates : IsAlternating functions (with_event h event)) (others : List (Member S)) where
-  -- from a point where the operation's pair, if it is there, is taken out
-  pub on_from : (s : S) (old kept : List (ℕ × Reply)) (offers : ℕ × Reply → Type 0) (n : Member S) → ((x : ℕ × Reply) → Contains kept x → Contains old x) → ((other : Reply) → Contains kept (event.process, other) → ⊥)
-      → ((x : ℕ × Reply) → Contains old x → Contains kept x ⊎ (x.0 ≡ event.process)) → DominatesAt observes (with_event h event) n s kept offers
-      → (c : S × List (ℕ × Reply)) (placed : List (ℕ × Reply)) → IsAdded event.process reply c.1 placed → (is : Meets step observes h (s, old) offers c.0 placed)
-      → ((at : ℕ) (key : ℤ) (call : Call) (other : Reply) → IsOpen h at event.process key call → observes call ≡ false → ((r : Reply) → Contains old (event.process, r) → ⊥) → Contains is.placed (event.process, other) → ⊥)
-      → LeadsToCover step observes (with_event h event) n c
-  on_from s old kept offers n within absent leaves dominates c placed added is never =
-      to_covers step observes (with_event h event) n c (meets_over step observes h (with_event h event) (λ q. q ≡ event.process) (passes_ok h event functions alternates observes name reply body)
-      s old kept offers n within (λ x there same. absent x.1 (subst (λ q. Contains kept (q, x.1)) same there)) leaves dominates
-      c.0 placed c.1 added.before added.kept (λ x there same. added.absent x.1 (subst (λ q. Contains c.1 (q, x.1)) same there))
-      (was_of event.process reply c.1 placed added)
-      is (λ at p key call other is_open no' first there same. never at key call other
-      (subst (λ q. IsOpen h at q key call) same is_open) no' (subst (λ q. (r : Reply) → Contains old (q, r) → ⊥) same first) (subst (λ q. Contains is.placed (q, other)) same there)))
-
-  -- a member that placed the operation
-  pub placed_it : (m : Member S) → IsTaken observes (with_event h event) event.process reply others m → (c : S × List (ℕ × Reply)) (placed : List (ℕ × Reply)) → IsAdded event.process reply c.1 placed
-      → Meets step observes h (m.state, m.placed) (IsOnOffer m) c.0 placed → (other : Reply) → Contains m.placed (event.process, other)
-      → (n : Member S) × Contains others n × LeadsToCover step observes (with_event h event) n c
-  placed_it m taken c placed added is other there =
-      let sorted = way_start step observes h (m.state, m.placed) (c.0, is.placed) is.way is.before in
-      let in_placed = is.part (event.process, other) (way_kept step observes h (m.state, m.placed) (c.0, is.placed) is.way (event.process, other) there) in
-      let same : other ≡ reply = rising_once placed event.process other reply added.rising in_placed added.has in
-      let out = taken_out event.process reply m.placed sorted (subst (λ r. Contains m.placed (event.process, r)) same there) in
-      let n = taken (without event.process m.placed) out in (
-        n.0,
-        n.1,
-        on_from m.state m.placed (without event.process m.placed) (IsOnOffer m) n.0 out.kept out.absent (was_of event.process reply (without event.process m.placed) m.placed out)
-            n.2 c placed added is (λ at key call r is_open no' absent last. absent other there),
-      )
-
-  -- what was held where the operation was placed
-  pub held_placed : (s : S) (old kept : List (ℕ × Reply)) (offers : ℕ × Reply → Type 0) (n : Member S) → IsAdded event.process reply kept old → DominatesAt observes (with_event h event) n s kept offers
-      → (c : S × List (ℕ × Reply)) (placed : List (ℕ × Reply)) → IsAdded event.process reply c.1 placed → Meets step observes h (s, old) offers c.0 placed → LeadsToCover step observes (with_event h event) n c
-  held_placed s old kept offers n out dominates c placed added is =
-      on_from s old kept offers n out.kept out.absent (was_of event.process reply kept old out) dominates c placed added is (λ at key call r is_open no' first last. first reply out.has)
-
   -- the rest of a way
   pub rest_of : (b : S × List (ℕ × Reply)) (offers : ℕ × Reply → Type 0) (s : S) (placed : List (ℕ × Reply)) (is : Meets step observes h b offers s placed)
       → (holds : (d : S × List (ℕ × Reply)) → Way step observes h b d → Type 0) (split : Split step observes h offers b (s, is.placed) is.way holds)
@@ -152,3 +107,61 @@ module _ {S : Type 0} (step : S → Call → S → Reply → Type 0) (observes :
       ]
     ];
   }
+
+-- what was there stays, or is of the process
+pub was_of : (process : ℕ) (reply : Reply) (kept old : List (ℕ × Reply)) → IsAdded process reply kept old → (x : ℕ × Reply) → Contains old x → Contains kept x ⊎ (x.0 ≡ process)
+was_of process reply kept old added x there = elim (added.was x there) [
+  | inl stays ↦ inl stays
+  | inr new ↦ inr (sym (ap (λ (y : ℕ × Reply). y.0) new))
+]
+
+module _ {S : Type 0} (step : S → Call → S → Reply → Type 0) (observes : Call → Bool) (functions : ℤ → Name → Bool) (h : List Event) (event : Event) (name : Name) (reply : Reply)
+    (body : event.body ≡ Ok name reply) (alternates : IsAlternating functions (with_event h event)) where
+  -- from a point where the operation's pair, if it is there, is taken out
+  pub on_by : (s : S) (old kept new : List (ℕ × Reply)) (offers offers' : ℕ × Reply → Type 0) → ((x : ℕ × Reply) → Contains kept x → Contains old x) → ((other : Reply) → Contains kept (event.process, other) → ⊥)
+      → ((x : ℕ × Reply) → Contains old x → Contains kept x ⊎ (x.0 ≡ event.process)) → DoesFor observes (with_event h event) new offers' kept offers
+      → (c : S × List (ℕ × Reply)) (placed : List (ℕ × Reply)) → IsAdded event.process reply c.1 placed → Meets step observes h (s, old) offers c.0 placed
+      → ((at : ℕ) (key : ℤ) (call : Call) → IsOpen h at event.process key call → observes call ≡ false → ((r : Reply) → Contains old (event.process, r) → ⊥) → ⊥)
+      → Meets step observes (with_event h event) (s, new) offers' c.0 c.1
+  on_by s old kept new offers offers' within absent leaves does c placed added is never =
+      meets_by step observes h (with_event h event) (λ q. q ≡ event.process) (passes_ok h event functions alternates observes name reply body)
+      s old kept new offers offers' within (λ x there same. absent x.1 (subst (λ q. Contains kept (q, x.1)) same there)) leaves does
+      c.0 placed c.1 added.before added.kept (λ x there same. added.absent x.1 (subst (λ q. Contains c.1 (q, x.1)) same there))
+      (was_of event.process reply c.1 placed added)
+      is (λ at p key call other is_open no' first there same. never at key call
+      (subst (λ q. IsOpen h at q key call) same is_open) no' (subst (λ q. (r : Reply) → Contains old (q, r) → ⊥) same first))
+
+module _ {S : Type 0} (step : S → Call → S → Reply → Type 0) (observes : Call → Bool) (functions : ℤ → Name → Bool) (h : List Event) (event : Event) (name : Name) (reply : Reply)
+    (body : event.body ≡ Ok name reply) (alternates : IsAlternating functions (with_event h event)) (others : List (Member S)) where
+  -- of a member that dominates the point
+  pub on_from : (s : S) (old kept : List (ℕ × Reply)) (offers : ℕ × Reply → Type 0) (n : Member S) → ((x : ℕ × Reply) → Contains kept x → Contains old x) → ((other : Reply) → Contains kept (event.process, other) → ⊥)
+      → ((x : ℕ × Reply) → Contains old x → Contains kept x ⊎ (x.0 ≡ event.process)) → DominatesAt observes (with_event h event) n s kept offers
+      → (c : S × List (ℕ × Reply)) (placed : List (ℕ × Reply)) → IsAdded event.process reply c.1 placed → Meets step observes h (s, old) offers c.0 placed
+      → ((at : ℕ) (key : ℤ) (call : Call) → IsOpen h at event.process key call → observes call ≡ false → ((r : Reply) → Contains old (event.process, r) → ⊥) → ⊥)
+      → LeadsToCover step observes (with_event h event) n c
+  on_from s old kept offers n within absent leaves dominates c placed added is never =
+      to_covers step observes (with_event h event) n c (subst (λ b. Meets step observes (with_event h event) (b, n.placed) (IsOnOffer n) c.0 c.1) (sym dominates.same)
+      (on_by step observes functions h event name reply body alternates s old kept n.placed offers (IsOnOffer n) within absent leaves
+      (record { sorted = dominates.sorted; part = dominates.part; rest = dominates.rest; offered = dominates.offered }) c placed added is never))
+
+  -- a member that placed the operation
+  pub placed_it : (m : Member S) → IsTaken observes (with_event h event) event.process reply others m → (c : S × List (ℕ × Reply)) (placed : List (ℕ × Reply)) → IsAdded event.process reply c.1 placed
+      → Meets step observes h (m.state, m.placed) (IsOnOffer m) c.0 placed → (other : Reply) → Contains m.placed (event.process, other)
+      → (n : Member S) × Contains others n × LeadsToCover step observes (with_event h event) n c
+  placed_it m taken c placed added is other there =
+      let sorted = way_start step observes h (m.state, m.placed) (c.0, is.placed) is.way is.before in
+      let in_placed = is.part (event.process, other) (way_kept step observes h (m.state, m.placed) (c.0, is.placed) is.way (event.process, other) there) in
+      let same : other ≡ reply = rising_once placed event.process other reply added.rising in_placed added.has in
+      let out = taken_out event.process reply m.placed sorted (subst (λ r. Contains m.placed (event.process, r)) same there) in
+      let n = taken (without event.process m.placed) out in (
+        n.0,
+        n.1,
+        on_from m.state m.placed (without event.process m.placed) (IsOnOffer m) n.0 out.kept out.absent (was_of event.process reply (without event.process m.placed) m.placed out)
+            n.2 c placed added is (λ at key call is_open no' absent. absent other there),
+      )
+
+  -- what was held where the operation was placed
+  pub held_placed : (s : S) (old kept : List (ℕ × Reply)) (offers : ℕ × Reply → Type 0) (n : Member S) → IsAdded event.process reply kept old → DominatesAt observes (with_event h event) n s kept offers
+      → (c : S × List (ℕ × Reply)) (placed : List (ℕ × Reply)) → IsAdded event.process reply c.1 placed → Meets step observes h (s, old) offers c.0 placed → LeadsToCover step observes (with_event h event) n c
+  held_placed s old kept offers n out dominates c placed added is =
+      on_from s old kept offers n out.kept out.absent (was_of event.process reply kept old out) dominates c placed added is (λ at key call is_open no' first. first reply out.has)

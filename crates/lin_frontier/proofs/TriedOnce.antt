@@ -1,11 +1,15 @@
 -- One operation tried at one configuration.
-use Rattle.std.proofs.Common.{◌≡◌, ℕ, List, length, Contains, inl, inr, refl, sym, subst}
+use Rattle.std.proofs.Common.{◌≡◌, ℕ, ◌+◌, List, [], ◌∷◌, ◌++◌, length, length-append, Contains, inl, inr, refl, sym, ap, subst, arith}
 use Rattle.lin_history.specs.declared.calls.Call.{Call}
 use Rattle.lin_history.specs.declared.calls.Reply.{Reply}
 use Rattle.lin_order.specs.declared.placed.Placed.{Placed}
 use Rattle.lin_frontier.specs.declared.pending.Open.{Open}
 use Rattle.lin_frontier.specs.Placing.{insert_pair, IsAbsent, PlacesOne, IsTried}
 use Rattle.lin_frontier.proofs.Trying.{IsTrying, trying_end}
+
+-- one more outcome, and one step less to turn into one
+pub counted_step : {A C : Type 0} (more rest : List A) (x : A) (now then' : List C) (y : C) (total : ℕ) → more ≡ rest ++ x ∷ [] → then' ≡ now ++ y ∷ [] → length now + length more ≡ total → length then' + length rest ≡ total
+counted_step more rest x now then' y total popped pushed counted = omega (arith, ap length popped, ap length pushed, length-append rest (x ∷ []), length-append now (y ∷ []), counted)
 
 module _ {S : Type 0} (step : S → Call → S → Reply → Type 0) (o : Open) (c : S × List (ℕ × Reply)) where
   pub tried_end : (old : List ((S × List (ℕ × Reply)) × Placed)) (rest : List (S × Reply)) (now : List ((S × List (ℕ × Reply)) × Placed))

@@ -5,10 +5,11 @@ use Rattle.std.proofs.lemmas.List.{drop_all, length-drop, length-take-le, take_a
 use Rattle.std.proofs.lemmas.List.Elements.{All-contains, Contains-get_or, Contains-push, Contains-push_cases, Contains-append_left, Contains-append_right, Contains-append_cases}
 use Rattle.lin_history.specs.declared.calls.Call.{Call}
 use Rattle.lin_history.specs.declared.calls.Reply.{Reply}
+use Rattle.lin_frontier.specs.declared.members.Path.{Path}
 use Rattle.lin_frontier.specs.declared.pending.Open.{Open}
 use Rattle.lin_frontier.specs.Members.{Member, IsOnOffer}
 use Rattle.lin_frontier.specs.Placing.{IsAbsent}
-use Rattle.lin_frontier.specs.Searching.{is_crashed, is_watching, is_observing, DominatesIn, IsPruned}
+use Rattle.lin_frontier.specs.Searching.{is_crashed, is_watching, is_observing, DominatesIn, IsAboveIn, IsPruned}
 
 second_false : (a b : Bool) → b ≡ true → (a && not b) ≡ true → ⊥
 second_false true true c h = true≢false (sym h)
@@ -49,6 +50,13 @@ module _ {S : Type 0} (observes : Call → Bool) (pending : List Open) where
             | inr crashed ↦ second_false (is_observing observes pending process) (is_crashed pending process) (subst (λ q. is_crashed pending q ≡ true) same crashed) watching
           ]
 
+  -- the same where the one must allow what was called as late
+  pub above_itself_in : (m : Member S × Path) → IsAboveIn observes pending m m
+  above_itself_in m = (above_itself m.0, omega arith)
+
+  pub above_above_in : (k m n : Member S × Path) → IsAboveIn observes pending k m → IsAboveIn observes pending m n → IsAboveIn observes pending k n
+  above_above_in k m n a b = (above_above k.0 m.0 n.0 a.0 b.0, omega (arith, a.1, b.1))
+
 -- a list without one of its elements has as many in front of it
 pub shorter : {A : Type 0} (xs now : List A) (at : ℕ) → at < length xs → now ≡ take at xs ++ drop (at + 1) xs → at ≤ length now
 shorter xs now at inside is =
@@ -71,35 +79,35 @@ all_pairs_cons R xs x pairs each zero (suc j) d below inside = each (get_or xs j
 all_pairs_cons R xs x pairs each (suc i) zero d below inside = absurd (omega arith)
 all_pairs_cons R xs x pairs each (suc i) (suc j) d below inside = pairs i j d (omega arith) (omega arith)
 
-module _ {S P : Type 0} (observes : Call → Bool) (pending : List Open) where
+module _ {S : Type 0} (observes : Call → Bool) (pending : List Open) where
   -- of the members, `rest` are still to be looked at
-  pub record IsPruning (members rest kept : List (Member S × P)) : Type 0 where
-    pub from_rest : (m : Member S × P) → Contains rest m → Contains members m
-    pub from_kept : (m : Member S × P) → Contains kept m → Contains members m
-    pub covered : (m : Member S × P) → Contains members m → (n : Member S × P) × (Contains rest n ⊎ Contains kept n) × IsAbove observes pending n.0 m.0
-    pub across : (m n : Member S × P) → Contains kept m → Contains rest n → IsAbove observes pending n.0 m.0 → ⊥
-    pub apart : AllPairs (λ m n. (IsAbove observes pending m.0 n.0 → ⊥) × (IsAbove observes pending n.0 m.0 → ⊥)) kept
+  pub record IsPruning (members rest kept : List (Member S × Path)) : Type 0 where
+    pub from_rest : (m : Member S × Path) → Contains rest m → Contains members m
+    pub from_kept : (m : Member S × Path) → Contains kept m → Contains members m
+    pub covered : (m : Member S × Path) → Contains members m → (n : Member S × Path) × (Contains rest n ⊎ Contains kept n) × IsAboveIn observes pending n m
+    pub across : (m n : Member S × Path) → Contains kept m → Contains rest n → IsAboveIn observes pending n m → ⊥
+    pub apart : AllPairs (λ m n. (IsAboveIn observes pending m n → ⊥) × (IsAboveIn observes pending n m → ⊥)) kept
 
-  pub pruning_start : (members kept : List (Member S × P)) → kept ≡ [] → IsPruning members members kept
+  pub pruning_start : (members kept : List (Member S × Path)) → kept ≡ [] → IsPruning members members kept
   pruning_start members kept none = record {
     from_rest = λ m there. there;
     from_kept = λ m there. absurd (nothing m there);
-    covered = λ m there. (m, inl there, above_itself observes pending m.0);
+    covered = λ m there. (m, inl there, above_itself_in observes pending m);
     across = λ m n there. absurd (nothing m there);
     apart = λ i j d below inside. absurd (let empty = ap length none in omega arith);
   }
     where
-      nothing : (m : Member S × P) → Contains kept m → ⊥
+      nothing : (m : Member S × Path) → Contains kept m → ⊥
       nothing m there = let there' = subst (λ l. Contains l m) none there in let inside = there'.1 in omega arith
 
-  module _ (members more rest kept : List (Member S × P)) (m : Member S × P) (popped : more ≡ rest ++ m ∷ []) (h : IsPruning members more kept) where
-    in_more : (n : Member S × P) → Contains rest n → Contains more n
+  module _ (members more rest kept : List (Member S × Path)) (m : Member S × Path) (popped : more ≡ rest ++ m ∷ []) (h : IsPruning members more kept) where
+    in_more : (n : Member S × Path) → Contains rest n → Contains more n
     in_more n there = subst (λ l. Contains l n) (sym popped) (Contains-append_left rest (m ∷ []) n there)
 
     this : Contains more m
     this = subst (λ l. Contains l m) (sym popped) (Contains-push rest m)
 
-    pub pruning_drop : (k : Member S × P) → Contains rest k ⊎ Contains kept k → IsAbove observes pending k.0 m.0 → IsPruning members rest kept
+    pub pruning_drop : (k : Member S × Path) → Contains rest k ⊎ Contains kept k → IsAboveIn observes pending k m → IsPruning members rest kept
     pruning_drop k there above = record {
       from_rest = λ n within. h.from_rest n (in_more n within);
       from_kept = h.from_kept;
@@ -108,17 +116,17 @@ module _ {S P : Type 0} (observes : Call → Bool) (pending : List Open) where
       apart = h.apart;
     }
       where
-        by : (n : Member S × P) → ((o : Member S × P) × (Contains more o ⊎ Contains kept o) × IsAbove observes pending o.0 n.0) → (o : Member S × P) × (Contains rest o ⊎ Contains kept o) × IsAbove observes pending o.0 n.0
+        by : (n : Member S × Path) → ((o : Member S × Path) × (Contains more o ⊎ Contains kept o) × IsAboveIn observes pending o n) → (o : Member S × Path) × (Contains rest o ⊎ Contains kept o) × IsAboveIn observes pending o n
         by n c = elim c.1 [
           | inl in_more' ↦ elim (Contains-push_cases rest m c.0 (subst (λ l. Contains l c.0) popped in_more')) [
             | inl in_rest ↦ (c.0, inl in_rest, c.2)
-            | inr same ↦ (k, there, above_above observes pending k.0 m.0 n.0 above (subst (λ o. IsAbove observes pending o.0 n.0) (sym same) c.2))
+            | inr same ↦ (k, there, above_above_in observes pending k m n above (subst (λ o. IsAboveIn observes pending o n) (sym same) c.2))
           ]
           | inr in_kept ↦ (c.0, inr in_kept, c.2)
         ]
 
-    pub pruning_keep : (now : List (Member S × P)) → now ≡ m ∷ kept
-        → ((k : Member S × P) → Contains rest k → IsAbove observes pending k.0 m.0 → ⊥) → ((k : Member S × P) → Contains kept k → IsAbove observes pending k.0 m.0 → ⊥) → IsPruning members rest now
+    pub pruning_keep : (now : List (Member S × Path)) → now ≡ m ∷ kept
+        → ((k : Member S × Path) → Contains rest k → IsAboveIn observes pending k m → ⊥) → ((k : Member S × Path) → Contains kept k → IsAboveIn observes pending k m → ⊥) → IsPruning members rest now
     pruning_keep now pushed below_rest below_kept = record {
       from_rest = λ n within. h.from_rest n (in_more n within);
       from_kept = λ n within. elim (cases n within) [
@@ -128,14 +136,14 @@ module _ {S P : Type 0} (observes : Call → Bool) (pending : List Open) where
       covered = λ n within. by n (h.covered n within);
       across = λ a b in_now in_rest. elim (cases a in_now) [
         | inl before ↦ h.across a b before (in_more b in_rest)
-        | inr same ↦ subst (λ o. IsAbove observes pending b.0 o.0 → ⊥) same (below_rest b in_rest)
+        | inr same ↦ subst (λ o. IsAboveIn observes pending b o → ⊥) same (below_rest b in_rest)
       ];
-      apart = subst (AllPairs (λ a b. (IsAbove observes pending a.0 b.0 → ⊥) × (IsAbove observes pending b.0 a.0 → ⊥))) (sym pushed)
-          (all_pairs_cons (λ (a : Member S × P) (b : Member S × P). (IsAbove observes pending a.0 b.0 → ⊥) × (IsAbove observes pending b.0 a.0 → ⊥)) kept m h.apart
+      apart = subst (AllPairs (λ a b. (IsAboveIn observes pending a b → ⊥) × (IsAboveIn observes pending b a → ⊥))) (sym pushed)
+          (all_pairs_cons (λ (a : Member S × Path) (b : Member S × Path). (IsAboveIn observes pending a b → ⊥) × (IsAboveIn observes pending b a → ⊥)) kept m h.apart
           (λ k there. (h.across k m there this, below_kept k there)));
     }
       where
-        cases : (n : Member S × P) → Contains now n → Contains kept n ⊎ (m ≡ n)
+        cases : (n : Member S × Path) → Contains now n → Contains kept n ⊎ (m ≡ n)
         cases n within = elim (Contains-append_cases (m ∷ []) kept n (subst (λ l. Contains l n) pushed within)) [
           | inl first ↦ elim (Contains-push_cases [] m n first) [
             | inl none ↦ absurd (let inside = none.1 in omega arith)
@@ -144,10 +152,10 @@ module _ {S P : Type 0} (observes : Call → Bool) (pending : List Open) where
           | inr before ↦ inl before
         ]
 
-        kept_still : (n : Member S × P) → Contains kept n → Contains now n
+        kept_still : (n : Member S × Path) → Contains kept n → Contains now n
         kept_still n within = subst (λ l. Contains l n) (sym pushed) (Contains-append_right (m ∷ []) kept n within)
 
-        by : (n : Member S × P) → ((o : Member S × P) × (Contains more o ⊎ Contains kept o) × IsAbove observes pending o.0 n.0) → (o : Member S × P) × (Contains rest o ⊎ Contains now o) × IsAbove observes pending o.0 n.0
+        by : (n : Member S × Path) → ((o : Member S × Path) × (Contains more o ⊎ Contains kept o) × IsAboveIn observes pending o n) → (o : Member S × Path) × (Contains rest o ⊎ Contains now o) × IsAboveIn observes pending o n
         by n c = elim c.1 [
           | inl in_more' ↦ elim (Contains-push_cases rest m c.0 (subst (λ l. Contains l c.0) popped in_more')) [
             | inl in_rest ↦ (c.0, inl in_rest, c.2)
@@ -156,7 +164,7 @@ module _ {S P : Type 0} (observes : Call → Bool) (pending : List Open) where
           | inr in_kept ↦ (c.0, inr (kept_still c.0 in_kept), c.2)
         ]
 
-  pub pruning_end : (members rest kept : List (Member S × P)) → length rest ≡ 0 → IsPruning members rest kept → IsPruned observes pending members kept
+  pub pruning_end : (members rest kept : List (Member S × Path)) → length rest ≡ 0 → IsPruning members rest kept → IsPruned observes pending members kept
   pruning_end members rest kept none h = record {
     from = h.from_kept;
     covered = λ m there. let c = h.covered m there in elim c.1 [
@@ -167,17 +175,17 @@ module _ {S P : Type 0} (observes : Call → Bool) (pending : List Open) where
   }
 
   -- the same for a list that is looked at from its end: what is left of it lies before a place, and what is kept behind that
-  abbrev pub IsPrunedFrom : List (Member S × P) → ℕ → List (Member S × P) → Type 0
+  abbrev pub IsPrunedFrom : List (Member S × Path) → ℕ → List (Member S × Path) → Type 0
   IsPrunedFrom members at now = IsPruning members (take at now) (drop at now)
 
-  pub from_end : (members : List (Member S × P)) → IsPrunedFrom members (length members) members
+  pub from_end : (members : List (Member S × Path)) → IsPrunedFrom members (length members) members
   from_end members = subst (λ l. IsPruning members l (drop (length members) members)) (sym (take_all (length members) members (omega arith))) (pruning_start members (drop (length members) members) (drop_all (length members) members (omega arith)))
 
-  module _ (members now : List (Member S × P)) (at : ℕ) (m : Member S × P) (inside : at < length now) (is : m ≡ get_or now at m) (h : IsPrunedFrom members (at + 1) now) where
+  module _ (members now : List (Member S × Path)) (at : ℕ) (m : Member S × Path) (inside : at < length now) (is : m ≡ get_or now at m) (h : IsPrunedFrom members (at + 1) now) where
     popped : take (at + 1) now ≡ take at now ++ m ∷ []
     popped = take_more now at m inside ∙ ap (λ k. take at now ++ k ∷ []) (sym is)
 
-    pub from_dropped : (k : Member S × P) → Contains (take at now) k ⊎ Contains (drop (at + 1) now) k → IsAbove observes pending k.0 m.0 → (then' : List (Member S × P)) → then' ≡ take at now ++ drop (at + 1) now
+    pub from_dropped : (k : Member S × Path) → Contains (take at now) k ⊎ Contains (drop (at + 1) now) k → IsAboveIn observes pending k m → (then' : List (Member S × Path)) → then' ≡ take at now ++ drop (at + 1) now
         → IsPrunedFrom members at then'
     from_dropped k there above then' removed =
         subst (λ l. IsPruning members l (drop at then')) (sym before) (subst (λ l. IsPruning members (take at now) l) (sym behind)
@@ -192,7 +200,7 @@ module _ {S P : Type 0} (observes : Call → Bool) (pending : List Open) where
         behind : drop at then' ≡ drop (at + 1) now
         behind = ap (drop at) removed ∙ ap (λ n. drop n (take at now ++ drop (at + 1) now)) (sym len) ∙ drop-append_seam (take at now) (drop (at + 1) now)
 
-    pub from_kept_too : ((k : Member S × P) → Contains (take at now) k → IsAbove observes pending k.0 m.0 → ⊥) → ((k : Member S × P) → Contains (drop (at + 1) now) k → IsAbove observes pending k.0 m.0 → ⊥)
+    pub from_kept_too : ((k : Member S × Path) → Contains (take at now) k → IsAboveIn observes pending k m → ⊥) → ((k : Member S × Path) → Contains (drop (at + 1) now) k → IsAboveIn observes pending k m → ⊥)
         → IsPrunedFrom members at now
     from_kept_too below_rest below_kept =
         pruning_keep members (take (at + 1) now) (take at now) (drop (at + 1) now) m popped h (drop at now)
@@ -201,5 +209,5 @@ module _ {S P : Type 0} (observes : Call → Bool) (pending : List Open) where
         next : suc at ≡ at + 1
         next = omega arith
 
-  pub from_start : (members now : List (Member S × P)) → IsPrunedFrom members 0 now → IsPruned observes pending members now
+  pub from_start : (members now : List (Member S × Path)) → IsPrunedFrom members 0 now → IsPruned observes pending members now
   from_start members now h = pruning_end members (take 0 now) now refl h

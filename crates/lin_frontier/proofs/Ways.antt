@@ -7,7 +7,7 @@ use Rattle.lin_history.specs.declared.events.Event.{Event}
 use Rattle.lin_history.specs.Operations.{IsOpen}
 use Rattle.lin_order.specs.Configurations.{IsRising}
 use Rattle.lin_frontier.specs.Covers.{Covers, HasCrashed}
-use Rattle.lin_frontier.specs.Members.{Member, Way, here, more, IsOnOffer, IsReady, LeadsToCover}
+use Rattle.lin_frontier.specs.Members.{Member, Meets, Way, here, more, IsOnOffer, IsReady, LeadsToCover}
 use Rattle.lin_frontier.proofs.Choosing.{Chosen, all_from, choose, stands}
 use Rattle.lin_frontier.proofs.Inserting.{rising_once}
 
@@ -21,15 +21,6 @@ module _ {S : Type 0} (crashed : ℕ → Type 0) (c d : S × List (ℕ × Reply)
 
   pub covers_rest : Covers crashed c d → (x : ℕ × Reply) → Contains d.1 x → Contains c.1 x ⊎ crashed x.0
   covers_rest is x there = All-contains (λ y. Contains c.1 y ⊎ crashed y.0) d.1 x is.rest there
-
--- from a state, placed operations and offers, some way comes to this state so that what is placed, ready or crashed is just this
-pub record Meets {S : Type 0} (step : S → Call → S → Reply → Type 0) (observes : Call → Bool) (h : List Event) (b : S × List (ℕ × Reply)) (offers : ℕ × Reply → Type 0) (s : S) (q : List (ℕ × Reply)) : Type 0 where
-  pub placed : List (ℕ × Reply)
-  pub way : Way step observes h b (s, placed)
-  pub before : IsRising placed
-  pub rising : IsRising q
-  pub part : (x : ℕ × Reply) → Contains placed x → Contains q x
-  pub each : (x : ℕ × Reply) → Contains q x → Contains placed x ⊎ (IsReady step observes h offers b (s, placed) way x ⊎ HasCrashed h x.0)
 
 module _ {S : Type 0} (step : S → Call → S → Reply → Type 0) (observes : Call → Bool) (h : List Event) where
   pub way_kept : (b c : S × List (ℕ × Reply)) → Way step observes h b c → (x : ℕ × Reply) → Contains b.1 x → Contains c.1 x

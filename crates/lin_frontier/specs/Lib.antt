@@ -14,6 +14,9 @@ pub mod Sharing
 pub mod MemberExamples
 pub mod Placing
 pub mod Searching
+pub mod Asking
 pub mod Settling
+pub mod Overwritten
+pub mod OverwrittenLaws
 pub mod Compressed
 pub mod Listed

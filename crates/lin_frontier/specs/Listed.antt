@@ -92,4 +92,4 @@ pub record IsListingOf {S : Type 0} (start : S) (step : S → Call → S → Rep
 -- a listing covers all configurations: each of its members leads to its own
 abbrev pub ListingCoversLaw : {S : Type 0} → S → (S → Call → S → Reply → Type 0) → Type 0
 ListingCoversLaw {S} start step = (observes : Call → Bool) (h : List Event) (members : List (Member S × Path)) (nodes : List (ℕ × (Placed × Option ℕ)))
-    → IsListingOf start step observes h members nodes → IsCovering start step observes h members nodes
+    → IsListingOf start step observes h members nodes → IsCovering start step observes false h members nodes

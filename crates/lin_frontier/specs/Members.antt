@@ -71,6 +71,15 @@ pub record Leads {S : Type 0} (step : S → Call → S → Reply → Type 0) (ob
   pub part : (x : ℕ × Reply) → Contains placed x → Contains c.1 x
   pub each : (x : ℕ × Reply) → Contains c.1 x → Contains placed x ⊎ IsReady step observes h (IsOnOffer m) (m.state, m.placed) (c.0, placed) way x
 
+-- from a state, placed operations and offers, some way comes to this state so that what is placed, ready or crashed is just this
+pub record Meets {S : Type 0} (step : S → Call → S → Reply → Type 0) (observes : Call → Bool) (h : List Event) (b : S × List (ℕ × Reply)) (offers : ℕ × Reply → Type 0) (s : S) (q : List (ℕ × Reply)) : Type 0 where
+  pub placed : List (ℕ × Reply)
+  pub way : Way step observes h b (s, placed)
+  pub before : IsRising placed
+  pub rising : IsRising q
+  pub part : (x : ℕ × Reply) → Contains placed x → Contains q x
+  pub each : (x : ℕ × Reply) → Contains q x → Contains placed x ⊎ (IsReady step observes h offers b (s, placed) way x ⊎ HasCrashed h x.0)
+
 -- the member leads to a configuration that covers this one
 abbrev pub LeadsToCover : {S : Type 0} → (S → Call → S → Reply → Type 0) → (Call → Bool) → List Event → Member S → S × List (ℕ × Reply) → Type 0
 LeadsToCover {S} step observes h m c = (b : S × List (ℕ × Reply)) × Leads step observes h m b × Covers (HasCrashed h) b c

@@ -1,6 +1,7 @@
 -- Rounds: the order by which a member is come to, as a list of lists. A round begins with a placed operation, the first one with nothing, and each
--- observer that returns with a reply that was on offer is put at the end of the round whose state gave it.
-use Rattle.std.specs.Prelude.{◌≡◌, ℕ, ℤ, zero, suc, ◌<◌, Bool, true, List, [], ◌∷◌, ◌++◌, length, Contains, Option, Some, None, slice_get}
+-- observer that returns with a reply that was on offer is put at the end of the round whose state gave it. An update that the last one overwrote
+-- becomes a round ahead of that.
+use Rattle.std.specs.Prelude.{◌≡◌, ℕ, ℤ, zero, suc, ◌<◌, cond, nat_lt, Bool, true, List, [], ◌∷◌, ◌++◌, length, Contains, Option, Some, None, slice_get}
 use Rattle.lin_history.specs.declared.calls.Call.{Call}
 use Rattle.lin_history.specs.declared.calls.Reply.{Reply}
 use Rattle.lin_history.specs.declared.events.Event.{Event}
@@ -22,16 +23,26 @@ put k p [] = []
 put zero p (round ∷ rounds) = (round ++ p ∷ []) ∷ rounds
 put (suc k) p (round ∷ rounds) = round ∷ put k p rounds
 
+-- with the operation as a round of its own ahead of the last one
+abbrev pub ahead : Placed → List (List Placed) → List (List Placed)
+ahead p [] = []
+ahead p (round ∷ []) = (p ∷ []) ∷ round ∷ []
+ahead p (round ∷ next ∷ rounds) = round ∷ ahead p (next ∷ rounds)
+
+-- with one more operation at the end of the round, or, where there is no such round, ahead of the last one
+abbrev pub place : ℕ → Placed → List (List Placed) → List (List Placed)
+place k p rounds = cond (nat_lt k (length rounds)) (put k p rounds) (ahead p rounds)
+
 -- with a new round that begins with the operation
 abbrev pub begin_round : Placed → List (List Placed) → List (List Placed)
 begin_round p rounds = rounds ++ (p ∷ []) ∷ []
 
--- nodes that share their beginnings: each has its parent, its operation, and the round into which it is put, or none if it begins one. Node 0
--- spells one empty round, and node k + 1 what its parent spells and its operation
+-- nodes that share their beginnings: each has its parent, its operation, and the round into which it is put, or none if it begins one behind all
+-- others. Node 0 spells one empty round, and node k + 1 what its parent spells and its operation
 pub data SpellsRounds (nodes : List (ℕ × (Placed × Option ℕ))) : ℕ → List (List Placed) → Type 0 where
   root : SpellsRounds nodes 0 ([] ∷ [])
   begins : {k parent : ℕ} {rounds : List (List Placed)} {p : Placed} → slice_get nodes k ≡ Some (parent, (p, None)) → SpellsRounds nodes parent rounds → SpellsRounds nodes (suc k) (begin_round p rounds)
-  puts : {k parent round : ℕ} {rounds : List (List Placed)} {p : Placed} → slice_get nodes k ≡ Some (parent, (p, Some round)) → SpellsRounds nodes parent rounds → SpellsRounds nodes (suc k) (put round p rounds)
+  puts : {k parent round : ℕ} {rounds : List (List Placed)} {p : Placed} → slice_get nodes k ≡ Some (parent, (p, Some round)) → SpellsRounds nodes parent rounds → SpellsRounds nodes (suc k) (place round p rounds)
 
 -- an object runs through the rounds to the last state, each round from the state of the one before to its own
 abbrev pub RunsBy : {S : Type 0} → (S → Call → S → Reply → Type 0) → List Event → S → List S → List (List Placed) → S → Type 0

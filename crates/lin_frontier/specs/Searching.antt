@@ -1,5 +1,5 @@
 -- Searching the ways of members for a reply: words of private contracts. The operations are those that are open beside the one that completes.
-use Rattle.std.specs.Prelude.{◌≡◌, ◌≢◌, ◌⊎◌, ◌&&◌, ℕ, zero, suc, ◌+◌, Bool, true, false, not, nat_eq, List, [], ◌∷◌, ◌++◌, All, AllPairs, Contains, IsTrue, Option, Some, None, slice_get, filter}
+use Rattle.std.specs.Prelude.{◌≡◌, ◌≢◌, ◌⊎◌, ◌&&◌, ℕ, zero, suc, ◌+◌, ◌≤◌, Bool, true, false, not, nat_eq, List, [], ◌∷◌, ◌++◌, All, AllPairs, Contains, IsTrue, Option, Some, None, slice_get, filter}
 use Rattle.std.specs.List.{list_any}
 use Rattle.lin_history.specs.declared.calls.Call.{Call}
 use Rattle.lin_history.specs.declared.calls.Name.{Name}
@@ -13,7 +13,7 @@ use Rattle.lin_frontier.specs.declared.members.Path.{Path}
 use Rattle.lin_frontier.specs.declared.pending.Open.{Open}
 use Rattle.lin_frontier.specs.Members.{Member, IsOnOffer}
 use Rattle.lin_frontier.specs.Placing.{IsAbsent, PlacesOne, insert_pair, without}
-use Rattle.lin_frontier.specs.Rounds.{begin_round, put}
+use Rattle.lin_frontier.specs.Rounds.{begin_round, place}
 
 -- an operation of the process has crashed
 abbrev pub is_crashed : List Open → ℕ → Bool
@@ -96,22 +96,26 @@ pub record IsMade {A B : Type 0} (P : A → Type 0) (make : A → B) (xs : List 
   pub sound : (y : B) → Contains ys y → (x : A) × Contains xs x × P x × (y ≡ make x)
   pub complete : (x : A) → Contains xs x → P x → Contains ys (make x)
 
--- of the members those that no other one dominates, or dominates as well
-pub record IsPruned {S P : Type 0} (observes : Call → Bool) (pending : List Open) (members kept : List (Member S × P)) : Type 0 where
-  pub from : (m : Member S × P) → Contains kept m → Contains members m
-  pub covered : (m : Member S × P) → Contains members m → (n : Member S × P) × Contains kept n × DominatesIn observes pending n.0 m.0.state m.0.placed m.0.offers
-  pub apart : AllPairs (λ m n. (DominatesIn observes pending m.0 n.0.state n.0.placed n.0.offers → ⊥) × (DominatesIn observes pending n.0 m.0.state m.0.placed m.0.offers → ⊥)) kept
+-- the one member dominates the other, and allows overwritten updates that were called as late
+abbrev pub IsAboveIn : {S : Type 0} → (Call → Bool) → List Open → Member S × Path → Member S × Path → Type 0
+IsAboveIn observes pending m n = DominatesIn observes pending m.0 n.0.state n.0.placed n.0.offers × (n.1.until ≤ m.1.until)
+
+-- of the members those that no other one is above, or is above as well
+pub record IsPruned {S : Type 0} (observes : Call → Bool) (pending : List Open) (members kept : List (Member S × Path)) : Type 0 where
+  pub from : (m : Member S × Path) → Contains kept m → Contains members m
+  pub covered : (m : Member S × Path) → Contains members m → (n : Member S × Path) × Contains kept n × IsAboveIn observes pending n m
+  pub apart : AllPairs (λ m n. (IsAboveIn observes pending m n → ⊥) × (IsAboveIn observes pending n m → ⊥)) kept
 
 -- what a number tells of a round: 0 none, and each other one the round before it
 abbrev pub round_at : ℕ → Option ℕ
 round_at zero = None
 round_at (suc round) = Some round
 
--- the rounds with each of the entries, first to last, put in its round, or behind all where it names none
+-- the rounds with each of the entries, first to last, placed in its round, or behind all where it names none
 abbrev pub in_rounds : List (List Placed) → List (Placed × Option ℕ) → List (List Placed)
 in_rounds rounds [] = rounds
 in_rounds rounds ((p, None) ∷ entries) = in_rounds (begin_round p rounds) entries
-in_rounds rounds ((p, Some round) ∷ entries) = in_rounds (put round p rounds) entries
+in_rounds rounds ((p, Some round) ∷ entries) = in_rounds (place round p rounds) entries
 
 -- the second member has on offer nothing but what the first has to processes that watch, and what the state of the first gives in its last round
 abbrev pub IsFromBehind : {S : Type 0} → (S → Call → S → Reply → Type 0) → (Call → Bool) → List Open → Member S × Path → Member S → Type 0

@@ -6,7 +6,7 @@ ghost use Rattle.lin_frontier.specs.declared.members.Path.{Path as PathOf};
 ghost use Rattle.lin_frontier.specs.Nodes.{IsGrown};
 ghost use Rattle.lin_frontier.specs.Placing.{IsTried};
 ghost use Rattle.lin_objects.specs.Commuting.{GoesFirst};
-ghost use Rattle.lin_frontier.specs.Searching.{AreBehind, AreUpdates, PlacesIfUpdate, CanTake, GoesAhead, IsVisiting, IsFinding, IsFoundFrom, IsDone, IsMadeAtOnce, IsPassed, IsSearchOf};
+ghost use Rattle.lin_frontier.specs.Searching.{AreBehind, AreUpdates, PlacesIfUpdate, CanTake, GoesAhead, IsVisiting, IsFinding, IsFoundFrom, IsDone, IsMadeAtOnce, IsOffering, IsPassed, IsSearchOf, GivesAny, watched};
 ghost use Rattle.lin_frontier.specs.Walks.{IsTriedAtMost};
 
 use crate::configs::Config;
@@ -66,7 +66,7 @@ pub fn push_if<S: Drop>(values: &mut Vec<S>, value: S, is_wanted: bool) -> Resul
 impl<'a, O: SeqObject> Completion<'a, O> {
     /// What is on offer behind the state of the member.
     #[inline(always)]
-    fn offers_behind(
+    pub(crate) fn offers_behind(
         &self,
         alloc: Global,
         member: &Member<O::State>,
@@ -96,6 +96,33 @@ impl<'a, O: SeqObject> Completion<'a, O> {
         ensures offered { IfOk result (AreBehind (O.step self.now.object.now) (O.observing self.now.object.now) self.now.pending.now member.now) }
         ensures tried { IsTriedAtMost (length self.now.pending.now) meter.old meter.new }
     {
+        self.offers_with(
+            alloc,
+            member,
+            member.config(),
+            self.pending,
+            steps,
+            meter,
+            pool,
+        )
+    }
+
+    /// What is on offer once these operations, of those that are open, may have seen the configuration from the member's last round.
+    #[inline(always)]
+    pub(crate) fn offers_with(
+        &self,
+        alloc: Global,
+        member: &Member<O::State>,
+        config: &Config<O::State>,
+        operations: &Pending,
+        steps: &mut Vec<(O::State, Reply)>,
+        meter: &mut Meter,
+        pool: &mut Pool,
+    ) -> Result<Offers, OutOfMemory>
+        ensures offered { IfOk result (IsOffering (GivesAny (O.step self.now.object.now) (O.observing self.now.object.now) operations.now config.now) member.now.1.round
+            (watched (O.observing self.now.object.now) self.now.pending.now member.now.0.offers)) }
+        ensures tried { IsTriedAtMost (length operations.now) meter.old meter.new }
+    {
         let mut shared = OfferList::emptied(alloc, &mut pool.offers)?;
         // It has one owner, so it can be written.
         let Some(list) = Rc::get_mut(&mut shared) else {
@@ -105,8 +132,8 @@ impl<'a, O: SeqObject> Completion<'a, O> {
         list.offer_all(
             self.object,
             alloc,
-            member.config(),
-            self.pending,
+            config,
+            operations,
             member.path().round as usize,
             steps,
             meter,
@@ -126,6 +153,7 @@ impl<'a, O: SeqObject> Completion<'a, O> {
         pool: &mut Pool,
     ) -> Result<(), OutOfMemory>
         ensures placed { OnOk result (IsTried (PlacesIfUpdate (O.step self.now.object.now) (O.observing self.now.object.now) operation.now config.now) out.old.items out.new.items) }
+        ensures few { OnOk result (O.overwriting self.now.object.now ≡ true → length out.new.items ≤ length out.old.items + 1) }
         ensures tried { IsTriedAtMost 1 meter.old meter.new }
     {
         if self.object.observes(&operation.call) {
@@ -146,7 +174,7 @@ impl<'a, O: SeqObject> Completion<'a, O> {
 
     /// Puts in `out`, which is written over, what placing one open update makes of the configuration. Crashed ones that have
     /// the same call are placed in the order of their invocations, since nothing that follows tells them apart.
-    fn updates(
+    pub(crate) fn updates(
         &self,
         alloc: Global,
         config: &Config<O::State>,
@@ -156,6 +184,7 @@ impl<'a, O: SeqObject> Completion<'a, O> {
         pool: &mut Pool,
     ) -> Result<(), OutOfMemory>
         ensures placed { OnOk result (AreUpdates (O.step self.now.object.now) (O.observing self.now.object.now) self.now.pending.now config.now out.new.items) }
+        ensures few { OnOk result (O.overwriting self.now.object.now ≡ true → length out.new.items ≤ length self.now.pending.now) }
         ensures tried { IsTriedAtMost (length self.now.pending.now) meter.old meter.new }
     {
         empty(out);
@@ -204,7 +233,7 @@ impl<'a, O: SeqObject> Completion<'a, O> {
     }
 
     /// Whether the operation can give the reply in this state.
-    fn gives(
+    pub(crate) fn gives(
         &self,
         alloc: Global,
         state: &O::State,
@@ -226,7 +255,7 @@ impl<'a, O: SeqObject> Completion<'a, O> {
     }
 
     /// A round in which the operation can take the reply, if there is one.
-    fn round_given(
+    pub(crate) fn round_given(
         &self,
         alloc: Global,
         member: &Member<O::State>,

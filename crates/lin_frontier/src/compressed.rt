@@ -1,5 +1,5 @@
 //! Compressed frontiers: few members that stand for all configurations of a history that has one object.
-ghost use Rattle.std.specs.Prelude.{◌≡◌, ◌⊎◌, ◌∷◌, ◌++◌, ◌+◌, ◌*◌, ◌<◌, ◌≤◌, [], ℕ, ℤ, Bool, List, length, map, Contains, IfOk, IfSome, IfNone, OnOk, OnErr, Some, slice_get, IsPermutation};
+ghost use Rattle.std.specs.Prelude.{◌≡◌, ◌⊎◌, ◌∷◌, ◌++◌, ◌+◌, ◌*◌, ◌<◌, ◌≤◌, [], ℕ, ℤ, true, false, Bool, List, length, map, Contains, IfOk, IfSome, IfNone, OnOk, OnErr, Some, slice_get, IsPermutation};
 ghost use Rattle.lin_history.specs.declared.calls.Name.{Name as NameOf};
 ghost use Rattle.lin_history.specs.declared.calls.Reply.{Reply as ReplyOf};
 ghost use Rattle.lin_history.specs.declared.events.Body.{Body as BodyOf};
@@ -8,12 +8,14 @@ ghost use Rattle.lin_history.specs.Meters.{ticked};
 ghost use Rattle.lin_order.specs.ConfigurationLaws.{with_event};
 ghost use Rattle.lin_order.specs.Linearizable.{IsLinearizableBy};
 ghost use Rattle.lin_frontier.specs.declared.members.Path.{Path as PathOf};
+ghost use Rattle.lin_frontier.specs.Asking.{alone_of, AreAlone, AreFoundWith, IsCompletedWith, IsNextWith, IsReturnWith};
 ghost use Rattle.lin_frontier.specs.Compressed.{IsCompressed, IsCovering};
 ghost use Rattle.lin_frontier.specs.Frontiers.{IsNextEvent, IsPending};
 ghost use Rattle.lin_frontier.specs.Members.{Member as MemberOf};
 ghost use Rattle.lin_frontier.specs.Nodes.{IsGrown};
 ghost use Rattle.lin_frontier.specs.Placing.{IsAbsent};
-ghost use Rattle.lin_frontier.specs.Searching.{copy_of, rest_of, CompletesOpen, IsMade, IsMadeOne, IsNextOf, IsReturnOf};
+ghost use Rattle.lin_frontier.specs.Searching.{copy_of, rest_of, CompletesOpen, IsMade, IsMadeOne, IsNextOf, IsPruned, IsReturnOf};
+ghost use Rattle.lin_frontier.specs.Settling.{IsThinned};
 ghost use Rattle.lin_frontier.specs.Walks.{IsTriedAtMost};
 
 use crate::completions::{Completion, push_if, push_member};
@@ -23,6 +25,11 @@ use crate::member_laws::{
 };
 use crate::members::{Member, copied, taken_out};
 use crate::nodes::NodeId;
+use crate::overwritten_laws::{
+    overwritten_after_events, overwritten_after_observer, overwritten_after_update,
+    overwritten_can_go, rounds_allow_overwritten, rounds_go_ahead,
+};
+use crate::parts::pruned_many;
 use crate::pending::{Open, Pending, append_operations, open_of, take_in};
 use crate::round_laws::{
     members_are_exact, rounds_after_events, rounds_spell_members, rounds_take_operations,
@@ -229,6 +236,97 @@ fn after_ok<O: SeqObject>(
     Ok(Some(found))
 }
 
+/// Puts in `found` what the completion makes of the members in which its operation has no place.
+fn return_all<O: SeqObject>(
+    completion: &Completion<O>,
+    alloc: Global,
+    members: &[Member<O::State>],
+    now: u32,
+    found: &mut Vec<Member<O::State>>,
+    nodes: &mut RoundNodes,
+    meter: &mut Meter,
+    scratch: &mut Scratch<O>,
+) -> Result<(), OutOfMemory>
+    requires overwriting { O.overwriting completion.now.object.now ≡ true }
+    requires empty { found.old.items ≡ [] }
+    ensures grown { IsGrown nodes.old nodes.new }
+    ensures sound { OnOk result ((n : MemberOf O.State × PathOf) → Contains found.new.items n → (m : MemberOf O.State × PathOf) × Contains members.now m × IsAbsent completion.now.operation.now.process m.0.placed
+        × IsCompletedWith (O.step completion.now.object.now) (O.observing completion.now.object.now) completion.now.operation.now completion.now.reply.now completion.now.pending.now nodes.new now m n) }
+    ensures all { OnOk result ((m : MemberOf O.State × PathOf) → Contains members.now m → IsAbsent completion.now.operation.now.process m.0.placed
+        → AreFoundWith (O.step completion.now.object.now) (O.observing completion.now.object.now) completion.now.operation.now completion.now.reply.now completion.now.pending.now nodes.new now m found.new.items) }
+    ensures tried { IsTriedAtMost (length members.now * (2 * ((length completion.now.pending.now + 1) * (length completion.now.pending.now + 1)))) meter.old meter.new }
+{
+    for member in members {
+        if is_absent(member.placed(), completion.operation.process) {
+            completion.return_from(alloc, member, now, found, nodes, meter, scratch)?;
+        }
+    }
+    Ok(())
+}
+
+/// The members after the operation of an object that is overwritten completed with the reply, at the position `now`.
+fn after_overwriting_ok<O: SeqObject>(
+    completion: &Completion<O>,
+    alloc: Global,
+    members: &[Member<O::State>],
+    now: usize,
+    nodes: &mut RoundNodes,
+    meter: &mut Meter,
+    scratch: &mut Scratch<O>,
+) -> Result<Vec<Member<O::State>>, OutOfMemory>
+    requires { O.overwriting completion.now.object.now ≡ true }
+    ensures grown { IsGrown nodes.old nodes.new }
+    ensures returned { IfOk result (λ out. IsReturnWith (O.step completion.now.object.now) (O.observing completion.now.object.now) completion.now.operation.now completion.now.reply.now completion.now.pending.now nodes.new now members.now out.items) }
+    ensures tried { IsTriedAtMost (length members.now * (2 * ((length completion.now.pending.now + 1) * (length completion.now.pending.now + 1)))) meter.old meter.new }
+{
+    let Ok(at) = u32::try_from(now) else {
+        return Err(OutOfMemory);
+    };
+    let mut found = scratch.found(members.len().saturating_add(3))?;
+    return_all(
+        completion, alloc, members, at, &mut found, nodes, meter, scratch,
+    )?;
+    push_all_taken_out(
+        completion.object,
+        alloc,
+        completion.pending,
+        members,
+        completion.operation.process,
+        completion.reply,
+        &mut found,
+        &mut scratch.pool,
+    )?;
+    Ok(found)
+}
+
+/// The members, for which no update is early enough to be overwritten.
+pub(crate) fn alone_all<S: Eq + Hash + Drop>(members: Vec<Member<S>>) -> Vec<Member<S>>
+    ensures { result.items ≡ map alone_of members.items }
+{
+    let mut out = members;
+    for member in out.iter_mut() {
+        member.stand_alone();
+    }
+    out
+}
+
+/// The members of those that were found that are kept: one stands for all that are alike where none has overwritten updates.
+fn kept<O: SeqObject>(
+    object: &O,
+    alloc: Global,
+    pending: &Pending,
+    found: Vec<Member<O::State>>,
+    alone: bool,
+) -> Result<Vec<Member<O::State>>, OutOfMemory>
+    ensures alone { IfOk result (λ out. alone ≡ true → IsThinned (O.observing object.now) pending.now (map alone_of found.items) out.items) }
+    ensures others { IfOk result (λ out. alone ≡ false → IsPruned (O.observing object.now) pending.now found.items out.items) }
+{
+    if alone {
+        return thinned(object, alloc, pending, alone_all(found));
+    }
+    pruned_many(object, alloc, pending, found)
+}
+
 /// The members after the event, or `None` where a search comes to more than the limit. The operations that are pending
 /// are those that are open after it.
 fn next_members<O: SeqObject>(
@@ -237,16 +335,22 @@ fn next_members<O: SeqObject>(
     members: &[Member<O::State>],
     before: &[Open],
     pending: &Pending,
+    at: usize,
     event: &Event,
+    alone: bool,
     limit: usize,
     nodes: &mut RoundNodes,
     meter: &mut Meter,
     scratch: &mut Scratch<O>,
 ) -> Result<Option<Vec<Member<O::State>>>, OutOfMemory>
+    requires { alone ≡ false → O.overwriting object.now ≡ true }
     ensures grown { IsGrown nodes.old nodes.new }
-    ensures next { IfOk result (λ found. IfSome found (λ out. CompletesOpen event.now before.now → IsNextOf (O.step object.now) (O.observing object.now) event.now.process event.now.body before.now pending.now nodes.new members.now out.items)) }
-    ensures oks { IfOk result (λ found. IfNone found ((name : NameOf) × (reply : ReplyOf) × (event.now.body ≡ BodyOf.Ok name reply))) }
-    ensures tried { IsTriedAtMost (limit * (2 * length pending.now + 1)) meter.old meter.new }
+    ensures alone { IfOk result (λ found. IfSome found (λ out. alone ≡ true → CompletesOpen event.now before.now
+        → IsNextOf (O.step object.now) (O.observing object.now) event.now.process event.now.body before.now pending.now nodes.new members.now out.items)) }
+    ensures next { IfOk result (λ found. IfSome found (λ out. alone ≡ false → CompletesOpen event.now before.now
+        → IsNextWith (O.step object.now) (O.observing object.now) event.now.process event.now.body before.now pending.now nodes.new at members.now out.items)) }
+    ensures oks { IfOk result (λ found. IfNone found ((alone ≡ true) × (name : NameOf) × (reply : ReplyOf) × (event.now.body ≡ BodyOf.Ok name reply))) }
+    ensures tried { IsTriedAtMost (limit * (2 * length pending.now + 1) + length members.now * (2 * ((length pending.now + 1) * (length pending.now + 1)))) meter.old meter.new }
 {
     match &event.body {
         Body::Invoke(_) => Ok(Some(all_copied(
@@ -275,7 +379,19 @@ fn next_members<O: SeqObject>(
                 reply,
                 pending,
             };
-            after_ok(&completion, alloc, members, limit, nodes, meter, scratch)
+            if alone {
+                return after_ok(&completion, alloc, members, limit, nodes, meter, scratch);
+            }
+            let found = after_overwriting_ok(
+                &completion,
+                alloc,
+                members,
+                at,
+                nodes,
+                meter,
+                scratch,
+            )?;
+            Ok(Some(found))
         }
     }
 }
@@ -297,7 +413,7 @@ pub(crate) fn open_after(
     Ok(after)
 }
 
-/// The members after the event, none of which another one dominates; `None` where a search comes to more than the limit.
+/// The members after the event, none of which another one is above; `None` where a search comes to more than the limit.
 fn advanced<O: SeqObject>(
     object: &O,
     alloc: Global,
@@ -305,17 +421,20 @@ fn advanced<O: SeqObject>(
     before: &[Open],
     at: usize,
     event: &Event,
+    alone: bool,
     limit: usize,
     nodes: &mut RoundNodes,
     meter: &mut Meter,
     scratch: &mut Scratch<O>,
 ) -> Result<Option<Vec<Member<O::State>>>, OutOfMemory>
+    requires fits { alone ≡ true → AreAlone (O.overwriting object.now) members.now }
+    requires goes { alone ≡ false → O.overwriting object.now ≡ true }
     ensures grown { IsGrown nodes.old nodes.new }
     ensures next { IfOk result (λ found. IfSome found (λ out. (functions : ℤ → NameOf → Bool) (h : List EventOf) → IsNextEvent functions h before.now at event.now
-        → IsCovering (O.starts object.now) (O.step object.now) (O.observing object.now) h members.now nodes.old
-        → IsCompressed (O.starts object.now) (O.step object.now) (O.observing object.now) (with_event h event.now) out.items nodes.new)) }
-    ensures oks { IfOk result (λ found. IfNone found ((name : NameOf) × (reply : ReplyOf) × (event.now.body ≡ BodyOf.Ok name reply))) }
-    ensures tried { IsTriedAtMost (limit * (2 * length before.now + 3)) meter.old meter.new }
+        → IsCovering (O.starts object.now) (O.step object.now) (O.observing object.now) (O.overwriting object.now) h members.now nodes.old
+        → IsCompressed (O.starts object.now) (O.step object.now) (O.observing object.now) (O.overwriting object.now) (with_event h event.now) out.items nodes.new)) }
+    ensures oks { IfOk result (λ found. IfNone found ((alone ≡ true) × (name : NameOf) × (reply : ReplyOf) × (event.now.body ≡ BodyOf.Ok name reply))) }
+    ensures tried { IsTriedAtMost (limit * (2 * length before.now + 3) + length members.now * (2 * ((length before.now + 2) * (length before.now + 2)))) meter.old meter.new }
 {
     well_formed_is_alternating();
     ends_are_unique();
@@ -325,15 +444,21 @@ fn advanced<O: SeqObject>(
     rounds_spell_members(object);
     rounds_take_operations(object);
     rounds_after_events(object);
+    overwritten_can_go(object);
+    overwritten_after_events(object);
+    overwritten_after_update(object);
+    overwritten_after_observer(object);
+    rounds_go_ahead(object);
+    rounds_allow_overwritten::<O>();
     let after = open_after(scratch.open(), before, at, event)?;
     let pending = Pending::of(&after);
     let Some(found) = next_members(
-        object, alloc, members, before, &pending, event, limit, nodes, meter, scratch,
+        object, alloc, members, before, &pending, at, event, alone, limit, nodes, meter, scratch,
     )?
     else {
         return Ok(None);
     };
-    let kept = thinned(object, alloc, &pending, found)?;
+    let kept = kept(object, alloc, &pending, found, alone)?;
     scratch.keep_open(after);
     Ok(Some(kept))
 }
@@ -369,9 +494,10 @@ impl<O: SeqObject> Compressed<O> {
         nodes: &RoundNodes,
     ) -> Result<Compressed<O>, OutOfMemory>
         ensures one { IfOk result (λ frontier. length frontier ≡ 1) }
-        ensures exact { IfOk result (λ frontier. IsCompressed (O.starts object.now) (O.step object.now) (O.observing object.now) [] frontier nodes.now) }
+        ensures exact { IfOk result (λ frontier. IsCompressed (O.starts object.now) (O.step object.now) (O.observing object.now) (O.overwriting object.now) [] frontier nodes.now) }
     {
         start_is_complete(object);
+        overwritten_can_go(object);
         rounds_spell_members(object);
         let _ = nodes.len();
         let mut members = Vec::new(alloc);
@@ -387,28 +513,31 @@ impl<O: SeqObject> Compressed<O> {
         pending: &[Open],
         at: usize,
         event: &Event,
+        alone: bool,
         limit: usize,
         nodes: &mut RoundNodes,
         meter: &mut Meter,
         scratch: &mut Scratch<O>,
     ) -> Result<Found<O>, OutOfMemory>
+        requires fits { alone ≡ true → AreAlone (O.overwriting object.now) self.now }
+        requires goes { alone ≡ false → O.overwriting object.now ≡ true }
         // Where the frontier is one of a history, with these operations open, the answer speaks of that history with the event behind
         // it, which has to be well-formed.
         ensures next { IfOk result (λ step. (next : List (MemberOf O.State × PathOf)) → step ≡ Found.Next next → (functions : ℤ → NameOf → Bool) (h : List EventOf)
-            → IsNextEvent functions h pending.now at event.now → IsCompressed (O.starts object.now) (O.step object.now) (O.observing object.now) h self.now nodes.old
-            → IsCompressed (O.starts object.now) (O.step object.now) (O.observing object.now) (with_event h event.now) next nodes.new) }
+            → IsNextEvent functions h pending.now at event.now → IsCompressed (O.starts object.now) (O.step object.now) (O.observing object.now) (O.overwriting object.now) h self.now nodes.old
+            → IsCompressed (O.starts object.now) (O.step object.now) (O.observing object.now) (O.overwriting object.now) (with_event h event.now) next nodes.new) }
         ensures some { IfOk result (λ step. (next : List (MemberOf O.State × PathOf)) → step ≡ Found.Next next → 0 < length next) }
         ensures empty { IfOk result (λ step. step ≡ Found.Empty → (functions : ℤ → NameOf → Bool) (h : List EventOf)
-            → IsNextEvent functions h pending.now at event.now → IsCompressed (O.starts object.now) (O.step object.now) (O.observing object.now) h self.now nodes.old
+            → IsNextEvent functions h pending.now at event.now → IsCompressed (O.starts object.now) (O.step object.now) (O.observing object.now) (O.overwriting object.now) h self.now nodes.old
             → IsLinearizableBy (O.starts object.now) (O.step object.now) (with_event h event.now) → ⊥) }
         // Only an ok is searched for.
-        ensures oks { IfOk result (λ step. step ≡ Found.TooMany → (name : NameOf) × (reply : ReplyOf) × (event.now.body ≡ BodyOf.Ok name reply)) }
+        ensures oks { IfOk result (λ step. step ≡ Found.TooMany → (alone ≡ true) × (name : NameOf) × (reply : ReplyOf) × (event.now.body ≡ BodyOf.Ok name reply)) }
         // Nodes are only added; and none is where there is no next frontier.
         ensures grown { IsGrown nodes.old nodes.new }
         ensures kept { IfOk result (λ step. (step ≡ Found.Empty) ⊎ (step ≡ Found.TooMany) → nodes.new ≡ nodes.old) }
         ensures refused { OnErr result (nodes.new ≡ nodes.old) }
         ensures steps { meter.new.steps ≡ ticked meter.old.steps 1 }
-        ensures tries { meter.new.tries ≤ meter.old.tries + limit * (2 * length pending.now + 3) }
+        ensures tries { meter.new.tries ≤ meter.old.tries + (limit * (2 * length pending.now + 3) + length self.now * (2 * ((length pending.now + 2) * (length pending.now + 2)))) }
         ensures scans { meter.new.scans ≡ meter.old.scans }
     {
         legal_orders_end(object);
@@ -422,6 +551,7 @@ impl<O: SeqObject> Compressed<O> {
             pending,
             at,
             event,
+            alone,
             limit,
             nodes,
             meter,

@@ -4,7 +4,7 @@ ghost use Rattle.lin_history.specs.declared.calls.Reply.{Reply as ReplyOf};
 ghost use Rattle.lin_frontier.specs.Members.{Member as MemberOf, IsOnOffer};
 ghost use Rattle.lin_frontier.specs.declared.members.Path.{Path as PathOf};
 ghost use Rattle.lin_frontier.specs.Placing.{IsAbsent};
-ghost use Rattle.lin_frontier.specs.Searching.{is_crashed as is_crashed_in, is_watching as is_watching_in, CoversIn, DominatesIn, IsPruned};
+ghost use Rattle.lin_frontier.specs.Searching.{is_crashed as is_crashed_in, is_watching as is_watching_in, CoversIn, DominatesIn, IsAboveIn, IsPruned};
 
 use crate::configs::{Config, is_absent, is_placed};
 use crate::members::Member;
@@ -202,25 +202,38 @@ pub fn dominates<O: SeqObject>(
         && covers_with_offers(object, pending, member, config, offers)
 }
 
-/// Whether one of the members dominates.
-fn is_dominated<O: SeqObject>(
+/// Whether the member dominates the other, and allows overwritten updates that were called as late.
+#[inline(always)]
+fn is_above<O: SeqObject>(
+    object: &O,
+    pending: &Pending,
+    member: &Member<O::State>,
+    other: &Member<O::State>,
+) -> bool
+    ensures { IsTrue result ↔ IsAboveIn (O.observing object.now) pending.now member.now other.now }
+{
+    other.path().until <= member.path().until
+        && dominates(object, pending, member, other.config(), other.offers())
+}
+
+/// Whether one of the members is above the other.
+fn is_one_above<O: SeqObject>(
     object: &O,
     pending: &Pending,
     members: &[Member<O::State>],
-    config: &Config<O::State>,
-    offers: &Offers,
+    other: &Member<O::State>,
 ) -> bool
-    ensures { IsTrue result ↔ ((m : MemberOf O.State × PathOf) × Contains members.now m × DominatesIn (O.observing object.now) pending.now m.0 config.now.0 config.now.1 offers.now) }
+    ensures { IsTrue result ↔ ((m : MemberOf O.State × PathOf) × Contains members.now m × IsAboveIn (O.observing object.now) pending.now m other.now) }
 {
     for member in members {
-        if dominates(object, pending, member, config, offers) {
+        if is_above(object, pending, member, other) {
             return true;
         }
     }
     false
 }
 
-/// Whether one of the others dominates the member.
+/// Whether one of the others is above the member.
 fn is_below<O: SeqObject>(
     object: &O,
     pending: &Pending,
@@ -228,12 +241,12 @@ fn is_below<O: SeqObject>(
     kept: &[Member<O::State>],
     member: &Member<O::State>,
 ) -> bool
-    ensures { IsTrue result ↔ ((m : MemberOf O.State × PathOf) × (Contains rest.now m ⊎ Contains kept.now m) × DominatesIn (O.observing object.now) pending.now m.0 member.now.0.state member.now.0.placed member.now.0.offers) }
+    ensures { IsTrue result ↔ ((m : MemberOf O.State × PathOf) × (Contains rest.now m ⊎ Contains kept.now m) × IsAboveIn (O.observing object.now) pending.now m member.now) }
 {
-    if is_dominated(object, pending, rest, member.config(), member.offers()) {
+    if is_one_above(object, pending, rest, member) {
         return true;
     }
-    is_dominated(object, pending, kept, member.config(), member.offers())
+    is_one_above(object, pending, kept, member)
 }
 
 /// Takes the member at the place out.
@@ -256,7 +269,7 @@ fn put_fewest_first<S: Eq + Hash + Drop>(members: &mut Vec<Member<S>>)
     }
 }
 
-/// The members of which no other one dominates any, with each compared first to those that stand first.
+/// The members of which no other one is above any, with each compared first to those that stand first.
 fn pruned_in_order<O: SeqObject>(
     object: &O,
     pending: &Pending,
@@ -282,7 +295,7 @@ fn pruned_in_order<O: SeqObject>(
     kept
 }
 
-/// The members of which no other one dominates any.
+/// The members of which no other one is above any.
 pub fn pruned<O: SeqObject>(
     object: &O,
     pending: &Pending,

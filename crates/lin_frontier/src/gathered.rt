@@ -9,14 +9,27 @@ use crate::configs::Config;
 use crate::domination::covers;
 use crate::keeping::copy_config;
 use crate::members::Member;
-use crate::parts::key;
 use crate::pending::Pending;
 use crate::places::Places;
 use indexmap::IndexMap;
 use lin_history::OutOfMemory;
 use lin_objects::SeqObject;
 use std::alloc::Global;
+use std::hash::{FoldHasher, Hash, Hasher};
 use std::marker::Model;
+
+/// A number that is the same for configurations of which one covers the other, and seldom for others: a hash of the state, and of what
+/// is placed with its replies, but for crashed operations.
+fn place_key<S: Eq + Hash>(pending: &Pending, config: &Config<S>) -> u64 {
+    let mut hasher = FoldHasher::default();
+    config.state().hash(&mut hasher);
+    for pair in config.placed() {
+        if !pending.is_crashed(pair.0) {
+            pair.hash(&mut hasher);
+        }
+    }
+    hasher.finish()
+}
 
 /// Members of different configurations, in the order in which they were found.
 #[derive(Drop)]
@@ -117,7 +130,7 @@ impl<O: SeqObject> Gathered<O> {
     fn is_covered(&self, pending: &Pending, config: &Config<O::State>) -> bool
         ensures { IsTrue result → (observes : CallOf → Bool) → IsHeld observes pending.now self.now config.now }
     {
-        match self.places.of(key(pending, config)) {
+        match self.places.of(place_key(pending, config)) {
             Some(places) => self.one_covers(pending, places, config),
             None => false,
         }
@@ -143,7 +156,7 @@ impl<O: SeqObject> Gathered<O> {
         ensures { OnOk result (self.new ≡ self.old ++ member ∷ []) }
     {
         let config = copy_config(object, alloc, member.config())?;
-        let place = key(pending, member.config());
+        let place = place_key(pending, member.config());
         match self.members.push(member) {
             Ok(()) => {}
             Err(_) => return Err(OutOfMemory),

@@ -1,6 +1,7 @@
 //! Frontiers of one object: all configurations in which the legal orders of a history end, kept up to date event by event.
 #![tactic(auto)]
 
+mod asking;
 mod completions;
 mod compressed;
 mod configs;
@@ -16,6 +17,7 @@ mod member_laws;
 mod members;
 mod nodes;
 mod offers;
+mod overwritten_laws;
 mod pairs;
 mod parts;
 mod pending;

@@ -1,11 +1,13 @@
 //! All configurations that members lead to, each as a member of its own with nothing on offer.
-ghost use Rattle.std.specs.Prelude.{◌≡◌, ◌≤◌, ◌*◌, ◌∷◌, [], ℤ, length, false, All, Bool, List, IfOk, IfSome, IfNone, OnOk};
+ghost use Rattle.std.specs.Prelude.{◌≡◌, ◌≤◌, ◌*◌, ◌∷◌, [], ℤ, length, false, All, Bool, Contains, List, IfOk, IfSome, IfNone, OnOk};
 ghost use Rattle.lin_history.specs.declared.calls.Name.{Name as NameOf};
 ghost use Rattle.lin_history.specs.declared.events.Event.{Event as EventOf};
 ghost use Rattle.lin_history.specs.WellFormed.{IsWellFormed};
+ghost use Rattle.lin_frontier.specs.declared.members.Path.{Path as PathOf};
 ghost use Rattle.lin_frontier.specs.Compressed.{IsCovering, IsSpelled};
 ghost use Rattle.lin_frontier.specs.Frontiers.{IsOver, IsPending};
 ghost use Rattle.lin_frontier.specs.Listed.{with_offers, AreDifferent, AreWorkedOff, IsExtended, IsListingOf, IsMerged, ListingCoversLaw};
+ghost use Rattle.lin_frontier.specs.Members.{Member as MemberOf};
 ghost use Rattle.lin_frontier.specs.Nodes.{IsGrown};
 ghost use Rattle.lin_frontier.specs.Walks.{IsTriedAtMost};
 
@@ -83,13 +85,13 @@ pub fn listed<O: SeqObject>(
 ) -> Result<Option<Gathered<O>>, OutOfMemory>
     ensures grown { IsGrown nodes.old nodes.new }
     ensures listing { IfOk result (λ found. IfSome found (λ out. (functions : ℤ → NameOf → Bool) (h : List EventOf) → IsWellFormed functions h → IsPending h pending.now
-        → IsCovering (O.starts object.now) (O.step object.now) (O.observing object.now) h members.now nodes.old
+        → IsCovering (O.starts object.now) (O.step object.now) (O.observing object.now) false h members.now nodes.old
         → IsListingOf (O.starts object.now) (O.step object.now) (O.observing object.now) h out nodes.new)) }
     ensures bare { IfOk result (λ found. IfSome found (λ out. All (λ m. m.0.offers ≡ []) out)) }
     ensures different { IfOk result (λ found. IfSome found (λ out. AreDifferent out)) }
     ensures small { IfOk result (λ found. IfSome found (λ out. length out ≤ budget)) }
     ensures over { IfOk result (λ found. IfNone found ((functions : ℤ → NameOf → Bool) (h : List EventOf) → IsWellFormed functions h → IsPending h pending.now
-        → IsCovering (O.starts object.now) (O.step object.now) (O.observing object.now) h members.now nodes.old
+        → ((m : MemberOf O.State × PathOf) → Contains members.now m → IsSpelled (O.starts object.now) (O.step object.now) (O.observing object.now) h nodes.old m)
         → IsOver (O.starts object.now) (O.step object.now) h budget)) }
     ensures tried { IsTriedAtMost (budget * length pending.now) meter.old meter.new }
 {

@@ -5,7 +5,8 @@ ghost use Rattle.lin_frontier.specs.Listed.{member_at, with_offers, Continues};
 ghost use Rattle.lin_frontier.specs.MemberLaws.{first_member};
 ghost use Rattle.lin_frontier.specs.Nodes.{IsGrown};
 ghost use Rattle.lin_frontier.specs.Placing.{without as without_process};
-ghost use Rattle.lin_frontier.specs.Searching.{IsNodeOf, watched};
+ghost use Rattle.lin_frontier.specs.Asking.{alone_of, IsAheadOf};
+ghost use Rattle.lin_frontier.specs.Searching.{BeginsRound, IsNodeOf, watched};
 
 use crate::configs::Config;
 use crate::offers::Offers;
@@ -35,6 +36,9 @@ pub struct Member<S: Eq + Hash> {
 pub struct Path {
     pub node: u32,
     pub round: u32,
+    /// Open updates that were called before the event at this position may have taken effect just before the last update, which
+    /// overwrote them. It is 0 where the object isn't overwritten.
+    pub until: u32,
 }
 
 impl<S: Eq + Hash> Model for Member<S> {
@@ -49,12 +53,16 @@ impl<S: Eq + Hash> Model for Member<S> {
 impl<S: Eq + Hash> Member<S> {
     /// The one member before any event.
     pub fn start(state: S) -> Self
-        ensures { result ≡ (first_member state, record { node = 0; round = 0 }) }
+        ensures { result ≡ (first_member state, record { node = 0; round = 0; until = 0 }) }
     {
         Member {
             config: Config::new(state),
             offers: Offers::none(),
-            path: Path { node: 0, round: 0 },
+            path: Path {
+                node: 0,
+                round: 0,
+                until: 0,
+            },
         }
     }
 
@@ -91,6 +99,14 @@ impl<S: Eq + Hash> Member<S> {
         ensures { result ≡ self.now.1 }
     {
         self.path
+    }
+
+    /// Has no update that is early enough to be overwritten.
+    #[inline(always)]
+    pub fn stand_alone(&mut self)
+        ensures { self.new ≡ alone_of self.old }
+    {
+        self.path.until = 0;
     }
 
     /// Gives its lists up, to be used again.
@@ -182,6 +198,7 @@ pub fn answered<O: SeqObject>(
       offers = watched (O.observing object.now) pending.now member.now.0.offers;
     })) }
     ensures round { IfOk result (λ next. next.1.round ≡ member.now.1.round) }
+    ensures until { IfOk result (λ next. next.1.until ≡ member.now.1.until) }
     ensures node { IfOk result (λ next. IsNodeOf nodes.new next.1.node member.now.1.node (placed, Some round)) }
 {
     let state = object.copy_state(alloc, member.config.state())?;
@@ -217,7 +234,7 @@ fn pushed(
 
 /// The path with the operation put in the round.
 #[inline(always)]
-fn in_round(
+pub fn in_round(
     path: Path,
     placed: Placed,
     round: usize,
@@ -225,13 +242,23 @@ fn in_round(
 ) -> Result<Path, OutOfMemory>
     ensures grown { IsGrown nodes.old nodes.new }
     ensures round { IfOk result (λ next. next.round ≡ path.round) }
+    ensures until { IfOk result (λ next. next.until ≡ path.until) }
     ensures node { IfOk result (λ next. IsNodeOf nodes.new next.node path.node (placed, Some round)) }
 {
     let node = pushed(path.node, placed, Some(round), nodes)?;
-    Ok(Path {
-        node,
-        round: path.round,
-    })
+    Ok(Path { node, ..path })
+}
+
+/// The path with a round more.
+#[inline(always)]
+fn longer(path: Path) -> Result<Path, OutOfMemory>
+    ensures { IfOk result (λ next. next ≡ record { node = path.node; round = path.round + 1; until = path.until }) }
+{
+    // No more rounds than fit into memory.
+    let Some(round) = path.round.checked_add(1) else {
+        return Err(OutOfMemory);
+    };
+    Ok(Path { round, ..path })
 }
 
 /// The path with a new round, which the operation begins.
@@ -241,12 +268,37 @@ fn in_next_round(path: Path, placed: Placed, nodes: &mut RoundNodes) -> Result<P
     ensures round { IfOk result (λ next. next.round ≡ path.round + 1) }
     ensures node { IfOk result (λ next. IsNodeOf nodes.new next.node path.node (placed, None)) }
 {
-    // No more rounds than fit into memory.
-    let Some(round) = path.round.checked_add(1) else {
-        return Err(OutOfMemory);
-    };
+    let next = longer(path)?;
     let node = pushed(path.node, placed, None, nodes)?;
-    Ok(Path { node, round })
+    Ok(Path { node, ..next })
+}
+
+/// The same by an update, which overwrites what was called before the event at the position `now`.
+#[inline(always)]
+pub fn put_behind(
+    path: Path,
+    placed: Placed,
+    now: u32,
+    nodes: &mut RoundNodes,
+) -> Result<Path, OutOfMemory>
+    ensures grown { IsGrown nodes.old nodes.new }
+    ensures begins { IfOk result (λ next. BeginsRound nodes.new path next placed) }
+    ensures until { IfOk result (λ next. next.until ≡ now) }
+{
+    let next = in_next_round(path, placed, nodes)?;
+    Ok(Path { until: now, ..next })
+}
+
+/// The path with the operation as a round of its own ahead of the last one.
+#[inline(always)]
+pub fn put_ahead(path: Path, placed: Placed, nodes: &mut RoundNodes) -> Result<Path, OutOfMemory>
+    ensures grown { IsGrown nodes.old nodes.new }
+    ensures ahead { IfOk result (λ next. IsAheadOf nodes.new path next placed) }
+{
+    let next = longer(path)?;
+    // There is no such round, so it is put ahead.
+    let node = pushed(path.node, placed, Some(next.round as usize), nodes)?;
+    Ok(Path { node, ..next })
 }
 
 /// The member of these, whose path goes on from this one by a round, which the operation begins.

@@ -76,7 +76,7 @@ fn joined<S: Eq + Hash + Drop>(
     }
 }
 
-/// The members of which no other one dominates any. Only those are compared whose keys agree in bits from this number down.
+/// The members of which no other one is above any. Only those are compared whose keys agree in bits from this number down.
 fn pruned_apart<O: SeqObject>(
     object: &O,
     alloc: Global,
@@ -98,7 +98,7 @@ fn pruned_apart<O: SeqObject>(
     Ok(out)
 }
 
-/// The members of which no other one dominates any.
+/// The members of which no other one is above any.
 pub fn pruned_many<O: SeqObject>(
     object: &O,
     alloc: Global,

@@ -1,5 +1,5 @@
 //! Placing open operations in configurations.
-ghost use Rattle.std.specs.Prelude.{◌∷◌, ◌++◌, ◌+◌, [], length, OnOk};
+ghost use Rattle.std.specs.Prelude.{◌≡◌, ◌≤◌, ◌∷◌, ◌++◌, ◌+◌, [], true, false, length, OnOk};
 ghost use Rattle.lin_frontier.specs.Placing.{IsAbsent, IsTried, PlacesNext, PlacesOne};
 ghost use Rattle.lin_frontier.specs.Sameness.{config_same};
 ghost use Rattle.lin_frontier.specs.Walks.{IsTriedAtMost};
@@ -29,6 +29,7 @@ fn place<O: SeqObject>(
 ) -> Result<(), OutOfMemory>
     requires { IsAbsent operation.now.process config.now.1 }
     ensures placed { OnOk result (IsTried (PlacesOne (O.step object.now) operation.now config.now) out.old.items out.new.items) }
+    ensures few { OnOk result (O.overwriting object.now ≡ true → O.observing object.now operation.now.call ≡ false → length out.new.items ≤ length out.old.items + 1) }
     ensures tried { IsTriedAtMost 1 meter.old meter.new }
 {
     meter.tick_try();
@@ -60,6 +61,7 @@ pub fn place_if_absent<O: SeqObject>(
     spare: &mut Spare<PairList>,
 ) -> Result<(), OutOfMemory>
     ensures placed { OnOk result (IsTried (PlacesOne (O.step object.now) operation.now config.now) out.old.items out.new.items) }
+    ensures few { OnOk result (O.overwriting object.now ≡ true → O.observing object.now operation.now.call ≡ false → length out.new.items ≤ length out.old.items + 1) }
     ensures tried { IsTriedAtMost 1 meter.old meter.new }
 {
     if is_absent(config.placed(), operation.process) {

@@ -2,7 +2,7 @@
 ghost use Rattle.std.specs.Prelude.{◌≡◌, ◌+◌, ◌-◌, ◌<◌, ◌∷◌, ◌++◌, [], ℕ, List, Option, Some, length, take, slice_get, reverse, IfOk, IfSome, IfNone, OnOk, OnErr};
 ghost use Rattle.lin_order.specs.declared.placed.Placed.{Placed as PlacedOf};
 ghost use Rattle.lin_frontier.specs.Nodes.{Spells};
-ghost use Rattle.lin_frontier.specs.Rounds.{joined as joined_of, put as put_in, begin_round, SpellsRounds};
+ghost use Rattle.lin_frontier.specs.Rounds.{joined as joined_of, ahead as ahead_of, place as place_in, begin_round, SpellsRounds};
 ghost use Rattle.lin_frontier.specs.Searching.{in_rounds as in_rounds_of};
 
 use crate::nodes::NodeId;
@@ -12,7 +12,7 @@ use std::alloc::Global;
 use std::marker::Model;
 
 /// Orders in rounds: each node is its parent's rounds and one operation more, which is put last in a round, or begins a
-/// round behind all others. Node 0 is one empty round.
+/// round behind all others, or, where it names a round that there isn't, one ahead of the last. Node 0 is one empty round.
 #[derive(Drop)]
 pub struct RoundNodes {
     items: Vec<Link>,
@@ -111,7 +111,8 @@ impl RoundNodes {
         self.items.truncate(count);
     }
 
-    /// One node more: the parent's rounds, with the operation put in the round, or behind all where none is given.
+    /// One node more: the parent's rounds, with the operation put in the round, or behind all where none is given, or ahead of
+    /// the last one where there is no such round.
     #[inline(always)]
     pub(crate) fn push(
         &mut self,
@@ -232,14 +233,33 @@ fn begin(alloc: Global, rounds: &mut Vec<Round>, placed: Placed) -> Result<(), O
     }
 }
 
-/// Puts the operation last in the round, if there is such a round.
-fn put(rounds: &mut Vec<Round>, round: usize, placed: Placed) -> Result<(), OutOfMemory>
-    ensures { OnOk result (rounds.new.items ≡ put_in round placed rounds.old.items) }
+/// A round of its own for the operation, ahead of the last one.
+fn insert(alloc: Global, rounds: &mut Vec<Round>, placed: Placed) -> Result<(), OutOfMemory>
+    ensures { OnOk result (rounds.new.items ≡ ahead_of placed rounds.old.items) }
+{
+    let Some(last) = rounds.pop() else {
+        return Ok(());
+    };
+    begin(alloc, rounds, placed)?;
+    match rounds.push(last) {
+        Ok(()) => Ok(()),
+        Err(_) => Err(OutOfMemory),
+    }
+}
+
+/// Puts the operation last in the round, or, where there is no such round, ahead of the last one.
+fn place(
+    alloc: Global,
+    rounds: &mut Vec<Round>,
+    round: usize,
+    placed: Placed,
+) -> Result<(), OutOfMemory>
+    ensures { OnOk result (rounds.new.items ≡ place_in round placed rounds.old.items) }
 {
     if round < rounds.len() {
-        rounds[round].push(placed)?;
+        return rounds[round].push(placed);
     }
-    Ok(())
+    insert(alloc, rounds, placed)
 }
 
 /// The rounds that come of putting the operations, which stand last to first.
@@ -257,7 +277,7 @@ fn in_rounds(
     }
     while let Some((placed, spot)) = rest.pop() {
         match spot {
-            Some(round) => put(&mut rounds, round, placed)?,
+            Some(round) => place(alloc, &mut rounds, round, placed)?,
             None => begin(alloc, &mut rounds, placed)?,
         }
     }

@@ -20,6 +20,7 @@ pub struct Scratch<O: SeqObject> {
     alloc: Global,
     found: Vec<Member<O::State>>,
     open: Vec<Open>,
+    early: Vec<Open>,
     pub(crate) visited: Vec<Member<O::State>>,
     pub(crate) next: Vec<(Config<O::State>, Placed)>,
     pub(crate) steps: Vec<(O::State, Reply)>,
@@ -60,6 +61,7 @@ impl<O: SeqObject> Scratch<O> {
             alloc,
             found: Vec::new(alloc),
             open: Vec::new(alloc),
+            early: Vec::new(alloc),
             visited: Vec::new(alloc),
             next: Vec::new(alloc),
             steps: Vec::new(alloc),
@@ -96,5 +98,33 @@ impl<O: SeqObject> Scratch<O> {
     #[inline(always)]
     pub(crate) fn keep_open(&mut self, open: Vec<Open>) {
         self.open = open;
+    }
+
+    /// An empty list for operations that were called early.
+    #[inline(always)]
+    pub(crate) fn early(&mut self) -> Vec<Open>
+        ensures { result.items ≡ [] }
+    {
+        emptied(self.alloc, &mut self.early)
+    }
+
+    /// Takes the list of early operations back.
+    #[inline(always)]
+    pub(crate) fn keep_early(&mut self, early: Vec<Open>) {
+        self.early = early;
+    }
+
+    /// An empty list for configurations.
+    #[inline(always)]
+    pub(crate) fn next(&mut self) -> Vec<(Config<O::State>, Placed)>
+        ensures { result.items ≡ [] }
+    {
+        emptied(self.alloc, &mut self.next)
+    }
+
+    /// Takes the list of configurations back.
+    #[inline(always)]
+    pub(crate) fn keep_next(&mut self, next: Vec<(Config<O::State>, Placed)>) {
+        self.next = next;
     }
 }

@@ -31,7 +31,11 @@ fn settled<O: SeqObject>(
     Ok(Member {
         config: Config::of(state, placed),
         offers,
-        path: Path { node, round: 0 },
+        path: Path {
+            node,
+            round: 0,
+            until: member.path().until,
+        },
     })
 }
 

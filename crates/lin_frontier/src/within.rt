@@ -1,5 +1,5 @@
 //! One more event of a compressed frontier, within a budget of configurations.
-ghost use Rattle.std.specs.Prelude.{◌≡◌, ◌⊎◌, ◌+◌, ◌*◌, ◌<◌, ◌≤◌, ℕ, ℤ, true, Bool, List, length, IfOk, IfSome, IfNone, OnErr};
+ghost use Rattle.std.specs.Prelude.{◌≡◌, ◌⊎◌, ◌+◌, ◌*◌, ◌<◌, ◌≤◌, ℕ, ℤ, true, false, Bool, List, length, Contains, IsTrue, IfOk, IfSome, IfNone, OnErr};
 ghost use Rattle.lin_history.specs.declared.calls.Call.{Call as CallOf};
 ghost use Rattle.lin_history.specs.declared.calls.Name.{Name as NameOf};
 ghost use Rattle.lin_history.specs.declared.calls.Reply.{Reply as ReplyOf};
@@ -10,7 +10,8 @@ ghost use Rattle.lin_history.specs.WellFormed.{IsWellFormed};
 ghost use Rattle.lin_order.specs.ConfigurationLaws.{with_event};
 ghost use Rattle.lin_order.specs.Linearizable.{IsLinearizableBy};
 ghost use Rattle.lin_frontier.specs.declared.members.Path.{Path as PathOf};
-ghost use Rattle.lin_frontier.specs.Compressed.{IsCompressed, IsCovering, CompressedSpellLegalOrders};
+ghost use Rattle.lin_frontier.specs.Asking.{AreAlone};
+ghost use Rattle.lin_frontier.specs.Compressed.{IsCompressed, IsSpelled, CompressedSpellLegalOrders};
 ghost use Rattle.lin_frontier.specs.Frontiers.{IsNextEvent, IsOver, IsPending};
 ghost use Rattle.lin_frontier.specs.Listed.{IsListingOf};
 ghost use Rattle.lin_frontier.specs.Members.{Member as MemberOf};
@@ -18,10 +19,13 @@ ghost use Rattle.lin_frontier.specs.Nodes.{IsGrown};
 ghost use Rattle.lin_frontier.specs.Walks.{IsTriedAtMost};
 
 use crate::completions::push_member;
-use crate::compressed::{Compressed, Found, open_after, push_all_taken_out};
+use crate::compressed::{Compressed, Found, alone_all, open_after, push_all_taken_out};
 use crate::listed::listed;
 use crate::member_laws::{dominated_can_go, members_after_events, members_cover_configurations};
 use crate::members::{Member, same};
+use crate::overwritten_laws::{
+    overwritten_after_events, overwritten_can_go, rounds_allow_overwritten,
+};
 use crate::parts::pruned_many;
 use crate::pending::{Open, Pending};
 use crate::round_laws::{members_are_exact, rounds_after_events};
@@ -32,6 +36,7 @@ use lin_history::{Body, Event, Meter, OutOfMemory, ends_are_unique, well_formed_
 use lin_objects::SeqObject;
 use lin_order::legal_orders_end;
 use std::alloc::Global;
+use std::hash::Hash;
 
 /// Below this budget all configurations are counted after each event.
 const COUNTED: usize = 1_024;
@@ -68,8 +73,20 @@ pub enum Advance<O: SeqObject> {
 
 /// Each node of a member spells a legal order.
 pub fn members_spell_legal_orders<O: SeqObject>()
-    ensures { (object : O) → CompressedSpellLegalOrders (O.starts object) (O.step object) (O.observing object) }
+    ensures { (object : O) → CompressedSpellLegalOrders (O.starts object) (O.step object) (O.observing object) (O.overwriting object) }
 {}
+
+/// Whether no update is early enough for any of the members to be overwritten.
+fn are_alone<S: Eq + Hash>(members: &[Member<S>]) -> bool
+    ensures { IsTrue result → (m : MemberOf S × PathOf) → Contains members.now m → m.1.until ≡ 0 }
+{
+    for member in members {
+        if member.path().until > 0 {
+            return false;
+        }
+    }
+    true
+}
 
 /// Whether the members lead to more configurations than the budget.
 fn exceeds<O: SeqObject>(
@@ -82,7 +99,7 @@ fn exceeds<O: SeqObject>(
     meter: &mut Meter,
 ) -> Result<bool, OutOfMemory>
     ensures over { IfOk result (λ over. over ≡ true → (functions : ℤ → NameOf → Bool) (h : List EventOf) → IsWellFormed functions h → IsPending h pending.now
-        → IsCovering (O.starts object.now) (O.step object.now) (O.observing object.now) h members.now nodes.old → IsOver (O.starts object.now) (O.step object.now) h budget) }
+        → ((m : MemberOf O.State × PathOf) → Contains members.now m → IsSpelled (O.starts object.now) (O.step object.now) (O.observing object.now) h nodes.old m) → IsOver (O.starts object.now) (O.step object.now) h budget) }
     ensures nodes { nodes.new ≡ nodes.old }
     ensures tried { IsTriedAtMost (budget * length pending.now) meter.old meter.new }
 {
@@ -109,13 +126,14 @@ fn after_listing<O: SeqObject>(
     requires { (name : NameOf) × (reply : ReplyOf) × (event.now.body ≡ BodyOf.Ok name reply) }
     ensures { IfOk result (λ out. (functions : ℤ → NameOf → Bool) (h : List EventOf) → IsNextEvent functions h pending.now at event.now
         → IsListingOf (O.starts object.now) (O.step object.now) (O.observing object.now) h list.now nodes.now
-        → IsCompressed (O.starts object.now) (O.step object.now) (O.observing object.now) (with_event h event.now) out.items nodes.now) }
+        → IsCompressed (O.starts object.now) (O.step object.now) (O.observing object.now) (O.overwriting object.now) (with_event h event.now) out.items nodes.now) }
 {
     well_formed_is_alternating();
     ends_are_unique();
     dominated_can_go(object);
     members_cover_configurations(object);
     rounds_after_events(object);
+    overwritten_can_go(object);
     let _ = nodes.len();
     let Body::Ok(_, reply) = &event.body else {
         unreachable!()
@@ -133,7 +151,7 @@ fn after_listing<O: SeqObject>(
         &mut found,
         &mut Pool::new(alloc),
     )?;
-    let kept = pruned_many(object, alloc, &after, found)?;
+    let kept = pruned_many(object, alloc, &after, alone_all(found))?;
     Ok(kept)
 }
 
@@ -168,27 +186,27 @@ impl<O: SeqObject> Compressed<O> {
         // Where the frontier is one of a history, with these operations open, the answer speaks of that history with the event behind
         // it, which has to be well-formed.
         ensures next { IfOk result (λ step. (next : List (MemberOf O.State × PathOf)) → step ≡ Advance.Next next → (functions : ℤ → NameOf → Bool) (h : List EventOf)
-            → IsNextEvent functions h pending.now at event.now → IsCompressed (O.starts object.now) (O.step object.now) (O.observing object.now) h self.now nodes.old
-            → IsCompressed (O.starts object.now) (O.step object.now) (O.observing object.now) (with_event h event.now) next nodes.new) }
+            → IsNextEvent functions h pending.now at event.now → IsCompressed (O.starts object.now) (O.step object.now) (O.observing object.now) (O.overwriting object.now) h self.now nodes.old
+            → IsCompressed (O.starts object.now) (O.step object.now) (O.observing object.now) (O.overwriting object.now) (with_event h event.now) next nodes.new) }
         ensures same { IfOk result (λ step. step ≡ Advance.Same → (functions : ℤ → NameOf → Bool) (h : List EventOf)
-            → IsNextEvent functions h pending.now at event.now → IsCompressed (O.starts object.now) (O.step object.now) (O.observing object.now) h self.now nodes.old
-            → IsCompressed (O.starts object.now) (O.step object.now) (O.observing object.now) (with_event h event.now) self.now nodes.new) }
+            → IsNextEvent functions h pending.now at event.now → IsCompressed (O.starts object.now) (O.step object.now) (O.observing object.now) (O.overwriting object.now) h self.now nodes.old
+            → IsCompressed (O.starts object.now) (O.step object.now) (O.observing object.now) (O.overwriting object.now) (with_event h event.now) self.now nodes.new) }
         ensures some { IfOk result (λ step. (next : List (MemberOf O.State × PathOf)) → step ≡ Advance.Next next → 0 < length next) }
         ensures empty { IfOk result (λ step. step ≡ Advance.Empty → (functions : ℤ → NameOf → Bool) (h : List EventOf)
-            → IsNextEvent functions h pending.now at event.now → IsCompressed (O.starts object.now) (O.step object.now) (O.observing object.now) h self.now nodes.old
+            → IsNextEvent functions h pending.now at event.now → IsCompressed (O.starts object.now) (O.step object.now) (O.observing object.now) (O.overwriting object.now) h self.now nodes.old
             → IsLinearizableBy (O.starts object.now) (O.step object.now) (with_event h event.now) → ⊥) }
         ensures over { IfOk result (λ step. step ≡ Advance.Over → (functions : ℤ → NameOf → Bool) (h : List EventOf)
-            → IsNextEvent functions h pending.now at event.now → IsCompressed (O.starts object.now) (O.step object.now) (O.observing object.now) h self.now nodes.old
+            → IsNextEvent functions h pending.now at event.now → IsCompressed (O.starts object.now) (O.step object.now) (O.observing object.now) (O.overwriting object.now) h self.now nodes.old
             → IsOver (O.starts object.now) (O.step object.now) (with_event h event.now) budget) }
         ensures before { IfOk result (λ step. step ≡ Advance.OverBefore → (functions : ℤ → NameOf → Bool) (h : List EventOf)
-            → IsNextEvent functions h pending.now at event.now → IsCompressed (O.starts object.now) (O.step object.now) (O.observing object.now) h self.now nodes.old
+            → IsNextEvent functions h pending.now at event.now → IsCompressed (O.starts object.now) (O.step object.now) (O.observing object.now) (O.overwriting object.now) h self.now nodes.old
             → (0 < at) × IsOver (O.starts object.now) (O.step object.now) h budget) }
         // Nodes are only added; and none is where there is no next frontier.
         ensures grown { IsGrown nodes.old nodes.new }
         ensures kept { IfOk result (λ step. (step ≡ Advance.Same) ⊎ (step ≡ Advance.Empty) ⊎ (step ≡ Advance.Over) ⊎ (step ≡ Advance.OverBefore) → nodes.new ≡ nodes.old) }
         ensures refused { OnErr result (nodes.new ≡ nodes.old) }
         ensures steps { meter.new.steps ≡ ticked meter.old.steps 1 }
-        ensures tries { meter.new.tries ≤ meter.old.tries + (budget + 1) * (3 * length pending.now + 4) }
+        ensures tries { meter.new.tries ≤ meter.old.tries + (budget * (4 * length pending.now + 4) + length self.now * (2 * ((length pending.now + 2) * (length pending.now + 2)))) }
         ensures scans { meter.new.scans ≡ meter.old.scans }
     {
         if let Body::Invoke(_) = &event.body {
@@ -228,6 +246,15 @@ impl<O: SeqObject> Compressed<O> {
         }
     }
 
+    /// Whether the frontier goes on without overwritten updates: where the object isn't overwritten, or all configurations are counted and
+    /// no member has such updates.
+    fn is_alone(&self, object: &O, budget: usize) -> bool
+        ensures fits { result ≡ true → AreAlone (O.overwriting object.now) self.now }
+        ensures goes { result ≡ false → O.overwriting object.now ≡ true }
+    {
+        !object.overwrites() || (is_counted(budget) && are_alone(&self.members))
+    }
+
     /// After an invocation the members are the same, unless the configurations are counted and too many.
     fn invoked(
         &self,
@@ -243,10 +270,10 @@ impl<O: SeqObject> Compressed<O> {
         requires { (call : CallOf) × (event.now.body ≡ BodyOf.Invoke call) }
         ensures answers { IfOk result (λ step. (step ≡ Advance.Same) ⊎ (step ≡ Advance.Over)) }
         ensures same { IfOk result (λ step. step ≡ Advance.Same → (functions : ℤ → NameOf → Bool) (h : List EventOf)
-            → IsNextEvent functions h pending.now at event.now → IsCompressed (O.starts object.now) (O.step object.now) (O.observing object.now) h self.now nodes.old
-            → IsCompressed (O.starts object.now) (O.step object.now) (O.observing object.now) (with_event h event.now) self.now nodes.new) }
+            → IsNextEvent functions h pending.now at event.now → IsCompressed (O.starts object.now) (O.step object.now) (O.observing object.now) (O.overwriting object.now) h self.now nodes.old
+            → IsCompressed (O.starts object.now) (O.step object.now) (O.observing object.now) (O.overwriting object.now) (with_event h event.now) self.now nodes.new) }
         ensures over { IfOk result (λ step. step ≡ Advance.Over → (functions : ℤ → NameOf → Bool) (h : List EventOf)
-            → IsNextEvent functions h pending.now at event.now → IsCompressed (O.starts object.now) (O.step object.now) (O.observing object.now) h self.now nodes.old
+            → IsNextEvent functions h pending.now at event.now → IsCompressed (O.starts object.now) (O.step object.now) (O.observing object.now) (O.overwriting object.now) h self.now nodes.old
             → IsOver (O.starts object.now) (O.step object.now) (with_event h event.now) budget) }
         ensures nodes { nodes.new ≡ nodes.old }
         ensures steps { meter.new.steps ≡ ticked meter.old.steps 1 }
@@ -256,6 +283,8 @@ impl<O: SeqObject> Compressed<O> {
         well_formed_is_alternating();
         members_after_events(object);
         rounds_after_events(object);
+        overwritten_after_events(object);
+        rounds_allow_overwritten::<O>();
         meter.tick_step();
         if self.is_over(alloc, object, pending, at, event, budget, nodes, meter)? {
             return Ok(Advance::Over);
@@ -277,39 +306,77 @@ impl<O: SeqObject> Compressed<O> {
         scratch: &mut Scratch<O>,
     ) -> Result<Advance<O>, OutOfMemory>
         ensures next { IfOk result (λ step. (next : List (MemberOf O.State × PathOf)) → step ≡ Advance.Next next → (functions : ℤ → NameOf → Bool) (h : List EventOf)
-            → IsNextEvent functions h pending.now at event.now → IsCompressed (O.starts object.now) (O.step object.now) (O.observing object.now) h self.now nodes.old
-            → IsCompressed (O.starts object.now) (O.step object.now) (O.observing object.now) (with_event h event.now) next nodes.new) }
+            → IsNextEvent functions h pending.now at event.now → IsCompressed (O.starts object.now) (O.step object.now) (O.observing object.now) (O.overwriting object.now) h self.now nodes.old
+            → IsCompressed (O.starts object.now) (O.step object.now) (O.observing object.now) (O.overwriting object.now) (with_event h event.now) next nodes.new) }
         ensures some { IfOk result (λ step. (next : List (MemberOf O.State × PathOf)) → step ≡ Advance.Next next → 0 < length next) }
         ensures empty { IfOk result (λ step. step ≡ Advance.Empty → (functions : ℤ → NameOf → Bool) (h : List EventOf)
-            → IsNextEvent functions h pending.now at event.now → IsCompressed (O.starts object.now) (O.step object.now) (O.observing object.now) h self.now nodes.old
+            → IsNextEvent functions h pending.now at event.now → IsCompressed (O.starts object.now) (O.step object.now) (O.observing object.now) (O.overwriting object.now) h self.now nodes.old
             → IsLinearizableBy (O.starts object.now) (O.step object.now) (with_event h event.now) → ⊥) }
         ensures over { IfOk result (λ step. step ≡ Advance.Over → (functions : ℤ → NameOf → Bool) (h : List EventOf)
-            → IsNextEvent functions h pending.now at event.now → IsCompressed (O.starts object.now) (O.step object.now) (O.observing object.now) h self.now nodes.old
+            → IsNextEvent functions h pending.now at event.now → IsCompressed (O.starts object.now) (O.step object.now) (O.observing object.now) (O.overwriting object.now) h self.now nodes.old
             → IsOver (O.starts object.now) (O.step object.now) (with_event h event.now) budget) }
         ensures before { IfOk result (λ step. step ≡ Advance.OverBefore → (functions : ℤ → NameOf → Bool) (h : List EventOf)
-            → IsNextEvent functions h pending.now at event.now → IsCompressed (O.starts object.now) (O.step object.now) (O.observing object.now) h self.now nodes.old
+            → IsNextEvent functions h pending.now at event.now → IsCompressed (O.starts object.now) (O.step object.now) (O.observing object.now) (O.overwriting object.now) h self.now nodes.old
             → (0 < at) × IsOver (O.starts object.now) (O.step object.now) h budget) }
         ensures same { IfOk result (λ step. step ≡ Advance.Same → ⊥) }
         ensures grown { IsGrown nodes.old nodes.new }
         ensures steps { meter.new.steps ≡ ticked meter.old.steps 1 }
-        ensures tries { meter.new.tries ≤ meter.old.tries + budget * (3 * length pending.now + 4) }
+        ensures tries { meter.new.tries ≤ meter.old.tries + (budget * (4 * length pending.now + 4) + length self.now * (2 * ((length pending.now + 2) * (length pending.now + 2)))) }
         ensures scans { meter.new.scans ≡ meter.old.scans }
     {
+        well_formed_is_alternating();
         let limit = longest_search(budget);
+        let alone = self.is_alone(object, budget);
         match self.advance_up_to(
-            alloc, object, pending, at, event, limit, nodes, meter, scratch,
+            alloc, object, pending, at, event, alone, limit, nodes, meter, scratch,
         )? {
             Found::Empty => Ok(Advance::Empty),
             Found::Next(next) => {
-                if next.is_over(alloc, object, pending, at, event, budget, nodes, meter)? {
-                    return Ok(Advance::Over);
-                }
-                Ok(Advance::Next(next))
+                // Members are compared with one another, so fewer of them cost as much as a search.
+                let many = !alone && next.len() > limit / 16;
+                self.next_within(
+                    alloc, object, next, many, pending, at, event, budget, nodes, meter,
+                )
             }
             Found::TooMany => {
                 self.from_listing(alloc, object, pending, at, event, budget, nodes, meter)
             }
         }
+    }
+
+    /// The frontier that comes next, unless there are more configurations than the budget: before the event, where the frontier has
+    /// many members, or after it.
+    fn next_within(
+        &self,
+        alloc: Global,
+        object: &O,
+        next: Compressed<O>,
+        many: bool,
+        pending: &[Open],
+        at: usize,
+        event: &Event,
+        budget: usize,
+        nodes: &mut RoundNodes,
+        meter: &mut Meter,
+    ) -> Result<Advance<O>, OutOfMemory>
+        ensures next { IfOk result (λ step. (out : List (MemberOf O.State × PathOf)) → step ≡ Advance.Next out → out ≡ next) }
+        ensures over { IfOk result (λ step. step ≡ Advance.Over → (functions : ℤ → NameOf → Bool) (h : List EventOf)
+            → IsNextEvent functions h pending.now at event.now → IsCompressed (O.starts object.now) (O.step object.now) (O.observing object.now) (O.overwriting object.now) (with_event h event.now) next nodes.old
+            → IsOver (O.starts object.now) (O.step object.now) (with_event h event.now) budget) }
+        ensures before { IfOk result (λ step. step ≡ Advance.OverBefore → (functions : ℤ → NameOf → Bool) (h : List EventOf) → IsWellFormed functions h → IsPending h pending.now
+            → IsCompressed (O.starts object.now) (O.step object.now) (O.observing object.now) (O.overwriting object.now) h self.now nodes.old
+            → (0 < at) × IsOver (O.starts object.now) (O.step object.now) h budget) }
+        ensures never { IfOk result (λ step. (step ≡ Advance.Empty) ⊎ (step ≡ Advance.Same) → ⊥) }
+        ensures nodes { nodes.new ≡ nodes.old }
+        ensures tried { IsTriedAtMost (budget * (2 * length pending.now + 1)) meter.old meter.new }
+    {
+        if many && at > 0 && self.exceeds_before(alloc, object, pending, budget, nodes, meter)? {
+            return Ok(Advance::OverBefore);
+        }
+        if next.is_over(alloc, object, pending, at, event, budget, nodes, meter)? {
+            return Ok(Advance::Over);
+        }
+        Ok(Advance::Next(next))
     }
 
     /// Whether the budget is so small that all configurations are counted, and there are more of them. The frontier is that after
@@ -327,7 +394,7 @@ impl<O: SeqObject> Compressed<O> {
         meter: &mut Meter,
     ) -> Result<bool, OutOfMemory>
         ensures over { IfOk result (λ over. over ≡ true → (functions : ℤ → NameOf → Bool) (h : List EventOf) → IsNextEvent functions h pending.now at event.now
-            → IsCompressed (O.starts object.now) (O.step object.now) (O.observing object.now) (with_event h event.now) self.now nodes.old
+            → IsCompressed (O.starts object.now) (O.step object.now) (O.observing object.now) (O.overwriting object.now) (with_event h event.now) self.now nodes.old
             → IsOver (O.starts object.now) (O.step object.now) (with_event h event.now) budget) }
         ensures nodes { nodes.new ≡ nodes.old }
         ensures tried { IsTriedAtMost (budget * (length pending.now + 1)) meter.old meter.new }
@@ -336,6 +403,27 @@ impl<O: SeqObject> Compressed<O> {
             return Ok(false);
         }
         self.exceeds_after(alloc, object, pending, at, event, budget, nodes, meter)
+    }
+
+    /// Whether there are more configurations than the budget before the event.
+    #[inline(never)]
+    fn exceeds_before(
+        &self,
+        alloc: Global,
+        object: &O,
+        pending: &[Open],
+        budget: usize,
+        nodes: &mut RoundNodes,
+        meter: &mut Meter,
+    ) -> Result<bool, OutOfMemory>
+        ensures over { IfOk result (λ over. over ≡ true → (functions : ℤ → NameOf → Bool) (h : List EventOf) → IsWellFormed functions h → IsPending h pending.now
+            → IsCompressed (O.starts object.now) (O.step object.now) (O.observing object.now) (O.overwriting object.now) h self.now nodes.old
+            → IsOver (O.starts object.now) (O.step object.now) h budget) }
+        ensures nodes { nodes.new ≡ nodes.old }
+        ensures tried { IsTriedAtMost (budget * length pending.now) meter.old meter.new }
+    {
+        let before = Pending::of(pending);
+        exceeds(object, alloc, &before, &self.members, budget, nodes, meter)
     }
 
     /// Whether there are more configurations than the budget.
@@ -352,7 +440,7 @@ impl<O: SeqObject> Compressed<O> {
         meter: &mut Meter,
     ) -> Result<bool, OutOfMemory>
         ensures over { IfOk result (λ over. over ≡ true → (functions : ℤ → NameOf → Bool) (h : List EventOf) → IsNextEvent functions h pending.now at event.now
-            → IsCompressed (O.starts object.now) (O.step object.now) (O.observing object.now) (with_event h event.now) self.now nodes.old
+            → IsCompressed (O.starts object.now) (O.step object.now) (O.observing object.now) (O.overwriting object.now) (with_event h event.now) self.now nodes.old
             → IsOver (O.starts object.now) (O.step object.now) (with_event h event.now) budget) }
         ensures nodes { nodes.new ≡ nodes.old }
         ensures tried { IsTriedAtMost (budget * (length pending.now + 1)) meter.old meter.new }
@@ -374,16 +462,17 @@ impl<O: SeqObject> Compressed<O> {
         nodes: &mut RoundNodes,
         meter: &mut Meter,
     ) -> Result<Advance<O>, OutOfMemory>
-        requires { (name : NameOf) × (reply : ReplyOf) × (event.now.body ≡ BodyOf.Ok name reply) }
+        requires ok { (name : NameOf) × (reply : ReplyOf) × (event.now.body ≡ BodyOf.Ok name reply) }
+        requires alone { AreAlone (O.overwriting object.now) self.now }
         ensures next { IfOk result (λ step. (next : List (MemberOf O.State × PathOf)) → step ≡ Advance.Next next → (functions : ℤ → NameOf → Bool) (h : List EventOf)
-            → IsNextEvent functions h pending.now at event.now → IsCompressed (O.starts object.now) (O.step object.now) (O.observing object.now) h self.now nodes.old
-            → IsCompressed (O.starts object.now) (O.step object.now) (O.observing object.now) (with_event h event.now) next nodes.new) }
+            → IsNextEvent functions h pending.now at event.now → IsCompressed (O.starts object.now) (O.step object.now) (O.observing object.now) (O.overwriting object.now) h self.now nodes.old
+            → IsCompressed (O.starts object.now) (O.step object.now) (O.observing object.now) (O.overwriting object.now) (with_event h event.now) next nodes.new) }
         ensures some { IfOk result (λ step. (next : List (MemberOf O.State × PathOf)) → step ≡ Advance.Next next → 0 < length next) }
         ensures empty { IfOk result (λ step. step ≡ Advance.Empty → (functions : ℤ → NameOf → Bool) (h : List EventOf)
-            → IsNextEvent functions h pending.now at event.now → IsCompressed (O.starts object.now) (O.step object.now) (O.observing object.now) h self.now nodes.old
+            → IsNextEvent functions h pending.now at event.now → IsCompressed (O.starts object.now) (O.step object.now) (O.observing object.now) (O.overwriting object.now) h self.now nodes.old
             → IsLinearizableBy (O.starts object.now) (O.step object.now) (with_event h event.now) → ⊥) }
         ensures before { IfOk result (λ step. step ≡ Advance.OverBefore → (functions : ℤ → NameOf → Bool) (h : List EventOf)
-            → IsNextEvent functions h pending.now at event.now → IsCompressed (O.starts object.now) (O.step object.now) (O.observing object.now) h self.now nodes.old
+            → IsNextEvent functions h pending.now at event.now → IsCompressed (O.starts object.now) (O.step object.now) (O.observing object.now) (O.overwriting object.now) h self.now nodes.old
             → (0 < at) × IsOver (O.starts object.now) (O.step object.now) h budget) }
         ensures never { IfOk result (λ step. (step ≡ Advance.Over) ⊎ (step ≡ Advance.Same) → ⊥) }
         ensures grown { IsGrown nodes.old nodes.new }
@@ -392,6 +481,7 @@ impl<O: SeqObject> Compressed<O> {
         well_formed_is_alternating();
         legal_orders_end(object);
         members_are_exact(object);
+        overwritten_can_go(object);
         let before = Pending::of(pending);
         let Some(list) = listed(object, alloc, &before, &self.members, budget, nodes, meter)? else {
             return Ok(Advance::OverBefore);

@@ -4,6 +4,7 @@ ghost use Rattle.lin_history.specs.declared.calls.Reply.{Reply as ReplyOf};
 ghost use Rattle.lin_objects.specs.Steps.{start as start_of, allows as allows_of, Step};
 ghost use Rattle.lin_objects.specs.Commuting.{commutes as commutes_of, commuting_go_first};
 ghost use Rattle.lin_objects.specs.Observing.{IsObserving, observes as observes_of, observers_keep};
+ghost use Rattle.lin_objects.specs.Overwriting.{IsOverwriting, overwrites as overwrites_of, registers_overwritten};
 ghost use Rattle.lin_objects.specs.States.{state_same};
 ghost use Rattle.lin_objects.specs.OnlySteps.{IsOnlyStep};
 
@@ -33,6 +34,10 @@ impl SeqObject for Any {
     ghost observing = { λ a. observes_of a.kind };
 
     ghost unchanged = { λ a. observers_keep a.kind };
+
+    ghost overwriting = { λ a. overwrites_of a.kind };
+
+    ghost overwritten = { λ a. registers_overwritten a.kind };
 
     ghost commuting = { λ a. commutes_of a.kind };
 
@@ -64,6 +69,11 @@ impl SeqObject for Any {
             Kind::Register | Kind::CasRegister => matches!(call, Call::Read),
             Kind::Fifo | Kind::Set | Kind::Mutex => false,
         }
+    }
+
+    /// Registers without compare-and-set.
+    fn overwrites(&self) -> bool {
+        matches!(self.kind, Kind::Register)
     }
 
     /// Two that add to a set, and two that read it.
@@ -122,7 +132,7 @@ fn register_step(state: &State, call: &Call) -> Option<(State, Reply)>
 {
     match (state, call) {
         (State::Value(value), Call::Read) => Some((State::Value(*value), Reply::Value(*value))),
-        (State::Value(_), Call::Write(value)) => Some((State::Value(*value), Reply::Done)),
+        (_, Call::Write(value)) => Some((State::Value(*value), Reply::Done)),
         _ => None,
     }
 }

@@ -5,6 +5,7 @@ ghost use Rattle.lin_history.specs.declared.calls.Call.{Call as CallOf};
 ghost use Rattle.lin_history.specs.declared.calls.Reply.{Reply as ReplyOf};
 ghost use Rattle.lin_objects.specs.Commuting.{IsCommuting};
 ghost use Rattle.lin_objects.specs.Observing.{IsObserving};
+ghost use Rattle.lin_objects.specs.Overwriting.{IsOverwriting};
 
 use lin_history::{Call, Name, OutOfMemory, Reply};
 use std::alloc::Global;
@@ -32,6 +33,12 @@ pub trait SeqObject {
     /// A call that observes leaves the state as it is.
     ghost unchanged: { (object : Self) → IsObserving (step object) (observing object) };
 
+    /// Whether the object is overwritten: whether each call that isn't treated as an observer does the same in all states.
+    ghost overwriting: { Self → Bool };
+
+    /// Where it is, they do.
+    ghost overwritten: { (object : Self) → overwriting object ≡ true → IsOverwriting (step object) (observing object) };
+
     /// Whether the two calls are known to commute.
     ghost commuting: { Self → CallOf → CallOf → Bool };
 
@@ -50,6 +57,11 @@ pub trait SeqObject {
     /// any other.
     fn observes(&self, call: &Call) -> bool
         ensures { result ≡ observing self.now call.now };
+
+    /// Whether the object is overwritten: each call that isn't treated as an observer and has an outcome in some state has the
+    /// same one in all states, and no other.
+    fn overwrites(&self) -> bool
+        ensures { result ≡ overwriting self.now };
 
     /// Whether the two calls are known to commute: wherever the other can be taken and then the call, the call can be taken
     /// first, with the same replies, and both lead to the same state.

@@ -29,10 +29,10 @@ pub returns-in_default-clause-grown : goal.returns-in_default-clause-grown
 returns-in_default-clause-grown g c = grown_grown _ _ _ c.loop-member.invariant.gathering.nodes_grown c.spread.ensures.grown
 
 pub returns-in_default-clause-over : goal.returns-in_default-clause-over
-returns-in_default-clause-over g c functions h well_formed opened covering =
+returns-in_default-clause-over g c functions h well_formed opened spelled =
     let there = contains_here c.args.members.now c.loop-member.member-index c.member-item.result c.loop-member-test.true c.member-item.is in
     from_none _ c.in_default.is c.in_ok-found.ensures.over functions h well_formed opened
-    (spelled_stays _ _ _ h _ _ c.member-item.result c.loop-member.invariant.gathering.nodes_grown (covering.spelled c.member-item.result there))
+    (spelled_stays _ _ _ h _ _ c.member-item.result c.loop-member.invariant.gathering.nodes_grown (spelled c.member-item.result there))
 
 pub returns-in_default-clause-tried : goal.returns-in_default-clause-tried
 returns-in_default-clause-tried g c = tried_more 0 0 _ _ _ _ (omega arith) c.loop-member.invariant.tried c.spread.ensures.tried
@@ -65,10 +65,10 @@ pub returns-then-len-budget-clause-grown : goal.returns-then-len-budget-clause-g
 returns-then-len-budget-clause-grown g c = grown_grown _ _ _ c.loop-member.invariant.gathering.nodes_grown c.spread.ensures.grown
 
 pub returns-then-len-budget-clause-over : goal.returns-then-len-budget-clause-over
-returns-then-len-budget-clause-over g c functions h well_formed opened covering =
+returns-then-len-budget-clause-over g c functions h well_formed opened spelled =
     let n = next g (goal.at.returns-then-len-budget-clause-over g c).In_ok-merge in
     over_members _ _ _ c.args.pending.now [] c.rounds_spell_members.ensures.ends h c.spread.new.nodes c.merge.new.members c.args.budget (omega (arith, c.if-len-budget.true, c.len.ensures))
-    (n.spelled functions h well_formed opened covering.spelled) n.different
+    (n.spelled functions h well_formed opened spelled) n.different
 
 pub returns-then-len-budget-clause-tried : goal.returns-then-len-budget-clause-tried
 returns-then-len-budget-clause-tried g c = tried_more 0 0 _ _ _ _ (omega arith) c.loop-member.invariant.tried c.spread.ensures.tried
@@ -112,8 +112,8 @@ returns-clause-different g c = IfSome_then c.in_ok-found-2.found c.in_ok-found-2
 
 pub returns-clause-over : goal.returns-clause-over
 returns-clause-over g c =
-    none_maps c.in_ok-found-2.found (λ over functions h well_formed opened covering. over functions h well_formed opened
-    (c.loop-member.invariant.gathering.spelled functions h well_formed opened covering.spelled) c.loop-member.invariant.gathering.different)
+    none_maps c.in_ok-found-2.found (λ over functions h well_formed opened spelled. over functions h well_formed opened
+    (c.loop-member.invariant.gathering.spelled functions h well_formed opened spelled) c.loop-member.invariant.gathering.different)
     (rw c.none-none.ensures at c.in_ok-found-2.ensures.over)
 
 pub returns-clause-tried : goal.returns-clause-tried

@@ -1,23 +1,35 @@
-use Rattle.std.proofs.Common.{◌++◌, ◌∷◌, [], sym, ap, ◌∙◌}
+use Rattle.std.proofs.Common.{◌+◌, ◌++◌, ◌∷◌, [], length, refl, sym, ap, ◌∙◌, arith}
 use Rattle.std.proofs.lemmas.List.Elements.{Contains-get_or}
+use Rattle.lin_frontier.proofs.Placings.{one_step}
 use Rattle.lin_frontier.proofs.Trying.{trying_start, trying_step}
-use Rattle.lin_frontier.proofs.TriedOnce.{tried_end}
+use Rattle.lin_frontier.proofs.TriedOnce.{counted_step, tried_end}
 use Rattle.lin_frontier.proofs.placing.place.Goals as goal
 
 pub loop-state-init : goal.loop-state-init
 loop-state-init g c =
     let sound = rw c.state.ensures at c.in_ok-outcomes.ensures.sound in
     let complete = rw c.state.ensures at c.in_ok-outcomes.ensures.complete in
-    trying_start _ _ c.args.out.now.items c.outcomes.new.out.items (λ k d l. sound _ _ (Contains-get_or c.outcomes.new.out.items k d l)) (λ a p. complete a.0 a.1 p)
+    record {
+      trying = trying_start _ _ c.args.out.now.items c.outcomes.new.out.items (λ k d l. sound _ _ (Contains-get_or c.outcomes.new.out.items k d l)) (λ a p. complete a.0 a.1 p);
+      counted = refl;
+    }
 
 pub loop-state-preserved : goal.loop-state-preserved
 loop-state-preserved g c =
     let made = c.in_ok-next.ensures in
     let label = c.in_ok-copy.ensures in
     let pushed = c.in-Ok.ensures.items ∙ ap (λ e. c.loop-state.out.items ++ e ∷ []) (λ i. (made i, (record { at = c.args.operation.now.at; reply = label i }))) in
-    trying_step _ _ c.args.out.now.items c.loop-state.steps.items c.pop.new.self.items c.loop-state.out.items _ (c.in-Some.state, c.in-Some.reply) c.in-Some.ensures.items pushed c.loop-state.invariant
+    record {
+      trying = trying_step _ _ c.args.out.now.items c.loop-state.steps.items c.pop.new.self.items c.loop-state.out.items _ (c.in-Some.state, c.in-Some.reply) c.in-Some.ensures.items pushed c.loop-state.invariant.trying;
+      counted = counted_step c.loop-state.steps.items c.pop.new.self.items _ c.loop-state.out.items _ _ (length c.args.out.now.items + length c.outcomes.new.out.items) c.in-Some.ensures.items c.in-Ok.ensures.items c.loop-state.invariant.counted;
+    }
 
 pub returns-clause-placed : goal.returns-clause-placed
 returns-clause-placed g c =
     let none = sym c.loop-state.steps.ok.0 ∙ c.in_default.ensures.cases.0 in
-    tried_end _ c.args.operation.now c.args.config.now c.args.out.now.items c.loop-state.steps.items c.loop-state.out.items c.requires none c.loop-state.invariant
+    tried_end _ c.args.operation.now c.args.config.now c.args.out.now.items c.loop-state.steps.items c.loop-state.out.items c.requires none c.loop-state.invariant.trying
+
+pub returns-clause-few : goal.returns-clause-few
+returns-clause-few g c overwriting update =
+    let one = one_step _ _ _ c.args.operation.now.call c.outcomes.new.out.items (g.O.SeqObject.overwritten c.args.object.now overwriting) update c.in_ok-outcomes.ensures.sound c.in_ok-outcomes.ensures.once in
+    omega (arith, c.loop-state.invariant.counted, one)

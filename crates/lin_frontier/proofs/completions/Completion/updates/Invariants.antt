@@ -1,4 +1,4 @@
-use Rattle.std.proofs.Common.{take, length, ◌≤◌, ◌-◌}
+use Rattle.std.proofs.Common.{◌≡◌, true, take, length, ◌≤◌, ◌-◌}
 use Rattle.lin_frontier.specs.Searching.{AreUpdates}
 use Rattle.lin_frontier.specs.Walks.{IsTriedAtMost}
 use Rattle.lin_frontier.proofs.completions.Completion.updates.Given as goal
@@ -6,6 +6,7 @@ use Rattle.lin_frontier.proofs.completions.Completion.updates.Given as goal
 abbrev pub invariant-loop-operation : goal.invariant-loop-operation
 invariant-loop-operation g l = record {
   placed : AreUpdates (g.O.SeqObject.step l.self.object.now) (g.O.SeqObject.observing l.self.object.now) (take l.at l.self.pending.now) l.config l.out.items;
+  few : g.O.SeqObject.overwriting l.self.object.now ≡ true → length l.out.items ≤ l.at;
   within : l.at ≤ length l.self.pending.now;
   tried : IsTriedAtMost l.at l.fn.meter l.meter;
 }
