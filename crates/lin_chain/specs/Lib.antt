@@ -2,3 +2,4 @@ pub mod Replays
 pub mod Ends
 pub mod Chains
 pub mod Refuting
+pub mod Conflicts

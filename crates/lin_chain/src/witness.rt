@@ -1,10 +1,14 @@
-//! A legal order as a witness: found by a search that promises nothing, and checked.
-ghost use Rattle.std.specs.Prelude.{◌≡◌, ◌∷◌, ◌++◌, [], ℤ, All, IfOk, IsTrue, OnOk};
+//! A legal order, or operations that conflict, as a witness: found by a search that promises nothing, and checked.
+ghost use Rattle.std.specs.Prelude.{◌≡◌, ◌∷◌, ◌++◌, [], ℤ, All, IfOk, IfSome, IsTrue, OnOk};
 ghost use Rattle.lin_order.specs.Parts.{events_at};
+ghost use Rattle.lin_chain.specs.Conflicts.{IsRegister};
+ghost use Rattle.lin_chain.specs.Ends.{IsDeadAt};
 ghost use Rattle.lin_chain.specs.Replays.{IsLinearizableAs};
 
 use crate::acts::Acts;
 use crate::attempts::Attempt;
+use crate::conflict::is_refuted;
+use crate::zones::sought;
 use lin_history::{Event, OutOfMemory};
 use lin_objects::{Kind, Kinds};
 use lin_order::{Placed, check_order};
@@ -111,5 +115,55 @@ pub fn finds_order(alloc: Global, kind: Kind, events: &[Event], picks: &[usize])
             is_shown_of(alloc, kind, events, picks).unwrap_or(false)
         }
         Kind::Fifo | Kind::Set | Kind::Mutex => false,
+    }
+}
+
+/// The event at which a register of the kind fails, if operations that conflict are found in the events up to it, and a legal order of those
+/// before it.
+fn failing(alloc: Global, kind: Kind, events: &[Event]) -> Result<Option<usize>, OutOfMemory>
+    requires { IsRegister kind }
+    ensures { IfOk result (λ found. IfSome found (λ at. IsDeadAt kind events.now at)) }
+{
+    let Some((at, conflict)) = sought(alloc, events)? else {
+        return Ok(None);
+    };
+    if at >= events.len() {
+        return Ok(None);
+    }
+    if !is_refuted(&events[..at + 1], &conflict) {
+        return Ok(None);
+    }
+    if !is_shown(alloc, kind, &events[..at])? {
+        return Ok(None);
+    }
+    Ok(Some(at))
+}
+
+/// The same of the events at the places.
+fn failing_of(
+    alloc: Global,
+    kind: Kind,
+    events: &[Event],
+    picks: &[usize],
+) -> Result<Option<usize>, OutOfMemory>
+    requires { IsRegister kind }
+    ensures { IfOk result (λ found. IfSome found (λ at. IsDeadAt kind (events_at events.now picks.now) at)) }
+{
+    let own = picked(alloc, events, picks)?;
+    failing(alloc, kind, own.as_slice())
+}
+
+/// Which of the events at the places is the one at which the shortest beginning without a legal order ends, if one is found.
+///
+/// Only registers are looked at, and only values that one update leaves. Takes time and memory linear in the events, apart from how many
+/// operations are open at a time. Where memory is refused none is found.
+pub fn finds_failure(alloc: Global, kind: Kind, events: &[Event], picks: &[usize]) -> Option<usize>
+    ensures { IfSome result (λ at. IsDeadAt kind (events_at events.now picks.now) at) }
+{
+    match kind {
+        Kind::Register | Kind::CasRegister => {
+            failing_of(alloc, kind, events, picks).unwrap_or(None)
+        }
+        Kind::Fifo | Kind::Set | Kind::Mutex => None,
     }
 }

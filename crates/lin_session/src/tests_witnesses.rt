@@ -1,4 +1,4 @@
-//! Objects that have more configurations than the budget, and whose legal orders are looked for.
+//! Objects that have more configurations than the budget, of which legal orders and failures are looked for.
 use crate::tests::{objects, read, registers, saw, write, wrote};
 use crate::{Answer, Scope, Session, Verdict};
 use lin_history::{Event, Val};
@@ -66,9 +66,47 @@ fn none_is_looked_for_where_configurations_are_counted(rt: HostRuntime) -> Resul
 }
 
 #[test]
-fn none_is_found_where_there_is_none(rt: HostRuntime) -> Result<(), Fail> {
+fn a_value_that_nobody_wrote_is_a_failure(rt: HostRuntime) -> Result<(), Fail> {
     let alloc = rt.alloc();
     let mut history = writes_at_once(alloc)?;
+    history.push(read(11, 0))?;
+    history.push(saw(11, 0, Val::Int(77)))?;
+    let mut session = cas_registers(&rt, alloc, &history)?;
+    assert!(rt;
+        matches!(
+            session.ask(alloc, Scope::Whole)?,
+            Answer::Undecided { at: 10 }
+        )
+    );
+    assert!(rt; session.judge(alloc, Scope::Whole)? == Verdict::No { prefix: 14 });
+    assert!(rt; session.judge(alloc, OBJECT)? == Verdict::No { prefix: 14 });
+    Ok(())
+}
+
+/// A read finds a value though a later write returned before it was invoked.
+#[test]
+fn an_old_value_is_a_failure_where_one_write_left_it(rt: HostRuntime) -> Result<(), Fail> {
+    let alloc = rt.alloc();
+    let mut history = writes_at_once(alloc)?;
+    for value in [77, 78] {
+        history.push(write(11, 0, value))?;
+        history.push(wrote(11, 0))?;
+    }
+    history.push(read(11, 0))?;
+    history.push(saw(11, 0, Val::Int(77)))?;
+    let mut session = cas_registers(&rt, alloc, &history)?;
+    assert!(rt; session.judge(alloc, OBJECT)? == Verdict::No { prefix: 18 });
+    Ok(())
+}
+
+#[test]
+fn neither_is_found_where_two_writes_left_a_value(rt: HostRuntime) -> Result<(), Fail> {
+    let alloc = rt.alloc();
+    let mut history = writes_at_once(alloc)?;
+    for value in [77, 77, 78] {
+        history.push(write(11, 0, value))?;
+        history.push(wrote(11, 0))?;
+    }
     history.push(read(11, 0))?;
     history.push(saw(11, 0, Val::Int(77)))?;
     let mut session = cas_registers(&rt, alloc, &history)?;

@@ -1,4 +1,4 @@
-//! Legal orders looked for where objects have more configurations than the budget.
+//! Legal orders, and operations that conflict, looked for where objects have more configurations than the budget.
 ghost use Rattle.std.specs.Prelude.{◌≡◌, ◌<◌, ℕ, ℤ, Some, length, slice_get};
 ghost use Rattle.lin_history.specs.WellFormed.{IsWellFormed};
 ghost use Rattle.lin_objects.specs.Kinds.{functions_of, kind_of};
@@ -15,7 +15,7 @@ use crate::answers::{Scope, Verdict};
 use crate::kept::{Object, Objects};
 use crate::objects::told;
 use crate::work::least_of;
-use lin_chain::{End, finds_order};
+use lin_chain::{End, finds_failure, finds_order};
 use lin_frontier::is_counted;
 use lin_history::{Event, beginnings_are_well_formed};
 use lin_objects::Kinds;
@@ -26,15 +26,21 @@ use lin_order::{
 use std::alloc::Global;
 
 impl Object {
-    /// Where its chain stands; but alive, where that is over and a legal order of its events is found.
+    /// Where its chain stands; but where that is over, alive if a legal order of its events is found, and dead if operations that conflict are.
     fn end_with_order(&self, alloc: Global, events: &[Event]) -> End
         ensures { (budget : ℕ) → IsEndOf (kind_in self.now.chain) budget (events_at events.now self.now.picks.items) (end_in self.now.chain)
             → IsEndOf (kind_in self.now.chain) budget (events_at events.now self.now.picks.items) result }
     {
-        match self.chain.end() {
-            End::Over(_) if finds_order(alloc, self.chain.kind(), events, &self.picks) =>
-                End::Alive,
-            end => end,
+        let end = self.chain.end();
+        let End::Over(_) = end else {
+            return end;
+        };
+        if finds_order(alloc, self.chain.kind(), events, &self.picks) {
+            return End::Alive;
+        }
+        match finds_failure(alloc, self.chain.kind(), events, &self.picks) {
+            Some(at) => End::Dead(at),
+            None => end,
         }
     }
 }

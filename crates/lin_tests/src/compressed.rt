@@ -18,7 +18,7 @@ fn gives(process: u64, name: Name, value: Val) -> Event {
     ok(process, name, Reply::Value(value))
 }
 
-const AMPLE: u32 = 65_536;
+pub(crate) const AMPLE: u32 = 65_536;
 
 /// Whether each member's node spells a legal order of the events.
 fn is_sound(
@@ -42,7 +42,7 @@ fn is_sound(
 
 /// What a walk through events costs.
 #[derive(Clone, Copy, Debug, PartialEq, Eq)]
-struct Counts {
+pub(crate) struct Counts {
     /// The members after each event, all together.
     members: u64,
     tries: u64,
@@ -50,7 +50,7 @@ struct Counts {
 }
 
 /// What comes of the events, one after the other, up to the first that leaves no frontier; and what that costs.
-fn walked(
+pub(crate) fn walked(
     alloc: Global,
     kind: Kind,
     events: &[Event],
