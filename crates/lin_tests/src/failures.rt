@@ -194,9 +194,10 @@ fn history(alloc: Global, steps: usize, draw: &mut Draw) -> Result<Vec<Event>, O
     Ok(events)
 }
 
-/// Whether frontiers tell that the events have a legal order.
-fn is_linearizable(alloc: Global, events: &[Event]) -> Result<bool, OutOfMemory> {
-    let (came, _) = walked(alloc, Kind::Register, events, AMPLE)?;
+/// Whether frontiers tell that so many events, the first ones, have a legal order.
+fn is_linearizable(alloc: Global, events: &[Event], count: usize) -> Result<bool, OutOfMemory> {
+    let first = &events[..count.min(events.len())];
+    let (came, _) = walked(alloc, Kind::Register, first, AMPLE)?;
     Ok(matches!(came, Came::Sound(_)))
 }
 
@@ -209,11 +210,11 @@ fn failures_are_found_where_frontiers_end(rt: HostRuntime) -> Result<(), Fail> {
         match failing(alloc, &events)? {
             Some(at) => {
                 failures = failures.saturating_add(1);
-                assert!(rt; is_linearizable(alloc, &events[..at])?);
-                assert!(rt; !is_linearizable(alloc, &events[..at + 1])?);
+                assert!(rt; is_linearizable(alloc, &events, at)?);
+                assert!(rt; !is_linearizable(alloc, &events, at.saturating_add(1))?);
             }
             None => {
-                assert!(rt; is_linearizable(alloc, &events)?);
+                assert!(rt; is_linearizable(alloc, &events, usize::MAX)?);
             }
         }
     }

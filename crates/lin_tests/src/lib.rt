@@ -23,6 +23,7 @@ mod edits;
 mod events;
 #[cfg(test)]
 mod exact_sets;
+#[cfg(test)]
 mod failures;
 #[cfg(test)]
 mod faults;
