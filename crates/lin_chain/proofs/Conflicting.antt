@@ -98,7 +98,7 @@ stays_off kind is s next (Cas from to) reply v step off none = (λ e. none (valu
 stays_off kind is s next call reply v step off none = (λ e. no_other kind is s next call reply tt step, λ held. held)
 
 -- the two lists of which a list is made round one of its elements
-parted : {A : Type 0} (xs : List A) (y : A) → Contains xs y → (before : List A) × (after : List A) × (xs ≡ before ++ y ∷ after)
+pub parted : {A : Type 0} (xs : List A) (y : A) → Contains xs y → (before : List A) × (after : List A) × (xs ≡ before ++ y ∷ after)
 parted [] y there = absurd (nothing_in y there)
 parted (x ∷ xs) y there = elim (first_or_rest x xs y there) [
   | inl same ↦ ([], xs, ap (λ z. z ∷ xs) same)
@@ -106,7 +106,7 @@ parted (x ∷ xs) y there = elim (first_or_rest x xs y there) [
 ]
 
 -- what holds of each pair of elements of a list holds across its two parts
-across : {A : Type 0} (R : A → A → Type 0) (xs ys : List A) (x y : A) → AllPairs R (xs ++ ys) → Contains xs x → Contains ys y → R x y
+pub across : {A : Type 0} (R : A → A → Type 0) (xs ys : List A) (x y : A) → AllPairs R (xs ++ ys) → Contains xs x → Contains ys y → R x y
 across {A} R xs ys x y all in_x in_y =
     let many = length-append xs ys in
     let i = in_x.0 in

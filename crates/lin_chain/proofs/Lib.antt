@@ -7,3 +7,5 @@ pub mod Chaining
 pub mod ExactSets
 pub mod Witnesses
 pub mod Conflicting
+pub mod SetConflicting
+pub mod QueueConflicting

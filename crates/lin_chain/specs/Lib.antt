@@ -3,3 +3,6 @@ pub mod Ends
 pub mod Chains
 pub mod Refuting
 pub mod Conflicts
+pub mod Adding
+pub mod SetConflicts
+pub mod QueueConflicts

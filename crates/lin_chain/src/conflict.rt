@@ -1,6 +1,6 @@
 //! Operations of a register that can't stand in one legal order.
 ghost use Rattle.std.specs.Prelude.{◌≡◌, ◌⊎◌, ◌<◌, ℕ, ℤ, IfSome, IsTrue, false, Some, length};
-ghost use Rattle.lin_history.specs.Operations.{IsOk, IsOperation};
+ghost use Rattle.lin_history.specs.Operations.{IsEnd, IsOk, IsOperation};
 ghost use Rattle.lin_history.specs.declared.calls.Call.{Call as CallOf};
 ghost use Rattle.lin_history.specs.declared.events.Body.TheVariants.{Invoke};
 ghost use Rattle.lin_objects.specs.declared.kinds.Kind.{Kind as KindOf};
@@ -41,7 +41,7 @@ pub enum Conflict {
 }
 
 /// The process and the call of the operation at the place.
-fn invocation_at(events: &[Event], at: usize) -> Option<(u64, &Call)>
+pub(crate) fn invocation_at(events: &[Event], at: usize) -> Option<(u64, &Call)>
     ensures within { IfSome result (λ found. at < length events.now) }
     ensures operation { IfSome result (λ found. (key : ℤ) × IsOperation events.now at found.0 key found.1.now) }
 {
@@ -52,21 +52,30 @@ fn invocation_at(events: &[Event], at: usize) -> Option<(u64, &Call)>
     }
 }
 
-/// Where the operation of the process at the place is known to be ok, with its reply.
-fn ok_of(events: &[Event], at: usize, process: u64) -> Option<(usize, &Reply)>
+/// The event with which the operation of the process at the place ends, and where it stands.
+pub(crate) fn ending_of(events: &[Event], at: usize, process: u64) -> Option<(usize, &Event)>
     requires { at < length events.now }
-    ensures { IfSome result (λ found. (key : ℤ) (call : CallOf) → IsOperation events.now at process key call → IsOk events.now at found.0 found.1.now) }
+    ensures { IfSome result (λ found. (key : ℤ) (call : CallOf) → IsOperation events.now at process key call → IsEnd events.now at found.0 found.1.now) }
 {
     for end in at + 1..events.len() {
         let ending = &events[end];
         if ending.process == process {
-            return match &ending.body {
-                Body::Ok(_, reply) => Some((end, reply)),
-                _ => None,
-            };
+            return Some((end, ending));
         }
     }
     None
+}
+
+/// Where the operation of the process at the place is known to be ok, with its reply.
+pub(crate) fn ok_of(events: &[Event], at: usize, process: u64) -> Option<(usize, &Reply)>
+    requires { at < length events.now }
+    ensures { IfSome result (λ found. (key : ℤ) (call : CallOf) → IsOperation events.now at process key call → IsOk events.now at found.0 found.1.now) }
+{
+    let (end, ending) = ending_of(events, at, process)?;
+    match &ending.body {
+        Body::Ok(_, reply) => Some((end, reply)),
+        _ => None,
+    }
 }
 
 /// Whether the register holds the value behind the call with this reply.

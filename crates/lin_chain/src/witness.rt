@@ -1,13 +1,18 @@
 //! A legal order, or operations that conflict, as a witness: found by a search that promises nothing, and checked.
 ghost use Rattle.std.specs.Prelude.{◌≡◌, ◌∷◌, ◌++◌, [], ℤ, All, IfOk, IfSome, IsTrue, OnOk};
 ghost use Rattle.lin_order.specs.Parts.{events_at};
-ghost use Rattle.lin_chain.specs.Conflicts.{IsRegister};
 ghost use Rattle.lin_chain.specs.Ends.{IsDeadAt};
 ghost use Rattle.lin_chain.specs.Replays.{IsLinearizableAs};
 
 use crate::acts::Acts;
 use crate::attempts::Attempt;
-use crate::conflict::is_refuted;
+use crate::conflict::{Conflict, is_refuted};
+use crate::queue_conflict::{QueueConflict, is_queue_refuted};
+use crate::queue_failures::queue_failure;
+use crate::queues::queue_order;
+use crate::set_conflict::{SetConflict, is_set_refuted};
+use crate::set_failures::set_failure;
+use crate::sets::set_order;
 use crate::zones::sought;
 use lin_history::{Event, OutOfMemory};
 use lin_objects::{Kind, Kinds};
@@ -55,12 +60,26 @@ fn placed(alloc: Global, acts: &Acts, operations: &[usize]) -> Result<Vec<Placed
 }
 
 /// An order of the events of a register, if the search finds one.
-fn attempted(alloc: Global, events: &[Event]) -> Result<Option<Vec<Placed>>, OutOfMemory> {
+fn register_order(alloc: Global, events: &[Event]) -> Result<Option<Vec<Placed>>, OutOfMemory> {
     let acts = Acts::of(alloc, events)?;
     let mut attempt = Attempt::new(alloc, &acts);
     match attempt.run()? {
         Some(operations) => Ok(Some(placed(alloc, &acts, &operations)?)),
         None => Ok(None),
+    }
+}
+
+/// An order of the events of an object of the kind, if a search finds one.
+fn attempted(
+    alloc: Global,
+    kind: Kind,
+    events: &[Event],
+) -> Result<Option<Vec<Placed>>, OutOfMemory> {
+    match kind {
+        Kind::Register | Kind::CasRegister => register_order(alloc, events),
+        Kind::Fifo => queue_order(alloc, events),
+        Kind::Set => set_order(alloc, events),
+        Kind::Mutex => Ok(None),
     }
 }
 
@@ -76,7 +95,7 @@ fn are_of(events: &[Event], key: i64) -> bool
     true
 }
 
-/// Whether the search finds an order of the events of a register of the kind, which all are of one key, and it is a legal one.
+/// Whether a search finds an order of the events of an object of the kind, which all are of one key, and it is a legal one.
 fn is_shown(alloc: Global, kind: Kind, events: &[Event]) -> Result<bool, OutOfMemory>
     ensures { IfOk result (λ shown. IsTrue shown → IsLinearizableAs kind events.now) }
 {
@@ -84,7 +103,7 @@ fn is_shown(alloc: Global, kind: Kind, events: &[Event]) -> Result<bool, OutOfMe
     if !are_of(events, key) {
         return Ok(false);
     }
-    let Some(order) = attempted(alloc, events)? else {
+    let Some(order) = attempted(alloc, kind, events)? else {
         return Ok(false);
     };
     check_order(alloc, events, &Kinds::new(alloc, kind), &order)
@@ -105,32 +124,81 @@ fn is_shown_of(
 
 /// Whether a legal order of the events at the places was found, which all are of one key. Of events of several keys none is.
 ///
-/// Only orders of registers are looked for. Takes time and memory linear in the events, apart from how many operations are open at a time.
-/// Where memory is refused none is found.
+/// Orders of registers, of sets, and of queues in which no number is put twice, are looked for. Takes time and memory linear in the events,
+/// apart from how many operations are open at a time, from the time to sort them, and from what reads of sets found. Where memory is
+/// refused none is found.
 pub fn finds_order(alloc: Global, kind: Kind, events: &[Event], picks: &[usize]) -> bool
     ensures { IsTrue result → IsLinearizableAs kind (events_at events.now picks.now) }
 {
     match kind {
-        Kind::Register | Kind::CasRegister => {
+        Kind::Register | Kind::CasRegister | Kind::Fifo | Kind::Set => {
             is_shown_of(alloc, kind, events, picks).unwrap_or(false)
         }
-        Kind::Fifo | Kind::Set | Kind::Mutex => false,
+        Kind::Mutex => false,
     }
 }
 
-/// The event at which a register of the kind fails, if operations that conflict are found in the events up to it, and a legal order of those
+/// Why an object has no legal order.
+#[derive(Clone, Copy)]
+enum Reason {
+    Register(Conflict),
+    Queue(QueueConflict),
+    Set(SetConflict),
+}
+
+/// Operations of an object of the kind that conflict, if a search finds such ones, and the event up to which they do.
+fn sought_as(
+    alloc: Global,
+    kind: Kind,
+    events: &[Event],
+) -> Result<Option<(usize, Reason)>, OutOfMemory> {
+    match kind {
+        Kind::Register | Kind::CasRegister => {
+            Ok(sought(alloc, events)?.map(|(at, conflict)| (at, Reason::Register(conflict))))
+        }
+        Kind::Set => {
+            Ok(set_failure(alloc, events)?.map(|(at, conflict)| (at, Reason::Set(conflict))))
+        }
+        Kind::Fifo => {
+            Ok(queue_failure(alloc, events)?.map(|(at, conflict)| (at, Reason::Queue(conflict))))
+        }
+        Kind::Mutex => Ok(None),
+    }
+}
+
+/// Whether no object of the kind has a legal order of the events, for this reason.
+fn is_refuted_as(kind: Kind, events: &[Event], reason: &Reason) -> bool
+    ensures { IsTrue result → IsLinearizableAs kind events.now → ⊥ }
+{
+    match reason {
+        Reason::Register(conflict) => match kind {
+            Kind::Register => is_refuted(events, conflict),
+            Kind::CasRegister => is_refuted(events, conflict),
+            Kind::Fifo | Kind::Set | Kind::Mutex => false,
+        },
+        Reason::Queue(conflict) => match kind {
+            Kind::Fifo => is_queue_refuted(events, conflict),
+            Kind::Register | Kind::CasRegister | Kind::Set | Kind::Mutex => false,
+        },
+        Reason::Set(conflict) => match kind {
+            Kind::Set => is_set_refuted(events, conflict),
+            Kind::Register | Kind::CasRegister | Kind::Fifo | Kind::Mutex => false,
+        },
+    }
+}
+
+/// The event at which an object of the kind fails, if operations that conflict are found in the events up to it, and a legal order of those
 /// before it.
 fn failing(alloc: Global, kind: Kind, events: &[Event]) -> Result<Option<usize>, OutOfMemory>
-    requires { IsRegister kind }
     ensures { IfOk result (λ found. IfSome found (λ at. IsDeadAt kind events.now at)) }
 {
-    let Some((at, conflict)) = sought(alloc, events)? else {
+    let Some((at, reason)) = sought_as(alloc, kind, events)? else {
         return Ok(None);
     };
     if at >= events.len() {
         return Ok(None);
     }
-    if !is_refuted(&events[..at + 1], &conflict) {
+    if !is_refuted_as(kind, &events[..at + 1], &reason) {
         return Ok(None);
     }
     if !is_shown(alloc, kind, &events[..at])? {
@@ -146,7 +214,6 @@ fn failing_of(
     events: &[Event],
     picks: &[usize],
 ) -> Result<Option<usize>, OutOfMemory>
-    requires { IsRegister kind }
     ensures { IfOk result (λ found. IfSome found (λ at. IsDeadAt kind (events_at events.now picks.now) at)) }
 {
     let own = picked(alloc, events, picks)?;
@@ -155,15 +222,15 @@ fn failing_of(
 
 /// Which of the events at the places is the one at which the shortest beginning without a legal order ends, if one is found.
 ///
-/// Only registers are looked at, and only values that one update leaves. Takes time and memory linear in the events, apart from how many
-/// operations are open at a time. Where memory is refused none is found.
+/// Looked at are registers, where values are left by one update each, queues, where numbers are put in once each, and sets. Takes time and memory linear in the events, apart
+/// from how many operations are open at a time and from what reads of sets found. Where memory is refused none is found.
 pub fn finds_failure(alloc: Global, kind: Kind, events: &[Event], picks: &[usize]) -> Option<usize>
     ensures { IfSome result (λ at. IsDeadAt kind (events_at events.now picks.now) at) }
 {
     match kind {
-        Kind::Register | Kind::CasRegister => {
+        Kind::Register | Kind::CasRegister | Kind::Fifo | Kind::Set => {
             failing_of(alloc, kind, events, picks).unwrap_or(None)
         }
-        Kind::Fifo | Kind::Set | Kind::Mutex => None,
+        Kind::Mutex => None,
     }
 }

@@ -7,14 +7,6 @@ mod kept;
 mod object;
 mod objects;
 mod session;
-#[cfg(test)]
-mod tests;
-#[cfg(test)]
-mod tests_refutes;
-#[cfg(test)]
-mod tests_witnesses;
-#[cfg(test)]
-mod tests_work;
 mod witnesses;
 mod work;
 

@@ -34,9 +34,21 @@ mod large;
 #[cfg(test)]
 mod objects;
 #[cfg(test)]
+mod queues;
+#[cfg(test)]
 mod refutations;
 #[cfg(test)]
 mod register;
+#[cfg(test)]
+mod session_refutes;
+#[cfg(test)]
+mod session_witnesses;
+#[cfg(test)]
+mod session_work;
+#[cfg(test)]
+mod sessions;
+#[cfg(test)]
+mod sets;
 #[cfg(test)]
 mod table;
 #[cfg(test)]

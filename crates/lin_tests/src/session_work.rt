@@ -1,7 +1,7 @@
 //! How much work a question takes after an edit.
-use crate::tests::{make, read, registers, saw, stale_read, told, write, wrote};
-use crate::{Edit, Scope, Session, Verdict};
+use crate::sessions::{make, read, registers, saw, stale_read, told, write, wrote};
 use lin_history::{Event, Val};
+use lin_session::{Edit, Scope, Session, Verdict};
 use std::alloc::Global;
 use std::process::Abort;
 use std::test::Fail;

@@ -1,8 +1,8 @@
 //! Worked histories, edited and asked about in turn.
-use crate::{Answer, Edit, EditFault, Scope, Session, Verdict};
 use lin_history::{Body, Call, Cause, Event, Name, OutOfMemory, Reply, Val};
 use lin_objects::{Kind, Kinds};
 use lin_order::{Placed, check_order};
+use lin_session::{Answer, Edit, EditFault, Scope, Session, Verdict};
 use std::alloc::Global;
 use std::process::Abort;
 use std::test::Fail;

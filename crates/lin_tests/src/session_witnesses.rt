@@ -1,8 +1,8 @@
 //! Objects that have more configurations than the budget, of which legal orders and failures are looked for.
-use crate::tests::{objects, read, registers, saw, write, wrote};
-use crate::{Answer, Scope, Session, Verdict};
-use lin_history::{Event, Val};
+use crate::sessions::{invoke, objects, ok, read, registers, saw, write, wrote};
+use lin_history::{Call, Event, IntSet, Name, Reply, Val};
 use lin_objects::Kind;
+use lin_session::{Answer, Scope, Session, Verdict};
 use std::alloc::Global;
 use std::process::Abort;
 use std::test::Fail;
@@ -130,5 +130,76 @@ fn a_failure_of_another_object_is_no_longer_hidden(rt: HostRuntime) -> Result<()
     );
     assert!(rt; session.judge(alloc, Scope::Whole)? == Verdict::No { prefix: 14 });
     assert!(rt; session.judge(alloc, Scope::Object(1))? == Verdict::No { prefix: 14 });
+    Ok(())
+}
+
+/// Eleven clients put numbers into a queue at once, and the first of these calls returns. Another client puts in 77 and then 78.
+fn enqueues_at_once(alloc: Global) -> Result<Vec<Event>, Fail> {
+    let mut events = Vec::new(alloc);
+    for process in 0..11 {
+        events.push(invoke(process, 0, Call::Enqueue(process.cast_signed())))?;
+    }
+    events.push(ok(0, 0, Name::Enqueue, Reply::Done))?;
+    for number in [77, 78] {
+        events.push(invoke(11, 0, Call::Enqueue(number)))?;
+        events.push(ok(11, 0, Name::Enqueue, Reply::Done))?;
+    }
+    Ok(events)
+}
+
+/// The events, and then a dequeue that found the number.
+fn with_dequeue(alloc: Global, number: i64) -> Result<Vec<Event>, Fail> {
+    let mut events = enqueues_at_once(alloc)?;
+    events.push(invoke(11, 0, Call::Dequeue))?;
+    let reply = Reply::Value(Val::Int(number));
+    events.push(ok(11, 0, Name::Dequeue, reply))?;
+    Ok(events)
+}
+
+#[test]
+fn queues_over_the_budget_are_decided(rt: HostRuntime) -> Result<(), Fail> {
+    let alloc = rt.alloc();
+    let history = enqueues_at_once(alloc)?;
+    let mut session = objects(&rt, alloc, Kind::Fifo, 1_024, &history)?;
+    assert!(rt; matches!(session.ask(alloc, Scope::Whole)?, Answer::Undecided { .. }));
+    assert!(rt; session.judge(alloc, Scope::Whole)? == Verdict::Yes);
+    let history = with_dequeue(alloc, 5)?;
+    let mut session = objects(&rt, alloc, Kind::Fifo, 1_024, &history)?;
+    assert!(rt; session.judge(alloc, Scope::Whole)? == Verdict::Yes);
+    // 77 was put in before 78, and nothing took it out.
+    let history = with_dequeue(alloc, 78)?;
+    let mut session = objects(&rt, alloc, Kind::Fifo, 1_024, &history)?;
+    assert!(rt; session.judge(alloc, Scope::Whole)? == Verdict::No { prefix: 18 });
+    Ok(())
+}
+
+/// Fourteen clients add numbers to a set at once, and another one finds all but the last.
+fn adds_at_once(alloc: Global) -> Result<Vec<Event>, Fail> {
+    let mut events = Vec::new(alloc);
+    let mut found = IntSet::new(alloc);
+    for process in 0..14 {
+        events.push(invoke(process, 0, Call::Add(process.cast_signed())))?;
+        if process < 13 {
+            found.insert(process.cast_signed())?;
+        }
+    }
+    events.push(read(14, 0))?;
+    events.push(ok(14, 0, Name::Read, Reply::Members(found)))?;
+    Ok(events)
+}
+
+#[test]
+fn sets_over_the_budget_are_decided(rt: HostRuntime) -> Result<(), Fail> {
+    let alloc = rt.alloc();
+    let mut history = adds_at_once(alloc)?;
+    let mut session = objects(&rt, alloc, Kind::Set, 1_024, &history)?;
+    assert!(rt; matches!(session.ask(alloc, Scope::Whole)?, Answer::Undecided { .. }));
+    assert!(rt; session.judge(alloc, Scope::Whole)? == Verdict::Yes);
+    // What was found is lost.
+    history.push(read(14, 0))?;
+    let none = Reply::Members(IntSet::new(alloc));
+    history.push(ok(14, 0, Name::Read, none))?;
+    let mut session = objects(&rt, alloc, Kind::Set, 1_024, &history)?;
+    assert!(rt; session.judge(alloc, Scope::Whole)? == Verdict::No { prefix: 18 });
     Ok(())
 }

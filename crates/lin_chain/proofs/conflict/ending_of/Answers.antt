@@ -4,17 +4,17 @@ use Rattle.std.proofs.lemmas.Option.{slice_get-get_or}
 use Rattle.lin_history.specs.declared.events.Event.{Event}
 use Rattle.lin_history.specs.Operations.{IsEvent, IsEnd}
 use Rattle.lin_order.proofs.OneEnd.{one_event}
-use Rattle.lin_chain.proofs.conflict.ok_of.Goals as goal
+use Rattle.lin_chain.proofs.conflict.ending_of.Goals as goal
 
-pub returns-in-Ok : goal.returns-in-Ok
-returns-in-Ok c key call begins =
+pub returns-then-ending-process : goal.returns-then-ending-process
+returns-then-ending-process c key call begins =
     let h = c.args.events.now in
     let at = c.loop-end.end in
     let ending = c.index-events-end.result in
     let there : IsEvent h at ending = slice_get-get_or h at ending c.loop-end-test.true ∙ ap Some (sym c.index-events-end.is) in
     let ended : IsEnd h c.args.at at ending =
     record { process = c.args.process; key = key; call = call; begins = begins; later = omega (arith, c.loop-end.auto.end); ends = there; same = c.if-ending-process.true; least = c.loop-end.invariant } in
-    (ending, ended, c.in-Ok.field-0, c.in-Ok.is)
+    ended
 
 pub loop-end-preserved : goal.loop-end-preserved
 loop-end-preserved c k later within of_process = elim (cases_lt k c.loop-end.end) [

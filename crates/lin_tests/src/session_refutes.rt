@@ -1,9 +1,9 @@
 //! Refutations of objects, and what is answered where there is none.
-use crate::tests::{make, read, registers, saw, told, write, wrote};
-use crate::{Answer, Edit, RefuteFault, Refuted, Scope, Session, Verdict};
+use crate::sessions::{make, read, registers, saw, told, write, wrote};
 use lin_history::{Body, Event, Name, Val};
 use lin_objects::Kind;
 use lin_order::check_refutation;
+use lin_session::{Answer, Edit, RefuteFault, Refuted, Scope, Session, Verdict};
 use std::alloc::Global;
 use std::process::Abort;
 use std::test::Fail;

@@ -1,0 +1,447 @@
+//! Legal orders and failures of sets, found without frontiers.
+use crate::compressed::{AMPLE, walked};
+use crate::drawn::Draw;
+use crate::events::{fail, info, invoke, ok};
+use crate::exact_sets::Came;
+use lin_chain::{finds_failure, finds_order};
+use lin_history::{Call, Event, IntSet, Name, OutOfMemory, Reply};
+use lin_objects::Kind;
+use std::alloc::Global;
+use std::test::Fail;
+
+fn add(process: u64, number: i64) -> Event {
+    invoke(process, Call::Add(number))
+}
+
+fn added(process: u64) -> Event {
+    ok(process, Name::Add, Reply::Done)
+}
+
+fn read(process: u64) -> Event {
+    invoke(process, Call::Read)
+}
+
+fn saw(alloc: Global, process: u64, numbers: &[i64]) -> Result<Event, OutOfMemory> {
+    let mut members = IntSet::new(alloc);
+    for number in numbers {
+        members.insert(*number)?;
+    }
+    Ok(ok(process, Name::Read, Reply::Members(members)))
+}
+
+/// The places of all events.
+fn places(alloc: Global, events: &[Event]) -> Result<Vec<usize>, OutOfMemory> {
+    let mut places = Vec::new(alloc);
+    for at in 0..events.len() {
+        places.push(at)?;
+    }
+    Ok(places)
+}
+
+/// Whether an order of the events is found.
+fn is_found(alloc: Global, events: &[Event]) -> Result<bool, OutOfMemory> {
+    let picks = places(alloc, events)?;
+    Ok(finds_order(alloc, Kind::Set, events, &picks))
+}
+
+/// The place of the event at which a set fails, as far as it is found.
+fn failing(alloc: Global, events: &[Event]) -> Result<Option<usize>, OutOfMemory> {
+    let picks = places(alloc, events)?;
+    Ok(finds_failure(alloc, Kind::Set, events, &picks))
+}
+
+/// Whether the failure is found at the place, and none in the events before it, of which an order is found.
+fn fails_at(alloc: Global, events: &[Event], at: usize) -> Result<bool, OutOfMemory> {
+    let before = &events[..at.min(events.len())];
+    Ok(
+        failing(alloc, events)? == Some(at)
+            && failing(alloc, before)? == None
+            && is_found(alloc, before)?,
+    )
+}
+
+/// Whether an order of each beginning of the events is found, and no failure.
+fn is_legal(alloc: Global, events: &[Event]) -> Result<bool, OutOfMemory> {
+    for count in 0..events.len() + 1 {
+        let first = &events[..count];
+        if !is_found(alloc, first)? || failing(alloc, first)? != None {
+            return Ok(false);
+        }
+    }
+    Ok(true)
+}
+
+#[test]
+fn a_number_that_nobody_added(rt: HostRuntime) -> Result<(), Fail> {
+    let alloc = rt.alloc();
+    let found = saw(alloc, 1, &[1, 2])?;
+    let events = [add(0, 1), added(0), read(1), found, add(0, 2), added(0)];
+    assert!(rt; fails_at(alloc, &events, 3)?);
+    Ok(())
+}
+
+#[test]
+fn a_number_whose_adds_fail(rt: HostRuntime) -> Result<(), Fail> {
+    let alloc = rt.alloc();
+    let found = saw(alloc, 1, &[1])?;
+    let once = [add(0, 1), read(1), found, fail(0, Name::Add), add(0, 1)];
+    assert!(rt; fails_at(alloc, &once, 3)?);
+    let found = saw(alloc, 2, &[1])?;
+    let twice = [
+        add(0, 1),
+        add(1, 1),
+        read(2),
+        found,
+        fail(0, Name::Add),
+        fail(1, Name::Add),
+    ];
+    assert!(rt; fails_at(alloc, &twice, 5)?);
+    Ok(())
+}
+
+#[test]
+fn a_number_that_was_lost(rt: HostRuntime) -> Result<(), Fail> {
+    let alloc = rt.alloc();
+    let found = saw(alloc, 1, &[])?;
+    let events = [add(0, 1), added(0), read(1), found, add(0, 2)];
+    assert!(rt; fails_at(alloc, &events, 3)?);
+    Ok(())
+}
+
+/// Its add never returned.
+#[test]
+fn a_number_that_an_earlier_read_found(rt: HostRuntime) -> Result<(), Fail> {
+    let alloc = rt.alloc();
+    let found = saw(alloc, 1, &[1])?;
+    let later = saw(alloc, 2, &[])?;
+    let events = [
+        add(0, 1),
+        read(1),
+        info(0, Name::Add),
+        found,
+        read(2),
+        later,
+    ];
+    assert!(rt; fails_at(alloc, &events, 5)?);
+    Ok(())
+}
+
+/// The read found 2 and not 1, and was there before both; the add of 1 returned ahead of that of 2, of which another one failed.
+#[test]
+fn a_number_that_came_in_before_another(rt: HostRuntime) -> Result<(), Fail> {
+    let alloc = rt.alloc();
+    let found = saw(alloc, 2, &[2])?;
+    let once = [read(2), add(0, 1), added(0), add(1, 2), found, added(1)];
+    assert!(rt; fails_at(alloc, &once, 4)?);
+    let found = saw(alloc, 2, &[2])?;
+    let again = [
+        read(2),
+        add(1, 2),
+        fail(1, Name::Add),
+        add(0, 1),
+        added(0),
+        add(1, 2),
+        found,
+    ];
+    assert!(rt; fails_at(alloc, &again, 6)?);
+    Ok(())
+}
+
+/// Each of two reads at once found a number that the other did not find; in the second history one of them found more numbers.
+#[test]
+fn reads_that_found_different_numbers(rt: HostRuntime) -> Result<(), Fail> {
+    let alloc = rt.alloc();
+    let one = saw(alloc, 2, &[1])?;
+    let other = saw(alloc, 3, &[2])?;
+    let equally_many = [add(0, 1), add(1, 2), read(2), read(3), one, other];
+    assert!(rt; fails_at(alloc, &equally_many, 5)?);
+    let one = saw(alloc, 3, &[1, 2])?;
+    let other = saw(alloc, 4, &[3])?;
+    let more = [
+        add(0, 1),
+        add(1, 2),
+        add(2, 3),
+        read(3),
+        read(4),
+        one,
+        other,
+    ];
+    assert!(rt; fails_at(alloc, &more, 6)?);
+    Ok(())
+}
+
+/// 1 came in behind the read that found 2, though its add was invoked before that.
+#[test]
+fn none_fails_of_a_legal_history(rt: HostRuntime) -> Result<(), Fail> {
+    let alloc = rt.alloc();
+    let found = saw(alloc, 1, &[2])?;
+    let later = saw(alloc, 1, &[1, 2])?;
+    let events = [
+        add(0, 1),
+        read(1),
+        add(2, 2),
+        added(2),
+        found,
+        added(0),
+        read(1),
+        later,
+    ];
+    assert!(rt; is_legal(alloc, &events)?);
+    Ok(())
+}
+
+/// What a client of a set is about.
+#[derive(Clone, Copy)]
+enum Client {
+    Idle,
+    /// It called, and nothing happened yet.
+    Waiting(Call),
+    /// Its number is in.
+    Growing,
+    /// It found the set when so many numbers were in.
+    Reading(usize),
+    Gone,
+}
+
+/// A set, and how its history is drawn.
+#[derive(Drop)]
+struct Source {
+    draw: Draw,
+    clients: u64,
+    /// Of so many operations one is a read.
+    reads: u64,
+    /// Of so many operations one crashes before it takes effect, and of those that are left one behind that.
+    crash: u64,
+    /// Of so many adds one fails.
+    refusal: u64,
+    /// Of so many reads one returns a wrong set; none does if this is 0.
+    wrong: u64,
+    /// There are so many numbers; each is added once if this is 0.
+    range: u64,
+    /// The numbers that clients were to add, in the order of their calls.
+    called: Vec<i64>,
+    /// The numbers that are in, in the order in which they came.
+    held: Vec<i64>,
+}
+
+impl Source {
+    fn call(&mut self) -> Result<Call, OutOfMemory> {
+        if self.draw.below(self.reads) == 0 {
+            return Ok(Call::Read);
+        }
+        let number = if self.range == 0 {
+            self.called.len() as u64
+        } else {
+            self.draw.below(self.range)
+        };
+        self.called.push(number.cast_signed())?;
+        Ok(Call::Add(number.cast_signed()))
+    }
+
+    /// The operation takes effect, unless it fails or crashes.
+    fn act(&mut self, process: u64, call: Call) -> Result<(Client, Option<Event>), OutOfMemory> {
+        if self.draw.below(self.crash) == 0 {
+            return Ok((Client::Gone, Some(info(process, call.name()))));
+        }
+        let Call::Add(number) = call else {
+            return Ok((Client::Reading(self.held.len()), None));
+        };
+        if self.draw.below(self.refusal) == 0 {
+            return Ok((Client::Idle, Some(fail(process, Name::Add))));
+        }
+        if !self.held.contains(&number) {
+            self.held.push(number)?;
+        }
+        Ok((Client::Growing, None))
+    }
+
+    /// The operation, which took effect, returns, unless it crashes.
+    fn finish(&mut self, process: u64, name: Name, reply: Reply) -> (Client, Option<Event>) {
+        if self.draw.below(self.crash) == 0 {
+            (Client::Gone, Some(info(process, name)))
+        } else {
+            (Client::Idle, Some(ok(process, name, reply)))
+        }
+    }
+
+    /// The number of which a read is wrong, if it is: one of the last five that clients were to add.
+    fn mistaken(&mut self) -> Option<i64> {
+        if self.wrong == 0 || self.draw.below(self.wrong) > 0 {
+            return None;
+        }
+        let back = (self.draw.below(5) as usize).saturating_add(1);
+        let at = self.called.len().wrapping_sub(back);
+        self.called.get(at).copied()
+    }
+
+    /// What a read returns that found the set when so many numbers were in. If it is wrong of a number, that is in and was not, or the other
+    /// way round.
+    fn members(&mut self, alloc: Global, count: usize) -> Result<IntSet, OutOfMemory> {
+        let mistaken = self.mistaken();
+        let mut other = mistaken;
+        let mut members = IntSet::new(alloc);
+        for number in &self.held[..count.min(self.held.len())] {
+            if Some(*number) == mistaken {
+                other = None;
+            } else {
+                members.insert(*number)?;
+            }
+        }
+        if let Some(number) = other {
+            members.insert(number)?;
+        }
+        Ok(members)
+    }
+
+    /// What the client does next, and the event of it, if there is one.
+    fn step(
+        &mut self,
+        alloc: Global,
+        process: u64,
+        client: Client,
+    ) -> Result<(Client, Option<Event>), OutOfMemory> {
+        match client {
+            Client::Idle => {
+                let call = self.call()?;
+                Ok((Client::Waiting(call), Some(invoke(process, call))))
+            }
+            Client::Waiting(call) => self.act(process, call),
+            Client::Growing => Ok(self.finish(process, Name::Add, Reply::Done)),
+            Client::Reading(count) => {
+                let members = self.members(alloc, count)?;
+                Ok(self.finish(process, Name::Read, Reply::Members(members)))
+            }
+            Client::Gone => Ok((Client::Gone, None)),
+        }
+    }
+
+    /// So many steps of the clients, each at any time: a call, its effect, or its return.
+    fn history(&mut self, alloc: Global, steps: usize) -> Result<Vec<Event>, OutOfMemory> {
+        let mut events = Vec::new(alloc);
+        let mut clients = [Client::Idle; 14];
+        for _ in 0..steps {
+            let process = self.draw.below(self.clients);
+            let client = clients
+                .get(process as usize)
+                .copied()
+                .unwrap_or(Client::Gone);
+            let (next, event) = self.step(alloc, process, client)?;
+            if let Some(place) = clients.get_mut(process as usize) {
+                *place = next;
+            }
+            if let Some(event) = event {
+                events.push(event)?;
+            }
+        }
+        Ok(events)
+    }
+}
+
+/// A history of 14 clients.
+fn large_history(alloc: Global, seed: u64, wrong: u64) -> Result<Vec<Event>, OutOfMemory> {
+    let mut source = Source {
+        draw: Draw { seed },
+        clients: 14,
+        reads: 4,
+        crash: 80,
+        refusal: 30,
+        wrong,
+        range: 0,
+        called: Vec::new(alloc),
+        held: Vec::new(alloc),
+    };
+    source.history(alloc, 500)
+}
+
+/// A history of four clients, in which one read of four is wrong.
+fn small_history(alloc: Global, seed: u64, range: u64) -> Result<Vec<Event>, OutOfMemory> {
+    let mut source = Source {
+        draw: Draw { seed },
+        clients: 4,
+        reads: 2,
+        crash: 24,
+        refusal: 6,
+        wrong: 4,
+        range,
+        called: Vec::new(alloc),
+        held: Vec::new(alloc),
+    };
+    source.history(alloc, 40)
+}
+
+#[test]
+fn orders_of_sets_are_found(rt: HostRuntime) -> Result<(), Fail> {
+    let alloc = rt.alloc();
+    for seed in 0..30 {
+        let events = large_history(alloc, seed, 0)?;
+        assert!(rt; is_found(alloc, &events)?);
+    }
+    Ok(())
+}
+
+/// Where each number is added once and some reads are wrong.
+#[test]
+fn orders_or_failures_of_sets_are_found(rt: HostRuntime) -> Result<(), Fail> {
+    let alloc = rt.alloc();
+    let mut failures: u64 = 0;
+    for seed in 0..30 {
+        let events = large_history(alloc, seed, 20)?;
+        let is_failing = failing(alloc, &events)?.is_some();
+        assert!(rt; is_found(alloc, &events)? != is_failing);
+        if is_failing {
+            failures = failures.saturating_add(1);
+        }
+    }
+    assert!(rt; 5 < failures && failures < 25);
+    Ok(())
+}
+
+/// Whether so many events, the first ones, have a legal order, if frontiers tell.
+fn told(alloc: Global, events: &[Event], count: usize) -> Result<Option<bool>, OutOfMemory> {
+    let first = &events[..count.min(events.len())];
+    let (came, _) = walked(alloc, Kind::Set, first, AMPLE)?;
+    Ok(match came {
+        Came::Sound(_) => Some(true),
+        Came::Empty => Some(false),
+        Came::Unsound(_) | Came::Over | Came::OverBefore => None,
+    })
+}
+
+/// Of small histories, in which numbers are added several times, an order is found where frontiers tell that there is one.
+#[test]
+fn orders_are_found_where_frontiers_go_on(rt: HostRuntime) -> Result<(), Fail> {
+    let alloc = rt.alloc();
+    let mut failures: u64 = 0;
+    for seed in 0..200 {
+        let events = small_history(alloc, seed, 6)?;
+        let is_linearizable = is_found(alloc, &events)?;
+        assert!(rt; told(alloc, &events, usize::MAX)? == Some(is_linearizable));
+        if !is_linearizable {
+            failures = failures.saturating_add(1);
+        }
+    }
+    assert!(rt; 30 < failures && failures < 150);
+    Ok(())
+}
+
+/// Where each number is added once.
+#[test]
+fn failures_are_found_where_frontiers_end(rt: HostRuntime) -> Result<(), Fail> {
+    let alloc = rt.alloc();
+    let mut failures: u64 = 0;
+    for seed in 0..200 {
+        let events = small_history(alloc, seed, 0)?;
+        match failing(alloc, &events)? {
+            Some(at) => {
+                failures = failures.saturating_add(1);
+                assert!(rt; told(alloc, &events, at)? == Some(true));
+                assert!(rt; told(alloc, &events, at.saturating_add(1))? == Some(false));
+            }
+            None => {
+                assert!(rt; told(alloc, &events, usize::MAX)? == Some(true));
+            }
+        }
+    }
+    assert!(rt; 30 < failures && failures < 150);
+    Ok(())
+}
