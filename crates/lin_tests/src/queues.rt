@@ -25,7 +25,7 @@ enum Client {
 struct Source {
     draw: Draw,
     clients: u64,
-    /// Of so many operations one crashes, and half of these before they take effect.
+    /// Of so many operations one crashes before it takes effect, and of those that are left one behind that.
     crash: u64,
     /// Of so many dequeues one returns a number that was put in shortly before, whatever it found; of none if this is 0.
     wrong: u64,

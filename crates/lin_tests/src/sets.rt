@@ -126,7 +126,8 @@ fn a_number_that_an_earlier_read_found(rt: HostRuntime) -> Result<(), Fail> {
     Ok(())
 }
 
-/// The read found 2 and not 1, and was there before both; the add of 1 returned ahead of that of 2, of which another one failed.
+/// The read, which was invoked first, found 2 and not 1, whose add returned before that of 2 was invoked. In the second history an earlier
+/// add of 2 failed.
 #[test]
 fn a_number_that_came_in_before_another(rt: HostRuntime) -> Result<(), Fail> {
     let alloc = rt.alloc();
@@ -274,8 +275,8 @@ impl Source {
         self.called.get(at).copied()
     }
 
-    /// What a read returns that found the set when so many numbers were in. If it is wrong of a number, that is in and was not, or the other
-    /// way round.
+    /// What a read returns that found the set when so many numbers were in. If it is wrong of one, it has that where it was not in, or the
+    /// other way round.
     fn members(&mut self, alloc: Global, count: usize) -> Result<IntSet, OutOfMemory> {
         let mistaken = self.mistaken();
         let mut other = mistaken;
