@@ -156,20 +156,30 @@ fn with_dequeue(alloc: Global, number: i64) -> Result<Vec<Event>, Fail> {
     Ok(events)
 }
 
+/// Whether the chains of the objects of the kind are over the budget.
+fn is_over(rt: &impl Abort, alloc: Global, kind: Kind, history: &[Event]) -> Result<bool, Fail> {
+    let mut session = objects(rt, alloc, kind, 1_024, history)?;
+    let answer = session.ask(alloc, Scope::Whole)?;
+    Ok(matches!(answer, Answer::Undecided { .. }))
+}
+
+/// What is told of the objects of the kind.
+fn judged(rt: &impl Abort, alloc: Global, kind: Kind, history: &[Event]) -> Result<Verdict, Fail> {
+    let mut session = objects(rt, alloc, kind, 1_024, history)?;
+    Ok(session.judge(alloc, Scope::Whole)?)
+}
+
 #[test]
 fn queues_over_the_budget_are_decided(rt: HostRuntime) -> Result<(), Fail> {
     let alloc = rt.alloc();
     let history = enqueues_at_once(alloc)?;
-    let mut session = objects(&rt, alloc, Kind::Fifo, 1_024, &history)?;
-    assert!(rt; matches!(session.ask(alloc, Scope::Whole)?, Answer::Undecided { .. }));
-    assert!(rt; session.judge(alloc, Scope::Whole)? == Verdict::Yes);
+    assert!(rt; is_over(&rt, alloc, Kind::Fifo, &history)?);
+    assert!(rt; judged(&rt, alloc, Kind::Fifo, &history)? == Verdict::Yes);
     let history = with_dequeue(alloc, 5)?;
-    let mut session = objects(&rt, alloc, Kind::Fifo, 1_024, &history)?;
-    assert!(rt; session.judge(alloc, Scope::Whole)? == Verdict::Yes);
+    assert!(rt; judged(&rt, alloc, Kind::Fifo, &history)? == Verdict::Yes);
     // 77 was put in before 78, and nothing took it out.
     let history = with_dequeue(alloc, 78)?;
-    let mut session = objects(&rt, alloc, Kind::Fifo, 1_024, &history)?;
-    assert!(rt; session.judge(alloc, Scope::Whole)? == Verdict::No { prefix: 18 });
+    assert!(rt; judged(&rt, alloc, Kind::Fifo, &history)? == Verdict::No { prefix: 18 });
     Ok(())
 }
 
@@ -192,14 +202,12 @@ fn adds_at_once(alloc: Global) -> Result<Vec<Event>, Fail> {
 fn sets_over_the_budget_are_decided(rt: HostRuntime) -> Result<(), Fail> {
     let alloc = rt.alloc();
     let mut history = adds_at_once(alloc)?;
-    let mut session = objects(&rt, alloc, Kind::Set, 1_024, &history)?;
-    assert!(rt; matches!(session.ask(alloc, Scope::Whole)?, Answer::Undecided { .. }));
-    assert!(rt; session.judge(alloc, Scope::Whole)? == Verdict::Yes);
+    assert!(rt; is_over(&rt, alloc, Kind::Set, &history)?);
+    assert!(rt; judged(&rt, alloc, Kind::Set, &history)? == Verdict::Yes);
     // What was found is lost.
     history.push(read(14, 0))?;
     let none = Reply::Members(IntSet::new(alloc));
     history.push(ok(14, 0, Name::Read, none))?;
-    let mut session = objects(&rt, alloc, Kind::Set, 1_024, &history)?;
-    assert!(rt; session.judge(alloc, Scope::Whole)? == Verdict::No { prefix: 18 });
+    assert!(rt; judged(&rt, alloc, Kind::Set, &history)? == Verdict::No { prefix: 18 });
     Ok(())
 }
