@@ -6,7 +6,7 @@ ghost use Rattle.std.specs.Cmp.{int_eq_equiv, partial_equiv_from_equiv};
 ghost use Rattle.std.specs.Ordering.{int_eq};
 ghost use Rattle.std.specs.Hash as fed;
 ghost use Rattle.std.specs.Hash.{same_Alike};
-ghost use Rattle.lin_history.specs.Numbers.{listed};
+ghost use Rattle.lin_history.specs.Numbers.{digest_of as digest, hashed, listed, mixed as mixed_in};
 ghost use Rattle.lin_history.specs.Sets.{IsRising, with_member, members_of, StaysRising, HasMember, AreSameSets};
 ghost use Rattle.lin_history.specs.Sameness.{numbers_Decides};
 
@@ -31,18 +31,28 @@ impl<T: Drop> From<AllocFailed<T>> for OutOfMemory {
     }
 }
 
+// An odd number, so that two digests of which one number more is taken in stay apart (Fowler, Noll and Vo's).
+const FACTOR: u64 = 1_099_511_628_211;
+
 /// A list of numbers. Copies share it, and one that is changed gets a list of its own.
 #[derive(Drop)]
 pub struct Numbers {
     /// None only where the list is empty, which takes no memory.
     list: Option<Rc<Vec<i64>>>,
+    /// What is hashed, and compared first, in place of the numbers.
+    digest: u64,
     alloc: Global,
 }
 
 impl Model for Numbers {
+    ghost use Rattle.std.specs.Prelude.{◌≡◌, List, ℤ};
+    ghost use Rattle.lin_history.specs.Numbers.{digest_of, listed};
+
     ghost Value = { List ℤ };
 
     ghost view = { λ a. listed a.list };
+
+    ghost invariant = { λ a. a.digest ≡ digest_of (listed a.list) };
 }
 
 impl PartialEq for Numbers {
@@ -51,7 +61,7 @@ impl PartialEq for Numbers {
     ghost laws = { lists_per (partial_equiv_from_equiv int_eq_equiv) };
 
     fn eq(&self, other: &Self) -> bool {
-        self.as_slice() == other.as_slice()
+        self.digest == other.digest && self.as_slice() == other.as_slice()
     }
 }
 
@@ -60,12 +70,42 @@ impl Eq for Numbers {
 }
 
 impl Hash for Numbers {
-    ghost hash_input = { λ v. fed.slice fed.i64 v };
+    ghost hash_input = { hashed };
 
-    ghost respects_eq = { (same_Alike (fed.slice fed.i64) numbers_Decides).fed };
+    ghost respects_eq = { (same_Alike hashed numbers_Decides).fed };
 
     fn hash<H: Hasher>(&self, state: &mut H) {
-        self.as_slice().hash(state);
+        self.digest.hash(state);
+    }
+}
+
+/// The digest with one number more.
+fn mixed(digest: u64, number: i64) -> u64
+    ensures { result ≡ mixed_in digest number }
+{
+    (digest ^ number.cast_unsigned()).wrapping_mul(FACTOR)
+}
+
+/// The digest of the numbers.
+fn digest_of(items: &[i64]) -> u64
+    ensures { result ≡ digest items.now }
+{
+    let mut digest = 0;
+    for number in items {
+        digest = mixed(digest, *number);
+    }
+    digest
+}
+
+/// The digest of the numbers, one of which was put in at a place among those that had the digest before.
+fn digest_with(before: u64, items: &[i64], at: usize, number: i64) -> u64
+    requires { (old : List ℤ) × (before ≡ digest old) × (at ≤ length old) × (items.now ≡ insert old at number) }
+    ensures { result ≡ digest items.now }
+{
+    if at + 1 == items.len() {
+        mixed(before, number)
+    } else {
+        digest_of(items)
     }
 }
 
@@ -74,16 +114,22 @@ impl Numbers {
     pub fn new(alloc: Global) -> Self
         ensures { result ≡ [] }
     {
-        Numbers { list: None, alloc }
+        Numbers {
+            list: None,
+            digest: 0,
+            alloc,
+        }
     }
 
     /// The numbers of the list.
     pub fn from_vec(alloc: Global, items: Vec<i64>) -> Result<Self, OutOfMemory>
         ensures { IfOk result (λ numbers. numbers ≡ items.items) }
     {
+        let digest = digest_of(items.as_slice());
         let list = Rc::new(alloc, items)?;
         Ok(Numbers {
             list: Some(list),
+            digest,
             alloc,
         })
     }
@@ -107,6 +153,7 @@ impl Numbers {
         };
         Ok(Numbers {
             list,
+            digest: self.digest,
             alloc: self.alloc,
         })
     }
@@ -121,12 +168,15 @@ impl Numbers {
             && let Some(own) = Rc::get_mut(list)
         {
             own.insert(at, number)?;
+            self.digest = digest_with(self.digest, own.as_slice(), at, number);
             return Ok(());
         }
         let mut own = Vec::with_capacity(self.alloc, self.as_slice().len() + 1)?;
         own.extend_from_slice(self.as_slice())?;
         own.insert(at, number)?;
+        let digest = digest_with(self.digest, own.as_slice(), at, number);
         self.list = Some(Rc::new(self.alloc, own)?);
+        self.digest = digest;
         Ok(())
     }
 
@@ -169,9 +219,9 @@ impl Eq for IntSet {
 }
 
 impl Hash for IntSet {
-    ghost hash_input = { λ v. fed.slice fed.i64 v };
+    ghost hash_input = { hashed };
 
-    ghost respects_eq = { (same_Alike (fed.slice fed.i64) numbers_Decides).fed };
+    ghost respects_eq = { (same_Alike hashed numbers_Decides).fed };
 
     fn hash<H: Hasher>(&self, state: &mut H) {
         self.numbers.hash(state);

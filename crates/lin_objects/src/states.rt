@@ -3,8 +3,8 @@ ghost use Rattle.std.specs.Prelude.{◌≡◌, ◌∷◌, ◌++◌, ◌<◌, [],
 ghost use Rattle.std.specs.Cmp.Lexicographic.{pointwise, lists_equiv, lists_per};
 ghost use Rattle.std.specs.Cmp.{int_eq_equiv, partial_equiv_from_equiv};
 ghost use Rattle.std.specs.Ordering.{int_eq};
-ghost use Rattle.std.specs.Hash as fed;
 ghost use Rattle.std.specs.Hash.{same_Alike};
+ghost use Rattle.lin_history.specs.Numbers.{hashed};
 ghost use Rattle.lin_history.specs.Sameness.{numbers_Decides};
 
 use lin_history::{IntSet, Numbers, OutOfMemory, Val};
@@ -39,9 +39,9 @@ impl Eq for IntQueue {
 }
 
 impl Hash for IntQueue {
-    ghost hash_input = { λ v. fed.slice fed.i64 v };
+    ghost hash_input = { hashed };
 
-    ghost respects_eq = { (same_Alike (fed.slice fed.i64) numbers_Decides).fed };
+    ghost respects_eq = { (same_Alike hashed numbers_Decides).fed };
 
     fn hash<H: Hasher>(&self, state: &mut H) {
         self.numbers.hash(state);
