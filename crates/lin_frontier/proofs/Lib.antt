@@ -1,4 +1,6 @@
 pub mod Absorbing
+pub mod Branching
+pub mod Branched
 pub mod Closing
 pub mod Counting
 pub mod Inserting

@@ -20,3 +20,4 @@ pub mod Overwritten
 pub mod OverwrittenLaws
 pub mod Compressed
 pub mod Listed
+pub mod Branches

@@ -2,6 +2,7 @@
 #![tactic(auto)]
 
 mod asking;
+mod branches;
 mod completions;
 mod compressed;
 mod configs;

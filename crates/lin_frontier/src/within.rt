@@ -1,5 +1,5 @@
 //! One more event of a compressed frontier, within a budget of configurations.
-ghost use Rattle.std.specs.Prelude.{◌≡◌, ◌⊎◌, ◌+◌, ◌*◌, ◌<◌, ◌≤◌, ℕ, ℤ, true, false, Bool, List, length, Contains, IsTrue, IfOk, IfSome, IfNone, OnErr};
+ghost use Rattle.std.specs.Prelude.{◌≡◌, ◌⊎◌, ◌+◌, ◌*◌, ◌<◌, ◌≤◌, ℕ, ℤ, true, false, Bool, List, length, Contains, IsTrue, Option, IfOk, IfSome, IfNone, OnErr};
 ghost use Rattle.lin_history.specs.declared.calls.Call.{Call as CallOf};
 ghost use Rattle.lin_history.specs.declared.calls.Name.{Name as NameOf};
 ghost use Rattle.lin_history.specs.declared.calls.Reply.{Reply as ReplyOf};
@@ -9,6 +9,7 @@ ghost use Rattle.lin_history.specs.Meters.{ticked};
 ghost use Rattle.lin_history.specs.WellFormed.{IsWellFormed};
 ghost use Rattle.lin_order.specs.ConfigurationLaws.{with_event};
 ghost use Rattle.lin_order.specs.Linearizable.{IsLinearizableBy};
+ghost use Rattle.lin_order.specs.declared.placed.Placed.{Placed as PlacedOf};
 ghost use Rattle.lin_frontier.specs.declared.members.Path.{Path as PathOf};
 ghost use Rattle.lin_frontier.specs.Asking.{AreAlone};
 ghost use Rattle.lin_frontier.specs.Compressed.{IsCompressed, IsSpelled, CompressedSpellLegalOrders};
@@ -18,6 +19,7 @@ ghost use Rattle.lin_frontier.specs.Members.{Member as MemberOf};
 ghost use Rattle.lin_frontier.specs.Nodes.{IsGrown};
 ghost use Rattle.lin_frontier.specs.Walks.{IsTriedAtMost};
 
+use crate::branches::are_surely_more;
 use crate::completions::push_member;
 use crate::compressed::{Compressed, Found, alone_all, open_after, push_all_taken_out};
 use crate::listed::listed;
@@ -44,15 +46,24 @@ const COUNTED: usize = 1_024;
 /// A search comes to so many members at most, unless the budget is large.
 const LONGEST_SEARCH: usize = 4_096;
 
+/// And to so many where there are surely more configurations than the budget.
+const SHORT_SEARCH: usize = 256;
+
+/// So many operations are open at least where it is surely so, since each budget below 1,024 is counted.
+const FEWEST_OPEN: usize = 8;
+
 /// Whether the budget is so small that all configurations are counted after each event.
 pub fn is_counted(budget: usize) -> bool {
     budget < COUNTED
 }
 
 /// Where a search comes to more members than these, the configurations before the event are counted instead.
-fn longest_search(budget: usize) -> usize
+fn longest_search(budget: usize, is_over: bool) -> usize
     ensures { result ≤ budget }
 {
+    if is_over {
+        return budget.min(SHORT_SEARCH);
+    }
     budget.min(LONGEST_SEARCH).max(budget / 16)
 }
 
@@ -86,6 +97,13 @@ fn are_alone<S: Eq + Hash>(members: &[Member<S>]) -> bool
         }
     }
     true
+}
+
+/// The first of the members.
+fn first_of<S: Eq + Hash + Drop>(members: &[Member<S>]) -> Option<&Member<S>>
+    ensures { IfSome result (λ m. Contains members.now m.now) }
+{
+    members.first()
 }
 
 /// Whether the members lead to more configurations than the budget.
@@ -325,8 +343,12 @@ impl<O: SeqObject> Compressed<O> {
         ensures scans { meter.new.scans ≡ meter.old.scans }
     {
         well_formed_is_alternating();
-        let limit = longest_search(budget);
         let alone = self.is_alone(object, budget);
+        let Ok(is_over) = self.is_surely_over(alloc, object, pending, budget) else {
+            meter.tick_step();
+            return Err(OutOfMemory);
+        };
+        let limit = longest_search(budget, is_over);
         match self.advance_up_to(
             alloc, object, pending, at, event, alone, limit, nodes, meter, scratch,
         )? {
@@ -377,6 +399,28 @@ impl<O: SeqObject> Compressed<O> {
             return Ok(Advance::Over);
         }
         Ok(Advance::Next(next))
+    }
+
+    /// Whether there are more configurations than the budget, as far as it is told without making any. Not so where all are counted.
+    fn is_surely_over(
+        &self,
+        alloc: Global,
+        object: &O,
+        pending: &[Open],
+        budget: usize,
+    ) -> Result<bool, OutOfMemory>
+        ensures { IfOk result (λ over. over ≡ true → (functions : ℤ → NameOf → Bool) (h : List EventOf) (nodes : List (ℕ × (PlacedOf × Option ℕ))) → IsWellFormed functions h → IsPending h pending.now
+            → IsCompressed (O.starts object.now) (O.step object.now) (O.observing object.now) (O.overwriting object.now) h self.now nodes
+            → IsOver (O.starts object.now) (O.step object.now) h budget) }
+    {
+        if is_counted(budget) || pending.len() < FEWEST_OPEN {
+            return Ok(false);
+        }
+        let Some(member) = first_of(&self.members) else {
+            return Ok(false);
+        };
+        let is_over = are_surely_more(object, alloc, pending, member, budget)?;
+        Ok(is_over)
     }
 
     /// Whether the budget is so small that all configurations are counted, and there are more of them. The frontier is that after
@@ -482,6 +526,9 @@ impl<O: SeqObject> Compressed<O> {
         legal_orders_end(object);
         members_are_exact(object);
         overwritten_can_go(object);
+        if self.is_surely_over(alloc, object, pending, budget)? {
+            return Ok(Advance::OverBefore);
+        }
         let before = Pending::of(pending);
         let Some(list) = listed(object, alloc, &before, &self.members, budget, nodes, meter)? else {
             return Ok(Advance::OverBefore);

@@ -3,6 +3,7 @@ pub mod Steps
 pub mod Observing
 pub mod Overwriting
 pub mod Commuting
+pub mod Total
 pub mod OnlySteps
 pub mod States
 pub mod Laws

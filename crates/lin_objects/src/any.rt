@@ -7,6 +7,7 @@ ghost use Rattle.lin_objects.specs.Observing.{IsObserving, observes as observes_
 ghost use Rattle.lin_objects.specs.Overwriting.{IsOverwriting, overwrites as overwrites_of, registers_overwritten};
 ghost use Rattle.lin_objects.specs.States.{state_same};
 ghost use Rattle.lin_objects.specs.OnlySteps.{IsOnlyStep};
+ghost use Rattle.lin_objects.specs.Total.{has_taken as has_taken_of, reads_show_adds, shown_by, shows as shows_of, total as total_of, totals_are_taken};
 
 use crate::kinds::Kind;
 use crate::objects::SeqObject;
@@ -42,6 +43,18 @@ impl SeqObject for Any {
     ghost commuting = { λ a. commutes_of a.kind };
 
     ghost swapped = { λ a. commuting_go_first a.kind };
+
+    ghost total = { λ a. total_of a.kind };
+
+    ghost taken = { λ a. totals_are_taken a.kind };
+
+    ghost shown = { λ a. shown_by a.kind };
+
+    ghost showing = { λ a. shows_of };
+
+    ghost having = { λ a. has_taken_of };
+
+    ghost told = { λ a. reads_show_adds a.kind };
 
     fn start(&self, alloc: Global) -> State {
         match self.kind {
@@ -84,6 +97,30 @@ impl SeqObject for Any {
                 (Call::Add(_), Call::Add(_)) | (Call::Read, Call::Read)
             ),
             Kind::Register | Kind::CasRegister | Kind::Fifo | Kind::Mutex => false,
+        }
+    }
+
+    /// The calls of queues and of sets. Those of registers are total too, but their configurations mostly cover one another.
+    fn is_total(&self, call: &Call) -> bool {
+        match self.kind {
+            Kind::Fifo => matches!(call, Call::Enqueue(_) | Call::Dequeue),
+            Kind::Set => matches!(call, Call::Add(_) | Call::Read),
+            Kind::Register | Kind::CasRegister | Kind::Mutex => false,
+        }
+    }
+
+    /// The adds of a set, by its reads.
+    fn is_shown_by(&self, call: &Call, reads: &Call) -> bool {
+        match self.kind {
+            Kind::Set => matches!((call, reads), (Call::Add(_), Call::Read)),
+            Kind::Register | Kind::CasRegister | Kind::Fifo | Kind::Mutex => false,
+        }
+    }
+
+    fn has_taken(&self, state: &State, call: &Call) -> bool {
+        match (state, call) {
+            (State::Members(members), Call::Add(number)) => members.as_slice().contains(number),
+            _ => false,
         }
     }
 

@@ -6,6 +6,7 @@ ghost use Rattle.lin_history.specs.declared.calls.Reply.{Reply as ReplyOf};
 ghost use Rattle.lin_objects.specs.Commuting.{IsCommuting};
 ghost use Rattle.lin_objects.specs.Observing.{IsObserving};
 ghost use Rattle.lin_objects.specs.Overwriting.{IsOverwriting};
+ghost use Rattle.lin_objects.specs.Total.{AreTotal, IsShown};
 
 use lin_history::{Call, Name, OutOfMemory, Reply};
 use std::alloc::Global;
@@ -45,6 +46,24 @@ pub trait SeqObject {
     /// Of two calls that commute either can be taken first.
     ghost swapped: { (object : Self) → IsCommuting (step object) (commuting object) };
 
+    /// Whether the call is known to be total.
+    ghost total: { Self → CallOf → Bool };
+
+    /// In each state that the object comes to, it takes a total call.
+    ghost taken: { (object : Self) → AreTotal (starts object) (step object) (total object) };
+
+    /// Whether replies to the second call are known to show the first.
+    ghost shown: { Self → CallOf → CallOf → Bool };
+
+    /// Whether the reply shows that the call was taken.
+    ghost showing: { Self → CallOf → ReplyOf → Bool };
+
+    /// Whether the state tells that it was.
+    ghost having: { Self → Self.State → CallOf → Bool };
+
+    /// Where replies are known to show a call, they show just whether it was taken.
+    ghost told: { (object : Self) (call reads : CallOf) → shown object call reads ≡ true → IsShown (step object) (showing object call) (λ state. having object state call) reads call };
+
     /// The state in which the object begins; takes no memory.
     fn start(&self, alloc: Global) -> Self::State
         ensures { result ≡ starts self.now };
@@ -67,6 +86,19 @@ pub trait SeqObject {
     /// first, with the same replies, and both lead to the same state.
     fn commutes(&self, call: &Call, other: &Call) -> bool
         ensures { result ≡ commuting self.now call.now other.now };
+
+    /// Whether the call is known to be total: the object takes it in each state that it comes to (Herlihy and Wing 1990, section 2).
+    fn is_total(&self, call: &Call) -> bool
+        ensures { result ≡ total self.now call.now };
+
+    /// Whether replies to `reads` are known to show the call: each that comes once the call was taken does so, and one that doesn't is
+    /// followed by others that don't until the call is taken.
+    fn is_shown_by(&self, call: &Call, reads: &Call) -> bool
+        ensures { result ≡ shown self.now call.now reads.now };
+
+    /// Whether the state tells that the call was taken; where it doesn't, no reply that is known to show the call does.
+    fn has_taken(&self, state: &Self::State, call: &Call) -> bool
+        ensures { result ≡ having self.now state.now call.now };
 
     /// An equal state.
     fn copy_state(&self, alloc: Global, state: &Self::State) -> Result<Self::State, OutOfMemory>

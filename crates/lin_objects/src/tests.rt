@@ -1,4 +1,4 @@
-use crate::{Any, IntQueue, Kind, Kinds, KindsFault, SeqObject};
+use crate::{Any, IntQueue, Kind, Kinds, KindsFault, SeqObject, State};
 use lin_history::{Call, IntSet, Name, OutOfMemory, Reply, Val};
 use std::alloc::Global;
 use std::test::Fail;
@@ -213,6 +213,35 @@ fn calls_of_sets_commute_with_their_like(rt: HostRuntime) -> Result<(), Fail> {
     for kind in [Kind::Register, Kind::CasRegister, Kind::Fifo, Kind::Mutex] {
         assert_eq!(rt; commuting_pairs(&Any { kind }, &calls), 0);
     }
+    Ok(())
+}
+
+#[test]
+fn calls_of_queues_and_sets_are_total(rt: HostRuntime) -> Result<(), Fail> {
+    let set = Any { kind: Kind::Set };
+    assert!(rt; set.is_total(&Call::Add(1)) && set.is_total(&Call::Read));
+    assert!(rt; !set.is_total(&Call::Dequeue));
+    let queue = Any { kind: Kind::Fifo };
+    assert!(rt; queue.is_total(&Call::Enqueue(1)) && queue.is_total(&Call::Dequeue));
+    let lock = Any { kind: Kind::Mutex };
+    assert!(rt; !lock.is_total(&Call::Acquire) && !lock.is_total(&Call::Release));
+    Ok(())
+}
+
+#[test]
+fn reads_of_a_set_show_its_adds(rt: HostRuntime) -> Result<(), Fail> {
+    let set = Any { kind: Kind::Set };
+    assert!(rt; set.is_shown_by(&Call::Add(1), &Call::Read));
+    assert!(rt; !set.is_shown_by(&Call::Read, &Call::Read));
+    let mut members = IntSet::new(rt.alloc());
+    members.insert(1)?;
+    let state = State::Members(members);
+    assert!(rt; set.has_taken(&state, &Call::Add(1)));
+    assert!(rt; !set.has_taken(&state, &Call::Add(2)));
+    let register = Any {
+        kind: Kind::Register,
+    };
+    assert!(rt; !register.is_shown_by(&Call::Write(int(1)), &Call::Read));
     Ok(())
 }
 

@@ -1,6 +1,9 @@
 //! How much work a question takes after an edit.
-use crate::sessions::{make, read, registers, saw, stale_read, told, write, wrote};
-use lin_history::{Event, Val};
+use crate::sessions::{
+    invoke, make, objects, ok, read, registers, saw, stale_read, told, write, wrote,
+};
+use lin_history::{Body, Call, Event, IntSet, Name, Reply, Val};
+use lin_objects::Kind;
 use lin_session::{Edit, Scope, Session, Verdict};
 use std::alloc::Global;
 use std::process::Abort;
@@ -147,5 +150,74 @@ fn a_larger_budget_goes_on_where_it_was_over(rt: HostRuntime) -> Result<(), Fail
         Scope::Whole,
         Verdict::No { prefix: 9 },
     )?;
+    Ok(())
+}
+
+/// So many clients put a number each into an object of the kind, from 0 on, and crash.
+fn crashed(alloc: Global, count: u64, kind: Kind) -> Result<Vec<Event>, Fail> {
+    let mut events = Vec::new(alloc);
+    for process in 0..count {
+        let number = process.cast_signed();
+        let (name, call) = match kind {
+            Kind::Fifo => (Name::Enqueue, Call::Enqueue(number)),
+            _ => (Name::Add, Call::Add(number)),
+        };
+        events.push(invoke(process, 0, call))?;
+        events.push(Event {
+            process,
+            key: 0,
+            body: Body::Info(name),
+        })?;
+    }
+    Ok(events)
+}
+
+/// The numbers from 0 on, so many of them.
+fn first_numbers(alloc: Global, count: i64) -> Result<Reply, Fail> {
+    let mut members = IntSet::new(alloc);
+    for number in 0..count {
+        members.insert(number)?;
+    }
+    Ok(Reply::Members(members))
+}
+
+/// How many calls are tried until the object is judged to be linearizable.
+fn tries(rt: &impl Abort, alloc: Global, kind: Kind, history: &[Event]) -> Result<u64, Fail> {
+    let mut session = objects(rt, alloc, kind, 65_536, history)?;
+    assert!(rt; session.judge(alloc, Scope::Whole)? == Verdict::Yes);
+    Ok(session.meter().tries())
+}
+
+#[test]
+fn a_set_with_many_crashed_adds_is_over_soon(rt: HostRuntime) -> Result<(), Fail> {
+    let alloc = rt.alloc();
+    // Twenty operations that are placed or not: more than a million configurations.
+    let mut history = crashed(alloc, 20, Kind::Set)?;
+    history.push(invoke(20, 0, Call::Read))?;
+    history.push(ok(20, 0, Name::Read, first_numbers(alloc, 20)?))?;
+    assert!(rt; tries(&rt, alloc, Kind::Set, &history)? < 20_000);
+    Ok(())
+}
+
+#[test]
+fn a_set_with_adds_beside_reads_is_over_soon(rt: HostRuntime) -> Result<(), Fail> {
+    let alloc = rt.alloc();
+    // Eight adds stand ahead of one of four reads, behind all of them, or nowhere: 6 to the power of 8 configurations.
+    let mut history = crashed(alloc, 8, Kind::Set)?;
+    for process in 8..12 {
+        history.push(invoke(process, 0, Call::Read))?;
+    }
+    history.push(ok(8, 0, Name::Read, first_numbers(alloc, 8)?))?;
+    assert!(rt; tries(&rt, alloc, Kind::Set, &history)? < 20_000);
+    Ok(())
+}
+
+#[test]
+fn a_queue_with_many_crashed_enqueues_is_over_soon(rt: HostRuntime) -> Result<(), Fail> {
+    let alloc = rt.alloc();
+    let mut history = crashed(alloc, 20, Kind::Fifo)?;
+    history.push(invoke(20, 0, Call::Dequeue))?;
+    history.push(ok(20, 0, Name::Dequeue, Reply::Value(Val::Int(7))))?;
+    assert!(rt; tries(&rt, alloc, Kind::Fifo, &history)? < 20_000);
     Ok(())
 }

@@ -16,6 +16,12 @@ returns-in_default-clause-before g c is functions h next frontier = (
       (subst (AreSpelled (g.O.SeqObject.starts c.args.object.now) (g.O.SeqObject.step c.args.object.now) (g.O.SeqObject.observing c.args.object.now) h c.args.nodes.now) (sym (c.deref.ensures.value ∙ c.self.view_is)) frontier.covering.spelled),
 )
 
+pub returns-then-branch-clause-before : goal.returns-then-branch-clause-before
+returns-then-branch-clause-before g c is functions h next frontier = (
+  ok_not_first c.well_formed_is_alternating.ensures functions h c.args.pending.now c.args.at c.args.event.now c.requires.ok.0 c.requires.ok.1 c.requires.ok.2 next,
+  c.in_ok-is_surely_over.ensures c.if-branch.true functions h c.args.nodes.now (well_formed_before c.well_formed_is_alternating.ensures functions h c.args.event.now next.well_formed) next.opened frontier,
+)
+
 pub returns-then-is_empty-clause-empty : goal.returns-then-is_empty-clause-empty
 returns-then-is_empty-clause-empty g c is functions h next frontier =
     let begin = g.O.SeqObject.starts c.args.object.now in
