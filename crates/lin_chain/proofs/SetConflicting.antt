@@ -137,12 +137,32 @@ module _ (h : List Event) where
     begins_out : (n : ℤ) → InSet (start Set) n → ⊥
     begins_out n has = nothing_in n has
 
-    -- nothing is found that is never added
-    pub unadded : (n : ℤ) (at end : ℕ) → IsNotAddedBy h n (length h) → HadAt h at n end → ⊥
+    -- nothing is found that is never added, or only after the operation returned
+    pub unadded : (n : ℤ) (at end : ℕ) → IsNotAddedBy h n end → HadAt h at n end → ⊥
+    unfolding has_in
     unadded n at end never shown =
         let p = has_in n at end shown in
-        never_had (start Set) legal.legal.0 n order legal.legal.1 (begins_out n)
-        (λ q c there is adds. let within = slice_get_within h q.at _ is.2 in none_failed q there (never q.at c (omega (arith, within)) is adds)) p.0 p.1 p.2 p.3 p.4
+        let parts = parted order p.0 p.2 in
+        let whole : order ≡ (parts.0 ++ p.0 ∷ []) ++ parts.1 = parts.2 ∙ sym (append_assoc parts.0 (p.0 ∷ []) parts.1) in
+        let run = runs_split (Step Set) h (start Set) legal.legal.0 (parts.0 ++ p.0 ∷ []) parts.1 (subst (λ l. Runs (Step Set) h (start Set) l legal.legal.0) whole legal.legal.1) in
+        let real_time = subst (AllPairs (λ x y. IsBefore h y.at x.at → ⊥)) parts.2 legal.order_of.real_time in
+        never_had (start Set) run.0 n (parts.0 ++ p.0 ∷ []) run.1 (begins_out n)
+        (λ q c there is adds. elim (cases_lt end q.at) [
+          | inl later ↦ elim (Contains-append_cases parts.0 (p.0 ∷ []) q there) [
+            | inl ahead ↦ across (λ y z. IsBefore h z.at y.at → ⊥) parts.0 (p.0 ∷ parts.1) q p.0 real_time ahead (0, omega arith, refl) (end, shown.1, shown.3, later)
+            | inr itself ↦ elim (first_or_rest p.0 [] q itself) [
+              | inl same ↦
+                  let ended = shown.3.1.later in
+                  let place : at ≡ q.at = ap (λ (x : Placed). x.at) same in
+                  omega (arith, ended, later, place)
+              | inr none ↦ nothing_in q none
+            ]
+          ]
+          | inr sooner ↦
+              let in_order : Contains order q = subst (λ l. Contains l q) (sym whole) (Contains-append_left (parts.0 ++ p.0 ∷ []) parts.1 q there) in
+              none_failed q in_order (never q.at c (omega (arith, sooner)) is adds)
+        ])
+        p.0 p.1 (Contains-append_right parts.0 (p.0 ∷ []) p.0 (0, omega arith, refl)) p.3 p.4
 
     -- round an operation behind which the set has a number
     module _ (n : ℤ) (before after : List Placed) (q : Placed) (call : Call) (split : order ≡ before ++ q ∷ after) (is : IsCall h q.at call) (has : Has call q.reply n) where

@@ -11,7 +11,7 @@ use lin_history::{Call, Event, Reply};
 /// Why a set has no legal order. Operations are named by the places of their invocations.
 #[derive(Clone, Copy, Debug, PartialEq, Eq)]
 pub enum SetConflict {
-    /// The read found the number, and none adds it that didn't fail.
+    /// The read found the number, and all that add it failed or were invoked after it returned.
     Unadded {
         read: usize,
         number: i64,
@@ -118,15 +118,12 @@ fn found_at(events: &[Event], at: usize, number: i64, other: i64) -> Option<usiz
     }
 }
 
-/// Whether the operation found the number, which none adds.
+/// Whether the operation found the number, which none adds that was invoked by the time it returned.
 fn is_unadded(events: &[Event], read: usize, number: i64) -> bool
     ensures { IsTrue result → IsLinearizableAs Set events.now → ⊥ }
 {
-    if is_added_by(events, number, events.len()) {
-        return false;
-    }
     match had_at(events, read, number) {
-        Some(_) => true,
+        Some(end) => !is_added_by(events, number, end),
         None => false,
     }
 }

@@ -2,15 +2,15 @@
 use crate::set_conflict::SetConflict;
 use lin_history::{Body, Call, Event, OutOfMemory, Reply};
 use std::alloc::Global;
-use std::collections::HashMap;
+use std::collections::{HashMap, HashSet};
 
 /// What is known of the adds of a number.
-#[derive(Clone, Copy)]
+#[derive(Drop)]
 struct Adds {
-    /// The first one.
-    first: usize,
-    /// How many there are that did not fail.
-    count: usize,
+    /// Where they were invoked, rising.
+    places: Vec<usize>,
+    /// How many of these, from the first one on, failed before all others.
+    skipped: usize,
 }
 
 /// An operation that was the first to return of those behind which the set has the number, and where it did.
@@ -31,7 +31,10 @@ struct Found<'a> {
 /// What a search has at hand.
 #[derive(Drop)]
 struct Search<'a> {
+    alloc: Global,
     adds: HashMap<i64, Adds>,
+    /// The adds that failed.
+    failed: HashSet<usize>,
     /// In the order of their ends.
     shown: Vec<Shown>,
     /// Where each number stands there.
@@ -65,7 +68,9 @@ fn apart(one: &Found, other: &Found) -> Option<SetConflict> {
 impl<'a> Search<'a> {
     fn new(alloc: Global) -> Search<'a> {
         Search {
+            alloc,
             adds: HashMap::new(alloc),
+            failed: HashSet::new(alloc),
             shown: Vec::new(alloc),
             places: HashMap::new(alloc),
             reads: Vec::new(alloc),
@@ -79,13 +84,14 @@ impl<'a> Search<'a> {
             self.latest.insert(process, (at, None))?;
             return Ok(());
         };
-        let old = self.adds.get(number).copied().unwrap_or(Adds {
-            first: at,
-            count: 0,
-        });
-        let first = if old.count == 0 { at } else { old.first };
-        let count = old.count.saturating_add(1);
-        self.adds.insert(*number, Adds { first, count })?;
+        match self.adds.get_mut(number) {
+            Some(adds) => adds.places.push(at)?,
+            None => {
+                let mut places = Vec::new(self.alloc);
+                places.push(at)?;
+                self.adds.insert(*number, Adds { places, skipped: 0 })?;
+            }
+        }
         self.latest.insert(process, (at, Some(*number)))?;
         Ok(())
     }
@@ -103,39 +109,59 @@ impl<'a> Search<'a> {
         Ok(())
     }
 
-    /// The add failed: none may be left of a number that was found.
-    fn failed(&mut self, number: i64) -> Result<Option<SetConflict>, OutOfMemory> {
-        let Some(old) = self.adds.get(&number).copied() else {
-            return Ok(None);
-        };
-        let count = old.count.saturating_sub(1);
-        self.adds.insert(number, Adds { count, ..old })?;
-        let found = self.places.get(&number).and_then(|at| self.shown.get(*at));
-        Ok(match found {
-            Some(shown) if count == 0 => Some(SetConflict::Unadded {
+    /// Where the first add of the number was invoked, of those that did not fail.
+    fn first(&self, number: i64) -> Option<usize> {
+        let adds = self.adds.get(&number)?;
+        adds.places.get(adds.skipped).copied()
+    }
+
+    /// The add at the place failed.
+    fn fail(&mut self, number: i64, at: usize) -> Result<(), OutOfMemory> {
+        self.failed.insert(at)?;
+        if let Some(adds) = self.adds.get_mut(&number) {
+            let mut skipped = adds.skipped;
+            for place in adds.places.iter().skip(adds.skipped) {
+                if !self.failed.contains(place) {
+                    break;
+                }
+                skipped = skipped.saturating_add(1);
+            }
+            adds.skipped = skipped;
+        }
+        Ok(())
+    }
+
+    /// What conflicts now that an add of the number failed: it was found before any other add of it, or without another number
+    /// that was there by then.
+    fn uncovered(&self, number: i64) -> Option<SetConflict> {
+        let shown = self.shown.get(*self.places.get(&number)?)?;
+        let first = self.first(number);
+        if first.is_none_or(|first| shown.end < first) {
+            return Some(SetConflict::Unadded {
                 read: shown.operation,
                 number,
-            }),
-            _ => None,
-        })
+            });
+        }
+        // Reads that found it found all that this one did.
+        let smallest = self
+            .reads
+            .iter()
+            .find(|read| read.members.binary_search(&number).is_ok())?;
+        self.overlooked(smallest, Some((first?, number)))
     }
 
     /// The number that the read found whose first add is the latest one, or one that is not added.
     fn newest(&self, read: &Found) -> Result<Option<(usize, i64)>, SetConflict> {
         let mut newest = None;
         for member in read.members {
-            match self.adds.get(member) {
-                Some(adds) if adds.count > 0 => {
-                    if newest.is_none_or(|(first, _)| first < adds.first) {
-                        newest = Some((adds.first, *member));
-                    }
-                }
-                _ => {
-                    return Err(SetConflict::Unadded {
-                        read: read.read,
-                        number: *member,
-                    });
-                }
+            let Some(first) = self.first(*member) else {
+                return Err(SetConflict::Unadded {
+                    read: read.read,
+                    number: *member,
+                });
+            };
+            if newest.is_none_or(|(place, _)| place < first) {
+                newest = Some((first, *member));
             }
         }
         Ok(newest)
@@ -222,7 +248,10 @@ impl<'a> Search<'a> {
                 self.show(number, operation, at)?;
                 Ok(None)
             }
-            (Body::Fail(_), Some(number)) => self.failed(number),
+            (Body::Fail(_), Some(number)) => {
+                self.fail(number, operation)?;
+                Ok(self.uncovered(number))
+            }
             _ => Ok(None),
         }
     }

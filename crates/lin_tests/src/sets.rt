@@ -99,6 +99,35 @@ fn a_number_whose_adds_fail(rt: HostRuntime) -> Result<(), Fail> {
     Ok(())
 }
 
+/// An add of the number fails that was invoked before the read found it, and the other add comes later.
+#[test]
+fn a_number_that_was_added_too_late(rt: HostRuntime) -> Result<(), Fail> {
+    let alloc = rt.alloc();
+    let found = saw(alloc, 2, &[2])?;
+    let history = [
+        add(3, 2),
+        read(2),
+        found,
+        add(2, 2),
+        read(0),
+        fail(3, Name::Add),
+    ];
+    assert!(rt; fails_at(alloc, &history, 5)?);
+    // The other add was there when another number was seen to be in, which the read did not find.
+    let found = saw(alloc, 2, &[2])?;
+    let history = [
+        add(3, 2),
+        read(2),
+        add(0, 1),
+        added(0),
+        add(1, 2),
+        found,
+        fail(3, Name::Add),
+    ];
+    assert!(rt; fails_at(alloc, &history, 6)?);
+    Ok(())
+}
+
 #[test]
 fn a_number_that_was_lost(rt: HostRuntime) -> Result<(), Fail> {
     let alloc = rt.alloc();
@@ -425,24 +454,33 @@ fn orders_are_found_where_frontiers_go_on(rt: HostRuntime) -> Result<(), Fail> {
     Ok(())
 }
 
-/// Where each number is added once.
+/// Whether the event at which the set fails is found, if frontiers tell of one; and whether there is one.
+fn fails_where_told(alloc: Global, events: &[Event]) -> Result<(bool, bool), OutOfMemory> {
+    match failing(alloc, events)? {
+        Some(at) => {
+            let before = told(alloc, events, at)?;
+            let with = told(alloc, events, at.saturating_add(1))?;
+            Ok((before == Some(true) && with == Some(false), true))
+        }
+        None => Ok((told(alloc, events, usize::MAX)? == Some(true), false)),
+    }
+}
+
+/// Where each number is added once, and where numbers are added several times, and some of these adds fail.
 #[test]
 fn failures_are_found_where_frontiers_end(rt: HostRuntime) -> Result<(), Fail> {
     let alloc = rt.alloc();
-    let mut failures: u64 = 0;
-    for seed in 0..200 {
-        let events = small_history(alloc, seed, 0)?;
-        match failing(alloc, &events)? {
-            Some(at) => {
+    for range in [0, 3, 6] {
+        let mut failures: u64 = 0;
+        for seed in 0..100 {
+            let events = small_history(alloc, seed, range)?;
+            let (is_right, is_failing) = fails_where_told(alloc, &events)?;
+            assert!(rt; is_right);
+            if is_failing {
                 failures = failures.saturating_add(1);
-                assert!(rt; told(alloc, &events, at)? == Some(true));
-                assert!(rt; told(alloc, &events, at.saturating_add(1))? == Some(false));
-            }
-            None => {
-                assert!(rt; told(alloc, &events, usize::MAX)? == Some(true));
             }
         }
+        assert!(rt; 10 < failures && failures < 90);
     }
-    assert!(rt; 30 < failures && failures < 150);
     Ok(())
 }
