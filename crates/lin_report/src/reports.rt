@@ -66,7 +66,7 @@ fn object_line(alloc: Global, session: &mut Session, key: i64) -> Result<Vec<u8>
     ensures present { session.new.present ≡ session.old.present }
 {
     let kind = session.kind_of(key);
-    let verdict = session.judge(alloc, Scope::Object(key))?;
+    let verdict = session.decide(alloc, Scope::Object(key))?;
     let mut line = name_words(alloc, key, kind)?;
     line.extend_from_slice(verdict_words(alloc, verdict)?.as_slice())?;
     line.push(b'\n')?;
@@ -126,7 +126,7 @@ pub fn report(alloc: Global, session: &mut Session) -> Result<Answered, OutOfMem
     ensures present { session.new.present ≡ session.old.present }
 {
     let keys = session.objects(alloc)?;
-    let whole = session.judge(alloc, Scope::Whole)?;
+    let whole = session.decide(alloc, Scope::Whole)?;
     let mut text = counts_line(alloc, session.len(), keys.len())?;
     put_lines(alloc, session, keys.as_slice(), whole, &mut text)?;
     text.extend_from_slice(whole_line(alloc, whole)?.as_slice())?;

@@ -3,6 +3,7 @@
 
 mod answers;
 mod edits;
+mod foresight;
 mod kept;
 mod object;
 mod objects;

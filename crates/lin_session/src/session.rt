@@ -20,6 +20,7 @@ use crate::kept::Objects;
 use crate::work::{least_of, round_down};
 use indexmap::IndexSet;
 use lin_chain::{End, RefuteFault};
+use lin_frontier::is_counted;
 use lin_history::{Event, Meter, OutOfMemory, Shape};
 use lin_objects::{Kind, Kinds, KindsFault};
 use lin_wellformed::Scan;
@@ -256,6 +257,40 @@ impl Session {
                 Ok(Verdict::IllFormed { at, cause })
             }
         }
+    }
+
+    /// The verdict for the scope, if searches find a legal order or operations that conflict of each of its objects. The history
+    /// isn't marked as asked about.
+    fn foreseen(&mut self, alloc: Global, scope: Scope) -> Result<Option<Verdict>, OutOfMemory>
+        ensures verdict { IfOk result (λ found. IfSome found (IsVerdict self.old.present scope)) }
+        ensures present { self.new.present ≡ self.old.present }
+    {
+        let shape = self
+            .scan
+            .settle(&self.events, &self.kinds, &mut self.meter)?;
+        let Shape::Good = shape else {
+            return Ok(None);
+        };
+        self.objects.split(alloc, &self.events, &self.kinds)?;
+        let verdict = self
+            .objects
+            .foreseen(alloc, scope, &self.events, &self.kinds, self.budget);
+        Ok(verdict)
+    }
+
+    /// As `judge`, but for a question that is asked once: of queues and sets a legal order is looked for first, and operations that
+    /// conflict, and where these tell of all objects of the scope, no chain takes events in. So the next
+    /// question may cost as much as if this one had not been asked.
+    pub fn decide(&mut self, alloc: Global, scope: Scope) -> Result<Verdict, OutOfMemory>
+        ensures verdict { IfOk result (IsVerdict self.old.present scope) }
+        ensures present { self.new.present ≡ self.old.present }
+    {
+        if !is_counted(self.budget as usize)
+            && let Some(verdict) = self.foreseen(alloc, scope)?
+        {
+            return Ok(verdict);
+        }
+        self.judge(alloc, scope)
     }
 
     /// A refutation of the key's object, or its answer where that isn't a no.

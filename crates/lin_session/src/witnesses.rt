@@ -1,5 +1,5 @@
 //! Legal orders, and operations that conflict, looked for where objects have more configurations than the budget.
-ghost use Rattle.std.specs.Prelude.{◌≡◌, ◌<◌, ℕ, ℤ, Some, length, slice_get};
+ghost use Rattle.std.specs.Prelude.{◌≡◌, ◌<◌, ℕ, ℤ, IfSome, Some, length, slice_get};
 ghost use Rattle.lin_history.specs.WellFormed.{IsWellFormed};
 ghost use Rattle.lin_objects.specs.Kinds.{functions_of, kind_of};
 ghost use Rattle.lin_order.specs.Parts.{events_at};
@@ -26,6 +26,19 @@ use lin_order::{
 use std::alloc::Global;
 
 impl Object {
+    /// How its events end, if a legal order of them is found, or operations that conflict.
+    pub(crate) fn found_end(&self, alloc: Global, events: &[Event]) -> Option<End>
+        ensures { (budget : ℕ) → IfSome result (IsEndOf (kind_in self.now.chain) budget (events_at events.now self.now.picks.items)) }
+    {
+        if finds_order(alloc, self.chain.kind(), events, &self.picks) {
+            return Some(End::Alive);
+        }
+        match finds_failure(alloc, self.chain.kind(), events, &self.picks) {
+            Some(at) => Some(End::Dead(at)),
+            None => None,
+        }
+    }
+
     /// Where its chain stands; but where that is over, alive if a legal order of its events is found, and dead if operations that conflict are.
     fn end_with_order(&self, alloc: Global, events: &[Event]) -> End
         ensures { (budget : ℕ) → IsEndOf (kind_in self.now.chain) budget (events_at events.now self.now.picks.items) (end_in self.now.chain)
@@ -35,17 +48,39 @@ impl Object {
         let End::Over(_) = end else {
             return end;
         };
-        if finds_order(alloc, self.chain.kind(), events, &self.picks) {
-            return End::Alive;
-        }
-        match finds_failure(alloc, self.chain.kind(), events, &self.picks) {
-            Some(at) => End::Dead(at),
+        match self.found_end(alloc, events) {
+            Some(found) => found,
             None => end,
         }
     }
 }
 
 impl Objects {
+    /// What is found of the object that is listed here, whose events end so.
+    pub(crate) fn told_end(
+        &self,
+        i: usize,
+        end: End,
+        events: &[Event],
+        kinds: &Kinds,
+        budget: u32,
+    ) -> (Option<usize>, Option<usize>)
+        requires listed { i < length self.now.keys.keys }
+        requires few { length events.now < usize.MAX }
+        requires split { split_in self.now ≡ length events.now }
+        requires right { AreRight self.now (kind_of kinds.now) budget events.now }
+        requires well_formed { IsWellFormed (functions_of (kind_of kinds.now)) events.now }
+        requires end { (object : ObjectOf) → slice_get self.now.objects.items i ≡ Some object → IsEndOf (kind_in object.chain) budget (events_at events.now object.picks.items) end }
+        ensures { (key : ℤ) → slice_get self.now.keys.keys i ≡ Some key → IsFinding (kind_of kinds.now) budget events.now key result.0 result.1 }
+    {
+        positions_spell_parts();
+        parts_of_prefixes();
+        parts_keep_orders();
+        beginnings_are_well_formed();
+        let object = &self.objects[i];
+        object.finding(end)
+    }
+
     /// What is found of the object that is listed here, which was judged, with a legal order looked for.
     fn finding_with_order(
         &self,
@@ -64,11 +99,9 @@ impl Objects {
         ensures { (key : ℤ) → slice_get self.now.keys.keys i ≡ Some key → IsFinding (kind_of kinds.now) budget events.now key result.0 result.1 }
     {
         positions_spell_parts();
-        parts_of_prefixes();
-        parts_keep_orders();
-        beginnings_are_well_formed();
         let object = &self.objects[i];
-        object.finding(object.end_with_order(alloc, events))
+        let end = object.end_with_order(alloc, events);
+        self.told_end(i, end, events, kinds, budget)
     }
 
     /// What is found of all objects, which were judged, with legal orders looked for: the shortest prefix that fails one, and the first

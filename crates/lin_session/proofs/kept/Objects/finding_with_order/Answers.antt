@@ -1,11 +1,12 @@
-use Rattle.std.proofs.Common.{◌≡◌, ℤ, pos, Some, length, slice_get, get_or, sym, subst, arith}
-use Rattle.std.proofs.lemmas.Option.{slice_get-get_or}
+use Rattle.std.proofs.Common.{◌≡◌, ℤ, pos, Some, slice_get, get_or, sym, subst, ◌∙◌}
+use Rattle.std.proofs.lemmas.Option.{slice_get-get_or, same_Some}
 use Rattle.lin_objects.specs.Kinds.{kind_of}
 use Rattle.lin_order.specs.Parts.{events_at, part}
 use Rattle.lin_chain.specs.Chains.{end_in, kind_in}
 use Rattle.lin_chain.specs.Ends.{IsEndOf}
 use Rattle.lin_session.specs.Objects.{IsObject}
-use Rattle.lin_session.proofs.Asking.{IsPlaceIn-end, picks_inside, length_spelled, spelled, finding_of}
+use Rattle.lin_session.specs.declared.kept.Object.{Object}
+use Rattle.lin_session.proofs.Asking.{spelled}
 use Rattle.lin_session.proofs.Found.{object_within}
 use Rattle.lin_session.proofs.kept.Objects.finding_with_order.Goals as goal
 use Rattle.lin_session.proofs.kept.Objects.finding_with_order.Goals.{After-index-object}
@@ -36,33 +37,10 @@ ended c key key_at =
     subst (λ k. IsEndOf k c.args.budget (events_at c.args.events.now old.picks.items) (end_in old.chain)) (sym (there c key key_at).kind)
     (subst (λ l. IsEndOf (kind_of c.args.kinds.now key) c.args.budget l (end_in old.chain)) (sym (spells c key key_at)) (c.requires.judged key old key_at (object_is c)).ended)
 
-spelled_length : (c : After-index-object) → length (events_at c.args.events.now c.index-object.result.now.picks.items) ≡ length c.index-object.result.now.picks.items
-spelled_length c =
-    length_spelled c.positions_spell_parts.ensures (kind_of c.args.kinds.now) c.args.budget c.args.events.now c.args.self.now.split (key_there c) c.index-object.result.now c.requires.split (there c (key_there c) (key_is c))
-
-pub finding-requires-clause-place : goal.finding-requires-clause-place
-finding-requires-clause-place c =
-    let b = (goal.at.finding-requires-clause-place c).After-index-object in
+pub told_end-requires-clause-end : goal.told_end-requires-clause-end
+told_end-requires-clause-end c = λ object object_at.
+    let b = (goal.at.told_end-requires-clause-end c).After-index-object in
     let old = c.index-object.result.now in
-    IsPlaceIn-end (kind_in old.chain) c.args.budget (events_at c.args.events.now old.picks.items) (length old.picks.items) (spelled_length b) c.end_with_order.result
-    (c.end_with_order.ensures c.args.budget (ended b (key_there b) (key_is b)))
-
-pub finding-requires-clause-small : goal.finding-requires-clause-small
-finding-requires-clause-small c = λ k d within.
-    let b = (goal.at.finding-requires-clause-small c).After-index-object in
-    let inside = picks_inside c.positions_spell_parts.ensures (kind_of c.args.kinds.now) c.args.budget c.args.events.now c.args.self.now.split (key_there b) c.index-object.result.now c.requires.split (there b (key_there b) (key_is b)) k d within in
-    omega (arith, inside, c.requires.few)
-
-pub returns : goal.returns
-returns c = λ key key_at.
-    let b = (goal.at.returns c).After-index-object in
-    let K = kind_of c.args.kinds.now in
-    let h = c.args.events.now in
-    let old = c.index-object.result.now in
-    let end = c.end_with_order.result in
-    let is = there b key key_at in
-    let now = c.end_with_order.ensures c.args.budget (ended b key key_at) in
-    let place = IsPlaceIn-end (kind_in old.chain) c.args.budget (events_at h old.picks.items) (length old.picks.items) (spelled_length b) end now in
-    let end_of = subst (λ k. IsEndOf k c.args.budget (part key h) end) is.kind (subst (λ l. IsEndOf (kind_in old.chain) c.args.budget l end) (spells b key key_at) now) in
-    finding_of c.positions_spell_parts.ensures K c.args.budget h c.args.self.now.split key old c.requires.split is c.beginnings_are_well_formed.ensures c.parts_of_prefixes.ensures.prefixes
-    c.parts_of_prefixes.ensures.up_to c.parts_keep_orders.ensures.linearizable c.requires.well_formed end c.finding.result place end_of c.finding.ensures
+    let same : old ≡ object = same_Some old object (sym (object_is b) ∙ object_at) in
+    subst (λ (o : Object). IsEndOf (kind_in o.chain) c.args.budget (events_at c.args.events.now o.picks.items) c.end_with_order-end.result) same
+    (c.end_with_order-end.ensures c.args.budget (ended b (key_there b) (key_is b)))
