@@ -221,3 +221,31 @@ fn a_queue_with_many_crashed_enqueues_is_over_soon(rt: HostRuntime) -> Result<()
     assert!(rt; tries(&rt, alloc, Kind::Fifo, &history)? < 20_000);
     Ok(())
 }
+
+/// Four adds crash, and a read finds three of their numbers.
+fn three_of_four(alloc: Global) -> Result<Vec<Event>, Fail> {
+    let mut history = crashed(alloc, 4, Kind::Set)?;
+    history.push(invoke(4, 0, Call::Read))?;
+    history.push(ok(4, 0, Name::Read, first_numbers(alloc, 3)?))?;
+    Ok(history)
+}
+
+#[test]
+fn a_set_is_decided_without_its_chain(rt: HostRuntime) -> Result<(), Fail> {
+    let alloc = rt.alloc();
+    let mut history = three_of_four(alloc)?;
+    let mut session = objects(&rt, alloc, Kind::Set, 65_536, &history)?;
+    assert!(rt; session.decide(alloc, Scope::Whole)? == Verdict::Yes);
+    assert!(rt; session.meter().tries() == 0);
+    // The next question costs as much as if that one had not been asked.
+    assert!(rt; session.judge(alloc, Scope::Whole)? == Verdict::Yes);
+    assert!(rt; 0 < session.meter().tries());
+    // A later read lost one of them.
+    history.push(invoke(4, 0, Call::Read))?;
+    history.push(ok(4, 0, Name::Read, first_numbers(alloc, 2)?))?;
+    let mut session = objects(&rt, alloc, Kind::Set, 65_536, &history)?;
+    let no = Verdict::No { prefix: 12 };
+    assert!(rt; session.decide(alloc, Scope::Object(0))? == no);
+    assert!(rt; session.meter().tries() == 0);
+    Ok(())
+}
