@@ -1,5 +1,5 @@
 -- Open operations that can be placed or not, as they are picked: there are more configurations than the budget.
-use Rattle.std.proofs.Common.{mul-le-mul, ◌≡◌, ◌≢◌, ◌⊎◌, ℕ, ℤ, zero, suc, ◌+◌, ◌*◌, ◌-◌, ◌<◌, ◌≤◌, Bool, true, false, true≢false, List, [], ◌∷◌, ◌++◌, length, length-append, Contains, All, AllPairs, get_or, take, inl, inr, refl, sym, ap, subst, ◌∙◌, arith}
+use Rattle.std.proofs.Common.{mul-le-mul, ◌≡◌, ◌≢◌, ℕ, ℤ, zero, suc, ◌+◌, ◌*◌, ◌-◌, ◌<◌, ◌≤◌, Bool, true, false, List, [], ◌∷◌, ◌++◌, length, length-append, Contains, All, AllPairs, get_or, take, inl, inr, refl, sym, ap, subst, ◌∙◌, arith}
 use Rattle.std.proofs.lemmas.Bool.{cases_order}
 use Rattle.std.proofs.lemmas.List.{get_or_append_left, get_or_default, get_or-append_right, get_or-take, length-take-le, take_all}
 use Rattle.std.proofs.lemmas.List.Elements.{All-append, All-cons, All-contains, All-take, All-weaker, Contains-append_left, Contains-get_or, Contains-push}

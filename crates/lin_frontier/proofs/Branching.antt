@@ -1,5 +1,5 @@
 -- Placing each of some open operations or not: how many configurations there are at least.
-use Rattle.std.proofs.Common.{◌≡◌, ◌≢◌, ◌⊎◌, ℕ, ℤ, zero, suc, ◌+◌, ◌*◌, ◌<◌, Bool, true, false, true≢false, List, [], ◌∷◌, ◌++◌, length, length-append, Contains, All, AllPairs, get_or, inl, inr, refl, sym, ap, subst, ◌∙◌, arith}
+use Rattle.std.proofs.Common.{◌≡◌, ◌≢◌, ◌⊎◌, ℕ, ℤ, zero, suc, ◌+◌, ◌*◌, Bool, true, false, true≢false, List, [], ◌∷◌, ◌++◌, length, length-append, Contains, All, AllPairs, get_or, inl, inr, refl, sym, ap, subst, ◌∙◌, arith}
 use Rattle.std.proofs.lemmas.List.Elements.{All-append, Contains-append_right, All-cons, All-head, All-tail, All-contains, All-weaker}
 use Rattle.std.proofs.lemmas.List.Kept.{AllPairs-cons}
 use Rattle.std.proofs.Math.Nat.{mul_assoc, mul_left_comm, suc-mul}
@@ -15,7 +15,7 @@ use Rattle.lin_order.specs.Linearizable.{Runs}
 use Rattle.lin_frontier.specs.Branches.{power}
 use Rattle.lin_frontier.specs.declared.pending.Open.{Open}
 use Rattle.lin_frontier.proofs.Choosing.{can_add}
-use Rattle.lin_frontier.proofs.Inserting.{first_or_rest, rising_once}
+use Rattle.lin_frontier.proofs.Inserting.{rising_once}
 
 pairs_first : {A : Type 0} (R : A → A → Type 0) (x : A) (xs : List A) → AllPairs R (x ∷ xs) → All (R x) xs
 pairs_first R x xs all k d inside = all 0 (suc k) d (omega arith) (omega (arith, inside))

@@ -65,6 +65,10 @@ module _ (spell : PositionsSpellParts) (kinds : ℤ → Kind) (budget : ℕ) (h 
   pub spelled : events_at h old.picks.items ≡ part key h
   spelled = (spell key h old.picks.items picked).events_of
 
+  -- how the object's events end, as the chain names them
+  pub ended_in : (end : End) → IsEndOf (kinds key) budget (part key h) end → IsEndOf (kind_in old.chain) budget (events_at h old.picks.items) end
+  ended_in end ended = subst (λ k. IsEndOf k budget (events_at h old.picks.items) end) (sym is.kind) (subst (λ l. IsEndOf (kinds key) budget l end) (sym spelled) ended)
+
   pub right_spelled : IsRight old.chain (events_at h old.picks.items)
   right_spelled = subst (IsRight old.chain) (sym spelled) is.right
 

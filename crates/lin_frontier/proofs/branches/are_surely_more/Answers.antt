@@ -1,6 +1,6 @@
-use Rattle.std.proofs.Common.{◌≡◌, ◌+◌, ◌<◌, ◌≤◌, Contains, All, List, length, subst, sym, ap, ◌∙◌, arith}
+use Rattle.std.proofs.Common.{◌≡◌, Contains, List, length, subst, ap, arith}
 use Rattle.std.proofs.lemmas.List.Elements.{All-contains}
-use Rattle.lin_frontier.specs.Branches.{power, ArePicked, IsFree, IsUntold}
+use Rattle.lin_frontier.specs.Branches.{ArePicked, IsFree, IsUntold}
 use Rattle.lin_frontier.specs.declared.pending.Open.{Open}
 use Rattle.lin_frontier.specs.Rounds.{joined}
 use Rattle.lin_frontier.proofs.Branched.{ahead_or_behind, each_or_not}

@@ -1,4 +1,4 @@
-use Rattle.std.proofs.Common.{◌≡◌, ◌≢◌, All, subst, sym, ◌∙◌, true≢false}
+use Rattle.std.proofs.Common.{◌≢◌, All, subst, sym, ◌∙◌, true≢false}
 use Rattle.std.proofs.lemmas.List.{take_all}
 use Rattle.std.proofs.lemmas.List.Elements.{All-more}
 use Rattle.lin_frontier.specs.declared.pending.Open.{Open}

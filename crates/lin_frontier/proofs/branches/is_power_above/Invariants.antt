@@ -1,4 +1,4 @@
-use Rattle.std.proofs.Common.{◌≤◌, ◌<◌}
+use Rattle.std.proofs.Common.{◌≤◌}
 use Rattle.lin_frontier.specs.Branches.{power}
 use Rattle.lin_frontier.proofs.branches.is_power_above.Given as goal
 

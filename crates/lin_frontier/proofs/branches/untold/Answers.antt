@@ -1,5 +1,4 @@
-use Rattle.std.proofs.Common.{◌≡◌, ◌≢◌, ◌++◌, ◌∷◌, [], All, AllPairs, get_or, subst, sym, ap, ◌∙◌}
-use Rattle.std.proofs.lemmas.List.Quantifiers.{all_pairs_push}
+use Rattle.std.proofs.Common.{◌≢◌, AllPairs, subst, sym, ap, ◌∙◌}
 use Rattle.lin_frontier.specs.declared.pending.Open.{Open}
 use Rattle.lin_frontier.specs.Branches.{IsUntold}
 use Rattle.lin_frontier.proofs.Branched.{differ_push, picked_in, picked_out}

@@ -1,4 +1,4 @@
-use Rattle.std.proofs.Common.{◌≡◌, sym, ap, length, subst, ◌∙◌}
+use Rattle.std.proofs.Common.{sym, ap, length, subst, ◌∙◌}
 use Rattle.lin_history.specs.WellFormed.{IsShape}
 use Rattle.lin_objects.specs.Kinds.{functions_of, kind_of}
 use Rattle.lin_wellformed.specs.Scans.{IsRight, ready_count}
