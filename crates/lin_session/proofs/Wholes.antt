@@ -1,5 +1,5 @@
 -- From what was found of the objects to the answer for the whole.
-use Rattle.std.proofs.Common.{◌≡◌, ◌≢◌, ◌<◌, ◌≤◌, ◌-◌, ◌+◌, ◌↔◌, ◌⊎◌, ℕ, ℤ, Bool, true, false, List, [], ◌∷◌, ◌++◌, Option, None, Some, Contains, All, min, length, take, inl, inr, refl, sym, ap, subst, ◌∙◌, arith, add-one, append-nil}
+use Rattle.std.proofs.Common.{◌≡◌, ◌≢◌, ◌<◌, ◌≤◌, ◌-◌, ◌+◌, ◌↔◌, ◌⊎◌, ℕ, ℤ, Bool, true, false, List, [], ◌∷◌, ◌++◌, Option, None, Some, Contains, All, min, length, slice_get, take, inl, inr, refl, sym, ap, subst, ◌∙◌, arith, add-one, append-nil}
 use Rattle.std.specs.Ordering.{int_eq}
 use Rattle.std.specs.List.{list_any}
 use Rattle.std.proofs.lemmas.Bool.{cases_lt, false≢true}
@@ -189,6 +189,14 @@ module _ (kinds : ℤ → Kind) (budget : ℕ) (h : List Event) where
       | inr same ↦ subst (IsCovered kinds budget h (least f f') (least o o')) same (newly f o f' o' key is)
     ];
   }
+
+  -- those of one more key among the first ones
+  pub AreFound-next : (keys : List ℤ) (i : ℕ) (f o f' o' a b : Option ℕ) (key : ℤ) → slice_get keys i ≡ Some key → AreFound kinds budget h (take i keys) f o → IsFinding kinds budget h key f' o'
+      → a ≡ least f f' → b ≡ least o o' → AreFound kinds budget h (take (i + 1) keys) a b
+  AreFound-next keys i f o f' o' a b key key_at found is first second =
+      let keys_are : take i keys ++ key ∷ [] ≡ take (i + 1) keys = sym (take_next i keys key key_at) ∙ ap (λ n. take n keys) (sym (add-one i)) in
+      subst (λ x. AreFound kinds budget h (take (i + 1) keys) x b) (sym first) (subst (AreFound kinds budget h (take (i + 1) keys) (least f f')) (sym second)
+      (subst (λ k. AreFound kinds budget h k (least f f') (least o o')) keys_are (AreFound-more (take i keys) f o f' o' key found is)))
 
 pub least_none : (a b : Option ℕ) → least a b ≡ None → (a ≡ None) × (b ≡ None)
 least_none None b e = (refl, e)

@@ -1,11 +1,9 @@
-use Rattle.std.proofs.Common.{◌≡◌, ◌<◌, ◌+◌, ◌++◌, ◌∷◌, [], ℤ, pos, Some, length, slice_get, get_or, take, sym, ap, subst, ◌∙◌, arith, add-one}
+use Rattle.std.proofs.Common.{◌≡◌, ◌<◌, ℤ, pos, Some, length, slice_get, get_or, take, subst, arith}
 use Rattle.std.proofs.lemmas.List.{take_all}
 use Rattle.std.proofs.lemmas.Option.{slice_get-get_or}
-use Rattle.lin_history.proofs.Lists.{take_next}
 use Rattle.lin_objects.specs.Kinds.{kind_of}
 use Rattle.lin_session.specs.Judgements.{AreFound}
-use Rattle.lin_session.specs.Work.{least}
-use Rattle.lin_session.proofs.Wholes.{AreFound-more, AreFound-none}
+use Rattle.lin_session.proofs.Wholes.{AreFound-next, AreFound-none}
 use Rattle.lin_session.proofs.kept.Objects.foreseen_all.Goals as goal
 
 pub loop-i-init : goal.loop-i-init
@@ -20,14 +18,9 @@ loop-i-preserved c =
     let within : i < length keys = omega (arith, c.loop-i-test.true, c.len-i-end.ensures, c.args.self.now.objects.ok.0, c.args.self.now.aligned) in
     let key : ℤ = get_or keys i (pos 0) in
     let key_at : slice_get keys i ≡ Some key = slice_get-get_or keys i (pos 0) within in
-    let f = c.loop-i.failing in
-    let o = c.loop-i.over in
     let found = c.in-Some.found in
-    let more = AreFound-more K c.args.budget h (take i keys) f o found.0 found.1 key c.loop-i.invariant (c.in-Some.ensures key key_at) in
-    let keys_are : take i keys ++ key ∷ [] ≡ take (i + 1) keys = sym (take_next i keys key key_at) ∙ ap (λ n. take n keys) (sym (add-one i)) in
-    subst (λ a. AreFound K c.args.budget h (take (i + 1) keys) a c.least_of-over.result) (sym c.least_of-failing.ensures)
-    (subst (λ b. AreFound K c.args.budget h (take (i + 1) keys) (least f found.0) b) (sym c.least_of-over.ensures)
-    (subst (λ k. AreFound K c.args.budget h k (least f found.0) (least o found.1)) keys_are more))
+    AreFound-next K c.args.budget h keys i c.loop-i.failing c.loop-i.over found.0 found.1 c.least_of-failing.result c.least_of-over.result key key_at c.loop-i.invariant (c.in-Some.ensures key key_at)
+    c.least_of-failing.ensures c.least_of-over.ensures
 
 pub returns : goal.returns
 returns c =

@@ -1,16 +1,14 @@
-use Rattle.std.proofs.Common.{◌≡◌, ◌<◌, ◌+◌, inl, inr, ℤ, pos, Some, ◌++◌, ◌∷◌, [], length, slice_get, get_or, take, sym, ap, subst, ◌∙◌, arith, add-one, suc}
+use Rattle.std.proofs.Common.{◌≡◌, ◌<◌, inl, inr, ℤ, pos, Some, length, slice_get, get_or, take, sym, ap, subst, ◌∙◌, arith, add-one, suc}
 use Rattle.std.proofs.lemmas.Bool.{cases_order}
 use Rattle.std.proofs.lemmas.List.{take_all}
 use Rattle.std.proofs.lemmas.Option.{slice_get-get_or, slice_get_within}
 use Rattle.lin_session.specs.Judgements.{AreFound}
-use Rattle.lin_session.specs.Work.{least}
 use Rattle.lin_session.specs.declared.kept.Object.{Object}
 use Rattle.lin_session.specs.Costs.{cost_of_all, IsSettled}
 use Rattle.lin_session.proofs.Costing.{cost-next, cost-first}
 use Rattle.lin_session.proofs.Found.{not_ok}
-use Rattle.lin_history.proofs.Lists.{take_next}
 use Rattle.lin_session.proofs.Lists.{element_at, All-at}
-use Rattle.lin_session.proofs.Wholes.{AreFound-more, least_none}
+use Rattle.lin_session.proofs.Wholes.{AreFound-next, least_none}
 use Rattle.lin_session.proofs.kept.Objects.judge_all.Goals as goal
 use Rattle.lin_session.proofs.kept.Objects.judge_all.Goals.{In_ok-found, In-loop-i}
 
@@ -55,11 +53,8 @@ loop-i-preserved c =
       found = λ kinds kept fine.
           let key_now = subst (λ k. slice_get k.keys i ≡ Some key) (sym inv.keys) key_at in
           let finding = c.in_ok-found.ensures.found kinds key key_now (inv.right kinds kept) fine in
-          let more = AreFound-more kinds c.args.budget h (take i keys) f o c.in_ok-found.found.0 c.in_ok-found.found.1 key (inv.found kinds kept fine) finding in
-          let keys_are : take i keys ++ key ∷ [] ≡ take (i + 1) keys = sym (take_next i keys key key_at) ∙ ap (λ n. take n keys) (sym (add-one i)) in
-          subst (λ a. AreFound kinds c.args.budget h (take (i + 1) keys) a c.least_of-over.result) (sym c.least_of-failing.ensures)
-          (subst (λ b. AreFound kinds c.args.budget h (take (i + 1) keys) (least f c.in_ok-found.found.0) b) (sym c.least_of-over.ensures)
-          (subst (λ k. AreFound kinds c.args.budget h k (least f c.in_ok-found.found.0) (least o c.in_ok-found.found.1)) keys_are more));
+          AreFound-next kinds c.args.budget h keys i c.loop-i.failing c.loop-i.over c.in_ok-found.found.0 c.in_ok-found.found.1 c.least_of-failing.result c.least_of-over.result key key_at
+          (inv.found kinds kept fine) finding c.least_of-failing.ensures c.least_of-over.ensures;
       marks = λ x. c.judge_listed.ensures.marks x ∙ inv.marks x;
       judged = λ kinds kept j x object below x_at object_at. elim (cases_order j i) [
         | inl here ↦ c.in_ok-found.ensures.judged kinds x object (subst (λ k. slice_get k.keys i ≡ Some x) (sym inv.keys) (ap (slice_get keys) (sym here) ∙ x_at)) (inv.right kinds kept)
