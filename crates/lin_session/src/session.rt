@@ -264,6 +264,8 @@ impl Session {
     fn foreseen(&mut self, alloc: Global, scope: Scope) -> Result<Option<Verdict>, OutOfMemory>
         ensures verdict { IfOk result (λ found. IfSome found (IsVerdict self.old.present scope)) }
         ensures present { self.new.present ≡ self.old.present }
+        ensures low { self.new.low ≡ self.old.low }
+        ensures marks { AreSameMarks (mark_of self.old.marks) (mark_of self.new.marks) }
     {
         let shape = self
             .scan
