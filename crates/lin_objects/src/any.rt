@@ -1,5 +1,5 @@
 //! An object of any kind.
-ghost use Rattle.std.specs.Prelude.{◌≡◌, ◌≢◌, true, IfOk, OnOk, Contains, AllPairs};
+ghost use Rattle.std.specs.Prelude.{◌≡◌, ◌≢◌, true, IfOk, IfSome, IfNone, OnOk, Contains, AllPairs};
 ghost use Rattle.lin_history.specs.declared.calls.Reply.{Reply as ReplyOf};
 ghost use Rattle.lin_objects.specs.Steps.{start as start_of, allows as allows_of, Step};
 ghost use Rattle.lin_objects.specs.Commuting.{commutes as commutes_of, commuting_go_first};
@@ -145,6 +145,56 @@ impl SeqObject for Any {
     ghost same = { state_same };
 }
 
+impl Any {
+    /// The state that the object goes to when the call gets this reply, if it may. Where nothing shares the numbers of a set or
+    /// a queue, what an add or an enqueue puts in joins them, without a copy.
+    pub fn next(
+        &self,
+        alloc: Global,
+        state: State,
+        call: &Call,
+        reply: &Reply,
+    ) -> Result<Option<State>, OutOfMemory>
+        ensures some { IfOk result (λ found. IfSome found (λ next. Step self.now.kind state call.now next reply.now)) }
+        ensures none { IfOk result (λ found. IfNone found ((next : State) → Step self.now.kind state call.now next reply.now → ⊥)) }
+    {
+        match (self.kind, state, call, reply) {
+            (Kind::Fifo, State::Queue(mut queue), Call::Enqueue(number), Reply::Done) => {
+                queue.push(*number)?;
+                Ok(Some(State::Queue(queue)))
+            }
+            (Kind::Set, State::Members(mut members), Call::Add(number), Reply::Done) => {
+                members.insert(*number)?;
+                Ok(Some(State::Members(members)))
+            }
+            (kind, state, call, reply) => only_next(alloc, kind, &state, call, reply),
+        }
+    }
+}
+
+/// The state after the one step of an object of the kind, if that gives this reply.
+fn only_next(
+    alloc: Global,
+    kind: Kind,
+    state: &State,
+    call: &Call,
+    reply: &Reply,
+) -> Result<Option<State>, OutOfMemory>
+    ensures some { IfOk result (λ found. IfSome found (λ next. Step kind state.now call.now next reply.now)) }
+    ensures none { IfOk result (λ found. IfNone found ((next : State) → Step kind state.now call.now next reply.now → ⊥)) }
+{
+    match only_step(alloc, kind, state, call)? {
+        Some((next, given)) => {
+            if given == *reply {
+                Ok(Some(next))
+            } else {
+                Ok(None)
+            }
+        }
+        None => Ok(None),
+    }
+}
+
 /// The one step of an object of the kind, if there is one.
 fn only_step(
     alloc: Global,
@@ -202,7 +252,8 @@ fn fifo_step(
 {
     match (state, call) {
         (State::Queue(queue), Call::Enqueue(number)) => {
-            let next = queue.with_last(*number)?;
+            let mut next = queue.copy()?;
+            next.push(*number)?;
             Ok(Some((State::Queue(next), Reply::Done)))
         }
         (State::Queue(queue), Call::Dequeue) => match queue.as_slice().first() {

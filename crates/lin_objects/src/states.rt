@@ -81,13 +81,13 @@ impl IntQueue {
         Ok(IntQueue { numbers })
     }
 
-    /// A queue with this number behind those that wait, in time linear in them.
-    pub(crate) fn with_last(&self, number: i64) -> Result<IntQueue, OutOfMemory>
-        ensures { IfOk result (λ next. next ≡ self.now ++ number ∷ []) }
+    /// Puts a number behind those that wait; refused, the queue is unchanged. Only where copies share the numbers are these copied.
+    pub(crate) fn push(&mut self, number: i64) -> Result<(), OutOfMemory>
+        ensures ok { OnOk result (self.new ≡ self.old ++ number ∷ []) }
+        ensures err { OnErr result (self.new ≡ self.old) }
     {
-        let mut numbers = self.numbers.copy()?;
-        numbers.insert(self.as_slice().len(), number)?;
-        Ok(IntQueue { numbers })
+        let count = self.numbers.as_slice().len();
+        self.numbers.insert(count, number)
     }
 
     /// A queue of all but the oldest number, in time linear in those that wait.

@@ -46,6 +46,25 @@ fn replies_to<O: SeqObject>(
     Ok(replies)
 }
 
+/// How many of the calls the object takes with these replies, one after another.
+fn count_taken(
+    object: &Any,
+    alloc: Global,
+    calls: &[Call],
+    replies: &[Reply],
+) -> Result<usize, OutOfMemory> {
+    let mut state = object.start(alloc);
+    let mut count = 0usize;
+    for (call, reply) in calls.iter().zip(replies) {
+        match object.next(alloc, state, call, reply)? {
+            Some(next) => state = next,
+            None => return Ok(count),
+        }
+        count = count.saturating_add(1);
+    }
+    Ok(count)
+}
+
 /// Whether a copy of the state at the start compares alike with it.
 fn copies_start<O: SeqObject>(object: &O, alloc: Global) -> Result<bool, OutOfMemory> {
     let state = object.start(alloc);
@@ -144,6 +163,50 @@ fn each_kind_takes_its_steps(rt: HostRuntime) -> Result<(), Fail> {
     let replies = replies_to(&Any { kind: Kind::Mutex }, alloc, &calls)?;
     let wanted = [Reply::Done, Reply::Done, Reply::Done];
     assert!(rt; replies.as_slice() == wanted.as_slice());
+    Ok(())
+}
+
+#[test]
+fn calls_are_taken_with_their_replies(rt: HostRuntime) -> Result<(), Fail> {
+    let alloc = rt.alloc();
+
+    let queue = Any { kind: Kind::Fifo };
+    let calls = [
+        Call::Enqueue(1),
+        Call::Enqueue(2),
+        Call::Dequeue,
+        Call::Dequeue,
+        Call::Dequeue,
+    ];
+    let mut replies = [
+        Reply::Done,
+        Reply::Done,
+        Reply::Value(int(1)),
+        Reply::Value(int(2)),
+        Reply::Value(Val::Nil),
+    ];
+    assert_eq!(rt; count_taken(&queue, alloc, &calls, &replies)?, 5);
+    replies[3] = Reply::Value(int(1));
+    assert_eq!(rt; count_taken(&queue, alloc, &calls, &replies)?, 3);
+    replies[1] = Reply::Value(int(2));
+    assert_eq!(rt; count_taken(&queue, alloc, &calls, &replies)?, 1);
+
+    let set = Any { kind: Kind::Set };
+    let calls = [Call::Add(2), Call::Add(1), Call::Read];
+    let members = IntSet::from_members(alloc, [2, 1].to_vec(alloc)?)?;
+    let mut replies = [Reply::Done, Reply::Done, Reply::Members(members)];
+    assert_eq!(rt; count_taken(&set, alloc, &calls, &replies)?, 3);
+    replies[2] = Reply::Members(IntSet::from_members(alloc, [2].to_vec(alloc)?)?);
+    assert_eq!(rt; count_taken(&set, alloc, &calls, &replies)?, 2);
+
+    let register = Any {
+        kind: Kind::Register,
+    };
+    let calls = [Call::Write(int(7)), Call::Read];
+    let mut replies = [Reply::Done, Reply::Value(int(7))];
+    assert_eq!(rt; count_taken(&register, alloc, &calls, &replies)?, 2);
+    replies[1] = Reply::Value(int(8));
+    assert_eq!(rt; count_taken(&register, alloc, &calls, &replies)?, 1);
     Ok(())
 }
 

@@ -6,7 +6,6 @@ pub mod Each
 pub mod RealTime
 pub mod Marks
 pub mod Outcomes
-pub mod StepsTaken
 pub mod Running
 pub mod Assembling
 pub mod Parts

@@ -1,5 +1,5 @@
 //! Whether an order is legal: whether each object runs through its part of it.
-ghost use Rattle.std.specs.Prelude.{◌↔◌, IsTrue, IfOk, MatchBool};
+ghost use Rattle.std.specs.Prelude.{◌≡◌, ◌↔◌, ℤ, false, IsTrue, IfOk, MatchBool};
 ghost use Rattle.std.specs.Ordering.{int_eq};
 ghost use Rattle.std.specs.HashMap.{get};
 ghost use Rattle.lin_objects.specs.Kinds.{kind_of};
@@ -13,47 +13,29 @@ use lin_objects::{Any, Kinds, SeqObject, State, replies_decide};
 use std::alloc::Global;
 use std::collections::HashMap;
 
-/// A state that the object may go to when the call gets this reply, if there is one.
-fn state_after<O: SeqObject>(
-    object: &O,
-    alloc: Global,
-    state: &O::State,
-    call: &Call,
-    reply: &Reply,
-) -> Result<Option<O::State>, OutOfMemory>
-    ensures { IfOk result (IsFound (λ next. O.step object.now state.now call.now next reply.now)) }
-{
-    let mut outcomes = Vec::new(alloc);
-    object.outcomes(alloc, state, call, &mut outcomes)?;
-    while let Some((next, given)) = outcomes.pop() {
-        if given == *reply {
-            return Ok(Some(next));
-        }
-    }
-    Ok(None)
-}
-
-/// A state that the object of the key may go to when the call gets this reply, if there is one.
+/// Takes the state of the key's object out, and gives the one that it goes to when the call gets this reply, if it may.
 ///
 /// An object that isn't listed is at its start.
 fn next_state(
     alloc: Global,
     kinds: &Kinds,
-    states: &HashMap<i64, State>,
+    states: &mut HashMap<i64, State>,
     key: i64,
     call: &Call,
     reply: &Reply,
 ) -> Result<Option<State>, OutOfMemory>
-    ensures { let state = state_of (kind_of kinds.now) (get int_eq states.now) key in
+    ensures found { let state = state_of (kind_of kinds.now) (get int_eq states.old) key in
         IfOk result (IsFound (λ next. Step (kind_of kinds.now key) state call.now next reply.now)) }
+    ensures others { (other : ℤ) → int_eq key other ≡ false → get int_eq states.new other ≡ get int_eq states.old other }
 {
     let object = Any {
         kind: kinds.of(key),
     };
-    match states.get(&key) {
-        Some(state) => state_after(&object, alloc, state, call, reply),
-        None => state_after(&object, alloc, &object.start(alloc), call, reply),
-    }
+    let state = match states.remove(&key) {
+        Some(state) => state,
+        None => object.start(alloc),
+    };
+    object.next(alloc, state, call, reply)
 }
 
 /// Lets the object of the invocation take the call with this reply, if it may.
