@@ -266,6 +266,7 @@ impl Session {
         ensures present { self.new.present ≡ self.old.present }
         ensures low { self.new.low ≡ self.old.low }
         ensures marks { AreSameMarks (mark_of self.old.marks) (mark_of self.new.marks) }
+        ensures steps { self.new.meter.steps ≡ self.old.meter.steps }
     {
         let shape = self
             .scan
@@ -286,6 +287,10 @@ impl Session {
     pub fn decide(&mut self, alloc: Global, scope: Scope) -> Result<Verdict, OutOfMemory>
         ensures verdict { IfOk result (IsVerdict self.old.present scope) }
         ensures present { self.new.present ≡ self.old.present }
+        ensures low { (self.new.low ≡ self.old.low) ⊎ (self.new.low ≡ None) }
+        ensures marked { OnOk result (AreSameMarks (mark_of self.old.marks) (mark_of self.new.marks) ⊎ (IsWellFormed (functions_of (kinds_in self.old.present)) self.old.present.history → AreMarked (kinds_in self.old.present) self.old.present.budget self.old.present.history scope (mark_of self.old.marks) (mark_of self.new.marks))) }
+        ensures unmarked { OnErr result (AreSameMarks (mark_of self.old.marks) (mark_of self.new.marks)) }
+        ensures steps { self.new.meter.steps ≤ self.old.meter.steps + cost_in (mark_of self.old.marks) self.old.present.history scope }
     {
         if !is_counted(self.budget as usize)
             && let Some(verdict) = self.foreseen(alloc, scope)?
