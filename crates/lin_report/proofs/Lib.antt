@@ -3,6 +3,7 @@ pub mod Findings
 pub mod Judging
 pub mod Maps
 pub mod Members
+pub mod OneObject
 pub mod OneCommand
 pub mod Pairs
 pub mod PartsOfTexts

@@ -1,7 +1,8 @@
 //! Reports: what is found of a history and of its objects, and its text.
-ghost use Rattle.std.specs.Prelude.{◌≡◌, ◌++◌, [], if◌then◌else◌, ℕ, List, IfOk, OnErr, OnOk, codes};
+ghost use Rattle.std.specs.Prelude.{◌≡◌, ◌++◌, ◌∷◌, [], if◌then◌else◌, ℕ, List, IfOk, IfSome, OnErr, OnOk, codes};
 ghost use Rattle.std.specs.List.{flat_map};
 ghost use Rattle.lin_session.specs.Answers.{IsVerdict, kinds_in};
+ghost use Rattle.lin_session.specs.Sessions.{AreKeys};
 ghost use Rattle.lin_session.specs.declared.answers.Scope.TheVariants as scope;
 ghost use Rattle.lin_session.specs.declared.answers.Verdict.{Verdict as VerdictOf};
 ghost use Rattle.lin_report.specs.Reports as said;
@@ -13,6 +14,7 @@ use crate::texts::put_integer;
 use crate::verdicts::{is_ill_formed, status_of, verdict_words};
 use lin_history::OutOfMemory;
 use lin_objects::Kind;
+use lin_order::{absent_keys_are_legal, linearizability_is_local};
 use lin_session::{Scope, Session, Verdict};
 use std::alloc::{AllocError, Global};
 
@@ -59,14 +61,23 @@ fn name_words(alloc: Global, key: i64, kind: Kind) -> Result<Vec<u8>, AllocError
     Ok(text)
 }
 
-/// The line of the key's object.
-fn object_line(alloc: Global, session: &mut Session, key: i64) -> Result<Vec<u8>, OutOfMemory>
+/// The line of the key's object, of which the verdict may be known.
+fn object_line(
+    alloc: Global,
+    session: &mut Session,
+    key: i64,
+    known: Option<Verdict>,
+) -> Result<Vec<u8>, OutOfMemory>
+    requires { IfSome known (IsVerdict session.old.present (scope.Object key)) }
     ensures line { IfOk result (λ line. (verdict : VerdictOf) × IsVerdict session.old.present (scope.Object key) verdict
         × (line.items ≡ line_text (kinds_in session.old.present) (record { key = key; verdict = verdict }))) }
     ensures present { session.new.present ≡ session.old.present }
 {
     let kind = session.kind_of(key);
-    let verdict = session.decide(alloc, Scope::Object(key))?;
+    let verdict = match known {
+        Some(verdict) => verdict,
+        None => session.decide(alloc, Scope::Object(key))?,
+    };
     let mut line = name_words(alloc, key, kind)?;
     line.extend_from_slice(verdict_words(alloc, verdict)?.as_slice())?;
     line.push(b'\n')?;
@@ -95,9 +106,30 @@ fn put_objects(
     ensures present { session.new.present ≡ session.old.present }
 {
     for key in keys {
-        let line = object_line(alloc, session, *key)?;
+        let line = object_line(alloc, session, *key, None)?;
         text.extend_from_slice(line.as_slice())?;
     }
+    Ok(())
+}
+
+/// Puts the line of the only object last: what is found of the whole is found of it.
+fn put_only(
+    alloc: Global,
+    session: &mut Session,
+    key: i64,
+    whole: Verdict,
+    text: &mut Vec<u8>,
+) -> Result<(), OutOfMemory>
+    requires keys { AreKeys session.old.present.history (key ∷ []) }
+    requires whole { IsVerdict session.old.present scope.Whole whole }
+    ensures lines { OnOk result ((found : List Finding) × AreFindings session.old.present (key ∷ []) found
+        × (text.new.items ≡ text.old.items ++ flat_map (line_text (kinds_in session.old.present)) found)) }
+    ensures present { session.new.present ≡ session.old.present }
+{
+    linearizability_is_local();
+    absent_keys_are_legal();
+    let line = object_line(alloc, session, key, Some(whole))?;
+    text.extend_from_slice(line.as_slice())?;
     Ok(())
 }
 
@@ -109,6 +141,8 @@ fn put_lines(
     whole: Verdict,
     text: &mut Vec<u8>,
 ) -> Result<(), OutOfMemory>
+    requires keys { AreKeys session.old.present.history keys.now }
+    requires whole { IsVerdict session.old.present scope.Whole whole }
     ensures lines { OnOk result ((found : List Finding)
         × AreFindings session.old.present (if said.is_ill_formed whole then [] else keys.now) found
         × (text.new.items ≡ text.old.items ++ flat_map (line_text (kinds_in session.old.present)) found)) }
@@ -116,6 +150,9 @@ fn put_lines(
 {
     if is_ill_formed(whole) {
         return Ok(());
+    }
+    if keys.len() == 1 {
+        return put_only(alloc, session, keys[0], whole, text);
     }
     put_objects(alloc, session, keys, text)
 }
