@@ -7,7 +7,7 @@ cd "$(dirname "$0")"
 log=$(mktemp)
 trap 'rm -f "$log"' EXIT
 
-# By itself rt sets far more memory aside for a large crate than its check takes (14 GB for 3), and leaves processors idle meanwhile.
+# By itself rt sets far more memory aside for a large crate than its check takes (14 GB for 5), and leaves processors idle meanwhile.
 checks=$(awk -v most="$(nproc)" '/^MemAvailable/ { fit = int($2 / 5000000); print fit < 1 ? 1 : fit < most ? fit : most }' /proc/meminfo)
 
 RT_JOBS=${RT_JOBS:-$checks} rt ci | tee "$log"
