@@ -1,5 +1,5 @@
 //! Refutations of objects, and what is answered where there is none.
-use crate::sessions::{make, read, registers, saw, told, write, wrote};
+use crate::sessions::{judged, make, read, registers, saw, told, write, wrote};
 use lin_history::{Body, Event, Name, Val};
 use lin_objects::Kind;
 use lin_order::check_refutation;
@@ -58,7 +58,7 @@ fn stale_read() -> [Event; 6] {
 #[test]
 fn an_object_is_refuted_in_the_shortest_prefix(rt: HostRuntime) -> Result<(), Fail> {
     let alloc = rt.alloc();
-    let mut session = registers(&rt, alloc, 65_536, &stale_read())?;
+    let mut session = registers(&rt, alloc, 65_536, &stale_read());
     assert!(rt; is_refuted(alloc, &mut session, 1, 5)?);
     assert!(rt; session.len() == 6 && session.budget() == 65_536);
     assert!(rt; answered(alloc, &mut session, 0) == Some(Verdict::Yes));
@@ -85,7 +85,7 @@ fn a_crashed_write_is_read_and_then_gone(rt: HostRuntime) -> Result<(), Fail> {
         read(1, 0),
         saw(1, 0, Val::Nil),
     ];
-    let mut session = registers(&rt, alloc, 65_536, &history)?;
+    let mut session = registers(&rt, alloc, 65_536, &history);
     assert!(rt; is_refuted(alloc, &mut session, 0, 8)?);
     Ok(())
 }
@@ -100,7 +100,7 @@ fn an_object_over_the_budget_is_undecided(rt: HostRuntime) -> Result<(), Fail> {
         read(3, 0),
         saw(3, 0, Val::Int(9)),
     ];
-    let mut session = registers(&rt, alloc, 8, &history)?;
+    let mut session = registers(&rt, alloc, 8, &history);
     assert!(rt; answered(alloc, &mut session, 1) == Some(Verdict::Undecided { at: 2 }));
     assert!(rt; is_refuted(alloc, &mut session, 0, 5)?);
     Ok(())
@@ -109,8 +109,8 @@ fn an_object_over_the_budget_is_undecided(rt: HostRuntime) -> Result<(), Fail> {
 #[test]
 fn an_ill_formed_history_is_answered_so(rt: HostRuntime) -> Result<(), Fail> {
     let alloc = rt.alloc();
-    let mut session = registers(&rt, alloc, 65_536, &[read(0, 0), wrote(0, 0)])?;
-    let judged = session.judge(alloc, Scope::Whole)?;
+    let mut session = registers(&rt, alloc, 65_536, &[read(0, 0), wrote(0, 0)]);
+    let judged = judged(&rt, alloc, &mut session, Scope::Whole);
     assert!(rt; matches!(judged, Verdict::IllFormed { at: 1, .. }));
     assert!(rt; answered(alloc, &mut session, 0) == Some(judged));
     assert!(rt; answered(alloc, &mut session, 3) == Some(judged));
@@ -118,27 +118,27 @@ fn an_ill_formed_history_is_answered_so(rt: HostRuntime) -> Result<(), Fail> {
 }
 
 /// Three clients crash in a read, and then another one reads what was never written.
-fn crashed_reads(rt: &impl Abort, alloc: Global) -> Result<Session, Fail> {
-    let mut session = registers(rt, alloc, 65_536, &[])?;
+fn crashed_reads(rt: &impl Abort, alloc: Global) -> Session {
+    let mut session = registers(rt, alloc, 65_536, &[]);
     for process in 0..3 {
         make(rt, &mut session, Edit::Append(read(process, 0)));
         make(rt, &mut session, Edit::Append(info(process, 0, Name::Read)));
     }
     make(rt, &mut session, Edit::Append(read(99, 0)));
     make(rt, &mut session, Edit::Append(saw(99, 0, Val::Int(7))));
-    Ok(session)
+    session
 }
 
 #[test]
 fn sets_beyond_the_budget_are_not_made(rt: HostRuntime) -> Result<(), Fail> {
     let alloc = rt.alloc();
     let no = Verdict::No { prefix: 8 };
-    let mut session = crashed_reads(&rt, alloc)?;
-    told(&rt, alloc, &mut session, Scope::Object(0), no)?;
+    let mut session = crashed_reads(&rt, alloc);
+    told(&rt, alloc, &mut session, Scope::Object(0), no);
     // What is known stays known, but there are 8 configurations after three open reads.
     make(&rt, &mut session, Edit::SetBudget(7));
     assert!(rt; matches!(session.refute(alloc, 0), Err(RefuteFault::TooLarge)));
-    told(&rt, alloc, &mut session, Scope::Object(0), no)?;
+    told(&rt, alloc, &mut session, Scope::Object(0), no);
     make(&rt, &mut session, Edit::SetBudget(16));
     assert!(rt; is_refuted(alloc, &mut session, 0, 8)?);
     Ok(())

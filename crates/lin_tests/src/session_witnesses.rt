@@ -1,8 +1,8 @@
 //! Objects that have more configurations than the budget, of which legal orders and failures are looked for.
-use crate::sessions::{invoke, objects, ok, read, registers, saw, write, wrote};
+use crate::sessions::{asked, invoke, judged, objects, ok, read, registers, saw, write, wrote};
 use lin_history::{Call, Event, IntSet, Name, Reply, Val};
 use lin_objects::Kind;
-use lin_session::{Answer, Scope, Session, Verdict};
+use lin_session::{Scope, Session, Verdict};
 use std::alloc::Global;
 use std::process::Abort;
 use std::test::Fail;
@@ -20,7 +20,7 @@ fn writes_at_once(alloc: Global) -> Result<Vec<Event>, Fail> {
 }
 
 /// A session of registers with compare-and-set: a choice is kept for each of their open writes.
-fn cas_registers(rt: &impl Abort, alloc: Global, history: &[Event]) -> Result<Session, Fail> {
+fn cas_registers(rt: &impl Abort, alloc: Global, history: &[Event]) -> Session {
     objects(rt, alloc, Kind::CasRegister, 1_024, history)
 }
 
@@ -28,12 +28,12 @@ fn cas_registers(rt: &impl Abort, alloc: Global, history: &[Event]) -> Result<Se
 fn many_open_writes_of_a_register_are_decided(rt: HostRuntime) -> Result<(), Fail> {
     let alloc = rt.alloc();
     let mut history = writes_at_once(alloc)?;
-    let mut session = registers(&rt, alloc, 1_024, &history)?;
-    assert!(rt; matches!(session.ask(alloc, Scope::Whole)?, Answer::Yes(_)));
+    let mut session = registers(&rt, alloc, 1_024, &history);
+    assert!(rt; asked(&rt, alloc, &mut session, Scope::Whole) == Verdict::Yes);
     history.push(read(11, 0))?;
     history.push(saw(11, 0, Val::Int(77)))?;
-    let mut session = registers(&rt, alloc, 1_024, &history)?;
-    assert!(rt; session.judge(alloc, Scope::Whole)? == Verdict::No { prefix: 14 });
+    let mut session = registers(&rt, alloc, 1_024, &history);
+    assert!(rt; judged(&rt, alloc, &mut session, Scope::Whole) == Verdict::No { prefix: 14 });
     Ok(())
 }
 
@@ -41,17 +41,12 @@ fn many_open_writes_of_a_register_are_decided(rt: HostRuntime) -> Result<(), Fai
 fn an_order_of_many_open_writes_is_found(rt: HostRuntime) -> Result<(), Fail> {
     let alloc = rt.alloc();
     let history = writes_at_once(alloc)?;
-    let mut session = cas_registers(&rt, alloc, &history)?;
-    assert!(rt;
-        matches!(
-            session.ask(alloc, Scope::Whole)?,
-            Answer::Undecided { at: 10 }
-        )
-    );
-    assert!(rt; session.judge(alloc, Scope::Whole)? == Verdict::Yes);
-    assert!(rt; session.judge(alloc, OBJECT)? == Verdict::Yes);
+    let mut session = cas_registers(&rt, alloc, &history);
+    assert!(rt; asked(&rt, alloc, &mut session, Scope::Whole) == Verdict::Undecided { at: 10 });
+    assert!(rt; judged(&rt, alloc, &mut session, Scope::Whole) == Verdict::Yes);
+    assert!(rt; judged(&rt, alloc, &mut session, OBJECT) == Verdict::Yes);
     // Nothing changed since: the same again.
-    assert!(rt; session.judge(alloc, OBJECT)? == Verdict::Yes);
+    assert!(rt; judged(&rt, alloc, &mut session, OBJECT) == Verdict::Yes);
     Ok(())
 }
 
@@ -60,8 +55,8 @@ fn none_is_looked_for_where_configurations_are_counted(rt: HostRuntime) -> Resul
     let alloc = rt.alloc();
     let history = writes_at_once(alloc)?;
     // Eight open writes have 8 * 128 + 1 configurations.
-    let mut session = registers(&rt, alloc, 1_023, &history)?;
-    assert!(rt; session.judge(alloc, Scope::Whole)? == Verdict::Undecided { at: 7 });
+    let mut session = registers(&rt, alloc, 1_023, &history);
+    assert!(rt; judged(&rt, alloc, &mut session, Scope::Whole) == Verdict::Undecided { at: 7 });
     Ok(())
 }
 
@@ -71,15 +66,10 @@ fn a_value_that_nobody_wrote_is_a_failure(rt: HostRuntime) -> Result<(), Fail> {
     let mut history = writes_at_once(alloc)?;
     history.push(read(11, 0))?;
     history.push(saw(11, 0, Val::Int(77)))?;
-    let mut session = cas_registers(&rt, alloc, &history)?;
-    assert!(rt;
-        matches!(
-            session.ask(alloc, Scope::Whole)?,
-            Answer::Undecided { at: 10 }
-        )
-    );
-    assert!(rt; session.judge(alloc, Scope::Whole)? == Verdict::No { prefix: 14 });
-    assert!(rt; session.judge(alloc, OBJECT)? == Verdict::No { prefix: 14 });
+    let mut session = cas_registers(&rt, alloc, &history);
+    assert!(rt; asked(&rt, alloc, &mut session, Scope::Whole) == Verdict::Undecided { at: 10 });
+    assert!(rt; judged(&rt, alloc, &mut session, Scope::Whole) == Verdict::No { prefix: 14 });
+    assert!(rt; judged(&rt, alloc, &mut session, OBJECT) == Verdict::No { prefix: 14 });
     Ok(())
 }
 
@@ -94,8 +84,8 @@ fn an_old_value_is_a_failure_where_one_write_left_it(rt: HostRuntime) -> Result<
     }
     history.push(read(11, 0))?;
     history.push(saw(11, 0, Val::Int(77)))?;
-    let mut session = cas_registers(&rt, alloc, &history)?;
-    assert!(rt; session.judge(alloc, OBJECT)? == Verdict::No { prefix: 18 });
+    let mut session = cas_registers(&rt, alloc, &history);
+    assert!(rt; judged(&rt, alloc, &mut session, OBJECT) == Verdict::No { prefix: 18 });
     Ok(())
 }
 
@@ -109,9 +99,9 @@ fn neither_is_found_where_two_writes_left_a_value(rt: HostRuntime) -> Result<(),
     }
     history.push(read(11, 0))?;
     history.push(saw(11, 0, Val::Int(77)))?;
-    let mut session = cas_registers(&rt, alloc, &history)?;
-    assert!(rt; session.judge(alloc, Scope::Whole)? == Verdict::Undecided { at: 10 });
-    assert!(rt; session.judge(alloc, OBJECT)? == Verdict::Undecided { at: 10 });
+    let mut session = cas_registers(&rt, alloc, &history);
+    assert!(rt; judged(&rt, alloc, &mut session, Scope::Whole) == Verdict::Undecided { at: 10 });
+    assert!(rt; judged(&rt, alloc, &mut session, OBJECT) == Verdict::Undecided { at: 10 });
     Ok(())
 }
 
@@ -121,15 +111,10 @@ fn a_failure_of_another_object_is_no_longer_hidden(rt: HostRuntime) -> Result<()
     let mut history = writes_at_once(alloc)?;
     history.push(read(11, 1))?;
     history.push(saw(11, 1, Val::Int(5)))?;
-    let mut session = cas_registers(&rt, alloc, &history)?;
-    assert!(rt;
-        matches!(
-            session.ask(alloc, Scope::Whole)?,
-            Answer::Undecided { at: 10 }
-        )
-    );
-    assert!(rt; session.judge(alloc, Scope::Whole)? == Verdict::No { prefix: 14 });
-    assert!(rt; session.judge(alloc, Scope::Object(1))? == Verdict::No { prefix: 14 });
+    let mut session = cas_registers(&rt, alloc, &history);
+    assert!(rt; asked(&rt, alloc, &mut session, Scope::Whole) == Verdict::Undecided { at: 10 });
+    assert!(rt; judged(&rt, alloc, &mut session, Scope::Whole) == Verdict::No { prefix: 14 });
+    assert!(rt; judged(&rt, alloc, &mut session, Scope::Object(1)) == Verdict::No { prefix: 14 });
     Ok(())
 }
 
@@ -157,29 +142,29 @@ fn with_dequeue(alloc: Global, number: i64) -> Result<Vec<Event>, Fail> {
 }
 
 /// Whether the chains of the objects of the kind are over the budget.
-fn is_over(rt: &impl Abort, alloc: Global, kind: Kind, history: &[Event]) -> Result<bool, Fail> {
-    let mut session = objects(rt, alloc, kind, 1_024, history)?;
-    let answer = session.ask(alloc, Scope::Whole)?;
-    Ok(matches!(answer, Answer::Undecided { .. }))
+fn is_over(rt: &impl Abort, alloc: Global, kind: Kind, history: &[Event]) -> bool {
+    let mut session = objects(rt, alloc, kind, 1_024, history);
+    let answer = asked(rt, alloc, &mut session, Scope::Whole);
+    matches!(answer, Verdict::Undecided { .. })
 }
 
 /// What is told of the objects of the kind.
-fn judged(rt: &impl Abort, alloc: Global, kind: Kind, history: &[Event]) -> Result<Verdict, Fail> {
-    let mut session = objects(rt, alloc, kind, 1_024, history)?;
-    Ok(session.judge(alloc, Scope::Whole)?)
+fn found(rt: &impl Abort, alloc: Global, kind: Kind, history: &[Event]) -> Verdict {
+    let mut session = objects(rt, alloc, kind, 1_024, history);
+    judged(rt, alloc, &mut session, Scope::Whole)
 }
 
 #[test]
 fn queues_over_the_budget_are_decided(rt: HostRuntime) -> Result<(), Fail> {
     let alloc = rt.alloc();
     let history = enqueues_at_once(alloc)?;
-    assert!(rt; is_over(&rt, alloc, Kind::Fifo, &history)?);
-    assert!(rt; judged(&rt, alloc, Kind::Fifo, &history)? == Verdict::Yes);
+    assert!(rt; is_over(&rt, alloc, Kind::Fifo, &history));
+    assert!(rt; found(&rt, alloc, Kind::Fifo, &history) == Verdict::Yes);
     let history = with_dequeue(alloc, 5)?;
-    assert!(rt; judged(&rt, alloc, Kind::Fifo, &history)? == Verdict::Yes);
+    assert!(rt; found(&rt, alloc, Kind::Fifo, &history) == Verdict::Yes);
     // 77 was put in before 78, and nothing took it out.
     let history = with_dequeue(alloc, 78)?;
-    assert!(rt; judged(&rt, alloc, Kind::Fifo, &history)? == Verdict::No { prefix: 18 });
+    assert!(rt; found(&rt, alloc, Kind::Fifo, &history) == Verdict::No { prefix: 18 });
     Ok(())
 }
 
@@ -202,12 +187,12 @@ fn adds_at_once(alloc: Global) -> Result<Vec<Event>, Fail> {
 fn sets_over_the_budget_are_decided(rt: HostRuntime) -> Result<(), Fail> {
     let alloc = rt.alloc();
     let mut history = adds_at_once(alloc)?;
-    assert!(rt; is_over(&rt, alloc, Kind::Set, &history)?);
-    assert!(rt; judged(&rt, alloc, Kind::Set, &history)? == Verdict::Yes);
+    assert!(rt; is_over(&rt, alloc, Kind::Set, &history));
+    assert!(rt; found(&rt, alloc, Kind::Set, &history) == Verdict::Yes);
     // What was found is lost.
     history.push(read(14, 0))?;
     let none = Reply::Members(IntSet::new(alloc));
     history.push(ok(14, 0, Name::Read, none))?;
-    assert!(rt; judged(&rt, alloc, Kind::Set, &history)? == Verdict::No { prefix: 18 });
+    assert!(rt; found(&rt, alloc, Kind::Set, &history) == Verdict::No { prefix: 18 });
     Ok(())
 }

@@ -1,6 +1,6 @@
 //! How much work a question takes after an edit.
 use crate::sessions::{
-    invoke, make, objects, ok, read, registers, saw, stale_read, told, write, wrote,
+    asked, invoke, judged, make, objects, ok, read, registers, saw, stale_read, told, write, wrote,
 };
 use lin_history::{Body, Call, Event, IntSet, Name, Reply, Val};
 use lin_objects::Kind;
@@ -10,49 +10,42 @@ use std::process::Abort;
 use std::test::Fail;
 
 /// So many writes by one client, each with its completion.
-fn writes(
-    rt: &impl Abort,
-    alloc: Global,
-    session: &mut Session,
-    key: i64,
-    count: i64,
-) -> Result<(), Fail> {
+fn writes(rt: &impl Abort, alloc: Global, session: &mut Session, key: i64, count: i64) {
     for value in 0..count {
         make(rt, session, Edit::Append(write(0, key, value)));
         make(rt, session, Edit::Append(wrote(0, key)));
     }
-    let _ = session.judge(alloc, Scope::Whole)?;
-    Ok(())
+    let _ = judged(rt, alloc, session, Scope::Whole);
 }
 
 /// How many steps the next question of the scope takes, and how many scans.
-fn work(alloc: Global, session: &mut Session, scope: Scope) -> Result<(u64, u64), Fail> {
+fn work(rt: &impl Abort, alloc: Global, session: &mut Session, scope: Scope) -> (u64, u64) {
     let steps = session.meter().steps();
     let scans = session.meter().scans();
-    let _ = session.ask(alloc, scope)?;
-    Ok((
+    let _ = asked(rt, alloc, session, scope);
+    (
         session.meter().steps().saturating_sub(steps),
         session.meter().scans().saturating_sub(scans),
-    ))
+    )
 }
 
 #[test]
 fn what_is_settled_takes_no_work(rt: HostRuntime) -> Result<(), Fail> {
     let alloc = rt.alloc();
-    let mut session = registers(&rt, alloc, 65_536, &[])?;
-    writes(&rt, alloc, &mut session, 0, 100)?;
-    assert!(rt; work(alloc, &mut session, Scope::Whole)? == (0, 0));
-    assert!(rt; work(alloc, &mut session, Scope::Object(0))? == (0, 0));
+    let mut session = registers(&rt, alloc, 65_536, &[]);
+    writes(&rt, alloc, &mut session, 0, 100);
+    assert!(rt; work(&rt, alloc, &mut session, Scope::Whole) == (0, 0));
+    assert!(rt; work(&rt, alloc, &mut session, Scope::Object(0)) == (0, 0));
     Ok(())
 }
 
 #[test]
 fn an_event_is_replayed_from_the_checkpoint_before(rt: HostRuntime) -> Result<(), Fail> {
     let alloc = rt.alloc();
-    let mut session = registers(&rt, alloc, 65_536, &[])?;
-    writes(&rt, alloc, &mut session, 0, 100)?;
+    let mut session = registers(&rt, alloc, 65_536, &[]);
+    writes(&rt, alloc, &mut session, 0, 100);
     make(&rt, &mut session, Edit::Replace(130, write(0, 0, 66)));
-    let (steps, scans) = work(alloc, &mut session, Scope::Whole)?;
+    let (steps, scans) = work(&rt, alloc, &mut session, Scope::Whole);
     assert!(rt; 0 < steps && steps <= 72);
     assert!(rt; 0 < scans && scans <= 72);
     Ok(())
@@ -61,45 +54,45 @@ fn an_event_is_replayed_from_the_checkpoint_before(rt: HostRuntime) -> Result<()
 #[test]
 fn an_equal_event_takes_no_work(rt: HostRuntime) -> Result<(), Fail> {
     let alloc = rt.alloc();
-    let mut session = registers(&rt, alloc, 65_536, &stale_read())?;
+    let mut session = registers(&rt, alloc, 65_536, &stale_read());
     let no = Verdict::No { prefix: 4 };
-    told(&rt, alloc, &mut session, Scope::Whole, no)?;
+    told(&rt, alloc, &mut session, Scope::Whole, no);
     make(&rt, &mut session, Edit::Replace(1, wrote(0, 0)));
     make(&rt, &mut session, Edit::Replace(3, saw(1, 0, Val::Nil)));
-    assert!(rt; work(alloc, &mut session, Scope::Whole)? == (0, 0));
-    told(&rt, alloc, &mut session, Scope::Whole, no)?;
+    assert!(rt; work(&rt, alloc, &mut session, Scope::Whole) == (0, 0));
+    told(&rt, alloc, &mut session, Scope::Whole, no);
 
     make(&rt, &mut session, Edit::Replace(3, saw(1, 0, Val::Int(1))));
-    told(&rt, alloc, &mut session, Scope::Whole, Verdict::Yes)?;
+    told(&rt, alloc, &mut session, Scope::Whole, Verdict::Yes);
     make(&rt, &mut session, Edit::Replace(2, read(1, 0)));
-    assert!(rt; work(alloc, &mut session, Scope::Object(0))? == (0, 0));
-    told(&rt, alloc, &mut session, Scope::Whole, Verdict::Yes)?;
+    assert!(rt; work(&rt, alloc, &mut session, Scope::Object(0)) == (0, 0));
+    told(&rt, alloc, &mut session, Scope::Whole, Verdict::Yes);
     Ok(())
 }
 
 #[test]
 fn one_more_event_is_one_step(rt: HostRuntime) -> Result<(), Fail> {
     let alloc = rt.alloc();
-    let mut session = registers(&rt, alloc, 65_536, &[])?;
-    writes(&rt, alloc, &mut session, 0, 100)?;
+    let mut session = registers(&rt, alloc, 65_536, &[]);
+    writes(&rt, alloc, &mut session, 0, 100);
     make(&rt, &mut session, Edit::Append(write(0, 0, 7)));
-    assert!(rt; work(alloc, &mut session, Scope::Whole)? == (1, 1));
+    assert!(rt; work(&rt, alloc, &mut session, Scope::Whole) == (1, 1));
 
     make(&rt, &mut session, Edit::Truncate(64));
     make(&rt, &mut session, Edit::Append(write(0, 0, 7)));
-    assert!(rt; work(alloc, &mut session, Scope::Whole)?.0 <= 1);
+    assert!(rt; work(&rt, alloc, &mut session, Scope::Whole).0 <= 1);
     Ok(())
 }
 
 #[test]
 fn an_object_that_is_not_touched_takes_no_step(rt: HostRuntime) -> Result<(), Fail> {
     let alloc = rt.alloc();
-    let mut session = registers(&rt, alloc, 65_536, &[])?;
-    writes(&rt, alloc, &mut session, 0, 50)?;
-    writes(&rt, alloc, &mut session, 1, 50)?;
+    let mut session = registers(&rt, alloc, 65_536, &[]);
+    writes(&rt, alloc, &mut session, 0, 50);
+    writes(&rt, alloc, &mut session, 1, 50);
     make(&rt, &mut session, Edit::Replace(70, write(0, 0, 9)));
-    assert!(rt; work(alloc, &mut session, Scope::Object(1))?.0 == 0);
-    assert!(rt; 0 < work(alloc, &mut session, Scope::Object(0))?.0);
+    assert!(rt; work(&rt, alloc, &mut session, Scope::Object(1)).0 == 0);
+    assert!(rt; 0 < work(&rt, alloc, &mut session, Scope::Object(0)).0);
     Ok(())
 }
 
@@ -121,35 +114,35 @@ fn open_writes_and_a_stale_read() -> [Event; 9] {
 #[test]
 fn an_object_over_the_budget_hides_a_later_failure(rt: HostRuntime) -> Result<(), Fail> {
     let alloc = rt.alloc();
-    let mut session = registers(&rt, alloc, 8, &open_writes_and_a_stale_read())?;
+    let mut session = registers(&rt, alloc, 8, &open_writes_and_a_stale_read());
     let undecided = Verdict::Undecided { at: 2 };
-    told(&rt, alloc, &mut session, Scope::Object(1), undecided)?;
+    told(&rt, alloc, &mut session, Scope::Object(1), undecided);
     told(
         &rt,
         alloc,
         &mut session,
         Scope::Object(0),
         Verdict::No { prefix: 9 },
-    )?;
-    told(&rt, alloc, &mut session, Scope::Whole, undecided)?;
+    );
+    told(&rt, alloc, &mut session, Scope::Whole, undecided);
     Ok(())
 }
 
 #[test]
 fn a_larger_budget_goes_on_where_it_was_over(rt: HostRuntime) -> Result<(), Fail> {
     let alloc = rt.alloc();
-    let mut session = registers(&rt, alloc, 8, &open_writes_and_a_stale_read())?;
-    let _ = session.judge(alloc, Scope::Whole)?;
+    let mut session = registers(&rt, alloc, 8, &open_writes_and_a_stale_read());
+    let _ = judged(&rt, alloc, &mut session, Scope::Whole);
     make(&rt, &mut session, Edit::SetBudget(13));
-    assert!(rt; work(alloc, &mut session, Scope::Object(1))?.0 <= 3);
-    told(&rt, alloc, &mut session, Scope::Object(1), Verdict::Yes)?;
+    assert!(rt; work(&rt, alloc, &mut session, Scope::Object(1)).0 <= 3);
+    told(&rt, alloc, &mut session, Scope::Object(1), Verdict::Yes);
     told(
         &rt,
         alloc,
         &mut session,
         Scope::Whole,
         Verdict::No { prefix: 9 },
-    )?;
+    );
     Ok(())
 }
 
@@ -182,10 +175,10 @@ fn first_numbers(alloc: Global, count: i64) -> Result<Reply, Fail> {
 }
 
 /// How many calls are tried until the object is judged to be linearizable.
-fn tries(rt: &impl Abort, alloc: Global, kind: Kind, history: &[Event]) -> Result<u64, Fail> {
-    let mut session = objects(rt, alloc, kind, 65_536, history)?;
-    assert!(rt; session.judge(alloc, Scope::Whole)? == Verdict::Yes);
-    Ok(session.meter().tries())
+fn tries(rt: &impl Abort, alloc: Global, kind: Kind, history: &[Event]) -> u64 {
+    let mut session = objects(rt, alloc, kind, 65_536, history);
+    assert!(rt; judged(rt, alloc, &mut session, Scope::Whole) == Verdict::Yes);
+    session.meter().tries()
 }
 
 #[test]
@@ -195,7 +188,7 @@ fn a_set_with_many_crashed_adds_is_over_soon(rt: HostRuntime) -> Result<(), Fail
     let mut history = crashed(alloc, 20, Kind::Set)?;
     history.push(invoke(20, 0, Call::Read))?;
     history.push(ok(20, 0, Name::Read, first_numbers(alloc, 20)?))?;
-    assert!(rt; tries(&rt, alloc, Kind::Set, &history)? < 20_000);
+    assert!(rt; tries(&rt, alloc, Kind::Set, &history) < 20_000);
     Ok(())
 }
 
@@ -208,7 +201,7 @@ fn a_set_with_adds_beside_reads_is_over_soon(rt: HostRuntime) -> Result<(), Fail
         history.push(invoke(process, 0, Call::Read))?;
     }
     history.push(ok(8, 0, Name::Read, first_numbers(alloc, 8)?))?;
-    assert!(rt; tries(&rt, alloc, Kind::Set, &history)? < 20_000);
+    assert!(rt; tries(&rt, alloc, Kind::Set, &history) < 20_000);
     Ok(())
 }
 
@@ -218,7 +211,7 @@ fn a_queue_with_many_crashed_enqueues_is_over_soon(rt: HostRuntime) -> Result<()
     let mut history = crashed(alloc, 20, Kind::Fifo)?;
     history.push(invoke(20, 0, Call::Dequeue))?;
     history.push(ok(20, 0, Name::Dequeue, Reply::Value(Val::Int(7))))?;
-    assert!(rt; tries(&rt, alloc, Kind::Fifo, &history)? < 20_000);
+    assert!(rt; tries(&rt, alloc, Kind::Fifo, &history) < 20_000);
     Ok(())
 }
 
@@ -230,22 +223,27 @@ fn three_of_four(alloc: Global) -> Result<Vec<Event>, Fail> {
     Ok(history)
 }
 
+/// What is decided.
+fn decided(rt: &impl Abort, alloc: Global, session: &mut Session, scope: Scope) -> Verdict {
+    session.decide(alloc, scope).expect(rt, "memory")
+}
+
 #[test]
 fn a_set_is_decided_without_its_chain(rt: HostRuntime) -> Result<(), Fail> {
     let alloc = rt.alloc();
     let mut history = three_of_four(alloc)?;
-    let mut session = objects(&rt, alloc, Kind::Set, 65_536, &history)?;
-    assert!(rt; session.decide(alloc, Scope::Whole)? == Verdict::Yes);
+    let mut session = objects(&rt, alloc, Kind::Set, 65_536, &history);
+    assert!(rt; decided(&rt, alloc, &mut session, Scope::Whole) == Verdict::Yes);
     assert!(rt; session.meter().tries() == 0);
     // The next question costs as much as if that one had not been asked.
-    assert!(rt; session.judge(alloc, Scope::Whole)? == Verdict::Yes);
+    assert!(rt; judged(&rt, alloc, &mut session, Scope::Whole) == Verdict::Yes);
     assert!(rt; 0 < session.meter().tries());
     // A later read lost one of them.
     history.push(invoke(4, 0, Call::Read))?;
     history.push(ok(4, 0, Name::Read, first_numbers(alloc, 2)?))?;
-    let mut session = objects(&rt, alloc, Kind::Set, 65_536, &history)?;
+    let mut session = objects(&rt, alloc, Kind::Set, 65_536, &history);
     let no = Verdict::No { prefix: 12 };
-    assert!(rt; session.decide(alloc, Scope::Object(0))? == no);
+    assert!(rt; decided(&rt, alloc, &mut session, Scope::Object(0)) == no);
     assert!(rt; session.meter().tries() == 0);
     Ok(())
 }

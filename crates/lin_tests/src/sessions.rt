@@ -61,12 +61,7 @@ fn two_objects() -> [Event; 8] {
 }
 
 /// A session of registers to which these events were appended.
-pub(crate) fn registers(
-    rt: &impl Abort,
-    alloc: Global,
-    budget: u32,
-    history: &[Event],
-) -> Result<Session, Fail> {
+pub(crate) fn registers(rt: &impl Abort, alloc: Global, budget: u32, history: &[Event]) -> Session {
     objects(rt, alloc, Kind::Register, budget, history)
 }
 
@@ -77,12 +72,13 @@ pub(crate) fn objects(
     kind: Kind,
     budget: u32,
     history: &[Event],
-) -> Result<Session, Fail> {
+) -> Session {
     let mut session = Session::new(alloc, kind, budget).expect(rt, "a budget");
     for event in history {
-        make(rt, &mut session, Edit::Append(event.copy(alloc)?));
+        let copy = event.copy(alloc).expect(rt, "memory");
+        make(rt, &mut session, Edit::Append(copy));
     }
-    Ok(session)
+    session
 }
 
 /// Makes an edit that is not refused.
@@ -98,6 +94,31 @@ fn fault_of(session: &mut Session, edit: Edit) -> Option<EditFault> {
     }
 }
 
+/// What is answered, without the order.
+pub(crate) fn asked(
+    rt: &impl Abort,
+    alloc: Global,
+    session: &mut Session,
+    scope: Scope,
+) -> Verdict {
+    match session.ask(alloc, scope).expect(rt, "memory") {
+        Answer::IllFormed { at, cause } => Verdict::IllFormed { at, cause },
+        Answer::Yes(_) => Verdict::Yes,
+        Answer::No { prefix } => Verdict::No { prefix },
+        Answer::Undecided { at } => Verdict::Undecided { at },
+    }
+}
+
+/// What is judged.
+pub(crate) fn judged(
+    rt: &impl Abort,
+    alloc: Global,
+    session: &mut Session,
+    scope: Scope,
+) -> Verdict {
+    session.judge(alloc, scope).expect(rt, "memory")
+}
+
 /// Asserts what is answered without the order, and judged the same.
 pub(crate) fn told(
     rt: &impl Abort,
@@ -105,87 +126,77 @@ pub(crate) fn told(
     session: &mut Session,
     scope: Scope,
     expected: Verdict,
-) -> Result<(), Fail> {
-    let answer = session.ask(alloc, scope)?;
-    let judged = session.judge(alloc, scope)?;
-    let told = match answer {
-        Answer::IllFormed { at, cause } => Verdict::IllFormed { at, cause },
-        Answer::Yes(_) => Verdict::Yes,
-        Answer::No { prefix } => Verdict::No { prefix },
-        Answer::Undecided { at } => Verdict::Undecided { at },
-    };
-    assert!(rt; told == expected);
-    assert!(rt; judged == expected);
-    Ok(())
+) {
+    assert!(rt; asked(rt, alloc, session, scope) == expected);
+    assert!(rt; judged(rt, alloc, session, scope) == expected);
 }
 
 /// The order of a yes, or none.
 fn order(
+    rt: &impl Abort,
     alloc: Global,
     session: &mut Session,
     scope: Scope,
-) -> Result<Option<Vec<Placed>>, OutOfMemory> {
-    match session.ask(alloc, scope)? {
-        Answer::Yes(order) => Ok(Some(order)),
-        _ => Ok(None),
+) -> Option<Vec<Placed>> {
+    match session.ask(alloc, scope).expect(rt, "memory") {
+        Answer::Yes(order) => Some(order),
+        _ => None,
     }
 }
 
-/// Whether the answer is yes, with this order.
-fn is_yes(
+/// Whether these are the operations of the order, with these replies.
+fn are_placed(order: &[Placed], expected: &[(usize, Reply)]) -> bool {
+    order.len() == expected.len()
+        && order.iter().zip(expected).all(|(placed, wanted)| placed.at == wanted.0
+            && placed.reply == wanted.1)
+}
+
+/// Asserts that the answer is yes, with this order.
+fn told_order(
+    rt: &impl Abort,
     alloc: Global,
     session: &mut Session,
     scope: Scope,
     expected: &[(usize, Reply)],
-) -> Result<bool, OutOfMemory> {
-    let Some(order) = order(alloc, session, scope)? else {
-        return Ok(false);
-    };
-    if order.len() != expected.len() {
-        return Ok(false);
-    }
-    for (placed, wanted) in order.iter().zip(expected) {
-        if placed.at != wanted.0 || placed.reply != wanted.1 {
-            return Ok(false);
-        }
-    }
-    Ok(true)
+) {
+    let order = order(rt, alloc, session, scope).expect(rt, "an order");
+    assert!(rt; are_placed(&order, expected));
 }
 
 #[test]
 fn an_object_is_answered_after_each_edit(rt: HostRuntime) -> Result<(), Fail> {
     let alloc = rt.alloc();
-    let mut session = registers(&rt, alloc, 65_536, &stale_read())?;
-    told(&rt, alloc, &mut session, OBJECT, Verdict::No { prefix: 4 })?;
+    let mut session = registers(&rt, alloc, 65_536, &stale_read());
+    told(&rt, alloc, &mut session, OBJECT, Verdict::No { prefix: 4 });
 
     let fresh = [(0, Reply::Done), (2, Reply::Value(Val::Int(1)))];
     make(&rt, &mut session, Edit::Replace(3, saw(1, 0, Val::Int(1))));
-    assert!(rt; is_yes(alloc, &mut session, OBJECT, &fresh)?);
+    told_order(&rt, alloc, &mut session, OBJECT, &fresh);
 
     make(&rt, &mut session, Edit::SetKind(0, Kind::Mutex));
     let not_of_kind = Verdict::IllFormed {
         at: 0,
         cause: Cause::NotOfKind,
     };
-    told(&rt, alloc, &mut session, OBJECT, not_of_kind)?;
+    told(&rt, alloc, &mut session, OBJECT, not_of_kind);
     make(&rt, &mut session, Edit::SetKind(0, Kind::Register));
-    assert!(rt; is_yes(alloc, &mut session, OBJECT, &fresh)?);
+    told_order(&rt, alloc, &mut session, OBJECT, &fresh);
     Ok(())
 }
 
 #[test]
 fn an_object_is_answered_after_events_go(rt: HostRuntime) -> Result<(), Fail> {
     let alloc = rt.alloc();
-    let mut session = registers(&rt, alloc, 65_536, &stale_read())?;
+    let mut session = registers(&rt, alloc, 65_536, &stale_read());
     make(&rt, &mut session, Edit::Remove(2));
     let no_invocation = Verdict::IllFormed {
         at: 2,
         cause: Cause::NoInvocation,
     };
-    told(&rt, alloc, &mut session, OBJECT, no_invocation)?;
+    told(&rt, alloc, &mut session, OBJECT, no_invocation);
     make(&rt, &mut session, Edit::Truncate(2));
-    assert!(rt; is_yes(alloc, &mut session, OBJECT, &[(0, Reply::Done)])?);
-    assert!(rt; is_yes(alloc, &mut session, Scope::Object(9), &[])?);
+    told_order(&rt, alloc, &mut session, OBJECT, &[(0, Reply::Done)]);
+    told_order(&rt, alloc, &mut session, Scope::Object(9), &[]);
     Ok(())
 }
 
@@ -212,7 +223,7 @@ fn a_session_is_of_events(rt: HostRuntime) -> Result<(), Fail> {
     let mut session = Session::of(alloc, Kind::Register, 65_536, events).expect(&rt, "a budget");
     assert!(rt; session.len() == 4);
     assert!(rt; session.event(3) == Some(&saw(1, 0, Val::Nil)));
-    told(&rt, alloc, &mut session, OBJECT, Verdict::No { prefix: 4 })?;
+    told(&rt, alloc, &mut session, OBJECT, Verdict::No { prefix: 4 });
     Ok(())
 }
 
@@ -243,12 +254,12 @@ fn a_session_is_of_a_million_events(rt: HostRuntime) -> Result<(), Fail> {
 fn two_objects_are_merged(rt: HostRuntime) -> Result<(), Fail> {
     let alloc = rt.alloc();
     let history = two_objects();
-    let mut session = registers(&rt, alloc, 65_536, &history)?;
+    let mut session = registers(&rt, alloc, 65_536, &history);
     let threes = [(2, Reply::Done), (6, Reply::Value(Val::Int(3)))];
-    assert!(rt; is_yes(alloc, &mut session, OBJECT, &threes)?);
+    told_order(&rt, alloc, &mut session, OBJECT, &threes);
     let sevens = [(0, Reply::Done), (4, Reply::Value(Val::Int(7)))];
-    assert!(rt; is_yes(alloc, &mut session, Scope::Object(1), &sevens)?);
-    let merged = order(alloc, &mut session, Scope::Whole)?.expect(&rt, "an order");
+    told_order(&rt, alloc, &mut session, Scope::Object(1), &sevens);
+    let merged = order(&rt, alloc, &mut session, Scope::Whole).expect(&rt, "an order");
     assert!(rt; merged.len() == 4);
     let kinds = Kinds::new(alloc, Kind::Register);
     assert!(rt; check_order(alloc, &history, &kinds, &merged)?);
@@ -258,7 +269,7 @@ fn two_objects_are_merged(rt: HostRuntime) -> Result<(), Fail> {
 #[test]
 fn the_keys_rise(rt: HostRuntime) -> Result<(), Fail> {
     let alloc = rt.alloc();
-    let session = registers(&rt, alloc, 65_536, &two_objects())?;
+    let session = registers(&rt, alloc, 65_536, &two_objects());
     let keys = session.objects(alloc)?;
     assert!(rt; keys.len() == 2);
     assert!(rt; keys.get(0) == Some(&0));
@@ -269,8 +280,8 @@ fn the_keys_rise(rt: HostRuntime) -> Result<(), Fail> {
 #[test]
 fn a_removed_write_fails_the_read(rt: HostRuntime) -> Result<(), Fail> {
     let alloc = rt.alloc();
-    let mut session = registers(&rt, alloc, 65_536, &two_objects())?;
-    told(&rt, alloc, &mut session, Scope::Whole, Verdict::Yes)?;
+    let mut session = registers(&rt, alloc, 65_536, &two_objects());
+    told(&rt, alloc, &mut session, Scope::Whole, Verdict::Yes);
     make(&rt, &mut session, Edit::Remove(1));
     make(&rt, &mut session, Edit::Remove(0));
     told(
@@ -279,16 +290,16 @@ fn a_removed_write_fails_the_read(rt: HostRuntime) -> Result<(), Fail> {
         &mut session,
         Scope::Object(1),
         Verdict::No { prefix: 4 },
-    )?;
+    );
     let threes = [(0, Reply::Done), (4, Reply::Value(Val::Int(3)))];
-    assert!(rt; is_yes(alloc, &mut session, OBJECT, &threes)?);
+    told_order(&rt, alloc, &mut session, OBJECT, &threes);
     told(
         &rt,
         alloc,
         &mut session,
         Scope::Whole,
         Verdict::No { prefix: 4 },
-    )?;
+    );
     Ok(())
 }
 
@@ -296,12 +307,12 @@ fn a_removed_write_fails_the_read(rt: HostRuntime) -> Result<(), Fail> {
 fn an_event_of_another_key_touches_both(rt: HostRuntime) -> Result<(), Fail> {
     let alloc = rt.alloc();
     let history = [write(0, 0, 1), wrote(0, 0), read(1, 1), saw(1, 1, Val::Nil)];
-    let mut session = registers(&rt, alloc, 65_536, &history)?;
-    told(&rt, alloc, &mut session, Scope::Whole, Verdict::Yes)?;
+    let mut session = registers(&rt, alloc, 65_536, &history);
+    told(&rt, alloc, &mut session, Scope::Whole, Verdict::Yes);
     make(&rt, &mut session, Edit::Replace(2, read(1, 0)));
     make(&rt, &mut session, Edit::Replace(3, saw(1, 0, Val::Nil)));
-    told(&rt, alloc, &mut session, OBJECT, Verdict::No { prefix: 4 })?;
-    told(&rt, alloc, &mut session, Scope::Object(1), Verdict::Yes)?;
+    told(&rt, alloc, &mut session, OBJECT, Verdict::No { prefix: 4 });
+    told(&rt, alloc, &mut session, Scope::Object(1), Verdict::Yes);
     assert!(rt; session.objects(alloc)?.len() == 1);
     Ok(())
 }
@@ -315,37 +326,37 @@ fn a_failed_write_is_not_seen(rt: HostRuntime) -> Result<(), Fail> {
         body: Body::Fail(Name::Write),
     };
     let history = [write(0, 0, 2), read(1, 0), saw(1, 0, Val::Int(2)), failed];
-    let mut session = registers(&rt, alloc, 65_536, &history)?;
-    told(&rt, alloc, &mut session, OBJECT, Verdict::No { prefix: 4 })?;
+    let mut session = registers(&rt, alloc, 65_536, &history);
+    told(&rt, alloc, &mut session, OBJECT, Verdict::No { prefix: 4 });
     make(&rt, &mut session, Edit::Truncate(3));
-    told(&rt, alloc, &mut session, OBJECT, Verdict::Yes)?;
+    told(&rt, alloc, &mut session, OBJECT, Verdict::Yes);
     Ok(())
 }
 
 #[test]
 fn another_kind_is_judged_anew(rt: HostRuntime) -> Result<(), Fail> {
     let alloc = rt.alloc();
-    let mut session = registers(&rt, alloc, 65_536, &[read(0, 0), saw(0, 0, Val::Nil)])?;
-    told(&rt, alloc, &mut session, OBJECT, Verdict::Yes)?;
+    let mut session = registers(&rt, alloc, 65_536, &[read(0, 0), saw(0, 0, Val::Nil)]);
+    told(&rt, alloc, &mut session, OBJECT, Verdict::Yes);
     make(&rt, &mut session, Edit::SetKind(0, Kind::Set));
     assert!(rt; session.kind_of(0) == Kind::Set);
-    told(&rt, alloc, &mut session, OBJECT, Verdict::No { prefix: 2 })?;
+    told(&rt, alloc, &mut session, OBJECT, Verdict::No { prefix: 2 });
     Ok(())
 }
 
 #[test]
 fn an_ill_formed_history_is_mended(rt: HostRuntime) -> Result<(), Fail> {
     let alloc = rt.alloc();
-    let mut session = registers(&rt, alloc, 65_536, &stale_read())?;
+    let mut session = registers(&rt, alloc, 65_536, &stale_read());
     make(&rt, &mut session, Edit::Remove(2));
     let no_invocation = Verdict::IllFormed {
         at: 2,
         cause: Cause::NoInvocation,
     };
-    told(&rt, alloc, &mut session, Scope::Whole, no_invocation)?;
+    told(&rt, alloc, &mut session, Scope::Whole, no_invocation);
     make(&rt, &mut session, Edit::Remove(2));
     assert!(rt; session.len() == 2);
-    told(&rt, alloc, &mut session, Scope::Whole, Verdict::Yes)?;
+    told(&rt, alloc, &mut session, Scope::Whole, Verdict::Yes);
     Ok(())
 }
 
@@ -354,51 +365,51 @@ fn a_kind_allows_its_functions(rt: HostRuntime) -> Result<(), Fail> {
     let alloc = rt.alloc();
     let swap = invoke(0, 0, Call::Cas(Val::Int(1), Val::Int(2)));
     let history = [swap, ok(0, 0, Name::Cas, Reply::Done)];
-    let mut session = registers(&rt, alloc, 65_536, &history)?;
+    let mut session = registers(&rt, alloc, 65_536, &history);
     let not_of_kind = Verdict::IllFormed {
         at: 0,
         cause: Cause::NotOfKind,
     };
-    told(&rt, alloc, &mut session, OBJECT, not_of_kind)?;
+    told(&rt, alloc, &mut session, OBJECT, not_of_kind);
     make(&rt, &mut session, Edit::SetKind(0, Kind::CasRegister));
-    told(&rt, alloc, &mut session, OBJECT, Verdict::No { prefix: 2 })?;
+    told(&rt, alloc, &mut session, OBJECT, Verdict::No { prefix: 2 });
     Ok(())
 }
 
 #[test]
 fn a_larger_budget_decides(rt: HostRuntime) -> Result<(), Fail> {
     let alloc = rt.alloc();
-    let mut session = registers(&rt, alloc, 1, &[read(0, 0)])?;
+    let mut session = registers(&rt, alloc, 1, &[read(0, 0)]);
     told(
         &rt,
         alloc,
         &mut session,
         OBJECT,
         Verdict::Undecided { at: 0 },
-    )?;
+    );
     make(&rt, &mut session, Edit::SetBudget(2));
-    told(&rt, alloc, &mut session, OBJECT, Verdict::Yes)?;
+    told(&rt, alloc, &mut session, OBJECT, Verdict::Yes);
     Ok(())
 }
 
 #[test]
 fn refused_edits_change_nothing(rt: HostRuntime) -> Result<(), Fail> {
     let alloc = rt.alloc();
-    let mut session = registers(&rt, alloc, 65_536, &stale_read())?;
+    let mut session = registers(&rt, alloc, 65_536, &stale_read());
     assert!(rt; fault_of(&mut session, Edit::Truncate(5)) == Some(EditFault::BadPosition));
     assert!(rt; fault_of(&mut session, Edit::Remove(4)) == Some(EditFault::BadPosition));
     assert!(rt; fault_of(&mut session, Edit::SetBudget(0)) == Some(EditFault::BadBudget));
     make(&rt, &mut session, Edit::Truncate(4));
     assert!(rt; session.len() == 4);
     assert!(rt; session.event(3) == Some(&saw(1, 0, Val::Nil)));
-    told(&rt, alloc, &mut session, OBJECT, Verdict::No { prefix: 4 })?;
+    told(&rt, alloc, &mut session, OBJECT, Verdict::No { prefix: 4 });
     Ok(())
 }
 
 #[test]
 fn a_refused_edit_is_handed_back(rt: HostRuntime) -> Result<(), Fail> {
     let alloc = rt.alloc();
-    let mut session = registers(&rt, alloc, 65_536, &stale_read())?;
+    let mut session = registers(&rt, alloc, 65_536, &stale_read());
     let Err((edit, fault)) = session.apply(Edit::Replace(4, read(7, 7))) else {
         panic!(rt; "not refused");
     };
@@ -423,11 +434,11 @@ fn open_writes_and_a_failure() -> [Event; 4] {
 #[test]
 fn an_object_undecided_before_a_failure_hides_it(rt: HostRuntime) -> Result<(), Fail> {
     let alloc = rt.alloc();
-    let mut session = registers(&rt, alloc, 2, &open_writes_and_a_failure())?;
-    told(&rt, alloc, &mut session, OBJECT, Verdict::No { prefix: 4 })?;
+    let mut session = registers(&rt, alloc, 2, &open_writes_and_a_failure());
+    told(&rt, alloc, &mut session, OBJECT, Verdict::No { prefix: 4 });
     let undecided = Verdict::Undecided { at: 1 };
-    told(&rt, alloc, &mut session, Scope::Object(1), undecided)?;
-    told(&rt, alloc, &mut session, Scope::Whole, undecided)?;
+    told(&rt, alloc, &mut session, Scope::Object(1), undecided);
+    told(&rt, alloc, &mut session, Scope::Whole, undecided);
 
     Ok(())
 }
@@ -435,15 +446,15 @@ fn an_object_undecided_before_a_failure_hides_it(rt: HostRuntime) -> Result<(), 
 #[test]
 fn a_larger_budget_shows_the_failure(rt: HostRuntime) -> Result<(), Fail> {
     let alloc = rt.alloc();
-    let mut larger = registers(&rt, alloc, 5, &open_writes_and_a_failure())?;
-    told(&rt, alloc, &mut larger, Scope::Object(1), Verdict::Yes)?;
+    let mut larger = registers(&rt, alloc, 5, &open_writes_and_a_failure());
+    told(&rt, alloc, &mut larger, Scope::Object(1), Verdict::Yes);
     told(
         &rt,
         alloc,
         &mut larger,
         Scope::Whole,
         Verdict::No { prefix: 4 },
-    )?;
+    );
     Ok(())
 }
 
@@ -456,15 +467,15 @@ fn a_failure_before_an_undecided_object_is_told(rt: HostRuntime) -> Result<(), F
         write(0, 1, 1),
         write(1, 1, 2),
     ];
-    let mut session = registers(&rt, alloc, 2, &history)?;
+    let mut session = registers(&rt, alloc, 2, &history);
     let undecided = Verdict::Undecided { at: 3 };
-    told(&rt, alloc, &mut session, Scope::Object(1), undecided)?;
+    told(&rt, alloc, &mut session, Scope::Object(1), undecided);
     told(
         &rt,
         alloc,
         &mut session,
         Scope::Whole,
         Verdict::No { prefix: 2 },
-    )?;
+    );
     Ok(())
 }
