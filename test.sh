@@ -8,7 +8,12 @@ log=$(mktemp)
 trap 'rm -f "$log"' EXIT
 
 # By itself rt sets far more memory aside for a large crate than its check takes (14 GB for 5), and leaves processors idle meanwhile.
-checks=$(awk -v most="$(nproc)" '/^MemAvailable/ { fit = int($2 / 5000000); print fit < 1 ? 1 : fit < most ? fit : most }' /proc/meminfo)
+memory=$(($(awk '/^MemAvailable/ { print $2 }' /proc/meminfo) * 1024))
+limit=$(cat /sys/fs/cgroup/memory.max 2> /dev/null)
+[[ $limit =~ ^[0-9]+$ ]] && [ "$limit" -lt "$memory" ] && memory=$limit
+checks=$((memory / 5000000000))
+[ "$checks" -gt "$(nproc)" ] && checks=$(nproc)
+[ "$checks" -lt 1 ] && checks=1
 
 RT_JOBS=${RT_JOBS:-$checks} rt ci | tee "$log"
 [ "${PIPESTATUS[0]}" = 0 ] || exit 1
