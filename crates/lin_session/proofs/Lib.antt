@@ -23,3 +23,4 @@ pub mod Marking
 pub mod Overs
 pub mod Listed
 pub mod Touching
+pub mod Scanned

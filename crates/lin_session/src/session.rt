@@ -260,11 +260,13 @@ impl Session {
     }
 
     /// The verdict for the scope, if searches find a legal order or operations that conflict of each of its objects. The history
-    /// isn't marked as asked about.
+    /// is scanned, but isn't marked as asked about.
     fn foreseen(&mut self, alloc: Global, scope: Scope) -> Result<Option<Verdict>, OutOfMemory>
         ensures verdict { IfOk result (λ found. IfSome found (IsVerdict self.old.present scope)) }
         ensures present { self.new.present ≡ self.old.present }
-        ensures low { self.new.low ≡ self.old.low }
+        ensures settled { OnOk result (self.new.low ≡ None) }
+        ensures unsettled { OnErr result (self.new.low ≡ self.old.low) }
+        ensures scans { self.new.meter.scans ≤ self.old.meter.scans + anew self.old.low (length self.old.present.history) }
         ensures marks { AreSameMarks (mark_of self.old.marks) (mark_of self.new.marks) }
         ensures steps { self.new.meter.steps ≡ self.old.meter.steps }
     {
@@ -272,9 +274,11 @@ impl Session {
             .scan
             .settle(&self.events, &self.kinds, &mut self.meter)?;
         let Shape::Good = shape else {
+            self.low = None;
             return Ok(None);
         };
         self.objects.split(alloc, &self.events, &self.kinds)?;
+        self.low = None;
         let verdict = self
             .objects
             .foreseen(alloc, scope, &self.events, &self.kinds, self.budget);
@@ -287,7 +291,9 @@ impl Session {
     pub fn decide(&mut self, alloc: Global, scope: Scope) -> Result<Verdict, OutOfMemory>
         ensures verdict { IfOk result (IsVerdict self.old.present scope) }
         ensures present { self.new.present ≡ self.old.present }
+        ensures settled { OnOk result (self.new.low ≡ None) }
         ensures low { (self.new.low ≡ self.old.low) ⊎ (self.new.low ≡ None) }
+        ensures scans { self.new.meter.scans ≤ self.old.meter.scans + anew self.old.low (length self.old.present.history) }
         ensures marked { OnOk result (AreSameMarks (mark_of self.old.marks) (mark_of self.new.marks) ⊎ (IsWellFormed (functions_of (kinds_in self.old.present)) self.old.present.history → AreMarked (kinds_in self.old.present) self.old.present.budget self.old.present.history scope (mark_of self.old.marks) (mark_of self.new.marks))) }
         ensures unmarked { OnErr result (AreSameMarks (mark_of self.old.marks) (mark_of self.new.marks)) }
         ensures steps { self.new.meter.steps ≤ self.old.meter.steps + cost_in (mark_of self.old.marks) self.old.present.history scope }

@@ -1,11 +1,10 @@
 use Rattle.std.proofs.Common.{◌≡◌, None, sym, ap, length, subst, ◌∙◌}
 use Rattle.lin_history.specs.WellFormed.{IsShape, IsWellFormed}
 use Rattle.lin_objects.specs.Kinds.{functions_of, kind_of}
-use Rattle.lin_wellformed.specs.Scans.{IsRight, ready_count}
+use Rattle.lin_wellformed.specs.Scans.{ready_count}
 use Rattle.lin_session.specs.Answers.{kinds_in}
 use Rattle.lin_session.specs.Sessions.{AreTakenIn, Standing}
 use Rattle.lin_session.proofs.Found.{not_ok}
-use Rattle.lin_session.proofs.Low.{AreTakenIn-more}
 use Rattle.std.proofs.Common.{List}
 use Rattle.lin_history.specs.declared.events.Event.{Event}
 use Rattle.lin_session.specs.Edits.{Present}
@@ -13,6 +12,7 @@ use Rattle.lin_session.specs.Marks.{AreMarked, IsNothingDue, IsWithoutOrder}
 use Rattle.lin_session.specs.Objects.{AreRight, marks_in}
 use Rattle.lin_session.specs.Work.{mark_of}
 use Rattle.lin_session.proofs.Settling.{AreMarked-since}
+use Rattle.lin_session.proofs.Scanned.{up_to_bad, up_to_date, up_to_end}
 use Rattle.lin_session.proofs.session.Session.ask.Goals as goal
 
 pub ask-requires-clause-well_formed : goal.ask-requires-clause-well_formed
@@ -27,29 +27,11 @@ returns-in-Bad-clause-answer c =
     (subst (IsShape F c.self.inside.events.items) c.in-Bad.is (subst (λ l. IsShape F l c.in_ok-settle.field-0) c.deref.ensures.value c.in_ok-settle.ensures.shape))
 
 pub invariant_of-self : goal.invariant_of-self
-invariant_of-self c =
-    let scanned = subst (IsRight c.settle.new.self (kind_of c.self.inside.kinds)) c.deref.ensures.value c.settle.ensures.right in
-    record {
-      few = c.self.invariant.few;
-      budgeted = c.self.invariant.budgeted;
-      scanned = scanned;
-      taken_in = AreTakenIn-more c.self.inside.low (ready_count c.self.inside.scan) (ready_count c.settle.new.self) (length c.self.inside.events.items) c.settle.ensures.no_less scanned.within c.self.invariant.taken_in;
-      kept = c.self.invariant.kept;
-      apart = c.self.invariant.apart;
-    }
+invariant_of-self c = up_to_date _ _ _ _ _ c.self.invariant _ c.deref.ensures.value c.settle.ensures.right c.settle.ensures.no_less
 
 pub invariant_of-self-in-Bad : goal.invariant_of-self-in-Bad
-invariant_of-self-in-Bad c =
-    let F = functions_of (kind_of c.self.inside.kinds) in
-    let bad = subst (IsShape F c.self.inside.events.items) c.in-Bad.is (subst (λ l. IsShape F l c.in_ok-settle.field-0) c.deref.ensures.value c.in_ok-settle.ensures.shape) in
-    record {
-      few = c.self.invariant.few;
-      budgeted = c.self.invariant.budgeted;
-      scanned = subst (IsRight c.settle.new.self (kind_of c.self.inside.kinds)) c.deref.ensures.value c.settle.ensures.right;
-      taken_in = c.in_ok-settle.ensures.all ∙ ap length c.deref.ensures.value;
-      kept = c.self.invariant.kept;
-      apart = λ none fine. absurd (fine c.in-Bad.at c.in-Bad.cause bad.0);
-    }
+invariant_of-self-in-Bad c = up_to_bad _ _ _ _ _ c.self.invariant _ c.deref.ensures.value c.settle.ensures.right c.in-Bad.at c.in-Bad.cause c.in_ok-settle.ensures.all
+    (subst (IsShape (functions_of (kind_of c.self.inside.kinds)) c.deref.result.now) c.in-Bad.is c.in_ok-settle.ensures.shape)
 
 pub returns-in_err-settle-clause-known : goal.returns-in_err-settle-clause-known
 returns-in_err-settle-clause-known c = λ none bad.
@@ -67,14 +49,11 @@ pub invariant_of-self-in-Good : goal.invariant_of-self-in-Good
 invariant_of-self-in-Good c =
     let K = kind_of c.self.inside.kinds in
     let split = c.in_ok-answer-in-Good.ensures.split in
-    record {
-      few = c.self.invariant.few;
-      budgeted = c.self.invariant.budgeted;
-      scanned = subst (IsRight c.settle.new.self K) c.deref.ensures.value c.settle.ensures.right;
-      taken_in = c.in_ok-settle.ensures.all ∙ ap length c.deref.ensures.value;
-      kept = subst (AreRight c.mark.new.self K c.self.inside.budget) c.deref-in-Good.ensures.value (c.mark.ensures.right K c.self.inside.budget c.deref-in-Good.result.now split c.ask.ensures.right c.in_ok-answer-in-Good.ensures.judged);
-      apart = λ none fine. c.mark.ensures.split ∙ split ∙ ap length c.deref-in-Good.ensures.value;
-    }
+    let there = sym c.deref.ensures.value in
+    let here = c.deref-in-Good.ensures.value ∙ there in
+    up_to_end _ _ _ _ _ c.self.invariant _ c.deref.ensures.value c.settle.ensures.right c.mark.new.self c.in_ok-settle.ensures.all
+    (subst (AreRight c.mark.new.self K c.self.inside.budget) here (c.mark.ensures.right K c.self.inside.budget c.deref-in-Good.result.now split c.ask.ensures.right c.in_ok-answer-in-Good.ensures.judged))
+    (c.mark.ensures.split ∙ split ∙ ap length here)
 
 pub returns-in_ok-answer-in-Good-clause-marked : goal.returns-in_ok-answer-in-Good-clause-marked
 returns-in_ok-answer-in-Good-clause-marked c = λ fine.

@@ -4,6 +4,7 @@ use Rattle.lin_objects.specs.Kinds.{functions_of, kind_of}
 use Rattle.lin_wellformed.specs.Scans.{IsRight, ready_count}
 use Rattle.lin_session.proofs.Low.{AreTakenIn-more}
 use Rattle.lin_session.specs.Objects.{AreRight}
+use Rattle.lin_session.proofs.Scanned.{up_to_bad, up_to_end}
 use Rattle.lin_session.proofs.session.Session.foreseen.Goals.{After-split}
 use Rattle.lin_session.proofs.session.Session.foreseen.Goals as goal
 
@@ -27,6 +28,10 @@ invariant_of-self-in_err-split c =
       apart = λ none fine. c.split.ensures.apart (c.self.invariant.apart none fine ∙ ap length (sym c.deref-2.ensures.value)) ∙ ap length c.deref-2.ensures.value;
     }
 
+pub invariant_of-self-in_default : goal.invariant_of-self-in_default
+invariant_of-self-in_default c = up_to_bad _ _ _ _ _ c.self.invariant _ c.deref.ensures.value c.settle.ensures.right c.in_default.field-0 c.in_default.field-1 c.in_ok-shape.ensures.all
+    (subst (IsShape (functions_of (kind_of c.self.inside.kinds)) c.deref.result.now) c.in_default.is c.in_ok-shape.ensures.shape)
+
 pub foreseen-verdict-requires-clause-right : goal.foreseen-verdict-requires-clause-right
 foreseen-verdict-requires-clause-right c =
     subst (AreRight c.split.new.self (kind_of c.self.inside.kinds) c.self.inside.budget) (sym c.deref-3.ensures.value) (kept (goal.at.foreseen-verdict-requires-clause-right c).After-split)
@@ -39,12 +44,7 @@ foreseen-verdict-requires-clause-well_formed c =
 pub invariant_of-self-2 : goal.invariant_of-self-2
 invariant_of-self-2 c =
     let K = kind_of c.self.inside.kinds in
-    let scanned = subst (IsRight c.settle.new.self K) c.deref.ensures.value c.settle.ensures.right in
-    record {
-      few = c.self.invariant.few;
-      budgeted = c.self.invariant.budgeted;
-      scanned = scanned;
-      taken_in = AreTakenIn-more c.self.inside.low (ready_count c.self.inside.scan) (ready_count c.settle.new.self) (length c.self.inside.events.items) c.settle.ensures.no_less scanned.within c.self.invariant.taken_in;
-      kept = kept (goal.at.invariant_of-self-2 c).After-split;
-      apart = λ none fine. c.split.ensures.apart (c.self.invariant.apart none fine ∙ ap length (sym c.deref-2.ensures.value)) ∙ ap length c.deref-2.ensures.value;
-    }
+    let there = c.deref-2.ensures.value ∙ sym c.deref.ensures.value in
+    up_to_end _ _ _ _ _ c.self.invariant _ c.deref.ensures.value c.settle.ensures.right c.split.new.self c.in_ok-shape.ensures.all
+    (subst (AreRight c.split.new.self K c.self.inside.budget) (sym c.deref.ensures.value) (kept (goal.at.invariant_of-self-2 c).After-split))
+    (c.in_ok-split.ensures.all ∙ ap length there)

@@ -2,7 +2,6 @@ use Rattle.std.proofs.Common.{◌≡◌, sym, ap, length, subst, ◌∙◌, to_z
 use Rattle.std.proofs.lemmas.Int.{to_z-of_z}
 use Rattle.lin_history.specs.WellFormed.{IsShape, IsWellFormed}
 use Rattle.lin_objects.specs.Kinds.{functions_of, kind_of}
-use Rattle.lin_wellformed.specs.Scans.{IsRight}
 use Rattle.lin_session.specs.Answers.{kinds_in}
 use Rattle.lin_session.specs.Refuting.{IsUnrefuted}
 use Rattle.lin_session.specs.Sessions.{Standing}
@@ -12,6 +11,7 @@ use Rattle.lin_session.specs.Marks.{AreMarked}
 use Rattle.lin_session.specs.Objects.{AreRight, marks_in}
 use Rattle.lin_session.specs.Work.{mark_of}
 use Rattle.lin_session.proofs.Settling.{AreMarked-since}
+use Rattle.lin_session.proofs.Scanned.{up_to_bad, up_to_end}
 use Rattle.lin_session.proofs.session.Session.refute.Goals as goal
 
 pub refute-requires-clause-well_formed : goal.refute-requires-clause-well_formed
@@ -34,17 +34,8 @@ returns-in_err-refuted-in-Good-clause-known c = λ none bad.
     absurd (bad (subst (λ (s : Standing). IsWellFormed (functions_of (kinds_in s.present)) s.present.history) c.self.view_is fine))
 
 pub invariant_of-self-in-Bad : goal.invariant_of-self-in-Bad
-invariant_of-self-in-Bad c =
-    let F = functions_of (kind_of c.self.inside.kinds) in
-    let bad = subst (IsShape F c.self.inside.events.items) c.in-Bad.is (subst (λ l. IsShape F l c.in-Ok.shape) c.deref.ensures.value c.in-Ok.ensures.shape) in
-    record {
-      few = c.self.invariant.few;
-      budgeted = c.self.invariant.budgeted;
-      scanned = subst (IsRight c.settle.new.self (kind_of c.self.inside.kinds)) c.deref.ensures.value c.settle.ensures.right;
-      taken_in = c.in-Ok.ensures.all ∙ ap length c.deref.ensures.value;
-      kept = c.self.invariant.kept;
-      apart = λ none fine. absurd (fine c.in-Bad.at c.in-Bad.cause bad.0);
-    }
+invariant_of-self-in-Bad c = up_to_bad _ _ _ _ _ c.self.invariant _ c.deref.ensures.value c.settle.ensures.right c.in-Bad.at c.in-Bad.cause c.in-Ok.ensures.all
+    (subst (IsShape (functions_of (kind_of c.self.inside.kinds)) c.deref.result.now) c.in-Bad.is c.in-Ok.ensures.shape)
 
 pub returns-in-Bad-clause-refuted : goal.returns-in-Bad-clause-refuted
 returns-in-Bad-clause-refuted c =
@@ -58,14 +49,11 @@ pub invariant_of-self-in-Good : goal.invariant_of-self-in-Good
 invariant_of-self-in-Good c =
     let K = kind_of c.self.inside.kinds in
     let split = c.in_ok-refuted-in-Good.ensures.split in
-    record {
-      few = c.self.invariant.few;
-      budgeted = c.self.invariant.budgeted;
-      scanned = subst (IsRight c.settle.new.self K) c.deref.ensures.value c.settle.ensures.right;
-      taken_in = c.in-Ok.ensures.all ∙ ap length c.deref.ensures.value;
-      kept = subst (AreRight c.mark.new.self K c.self.inside.budget) c.deref-in-Good.ensures.value (c.mark.ensures.right K c.self.inside.budget c.deref-in-Good.result.now split c.refute.ensures.right c.in_ok-refuted-in-Good.ensures.judged);
-      apart = λ none fine. c.mark.ensures.split ∙ split ∙ ap length c.deref-in-Good.ensures.value;
-    }
+    let there = sym c.deref.ensures.value in
+    let here = c.deref-in-Good.ensures.value ∙ there in
+    up_to_end _ _ _ _ _ c.self.invariant _ c.deref.ensures.value c.settle.ensures.right c.mark.new.self c.in-Ok.ensures.all
+    (subst (AreRight c.mark.new.self K c.self.inside.budget) here (c.mark.ensures.right K c.self.inside.budget c.deref-in-Good.result.now split c.refute.ensures.right c.in_ok-refuted-in-Good.ensures.judged))
+    (c.mark.ensures.split ∙ split ∙ ap length here)
 
 pub returns-in_ok-refuted-in-Good-clause-marked : goal.returns-in_ok-refuted-in-Good-clause-marked
 returns-in_ok-refuted-in-Good-clause-marked c = λ fine.
