@@ -1,9 +1,7 @@
 //! Recordings with comments, discards and tags, and recordings that are refused.
-use crate::table::gives;
+use crate::table::{all_long_give, gives};
 use lin_objects::Kind;
 use lin_report::Status::{Refused, Yes};
-use std::alloc::AllocError;
-use std::test::Fail;
 
 /// A recording with all that may stand between and round operation maps.
 const RECORDED: &[u8] = b"; a recorded test
@@ -14,10 +12,10 @@ const RECORDED: &[u8] = b"; a recorded test
 ";
 
 #[test]
-fn a_recording_cut_short(rt: HostRuntime) -> Result<(), Fail> {
+fn a_recording_cut_short(rt: HostRuntime) {
     let whole = RECORDED.len();
     let vector_end = 244;
-    gives(&rt, Kind::Register, false, RECORDED, "0=done", "yes", Yes)?;
+    gives(&rt, Kind::Register, false, RECORDED, "0=done", "yes", Yes);
     gives(
         &rt,
         Kind::Register,
@@ -26,11 +24,11 @@ fn a_recording_cut_short(rt: HostRuntime) -> Result<(), Fail> {
         "0=done 2=1",
         "yes",
         Yes,
-    )?;
+    );
     for kept in 0..whole {
         let text = &RECORDED[..kept];
         if kept <= 18 {
-            gives(&rt, Kind::Register, false, text, "empty", "yes", Yes)?;
+            gives(&rt, Kind::Register, false, text, "empty", "yes", Yes);
         } else if kept < vector_end {
             gives(
                 &rt,
@@ -40,9 +38,9 @@ fn a_recording_cut_short(rt: HostRuntime) -> Result<(), Fail> {
                 "0=done",
                 "refused input truncated at 18",
                 Refused,
-            )?;
+            );
         } else if kept <= vector_end + 1 {
-            gives(&rt, Kind::Register, false, text, "0=done", "yes", Yes)?;
+            gives(&rt, Kind::Register, false, text, "0=done", "yes", Yes);
         } else if kept < whole - 1 {
             gives(
                 &rt,
@@ -52,23 +50,13 @@ fn a_recording_cut_short(rt: HostRuntime) -> Result<(), Fail> {
                 "0=done",
                 "refused input truncated at 245",
                 Refused,
-            )?;
+            );
         }
     }
-    Ok(())
-}
-
-/// A byte many times.
-fn repeated(rt: &HostRuntime, bytes: &[u8], times: usize) -> Result<Vec<u8>, AllocError> {
-    let mut text = Vec::new(rt.alloc());
-    for _ in 0..times {
-        text.extend_from_slice(bytes)?;
-    }
-    Ok(text)
 }
 
 #[test]
-fn refused_recordings(rt: HostRuntime) -> Result<(), Fail> {
+fn refused_recordings(rt: HostRuntime) {
     let examples: [(&[u8], &str); 21] = [
         (
             b"{:process 0, :type :invoke, :f :read",
@@ -117,58 +105,33 @@ fn refused_recordings(rt: HostRuntime) -> Result<(), Fail> {
         ),
     ];
     for (text, line) in &examples {
-        gives(&rt, Kind::Register, false, text, "x", line, Refused)?;
+        gives(&rt, Kind::Register, false, text, "x", line, Refused);
     }
-    Ok(())
 }
 
 #[test]
-fn deep_recordings(rt: HostRuntime) -> Result<(), Fail> {
-    let deep = repeated(&rt, b"[", 65)?;
-    gives(
+fn deep_recordings(rt: HostRuntime) {
+    all_long_give(
         &rt,
-        Kind::Register,
-        false,
-        deep.as_slice(),
-        "empty",
-        "refused input edn 3 TooDeep at 64",
-        Refused,
-    )?;
-    let mut just = repeated(&rt, b"[", 64)?;
-    just.extend_from_slice(repeated(&rt, b"]", 64)?.as_slice())?;
-    gives(
-        &rt,
-        Kind::Register,
-        false,
-        just.as_slice(),
-        "empty",
-        "refused input event 1 NotAMap at 0",
-        Refused,
-    )?;
-    let tags = repeated(&rt, b"#a ", 65)?;
-    gives(
-        &rt,
-        Kind::Register,
-        false,
-        tags.as_slice(),
-        "empty",
-        "refused input edn 3 TooDeep at 192",
-        Refused,
-    )?;
-    let discards = repeated(&rt, b"#_", 65)?;
-    gives(
-        &rt,
-        Kind::Register,
-        false,
-        discards.as_slice(),
-        "empty",
-        "refused input edn 3 TooDeep at 128",
-        Refused,
-    )
+        &[
+            (&[("[", 65)], "refused input edn 3 TooDeep at 64", Refused),
+            (
+                &[("[", 64), ("]", 64)],
+                "refused input event 1 NotAMap at 0",
+                Refused,
+            ),
+            (
+                &[("#a ", 65)],
+                "refused input edn 3 TooDeep at 192",
+                Refused,
+            ),
+            (&[("#_", 65)], "refused input edn 3 TooDeep at 128", Refused),
+        ],
+    );
 }
 
 #[test]
-fn values_at_the_edges(rt: HostRuntime) -> Result<(), Fail> {
+fn values_at_the_edges(rt: HostRuntime) {
     for (value, read) in [
         ("9223372036854775807", true),
         ("-9223372036854775808", true),
@@ -180,28 +143,22 @@ fn values_at_the_edges(rt: HostRuntime) -> Result<(), Fail> {
         ("\"a\"", false),
         (":a", false),
     ] {
-        let text = format!(in rt.alloc(); "{{:process 0 :type :invoke :f :write :value {value}}}")?;
-        if read {
-            gives(
-                &rt,
-                Kind::Register,
-                false,
-                text.as_bytes(),
-                "empty",
-                "yes",
-                Yes,
-            )?;
+        let text = format!(in rt.alloc();
+            "{{:process 0 :type :invoke :f :write :value {value}}}"
+        ).expect(&rt, "memory");
+        let (line, status) = if read {
+            ("yes", Yes)
         } else {
-            gives(
-                &rt,
-                Kind::Register,
-                false,
-                text.as_bytes(),
-                "empty",
-                "refused input event 8 BadValue at 0",
-                Refused,
-            )?;
-        }
+            ("refused input event 8 BadValue at 0", Refused)
+        };
+        gives(
+            &rt,
+            Kind::Register,
+            false,
+            text.as_bytes(),
+            "empty",
+            line,
+            status,
+        );
     }
-    Ok(())
 }

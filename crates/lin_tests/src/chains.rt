@@ -32,10 +32,14 @@ fn sets_of_a_dead_chain_pass_the_check(rt: HostRuntime) -> Result<(), Fail> {
     };
     let picks = [0, 1, 2, 3];
     let mut chain = Chain::new(alloc, Kind::Register);
-    assert!(rt; chain.settle(&events, &picks, 100, &mut meter)? == End::Dead(3));
+    let end = chain
+        .settle(&events, &picks, 100, &mut meter)
+        .expect(&rt, "memory");
+    assert!(rt; end == End::Dead(3));
     let Ok(refutation) = chain.refute(alloc, &events, &picks, 100) else {
         return Err(Fail::new(format_args!("no sets")));
     };
-    assert!(rt; check_refutation(alloc, &events, Kind::Register, &refutation)?);
+    let refutes = check_refutation(alloc, &events, Kind::Register, &refutation);
+    assert!(rt; refutes.expect(&rt, "memory"));
     Ok(())
 }

@@ -1,57 +1,57 @@
 //! Reports: recordings in short forms, and what `check` has to print of each.
 ghost use Rattle.std.specs.Prelude.{◌≤◌};
 
-use crate::table::{BUDGET, prints, recording};
+use crate::table::{BUDGET, KINDS, prints, recording};
 use lin_objects::Kind;
 use lin_report::Status;
 use lin_report::Status::{No, Undecided, Yes};
-use std::test::Fail;
+use std::process::Abort;
 
-const KINDS: [(Kind, &str); 5] = [
-    (Kind::Register, "register"),
-    (Kind::CasRegister, "cas-register"),
-    (Kind::Fifo, "fifo"),
-    (Kind::Set, "set"),
-    (Kind::Mutex, "mutex"),
-];
+/// A register, and its word in a report.
+pub(crate) const REGISTER: (Kind, &str) = (Kind::Register, "register");
+
+const FIFO: (Kind, &str) = (Kind::Fifo, "fifo");
+
+const SET: (Kind, &str) = (Kind::Set, "set");
+
+const MUTEX: (Kind, &str) = (Kind::Mutex, "mutex");
 
 /// The report of the recording has so many events and this answer, for the object and for the whole.
-fn answers(
-    rt: &HostRuntime,
+pub(crate) fn answers(
+    rt: &(impl Abort + AllocGlobal),
     kind: (Kind, &str),
     budget: u32,
     events: &str,
     answer: &str,
     status: Status,
-) -> Result<(), Fail>
+)
     requires { (1 ≤ budget) × (budget ≤ 1000000) }
 {
     let count = events.split("; ").count();
     let word = kind.1;
     let lines = format!(in rt.alloc();
         "events {count} objects 1\nobject 0 {word}: {answer}\nwhole: {answer}\n"
-    )?;
-    let text = recording(rt, events)?;
-    prints(rt, kind.0, budget, text.as_bytes(), lines.as_str(), status)
+    ).expect(rt, "memory");
+    let text = recording(rt, events);
+    prints(rt, kind.0, budget, text.as_bytes(), lines.as_str(), status);
 }
 
 #[test]
-fn no_event(rt: HostRuntime) -> Result<(), Fail> {
-    for (kind, _) in KINDS {
+fn no_event(rt: HostRuntime) {
+    for kind in KINDS {
         for text in [
             "",
             "; nothing\n",
             "{:process :nemesis, :type :info, :f :kill}",
         ] {
             let lines = "events 0 objects 0\nwhole: yes\n";
-            prints(&rt, kind, BUDGET, text.as_bytes(), lines, Yes)?;
+            prints(&rt, kind, BUDGET, text.as_bytes(), lines, Yes);
         }
     }
-    Ok(())
 }
 
 #[test]
-fn registers(rt: HostRuntime) -> Result<(), Fail> {
+fn registers(rt: HostRuntime) {
     let examples = [
         (
             "p0 invoke write 1; p0 ok write; p1 invoke read; p1 ok read nil",
@@ -75,20 +75,12 @@ fn registers(rt: HostRuntime) -> Result<(), Fail> {
         ),
     ];
     for (events, answer, status) in examples {
-        answers(
-            &rt,
-            (Kind::Register, "register"),
-            BUDGET,
-            events,
-            answer,
-            status,
-        )?;
+        answers(&rt, REGISTER, BUDGET, events, answer, status);
     }
-    Ok(())
 }
 
 #[test]
-fn queues(rt: HostRuntime) -> Result<(), Fail> {
+fn queues(rt: HostRuntime) {
     let examples = [
         (
             "p0 invoke enqueue 1; p1 invoke enqueue 2; p0 ok enqueue; p1 ok enqueue; p0 invoke dequeue; p0 ok dequeue 2; p0 invoke dequeue; p0 ok dequeue 1",
@@ -103,20 +95,19 @@ fn queues(rt: HostRuntime) -> Result<(), Fail> {
         ("p0 invoke dequeue; p0 ok dequeue nil", "yes", Yes),
     ];
     for (events, answer, status) in examples {
-        answers(&rt, (Kind::Fifo, "fifo"), BUDGET, events, answer, status)?;
+        answers(&rt, FIFO, BUDGET, events, answer, status);
     }
-    Ok(())
 }
 
 #[test]
-fn mutexes(rt: HostRuntime) -> Result<(), Fail> {
+fn mutexes(rt: HostRuntime) {
     let released =
         "p0 invoke acquire; p0 ok acquire; p2 invoke release; p2 info release; p1 invoke acquire; p1 ok acquire";
-    answers(&rt, (Kind::Mutex, "mutex"), BUDGET, released, "yes", Yes)
+    answers(&rt, MUTEX, BUDGET, released, "yes", Yes);
 }
 
 #[test]
-fn sets(rt: HostRuntime) -> Result<(), Fail> {
+fn sets(rt: HostRuntime) {
     let added =
         "p0 invoke add 1; p0 ok add; p0 invoke add 2; p0 ok add; p1 invoke read; p1 ok read ";
     for (members, answer, status) in [
@@ -125,39 +116,17 @@ fn sets(rt: HostRuntime) -> Result<(), Fail> {
         ("(1 2 2)", "yes", Yes),
         ("nil", "no prefix 6", No),
     ] {
-        let events = format!(in rt.alloc(); "{added}{members}")?;
-        answers(
-            &rt,
-            (Kind::Set, "set"),
-            BUDGET,
-            events.as_str(),
-            answer,
-            status,
-        )?;
+        let events = format!(in rt.alloc(); "{added}{members}").expect(&rt, "memory");
+        answers(&rt, SET, BUDGET, events.as_str(), answer, status);
     }
-    Ok(())
 }
 
 #[test]
-fn budgets(rt: HostRuntime) -> Result<(), Fail> {
+fn budgets(rt: HostRuntime) {
     let read = "p0 invoke read";
-    answers(
-        &rt,
-        (Kind::Register, "register"),
-        1,
-        read,
-        "undecided at 0",
-        Undecided,
-    )?;
-    answers(&rt, (Kind::Register, "register"), 2, read, "yes", Yes)?;
+    answers(&rt, REGISTER, 1, read, "undecided at 0", Undecided);
+    answers(&rt, REGISTER, 2, read, "yes", Yes);
     let enqueued = "p0 invoke enqueue 1; p1 invoke enqueue 2";
-    answers(&rt, (Kind::Fifo, "fifo"), 5, enqueued, "yes", Yes)?;
-    answers(
-        &rt,
-        (Kind::Fifo, "fifo"),
-        4,
-        enqueued,
-        "undecided at 1",
-        Undecided,
-    )
+    answers(&rt, FIFO, 5, enqueued, "yes", Yes);
+    answers(&rt, FIFO, 4, enqueued, "undecided at 1", Undecided);
 }

@@ -1,14 +1,14 @@
 //! Frontiers that keep what decides: how many members are left after worked histories, and what comes of drawn ones.
-use crate::drawn::{Draw, drawn_history, has_legal_order, register_history};
+use crate::drawn::{Draw, drawn_history, has_legal_order, is_legal_order, register_history};
 use crate::events::{fail, info, invoke, ok, write};
 use crate::exact_sets::{Came, came_of};
+use crate::table::KINDS;
 use lin_frontier::{Advance, Compressed, Open, RoundNodes, Scratch, take_in};
-use lin_history::{Body, Call, Event, IntSet, Meter, Name, OutOfMemory, Reply, Val};
-use lin_objects::{Any, Kind, Kinds};
-use lin_order::check_order;
+use lin_history::{Body, Call, Event, IntSet, Meter, Name, Reply, Val};
+use lin_objects::{Any, Kind};
 use std::alloc::Global;
 use std::mem;
-use std::test::Fail;
+use std::process::Abort;
 
 fn done(process: u64, name: Name) -> Event {
     ok(process, name, Reply::Done)
@@ -18,31 +18,94 @@ fn gives(process: u64, name: Name, value: Val) -> Event {
     ok(process, name, Reply::Value(value))
 }
 
-pub(crate) const AMPLE: u32 = 65_536;
+const AMPLE: u32 = 65_536;
 
-/// Whether each member's node spells a legal order of the events.
-fn is_sound(
-    alloc: Global,
-    kind: Kind,
-    events: &[Event],
-    frontier: &Compressed<Any>,
-    nodes: &RoundNodes,
-) -> Result<bool, OutOfMemory> {
-    let kinds = Kinds::new(alloc, kind);
-    for i in 0..frontier.len() {
-        if let Some(node) = frontier.node(i) {
-            let order = nodes.order(alloc, node)?;
-            if !check_order(alloc, events, &kinds, &order)? {
-                return Ok(false);
-            }
+/// A walk through the events of an object.
+#[derive(Drop)]
+struct Walk {
+    object: Any,
+    frontier: Compressed<Any>,
+    nodes: RoundNodes,
+    pending: Vec<Open>,
+    meter: Meter,
+    scratch: Scratch<Any>,
+}
+
+impl Walk {
+    /// Before the first event.
+    fn start(rt: &impl Abort, alloc: Global, kind: Kind) -> Walk {
+        let object = Any { kind };
+        let nodes = RoundNodes::new(alloc);
+        let frontier = Compressed::start(alloc, &object, &nodes).expect(rt, "memory");
+        Walk {
+            object,
+            frontier,
+            nodes,
+            pending: Vec::new(alloc),
+            meter: Meter::new(),
+            scratch: Scratch::new(alloc),
         }
     }
-    Ok(true)
+
+    /// Takes in the event, or tells what came of it if it leaves no frontier.
+    fn step(
+        &mut self,
+        rt: &impl Abort,
+        alloc: Global,
+        at: usize,
+        event: &Event,
+        budget: u32,
+    ) -> Option<Came> {
+        let kept = self.nodes.len();
+        let advance = self
+            .frontier
+            .advance(
+                alloc,
+                &self.object,
+                &self.pending,
+                at,
+                event,
+                budget,
+                &mut self.nodes,
+                &mut self.meter,
+                &mut self.scratch,
+            )
+            .expect(rt, "memory");
+        let has_new_nodes = self.nodes.len() != kept;
+        match advance {
+            Advance::Same => {
+                let same = self.frontier.copy(alloc, &self.object).expect(rt, "memory");
+                self.frontier = same;
+            }
+            Advance::Next(next) => {
+                self.scratch
+                    .take_back(mem::replace(&mut self.frontier, next));
+            }
+            Advance::Empty => return Some(Came::Empty.without_frontier(has_new_nodes)),
+            Advance::Over => return Some(Came::Over.without_frontier(has_new_nodes)),
+            Advance::OverBefore => return Some(Came::OverBefore.without_frontier(has_new_nodes)),
+        }
+        take_in(&mut self.pending, at, event).expect(rt, "memory");
+        None
+    }
+
+    /// Whether each member's node spells a legal order of the events.
+    fn is_sound(&self, rt: &impl Abort, alloc: Global, events: &[Event]) -> bool {
+        for i in 0..self.frontier.len() {
+            if let Some(node) = self.frontier.node(i) {
+                let order = self.nodes.order(alloc, node).expect(rt, "memory");
+                if !is_legal_order(rt, alloc, self.object.kind, events, &order) {
+                    return false;
+                }
+            }
+        }
+        true
+    }
 }
 
 /// What a walk through events costs.
 #[derive(Clone, Copy, Debug, PartialEq, Eq)]
-pub(crate) struct Counts {
+struct Counts {
     /// The members after each event, all together.
     members: u64,
     tries: u64,
@@ -50,83 +113,56 @@ pub(crate) struct Counts {
 }
 
 /// What comes of the events, one after the other, up to the first that leaves no frontier; and what that costs.
-pub(crate) fn walked(
+fn walked(
+    rt: &impl Abort,
     alloc: Global,
     kind: Kind,
     events: &[Event],
     budget: u32,
-) -> Result<(Came, Counts), OutOfMemory> {
-    let object = Any { kind };
-    let mut nodes = RoundNodes::new(alloc);
-    let mut meter = Meter::new();
-    let mut scratch = Scratch::new(alloc);
-    let mut pending: Vec<Open> = Vec::new(alloc);
-    let mut frontier = Compressed::start(alloc, &object, &nodes)?;
+) -> (Came, Counts) {
+    let mut walk = Walk::start(rt, alloc, kind);
     let mut members = 0u64;
     let mut ended = None;
     for at in 0..events.len() {
-        let event = &events[at];
-        let kept = nodes.len();
-        let came = match frontier.advance(
-            alloc,
-            &object,
-            &pending,
-            at,
-            event,
-            budget,
-            &mut nodes,
-            &mut meter,
-            &mut scratch,
-        )? {
-            Advance::Same => {
-                frontier = frontier.copy(alloc, &object)?;
-                None
-            }
-            Advance::Next(next) => {
-                scratch.take_back(mem::replace(&mut frontier, next));
-                None
-            }
-            Advance::Empty => Some(Came::Empty),
-            Advance::Over => Some(Came::Over),
-            Advance::OverBefore => Some(Came::OverBefore),
-        };
-        if let Some(came) = came {
-            ended = Some(if nodes.len() == kept {
-                came
-            } else {
-                Came::Unsound(0)
-            });
+        ended = walk.step(rt, alloc, at, &events[at], budget);
+        if ended.is_some() {
             break;
         }
-        take_in(&mut pending, at, event)?;
-        members = members.saturating_add(frontier.len() as u64);
+        members = members.saturating_add(walk.frontier.len() as u64);
     }
-    let counts = Counts {
-        members,
-        tries: meter.tries(),
-        nodes: nodes.len() as u64,
-    };
     let came = match ended {
         Some(came) => came,
-        None if is_sound(alloc, kind, events, &frontier, &nodes)? => Came::Sound(frontier.len()),
-        None => Came::Unsound(frontier.len()),
+        None if walk.is_sound(rt, alloc, events) => Came::Sound(walk.frontier.len()),
+        None => Came::Unsound(walk.frontier.len()),
     };
-    Ok((came, counts))
+    let counts = Counts {
+        members,
+        tries: walk.meter.tries(),
+        nodes: walk.nodes.len() as u64,
+    };
+    (came, counts)
 }
 
 /// What comes of the events, one after the other, up to the first that leaves no frontier.
-fn came_within(
+fn came_within(rt: &impl Abort, alloc: Global, kind: Kind, events: &[Event], budget: u32) -> Came {
+    let (came, _counts) = walked(rt, alloc, kind, events, budget);
+    came
+}
+
+/// Whether so many events, the first ones, have a legal order, if frontiers tell.
+pub(crate) fn told(
+    rt: &impl Abort,
     alloc: Global,
     kind: Kind,
     events: &[Event],
-    budget: u32,
-) -> Result<Came, OutOfMemory> {
-    let (came, _counts) = walked(alloc, kind, events, budget)?;
-    Ok(came)
+    count: usize,
+) -> Option<bool> {
+    let first = &events[..count.min(events.len())];
+    came_within(rt, alloc, kind, first, AMPLE).told()
 }
 
 #[test]
-fn a_read_is_put_before_a_write_that_returned_first(rt: HostRuntime) -> Result<(), Fail> {
+fn a_read_is_put_before_a_write_that_returned_first(rt: HostRuntime) {
     let alloc = rt.alloc();
     let kind = Kind::Register;
     let early = [
@@ -137,26 +173,28 @@ fn a_read_is_put_before_a_write_that_returned_first(rt: HostRuntime) -> Result<(
     ];
     // No member is more than the state and what is on offer, and nothing is placed before a completion asks for it.
     assert_eq!(rt;
-        came_within(alloc, kind, &early[..2], AMPLE),
-        Ok(Came::Sound(1))
+        came_within(&rt, alloc, kind, &early[..2], AMPLE),
+        Came::Sound(1)
     );
     assert_eq!(rt;
-        came_within(alloc, kind, &early[..3], AMPLE),
-        Ok(Came::Sound(1))
+        came_within(&rt, alloc, kind, &early[..3], AMPLE),
+        Came::Sound(1)
     );
-    assert_eq!(rt; came_within(alloc, kind, &early, AMPLE), Ok(Came::Sound(1)));
+    assert_eq!(rt;
+        came_within(&rt, alloc, kind, &early, AMPLE),
+        Came::Sound(1)
+    );
     let late = [
         invoke(1, write(1)),
         done(1, Name::Write),
         invoke(0, Call::Read),
         gives(0, Name::Read, Val::Nil),
     ];
-    assert_eq!(rt; came_within(alloc, kind, &late, AMPLE), Ok(Came::Empty));
-    Ok(())
+    assert_eq!(rt; came_within(&rt, alloc, kind, &late, AMPLE), Came::Empty);
 }
 
 #[test]
-fn a_read_places_a_write_that_crashed(rt: HostRuntime) -> Result<(), Fail> {
+fn a_read_places_a_write_that_crashed(rt: HostRuntime) {
     let alloc = rt.alloc();
     let kind = Kind::CasRegister;
     let events = [
@@ -170,24 +208,23 @@ fn a_read_places_a_write_that_crashed(rt: HostRuntime) -> Result<(), Fail> {
         gives(2, Name::Read, Val::Int(2)),
     ];
     assert_eq!(rt;
-        came_within(alloc, kind, &events[..4], AMPLE),
-        Ok(Came::Sound(1))
+        came_within(&rt, alloc, kind, &events[..4], AMPLE),
+        Came::Sound(1)
     );
     // The first write alone; with the second before it that one can't fail, and would be no better.
     assert_eq!(rt;
-        came_within(alloc, kind, &events[..5], AMPLE),
-        Ok(Came::Sound(2))
+        came_within(&rt, alloc, kind, &events[..5], AMPLE),
+        Came::Sound(2)
     );
     assert_eq!(rt;
-        came_within(alloc, kind, &events[..6], AMPLE),
-        Ok(Came::Sound(1))
+        came_within(&rt, alloc, kind, &events[..6], AMPLE),
+        Came::Sound(1)
     );
-    assert_eq!(rt; came_within(alloc, kind, &events, AMPLE), Ok(Came::Empty));
-    Ok(())
+    assert_eq!(rt; came_within(&rt, alloc, kind, &events, AMPLE), Came::Empty);
 }
 
 #[test]
-fn a_queue_places_what_a_reply_asks_for(rt: HostRuntime) -> Result<(), Fail> {
+fn a_queue_places_what_a_reply_asks_for(rt: HostRuntime) {
     let alloc = rt.alloc();
     let kind = Kind::Fifo;
     let events = [
@@ -201,15 +238,14 @@ fn a_queue_places_what_a_reply_asks_for(rt: HostRuntime) -> Result<(), Fail> {
         gives(2, Name::Dequeue, Val::Nil),
     ];
     assert_eq!(rt;
-        came_within(alloc, kind, &events[..7], AMPLE),
-        Ok(Came::Sound(1))
+        came_within(&rt, alloc, kind, &events[..7], AMPLE),
+        Came::Sound(1)
     );
-    assert_eq!(rt; came_within(alloc, kind, &events, AMPLE), Ok(Came::Empty));
-    Ok(())
+    assert_eq!(rt; came_within(&rt, alloc, kind, &events, AMPLE), Came::Empty);
 }
 
 #[test]
-fn a_crashed_write_is_placed_only_where_it_shows(rt: HostRuntime) -> Result<(), Fail> {
+fn a_crashed_write_is_placed_only_where_it_shows(rt: HostRuntime) {
     let alloc = rt.alloc();
     let kind = Kind::CasRegister;
     let open = [
@@ -218,7 +254,7 @@ fn a_crashed_write_is_placed_only_where_it_shows(rt: HostRuntime) -> Result<(), 
         done(1, Name::Write),
     ];
     // (2, {}) and (2, {p0}), which places the other write before this one; it need not come behind.
-    assert_eq!(rt; came_within(alloc, kind, &open, AMPLE), Ok(Came::Sound(2)));
+    assert_eq!(rt; came_within(&rt, alloc, kind, &open, AMPLE), Came::Sound(2));
     let marked = [
         invoke(0, write(1)),
         invoke(1, write(2)),
@@ -226,14 +262,13 @@ fn a_crashed_write_is_placed_only_where_it_shows(rt: HostRuntime) -> Result<(), 
         done(1, Name::Write),
     ];
     assert_eq!(rt;
-        came_within(alloc, kind, &marked, AMPLE),
-        Ok(Came::Sound(1))
+        came_within(&rt, alloc, kind, &marked, AMPLE),
+        Came::Sound(1)
     );
-    Ok(())
 }
 
 #[test]
-fn what_a_crashed_write_explains_stays(rt: HostRuntime) -> Result<(), Fail> {
+fn what_a_crashed_write_explains_stays(rt: HostRuntime) {
     let alloc = rt.alloc();
     let kind = Kind::Register;
     let seen = [
@@ -245,19 +280,21 @@ fn what_a_crashed_write_explains_stays(rt: HostRuntime) -> Result<(), Fail> {
         gives(1, Name::Read, Val::Nil),
     ];
     // (nil, {}), (nil, {p1 nil}), (1, {p0}), (1, {p0, p1 nil}) and (1, {p0, p1 1}).
-    assert_eq!(rt; came_within(alloc, kind, &seen[..3], 5), Ok(Came::Sound(1)));
-    assert_eq!(rt; came_within(alloc, kind, &seen[..3], 4), Ok(Came::Over));
+    assert_eq!(rt;
+        came_within(&rt, alloc, kind, &seen[..3], 5),
+        Came::Sound(1)
+    );
+    assert_eq!(rt; came_within(&rt, alloc, kind, &seen[..3], 4), Came::Over);
     // (1, {p0}): the write is placed now.
     assert_eq!(rt;
-        came_within(alloc, kind, &seen[..4], AMPLE),
-        Ok(Came::Sound(1))
+        came_within(&rt, alloc, kind, &seen[..4], AMPLE),
+        Came::Sound(1)
     );
-    assert_eq!(rt; came_within(alloc, kind, &seen, AMPLE), Ok(Came::Empty));
-    Ok(())
+    assert_eq!(rt; came_within(&rt, alloc, kind, &seen, AMPLE), Came::Empty);
 }
 
 #[test]
-fn where_nothing_crashed_all_are_counted(rt: HostRuntime) -> Result<(), Fail> {
+fn where_nothing_crashed_all_are_counted(rt: HostRuntime) {
     let alloc = rt.alloc();
     let queue = [
         invoke(0, Call::Enqueue(1)),
@@ -265,28 +302,27 @@ fn where_nothing_crashed_all_are_counted(rt: HostRuntime) -> Result<(), Fail> {
         invoke(2, Call::Enqueue(3)),
     ];
     assert_eq!(rt;
-        came_within(alloc, Kind::Fifo, &queue, 16),
-        Ok(Came::Sound(1))
+        came_within(&rt, alloc, Kind::Fifo, &queue, 16),
+        Came::Sound(1)
     );
-    assert_eq!(rt; came_within(alloc, Kind::Fifo, &queue, 15), Ok(Came::Over));
+    assert_eq!(rt; came_within(&rt, alloc, Kind::Fifo, &queue, 15), Came::Over);
     let writes = [
         invoke(0, write(1)),
         invoke(1, write(2)),
         fail(0, Name::Write),
     ];
     assert_eq!(rt;
-        came_within(alloc, Kind::Register, &writes[..2], 4),
-        Ok(Came::Over)
+        came_within(&rt, alloc, Kind::Register, &writes[..2], 4),
+        Came::Over
     );
     assert_eq!(rt;
-        came_within(alloc, Kind::Register, &writes, 5),
-        Ok(Came::Sound(1))
+        came_within(&rt, alloc, Kind::Register, &writes, 5),
+        Came::Sound(1)
     );
-    Ok(())
 }
 
 #[test]
-fn many_members_are_told_apart(rt: HostRuntime) -> Result<(), Fail> {
+fn many_members_are_told_apart(rt: HostRuntime) {
     let alloc = rt.alloc();
     let kind = Kind::Fifo;
     let queue = [
@@ -309,74 +345,70 @@ fn many_members_are_told_apart(rt: HostRuntime) -> Result<(), Fail> {
     ];
     // Each sequence of some of the five waits in a configuration of its own: 1 + 5 + 20 + 60 + 120 + 120.
     assert_eq!(rt;
-        came_within(alloc, kind, &queue[..10], 326),
-        Ok(Came::Sound(1))
+        came_within(&rt, alloc, kind, &queue[..10], 326),
+        Came::Sound(1)
     );
-    assert_eq!(rt; came_within(alloc, kind, &queue[..10], 325), Ok(Came::Over));
+    assert_eq!(rt;
+        came_within(&rt, alloc, kind, &queue[..10], 325),
+        Came::Over
+    );
     // Behind 3 each sequence of some of the other four: 1 + 4 + 12 + 24 + 24. Behind 1 then of the other three: 1 + 3 + 6 + 6.
     assert_eq!(rt;
-        came_within(alloc, kind, &queue[..12], AMPLE),
-        Ok(Came::Sound(65))
+        came_within(&rt, alloc, kind, &queue[..12], AMPLE),
+        Came::Sound(65)
     );
     assert_eq!(rt;
-        came_within(alloc, kind, &queue[..14], AMPLE),
-        Ok(Came::Sound(16))
+        came_within(&rt, alloc, kind, &queue[..14], AMPLE),
+        Came::Sound(16)
     );
-    assert_eq!(rt; came_within(alloc, kind, &queue, AMPLE), Ok(Came::Empty));
-    Ok(())
+    assert_eq!(rt; came_within(&rt, alloc, kind, &queue, AMPLE), Came::Empty);
 }
 
 /// The same write of so many processes, each of which crashes in it.
-fn crashed_writes(alloc: Global, count: u64, value: i64) -> Result<Vec<Event>, OutOfMemory> {
+fn crashed_writes(rt: &impl Abort, alloc: Global, count: u64, value: i64) -> Vec<Event> {
     let mut events = Vec::new(alloc);
     for process in 0..count {
-        events.push(invoke(process, write(value)))?;
-        events.push(info(process, Name::Write))?;
+        events
+            .push(invoke(process, write(value)))
+            .expect(rt, "memory");
+        events.push(info(process, Name::Write)).expect(rt, "memory");
     }
-    Ok(events)
+    events
 }
 
-/// Puts the events last.
-fn push_all(events: &mut Vec<Event>, more: [Event; 4]) -> Result<(), OutOfMemory> {
-    for event in more {
-        events.push(event)?;
-    }
-    Ok(())
-}
-
-#[test]
-fn crashed_writes_of_one_value_stand_in_for_one_another(rt: HostRuntime) -> Result<(), Fail> {
-    let alloc = rt.alloc();
-    let kind = Kind::Register;
-    let mut events = crashed_writes(alloc, 10, 1)?;
-    // Which of the ten was placed isn't told apart: each read of 1 behind another value places one more.
-    for _ in 0..10 {
-        let more = [
-            invoke(90, write(2)),
-            done(90, Name::Write),
-            invoke(91, Call::Read),
-            gives(91, Name::Read, Val::Int(1)),
-        ];
-        push_all(&mut events, more)?;
-        assert_eq!(rt;
-            came_within(alloc, kind, &events, AMPLE),
-            Ok(Came::Sound(1))
-        );
-    }
-    // Then none is left.
-    let last = [
+/// Puts last that 2 is written, and 1 read behind that.
+fn push_read_of_one(rt: &impl Abort, events: &mut Vec<Event>) {
+    let more = [
         invoke(90, write(2)),
         done(90, Name::Write),
         invoke(91, Call::Read),
         gives(91, Name::Read, Val::Int(1)),
     ];
-    push_all(&mut events, last)?;
-    assert_eq!(rt; came_within(alloc, kind, &events, AMPLE), Ok(Came::Empty));
-    Ok(())
+    for event in more {
+        events.push(event).expect(rt, "memory");
+    }
 }
 
 #[test]
-fn operations_are_alike_from_when_both_crashed(rt: HostRuntime) -> Result<(), Fail> {
+fn crashed_writes_of_one_value_stand_in_for_one_another(rt: HostRuntime) {
+    let alloc = rt.alloc();
+    let kind = Kind::Register;
+    let mut events = crashed_writes(&rt, alloc, 10, 1);
+    // Which of the ten was placed isn't told apart: each read of 1 behind another value places one more.
+    for _ in 0..10 {
+        push_read_of_one(&rt, &mut events);
+        assert_eq!(rt;
+            came_within(&rt, alloc, kind, &events, AMPLE),
+            Came::Sound(1)
+        );
+    }
+    // Then none is left.
+    push_read_of_one(&rt, &mut events);
+    assert_eq!(rt; came_within(&rt, alloc, kind, &events, AMPLE), Came::Empty);
+}
+
+#[test]
+fn operations_are_alike_from_when_both_crashed(rt: HostRuntime) {
     let alloc = rt.alloc();
     let kind = Kind::CasRegister;
     let events = [
@@ -389,22 +421,21 @@ fn operations_are_alike_from_when_both_crashed(rt: HostRuntime) -> Result<(), Fa
     ];
     // The one or the other write was read, and may return yet, or not.
     assert_eq!(rt;
-        came_within(alloc, kind, &events[..4], AMPLE),
-        Ok(Came::Sound(2))
+        came_within(&rt, alloc, kind, &events[..4], AMPLE),
+        Came::Sound(2)
     );
     assert_eq!(rt;
-        came_within(alloc, kind, &events[..5], AMPLE),
-        Ok(Came::Sound(2))
+        came_within(&rt, alloc, kind, &events[..5], AMPLE),
+        Came::Sound(2)
     );
     assert_eq!(rt;
-        came_within(alloc, kind, &events, AMPLE),
-        Ok(Came::Sound(1))
+        came_within(&rt, alloc, kind, &events, AMPLE),
+        Came::Sound(1)
     );
-    Ok(())
 }
 
 #[test]
-fn a_read_and_a_write_at_once_have_five_configurations(rt: HostRuntime) -> Result<(), Fail> {
+fn a_read_and_a_write_at_once_have_five_configurations(rt: HostRuntime) {
     let alloc = rt.alloc();
     let kind = Kind::Register;
     let events = [
@@ -413,17 +444,16 @@ fn a_read_and_a_write_at_once_have_five_configurations(rt: HostRuntime) -> Resul
         done(1, Name::Write),
     ];
     assert_eq!(rt;
-        came_within(alloc, kind, &events[..2], 5),
-        Ok(Came::Sound(1))
+        came_within(&rt, alloc, kind, &events[..2], 5),
+        Came::Sound(1)
     );
-    assert_eq!(rt; came_within(alloc, kind, &events[..2], 4), Ok(Came::Over));
+    assert_eq!(rt; came_within(&rt, alloc, kind, &events[..2], 4), Came::Over);
     // The read without a reply, with the value from before the write, and with that of the write.
-    assert_eq!(rt; came_within(alloc, kind, &events, 5), Ok(Came::Sound(1)));
-    Ok(())
+    assert_eq!(rt; came_within(&rt, alloc, kind, &events, 5), Came::Sound(1));
 }
 
 #[test]
-fn crashed_reads_cost_nothing(rt: HostRuntime) -> Result<(), Fail> {
+fn crashed_reads_cost_nothing(rt: HostRuntime) {
     let alloc = rt.alloc();
     let kind = Kind::Register;
     let reads = [
@@ -434,32 +464,31 @@ fn crashed_reads_cost_nothing(rt: HostRuntime) -> Result<(), Fail> {
         invoke(2, Call::Read),
         info(2, Name::Read),
     ];
-    assert_eq!(rt; came_of(alloc, kind, &reads, 3), Ok(Came::Over));
-    assert_eq!(rt; came_within(alloc, kind, &reads, 3), Ok(Came::Sound(1)));
-    assert_eq!(rt; came_within(alloc, kind, &reads[..1], 1), Ok(Came::Over));
+    assert_eq!(rt; came_of(&rt, alloc, kind, &reads, 3), Came::Over);
+    assert_eq!(rt; came_within(&rt, alloc, kind, &reads, 3), Came::Sound(1));
+    assert_eq!(rt; came_within(&rt, alloc, kind, &reads[..1], 1), Came::Over);
     assert_eq!(rt;
-        came_within(alloc, kind, &reads[..1], 2),
-        Ok(Came::Sound(1))
+        came_within(&rt, alloc, kind, &reads[..1], 2),
+        Came::Sound(1)
     );
-    Ok(())
 }
 
 #[test]
-fn small_budgets_count_configurations(rt: HostRuntime) -> Result<(), Fail> {
+fn small_budgets_count_configurations(rt: HostRuntime) {
     let alloc = rt.alloc();
     let queue = [invoke(0, Call::Enqueue(1)), invoke(1, Call::Enqueue(2))];
     assert_eq!(rt;
-        came_within(alloc, Kind::Fifo, &queue, 5),
-        Ok(Came::Sound(1))
+        came_within(&rt, alloc, Kind::Fifo, &queue, 5),
+        Came::Sound(1)
     );
-    assert_eq!(rt; came_within(alloc, Kind::Fifo, &queue, 4), Ok(Came::Over));
+    assert_eq!(rt; came_within(&rt, alloc, Kind::Fifo, &queue, 4), Came::Over);
     assert_eq!(rt;
-        came_within(alloc, Kind::Fifo, &queue[..1], 1),
-        Ok(Came::Over)
+        came_within(&rt, alloc, Kind::Fifo, &queue[..1], 1),
+        Came::Over
     );
     assert_eq!(rt;
-        came_within(alloc, Kind::Fifo, &queue[..1], 2),
-        Ok(Came::Sound(1))
+        came_within(&rt, alloc, Kind::Fifo, &queue[..1], 2),
+        Came::Sound(1)
     );
     // (nil, {}), (1, {p0}), (2, {p1}) and (1, {p0, p1}); (2, {p1}) covers (2, {p0, p1}).
     let crashed = [
@@ -468,89 +497,88 @@ fn small_budgets_count_configurations(rt: HostRuntime) -> Result<(), Fail> {
         invoke(1, write(2)),
     ];
     assert_eq!(rt;
-        came_within(alloc, Kind::Register, &crashed, 4),
-        Ok(Came::Sound(1))
+        came_within(&rt, alloc, Kind::Register, &crashed, 4),
+        Came::Sound(1)
     );
     assert_eq!(rt;
-        came_within(alloc, Kind::Register, &crashed, 3),
-        Ok(Came::Over)
+        came_within(&rt, alloc, Kind::Register, &crashed, 3),
+        Came::Over
     );
-    Ok(())
 }
 
 /// So many writes of different numbers that are open.
-fn open_writes(alloc: Global, count: u64) -> Result<Vec<Event>, OutOfMemory> {
+fn open_writes(rt: &impl Abort, alloc: Global, count: u64) -> Vec<Event> {
     let mut events = Vec::new(alloc);
     for process in 0..count {
-        events.push(invoke(process, write(process.cast_signed())))?;
+        let event = invoke(process, write(process.cast_signed()));
+        events.push(event).expect(rt, "memory");
     }
-    Ok(events)
+    events
 }
 
 #[test]
-fn a_long_search_counts_what_was_before(rt: HostRuntime) -> Result<(), Fail> {
+fn a_long_search_counts_what_was_before(rt: HostRuntime) {
     let alloc = rt.alloc();
     let kind = Kind::CasRegister;
     // n open writes have 1 + n * 2^(n - 1) configurations: 2,305 of nine, which aren't counted before the search asks for it. It comes to
     // 1 + 8 * 2^7 members, the first write being placed last.
-    let mut nine = open_writes(alloc, 9)?;
-    assert_eq!(rt; came_within(alloc, kind, &nine, 1_024), Ok(Came::Sound(1)));
-    nine.push(done(0, Name::Write))?;
+    let mut nine = open_writes(&rt, alloc, 9);
+    assert_eq!(rt; came_within(&rt, alloc, kind, &nine, 1_024), Came::Sound(1));
+    nine.push(done(0, Name::Write)).expect(&rt, "memory");
     assert_eq!(rt;
-        came_within(alloc, kind, &nine, 1_024),
-        Ok(Came::OverBefore)
+        came_within(&rt, alloc, kind, &nine, 1_024),
+        Came::OverBefore
     );
     // No write need come before the first, but each may: one member for each set of the others.
     assert_eq!(rt;
-        came_within(alloc, kind, &nine, 2_305),
-        Ok(Came::Sound(256))
+        came_within(&rt, alloc, kind, &nine, 2_305),
+        Came::Sound(256)
     );
-    Ok(())
 }
 
 #[test]
-fn a_larger_budget_searches_longer(rt: HostRuntime) -> Result<(), Fail> {
+fn a_larger_budget_searches_longer(rt: HostRuntime) {
     let alloc = rt.alloc();
     let kind = Kind::CasRegister;
-    let mut events = open_writes(alloc, 11)?;
+    let mut events = open_writes(&rt, alloc, 11);
     for process in 20..24 {
-        events.push(invoke(process, Call::Read))?;
+        events
+            .push(invoke(process, Call::Read))
+            .expect(&rt, "memory");
     }
-    events.push(done(0, Name::Write))?;
+    events.push(done(0, Name::Write)).expect(&rt, "memory");
     // The search comes to 1 + 10 * 2^9 members: by each set of the other writes, with each of it last. A sixteenth of the usual budget
     // is fewer, and there are more configurations than it before the event.
     assert_eq!(rt;
-        came_within(alloc, kind, &events, AMPLE),
-        Ok(Came::OverBefore)
+        came_within(&rt, alloc, kind, &events, AMPLE),
+        Came::OverBefore
     );
     assert_eq!(rt;
-        came_within(alloc, kind, &events, 1_000_000),
-        Ok(Came::Sound(1_024))
+        came_within(&rt, alloc, kind, &events, 1_000_000),
+        Came::Sound(1_024)
     );
-    Ok(())
 }
 
 #[test]
-fn writes_that_others_overwrite_are_not_placed(rt: HostRuntime) -> Result<(), Fail> {
+fn writes_that_others_overwrite_are_not_placed(rt: HostRuntime) {
     let alloc = rt.alloc();
     let kind = Kind::Register;
     // Whichever others took effect, the write that returns overwrote them; the next one came behind it, or was overwritten by it.
-    let mut nine = open_writes(alloc, 9)?;
-    nine.push(done(0, Name::Write))?;
-    assert_eq!(rt; came_within(alloc, kind, &nine, 1_024), Ok(Came::Sound(1)));
-    nine.push(done(1, Name::Write))?;
-    assert_eq!(rt; came_within(alloc, kind, &nine, 1_024), Ok(Came::Sound(2)));
+    let mut nine = open_writes(&rt, alloc, 9);
+    nine.push(done(0, Name::Write)).expect(&rt, "memory");
+    assert_eq!(rt; came_within(&rt, alloc, kind, &nine, 1_024), Came::Sound(1));
+    nine.push(done(1, Name::Write)).expect(&rt, "memory");
+    assert_eq!(rt; came_within(&rt, alloc, kind, &nine, 1_024), Came::Sound(2));
     let open = [
         invoke(0, write(1)),
         invoke(1, write(2)),
         done(1, Name::Write),
     ];
-    assert_eq!(rt; came_within(alloc, kind, &open, AMPLE), Ok(Came::Sound(1)));
-    Ok(())
+    assert_eq!(rt; came_within(&rt, alloc, kind, &open, AMPLE), Came::Sound(1));
 }
 
 #[test]
-fn an_overwritten_write_is_seen_by_early_reads_alone(rt: HostRuntime) -> Result<(), Fail> {
+fn an_overwritten_write_is_seen_by_early_reads_alone(rt: HostRuntime) {
     let alloc = rt.alloc();
     let kind = Kind::Register;
     let early = [
@@ -565,10 +593,13 @@ fn an_overwritten_write_is_seen_by_early_reads_alone(rt: HostRuntime) -> Result<
     ];
     // The write of 1 came ahead of the write of 2, and the read between them; or it came behind both.
     assert_eq!(rt;
-        came_within(alloc, kind, &early[..5], AMPLE),
-        Ok(Came::Sound(2))
+        came_within(&rt, alloc, kind, &early[..5], AMPLE),
+        Came::Sound(2)
     );
-    assert_eq!(rt; came_within(alloc, kind, &early, AMPLE), Ok(Came::Sound(1)));
+    assert_eq!(rt;
+        came_within(&rt, alloc, kind, &early, AMPLE),
+        Came::Sound(1)
+    );
     // A read that was invoked behind the write of 2 can see 1 only behind it.
     let late = [
         invoke(0, write(1)),
@@ -581,79 +612,70 @@ fn an_overwritten_write_is_seen_by_early_reads_alone(rt: HostRuntime) -> Result<
         gives(2, Name::Read, Val::Int(2)),
     ];
     assert_eq!(rt;
-        came_within(alloc, kind, &late[..5], AMPLE),
-        Ok(Came::Sound(1))
+        came_within(&rt, alloc, kind, &late[..5], AMPLE),
+        Came::Sound(1)
     );
-    assert_eq!(rt; came_within(alloc, kind, &late, AMPLE), Ok(Came::Empty));
-    Ok(())
+    assert_eq!(rt; came_within(&rt, alloc, kind, &late, AMPLE), Came::Empty);
 }
 
 #[test]
-fn a_register_with_five_clients_keeps_few_members(rt: HostRuntime) -> Result<(), Fail> {
+fn a_register_with_five_clients_keeps_few_members(rt: HostRuntime) {
     let alloc = rt.alloc();
-    let events = register_history(alloc, 20_000, &mut Draw { seed: 11 })?;
-    let (came, counts) = walked(alloc, Kind::Register, &events, AMPLE)?;
+    let events = register_history(&rt, alloc, 20_000, &mut Draw { seed: 11 });
+    let (came, counts) = walked(&rt, alloc, Kind::Register, &events, AMPLE);
     assert_eq!(rt; matches!(came, Came::Sound(_)), true);
     // For an event on average at most 1.5 members, 1.5 tries and 1 new node.
     assert_eq!(rt; counts.members <= 30_000, true);
     assert_eq!(rt; counts.tries <= 30_000, true);
     assert_eq!(rt; counts.nodes <= 20_000, true);
-    Ok(())
 }
 
 /// Processes add to a set a number each, and all adds are open before the first returns; then one process reads these numbers.
-fn adds_and_a_read(alloc: Global, processes: u64, seen: &[i64]) -> Result<Vec<Event>, OutOfMemory> {
+fn adds_and_a_read(rt: &impl Abort, alloc: Global, processes: u64, seen: &[i64]) -> Vec<Event> {
     let mut events = Vec::new(alloc);
     for process in 0..processes {
-        events.push(invoke(process, Call::Add(process.cast_signed())))?;
+        let event = invoke(process, Call::Add(process.cast_signed()));
+        events.push(event).expect(rt, "memory");
     }
     for process in 0..processes {
-        events.push(done(process, Name::Add))?;
+        events.push(done(process, Name::Add)).expect(rt, "memory");
     }
     let mut members = IntSet::new(alloc);
     for member in seen {
-        members.insert(*member)?;
+        members.insert(*member).expect(rt, "memory");
     }
-    events.push(invoke(0, Call::Read))?;
-    events.push(ok(0, Name::Read, Reply::Members(members)))?;
-    Ok(events)
+    events.push(invoke(0, Call::Read)).expect(rt, "memory");
+    let seen = ok(0, Name::Read, Reply::Members(members));
+    events.push(seen).expect(rt, "memory");
+    events
 }
 
 #[test]
-fn adds_of_many_clients_keep_one_member(rt: HostRuntime) -> Result<(), Fail> {
+fn adds_of_many_clients_keep_one_member(rt: HostRuntime) {
     let alloc = rt.alloc();
-    let all: Vec<i64> = (0..40).collect(alloc)?;
-    let events = adds_and_a_read(alloc, 40, &all)?;
-    let (came, counts) = walked(alloc, Kind::Set, &events, AMPLE)?;
+    let all: Vec<i64> = (0..40).collect(alloc).expect(&rt, "memory");
+    let events = adds_and_a_read(&rt, alloc, 40, &all);
+    let (came, counts) = walked(&rt, alloc, Kind::Set, &events, AMPLE);
     assert_eq!(rt; came, Came::Sound(1));
     // One member after each event, and one try for each completion.
     assert_eq!(rt; counts.members, 82);
     assert_eq!(rt; counts.tries, 41);
-    let events = adds_and_a_read(alloc, 40, &all[1..])?;
+    let events = adds_and_a_read(&rt, alloc, 40, &all[1..]);
     assert_eq!(rt;
-        came_within(alloc, Kind::Set, &events, AMPLE),
-        Ok(Came::Empty)
+        came_within(&rt, alloc, Kind::Set, &events, AMPLE),
+        Came::Empty
     );
-    Ok(())
 }
 
 /// The first prefix of the events of which the members say otherwise than a search through all orders, if there is one.
-fn first_difference(
-    alloc: Global,
-    kind: Kind,
-    events: &[Event],
-) -> Result<Option<usize>, OutOfMemory> {
+fn first_difference(rt: &impl Abort, alloc: Global, kind: Kind, events: &[Event]) -> Option<usize> {
     for count in 0..events.len() + 1 {
-        let agrees = match came_within(alloc, kind, &events[..count], AMPLE)? {
-            Came::Sound(_) => has_legal_order(alloc, kind, &events[..count])?,
-            Came::Empty => !has_legal_order(alloc, kind, &events[..count])?,
-            Came::Unsound(_) | Came::Over | Came::OverBefore => false,
-        };
-        if !agrees {
-            return Ok(Some(count));
+        let has_order = has_legal_order(rt, alloc, kind, &events[..count]);
+        if told(rt, alloc, kind, events, count) != Some(has_order) {
+            return Some(count);
         }
     }
-    Ok(None)
+    None
 }
 
 /// Whether a process of the events crashed.
@@ -664,42 +686,28 @@ fn has_crash(events: &[Event]) -> bool {
 }
 
 /// Whether the budget ends the events where it ends the exact sets. With crashed operations fewer are counted.
-fn ends_alike(
-    alloc: Global,
-    kind: Kind,
-    events: &[Event],
-    budget: u32,
-) -> Result<bool, OutOfMemory> {
-    let all = came_of(alloc, kind, events, budget)?;
-    let members = came_within(alloc, kind, events, budget)?;
-    Ok(match (all, members) {
+fn ends_alike(rt: &impl Abort, alloc: Global, kind: Kind, events: &[Event], budget: u32) -> bool {
+    let all = came_of(rt, alloc, kind, events, budget);
+    let members = came_within(rt, alloc, kind, events, budget);
+    match (all, members) {
         (Came::Sound(_), Came::Sound(_)) | (Came::Empty, Came::Empty) | (Came::Over, Came::Over) =>
             true,
         (Came::Over, Came::Sound(_)) | (Came::Over, Came::Empty) => has_crash(events),
         _ => false,
-    })
+    }
 }
 
 #[test]
-fn drawn_histories_have_a_member_where_they_have_a_legal_order(
-    rt: HostRuntime,
-) -> Result<(), Fail> {
+fn drawn_histories_have_a_member_where_they_have_a_legal_order(rt: HostRuntime) {
     let alloc = rt.alloc();
     let mut draw = Draw { seed: 7 };
-    for kind in [
-        Kind::Register,
-        Kind::CasRegister,
-        Kind::Fifo,
-        Kind::Set,
-        Kind::Mutex,
-    ] {
+    for kind in KINDS {
         for _ in 0..12 {
-            let events = drawn_history(alloc, kind, &mut draw)?;
-            assert_eq!(rt; first_difference(alloc, kind, &events), Ok(None));
+            let events = drawn_history(&rt, alloc, kind, &mut draw);
+            assert_eq!(rt; first_difference(&rt, alloc, kind, &events), None);
             for budget in 1..10 {
-                assert_eq!(rt; ends_alike(alloc, kind, &events, budget), Ok(true));
+                assert!(rt; ends_alike(&rt, alloc, kind, &events, budget));
             }
         }
     }
-    Ok(())
 }

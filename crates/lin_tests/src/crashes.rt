@@ -1,45 +1,18 @@
 //! Recordings with crashed operations that are decided within the budget.
-ghost use Rattle.std.specs.Prelude.{◌≤◌};
-
-use crate::table::{BUDGET, prints, recording};
+use crate::check::{REGISTER, answers};
+use crate::edits::replies;
+use crate::table::{BUDGET, recording};
 use lin_objects::Kind;
 use lin_report::Status::{No, Undecided, Yes};
-use lin_report::{Counted, Settings, Status, run};
-use std::alloc::AllocError;
-use std::test::Fail;
-
-/// The report of the register's recording has so many events and this answer, for the object and for the whole.
-fn answers(
-    rt: &HostRuntime,
-    budget: u32,
-    events: &str,
-    answer: &str,
-    status: Status,
-) -> Result<(), Fail>
-    requires { (1 ≤ budget) × (budget ≤ 1000000) }
-{
-    let count = events.split("; ").count();
-    let lines = format!(in rt.alloc();
-        "events {count} objects 1\nobject 0 register: {answer}\nwhole: {answer}\n"
-    )?;
-    let text = recording(rt, events)?;
-    prints(
-        rt,
-        Kind::Register,
-        budget,
-        text.as_bytes(),
-        lines.as_str(),
-        status,
-    )
-}
+use std::process::Abort;
 
 #[test]
-fn three_crashed_reads(rt: HostRuntime) -> Result<(), Fail> {
+fn three_crashed_reads(rt: HostRuntime) {
     let reads =
         "p0 invoke read; p0 info read; p1 invoke read; p1 info read; p2 invoke read; p2 info read";
-    answers(&rt, 3, reads, "yes", Yes)?;
-    answers(&rt, 2, reads, "yes", Yes)?;
-    answers(&rt, 1, reads, "undecided at 0", Undecided)
+    answers(&rt, REGISTER, 3, reads, "yes", Yes);
+    answers(&rt, REGISTER, 2, reads, "yes", Yes);
+    answers(&rt, REGISTER, 1, reads, "undecided at 0", Undecided);
 }
 
 /// Commands, and the replies that are wanted.
@@ -52,30 +25,33 @@ struct Script {
 
 impl Script {
     /// Appends the events, one after the other.
-    fn append(&mut self, rt: &HostRuntime, events: &str) -> Result<(), AllocError> {
+    fn append(&mut self, rt: &(impl Abort + AllocGlobal), events: &str) {
         for event in events.split("; ") {
             self.events = self.events.saturating_add(1);
             let count = self.events;
-            let map = recording(rt, event)?;
-            self.commands.push_str("append ")?;
-            self.commands.push_str(map.as_str())?;
-            let reply = format!(in rt.alloc(); "ok {count}\n")?;
-            self.replies.push_str(reply.as_str())?;
+            let map = recording(rt, event);
+            let map = map.trim_end();
+            let command = format!(in rt.alloc(); "append {map}").expect(rt, "memory");
+            let reply = format!(in rt.alloc(); "ok {count}").expect(rt, "memory");
+            self.give(rt, command.as_str(), reply.as_str());
         }
-        Ok(())
     }
 
     /// Gives the command, and wants this reply.
-    fn give(&mut self, command: &str, reply: &str) -> Result<(), AllocError> {
-        self.commands.push_str(command)?;
-        self.commands.push_str("\n")?;
-        self.replies.push_str(reply)?;
-        self.replies.push_str("\n")
+    fn give(&mut self, rt: &impl Abort, command: &str, reply: &str) {
+        put_line(rt, &mut self.commands, command);
+        put_line(rt, &mut self.replies, reply);
     }
 }
 
+/// Puts a line at the end of a text.
+fn put_line(rt: &impl Abort, text: &mut String, line: &str) {
+    text.push_str(line).expect(rt, "memory");
+    text.push_str("\n").expect(rt, "memory");
+}
+
 /// One write each of 1 to 40, by as many processes, all crashed; then reads of 1, 2 and 1 again.
-fn crashed_writes(rt: &HostRuntime) -> Result<Script, AllocError> {
+fn crashed_writes(rt: &(impl Abort + AllocGlobal)) -> Script {
     let mut script = Script {
         commands: String::new(rt.alloc()),
         replies: String::new(rt.alloc()),
@@ -83,39 +59,26 @@ fn crashed_writes(rt: &HostRuntime) -> Result<Script, AllocError> {
     };
     for i in 0..40u64 {
         let value = i + 1;
-        let write = format!(in rt.alloc(); "p{i} invoke write {value}; p{i} info write")?;
-        script.append(rt, write.as_str())?;
+        let write = format!(in rt.alloc(); "p{i} invoke write {value}; p{i} info write").expect(
+            rt, "memory",
+        );
+        script.append(rt, write.as_str());
     }
-    script.give("ask", "yes")?;
-    script.append(rt, "p100 invoke read; p100 ok read 1")?;
-    script.append(rt, "p100 invoke read; p100 ok read 2")?;
-    script.give("ask", "yes")?;
+    script.give(rt, "ask", "yes");
+    script.append(rt, "p100 invoke read; p100 ok read 1");
+    script.append(rt, "p100 invoke read; p100 ok read 2");
+    script.give(rt, "ask", "yes");
     // The write of 1 took effect once.
-    script.append(rt, "p100 invoke read; p100 ok read 1")?;
-    script.give("ask", "no prefix 86")?;
+    script.append(rt, "p100 invoke read; p100 ok read 1");
+    script.give(rt, "ask", "no prefix 86");
     // Its sets hold every configuration, of which there are more than the budget after some of the writes.
-    script.give("refute 0", "refused refute 2 TooLarge")?;
-    Ok(script)
+    script.give(rt, "refute 0", "refused refute 2 TooLarge");
+    script
 }
 
 #[test]
-fn forty_crashed_writes(rt: HostRuntime) -> Result<(), Fail> {
-    let script = crashed_writes(&rt)?;
-    let settings = Settings {
-        kind: Kind::Register,
-        keyed: false,
-        budget: BUDGET,
-    };
-    let mut printed = Vec::new(rt.alloc());
-    let nothing: &[u8] = b"";
-    let mut file = Counted::new(nothing);
-    let mut commands = Counted::new(script.commands.as_bytes());
-    let mut out = Counted::new(&mut printed);
-    let ended = run(rt.alloc(), settings, &mut file, &mut commands, &mut out);
-    let found = std::str::from_utf8(printed.as_slice())?;
-    let ends_so = found == script.replies.as_str() && ended == Ok(No);
-    if ends_so {
-        return Ok(());
-    }
-    Err(Fail::new(format_args!("got {found:?}")))
+fn forty_crashed_writes(rt: HostRuntime) {
+    let script = crashed_writes(&rt);
+    let session = ("", script.commands.as_str(), script.replies.as_str(), No);
+    replies(&rt, Kind::Register, false, BUDGET, &session);
 }

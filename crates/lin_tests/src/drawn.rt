@@ -1,8 +1,10 @@
-//! Drawn histories of one object, and whether they have a legal order, found by trying all lists of operations.
-use lin_history::{Body, Call, Event, IntSet, Name, OutOfMemory, Reply, Val};
+//! Drawn histories of one object; whether they have a legal order, by trying all lists of operations; what is found without frontiers.
+use lin_chain::{finds_failure, finds_order};
+use lin_history::{Body, Call, Event, IntSet, Name, Reply, Val};
 use lin_objects::{Any, Kind, Kinds, SeqObject};
 use lin_order::{Placed, check_order};
 use std::alloc::Global;
+use std::process::Abort;
 
 /// Numbers drawn by a linear congruential generator, the same in each run.
 #[derive(Drop)]
@@ -50,20 +52,20 @@ impl Draw {
     }
 
     /// A reply that the call may get in some state.
-    fn reply(&mut self, alloc: Global, kind: Kind, call: Call) -> Result<Reply, OutOfMemory> {
+    fn reply(&mut self, rt: &impl Abort, alloc: Global, kind: Kind, call: Call) -> Reply {
         match (kind, call) {
             (Kind::Set, Call::Read) => {
                 let mut members = IntSet::new(alloc);
                 if self.below(2) == 0 {
-                    members.insert(1)?;
+                    members.insert(1).expect(rt, "memory");
                 }
                 if self.below(2) == 0 {
-                    members.insert(2)?;
+                    members.insert(2).expect(rt, "memory");
                 }
-                Ok(Reply::Members(members))
+                Reply::Members(members)
             }
-            (_, Call::Read) | (_, Call::Dequeue) => Ok(Reply::Value(self.value())),
-            _ => Ok(Reply::Done),
+            (_, Call::Read) | (_, Call::Dequeue) => Reply::Value(self.value()),
+            _ => Reply::Done,
         }
     }
 }
@@ -71,10 +73,11 @@ impl Draw {
 /// So many events of five clients on a register, half of whose operations write one of five values. Each operation takes effect
 /// as it returns.
 pub(crate) fn register_history(
+    rt: &impl Abort,
     alloc: Global,
     count: usize,
     draw: &mut Draw,
-) -> Result<Vec<Event>, OutOfMemory> {
+) -> Vec<Event> {
     let mut events = Vec::new(alloc);
     let mut calls = [None; 5];
     let mut state = Val::Nil;
@@ -97,14 +100,15 @@ pub(crate) fn register_history(
                 Some(_) => (Body::Ok(Name::Read, Reply::Value(state)), None),
             };
             *open = next;
-            events.push(Event {
+            let event = Event {
                 process,
                 key: 0,
                 body,
-            })?;
+            };
+            events.push(event).expect(rt, "memory");
         }
     }
-    Ok(events)
+    events
 }
 
 /// What a process of a drawn history is about.
@@ -117,34 +121,36 @@ enum Client {
 
 /// What the process does next, unless it has retired.
 fn drawn_body(
+    rt: &impl Abort,
     alloc: Global,
     kind: Kind,
     client: Client,
     draw: &mut Draw,
-) -> Result<Option<(Body, Client)>, OutOfMemory> {
+) -> Option<(Body, Client)> {
     match client {
         Client::Idle => {
             let call = draw.call(kind);
-            Ok(Some((Body::Invoke(call), Client::Busy(call))))
+            Some((Body::Invoke(call), Client::Busy(call)))
         }
         Client::Busy(call) => match draw.below(6) {
-            0 => Ok(Some((Body::Fail(call.name()), Client::Idle))),
-            1 => Ok(Some((Body::Info(call.name()), Client::Retired))),
+            0 => Some((Body::Fail(call.name()), Client::Idle)),
+            1 => Some((Body::Info(call.name()), Client::Retired)),
             _ => {
-                let reply = draw.reply(alloc, kind, call)?;
-                Ok(Some((Body::Ok(call.name(), reply), Client::Idle)))
+                let reply = draw.reply(rt, alloc, kind, call);
+                Some((Body::Ok(call.name(), reply), Client::Idle))
             }
         },
-        Client::Retired => Ok(None),
+        Client::Retired => None,
     }
 }
 
 /// A well-formed history of three processes, with at most four operations.
 pub(crate) fn drawn_history(
+    rt: &impl Abort,
     alloc: Global,
     kind: Kind,
     draw: &mut Draw,
-) -> Result<Vec<Event>, OutOfMemory> {
+) -> Vec<Event> {
     let mut events = Vec::new(alloc);
     let mut clients = [Client::Idle; 3];
     let mut begun = 0usize;
@@ -157,44 +163,41 @@ pub(crate) fn drawn_history(
                 }
                 begun += 1;
             }
-            if let Some((body, after)) = drawn_body(alloc, kind, *client, draw)? {
+            if let Some((body, after)) = drawn_body(rt, alloc, kind, *client, draw) {
                 *client = after;
                 let event = Event {
                     process,
                     key: 0,
                     body,
                 };
-                if events.push(event).is_err() {
-                    return Err(OutOfMemory);
-                }
+                events.push(event).expect(rt, "memory");
             }
         }
     }
-    Ok(events)
+    events
 }
 
 /// The positions of the invocations.
-fn operations_of(alloc: Global, events: &[Event]) -> Result<Vec<usize>, OutOfMemory> {
+fn operations_of(rt: &impl Abort, alloc: Global, events: &[Event]) -> Vec<usize> {
     let mut operations = Vec::new(alloc);
     for at in 0..events.len() {
         if let Body::Invoke(_) = &events[at].body {
-            if operations.push(at).is_err() {
-                return Err(OutOfMemory);
-            }
+            operations.push(at).expect(rt, "memory");
         }
     }
-    Ok(operations)
+    operations
 }
 
 /// The operations in the order that the digits of the code name, as far as the object takes their calls: digit 0 ends
 /// it, digit `d` is the operation `d - 1`.
 fn coded_order(
+    rt: &impl Abort,
     alloc: Global,
     kind: Kind,
     events: &[Event],
     operations: &[usize],
     code: usize,
-) -> Result<Vec<Placed>, OutOfMemory> {
+) -> Vec<Placed> {
     let object = Any { kind };
     let mut state = object.start(alloc);
     let mut order = Vec::new(alloc);
@@ -205,10 +208,10 @@ fn coded_order(
         let digit = rest.checked_rem(base).unwrap_or(0);
         rest = rest.checked_div(base).unwrap_or(0);
         if digit == 0 {
-            return Ok(order);
+            return order;
         }
         let Some(at) = operations.get(digit - 1) else {
-            return Ok(order);
+            return order;
         };
         if let Some(
             Event {
@@ -217,35 +220,70 @@ fn coded_order(
             },
         ) = events.get(*at)
         {
-            object.outcomes(alloc, &state, call, &mut out)?;
+            object
+                .outcomes(alloc, &state, call, &mut out)
+                .expect(rt, "memory");
             if let Some((next, reply)) = out.pop() {
                 state = next;
-                if order.push(Placed { at: *at, reply }).is_err() {
-                    return Err(OutOfMemory);
-                }
+                order.push(Placed { at: *at, reply }).expect(rt, "memory");
             }
         }
     }
-    Ok(order)
+    order
+}
+
+/// Whether the order is a legal one of the events.
+pub(crate) fn is_legal_order(
+    rt: &impl Abort,
+    alloc: Global,
+    kind: Kind,
+    events: &[Event],
+    order: &[Placed],
+) -> bool {
+    check_order(alloc, events, &Kinds::new(alloc, kind), order).expect(rt, "memory")
 }
 
 /// Whether the events have a legal order, found by trying all lists of operations.
 pub(crate) fn has_legal_order(
+    rt: &impl Abort,
     alloc: Global,
     kind: Kind,
     events: &[Event],
-) -> Result<bool, OutOfMemory> {
-    let kinds = Kinds::new(alloc, kind);
-    let operations = operations_of(alloc, events)?;
+) -> bool {
+    let operations = operations_of(rt, alloc, events);
     let mut codes = 1usize;
     for _ in 0..operations.len() {
         codes = codes.saturating_mul(operations.len().saturating_add(1));
     }
     for code in 0..codes {
-        let order = coded_order(alloc, kind, events, &operations, code)?;
-        if check_order(alloc, events, &kinds, &order)? {
-            return Ok(true);
+        let order = coded_order(rt, alloc, kind, events, &operations, code);
+        if is_legal_order(rt, alloc, kind, events, &order) {
+            return true;
         }
     }
-    Ok(false)
+    false
+}
+
+/// The places of all events.
+fn places(rt: &impl Abort, alloc: Global, events: &[Event]) -> Vec<usize> {
+    let mut places = Vec::new(alloc);
+    for at in 0..events.len() {
+        places.push(at).expect(rt, "memory");
+    }
+    places
+}
+
+/// Whether an order of the events is found.
+pub(crate) fn is_found(rt: &impl Abort, alloc: Global, kind: Kind, events: &[Event]) -> bool {
+    finds_order(alloc, kind, events, &places(rt, alloc, events))
+}
+
+/// The place of the event at which the object fails, as far as it is found.
+pub(crate) fn failing(
+    rt: &impl Abort,
+    alloc: Global,
+    kind: Kind,
+    events: &[Event],
+) -> Option<usize> {
+    finds_failure(alloc, kind, events, &places(rt, alloc, events))
 }

@@ -1,24 +1,23 @@
 //! Sessions of `edit`: a recording in short forms, a script, and the replies that it has to get.
 ghost use Rattle.std.specs.Prelude.{◌≤◌};
 
-use crate::table::{BUDGET, recording};
+use crate::table::{BUDGET, KINDS, recording};
 use lin_objects::Kind;
 use lin_report::Status::{IllFormed, No, Undecided, Yes};
 use lin_report::{Counted, Settings, Status, run};
-use std::alloc::AllocError;
-use std::test::Fail;
+use std::process::Abort;
 
 /// One session: the recording, the lines of the script, the lines of the replies, and the status.
-type Session<'a> = (&'a str, &'a str, &'a str, Status);
+pub(crate) type Session<'a> = (&'a str, &'a str, &'a str, Status);
 
-/// The script, which begins with `pull`, gets these replies behind the one to `pull`, and ends with the status.
-fn replies(
-    rt: &HostRuntime,
+/// The script gets these replies, and ends with the status.
+pub(crate) fn replies(
+    rt: &(impl Abort + AllocGlobal),
     kind: Kind,
     keyed: bool,
     budget: u32,
     session: &Session,
-) -> Result<(), Fail>
+)
     requires { (1 ≤ budget) × (budget ≤ 1000000) }
 {
     let (events, script, lines, status) = session;
@@ -27,48 +26,39 @@ fn replies(
         keyed,
         budget,
     };
-    let text = recording(rt, events)?;
+    let text = recording(rt, events);
     let mut written = Vec::new(rt.alloc());
     let mut file = Counted::new(text.as_bytes());
     let mut commands = Counted::new(script.as_bytes());
     let mut out = Counted::new(&mut written);
-    let ended = run(rt.alloc(), settings, &mut file, &mut commands, &mut out)?;
-    let found = std::str::from_utf8(written.as_slice())?;
-    let ends_so = found == *lines && ended == *status;
-    if ends_so {
-        return Ok(());
-    }
-    Err(Fail::new(format_args!("script {script:?}: wanted {lines:?}, got {found:?}")))
+    let ended = run(rt.alloc(), settings, &mut file, &mut commands, &mut out);
+    let found = std::str::from_utf8(written.as_slice()).expect(rt, "lines");
+    assert!(rt;
+        found == *lines && ended == Ok(*status),
+        "script {script:?}: wanted {lines:?}, {status:?}, got {found:?}, {ended:?}"
+    );
 }
 
 /// Each session of one object gets its replies.
-fn all_reply(rt: &HostRuntime, kind: Kind, sessions: &[Session]) -> Result<(), Fail> {
+fn all_reply(rt: &(impl Abort + AllocGlobal), kind: Kind, sessions: &[Session]) {
     for session in sessions {
-        replies(rt, kind, false, BUDGET, session)?;
+        replies(rt, kind, false, BUDGET, session);
     }
-    Ok(())
 }
 
 #[test]
-fn an_empty_recording(rt: HostRuntime) -> Result<(), Fail> {
-    for kind in [
-        Kind::Register,
-        Kind::CasRegister,
-        Kind::Fifo,
-        Kind::Set,
-        Kind::Mutex,
-    ] {
+fn an_empty_recording(rt: HostRuntime) {
+    for kind in KINDS {
         let session = ("", "pull\norder\nask\n", "ok 0\nyes empty\nyes\n", Yes);
-        replies(&rt, kind, false, BUDGET, &session)?;
+        replies(&rt, kind, false, BUDGET, &session);
     }
-    Ok(())
 }
 
 /// A read of nil behind a write that had returned.
 const STALE: &str = "p0 invoke write 1; p0 ok write; p1 invoke read; p1 ok read nil";
 
 #[test]
-fn one_register(rt: HostRuntime) -> Result<(), Fail> {
+fn one_register(rt: HostRuntime) {
     let crashed =
         "p0 invoke write 5; p0 info write; p1 invoke read; p1 ok read nil; p1 invoke read; p1 ok read 5";
     all_reply(
@@ -125,11 +115,11 @@ fn one_register(rt: HostRuntime) -> Result<(), Fail> {
                 No,
             ),
         ],
-    )
+    );
 }
 
 #[test]
-fn ill_formed_recordings(rt: HostRuntime) -> Result<(), Fail> {
+fn ill_formed_recordings(rt: HostRuntime) {
     all_reply(
         &rt,
         Kind::Register,
@@ -153,18 +143,18 @@ fn ill_formed_recordings(rt: HostRuntime) -> Result<(), Fail> {
                 IllFormed,
             ),
         ],
-    )?;
+    );
     let other = (
         "p0 invoke read [0 nil]; p0 ok read [1 nil]",
         "pull\nask\n",
         "ok 2\nill-formed at 1 cause 6 OtherKey\n",
         IllFormed,
     );
-    replies(&rt, Kind::Register, true, BUDGET, &other)
+    replies(&rt, Kind::Register, true, BUDGET, &other);
 }
 
 #[test]
-fn queues_sets_and_locks(rt: HostRuntime) -> Result<(), Fail> {
+fn queues_sets_and_locks(rt: HostRuntime) {
     let crossed =
         "p0 invoke enqueue 1; p1 invoke enqueue 2; p0 ok enqueue; p1 ok enqueue; p0 invoke dequeue; p0 ok dequeue 2; p0 invoke dequeue; p0 ok dequeue 1";
     let wrong =
@@ -187,7 +177,7 @@ fn queues_sets_and_locks(rt: HostRuntime) -> Result<(), Fail> {
                 Yes,
             ),
         ],
-    )?;
+    );
     let lock =
         "p0 invoke acquire; p0 ok acquire; p2 invoke release; p2 info release; p1 invoke acquire; p1 ok acquire";
     all_reply(
@@ -199,7 +189,7 @@ fn queues_sets_and_locks(rt: HostRuntime) -> Result<(), Fail> {
             "ok 6\nyes 0=done 2=done 4=done\nok 5\nok 4\nno prefix 4\n",
             No,
         )],
-    )?;
+    );
     all_reply(
         &rt,
         Kind::Set,
@@ -217,79 +207,80 @@ fn queues_sets_and_locks(rt: HostRuntime) -> Result<(), Fail> {
                 No,
             ),
         ],
-    )
+    );
 }
 
 #[test]
-fn several_registers(rt: HostRuntime) -> Result<(), Fail> {
+fn several_registers(rt: HostRuntime) {
     let two = (
         "p0 invoke write [1 7]; p0 ok write [1 7]; p1 invoke write [0 3]; p1 ok write [0 3]; p0 invoke read [1 nil]; p0 ok read [1 7]; p1 invoke read [0 nil]; p1 ok read [0 3]",
         "pull\norder 0\norder 1\norder\n",
         "ok 8\nyes 2=done 6=3\nyes 0=done 4=7\nyes 0=done 2=done 4=7 6=3\n",
         Yes,
     );
-    replies(&rt, Kind::Register, true, BUDGET, &two)?;
+    replies(&rt, Kind::Register, true, BUDGET, &two);
     let hidden = (
         "p0 invoke write [1 1]; p1 invoke write [1 2]; p2 invoke write [1 3]; p3 invoke write [0 1]; p3 ok write [0 1]; p3 invoke read [0 nil]; p3 ok read [0 1]; p3 invoke read [0 nil]; p3 ok read [0 nil]",
         "pull\nreport\nbudget 13\nask 1\nask\n",
         "ok 9\nevents 9 objects 2\nobject 0 register: no prefix 9\nobject 1 register: undecided at 2\nwhole: undecided at 2\nok 9\nyes\nno prefix 9\n",
         No,
     );
-    replies(&rt, Kind::Register, true, 8, &hidden)?;
+    replies(&rt, Kind::Register, true, 8, &hidden);
     let earlier = (
         "p3 invoke read [0 nil]; p3 ok read [0 5]; p0 invoke write [1 1]; p1 invoke write [1 2]",
         "pull\nask 1\nask\n",
         "ok 4\nundecided at 3\nno prefix 2\n",
         No,
     );
-    replies(&rt, Kind::Register, true, 2, &earlier)
+    replies(&rt, Kind::Register, true, 2, &earlier);
 }
 
 #[test]
-fn small_budgets(rt: HostRuntime) -> Result<(), Fail> {
+fn small_budgets(rt: HostRuntime) {
     let one = (
         "p0 invoke read",
         "pull\nask\nbudget 2\nask\n",
         "ok 1\nundecided at 0\nok 1\nyes\n",
         Yes,
     );
-    replies(&rt, Kind::Register, false, 1, &one)?;
+    replies(&rt, Kind::Register, false, 1, &one);
     let undecided = (
         "p0 invoke read",
         "pull\nask 0\n",
         "ok 1\nundecided at 0\n",
         Undecided,
     );
-    replies(&rt, Kind::Register, false, 1, &undecided)
+    replies(&rt, Kind::Register, false, 1, &undecided);
 }
 
 #[test]
-fn refused_lines(rt: HostRuntime) -> Result<(), Fail> {
+fn refused_lines(rt: HostRuntime) {
     let script =
         "frob\nremove\nremove x\nkind 0 stack\nappend\nappend {:a}\nappend {:process 0}\nappend {:type :info, :process :nemesis, :f :kill}\npull\n";
     let lines =
         "refused command 1 UnknownCommand\nrefused command 2 BadWords\nrefused command 3 BadNumber\nrefused command 4 BadKind\nrefused command 5 NotOneMap\nrefused edn 2 OddMap at 10\nrefused event 3 Missing\nskipped\nok 0\n";
-    all_reply(&rt, Kind::Register, &[("", script, lines, Yes)])
+    all_reply(&rt, Kind::Register, &[("", script, lines, Yes)]);
 }
 
 /// The command that appends a write of the value.
-fn write_of(rt: &HostRuntime, value: &str) -> Result<String, AllocError> {
-    format!(in rt.alloc(); "append {{:process 0 :type :invoke :f :write :value {value}}}")
+fn write_of(rt: &(impl Abort + AllocGlobal), value: &str) -> String {
+    format!(in rt.alloc(); "append {{:process 0 :type :invoke :f :write :value {value}}}").expect(
+        rt, "memory",
+    )
 }
 
 #[test]
-fn values_of_writes(rt: HostRuntime) -> Result<(), Fail> {
+fn values_of_writes(rt: HostRuntime) {
     for value in ["9223372036854775807", "-9223372036854775808", "5N", "nil"] {
-        let script = write_of(&rt, value)?;
-        all_reply(&rt, Kind::Register, &[("", script.as_str(), "ok 1\n", Yes)])?;
+        let script = write_of(&rt, value);
+        all_reply(&rt, Kind::Register, &[("", script.as_str(), "ok 1\n", Yes)]);
     }
     for value in ["9223372036854775808", "007", "1.5", "\"a\"", ":a"] {
-        let script = write_of(&rt, value)?;
+        let script = write_of(&rt, value);
         all_reply(
             &rt,
             Kind::Register,
             &[("", script.as_str(), "refused event 8 BadValue\n", Yes)],
-        )?;
+        );
     }
-    Ok(())
 }

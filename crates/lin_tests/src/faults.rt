@@ -1,12 +1,11 @@
 //! Sessions of `edit` whose devices fail at some call, and lines and recordings that don't fit.
 use crate::devices::{Failing, Lines, Taking, Then};
-use crate::table::{BUDGET, recording};
+use crate::table::{BUDGET, READ, recording, repeated};
 use lin_objects::Kind;
 use lin_report::Status::{IllFormed, Yes};
 use lin_report::{Counted, RunFault, Settings, Status, run};
-use std::alloc::AllocError;
 use std::io::Read;
-use std::test::Fail;
+use std::process::Abort;
 
 const REGISTER: Settings = Settings {
     kind: Kind::Register,
@@ -44,14 +43,20 @@ fn run_on<R: Read + Drop, C: Read + Drop>(rt: &HostRuntime, file: R, commands: C
     Ended { written, ending }
 }
 
+/// Asserts how the session ended, and what it wrote.
+fn ends(rt: &impl Abort, ended: &Ended, ending: Result<Status, RunFault>, written: &[u8]) {
+    assert_eq!(rt; ended.ending, ending);
+    assert!(rt; ended.written.as_slice() == written);
+}
+
 /// Whether these are the first bytes of the replies, and so many.
 fn is_front(written: &[u8], count: Option<usize>) -> bool {
     Some(written.len()) == count && REPLIES.as_bytes().starts_with(written)
 }
 
 #[test]
-fn the_file_fails_at_each_call(rt: HostRuntime) -> Result<(), Fail> {
-    let text = recording(&rt, STALE)?;
+fn the_file_fails_at_each_call(rt: HostRuntime) {
+    let text = recording(&rt, STALE);
     for piece in [1, 7, 1000] {
         // One call for each piece, and one that tells the end.
         let calls = text.len().div_ceil(piece) + 1;
@@ -75,15 +80,13 @@ fn the_file_fails_at_each_call(rt: HostRuntime) -> Result<(), Fail> {
             left: calls,
         };
         let ended = run_on(&rt, file, SCRIPT.as_bytes());
-        assert_eq!(rt; ended.ending, Ok(Yes));
-        assert!(rt; ended.written.as_slice() == REPLIES.as_bytes());
+        ends(&rt, &ended, Ok(Yes), REPLIES.as_bytes());
     }
-    Ok(())
 }
 
 #[test]
-fn the_file_fails_at_a_later_pull(rt: HostRuntime) -> Result<(), Fail> {
-    let text = recording(&rt, STALE)?;
+fn the_file_fails_at_a_later_pull(rt: HostRuntime) {
+    let text = recording(&rt, STALE);
     // The first pull takes two calls, and the call of the second one fails.
     let file = Failing {
         text: text.as_bytes(),
@@ -91,14 +94,17 @@ fn the_file_fails_at_a_later_pull(rt: HostRuntime) -> Result<(), Fail> {
         left: 2,
     };
     let ended = run_on(&rt, file, b"pull\nask\npull\nask\n".as_slice());
-    assert_eq!(rt; ended.ending, Err(RunFault::ReadFailed));
-    assert!(rt; ended.written.as_slice() == b"ok 4\nno prefix 4\n".as_slice());
-    Ok(())
+    ends(
+        &rt,
+        &ended,
+        Err(RunFault::ReadFailed),
+        b"ok 4\nno prefix 4\n".as_slice(),
+    );
 }
 
 #[test]
-fn the_commands_fail_at_each_call(rt: HostRuntime) -> Result<(), Fail> {
-    let text = recording(&rt, STALE)?;
+fn the_commands_fail_at_each_call(rt: HostRuntime) {
+    let text = recording(&rt, STALE);
     for left in 0..SCRIPT.len() + 1 {
         let commands = Failing {
             text: SCRIPT.as_bytes(),
@@ -121,13 +127,11 @@ fn the_commands_fail_at_each_call(rt: HostRuntime) -> Result<(), Fail> {
         left: SCRIPT.len() + 1,
     };
     let ended = run_on(&rt, text.as_bytes(), commands);
-    assert_eq!(rt; ended.ending, Ok(Yes));
-    assert!(rt; ended.written.as_slice() == REPLIES.as_bytes());
-    Ok(())
+    ends(&rt, &ended, Ok(Yes), REPLIES.as_bytes());
 }
 
 #[test]
-fn commands_come_line_by_line_and_fail(rt: HostRuntime) -> Result<(), Fail> {
+fn commands_come_line_by_line_and_fail(rt: HostRuntime) {
     let commands = Lines {
         lines: &[
             "append {:process 0 :type :invoke :f :read}\n",
@@ -137,14 +141,17 @@ fn commands_come_line_by_line_and_fail(rt: HostRuntime) -> Result<(), Fail> {
         left: 2,
     };
     let ended = run_on(&rt, b"".as_slice(), commands);
-    assert_eq!(rt; ended.ending, Err(RunFault::ReadFailed));
-    assert!(rt; ended.written.as_slice() == b"ok 1\nok 2\n".as_slice());
-    Ok(())
+    ends(
+        &rt,
+        &ended,
+        Err(RunFault::ReadFailed),
+        b"ok 1\nok 2\n".as_slice(),
+    );
 }
 
 #[test]
-fn commands_are_cut_anywhere(rt: HostRuntime) -> Result<(), Fail> {
-    let text = recording(&rt, STALE)?;
+fn commands_are_cut_anywhere(rt: HostRuntime) {
+    let text = recording(&rt, STALE);
     for piece in [2, 3, 5, 11, 64] {
         let commands = Failing {
             text: SCRIPT.as_bytes(),
@@ -152,15 +159,13 @@ fn commands_are_cut_anywhere(rt: HostRuntime) -> Result<(), Fail> {
             left: SCRIPT.len() + 1,
         };
         let ended = run_on(&rt, text.as_bytes(), commands);
-        assert_eq!(rt; ended.ending, Ok(Yes));
-        assert!(rt; ended.written.as_slice() == REPLIES.as_bytes());
+        ends(&rt, &ended, Ok(Yes), REPLIES.as_bytes());
     }
-    Ok(())
 }
 
 #[test]
-fn the_writer_stops_at_each_byte(rt: HostRuntime) -> Result<(), Fail> {
-    let text = recording(&rt, STALE)?;
+fn the_writer_stops_at_each_byte(rt: HostRuntime) {
+    let text = recording(&rt, STALE);
     for then in [Then::Fails, Then::TakesNone] {
         for most in 0..REPLIES.len() + 1 {
             let mut file = Counted::new(text.as_bytes());
@@ -180,47 +185,35 @@ fn the_writer_stops_at_each_byte(rt: HostRuntime) -> Result<(), Fail> {
             assert!(rt; is_front(writer.taken.as_slice(), Some(most)));
         }
     }
-    Ok(())
-}
-
-/// A line of so many bytes, and then `ask`.
-fn long_line(rt: &HostRuntime, count: usize) -> Result<Vec<u8>, AllocError> {
-    let mut text = Vec::with_capacity(rt.alloc(), count)?;
-    for _ in 0..count {
-        text.push(b'a')?;
-    }
-    text.extend_from_slice(b"\nask\n")?;
-    Ok(text)
 }
 
 #[test]
-fn a_line_is_too_long(rt: HostRuntime) -> Result<(), Fail> {
-    let longest = long_line(&rt, 1_048_576)?;
+fn a_line_is_too_long(rt: HostRuntime) {
+    let longest = repeated(&rt, &[("a", 1_048_576), ("\nask\n", 1)]);
     let ended = run_on(&rt, b"".as_slice(), longest.as_slice());
-    assert_eq!(rt; ended.ending, Ok(Yes));
-    assert!(rt; ended.written.as_slice() == b"refused command 1 UnknownCommand\nyes\n".as_slice());
-    let longer = long_line(&rt, 1_048_577)?;
+    ends(
+        &rt,
+        &ended,
+        Ok(Yes),
+        b"refused command 1 UnknownCommand\nyes\n".as_slice(),
+    );
+    let longer = repeated(&rt, &[("a", 1_048_577), ("\nask\n", 1)]);
     let ended = run_on(&rt, b"".as_slice(), longer.as_slice());
-    assert_eq!(rt; ended.ending, Ok(Yes));
-    assert!(rt; ended.written.as_slice() == b"refused command 6 LineTooLong\nyes\n".as_slice());
-    Ok(())
+    ends(
+        &rt,
+        &ended,
+        Ok(Yes),
+        b"refused command 6 LineTooLong\nyes\n".as_slice(),
+    );
 }
 
 #[test]
-fn a_recording_does_not_fit(rt: HostRuntime) -> Result<(), Fail> {
-    let mut text = Vec::new(rt.alloc());
-    for _ in 0..500_000 {
-        text.extend_from_slice(
-            b"{:process 0 :type :invoke :f :read}\n{:process 0 :type :ok :f :read}\n",
-        )?;
-    }
-    text.extend_from_slice(b"{:process 0 :type :invoke :f :read}\n")?;
+fn a_recording_does_not_fit(rt: HostRuntime) {
+    let one = "{:process 0 :type :invoke :f :read}\n";
+    let text = repeated(&rt, &[(READ, 500_000), (one, 1)]);
     let script = b"pull\ntruncate 999999\npull\nask\n";
     let ended = run_on(&rt, text.as_slice(), script.as_slice());
-    assert_eq!(rt; ended.ending, Ok(IllFormed));
-    assert!(rt;
-        ended.written.as_slice()
-            == b"refused edit 2 Full\nok 999999\nok 1000000\nill-formed at 999999 cause 2 BusyProcess\n".as_slice()
-    );
-    Ok(())
+    let written =
+        b"refused edit 2 Full\nok 999999\nok 1000000\nill-formed at 999999 cause 2 BusyProcess\n";
+    ends(&rt, &ended, Ok(IllFormed), written.as_slice());
 }

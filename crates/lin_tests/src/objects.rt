@@ -2,10 +2,9 @@
 use crate::table::all_give;
 use lin_objects::Kind;
 use lin_report::Status::{IllFormed, No, Refused, Yes};
-use std::test::Fail;
 
 #[test]
-fn queues(rt: HostRuntime) -> Result<(), Fail> {
+fn queues(rt: HostRuntime) {
     let crossed =
         "p0 invoke enqueue 1; p1 invoke enqueue 2; p0 ok enqueue; p1 ok enqueue; p0 invoke dequeue; p0 ok dequeue 2; p0 invoke dequeue; p0 ok dequeue 1";
     let in_turn =
@@ -23,11 +22,11 @@ fn queues(rt: HostRuntime) -> Result<(), Fail> {
             No,
         ),
     ];
-    all_give(&rt, Kind::Fifo, false, &examples)
+    all_give(&rt, Kind::Fifo, false, &examples);
 }
 
 #[test]
-fn mutexes(rt: HostRuntime) -> Result<(), Fail> {
+fn mutexes(rt: HostRuntime) {
     let released =
         "p0 invoke acquire; p0 ok acquire; p2 invoke release; p2 info release; p1 invoke acquire; p1 ok acquire";
     let twice = "p0 invoke acquire; p0 ok acquire; p1 invoke acquire; p1 ok acquire";
@@ -37,11 +36,11 @@ fn mutexes(rt: HostRuntime) -> Result<(), Fail> {
         (released, "0=done 4=done 2=done", "no", No),
         (twice, "0=done 2=done", "no", No),
     ];
-    all_give(&rt, Kind::Mutex, false, &examples)
+    all_give(&rt, Kind::Mutex, false, &examples);
 }
 
 #[test]
-fn sets(rt: HostRuntime) -> Result<(), Fail> {
+fn sets(rt: HostRuntime) {
     let nothing =
         "p0 invoke add 1; p0 ok add; p0 invoke add 2; p0 ok add; p1 invoke read; p1 ok read nil";
     let sorted =
@@ -65,11 +64,11 @@ fn sets(rt: HostRuntime) -> Result<(), Fail> {
         ),
         (sorted, "0=done 4={1,2} 2=done", "no", No),
     ];
-    all_give(&rt, Kind::Set, false, &examples)
+    all_give(&rt, Kind::Set, false, &examples);
 }
 
 #[test]
-fn registers_with_cas(rt: HostRuntime) -> Result<(), Fail> {
+fn registers_with_cas(rt: HostRuntime) {
     let cas = "p0 invoke cas [1 2]; p0 ok cas";
     let written =
         "p0 invoke write 1; p0 ok write; p0 invoke cas (1 2); p0 ok cas; p0 invoke read; p0 ok read 2";
@@ -82,7 +81,7 @@ fn registers_with_cas(rt: HostRuntime) -> Result<(), Fail> {
             (written, "0=done 2=done 4=2", "yes", Yes),
             (written, "2=done 0=done 4=2", "no", No),
         ],
-    )?;
+    );
     all_give(
         &rt,
         Kind::Register,
@@ -93,5 +92,5 @@ fn registers_with_cas(rt: HostRuntime) -> Result<(), Fail> {
             "ill-formed at 0 cause 3 NotOfKind",
             IllFormed,
         )],
-    )
+    );
 }

@@ -1,13 +1,11 @@
 //! Legal orders of queues with many clients, found though they have too many configurations to be kept.
-use crate::compressed::{AMPLE, walked};
-use crate::drawn::Draw;
+use crate::compressed::told;
+use crate::drawn::{Draw, failing, is_found};
 use crate::events::{fail, info, invoke, ok};
-use crate::exact_sets::Came;
-use lin_chain::{finds_failure, finds_order};
-use lin_history::{Call, Event, Name, OutOfMemory, Reply, Val};
+use lin_history::{Call, Event, Name, Reply, Val};
 use lin_objects::Kind;
 use std::alloc::Global;
-use std::test::Fail;
+use std::process::Abort;
 
 /// What a client of a queue is about.
 #[derive(Clone, Copy)]
@@ -44,64 +42,58 @@ impl Source {
     }
 
     /// The operation takes effect.
-    fn take_effect(&mut self, call: Call) -> Result<Client, OutOfMemory> {
+    fn take_effect(&mut self, rt: &impl Abort, call: Call) -> Client {
         match call {
             Call::Enqueue(number) => {
-                self.queue.push(number)?;
-                Ok(Client::Enqueued)
+                self.queue.push(number).expect(rt, "memory");
+                Client::Enqueued
             }
             _ if self.wrong > 0 && self.draw.below(self.wrong) == 0 => {
                 let back = self.draw.below(3).cast_signed();
-                Ok(Client::Found(Val::Int(self.last.saturating_sub(back))))
+                Client::Found(Val::Int(self.last.saturating_sub(back)))
             }
             _ => {
                 let found = self
                     .queue
                     .first()
                     .map_or(Val::Nil, |number| Val::Int(*number));
-                self.queue = rest(&self.queue)?;
-                Ok(Client::Found(found))
+                self.queue = rest(rt, &self.queue);
+                Client::Found(found)
             }
         }
     }
 
     /// What the client does next, and the event of it, if there is one.
-    fn step(
-        &mut self,
-        process: u64,
-        client: Client,
-    ) -> Result<(Client, Option<Event>), OutOfMemory> {
+    fn step(&mut self, rt: &impl Abort, process: u64, client: Client) -> (Client, Option<Event>) {
         match client {
             Client::Idle => {
                 let call = self.call();
-                Ok((Client::Waiting(call), Some(invoke(process, call))))
+                (Client::Waiting(call), Some(invoke(process, call)))
             }
             Client::Waiting(call) if self.draw.below(self.crash) == 0 => {
-                Ok((Client::Gone, Some(info(process, call.name()))))
+                (Client::Gone, Some(info(process, call.name())))
             }
             Client::Waiting(call) if self.draw.below(30) == 0 => {
-                Ok((Client::Idle, Some(fail(process, call.name()))))
+                (Client::Idle, Some(fail(process, call.name())))
             }
-            Client::Waiting(call) => Ok((self.take_effect(call)?, None)),
+            Client::Waiting(call) => (self.take_effect(rt, call), None),
             Client::Enqueued if self.draw.below(self.crash) == 0 => {
-                Ok((Client::Gone, Some(info(process, Name::Enqueue))))
+                (Client::Gone, Some(info(process, Name::Enqueue)))
             }
-            Client::Enqueued => {
-                Ok((Client::Idle, Some(ok(process, Name::Enqueue, Reply::Done))))
-            }
+            Client::Enqueued => (Client::Idle, Some(ok(process, Name::Enqueue, Reply::Done))),
             Client::Found(_) if self.draw.below(self.crash) == 0 => {
-                Ok((Client::Gone, Some(info(process, Name::Dequeue))))
+                (Client::Gone, Some(info(process, Name::Dequeue)))
             }
             Client::Found(value) => {
                 let reply = Reply::Value(value);
-                Ok((Client::Idle, Some(ok(process, Name::Dequeue, reply))))
+                (Client::Idle, Some(ok(process, Name::Dequeue, reply)))
             }
-            Client::Gone => Ok((Client::Gone, None)),
+            Client::Gone => (Client::Gone, None),
         }
     }
 
     /// So many steps of the clients, each at any time: a call, its effect, or its return. Each number is put in once.
-    fn history(&mut self, alloc: Global, steps: usize) -> Result<Vec<Event>, OutOfMemory> {
+    fn history(&mut self, rt: &impl Abort, alloc: Global, steps: usize) -> Vec<Event> {
         let mut events = Vec::new(alloc);
         let mut clients = [Client::Idle; 14];
         for _ in 0..steps {
@@ -110,135 +102,109 @@ impl Source {
                 .get(process as usize)
                 .copied()
                 .unwrap_or(Client::Gone);
-            let (next, event) = self.step(process, client)?;
+            let (next, event) = self.step(rt, process, client);
             if let Some(place) = clients.get_mut(process as usize) {
                 *place = next;
             }
             if let Some(event) = event {
-                events.push(event)?;
+                events.push(event).expect(rt, "memory");
             }
         }
-        Ok(events)
+        events
     }
 }
 
 /// All numbers but the first.
-fn rest(queue: &Vec<i64>) -> Result<Vec<i64>, OutOfMemory> {
+fn rest(rt: &impl Abort, queue: &Vec<i64>) -> Vec<i64> {
     let mut rest = Vec::new(*queue.allocator());
     for number in queue.iter().skip(1) {
-        rest.push(*number)?;
+        rest.push(*number).expect(rt, "memory");
     }
-    Ok(rest)
+    rest
 }
 
-/// The places of the events.
-fn all(alloc: Global, events: &[Event]) -> Result<Vec<usize>, OutOfMemory> {
-    let mut picks = Vec::new(alloc);
-    for at in 0..events.len() {
-        picks.push(at)?;
-    }
-    Ok(picks)
+/// A history of 14 clients, in which no dequeue is wrong.
+fn large_history(rt: &impl Abort, alloc: Global, seed: u64) -> Vec<Event> {
+    let mut source = Source {
+        draw: Draw { seed },
+        clients: 14,
+        crash: 60,
+        wrong: 0,
+        queue: Vec::new(alloc),
+        last: 0,
+    };
+    source.history(rt, alloc, 700)
 }
 
-/// Whether an order of the events is found.
-fn is_found(alloc: Global, events: &[Event]) -> Result<bool, OutOfMemory> {
-    Ok(finds_order(alloc, Kind::Fifo, events, &all(alloc, events)?))
-}
-
-/// The place of the event at which the queue fails, as far as it is found.
-fn failing(alloc: Global, events: &[Event]) -> Result<Option<usize>, OutOfMemory> {
-    Ok(finds_failure(alloc, Kind::Fifo, events, &all(alloc, events)?))
-}
-
-/// Whether frontiers tell that so many events, the first ones, have a legal order.
-fn is_linearizable(alloc: Global, events: &[Event], count: usize) -> Result<bool, OutOfMemory> {
-    let first = &events[..count.min(events.len())];
-    let (came, _) = walked(alloc, Kind::Fifo, first, AMPLE)?;
-    Ok(matches!(came, Came::Sound(_)))
+/// A history of four clients, in which one dequeue of eight is wrong.
+fn small_history(rt: &impl Abort, alloc: Global, seed: u64, crash: u64) -> Vec<Event> {
+    let mut source = Source {
+        draw: Draw { seed },
+        clients: 4,
+        crash,
+        wrong: 8,
+        queue: Vec::new(alloc),
+        last: 0,
+    };
+    source.history(rt, alloc, 50)
 }
 
 #[test]
-fn orders_of_queues_are_found(rt: HostRuntime) -> Result<(), Fail> {
+fn orders_of_queues_are_found(rt: HostRuntime) {
     let alloc = rt.alloc();
     for seed in 0..40 {
-        let mut source = Source {
-            draw: Draw { seed },
-            clients: 14,
-            crash: 60,
-            wrong: 0,
-            queue: Vec::new(alloc),
-            last: 0,
-        };
-        let events = source.history(alloc, 700)?;
-        assert!(rt; is_found(alloc, &events)?);
+        let events = large_history(&rt, alloc, seed);
+        assert!(rt; is_found(&rt, alloc, Kind::Fifo, &events));
     }
-    Ok(())
 }
 
 /// Of small histories, many of which are not linearizable, an order is found where frontiers tell that there is one.
 #[test]
-fn orders_are_found_where_frontiers_go_on(rt: HostRuntime) -> Result<(), Fail> {
+fn orders_are_found_where_frontiers_go_on(rt: HostRuntime) {
     let alloc = rt.alloc();
     let mut failures: u64 = 0;
     for seed in 0..60 {
-        let mut source = Source {
-            draw: Draw { seed },
-            clients: 4,
-            crash: 12,
-            wrong: 8,
-            queue: Vec::new(alloc),
-            last: 0,
-        };
-        let events = source.history(alloc, 50)?;
-        let is_legal = is_linearizable(alloc, &events, usize::MAX)?;
-        assert!(rt; is_found(alloc, &events)? == is_legal);
+        let events = small_history(&rt, alloc, seed, 12);
+        let is_legal = told(&rt, alloc, Kind::Fifo, &events, usize::MAX) == Some(true);
+        assert!(rt; is_found(&rt, alloc, Kind::Fifo, &events) == is_legal);
         if !is_legal {
             failures = failures.saturating_add(1);
         }
     }
     assert!(rt; 10 < failures && failures < 50);
-    Ok(())
 }
 
 /// Numbers that are put in twice are not looked at, and neither is an element that nobody put in.
 #[test]
-fn none_is_found_of_a_number_that_is_put_in_twice(rt: HostRuntime) -> Result<(), Fail> {
+fn none_is_found_of_a_number_that_is_put_in_twice(rt: HostRuntime) {
     let alloc = rt.alloc();
     let twice = [invoke(0, Call::Enqueue(1)), invoke(1, Call::Enqueue(1))];
-    assert!(rt; !is_found(alloc, &twice)?);
-    assert!(rt; is_found(alloc, &twice[..1])?);
+    assert!(rt; !is_found(&rt, alloc, Kind::Fifo, &twice));
+    assert!(rt; is_found(&rt, alloc, Kind::Fifo, &twice[..1]));
     let unknown = [
         invoke(0, Call::Dequeue),
         ok(0, Name::Dequeue, Reply::Value(Val::Int(1))),
     ];
-    assert!(rt; !is_found(alloc, &unknown)?);
-    Ok(())
+    assert!(rt; !is_found(&rt, alloc, Kind::Fifo, &unknown));
 }
 
 /// What is found to fail does so at that event. Most failures are found.
 #[test]
-fn failures_are_found_where_frontiers_end(rt: HostRuntime) -> Result<(), Fail> {
+fn failures_are_found_where_frontiers_end(rt: HostRuntime) {
     let alloc = rt.alloc();
     let mut failures: u64 = 0;
     let mut missed: u64 = 0;
     for seed in 0..60 {
-        let mut source = Source {
-            draw: Draw { seed },
-            clients: 4,
-            crash: 40,
-            wrong: 8,
-            queue: Vec::new(alloc),
-            last: 0,
-        };
-        let events = source.history(alloc, 50)?;
-        match failing(alloc, &events)? {
+        let events = small_history(&rt, alloc, seed, 40);
+        match failing(&rt, alloc, Kind::Fifo, &events) {
             Some(at) => {
                 failures = failures.saturating_add(1);
-                assert!(rt; is_linearizable(alloc, &events, at)?);
-                assert!(rt; !is_linearizable(alloc, &events, at.saturating_add(1))?);
+                assert!(rt; told(&rt, alloc, Kind::Fifo, &events, at) == Some(true));
+                let behind = at.saturating_add(1);
+                assert!(rt; told(&rt, alloc, Kind::Fifo, &events, behind) != Some(true));
             }
             None => {
-                if !is_linearizable(alloc, &events, usize::MAX)? {
+                if told(&rt, alloc, Kind::Fifo, &events, usize::MAX) != Some(true) {
                     missed = missed.saturating_add(1);
                 }
             }
@@ -246,5 +212,4 @@ fn failures_are_found_where_frontiers_end(rt: HostRuntime) -> Result<(), Fail> {
     }
     assert!(rt; 5 < failures);
     assert!(rt; missed < failures);
-    Ok(())
 }

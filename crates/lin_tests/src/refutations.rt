@@ -4,75 +4,69 @@ use lin_history::{Event, Follow, Reply};
 use lin_objects::{Kind, State};
 use lin_order::{RefConfig, Refutation, check_refutation};
 use lin_report::read_order;
-use std::alloc::Global;
-use std::test::Fail;
+use std::process::Abort;
 
 /// What is placed: `PROCESS=REPLY`, with spaces between two, or `empty`.
-fn placed(alloc: Global, text: &str) -> Result<Vec<(u64, Reply)>, Fail> {
-    let Ok(order) = read_order(alloc, text.as_bytes()) else {
-        return Err(Fail::new(format_args!("{text:?}")));
-    };
-    let mut pairs = Vec::new(alloc);
+fn placed(rt: &(impl Abort + AllocGlobal), text: &str) -> Vec<(u64, Reply)> {
+    let order = read_order(rt.alloc(), text.as_bytes()).expect(rt, text);
+    let mut pairs = Vec::new(rt.alloc());
     for pair in order {
-        pairs.push((pair.at as u64, pair.reply))?;
+        pairs
+            .push((pair.at as u64, pair.reply))
+            .expect(rt, "memory");
     }
-    Ok(pairs)
+    pairs
 }
 
 /// A member: the register's value, and behind it what is placed, if anything is.
-fn member(alloc: Global, text: &str) -> Result<RefConfig, Fail> {
+fn member(rt: &(impl Abort + AllocGlobal), text: &str) -> RefConfig {
     let (value, pairs) = text.split_once(' ').unwrap_or((text, "empty"));
-    let mut word = String::new(alloc);
-    word.push_str("0=")?;
-    word.push_str(value)?;
-    let Some((_, Reply::Value(value))) = placed(alloc, &word)?.pop() else {
-        return Err(Fail::new(format_args!("{text:?}")));
+    let word = format!(in rt.alloc(); "0={value}").expect(rt, "memory");
+    let Some((_, Reply::Value(value))) = placed(rt, &word).pop() else {
+        panic!(rt; "{text:?}");
     };
-    Ok(RefConfig {
+    RefConfig {
         state: State::Value(value),
-        placed: placed(alloc, pairs)?,
-    })
+        placed: placed(rt, pairs),
+    }
 }
 
 /// Sets with `|` between two, each of members with `;` between two.
-fn refutation(alloc: Global, text: &str) -> Result<Refutation, Fail> {
-    let mut sets = Vec::new(alloc);
+fn refutation(rt: &(impl Abort + AllocGlobal), text: &str) -> Refutation {
+    let mut sets = Vec::new(rt.alloc());
     for set in text.split('|') {
-        let mut members = Vec::new(alloc);
+        let mut members = Vec::new(rt.alloc());
         for word in set.split(';') {
             if !word.trim().is_empty() {
-                members.push(member(alloc, word.trim())?)?;
+                members.push(member(rt, word.trim())).expect(rt, "memory");
             }
         }
-        sets.push(members)?;
+        sets.push(members).expect(rt, "memory");
     }
-    Ok(Refutation { sets })
+    Refutation { sets }
 }
 
 /// The events of a recording in short form.
-fn events(rt: &HostRuntime, short: &str) -> Result<Vec<Event>, Fail> {
-    let text = recording(rt, short)?;
+fn events(rt: &(impl Abort + AllocGlobal), short: &str) -> Vec<Event> {
+    let text = recording(rt, short);
     let mut follow = Follow::new(rt.alloc(), false);
     let mut events = Vec::new(rt.alloc());
     for _ in 0..follow.feed(text.as_bytes()).unwrap_or(0) {
         if let Some(event) = follow.take() {
-            events.push(event)?;
+            events.push(event).expect(rt, "memory");
         }
     }
-    Ok(events)
+    events
 }
 
 /// The check says of each example's sets what stands behind them.
-fn all_told(rt: &HostRuntime, examples: &[(&str, &str, bool)]) -> Result<(), Fail> {
+fn all_told(rt: &(impl Abort + AllocGlobal), examples: &[(&str, &str, bool)]) {
     for (short, sets, wanted) in examples {
-        let events = events(rt, short)?;
-        let refutation = refutation(rt.alloc(), sets)?;
-        let shows = check_refutation(rt.alloc(), &events, Kind::Register, &refutation)?;
-        if shows != *wanted {
-            return Err(Fail::new(format_args!("{short:?} {sets:?}: {shows}")));
-        }
+        let events = events(rt, short);
+        let refutation = refutation(rt, sets);
+        let shows = check_refutation(rt.alloc(), &events, Kind::Register, &refutation);
+        assert!(rt; shows.expect(rt, "memory") == *wanted, "{short:?} {sets:?}");
     }
-    Ok(())
 }
 
 /// A read that begins after a write is done, and doesn't see it.
@@ -82,7 +76,7 @@ const STALE: &str = "p0 invoke write 1; p0 ok write; p1 invoke read; p1 ok read 
 const CROSSED: &str = "p0 invoke write 1; p1 invoke read; p1 ok read 2";
 
 #[test]
-fn one_change_to_the_sets_of_a_stale_read(rt: HostRuntime) -> Result<(), Fail> {
+fn one_change_to_the_sets_of_a_stale_read(rt: HostRuntime) {
     all_told(
         &rt,
         &[
@@ -117,11 +111,11 @@ fn one_change_to_the_sets_of_a_stale_read(rt: HostRuntime) -> Result<(), Fail> {
                 false,
             ),
         ],
-    )
+    );
 }
 
 #[test]
-fn processes_rise_in_members(rt: HostRuntime) -> Result<(), Fail> {
+fn processes_rise_in_members(rt: HostRuntime) {
     all_told(
         &rt,
         &[
@@ -146,12 +140,12 @@ fn processes_rise_in_members(rt: HostRuntime) -> Result<(), Fail> {
                 false,
             ),
         ],
-    )
+    );
 }
 
 /// By `tests/refutations.py --examples 20 11`, whose plain text of the rules judges them too.
 #[test]
-fn sets_of_random_histories(rt: HostRuntime) -> Result<(), Fail> {
+fn sets_of_random_histories(rt: HostRuntime) {
     all_told(
         &rt,
         &[
@@ -256,5 +250,5 @@ fn sets_of_random_histories(rt: HostRuntime) -> Result<(), Fail> {
                 false,
             ),
         ],
-    )
+    );
 }

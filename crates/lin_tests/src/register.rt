@@ -2,7 +2,6 @@
 use crate::table::all_give;
 use lin_objects::Kind;
 use lin_report::Status::{IllFormed, No, Refused, Yes};
-use std::test::Fail;
 
 /// A read that overlaps a write and sees it.
 const OVERLAP: &str = "p0 invoke write 1; p1 invoke read; p1 ok read 1";
@@ -18,7 +17,7 @@ const CRASHED: &str =
     "p0 invoke write 5; p0 info write; p1 invoke read; p1 ok read nil; p1 invoke read; p1 ok read 5";
 
 #[test]
-fn orders_of_one_register(rt: HostRuntime) -> Result<(), Fail> {
+fn orders_of_one_register(rt: HostRuntime) {
     let examples = [
         ("", "empty", "yes", Yes),
         (OVERLAP, "0=done 1=1", "yes", Yes),
@@ -48,11 +47,11 @@ fn orders_of_one_register(rt: HostRuntime) -> Result<(), Fail> {
         ),
         (OVERLAP, "0=done x", "refused order 1 BadPair at 7", Refused),
     ];
-    all_give(&rt, Kind::Register, false, &examples)
+    all_give(&rt, Kind::Register, false, &examples);
 }
 
 #[test]
-fn ill_formed_histories(rt: HostRuntime) -> Result<(), Fail> {
+fn ill_formed_histories(rt: HostRuntime) {
     let examples = [
         (
             "p0 invoke read; p0 info read; p0 invoke read",
@@ -91,11 +90,11 @@ fn ill_formed_histories(rt: HostRuntime) -> Result<(), Fail> {
             IllFormed,
         ),
     ];
-    all_give(&rt, Kind::Register, false, &examples)
+    all_give(&rt, Kind::Register, false, &examples);
 }
 
 #[test]
-fn texts_of_orders(rt: HostRuntime) -> Result<(), Fail> {
+fn texts_of_orders(rt: HostRuntime) {
     let examples = [
         (OVERLAP, "  0=done   1=1  ", "yes", Yes),
         (OVERLAP, "00=done 01=01", "yes", Yes),
@@ -132,5 +131,5 @@ fn texts_of_orders(rt: HostRuntime) -> Result<(), Fail> {
         ("", "0=+1", "refused order 1 BadPair at 0", Refused),
         ("", "-0=done", "refused order 1 BadPair at 0", Refused),
     ];
-    all_give(&rt, Kind::Register, false, &examples)
+    all_give(&rt, Kind::Register, false, &examples);
 }

@@ -1,13 +1,11 @@
 //! Legal orders and failures of sets, found without frontiers.
-use crate::compressed::{AMPLE, walked};
-use crate::drawn::Draw;
+use crate::compressed::told;
+use crate::drawn::{Draw, failing, is_found};
 use crate::events::{fail, info, invoke, ok};
-use crate::exact_sets::Came;
-use lin_chain::{finds_failure, finds_order};
-use lin_history::{Call, Event, IntSet, Name, OutOfMemory, Reply};
+use lin_history::{Call, Event, IntSet, Name, Reply};
 use lin_objects::Kind;
 use std::alloc::Global;
-use std::test::Fail;
+use std::process::Abort;
 
 fn add(process: u64, number: i64) -> Event {
     invoke(process, Call::Add(number))
@@ -21,72 +19,48 @@ fn read(process: u64) -> Event {
     invoke(process, Call::Read)
 }
 
-fn saw(alloc: Global, process: u64, numbers: &[i64]) -> Result<Event, OutOfMemory> {
+fn saw(rt: &impl Abort, alloc: Global, process: u64, numbers: &[i64]) -> Event {
     let mut members = IntSet::new(alloc);
     for number in numbers {
-        members.insert(*number)?;
+        members.insert(*number).expect(rt, "memory");
     }
-    Ok(ok(process, Name::Read, Reply::Members(members)))
-}
-
-/// The places of all events.
-fn places(alloc: Global, events: &[Event]) -> Result<Vec<usize>, OutOfMemory> {
-    let mut places = Vec::new(alloc);
-    for at in 0..events.len() {
-        places.push(at)?;
-    }
-    Ok(places)
-}
-
-/// Whether an order of the events is found.
-fn is_found(alloc: Global, events: &[Event]) -> Result<bool, OutOfMemory> {
-    let picks = places(alloc, events)?;
-    Ok(finds_order(alloc, Kind::Set, events, &picks))
-}
-
-/// The place of the event at which a set fails, as far as it is found.
-fn failing(alloc: Global, events: &[Event]) -> Result<Option<usize>, OutOfMemory> {
-    let picks = places(alloc, events)?;
-    Ok(finds_failure(alloc, Kind::Set, events, &picks))
+    ok(process, Name::Read, Reply::Members(members))
 }
 
 /// Whether the failure is found at the place, and none in the events before it, of which an order is found.
-fn fails_at(alloc: Global, events: &[Event], at: usize) -> Result<bool, OutOfMemory> {
+fn fails_at(rt: &impl Abort, alloc: Global, events: &[Event], at: usize) -> bool {
     let before = &events[..at.min(events.len())];
-    Ok(
-        failing(alloc, events)? == Some(at)
-            && failing(alloc, before)? == None
-            && is_found(alloc, before)?,
-    )
+    failing(rt, alloc, Kind::Set, events) == Some(at)
+        && failing(rt, alloc, Kind::Set, before) == None
+        && is_found(rt, alloc, Kind::Set, before)
 }
 
 /// Whether an order of each beginning of the events is found, and no failure.
-fn is_legal(alloc: Global, events: &[Event]) -> Result<bool, OutOfMemory> {
+fn is_legal(rt: &impl Abort, alloc: Global, events: &[Event]) -> bool {
     for count in 0..events.len() + 1 {
         let first = &events[..count];
-        if !is_found(alloc, first)? || failing(alloc, first)? != None {
-            return Ok(false);
+        if !is_found(rt, alloc, Kind::Set, first) || failing(rt, alloc, Kind::Set, first) != None {
+            return false;
         }
     }
-    Ok(true)
+    true
 }
 
 #[test]
-fn a_number_that_nobody_added(rt: HostRuntime) -> Result<(), Fail> {
+fn a_number_that_nobody_added(rt: HostRuntime) {
     let alloc = rt.alloc();
-    let found = saw(alloc, 1, &[1, 2])?;
+    let found = saw(&rt, alloc, 1, &[1, 2]);
     let events = [add(0, 1), added(0), read(1), found, add(0, 2), added(0)];
-    assert!(rt; fails_at(alloc, &events, 3)?);
-    Ok(())
+    assert!(rt; fails_at(&rt, alloc, &events, 3));
 }
 
 #[test]
-fn a_number_whose_adds_fail(rt: HostRuntime) -> Result<(), Fail> {
+fn a_number_whose_adds_fail(rt: HostRuntime) {
     let alloc = rt.alloc();
-    let found = saw(alloc, 1, &[1])?;
+    let found = saw(&rt, alloc, 1, &[1]);
     let once = [add(0, 1), read(1), found, fail(0, Name::Add), add(0, 1)];
-    assert!(rt; fails_at(alloc, &once, 3)?);
-    let found = saw(alloc, 2, &[1])?;
+    assert!(rt; fails_at(&rt, alloc, &once, 3));
+    let found = saw(&rt, alloc, 2, &[1]);
     let twice = [
         add(0, 1),
         add(1, 1),
@@ -95,15 +69,14 @@ fn a_number_whose_adds_fail(rt: HostRuntime) -> Result<(), Fail> {
         fail(0, Name::Add),
         fail(1, Name::Add),
     ];
-    assert!(rt; fails_at(alloc, &twice, 5)?);
-    Ok(())
+    assert!(rt; fails_at(&rt, alloc, &twice, 5));
 }
 
 /// An add of the number fails that was invoked before the read found it, and the other add comes later.
 #[test]
-fn a_number_that_was_added_too_late(rt: HostRuntime) -> Result<(), Fail> {
+fn a_number_that_was_added_too_late(rt: HostRuntime) {
     let alloc = rt.alloc();
-    let found = saw(alloc, 2, &[2])?;
+    let found = saw(&rt, alloc, 2, &[2]);
     let history = [
         add(3, 2),
         read(2),
@@ -112,9 +85,9 @@ fn a_number_that_was_added_too_late(rt: HostRuntime) -> Result<(), Fail> {
         read(0),
         fail(3, Name::Add),
     ];
-    assert!(rt; fails_at(alloc, &history, 5)?);
+    assert!(rt; fails_at(&rt, alloc, &history, 5));
     // The other add was there when another number was seen to be in, which the read did not find.
-    let found = saw(alloc, 2, &[2])?;
+    let found = saw(&rt, alloc, 2, &[2]);
     let history = [
         add(3, 2),
         read(2),
@@ -124,25 +97,23 @@ fn a_number_that_was_added_too_late(rt: HostRuntime) -> Result<(), Fail> {
         found,
         fail(3, Name::Add),
     ];
-    assert!(rt; fails_at(alloc, &history, 6)?);
-    Ok(())
+    assert!(rt; fails_at(&rt, alloc, &history, 6));
 }
 
 #[test]
-fn a_number_that_was_lost(rt: HostRuntime) -> Result<(), Fail> {
+fn a_number_that_was_lost(rt: HostRuntime) {
     let alloc = rt.alloc();
-    let found = saw(alloc, 1, &[])?;
+    let found = saw(&rt, alloc, 1, &[]);
     let events = [add(0, 1), added(0), read(1), found, add(0, 2)];
-    assert!(rt; fails_at(alloc, &events, 3)?);
-    Ok(())
+    assert!(rt; fails_at(&rt, alloc, &events, 3));
 }
 
 /// Its add never returned.
 #[test]
-fn a_number_that_an_earlier_read_found(rt: HostRuntime) -> Result<(), Fail> {
+fn a_number_that_an_earlier_read_found(rt: HostRuntime) {
     let alloc = rt.alloc();
-    let found = saw(alloc, 1, &[1])?;
-    let later = saw(alloc, 2, &[])?;
+    let found = saw(&rt, alloc, 1, &[1]);
+    let later = saw(&rt, alloc, 2, &[]);
     let events = [
         add(0, 1),
         read(1),
@@ -151,19 +122,18 @@ fn a_number_that_an_earlier_read_found(rt: HostRuntime) -> Result<(), Fail> {
         read(2),
         later,
     ];
-    assert!(rt; fails_at(alloc, &events, 5)?);
-    Ok(())
+    assert!(rt; fails_at(&rt, alloc, &events, 5));
 }
 
 /// The read, which was invoked first, found 2 and not 1, whose add returned before that of 2 was invoked. In the second history an earlier
 /// add of 2 failed.
 #[test]
-fn a_number_that_came_in_before_another(rt: HostRuntime) -> Result<(), Fail> {
+fn a_number_that_came_in_before_another(rt: HostRuntime) {
     let alloc = rt.alloc();
-    let found = saw(alloc, 2, &[2])?;
+    let found = saw(&rt, alloc, 2, &[2]);
     let once = [read(2), add(0, 1), added(0), add(1, 2), found, added(1)];
-    assert!(rt; fails_at(alloc, &once, 4)?);
-    let found = saw(alloc, 2, &[2])?;
+    assert!(rt; fails_at(&rt, alloc, &once, 4));
+    let found = saw(&rt, alloc, 2, &[2]);
     let again = [
         read(2),
         add(1, 2),
@@ -173,20 +143,19 @@ fn a_number_that_came_in_before_another(rt: HostRuntime) -> Result<(), Fail> {
         add(1, 2),
         found,
     ];
-    assert!(rt; fails_at(alloc, &again, 6)?);
-    Ok(())
+    assert!(rt; fails_at(&rt, alloc, &again, 6));
 }
 
 /// Each of two reads at once found a number that the other did not find; in the second history one of them found more numbers.
 #[test]
-fn reads_that_found_different_numbers(rt: HostRuntime) -> Result<(), Fail> {
+fn reads_that_found_different_numbers(rt: HostRuntime) {
     let alloc = rt.alloc();
-    let one = saw(alloc, 2, &[1])?;
-    let other = saw(alloc, 3, &[2])?;
+    let one = saw(&rt, alloc, 2, &[1]);
+    let other = saw(&rt, alloc, 3, &[2]);
     let equally_many = [add(0, 1), add(1, 2), read(2), read(3), one, other];
-    assert!(rt; fails_at(alloc, &equally_many, 5)?);
-    let one = saw(alloc, 3, &[1, 2])?;
-    let other = saw(alloc, 4, &[3])?;
+    assert!(rt; fails_at(&rt, alloc, &equally_many, 5));
+    let one = saw(&rt, alloc, 3, &[1, 2]);
+    let other = saw(&rt, alloc, 4, &[3]);
     let more = [
         add(0, 1),
         add(1, 2),
@@ -196,16 +165,15 @@ fn reads_that_found_different_numbers(rt: HostRuntime) -> Result<(), Fail> {
         one,
         other,
     ];
-    assert!(rt; fails_at(alloc, &more, 6)?);
-    Ok(())
+    assert!(rt; fails_at(&rt, alloc, &more, 6));
 }
 
 /// 1 came in behind the read that found 2, though its add was invoked before that.
 #[test]
-fn none_fails_of_a_legal_history(rt: HostRuntime) -> Result<(), Fail> {
+fn none_fails_of_a_legal_history(rt: HostRuntime) {
     let alloc = rt.alloc();
-    let found = saw(alloc, 1, &[2])?;
-    let later = saw(alloc, 1, &[1, 2])?;
+    let found = saw(&rt, alloc, 1, &[2]);
+    let later = saw(&rt, alloc, 1, &[1, 2]);
     let events = [
         add(0, 1),
         read(1),
@@ -216,8 +184,7 @@ fn none_fails_of_a_legal_history(rt: HostRuntime) -> Result<(), Fail> {
         read(1),
         later,
     ];
-    assert!(rt; is_legal(alloc, &events)?);
-    Ok(())
+    assert!(rt; is_legal(&rt, alloc, &events));
 }
 
 /// What a client of a set is about.
@@ -255,34 +222,34 @@ struct Source {
 }
 
 impl Source {
-    fn call(&mut self) -> Result<Call, OutOfMemory> {
+    fn call(&mut self, rt: &impl Abort) -> Call {
         if self.draw.below(self.reads) == 0 {
-            return Ok(Call::Read);
+            return Call::Read;
         }
         let number = if self.range == 0 {
             self.called.len() as u64
         } else {
             self.draw.below(self.range)
         };
-        self.called.push(number.cast_signed())?;
-        Ok(Call::Add(number.cast_signed()))
+        self.called.push(number.cast_signed()).expect(rt, "memory");
+        Call::Add(number.cast_signed())
     }
 
     /// The operation takes effect, unless it fails or crashes.
-    fn act(&mut self, process: u64, call: Call) -> Result<(Client, Option<Event>), OutOfMemory> {
+    fn act(&mut self, rt: &impl Abort, process: u64, call: Call) -> (Client, Option<Event>) {
         if self.draw.below(self.crash) == 0 {
-            return Ok((Client::Gone, Some(info(process, call.name()))));
+            return (Client::Gone, Some(info(process, call.name())));
         }
         let Call::Add(number) = call else {
-            return Ok((Client::Reading(self.held.len()), None));
+            return (Client::Reading(self.held.len()), None);
         };
         if self.draw.below(self.refusal) == 0 {
-            return Ok((Client::Idle, Some(fail(process, Name::Add))));
+            return (Client::Idle, Some(fail(process, Name::Add)));
         }
         if !self.held.contains(&number) {
-            self.held.push(number)?;
+            self.held.push(number).expect(rt, "memory");
         }
-        Ok((Client::Growing, None))
+        (Client::Growing, None)
     }
 
     /// The operation, which took effect, returns, unless it crashes.
@@ -306,7 +273,7 @@ impl Source {
 
     /// What a read returns that found the set when so many numbers were in. If it is wrong of one, it has that where it was not in, or the
     /// other way round.
-    fn members(&mut self, alloc: Global, count: usize) -> Result<IntSet, OutOfMemory> {
+    fn members(&mut self, rt: &impl Abort, alloc: Global, count: usize) -> IntSet {
         let mistaken = self.mistaken();
         let mut other = mistaken;
         let mut members = IntSet::new(alloc);
@@ -314,39 +281,40 @@ impl Source {
             if Some(*number) == mistaken {
                 other = None;
             } else {
-                members.insert(*number)?;
+                members.insert(*number).expect(rt, "memory");
             }
         }
         if let Some(number) = other {
-            members.insert(number)?;
+            members.insert(number).expect(rt, "memory");
         }
-        Ok(members)
+        members
     }
 
     /// What the client does next, and the event of it, if there is one.
     fn step(
         &mut self,
+        rt: &impl Abort,
         alloc: Global,
         process: u64,
         client: Client,
-    ) -> Result<(Client, Option<Event>), OutOfMemory> {
+    ) -> (Client, Option<Event>) {
         match client {
             Client::Idle => {
-                let call = self.call()?;
-                Ok((Client::Waiting(call), Some(invoke(process, call))))
+                let call = self.call(rt);
+                (Client::Waiting(call), Some(invoke(process, call)))
             }
-            Client::Waiting(call) => self.act(process, call),
-            Client::Growing => Ok(self.finish(process, Name::Add, Reply::Done)),
+            Client::Waiting(call) => self.act(rt, process, call),
+            Client::Growing => self.finish(process, Name::Add, Reply::Done),
             Client::Reading(count) => {
-                let members = self.members(alloc, count)?;
-                Ok(self.finish(process, Name::Read, Reply::Members(members)))
+                let members = self.members(rt, alloc, count);
+                self.finish(process, Name::Read, Reply::Members(members))
             }
-            Client::Gone => Ok((Client::Gone, None)),
+            Client::Gone => (Client::Gone, None),
         }
     }
 
     /// So many steps of the clients, each at any time: a call, its effect, or its return.
-    fn history(&mut self, alloc: Global, steps: usize) -> Result<Vec<Event>, OutOfMemory> {
+    fn history(&mut self, rt: &impl Abort, alloc: Global, steps: usize) -> Vec<Event> {
         let mut events = Vec::new(alloc);
         let mut clients = [Client::Idle; 14];
         for _ in 0..steps {
@@ -355,20 +323,20 @@ impl Source {
                 .get(process as usize)
                 .copied()
                 .unwrap_or(Client::Gone);
-            let (next, event) = self.step(alloc, process, client)?;
+            let (next, event) = self.step(rt, alloc, process, client);
             if let Some(place) = clients.get_mut(process as usize) {
                 *place = next;
             }
             if let Some(event) = event {
-                events.push(event)?;
+                events.push(event).expect(rt, "memory");
             }
         }
-        Ok(events)
+        events
     }
 }
 
 /// A history of 14 clients.
-fn large_history(alloc: Global, seed: u64, wrong: u64) -> Result<Vec<Event>, OutOfMemory> {
+fn large_history(rt: &impl Abort, alloc: Global, seed: u64, wrong: u64) -> Vec<Event> {
     let mut source = Source {
         draw: Draw { seed },
         clients: 14,
@@ -380,11 +348,11 @@ fn large_history(alloc: Global, seed: u64, wrong: u64) -> Result<Vec<Event>, Out
         called: Vec::new(alloc),
         held: Vec::new(alloc),
     };
-    source.history(alloc, 500)
+    source.history(rt, alloc, 500)
 }
 
 /// A history of four clients, in which one read of four is wrong.
-fn small_history(alloc: Global, seed: u64, range: u64) -> Result<Vec<Event>, OutOfMemory> {
+fn small_history(rt: &impl Abort, alloc: Global, seed: u64, range: u64) -> Vec<Event> {
     let mut source = Source {
         draw: Draw { seed },
         clients: 4,
@@ -396,85 +364,74 @@ fn small_history(alloc: Global, seed: u64, range: u64) -> Result<Vec<Event>, Out
         called: Vec::new(alloc),
         held: Vec::new(alloc),
     };
-    source.history(alloc, 40)
+    source.history(rt, alloc, 40)
 }
 
 #[test]
-fn orders_of_sets_are_found(rt: HostRuntime) -> Result<(), Fail> {
+fn orders_of_sets_are_found(rt: HostRuntime) {
     let alloc = rt.alloc();
     for seed in 0..30 {
-        let events = large_history(alloc, seed, 0)?;
-        assert!(rt; is_found(alloc, &events)?);
+        let events = large_history(&rt, alloc, seed, 0);
+        assert!(rt; is_found(&rt, alloc, Kind::Set, &events));
     }
-    Ok(())
 }
 
 /// Where each number is added once and some reads are wrong.
 #[test]
-fn orders_or_failures_of_sets_are_found(rt: HostRuntime) -> Result<(), Fail> {
+fn orders_or_failures_of_sets_are_found(rt: HostRuntime) {
     let alloc = rt.alloc();
     let mut failures: u64 = 0;
     for seed in 0..30 {
-        let events = large_history(alloc, seed, 20)?;
-        let is_failing = failing(alloc, &events)?.is_some();
-        assert!(rt; is_found(alloc, &events)? != is_failing);
+        let events = large_history(&rt, alloc, seed, 20);
+        let is_failing = failing(&rt, alloc, Kind::Set, &events).is_some();
+        assert!(rt; is_found(&rt, alloc, Kind::Set, &events) != is_failing);
         if is_failing {
             failures = failures.saturating_add(1);
         }
     }
     assert!(rt; 5 < failures && failures < 25);
-    Ok(())
-}
-
-/// Whether so many events, the first ones, have a legal order, if frontiers tell.
-fn told(alloc: Global, events: &[Event], count: usize) -> Result<Option<bool>, OutOfMemory> {
-    let first = &events[..count.min(events.len())];
-    let (came, _) = walked(alloc, Kind::Set, first, AMPLE)?;
-    Ok(match came {
-        Came::Sound(_) => Some(true),
-        Came::Empty => Some(false),
-        Came::Unsound(_) | Came::Over | Came::OverBefore => None,
-    })
 }
 
 /// Of small histories, in which numbers are added several times, an order is found where frontiers tell that there is one.
 #[test]
-fn orders_are_found_where_frontiers_go_on(rt: HostRuntime) -> Result<(), Fail> {
+fn orders_are_found_where_frontiers_go_on(rt: HostRuntime) {
     let alloc = rt.alloc();
     let mut failures: u64 = 0;
     for seed in 0..200 {
-        let events = small_history(alloc, seed, 6)?;
-        let is_linearizable = is_found(alloc, &events)?;
-        assert!(rt; told(alloc, &events, usize::MAX)? == Some(is_linearizable));
+        let events = small_history(&rt, alloc, seed, 6);
+        let is_linearizable = is_found(&rt, alloc, Kind::Set, &events);
+        assert!(rt; told(&rt, alloc, Kind::Set, &events, usize::MAX) == Some(is_linearizable));
         if !is_linearizable {
             failures = failures.saturating_add(1);
         }
     }
     assert!(rt; 30 < failures && failures < 150);
-    Ok(())
 }
 
 /// Whether the event at which the set fails is found, if frontiers tell of one; and whether there is one.
-fn fails_where_told(alloc: Global, events: &[Event]) -> Result<(bool, bool), OutOfMemory> {
-    match failing(alloc, events)? {
+fn fails_where_told(rt: &impl Abort, alloc: Global, events: &[Event]) -> (bool, bool) {
+    match failing(rt, alloc, Kind::Set, events) {
         Some(at) => {
-            let before = told(alloc, events, at)?;
-            let with = told(alloc, events, at.saturating_add(1))?;
-            Ok((before == Some(true) && with == Some(false), true))
+            let before = told(rt, alloc, Kind::Set, events, at);
+            let with = told(rt, alloc, Kind::Set, events, at.saturating_add(1));
+            (before == Some(true) && with == Some(false), true)
         }
-        None => Ok((told(alloc, events, usize::MAX)? == Some(true), false)),
+        None => (
+            told(rt, alloc, Kind::Set, events, usize::MAX) == Some(true),
+            false,
+        ),
     }
 }
 
 /// Where each number is added once, and where numbers are added several times, and some of these adds fail.
 #[test]
-fn failures_are_found_where_frontiers_end(rt: HostRuntime) -> Result<(), Fail> {
+fn failures_are_found_where_frontiers_end(rt: HostRuntime) {
     let alloc = rt.alloc();
     for range in [0, 3, 6] {
         let mut failures: u64 = 0;
         for seed in 0..100 {
-            let events = small_history(alloc, seed, range)?;
-            let (is_right, is_failing) = fails_where_told(alloc, &events)?;
+            let events = small_history(&rt, alloc, seed, range);
+            let (is_right, is_failing) = fails_where_told(&rt, alloc, &events);
             assert!(rt; is_right);
             if is_failing {
                 failures = failures.saturating_add(1);
@@ -482,5 +439,4 @@ fn failures_are_found_where_frontiers_end(rt: HostRuntime) -> Result<(), Fail> {
         }
         assert!(rt; 10 < failures && failures < 90);
     }
-    Ok(())
 }

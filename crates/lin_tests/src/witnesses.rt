@@ -1,11 +1,11 @@
 //! Legal orders of registers with many clients, found though they have too many configurations to be kept.
-use crate::drawn::Draw;
+use crate::drawn::{Draw, is_found};
 use crate::events::{fail, info, invoke, ok, write};
 use lin_chain::finds_order;
-use lin_history::{Call, Event, Name, OutOfMemory, Reply, Val};
+use lin_history::{Call, Event, Name, Reply, Val};
 use lin_objects::Kind;
 use std::alloc::Global;
-use std::test::Fail;
+use std::process::Abort;
 
 /// What a client of a register is about.
 #[derive(Clone, Copy)]
@@ -51,13 +51,40 @@ fn take_effect(call: Call, held: &mut Val) -> Client {
     }
 }
 
-/// So many steps of 14 clients on a register, each at any time: a call, its effect, or its return. One write in 60 crashes after its effect.
+/// What the client does next, and the event of it, if there is one. One write in 60 crashes after its effect.
+fn step(
+    kind: Kind,
+    process: u64,
+    client: Client,
+    held: &mut Val,
+    draw: &mut Draw,
+) -> (Client, Option<Event>) {
+    match client {
+        Client::Idle => {
+            let call = call(kind, draw);
+            (Client::Waiting(call), Some(invoke(process, call)))
+        }
+        Client::Waiting(call) => (take_effect(call, held), None),
+        Client::Found(value) => {
+            let reply = Reply::Value(value);
+            (Client::Idle, Some(ok(process, Name::Read, reply)))
+        }
+        Client::Written if draw.below(60) == 0 => (Client::Gone, Some(info(process, Name::Write))),
+        Client::Written => (Client::Idle, Some(ok(process, Name::Write, Reply::Done))),
+        Client::Swapped => (Client::Idle, Some(ok(process, Name::Cas, Reply::Done))),
+        Client::Missed => (Client::Idle, Some(fail(process, Name::Cas))),
+        Client::Gone => (Client::Gone, None),
+    }
+}
+
+/// So many steps of 14 clients on a register, each at any time: a call, its effect, or its return.
 fn history(
+    rt: &impl Abort,
     alloc: Global,
     kind: Kind,
     steps: usize,
     draw: &mut Draw,
-) -> Result<Vec<Event>, OutOfMemory> {
+) -> Vec<Event> {
     let mut events = Vec::new(alloc);
     let mut clients = [Client::Idle; 14];
     let mut held = Val::Nil;
@@ -66,70 +93,40 @@ fn history(
         let Some(client) = clients.get_mut(process as usize) else {
             continue;
         };
-        *client = match *client {
-            Client::Idle => {
-                let call = call(kind, draw);
-                events.push(invoke(process, call))?;
-                Client::Waiting(call)
-            }
-            Client::Waiting(call) => take_effect(call, &mut held),
-            Client::Found(value) => {
-                events.push(ok(process, Name::Read, Reply::Value(value)))?;
-                Client::Idle
-            }
-            Client::Written if draw.below(60) == 0 => {
-                events.push(info(process, Name::Write))?;
-                Client::Gone
-            }
-            Client::Written => {
-                events.push(ok(process, Name::Write, Reply::Done))?;
-                Client::Idle
-            }
-            Client::Swapped => {
-                events.push(ok(process, Name::Cas, Reply::Done))?;
-                Client::Idle
-            }
-            Client::Missed => {
-                events.push(fail(process, Name::Cas))?;
-                Client::Idle
-            }
-            Client::Gone => Client::Gone,
-        };
+        let (next, event) = step(kind, process, *client, &mut held, draw);
+        *client = next;
+        if let Some(event) = event {
+            events.push(event).expect(rt, "memory");
+        }
     }
-    Ok(events)
+    events
 }
 
 /// Of how many drawn histories an order is found.
-fn found(alloc: Global, kind: Kind, count: u64) -> Result<u64, OutOfMemory> {
+fn found(rt: &impl Abort, alloc: Global, kind: Kind, count: u64) -> u64 {
     let mut found: u64 = 0;
     for seed in 0..count {
-        let events = history(alloc, kind, 700, &mut Draw { seed })?;
-        let mut picks = Vec::new(alloc);
-        for at in 0..events.len() {
-            picks.push(at)?;
-        }
-        if finds_order(alloc, kind, &events, &picks) {
+        let events = history(rt, alloc, kind, 700, &mut Draw { seed });
+        if is_found(rt, alloc, kind, &events) {
             found = found.saturating_add(1);
         }
     }
-    Ok(found)
+    found
 }
 
 #[test]
-fn orders_of_reads_and_writes_are_found(rt: HostRuntime) -> Result<(), Fail> {
-    assert!(rt; found(rt.alloc(), Kind::Register, 20)? == 20);
-    Ok(())
+fn orders_of_reads_and_writes_are_found(rt: HostRuntime) {
+    assert!(rt; found(&rt, rt.alloc(), Kind::Register, 20) == 20);
 }
 
 #[test]
-fn orders_with_compare_and_set_are_found(rt: HostRuntime) -> Result<(), Fail> {
-    assert!(rt; found(rt.alloc(), Kind::CasRegister, 20)? == 20);
-    Ok(())
+fn orders_with_compare_and_set_are_found(rt: HostRuntime) {
+    assert!(rt; found(&rt, rt.alloc(), Kind::CasRegister, 20) == 20);
 }
 
 /// A read that returned what nobody wrote has no place in any order.
 #[test]
-fn none_is_found_for_a_value_that_nobody_wrote(rt: HostRuntime) -> Result<(), Fail> {
+fn none_is_found_for_a_value_that_nobody_wrote(rt: HostRuntime) {
     let events = [
         invoke(0, write(1)),
         invoke(1, Call::Read),
@@ -137,13 +134,11 @@ fn none_is_found_for_a_value_that_nobody_wrote(rt: HostRuntime) -> Result<(), Fa
     ];
     assert!(rt; !finds_order(rt.alloc(), Kind::Register, &events, &[0, 1, 2]));
     assert!(rt; finds_order(rt.alloc(), Kind::Register, &events, &[0, 1]));
-    Ok(())
 }
 
 /// Orders are looked for of registers alone.
 #[test]
-fn none_is_looked_for_of_a_lock(rt: HostRuntime) -> Result<(), Fail> {
+fn none_is_looked_for_of_a_lock(rt: HostRuntime) {
     let events = [invoke(0, Call::Acquire), ok(0, Name::Acquire, Reply::Done)];
     assert!(rt; !finds_order(rt.alloc(), Kind::Mutex, &events, &[0, 1]));
-    Ok(())
 }
