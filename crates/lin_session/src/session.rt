@@ -269,6 +269,7 @@ impl Session {
         ensures scans { self.new.meter.scans ≤ self.old.meter.scans + anew self.old.low (length self.old.present.history) }
         ensures marks { AreSameMarks (mark_of self.old.marks) (mark_of self.new.marks) }
         ensures steps { self.new.meter.steps ≡ self.old.meter.steps }
+        ensures ready { self.old.low ≡ None → IsOk result }
     {
         let shape = self
             .scan
@@ -297,6 +298,8 @@ impl Session {
         ensures marked { OnOk result (AreSameMarks (mark_of self.old.marks) (mark_of self.new.marks) ⊎ (IsWellFormed (functions_of (kinds_in self.old.present)) self.old.present.history → AreMarked (kinds_in self.old.present) self.old.present.budget self.old.present.history scope (mark_of self.old.marks) (mark_of self.new.marks))) }
         ensures unmarked { OnErr result (AreSameMarks (mark_of self.old.marks) (mark_of self.new.marks)) }
         ensures steps { self.new.meter.steps ≤ self.old.meter.steps + cost_in (mark_of self.old.marks) self.old.present.history scope }
+        ensures known { self.old.low ≡ None → (IsWellFormed (functions_of (kinds_in self.old.present)) self.old.present.history → ⊥) → IsOk result }
+        ensures ready { self.old.low ≡ None → IsNothingDue self.old.present.history scope (mark_of self.old.marks) → IsOk result }
     {
         if !is_counted(self.budget as usize)
             && let Some(verdict) = self.foreseen(alloc, scope)?

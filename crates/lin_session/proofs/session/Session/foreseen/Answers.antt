@@ -1,7 +1,9 @@
-use Rattle.std.proofs.Common.{sym, ap, length, subst, ◌∙◌}
+use Rattle.std.proofs.Common.{◌≡◌, None, sym, ap, length, subst, ◌∙◌}
 use Rattle.lin_history.specs.WellFormed.{IsShape}
 use Rattle.lin_objects.specs.Kinds.{functions_of, kind_of}
 use Rattle.lin_wellformed.specs.Scans.{IsRight, ready_count}
+use Rattle.lin_session.specs.Sessions.{Standing}
+use Rattle.lin_session.proofs.Found.{not_ok}
 use Rattle.lin_session.proofs.Low.{AreTakenIn-more}
 use Rattle.lin_session.specs.Objects.{AreRight}
 use Rattle.lin_session.proofs.Scanned.{up_to_bad, up_to_end}
@@ -31,6 +33,13 @@ invariant_of-self-in_err-split c =
 pub invariant_of-self-in_default : goal.invariant_of-self-in_default
 invariant_of-self-in_default c = up_to_bad _ _ _ _ _ c.self.invariant _ c.deref.ensures.value c.settle.ensures.right c.in_default.field-0 c.in_default.field-1 c.in_ok-shape.ensures.all
     (subst (IsShape (functions_of (kind_of c.self.inside.kinds)) c.deref.result.now) c.in_default.is c.in_ok-shape.ensures.shape)
+
+pub returns-in_err-split-clause-ready : goal.returns-in_err-split-clause-ready
+returns-in_err-split-clause-ready c = λ none.
+    let F = functions_of (kind_of c.self.inside.kinds) in
+    let low : c.self.inside.low ≡ None = ap (λ (s : Standing). s.low) c.self.view_is ∙ none in
+    let fine = subst (IsShape F c.self.inside.events.items) c.in-Good.is (subst (λ l. IsShape F l c.in_ok-shape.shape) c.deref.ensures.value c.in_ok-shape.ensures.shape) in
+    absurd (not_ok c.split.result c.in_err-split.field-0.0 c.in_err-split.was (c.split.ensures.settled (c.self.invariant.apart low fine ∙ ap length (sym c.deref-2.ensures.value))))
 
 pub foreseen-verdict-requires-clause-right : goal.foreseen-verdict-requires-clause-right
 foreseen-verdict-requires-clause-right c =
