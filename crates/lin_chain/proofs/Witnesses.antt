@@ -16,7 +16,7 @@ use Rattle.lin_order.specs.declared.placed.Placed.{Placed}
 use Rattle.lin_order.specs.Linearizable.{IsLegalOrder, IsRun}
 use Rattle.lin_order.specs.Orders.{IsCall, is_of_key, part_of}
 use Rattle.lin_order.specs.Parts.{events_at}
-use Rattle.lin_chain.specs.Replays.{IsLinearizableAs}
+use Rattle.lin_chain.specs.Replays.{IsLegalOrderAs}
 
 -- a test that holds of all elements keeps the list
 kept_all : {X : Type 0} (p : X → Bool) (xs : List X) → All (λ x. p x ≡ true) xs → filter p xs ≡ xs
@@ -33,11 +33,11 @@ of_key key h all at call is =
     ap (λ o. option_map_or (λ (e : Event). int_eq e.key key) o false) is.2 ∙ (Decides-int_eq is.1 key).1 same
 
 -- so the whole order is the part of it that is of the key
-pub shown : (kind : Kind) (key : ℤ) (h : List Event) (order : List Placed) → All (λ event. event.key ≡ key) h → IsLegalOrder (kind_of (same_for_all kind)) h order → IsLinearizableAs kind h
-shown kind key h order all legal =
+pub legal_as : (kind : Kind) (key : ℤ) (h : List Event) (order : List Placed) → All (λ event. event.key ≡ key) h → IsLegalOrder (kind_of (same_for_all kind)) h order → IsLegalOrderAs kind h order
+legal_as kind key h order all legal =
     let whole : part_of h key order ≡ order = kept_all (λ (p : Placed). is_of_key h key p.at) order
     (λ k d within. let p = legal.order_of.operations k d within in of_key key h all (get_or order k d).at p.0 p.1) in
-    (order, record { order_of = legal.order_of; legal = subst (IsRun (start kind) (Step kind) h) whole (legal.legal key) })
+    record { order_of = legal.order_of; legal = subst (IsRun (start kind) (Step kind) h) whole (legal.legal key) }
 
 -- the events at one place more
 pub one_more : (h : List Event) (picks : List ℕ) (k d : ℕ) → k < length picks → events_at h (take (k + 1) picks) ≡ events_at h (take k picks) ++ events_at h (get_or picks k d ∷ [])

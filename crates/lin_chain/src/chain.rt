@@ -1,5 +1,5 @@
 //! One object's frontiers over its events, kept right while the events are edited.
-ghost use Rattle.std.specs.Prelude.{◌≡◌, ◌≢◌, ◌≤◌, ◌<◌, ◌+◌, ◌-◌, ◌*◌, ◌/◌, ◌⊎◌, ℕ, ℤ, Bool, List, All, AllPairs, IfOk, OnOk, IsOk, MatchOption, length, take, IsTrue, OnErr, ◌↔◌, Ok, Err, min};
+ghost use Rattle.std.specs.Prelude.{◌≡◌, ◌≢◌, ◌≤◌, ◌<◌, ◌+◌, ◌-◌, ◌*◌, ◌/◌, ◌⊎◌, ℕ, ℤ, Bool, List, All, AllPairs, IfOk, OnOk, IsOk, MatchOption, length, take, IsTrue, OnErr, ◌↔◌, Ok, Err, None, min, true};
 ghost use Rattle.lin_history.specs.declared.calls.Name.{Name as NameOf};
 ghost use Rattle.lin_history.specs.declared.events.Event.{Event as EventOf};
 ghost use Rattle.lin_history.specs.Operations.{IsEvent};
@@ -169,10 +169,45 @@ impl Chain {
         self.retry(budget);
         if self.end.is_alive() {
             let mut scratch = self.replay.scratch();
-            self.go_on(events, picks, budget, meter, &mut scratch)?;
+            self.go_on(events, picks, budget, None, meter, &mut scratch)?;
         }
         self.ready = picks.len();
         Ok(self.end)
+    }
+
+    /// Takes in some more of the object's events, as long as the meter counts fewer tries than these, and so few operations are open that
+    /// the next event seldom takes more than what is left of them.
+    ///
+    /// Asks what `settle` asks, and counts steps as it does. What it leaves `settle` takes in later. So whoever can do without frontiers
+    /// takes in no more events than these tries are worth.
+    pub fn take_some(
+        &mut self,
+        events: &[Event],
+        picks: &[usize],
+        budget: u32,
+        tries: u64,
+        meter: &mut Meter,
+    ) -> Result<(), OutOfMemory>
+        requires right { IsRight self.old (events_at events.now picks.now) }
+        requires inside { All (λ at. at < length events.now) picks.now }
+        requires well_formed { (functions : ℤ → NameOf → Bool) × IsWellFormed functions (events_at events.now picks.now) }
+        ensures kind { kind_in self.new ≡ kind_in self.old }
+        ensures right { IsRight self.new (events_at events.now picks.now) }
+        ensures under { (end_under budget self.new ≡ end_in self.new) × (ready_under budget self.new ≡ ready_count self.new) }
+        ensures no_less { ready_under budget self.old ≤ ready_count self.new }
+        ensures remains { (other : ℕ) → min (ready_under budget self.old) (ready_under other self.old) ≤ ready_under other self.new }
+        ensures settled { ready_under budget self.old ≡ length picks.now → IsOk result }
+        ensures stays { end_under budget self.old ≢ End.Alive → end_in self.new ≡ end_under budget self.old }
+        ensures steps { meter.new.steps ≤ meter.old.steps + (length picks.now - ready_under budget self.old) }
+        ensures progress { OnOk result (meter.new.steps + ready_under budget self.old ≤ meter.old.steps + ready_count self.new) }
+        ensures scans { meter.new.scans ≡ meter.old.scans }
+    {
+        self.retry(budget);
+        if self.end.is_alive() {
+            let mut scratch = self.replay.scratch();
+            self.go_on(events, picks, budget, Some(tries), meter, &mut scratch)?;
+        }
+        Ok(())
     }
 
     /// Where the chain is over for a smaller budget, it is alive again with the events that are known.
@@ -192,12 +227,13 @@ impl Chain {
         }
     }
 
-    /// Takes in the rest of the events, up to one at which the chain is dead or over.
+    /// Takes in the rest of the events, up to one at which the chain is dead or over, or those that so many tries are worth.
     fn go_on(
         &mut self,
         events: &[Event],
         picks: &[usize],
         budget: u32,
+        tries: Option<u64>,
         meter: &mut Meter,
         scratch: &mut Scratch<Any>,
     ) -> Result<(), OutOfMemory>
@@ -208,14 +244,18 @@ impl Chain {
         ensures kind { kind_in self.new ≡ kind_in self.old }
         ensures right { IsRight self.new (events_at events.now picks.now) }
         ensures no_less { ready_count self.old ≤ ready_count self.new }
-        ensures all { OnOk result (end_in self.new ≡ End.Alive → ready_count self.new ≡ length picks.now) }
+        ensures all { OnOk result (tries ≡ None → end_in self.new ≡ End.Alive → ready_count self.new ≡ length picks.now) }
         ensures found { IsFrom (ready_count self.old) (end_in self.new) }
         ensures over { (at : ℕ) → end_in self.new ≡ End.Over at → (self.new.budget ≡ budget) × (ready_count self.old ≤ self.new.replay.reached) }
         ensures settled { ready_count self.old ≡ length picks.now → IsOk result }
         ensures steps { meter.new.steps ≤ meter.old.steps + (length picks.now - ready_count self.old) }
+        ensures progress { OnOk result (meter.new.steps + ready_count self.old ≤ meter.old.steps + ready_count self.new) }
         ensures scans { meter.new.scans ≡ meter.old.scans }
     {
-        while self.end.is_alive() && self.replay.reached < picks.len() {
+        while self.end.is_alive()
+            && self.replay.reached < picks.len()
+            && is_worth(meter, tries, self.replay.open())
+        {
             let event = &events[picks[self.replay.reached]];
             self.take_in(event, budget, meter, scratch)?;
         }
@@ -307,5 +347,19 @@ impl End {
         ensures { IsTrue result ↔ (self ≡ End.Alive) }
     {
         matches!(self, End::Alive)
+    }
+}
+
+/// Whether one more event is worth the tries that are left, if there is a limit, while so many operations are open: each set of these may
+/// have been placed, and each other one may come next.
+fn is_worth(meter: &Meter, tries: Option<u64>, open: usize) -> bool
+    ensures { tries ≡ None → result ≡ true }
+{
+    match tries {
+        None => true,
+        Some(tries) => {
+            let ways = (open as u64).saturating_mul(1 << open.min(32));
+            ways < tries.saturating_sub(meter.tries())
+        }
     }
 }

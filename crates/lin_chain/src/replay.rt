@@ -103,6 +103,14 @@ impl Replay {
         self.checkpoints.len() + usize::from(self.present.is_some())
     }
 
+    /// How many operations are open after the events that are known.
+    pub(crate) fn open(&self) -> usize {
+        match (&self.present, self.checkpoints.last()) {
+            (None, Some(last)) => last.crashed.saturating_add(last.live.len()),
+            _ => self.pending.as_slice().len(),
+        }
+    }
+
     /// Forgets all events, for an object of another kind.
     pub(crate) fn restart(&mut self, kind: Kind)
         ensures kind { self.new.object.kind ≡ kind }

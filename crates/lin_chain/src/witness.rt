@@ -2,7 +2,7 @@
 ghost use Rattle.std.specs.Prelude.{◌≡◌, ◌∷◌, ◌++◌, [], ℤ, All, IfOk, IfSome, IsTrue, OnOk};
 ghost use Rattle.lin_order.specs.Parts.{events_at};
 ghost use Rattle.lin_chain.specs.Ends.{IsDeadAt};
-ghost use Rattle.lin_chain.specs.Replays.{IsLinearizableAs};
+ghost use Rattle.lin_chain.specs.Replays.{IsLegalOrderAs, IsLinearizableAs};
 
 use crate::acts::Acts;
 use crate::attempts::Attempt;
@@ -95,46 +95,55 @@ fn are_of(events: &[Event], key: i64) -> bool
     true
 }
 
-/// Whether a search finds an order of the events of an object of the kind, which all are of one key, and it is a legal one.
-fn is_shown(alloc: Global, kind: Kind, events: &[Event]) -> Result<bool, OutOfMemory>
-    ensures { IfOk result (λ shown. IsTrue shown → IsLinearizableAs kind events.now) }
+/// A legal order of the events of an object of the kind, which all are of one key, if a search finds one.
+fn shown(alloc: Global, kind: Kind, events: &[Event]) -> Result<Option<Vec<Placed>>, OutOfMemory>
+    ensures { IfOk result (λ found. IfSome found (λ order. IsLegalOrderAs kind events.now order.items)) }
 {
     let key = events.first().map_or(0, |event| event.key);
     if !are_of(events, key) {
-        return Ok(false);
+        return Ok(None);
     }
     let Some(order) = attempted(alloc, kind, events)? else {
-        return Ok(false);
+        return Ok(None);
     };
-    check_order(alloc, events, &Kinds::new(alloc, kind), &order)
+    let is_legal = check_order(alloc, events, &Kinds::new(alloc, kind), &order)?;
+    if !is_legal {
+        return Ok(None);
+    }
+    Ok(Some(order))
 }
 
 /// The same of the events at the places.
-fn is_shown_of(
+fn shown_of(
     alloc: Global,
     kind: Kind,
     events: &[Event],
     picks: &[usize],
-) -> Result<bool, OutOfMemory>
-    ensures { IfOk result (λ shown. IsTrue shown → IsLinearizableAs kind (events_at events.now picks.now)) }
+) -> Result<Option<Vec<Placed>>, OutOfMemory>
+    ensures { IfOk result (λ found. IfSome found (λ order. IsLegalOrderAs kind (events_at events.now picks.now) order.items)) }
 {
     let own = picked(alloc, events, picks)?;
-    is_shown(alloc, kind, own.as_slice())
+    shown(alloc, kind, own.as_slice())
 }
 
-/// Whether a legal order of the events at the places was found, which all are of one key. Of events of several keys none is.
+/// A legal order of the events at the places, which all are of one key, if one is found. Of events of several keys none is.
 ///
 /// Orders of registers, of sets, and of queues in which no number is put twice, are looked for. Takes time and memory linear in the events,
 /// apart from how many operations are open at a time, from the time to sort them, and from what reads of sets found. Where memory is
-/// refused none is found.
-pub fn finds_order(alloc: Global, kind: Kind, events: &[Event], picks: &[usize]) -> bool
-    ensures { IsTrue result → IsLinearizableAs kind (events_at events.now picks.now) }
+/// refused none is found. The order names operations by their places among these events.
+pub fn finds_order(
+    alloc: Global,
+    kind: Kind,
+    events: &[Event],
+    picks: &[usize],
+) -> Option<Vec<Placed>>
+    ensures { IfSome result (λ order. IsLegalOrderAs kind (events_at events.now picks.now) order.items) }
 {
     match kind {
         Kind::Register | Kind::CasRegister | Kind::Fifo | Kind::Set => {
-            is_shown_of(alloc, kind, events, picks).unwrap_or(false)
+            shown_of(alloc, kind, events, picks).unwrap_or(None)
         }
-        Kind::Mutex => false,
+        Kind::Mutex => None,
     }
 }
 
@@ -201,9 +210,9 @@ fn failing(alloc: Global, kind: Kind, events: &[Event]) -> Result<Option<usize>,
     if !is_refuted_as(kind, &events[..at + 1], &reason) {
         return Ok(None);
     }
-    if !is_shown(alloc, kind, &events[..at])? {
+    let Some(_) = shown(alloc, kind, &events[..at])? else {
         return Ok(None);
-    }
+    };
     Ok(Some(at))
 }
 

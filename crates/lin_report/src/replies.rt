@@ -95,11 +95,15 @@ pub fn answered(alloc: Global, verdict: Verdict) -> Result<Reply, OutOfMemory>
     })
 }
 
+/// How many calls are tried for each event that came since, before an order of a queue or a set is looked for. A search takes less time
+/// than a try of each, and what was taken in stays so for the next question.
+const PATIENCE: u64 = 1;
+
 /// What is found for the scope.
 fn ask(alloc: Global, session: &mut Session, scope: Scope) -> Result<Reply, OutOfMemory>
     ensures { IfOk result (λ reply. IsCommandReply (Command.Ask scope) session.old.present session.new.present reply.text.items reply.status) }
 {
-    let verdict = session.judge(alloc, scope)?;
+    let verdict = session.decide(alloc, scope, PATIENCE)?;
     answered(alloc, verdict)
 }
 
@@ -121,7 +125,7 @@ fn order_words(alloc: Global, answer: &Answer) -> Result<Vec<u8>, OutOfMemory>
 fn order(alloc: Global, session: &mut Session, scope: Scope) -> Result<Reply, OutOfMemory>
     ensures { IfOk result (λ reply. IsCommandReply (Command.Order scope) session.old.present session.new.present reply.text.items reply.status) }
 {
-    let answer = session.ask(alloc, scope)?;
+    let answer = session.order(alloc, scope, PATIENCE)?;
     let mut text = order_words(alloc, &answer)?;
     text.push(b'\n')?;
     Ok(Reply {

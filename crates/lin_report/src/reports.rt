@@ -76,7 +76,7 @@ fn object_line(
     let kind = session.kind_of(key);
     let verdict = match known {
         Some(verdict) => verdict,
-        None => session.decide(alloc, Scope::Object(key))?,
+        None => session.decide(alloc, Scope::Object(key), 0)?,
     };
     let mut line = name_words(alloc, key, kind)?;
     line.extend_from_slice(verdict_words(alloc, verdict)?.as_slice())?;
@@ -163,7 +163,7 @@ pub fn report(alloc: Global, session: &mut Session) -> Result<Answered, OutOfMem
     ensures present { session.new.present ≡ session.old.present }
 {
     let keys = session.objects(alloc)?;
-    let whole = session.decide(alloc, Scope::Whole)?;
+    let whole = session.decide(alloc, Scope::Whole, 0)?;
     let mut text = counts_line(alloc, session.len(), keys.len())?;
     put_lines(alloc, session, keys.as_slice(), whole, &mut text)?;
     text.extend_from_slice(whole_line(alloc, whole)?.as_slice())?;

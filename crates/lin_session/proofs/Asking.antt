@@ -134,6 +134,12 @@ module _ (spell : PositionsSpellParts) (kinds : ℤ → Kind) (budget : ℕ) (h 
       let law = renames (functions_of kinds) kinds key h old.picks.items inner (renamed old.picks.items inner) fine picked outer in
       subst (IsLegalOrderFor kinds key h) (sym is_renamed) (law.legal.0 legal)
 
+  -- and one of its events as the chain has them
+  pub order_told : RenamedOrdersAreLegal → OrdersCanBeRenamed → IsWellFormed (functions_of kinds) h → (order : List Placed)
+      → IsOrderIn (IsLegalOrderAs (kind_in old.chain) (events_at h old.picks.items)) old.picks.items order → IsLegalOrderFor kinds key h order
+  order_told renames can fine order told = order_of renames can fine order
+      (subst (λ k. IsOrderIn (IsLegalOrderAs k (part key h)) old.picks.items order) is.kind (subst (λ l. IsOrderIn (IsLegalOrderAs (kind_in old.chain) l) old.picks.items order) spelled told))
+
 -- an end that tells nothing is alive
 pub finds_alive : (picks : List ℕ) (end : End) (found : Option ℕ × Option ℕ) → Finds picks end found → found.0 ≡ None → found.1 ≡ None → end ≡ Alive
 finds_alive picks Alive found told none_failing none_over = refl
@@ -169,17 +175,3 @@ untold None (Some at) told t is_yes = absurd (cc (sym t ∙ is_yes))
 untold (Some n) None told t is_yes = absurd (cc (sym t ∙ is_yes))
 untold (Some n) (Some at) told (inl t) is_yes = absurd (cc (sym t.1 ∙ is_yes))
 untold (Some n) (Some at) told (inr t) is_yes = absurd (cc (sym t.1 ∙ is_yes))
-
-module _ (spell : PositionsSpellParts) (kinds : ℤ → Kind) (budget : ℕ) (h : List Event) (split : ℕ) (key : ℤ) (o : Object) (all : split ≡ length h) (is : IsObject kinds budget h split key o) where
-  part_length : length (part key h) ≡ length o.picks.items
-  part_length = sym (spell key h o.picks.items (whole_picked kinds budget h split key o all is)).length_of
-
-  -- a history for which its chain is right
-  pub right_for : (h' : List Event) × IsRight o.chain h' × (length h' ≡ length o.picks.items)
-  right_for = (part key h, is.right, part_length)
-
-  pub order_told : RenamedOrdersAreLegal → OrdersCanBeRenamed → IsWellFormed (functions_of kinds) h → (order : List Placed)
-      → ((h' : List Event) → IsRight o.chain h' → length h' ≡ length o.picks.items → IsOrderIn (IsLegalOrderAs (kind_in o.chain) h') o.picks.items order) → IsLegalOrderFor kinds key h order
-  order_told renames can fine order told =
-      order_of spell kinds budget h split key o all is renames can fine order
-      (subst (λ k. IsOrderIn (IsLegalOrderAs k (part key h)) o.picks.items order) is.kind (told (part key h) is.right part_length))

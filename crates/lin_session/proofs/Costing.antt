@@ -1,5 +1,5 @@
 -- What it costs to judge the first of some objects.
-use Rattle.std.proofs.Common.{◌≡◌, ◌+◌, ◌-◌, ◌≤◌, ℕ, zero, suc, ℤ, List, [], ◌∷◌, Option, None, Some, length, slice_get, take, inl, inr, refl, sym, ◌∙◌, arith, ap}
+use Rattle.std.proofs.Common.{◌≡◌, ◌+◌, ◌-◌, ◌≤◌, ℕ, zero, suc, ℤ, List, [], ◌∷◌, Option, None, Some, length, slice_get, get_or, take, inl, inr, refl, sym, ◌∙◌, arith, ap}
 use Rattle.std.specs.List.{sum_by}
 use Rattle.std.proofs.lemmas.Bool.{cases_lt}
 use Rattle.lin_history.specs.declared.events.Event.{Event}
@@ -11,15 +11,17 @@ use Rattle.lin_session.specs.declared.answers.Scope.{Scope}
 use Rattle.lin_session.specs.declared.answers.Scope.TheVariants as scope
 use Rattle.lin_session.specs.declared.work.Mark.{Mark}
 use Rattle.lin_session.specs.Marks.{IsNothingDue, IsOf}
-use Rattle.lin_session.specs.Objects.{AreKept, listed_marks, stands_for}
+use Rattle.lin_session.specs.Objects.{AreKept, AreRight, listed_marks, marks_in, split_in, stands_for}
+use Rattle.lin_session.specs.declared.kept.Objects.{Objects}
 use Rattle.lin_session.specs.Work.{AreSameMarks, anew, cost, cost_in, keys_of, mark_of}
 use Rattle.lin_session.proofs.Asking.{whole_picked}
 use Rattle.lin_session.proofs.Listed.{mark_listed}
-use Rattle.lin_session.proofs.Lists.{one_place}
+use Rattle.lin_session.proofs.Lists.{element_at, one_place}
+use Rattle.std.proofs.lemmas.Option.{slice_get-get_or}
 use Rattle.lin_session.proofs.Marking.{ready_at_most}
 use Rattle.lin_session.proofs.Sums.{in_keys, sum_head, sum_within}
 use Rattle.lin_session.specs.declared.kept.Object.{Object}
-use Rattle.lin_session.specs.Costs.{IsSettled, cost_of, cost_of_all}
+use Rattle.lin_session.specs.Costs.{AreSettled, IsCost, IsSettled, cost_of, cost_of_all}
 
 -- one more costs as much more
 pub cost-next : (budget : ℕ) (objects : List Object) (i : ℕ) (object : Object) → slice_get objects i ≡ Some object
@@ -92,3 +94,18 @@ module _ (spell : PositionsSpellParts) (kinds : ℤ → Kind) (budget : ℕ) (h 
             omega (arith, picks, most, is.right.within, ready, due)
         | inr none ↦ omega (arith, picks, most, is.right.within, none)
       ]
+
+-- so a question costs no more than what is due, and nothing where nothing is
+module _ (spell : PositionsSpellParts) (kinds : ℤ → Kind) (budget : ℕ) (h : List Event) (s : Objects) (kept : AreRight s kinds budget h) (all : split_in s ≡ length h) (marks : ℤ → Mark) (same : AreSameMarks marks (marks_in s)) where
+  pub scope_cost : (asked : Scope) → IsCost budget s asked (cost_in marks h asked)
+  scope_cost (scope.Object key) = λ i o key_at o_at. listed_cost spell kinds budget h s.split s.keys.keys s.objects.items kept s.aligned all marks same i key o key_at o_at
+  scope_cost scope.Whole = whole_cost spell kinds budget h s.split s.keys.keys s.objects.items kept s.aligned all marks same
+
+  settled_one : (asked : Scope) → IsNothingDue h asked marks → (i : ℕ) (key : ℤ) (o : Object) → IsOf asked key → slice_get s.keys.keys i ≡ Some key → slice_get s.objects.items i ≡ Some o → IsSettled budget o
+  settled_one = settled_there spell kinds budget h s.split s.keys.keys s.objects.items kept s.aligned all marks same
+
+  pub scope_settled : (asked : Scope) → IsNothingDue h asked marks → AreSettled budget s asked
+  scope_settled (scope.Object key) nothing = λ i o key_at o_at. settled_one (scope.Object key) nothing i key o refl key_at o_at
+  scope_settled scope.Whole nothing = λ i d within.
+      let key = element_at s.keys.keys i (omega (arith, within, s.aligned)) in
+      settled_one scope.Whole nothing i key.0 (get_or s.objects.items i d) tt key.1 (slice_get-get_or s.objects.items i d within)

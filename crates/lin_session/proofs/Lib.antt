@@ -24,3 +24,4 @@ pub mod Overs
 pub mod Listed
 pub mod Touching
 pub mod Scanned
+pub mod Advancing

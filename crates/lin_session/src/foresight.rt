@@ -19,7 +19,7 @@ use std::alloc::Global;
 
 /// Whether searches are asked before the chain of an object of the kind: of the others, frontiers have fewer members, or a search
 /// seldom tells more.
-fn is_searched_first(kind: Kind) -> bool {
+pub(crate) fn is_searched_first(kind: Kind) -> bool {
     matches!(kind, Kind::Fifo | Kind::Set)
 }
 

@@ -2,11 +2,13 @@
 #![tactic(auto)]
 
 mod answers;
+mod decision;
 mod edits;
 mod foresight;
 mod kept;
 mod object;
 mod objects;
+mod orders;
 mod session;
 mod witnesses;
 mod work;

@@ -1,5 +1,5 @@
 //! What is kept of one object: where its events stand, and what is known of their legal orders.
-ghost use Rattle.std.specs.Prelude.{◌≡◌, ◌≢◌, ◌+◌, ◌-◌, ◌<◌, ◌≤◌, ◌∷◌, ◌++◌, [], ℕ, ℤ, List, Bool, All, min, IsOk, IfOk, OnOk, OnErr, Ok, length, map, take};
+ghost use Rattle.std.specs.Prelude.{◌≡◌, ◌≢◌, ◌+◌, ◌-◌, ◌<◌, ◌≤◌, ◌∷◌, ◌++◌, [], ℕ, ℤ, List, Bool, All, None, min, IsOk, IsTrue, IfOk, IfSome, OnOk, OnErr, Ok, length, map, take};
 ghost use Rattle.lin_history.specs.declared.calls.Name.{Name as NameOf};
 ghost use Rattle.lin_history.specs.declared.events.Event.{Event as EventOf};
 ghost use Rattle.lin_history.specs.WellFormed.{IsWellFormed};
@@ -14,7 +14,7 @@ ghost use Rattle.lin_session.specs.Work.{rounded, touched, unasked};
 
 use crate::kept::Object;
 use crate::work::{Mark, round_down};
-use lin_chain::{Chain, End};
+use lin_chain::{Chain, End, finds_order};
 use lin_history::{Event, Meter, OutOfMemory};
 use lin_objects::Kind;
 use lin_order::Placed;
@@ -50,6 +50,43 @@ impl Object {
         self.chain.settle(events, &self.picks, budget, meter)
     }
 
+    /// Lets its chain take some more events in, at least until the meter counts so many tries in all, if they are so many.
+    pub(crate) fn take_some(
+        &mut self,
+        events: &[Event],
+        budget: u32,
+        tries: u64,
+        meter: &mut Meter,
+    ) -> Result<(), OutOfMemory>
+        requires right { IsRightChain self.old.chain (events_at events.now self.old.picks.items) }
+        requires inside { All (λ at. at < length events.now) self.old.picks.items }
+        requires well_formed { (functions : ℤ → NameOf → Bool) × IsWellFormed functions (events_at events.now self.old.picks.items) }
+        ensures picks { self.new.picks ≡ self.old.picks }
+        ensures count { self.new.count ≡ length self.old.picks.items }
+        ensures mark { self.new.mark ≡ self.old.mark }
+        ensures kind { kind_in self.new.chain ≡ kind_in self.old.chain }
+        ensures right { IsRightChain self.new.chain (events_at events.now self.old.picks.items) }
+        ensures scans { meter.new.scans ≡ meter.old.scans }
+        ensures steps { meter.new.steps ≤ meter.old.steps + cost_of budget self.old }
+        ensures left { OnOk result (meter.new.steps + cost_of budget self.new ≤ meter.old.steps + cost_of budget self.old) }
+        ensures settled { IsSettled budget self.old → IsOk result }
+        ensures stays { end_under budget self.old.chain ≢ End.Alive → end_in self.new.chain ≡ end_under budget self.old.chain }
+        ensures under { (end_under budget self.new.chain ≡ end_in self.new.chain) × (ready_under budget self.new.chain ≡ ready_count self.new.chain) }
+        ensures remains { (other : ℕ) → min (ready_under budget self.old.chain) (ready_under other self.old.chain) ≤ ready_under other self.new.chain }
+    {
+        self.count = self.picks.len();
+        self.chain
+            .take_some(events, &self.picks, budget, tries, meter)
+    }
+
+    /// How many events its chain has still to take in, if it comes to them.
+    pub(crate) fn behind(&self) -> usize {
+        match self.chain.end() {
+            End::Alive => self.picks.len().saturating_sub(self.chain.ready()),
+            _ => 0,
+        }
+    }
+
     /// In positions of the history what its chain tells in places among its events.
     pub(crate) fn finding(&self, end: End) -> (Option<usize>, Option<usize>)
         requires place { IsPlaceIn (length self.now.picks.items) end }
@@ -63,17 +100,50 @@ impl Object {
         }
     }
 
-    /// A legal order of its events, in positions of the history.
-    pub(crate) fn order(&self, alloc: Global) -> Result<Vec<Placed>, OutOfMemory>
-        requires alive { IsAlive self.now }
-        requires right { (h : List EventOf) × IsRightChain self.now.chain h × (length h ≡ length self.now.picks.items) }
-        ensures { IfOk result (λ order. (h : List EventOf) → IsRightChain self.now.chain h → length h ≡ length self.now.picks.items → IsOrderIn (IsLegalOrderAs (kind_in self.now.chain) h) self.now.picks.items order.items) }
+    /// A legal order of its events, in positions of the history: its chain's, where that took all of them in and is alive, or else one that
+    /// a search finds, if it does.
+    pub(crate) fn order(
+        &self,
+        alloc: Global,
+        events: &[Event],
+    ) -> Result<Option<Vec<Placed>>, OutOfMemory>
+        requires right { IsRightChain self.now.chain (events_at events.now self.now.picks.items) }
+        requires all { length (events_at events.now self.now.picks.items) ≡ length self.now.picks.items }
+        ensures legal { IfOk result (λ found. IfSome found (λ order. IsOrderIn (IsLegalOrderAs (kind_in self.now.chain) (events_at events.now self.now.picks.items)) self.now.picks.items order.items)) }
+        ensures told { IfOk result (λ found. IsAlive self.now → found ≢ None) }
     {
-        let Some(mut order) = self.chain.order(alloc)? else {
-            unreachable!()
-        };
-        rename(&mut order, &self.picks);
-        Ok(order)
+        match self.own_order(alloc, events)? {
+            Some(mut order) => {
+                rename(&mut order, &self.picks);
+                Ok(Some(order))
+            }
+            None => Ok(None),
+        }
+    }
+
+    /// The same in places among its events.
+    fn own_order(&self, alloc: Global, events: &[Event]) -> Result<Option<Vec<Placed>>, OutOfMemory>
+        requires right { IsRightChain self.now.chain (events_at events.now self.now.picks.items) }
+        requires all { length (events_at events.now self.now.picks.items) ≡ length self.now.picks.items }
+        ensures legal { IfOk result (λ found. IfSome found (λ order. IsLegalOrderAs (kind_in self.now.chain) (events_at events.now self.now.picks.items) order.items)) }
+        ensures told { IfOk result (λ found. IsAlive self.now → found ≢ None) }
+    {
+        if !self.is_alive() {
+            let kind = self.chain.kind();
+            return Ok(finds_order(alloc, kind, events, &self.picks));
+        }
+        self.chain.order(alloc)
+    }
+
+    /// Whether its chain took all its events in, and is alive.
+    fn is_alive(&self) -> bool
+        ensures alive { IsTrue result → IsAlive self.now }
+        ensures not_alive { IsAlive self.now → IsTrue result }
+    {
+        match self.chain.end() {
+            End::Alive => self.chain.ready() == self.picks.len(),
+            _ => false,
+        }
     }
 
     /// Nothing is known of an object of the kind.

@@ -7,15 +7,12 @@ ghost use Rattle.lin_objects.specs.declared.kinds.Kind.{Kind as KindOf};
 ghost use Rattle.lin_objects.specs.Kinds.{functions_of, kind_of};
 ghost use Rattle.lin_order.specs.Orders.{is_of_key};
 ghost use Rattle.lin_order.specs.Parts.{part};
-ghost use Rattle.lin_order.specs.Linearizable.{IsLegalOrder, IsLegalOrderFor};
-ghost use Rattle.lin_order.specs.Merging.{lists_of};
 ghost use Rattle.lin_order.specs.Refutations.{IsRefutation, sets_of};
-ghost use Rattle.std.specs.List.{AllZip};
 ghost use Rattle.lin_session.specs.Answers.{IsAnswer, IsObjectVerdict, IsVerdict, IsWholeVerdict};
 ghost use Rattle.lin_session.specs.declared.kept.Object.{Object as ObjectOf};
 ghost use Rattle.lin_session.specs.Objects.{AreRight, marks_in, split_in};
-ghost use Rattle.lin_session.specs.Costs.{AreJudged, IsJudged, IsSettled, cost_of, cost_of_all};
-ghost use Rattle.lin_session.specs.Judgements.{AreAlive, AreFound, IsAlive, IsDead, IsDeadFor, IsFinding, IsOrderFor, IsTold};
+ghost use Rattle.lin_session.specs.Costs.{AreJudged, IsCost, IsJudged, IsSettled, cost_of, cost_of_all};
+ghost use Rattle.lin_session.specs.Judgements.{AreAlive, AreFound, IsAlive, IsDead, IsDeadFor, IsFinding, IsTold};
 ghost use Rattle.lin_session.specs.Marks.{AreMarked, IsNothingDue, IsWithoutOrder};
 ghost use Rattle.lin_session.specs.Refuting.{IsOverSomewhere, IsRefuted, IsUnrefuted};
 ghost use Rattle.lin_session.specs.Work.{AreSameMarks, AreTouched, cost_in, raised, rounded, touched_at, unasked};
@@ -29,9 +26,8 @@ use lin_chain::RefuteFault;
 use lin_history::{Event, Meter, OutOfMemory, beginnings_are_well_formed};
 use lin_objects::{Kind, Kinds};
 use lin_order::{
-    Placed, Refutation, absent_keys_are_legal, linearizability_is_local, merge,
-    merged_orders_are_legal, parts_grow, parts_keep_operations, parts_keep_orders,
-    parts_of_prefixes, positions_spell_parts, prefixes_are_linearizable,
+    Refutation, absent_keys_are_legal, linearizability_is_local, parts_grow, parts_keep_operations,
+    parts_keep_orders, parts_of_prefixes, positions_spell_parts, prefixes_are_linearizable,
 };
 use std::alloc::Global;
 
@@ -320,7 +316,10 @@ impl Objects {
     {
         linearizability_is_local();
         match self.judge(alloc, scope, events, kinds, budget, meter)? {
-            Verdict::Yes => Ok(Answer::Yes(self.order(alloc, scope)?)),
+            Verdict::Yes => match self.order(alloc, scope, events, kinds)? {
+                Some(order) => Ok(Answer::Yes(order)),
+                None => unreachable!(),
+            },
             Verdict::No { prefix } => Ok(Answer::No { prefix }),
             Verdict::Undecided { at } => Ok(Answer::Undecided { at }),
             Verdict::IllFormed { at, cause } => Ok(Answer::IllFormed { at, cause }),
@@ -408,6 +407,7 @@ impl Objects {
         ensures marks { AreSameMarks (marks_in self.old) (marks_in self.new) }
         ensures judged { OnOk result (AreJudged (kind_of kinds.now) budget events.now self.new scope) }
         ensures steps { meter.new.steps ≤ meter.old.steps + cost_in (marks_in self.old) events.now scope }
+        ensures left { split_in self.old ≡ length events.now → (n : ℕ) → IsCost budget self.old scope n → meter.new.steps ≤ meter.old.steps + n }
         ensures ready { split_in self.old ≡ length events.now → IsNothingDue events.now scope (marks_in self.old) → IsOk result }
     {
         positions_spell_parts();
@@ -415,18 +415,6 @@ impl Objects {
         match scope {
             Scope::Object(key) => self.judge_object(key, events, budget, meter),
             Scope::Whole => self.judge_whole(events, budget, meter),
-        }
-    }
-
-    /// A legal order for the scope, which is linearizable.
-    fn order(&self, alloc: Global, scope: Scope) -> Result<Vec<Placed>, OutOfMemory>
-        requires alive { AreAlive self.now scope }
-        requires right { (kinds : ℤ → KindOf) × (budget : ℕ) × (h : List EventOf) × AreRight self.now kinds budget h × (split_in self.now ≡ length h) × IsWellFormed (functions_of kinds) h }
-        ensures { IfOk result (λ order. (kinds : ℤ → KindOf) (budget : ℕ) (h : List EventOf) → AreRight self.now kinds budget h → split_in self.now ≡ length h → IsWellFormed (functions_of kinds) h → IsOrderFor kinds h scope order.items) }
-    {
-        match scope {
-            Scope::Object(key) => self.order_of(alloc, key),
-            Scope::Whole => self.merged_order(alloc),
         }
     }
 
@@ -521,50 +509,6 @@ impl Objects {
             over = least_of(over, found.1);
         }
         Ok((failing, over))
-    }
-
-    /// A legal order of the history, as each object has one.
-    fn merged_order(&self, alloc: Global) -> Result<Vec<Placed>, OutOfMemory>
-        requires alive { All IsAlive self.now.objects.items }
-        requires right { (kinds : ℤ → KindOf) × (budget : ℕ) × (h : List EventOf) × AreRight self.now kinds budget h × (split_in self.now ≡ length h) × IsWellFormed (functions_of kinds) h }
-        ensures { IfOk result (λ order. (kinds : ℤ → KindOf) (budget : ℕ) (h : List EventOf) → AreRight self.now kinds budget h → split_in self.now ≡ length h → IsWellFormed (functions_of kinds) h → IsLegalOrder kinds h order.items) }
-    {
-        merged_orders_are_legal();
-        match merge(alloc, self.orders(alloc)?) {
-            Ok(order) => Ok(order),
-            Err((_, refused)) => Err(refused),
-        }
-    }
-
-    /// Legal orders of all objects, as they are listed.
-    fn orders(&self, alloc: Global) -> Result<Vec<Vec<Placed>>, OutOfMemory>
-        requires alive { All IsAlive self.now.objects.items }
-        requires right { (kinds : ℤ → KindOf) × (budget : ℕ) × (h : List EventOf) × AreRight self.now kinds budget h × (split_in self.now ≡ length h) × IsWellFormed (functions_of kinds) h }
-        ensures { IfOk result (λ parts. (kinds : ℤ → KindOf) (budget : ℕ) (h : List EventOf) → AreRight self.now kinds budget h → split_in self.now ≡ length h → IsWellFormed (functions_of kinds) h
-            → AllZip (λ key order. IsLegalOrderFor kinds key h order) self.now.keys.keys (lists_of parts.items)) }
-    {
-        positions_spell_parts();
-        parts_keep_orders();
-        let mut parts = Vec::new(alloc);
-        for object in &self.objects {
-            parts.push(object.order(alloc)?)?;
-        }
-        Ok(parts)
-    }
-
-    /// A legal order for the object of the key, which is alive if it is listed.
-    fn order_of(&self, alloc: Global, key: i64) -> Result<Vec<Placed>, OutOfMemory>
-        requires alive { AreAlive self.now (Scope.Object key) }
-        requires right { (kinds : ℤ → KindOf) × (budget : ℕ) × (h : List EventOf) × AreRight self.now kinds budget h × (split_in self.now ≡ length h) × IsWellFormed (functions_of kinds) h }
-        ensures { IfOk result (λ order. (kinds : ℤ → KindOf) (budget : ℕ) (h : List EventOf) → AreRight self.now kinds budget h → split_in self.now ≡ length h → IsWellFormed (functions_of kinds) h → IsLegalOrderFor kinds key h order.items) }
-    {
-        positions_spell_parts();
-        parts_keep_orders();
-        absent_keys_are_legal();
-        match self.find(key) {
-            Some(i) => self.objects[i].order(alloc),
-            None => Ok(Vec::new(alloc)),
-        }
     }
 
     /// What is found of the object that is listed here: the shortest prefix that fails it, or the position at which it is over.

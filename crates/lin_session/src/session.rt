@@ -9,6 +9,7 @@ ghost use Rattle.lin_session.specs.Objects.{AreRight, marks_in, split_in};
 ghost use Rattle.lin_order.specs.Orders.{is_of_key};
 ghost use Rattle.lin_order.specs.Parts.{part};
 ghost use Rattle.lin_chain.specs.Ends.{IsEndOf};
+ghost use Rattle.lin_session.specs.Judgements.{IsOrderFor};
 ghost use Rattle.lin_session.specs.Marks.{AreMarked, IsNothingDue, IsWithoutOrder};
 ghost use Rattle.lin_session.specs.Refuting.{IsRefuted, IsUnrefuted};
 ghost use Rattle.lin_session.specs.Sessions.{AreKeys, Occurs};
@@ -20,9 +21,9 @@ use crate::kept::Objects;
 use crate::work::{least_of, round_down};
 use indexmap::IndexSet;
 use lin_chain::{End, RefuteFault};
-use lin_frontier::is_counted;
 use lin_history::{Event, Meter, OutOfMemory, Shape};
 use lin_objects::{Kind, Kinds, KindsFault};
+use lin_order::Placed;
 use lin_wellformed::Scan;
 use std::alloc::Global;
 use std::marker::Model;
@@ -259,41 +260,20 @@ impl Session {
         }
     }
 
-    /// The verdict for the scope, if searches find a legal order or operations that conflict of each of its objects. The history
-    /// is scanned, but isn't marked as asked about.
-    fn foreseen(&mut self, alloc: Global, scope: Scope) -> Result<Option<Verdict>, OutOfMemory>
-        ensures verdict { IfOk result (λ found. IfSome found (IsVerdict self.old.present scope)) }
-        ensures present { self.new.present ≡ self.old.present }
-        ensures settled { OnOk result (self.new.low ≡ None) }
-        ensures unsettled { OnErr result (self.new.low ≡ self.old.low) }
-        ensures scans { self.new.meter.scans ≤ self.old.meter.scans + anew self.old.low (length self.old.present.history) }
-        ensures marks { AreSameMarks (mark_of self.old.marks) (mark_of self.new.marks) }
-        ensures steps { self.new.meter.steps ≡ self.old.meter.steps }
-        ensures ready { self.old.low ≡ None → IsOk result }
-    {
-        let shape = self
-            .scan
-            .settle(&self.events, &self.kinds, &mut self.meter)?;
-        let Shape::Good = shape else {
-            self.low = None;
-            return Ok(None);
-        };
-        self.objects.split(alloc, &self.events, &self.kinds)?;
-        self.low = None;
-        let verdict = self
-            .objects
-            .foreseen(alloc, scope, &self.events, &self.kinds, self.budget);
-        Ok(verdict)
-    }
-
-    /// As `judge`, but for a question that is asked once: of queues and sets a legal order is looked for first, and operations that
-    /// conflict, and where these tell of all objects of the scope, no chain takes events in. So the next
-    /// question may cost as much as if this one had not been asked.
-    pub fn decide(&mut self, alloc: Global, scope: Scope) -> Result<Verdict, OutOfMemory>
+    /// As `judge`, but of queues and sets a legal order is looked for first, and operations that conflict, unless their chains come to
+    /// the end after few tries: so many as the patience, for each event that a chain has still to take in, and for 1,024 more. Where these
+    /// searches tell of all objects of the scope, the chains stay where they came to, and nothing is marked. So the next question
+    /// may cost what this one did. Where the patience is 0, as for a question that is asked once, no call is tried before the searches.
+    pub fn decide(
+        &mut self,
+        alloc: Global,
+        scope: Scope,
+        patience: u64,
+    ) -> Result<Verdict, OutOfMemory>
         ensures verdict { IfOk result (IsVerdict self.old.present scope) }
         ensures present { self.new.present ≡ self.old.present }
         ensures settled { OnOk result (self.new.low ≡ None) }
-        ensures low { (self.new.low ≡ self.old.low) ⊎ (self.new.low ≡ None) }
+        ensures unsettled { OnErr result (self.new.low ≡ self.old.low) }
         ensures scans { self.new.meter.scans ≤ self.old.meter.scans + anew self.old.low (length self.old.present.history) }
         ensures marked { OnOk result (AreSameMarks (mark_of self.old.marks) (mark_of self.new.marks) ⊎ (IsWellFormed (functions_of (kinds_in self.old.present)) self.old.present.history → AreMarked (kinds_in self.old.present) self.old.present.budget self.old.present.history scope (mark_of self.old.marks) (mark_of self.new.marks))) }
         ensures unmarked { OnErr result (AreSameMarks (mark_of self.old.marks) (mark_of self.new.marks)) }
@@ -301,12 +281,67 @@ impl Session {
         ensures known { self.old.low ≡ None → (IsWellFormed (functions_of (kinds_in self.old.present)) self.old.present.history → ⊥) → IsOk result }
         ensures ready { self.old.low ≡ None → IsNothingDue self.old.present.history scope (mark_of self.old.marks) → IsOk result }
     {
-        if !is_counted(self.budget as usize)
-            && let Some(verdict) = self.foreseen(alloc, scope)?
+        match self
+            .scan
+            .settle(&self.events, &self.kinds, &mut self.meter)?
         {
-            return Ok(verdict);
+            Shape::Good => {
+                let verdict = self.objects.decide(
+                    alloc,
+                    scope,
+                    patience,
+                    &self.events,
+                    &self.kinds,
+                    self.budget,
+                    &mut self.meter,
+                )?;
+                self.low = None;
+                Ok(verdict)
+            }
+            Shape::Bad { at, cause } => {
+                self.low = None;
+                Ok(Verdict::IllFormed { at, cause })
+            }
         }
-        self.judge(alloc, scope)
+    }
+
+    /// As `ask`, but with the verdict of `decide`, and for a yes with the order that a chain has, or that is found. So there may be one where
+    /// `ask` is undecided.
+    pub fn order(
+        &mut self,
+        alloc: Global,
+        scope: Scope,
+        patience: u64,
+    ) -> Result<Answer, OutOfMemory>
+        ensures answer { IfOk result (IsAnswer self.old.present scope) }
+        ensures present { self.new.present ≡ self.old.present }
+        ensures settled { OnOk result (self.new.low ≡ None) }
+        ensures low { (self.new.low ≡ self.old.low) ⊎ (self.new.low ≡ None) }
+        ensures scans { self.new.meter.scans ≤ self.old.meter.scans + anew self.old.low (length self.old.present.history) }
+        ensures marked { AreSameMarks (mark_of self.old.marks) (mark_of self.new.marks) ⊎ (IsWellFormed (functions_of (kinds_in self.old.present)) self.old.present.history → AreMarked (kinds_in self.old.present) self.old.present.budget self.old.present.history scope (mark_of self.old.marks) (mark_of self.new.marks)) }
+        ensures steps { self.new.meter.steps ≤ self.old.meter.steps + cost_in (mark_of self.old.marks) self.old.present.history scope }
+        ensures known { self.old.low ≡ None → (IsWellFormed (functions_of (kinds_in self.old.present)) self.old.present.history → ⊥) → IsOk result }
+        ensures ready { self.old.low ≡ None → IsNothingDue self.old.present.history scope (mark_of self.old.marks) → (IsVerdict self.old.present scope Verdict.Yes → ⊥) → IsOk result }
+    {
+        match self.decide(alloc, scope, patience)? {
+            Verdict::Yes => match self.found_order(alloc, scope)? {
+                Some(order) => Ok(Answer::Yes(order)),
+                // One was found for the verdict, so memory was refused.
+                None => Err(OutOfMemory),
+            },
+            Verdict::No { prefix } => Ok(Answer::No { prefix }),
+            Verdict::Undecided { at } => Ok(Answer::Undecided { at }),
+            Verdict::IllFormed { at, cause } => Ok(Answer::IllFormed { at, cause }),
+        }
+    }
+
+    /// A legal order for the scope, if chains have one or searches find one. All events are scanned, and are well-formed.
+    fn found_order(&self, alloc: Global, scope: Scope) -> Result<Option<Vec<Placed>>, OutOfMemory>
+        requires settled { self.now.low ≡ None }
+        requires well_formed { IsWellFormed (functions_of (kinds_in self.now.present)) self.now.present.history }
+        ensures { IfOk result (λ found. IfSome found (λ order. IsOrderFor (kinds_in self.now.present) self.now.present.history scope order.items)) }
+    {
+        self.objects.order(alloc, scope, &self.events, &self.kinds)
     }
 
     /// A refutation of the key's object, or its answer where that isn't a no.

@@ -30,7 +30,7 @@ impl Object {
     pub(crate) fn found_end(&self, alloc: Global, events: &[Event]) -> Option<End>
         ensures { (budget : ℕ) → IfSome result (IsEndOf (kind_in self.now.chain) budget (events_at events.now self.now.picks.items)) }
     {
-        if finds_order(alloc, self.chain.kind(), events, &self.picks) {
+        if let Some(_) = finds_order(alloc, self.chain.kind(), events, &self.picks) {
             return Some(End::Alive);
         }
         match finds_failure(alloc, self.chain.kind(), events, &self.picks) {

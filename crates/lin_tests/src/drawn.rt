@@ -275,7 +275,7 @@ fn places(rt: &impl Abort, alloc: Global, events: &[Event]) -> Vec<usize> {
 
 /// Whether an order of the events is found.
 pub(crate) fn is_found(rt: &impl Abort, alloc: Global, kind: Kind, events: &[Event]) -> bool {
-    finds_order(alloc, kind, events, &places(rt, alloc, events))
+    finds_order(alloc, kind, events, &places(rt, alloc, events)).is_some()
 }
 
 /// The place of the event at which the object fails, as far as it is found.

@@ -1,8 +1,9 @@
 //! Objects that have more configurations than the budget, of which legal orders and failures are looked for.
 use crate::sessions::{asked, invoke, judged, objects, ok, read, registers, saw, write, wrote};
 use lin_history::{Call, Event, IntSet, Name, Reply, Val};
-use lin_objects::Kind;
-use lin_session::{Scope, Session, Verdict};
+use lin_objects::{Kind, Kinds};
+use lin_order::check_order;
+use lin_session::{Answer, Scope, Session, Verdict};
 use std::alloc::Global;
 use std::process::Abort;
 use std::test::Fail;
@@ -47,6 +48,43 @@ fn an_order_of_many_open_writes_is_found(rt: HostRuntime) -> Result<(), Fail> {
     assert!(rt; judged(&rt, alloc, &mut session, OBJECT) == Verdict::Yes);
     // Nothing changed since: the same again.
     assert!(rt; judged(&rt, alloc, &mut session, OBJECT) == Verdict::Yes);
+    Ok(())
+}
+
+/// Whether an order is told of all objects, which are of the kind, and it is a legal one.
+fn is_ordered(
+    rt: &impl Abort,
+    alloc: Global,
+    session: &mut Session,
+    kind: Kind,
+    history: &[Event],
+) -> bool {
+    match session.order(alloc, Scope::Whole, 1).expect(rt, "memory") {
+        Answer::Yes(order) => {
+            check_order(alloc, history, &Kinds::new(alloc, kind), &order).expect(rt, "memory")
+        }
+        _ => false,
+    }
+}
+
+#[test]
+fn an_order_is_told_where_a_chain_is_over(rt: HostRuntime) -> Result<(), Fail> {
+    let alloc = rt.alloc();
+    let mut history = writes_at_once(alloc)?;
+    let mut session = cas_registers(&rt, alloc, &history);
+    assert!(rt; is_ordered(&rt, alloc, &mut session, Kind::CasRegister, &history));
+    // Another object has its own from its chain.
+    history.push(write(11, 1, 5))?;
+    history.push(wrote(11, 1))?;
+    let mut session = cas_registers(&rt, alloc, &history);
+    assert!(rt; is_ordered(&rt, alloc, &mut session, Kind::CasRegister, &history));
+    history.push(read(11, 1))?;
+    history.push(saw(11, 1, Val::Int(6)))?;
+    let mut session = cas_registers(&rt, alloc, &history);
+    assert!(rt; !is_ordered(&rt, alloc, &mut session, Kind::CasRegister, &history));
+    let history = adds_at_once(alloc)?;
+    let mut session = objects(&rt, alloc, Kind::Set, 1_024, &history);
+    assert!(rt; is_ordered(&rt, alloc, &mut session, Kind::Set, &history));
     Ok(())
 }
 

@@ -223,9 +223,37 @@ fn three_of_four(alloc: Global) -> Result<Vec<Event>, Fail> {
     Ok(history)
 }
 
-/// What is decided.
+/// Ten clients add numbers at once, another one finds nine of them, and then three of the ten return.
+fn open_beside_a_read(alloc: Global) -> Result<Vec<Event>, Fail> {
+    let mut history = Vec::new(alloc);
+    for process in 0..10 {
+        history.push(invoke(process, 0, Call::Add(process.cast_signed())))?;
+    }
+    history.push(invoke(10, 0, Call::Read))?;
+    history.push(ok(10, 0, Name::Read, first_numbers(alloc, 9)?))?;
+    for process in 0..3 {
+        history.push(ok(process, 0, Name::Add, Reply::Done))?;
+    }
+    Ok(history)
+}
+
+/// What is decided, without a try.
 fn decided(rt: &impl Abort, alloc: Global, session: &mut Session, scope: Scope) -> Verdict {
-    session.decide(alloc, scope).expect(rt, "memory")
+    session.decide(alloc, scope, 0).expect(rt, "memory")
+}
+
+/// How many events of the whole are taken in when it is decided with so many tries for each, and how many calls are tried.
+fn taken_in(rt: &impl Abort, alloc: Global, session: &mut Session, patience: u64) -> (u64, u64) {
+    let steps = session.meter().steps();
+    let tries = session.meter().tries();
+    let verdict = session
+        .decide(alloc, Scope::Whole, patience)
+        .expect(rt, "memory");
+    assert!(rt; verdict == Verdict::Yes);
+    (
+        session.meter().steps().saturating_sub(steps),
+        session.meter().tries().saturating_sub(tries),
+    )
 }
 
 #[test]
@@ -245,5 +273,26 @@ fn a_set_is_decided_without_its_chain(rt: HostRuntime) -> Result<(), Fail> {
     let no = Verdict::No { prefix: 12 };
     assert!(rt; decided(&rt, alloc, &mut session, Scope::Object(0)) == no);
     assert!(rt; session.meter().tries() == 0);
+    Ok(())
+}
+
+#[test]
+fn a_set_is_taken_in_within_the_patience(rt: HostRuntime) -> Result<(), Fail> {
+    let alloc = rt.alloc();
+    let history = three_of_four(alloc)?;
+    let mut session = objects(&rt, alloc, Kind::Set, 65_536, &history);
+    assert!(rt; taken_in(&rt, alloc, &mut session, 100).0 == 10);
+    // What was taken in stays so, and what comes is taken in alone.
+    assert!(rt; taken_in(&rt, alloc, &mut session, 100) == (0, 0));
+    make(&rt, &mut session, Edit::Append(invoke(4, 0, Call::Read)));
+    assert!(rt; taken_in(&rt, alloc, &mut session, 100).0 == 1);
+    // Where many operations are open it stays behind, until there is more patience.
+    let history = open_beside_a_read(alloc)?;
+    let mut session = objects(&rt, alloc, Kind::Set, 65_536, &history);
+    let some = taken_in(&rt, alloc, &mut session, 1).0;
+    assert!(rt; 0 < some && some < 15);
+    assert!(rt; taken_in(&rt, alloc, &mut session, 1) == (0, 0));
+    let rest = taken_in(&rt, alloc, &mut session, 1_000).0;
+    assert!(rt; some.saturating_add(rest) == 15);
     Ok(())
 }

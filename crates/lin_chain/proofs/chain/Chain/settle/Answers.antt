@@ -1,4 +1,4 @@
-use Rattle.std.proofs.Common.{◌≡◌, ◌≤◌, ◌∙◌, ℕ, true, false, Result, Ok, Err, IsOk, List, min, sym, subst, arith, length}
+use Rattle.std.proofs.Common.{◌≡◌, ◌≤◌, ◌∙◌, ℕ, true, false, Result, Ok, Err, IsOk, List, min, refl, sym, subst, arith, length}
 use Rattle.lin_history.specs.declared.numbers.OutOfMemory.{OutOfMemory}
 use Rattle.lin_history.specs.declared.events.Event.{Event}
 use Rattle.lin_objects.specs.declared.kinds.Kind.{Kind}
@@ -43,7 +43,7 @@ taken c =
     elim c.if-is_alive.branch [
       | then-is_alive+in_ok-go_on w ↦ subst P (sym w.self-is) (record {
         right = w.go_on.ensures.right;
-        all = w.in_ok-go_on.ensures.all;
+        all = w.in_ok-go_on.ensures.all refl;
         over = λ at is. let same = w.go_on.ensures.over at is in omega (arith, same.0);
         same = w.go_on.ensures.kind ∙ c.retry.ensures.kind;
       })

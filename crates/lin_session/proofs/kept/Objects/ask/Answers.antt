@@ -7,13 +7,13 @@ use Rattle.lin_session.specs.Objects.{marks_in}
 use Rattle.lin_session.proofs.Ready.{no_order}
 use Rattle.lin_session.proofs.kept.Objects.ask.Goals as goal
 
-pub returns-in_ok-order-in-Yes-clause-answer : goal.returns-in_ok-order-in-Yes-clause-answer
-returns-in_ok-order-in-Yes-clause-answer c =
+pub returns-in-Some-clause-answer : goal.returns-in-Some-clause-answer
+returns-in-Some-clause-answer c =
     let K = kind_of c.args.kinds.now in
     let h = c.args.events.now in
     let now : Present = record { history = h; kinds = c.args.kinds.now; budget = c.args.budget } in
-    IsAnswer-yes now c.args.scope c.in_ok-order-in-Yes.field-0 c.requires.well_formed
-    (c.in_ok-order-in-Yes.ensures K c.args.budget h c.judge.ensures.right c.in_ok-judge.ensures.split c.requires.well_formed)
+    IsAnswer-yes now c.args.scope c.in-Some.order c.requires.well_formed
+    (rw c.in-Some.is at c.in_ok-order-in-Yes.ensures.legal)
 
 pub returns-in_err-order-in-Yes-clause-ready : goal.returns-in_err-order-in-Yes-clause-ready
 returns-in_err-order-in-Yes-clause-ready c = λ apart nothing without.

@@ -1,4 +1,4 @@
-use Rattle.std.proofs.Common.{◌≡◌, ℤ, sym, subst, to_z, of_z, w64, rules}
+use Rattle.std.proofs.Common.{◌≡◌, ◌≤◌, ◌+◌, ℕ, ℤ, Some, Contains, inl, inr, ap, sym, subst, ◌∙◌, arith, to_z, of_z, w64, rules}
 use Rattle.std.proofs.lemmas.Int.{to_z-of_z}
 use Rattle.std.proofs.lemmas.Result.{IfOk-weaker}
 use Rattle.lin_history.specs.WellFormed.{IsWellFormed}
@@ -8,19 +8,19 @@ use Rattle.lin_session.specs.Answers.{IsObjectVerdict, IsWholeVerdict, IsVerdict
 use Rattle.lin_session.specs.Edits.{Present}
 use Rattle.lin_session.specs.Objects.{AreRight}
 use Rattle.lin_session.proofs.Scopes.{IsVerdict-object, IsVerdict-whole}
-use Rattle.std.proofs.Common.{Some, Contains, inl, inr, ap, ◌∙◌, arith}
-use Rattle.std.proofs.lemmas.Option.{slice_get_within, slice_get-get_or}
+use Rattle.std.proofs.lemmas.Option.{slice_get_within}
 use Rattle.std.proofs.lemmas.Result.{on_ok_weaker}
 use Rattle.lin_session.specs.declared.answers.Scope.TheVariants as scope
-use Rattle.lin_session.specs.Costs.{AreJudged}
+use Rattle.lin_session.specs.Costs.{AreJudged, AreSettled, IsCost}
 use Rattle.lin_session.specs.Objects.{marks_in}
 use Rattle.lin_session.specs.Marks.{IsNothingDue}
-use Rattle.lin_session.specs.Work.{cost, cost_in}
-use Rattle.lin_session.proofs.Costing.{listed_cost, settled_there, whole_cost}
+use Rattle.lin_session.specs.Work.{cost_in}
+use Rattle.lin_session.proofs.Costing.{scope_cost, scope_settled}
 use Rattle.lin_session.proofs.Found.{not_ok}
 use Rattle.lin_session.proofs.Listed.{is_listed}
 use Rattle.lin_session.proofs.Lists.{element_at}
 use Rattle.lin_session.proofs.kept.Objects.judge.Goals as goal
+use Rattle.lin_session.proofs.kept.Objects.judge.Goals.{After-judge_object, After-judge_whole, In_ok-split}
 
 pub judge_object-requires-clause-right : goal.judge_object-requires-clause-right
 judge_object-requires-clause-right c = (kind_of c.args.kinds.now, c.split.ensures.right c.args.budget c.requires.right, c.requires.well_formed)
@@ -79,54 +79,60 @@ returns-in-Whole-clause-judged c =
     (λ judged. subst (AreJudged K c.args.budget c.args.events.now c.judge_whole.new.self) (sym c.in-Whole.is) (judged K (c.split.ensures.right c.args.budget c.requires.right)))
     c.judge_whole.ensures.judged
 
-pub returns-in-Object-clause-steps : goal.returns-in-Object-clause-steps
-returns-in-Object-clause-steps c =
+-- the events are told apart, so a question costs what is due
+cost : (c : In_ok-split) → IsCost c.args.budget c.split.new.self c.args.scope (cost_in (marks_in c.args.self.now) c.args.events.now c.args.scope)
+cost c =
+    scope_cost c.positions_spell_parts.ensures (kind_of c.args.kinds.now) c.args.budget c.args.events.now c.split.new.self (c.split.ensures.right c.args.budget c.requires.right) c.in_ok-split.ensures.all (marks_in c.args.self.now) c.split.ensures.marks c.args.scope
+
+settled : (c : In_ok-split) → IsNothingDue c.args.events.now c.args.scope (marks_in c.args.self.now) → AreSettled c.args.budget c.split.new.self c.args.scope
+settled c =
+    scope_settled c.positions_spell_parts.ensures (kind_of c.args.kinds.now) c.args.budget c.args.events.now c.split.new.self (c.split.ensures.right c.args.budget c.requires.right) c.in_ok-split.ensures.all (marks_in c.args.self.now) c.split.ensures.marks c.args.scope
+
+object_steps : (c : After-judge_object) (n : ℕ) → IsCost c.args.budget c.split.new.self c.args.scope n → c.judge_object.new.meter.steps ≤ c.args.meter.now.steps + n
+object_steps c n most =
     let s = c.split.new.self in
-    let K = kind_of c.args.kinds.now in
-    let h = c.args.events.now in
     let key = c.in-Object.key in
-    let marks = marks_in c.args.self.now in
     let is_key : to_z w64 (of_z w64 key) ≡ key = to_z-of_z w64 key (search rules) in
-    let scoped : cost_in marks h c.args.scope ≡ cost marks h key = ap (cost_in marks h) c.in-Object.is in
+    let costs = subst (λ q. IsCost c.args.budget s q n) c.in-Object.is most in
     elim (is_listed s.keys.keys key) [
       | inl at ↦
           let within = slice_get_within s.keys.keys at.0 key at.1 in
           let o = element_at s.objects.items at.0 (omega (arith, within, s.aligned)) in
-          let steps = c.judge_object.ensures.steps at.0 o.0 (at.1 ∙ ap Some (sym is_key)) o.1 in
-          let bound = listed_cost c.positions_spell_parts.ensures K c.args.budget h s.split s.keys.keys s.objects.items (c.split.ensures.right c.args.budget c.requires.right) s.aligned c.in_ok-split.ensures.all marks c.split.ensures.marks at.0 key o.0 at.1 o.1 in
-          omega (arith, steps, bound, scoped)
+          omega (arith, c.judge_object.ensures.steps at.0 o.0 (at.1 ∙ ap Some (sym is_key)) o.1, costs at.0 o.0 at.1 o.1)
       | inr absent ↦
           let idle = c.judge_object.ensures.idle (λ there. absent (subst (Contains s.keys.keys) is_key there)) in
           omega (arith, ap (λ m. m.steps) idle)
     ]
 
+whole_steps : (c : After-judge_whole) (n : ℕ) → IsCost c.args.budget c.split.new.self c.args.scope n → c.judge_whole.new.meter.steps ≤ c.args.meter.now.steps + n
+whole_steps c n most =
+    let costs = subst (λ q. IsCost c.args.budget c.split.new.self q n) c.in-Whole.is most in
+    omega (arith, c.judge_whole.ensures.steps, costs)
+
+pub returns-in-Object-clause-steps : goal.returns-in-Object-clause-steps
+returns-in-Object-clause-steps c = let at = goal.at.returns-in-Object-clause-steps c in object_steps at.After-judge_object _ (cost at.In_ok-split)
+
 pub returns-in-Whole-clause-steps : goal.returns-in-Whole-clause-steps
-returns-in-Whole-clause-steps c =
-    let s = c.split.new.self in
-    let marks = marks_in c.args.self.now in
-    let scoped : cost_in marks c.args.events.now c.args.scope ≡ cost_in marks c.args.events.now scope.Whole = ap (cost_in marks c.args.events.now) c.in-Whole.is in
-    let bound = whole_cost c.positions_spell_parts.ensures (kind_of c.args.kinds.now) c.args.budget c.args.events.now s.split s.keys.keys s.objects.items (c.split.ensures.right c.args.budget c.requires.right) s.aligned
-    c.in_ok-split.ensures.all marks c.split.ensures.marks in
-    omega (arith, c.judge_whole.ensures.steps, bound, scoped)
+returns-in-Whole-clause-steps c = let at = goal.at.returns-in-Whole-clause-steps c in whole_steps at.After-judge_whole _ (cost at.In_ok-split)
+
+pub returns-in-Object-clause-left : goal.returns-in-Object-clause-left
+returns-in-Object-clause-left c = λ apart n most.
+    object_steps (goal.at.returns-in-Object-clause-left c).After-judge_object n (subst (λ o. IsCost c.args.budget o c.args.scope n) (sym (c.split.ensures.same apart)) most)
+
+pub returns-in-Whole-clause-left : goal.returns-in-Whole-clause-left
+returns-in-Whole-clause-left c = λ apart n most.
+    whole_steps (goal.at.returns-in-Whole-clause-left c).After-judge_whole n (subst (λ o. IsCost c.args.budget o c.args.scope n) (sym (c.split.ensures.same apart)) most)
 
 pub returns-in-Object-clause-ready : goal.returns-in-Object-clause-ready
 returns-in-Object-clause-ready c = λ apart nothing.
-    let s = c.split.new.self in
-    let K = kind_of c.args.kinds.now in
     let key = c.in-Object.key in
     let is_key : to_z w64 (of_z w64 key) ≡ key = to_z-of_z w64 key (search rules) in
-    c.judge_object.ensures.settled (λ i o key_at o_at.
-    settled_there c.positions_spell_parts.ensures K c.args.budget c.args.events.now s.split s.keys.keys s.objects.items (c.split.ensures.right c.args.budget c.requires.right) s.aligned c.in_ok-split.ensures.all
-    (marks_in c.args.self.now) c.split.ensures.marks (scope.Object key) (subst (λ q. IsNothingDue c.args.events.now q (marks_in c.args.self.now)) c.in-Object.is nothing) i _ o is_key key_at o_at)
+    let all = subst (AreSettled c.args.budget c.split.new.self) c.in-Object.is (settled (goal.at.returns-in-Object-clause-ready c).In_ok-split nothing) in
+    c.judge_object.ensures.settled (λ i o key_at o_at. all i o (key_at ∙ ap Some is_key) o_at)
 
 pub returns-in-Whole-clause-ready : goal.returns-in-Whole-clause-ready
 returns-in-Whole-clause-ready c = λ apart nothing.
-    let s = c.split.new.self in
-    let K = kind_of c.args.kinds.now in
-    c.judge_whole.ensures.settled (λ i d within.
-    let o = element_at s.keys.keys i (omega (arith, within, s.aligned)) in
-    settled_there c.positions_spell_parts.ensures K c.args.budget c.args.events.now s.split s.keys.keys s.objects.items (c.split.ensures.right c.args.budget c.requires.right) s.aligned c.in_ok-split.ensures.all
-    (marks_in c.args.self.now) c.split.ensures.marks scope.Whole (subst (λ q. IsNothingDue c.args.events.now q (marks_in c.args.self.now)) c.in-Whole.is nothing) i o.0 _ tt o.1 (slice_get-get_or s.objects.items i d within))
+    c.judge_whole.ensures.settled (subst (AreSettled c.args.budget c.split.new.self) c.in-Whole.is (settled (goal.at.returns-in-Whole-clause-ready c).In_ok-split nothing))
 
 pub returns-in_err-split-clause-ready : goal.returns-in_err-split-clause-ready
 returns-in_err-split-clause-ready c = λ apart nothing. absurd (not_ok c.split.result c.in_err-split.field-0.0 c.in_err-split.was (c.split.ensures.settled apart))

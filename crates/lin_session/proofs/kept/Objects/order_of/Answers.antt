@@ -2,43 +2,37 @@ use Rattle.std.proofs.Common.{◌≡◌, Some, Contains, slice_get, sym, subst, 
 use Rattle.std.proofs.lemmas.Int.{to_z-of_z}
 use Rattle.std.proofs.lemmas.Option.{slice_get_within}
 use Rattle.std.proofs.lemmas.Result.{IfOk-weaker}
+use Rattle.std.proofs.lemmas.Option.{IfSome_then}
+use Rattle.lin_objects.specs.Kinds.{kind_of}
 use Rattle.lin_order.specs.Linearizable.{IsLegalOrderFor}
-use Rattle.lin_session.proofs.Asking.{right_for, order_told}
-use Rattle.lin_session.proofs.Found.{object_at}
+use Rattle.lin_session.proofs.Lists.{element_at}
 use Rattle.lin_session.proofs.kept.Objects.order_of.Goals as goal
-use Rattle.lin_session.proofs.kept.Objects.order_of.Goals.{After-index}
+use Rattle.lin_session.proofs.kept.Objects.order_of.Goals.{In-Some}
 
--- where the key is listed, its object stands
-key_at : (c : After-index) → slice_get c.args.self.now.keys.keys c.in-Some.i ≡ Some c.args.key
+-- where the key is listed
+key_at : (c : In-Some) → slice_get c.args.self.now.keys.keys c.in-Some.i ≡ Some c.args.key
 key_at c =
     let is_key : to_z w64 (of_z w64 c.args.key) ≡ c.args.key = to_z-of_z w64 c.args.key c.ranges.key in
     subst (λ k. slice_get c.args.self.now.keys.keys c.in-Some.i ≡ Some k) is_key c.in-Some.ensures.found
 
-stands : (c : After-index) → slice_get c.args.self.now.objects.items c.in-Some.i ≡ Some c.index.result.now
-stands c =
+pub returns-in-Some-clause-legal : goal.returns-in-Some-clause-legal
+returns-in-Some-clause-legal c =
+    let b = (goal.at.returns-in-Some-clause-legal c).In-Some in
+    IfOk-weaker c.order_listed.result _ _ (λ found legal. IfSome_then found legal (λ order told. told c.args.key (key_at b))) c.order_listed.ensures.legal
+
+pub returns-in-Some-clause-told : goal.returns-in-Some-clause-told
+returns-in-Some-clause-told c =
+    let b = (goal.at.returns-in-Some-clause-told c).In-Some in
     let s = c.args.self.now in
-    object_at s.keys.keys s.objects.items c.in-Some.i c.args.key c.index.result.now s.aligned (key_at c) c.index.ensures
+    let within = slice_get_within s.keys.keys c.in-Some.i c.args.key (key_at b) in
+    let o = element_at s.objects.items c.in-Some.i (omega (arith, within, s.aligned)) in
+    IfOk-weaker c.order_listed.result _ _ (λ found told alive. told o.0 o.1 (alive c.in-Some.i o.0 (key_at b) o.1)) c.order_listed.ensures.told
 
-pub order-requires-clause-alive : goal.order-requires-clause-alive
-order-requires-clause-alive c = let b = (goal.at.order-requires-clause-alive c).After-index in c.requires.alive c.in-Some.i c.index.result.now (key_at b) (stands b)
-
-pub order-requires-clause-right : goal.order-requires-clause-right
-order-requires-clause-right c =
-    let b = (goal.at.order-requires-clause-right c).After-index in
-    let r = c.requires.right in
-    right_for c.positions_spell_parts.ensures r.0 r.1 r.2 c.args.self.now.split c.args.key c.index.result.now r.4 (r.3.each c.in-Some.i c.args.key c.index.result.now (key_at b) (stands b))
-
-pub returns-in-Some : goal.returns-in-Some
-returns-in-Some c =
-    let b = (goal.at.returns-in-Some c).After-index in
-    IfOk-weaker c.order.result _ _
-    (λ order told kinds budget h kept all fine.
-    order_told c.positions_spell_parts.ensures kinds budget h c.args.self.now.split c.args.key c.index.result.now all (kept.each c.in-Some.i c.args.key c.index.result.now (key_at b) (stands b))
-    c.parts_keep_orders.ensures.renamed c.parts_keep_orders.ensures.all fine order.items told) c.order.ensures
-
-pub returns-in-None : goal.returns-in-None
-returns-in-None c = λ kinds budget h kept all fine.
+pub returns-in-None-clause-legal : goal.returns-in-None-clause-legal
+returns-in-None-clause-legal c =
+    let K = kind_of c.args.kinds.now in
+    let h = c.args.events.now in
     let is_key : to_z w64 (of_z w64 c.args.key) ≡ c.args.key = to_z-of_z w64 c.args.key c.ranges.key in
-    subst (IsLegalOrderFor kinds c.args.key h) (sym c.new.ensures.items) (c.absent_keys_are_legal.ensures kinds h c.args.key (λ at event stands same.
+    subst (IsLegalOrderFor K c.args.key h) (sym c.new.ensures.items) (c.absent_keys_are_legal.ensures K h c.args.key (λ at event stands same.
     let below = slice_get_within h at event stands in
-    c.in-None.ensures.none (subst (Contains c.args.self.now.keys.keys) (same ∙ sym is_key) (kept.known at event (omega (arith, below, all)) stands))))
+    c.in-None.ensures.none (subst (Contains c.args.self.now.keys.keys) (same ∙ sym is_key) (c.requires.right.1.known at event (omega (arith, below, c.requires.split)) stands))))

@@ -1,0 +1,129 @@
+//! Legal orders of a history, out of those that its objects have.
+ghost use Rattle.std.specs.Prelude.{◌≡◌, ◌≢◌, ◌<◌, ℕ, ℤ, All, IfOk, IfSome, None, Some, length, slice_get};
+ghost use Rattle.std.specs.List.{AllZip};
+ghost use Rattle.lin_history.specs.WellFormed.{IsWellFormed};
+ghost use Rattle.lin_objects.specs.Kinds.{functions_of, kind_of};
+ghost use Rattle.lin_order.specs.Linearizable.{IsLegalOrder, IsLegalOrderFor};
+ghost use Rattle.lin_order.specs.Merging.{lists_of};
+ghost use Rattle.lin_session.specs.declared.kept.Object.{Object as ObjectOf};
+ghost use Rattle.lin_session.specs.Judgements.{AreAlive, IsAlive, IsOrderFor};
+ghost use Rattle.lin_session.specs.Objects.{AreRight, split_in};
+
+use crate::answers::Scope;
+use crate::kept::Objects;
+use lin_history::{Event, OutOfMemory};
+use lin_objects::Kinds;
+use lin_order::{
+    Placed, absent_keys_are_legal, merge, merged_orders_are_legal, parts_keep_orders,
+    positions_spell_parts,
+};
+use std::alloc::Global;
+
+impl Objects {
+    /// A legal order for the scope, if each of its objects has one that is told. All events are told apart, and are well-formed.
+    pub(crate) fn order(
+        &self,
+        alloc: Global,
+        scope: Scope,
+        events: &[Event],
+        kinds: &Kinds,
+    ) -> Result<Option<Vec<Placed>>, OutOfMemory>
+        requires split { split_in self.now ≡ length events.now }
+        requires right { (budget : ℕ) × AreRight self.now (kind_of kinds.now) budget events.now }
+        requires well_formed { IsWellFormed (functions_of (kind_of kinds.now)) events.now }
+        ensures legal { IfOk result (λ found. IfSome found (λ order. IsOrderFor (kind_of kinds.now) events.now scope order.items)) }
+        ensures told { IfOk result (λ found. AreAlive self.now scope → found ≢ None) }
+    {
+        match scope {
+            Scope::Object(key) => self.order_of(alloc, key, events, kinds),
+            Scope::Whole => self.merged_order(alloc, events, kinds),
+        }
+    }
+
+    /// A legal order of the history, if each object has one that is told.
+    fn merged_order(
+        &self,
+        alloc: Global,
+        events: &[Event],
+        kinds: &Kinds,
+    ) -> Result<Option<Vec<Placed>>, OutOfMemory>
+        requires split { split_in self.now ≡ length events.now }
+        requires right { (budget : ℕ) × AreRight self.now (kind_of kinds.now) budget events.now }
+        requires well_formed { IsWellFormed (functions_of (kind_of kinds.now)) events.now }
+        ensures legal { IfOk result (λ found. IfSome found (λ order. IsLegalOrder (kind_of kinds.now) events.now order.items)) }
+        ensures told { IfOk result (λ found. All IsAlive self.now.objects.items → found ≢ None) }
+    {
+        merged_orders_are_legal();
+        let Some(parts) = self.orders(alloc, events, kinds)? else {
+            return Ok(None);
+        };
+        match merge(alloc, parts) {
+            Ok(order) => Ok(Some(order)),
+            Err((_, refused)) => Err(refused),
+        }
+    }
+
+    /// Legal orders of all objects, as they are listed, if each has one that is told.
+    fn orders(
+        &self,
+        alloc: Global,
+        events: &[Event],
+        kinds: &Kinds,
+    ) -> Result<Option<Vec<Vec<Placed>>>, OutOfMemory>
+        requires split { split_in self.now ≡ length events.now }
+        requires right { (budget : ℕ) × AreRight self.now (kind_of kinds.now) budget events.now }
+        requires well_formed { IsWellFormed (functions_of (kind_of kinds.now)) events.now }
+        ensures legal { IfOk result (λ found. IfSome found (λ parts. AllZip (λ key order. IsLegalOrderFor (kind_of kinds.now) key events.now order) self.now.keys.keys (lists_of parts.items))) }
+        ensures told { IfOk result (λ found. All IsAlive self.now.objects.items → found ≢ None) }
+    {
+        let mut parts = Vec::new(alloc);
+        for i in 0..self.objects.len() {
+            let Some(order) = self.order_listed(alloc, i, events, kinds)? else {
+                return Ok(None);
+            };
+            parts.push(order)?;
+        }
+        Ok(Some(parts))
+    }
+
+    /// A legal order for the object of the key, if one is told or it is not listed.
+    fn order_of(
+        &self,
+        alloc: Global,
+        key: i64,
+        events: &[Event],
+        kinds: &Kinds,
+    ) -> Result<Option<Vec<Placed>>, OutOfMemory>
+        requires split { split_in self.now ≡ length events.now }
+        requires right { (budget : ℕ) × AreRight self.now (kind_of kinds.now) budget events.now }
+        requires well_formed { IsWellFormed (functions_of (kind_of kinds.now)) events.now }
+        ensures legal { IfOk result (λ found. IfSome found (λ order. IsLegalOrderFor (kind_of kinds.now) key events.now order.items)) }
+        ensures told { IfOk result (λ found. AreAlive self.now (Scope.Object key) → found ≢ None) }
+    {
+        absent_keys_are_legal();
+        match self.find(key) {
+            Some(i) => self.order_listed(alloc, i, events, kinds),
+            None => Ok(Some(Vec::new(alloc))),
+        }
+    }
+
+    /// A legal order for the object that is listed here, if one is told.
+    fn order_listed(
+        &self,
+        alloc: Global,
+        i: usize,
+        events: &[Event],
+        kinds: &Kinds,
+    ) -> Result<Option<Vec<Placed>>, OutOfMemory>
+        requires listed { i < length self.now.keys.keys }
+        requires split { split_in self.now ≡ length events.now }
+        requires right { (budget : ℕ) × AreRight self.now (kind_of kinds.now) budget events.now }
+        requires well_formed { IsWellFormed (functions_of (kind_of kinds.now)) events.now }
+        ensures legal { IfOk result (λ found. IfSome found (λ order. (key : ℤ) → slice_get self.now.keys.keys i ≡ Some key → IsLegalOrderFor (kind_of kinds.now) key events.now order.items)) }
+        ensures told { IfOk result (λ found. (object : ObjectOf) → slice_get self.now.objects.items i ≡ Some object → IsAlive object → found ≢ None) }
+    {
+        positions_spell_parts();
+        parts_keep_orders();
+        self.objects[i].order(alloc, events)
+    }
+}
