@@ -95,8 +95,8 @@ pub fn answered(alloc: Global, verdict: Verdict) -> Result<Reply, OutOfMemory>
     })
 }
 
-/// How many calls are tried for each event that came since, before an order of a queue or a set is looked for. A search takes less time
-/// than a try of each, and what was taken in stays so for the next question.
+/// How many calls are tried for each event that a chain has still to take in, before an order of a queue or a set is looked for. What was
+/// taken in stays so for the next question.
 const PATIENCE: u64 = 1;
 
 /// What is found for the scope.

@@ -50,7 +50,7 @@ impl Object {
         self.chain.settle(events, &self.picks, budget, meter)
     }
 
-    /// Lets its chain take some more events in, at least until the meter counts so many tries in all, if they are so many.
+    /// Lets its chain take some more events in, while they are worth it if the meter may count so many tries in all.
     pub(crate) fn take_some(
         &mut self,
         events: &[Event],
