@@ -1,25 +1,17 @@
 -- Rows of bytes that change nothing but the place.
-use Rattle.std.proofs.Common.{◌≡◌, ℕ, zero, suc, ◌+◌, ◌-◌, ◌<◌, ◌≤◌, Bool, true, false, not, List, [], ◌∷◌, ◌++◌, length, drop, get_or, refl, sym, ap, subst, ◌∙◌, inl, inr, arith, drop-cons, ◌||◌, ◌==◌, None, nat_le, map as each}
+use Rattle.std.proofs.Common.{◌≡◌, ℕ, zero, suc, ◌+◌, ◌-◌, ◌<◌, ◌≤◌, Bool, true, false, not, List, [], ◌∷◌, length, drop, get_or, refl, sym, ap, subst, ◌∙◌, inl, inr, arith, drop-cons, ◌||◌, ◌==◌}
 use Rattle.std.proofs.lemmas.Bool.{cases_lt}
 use Rattle.std.specs.List.{slice_range}
-use Rattle.lin_edn.specs.Bytes.{Kind, a_map, Class, white, semicolon, opener, closer, quote, backslash, hash, inside, class, is_white, is_stop, is_newline, quoted, stays}
-use Rattle.lin_edn.specs.Grammar.{Frame, frame, longest, outermost}
-use Rattle.lin_edn.specs.Levels.{flat}
-use Rattle.lin_edn.specs.Machine.{Mode, Turn, stop, fault, too_long, deeper, between, in_run, in_tag, in_text, in_comment, go, run, begun, on_turn, put}
-use Rattle.lin_edn.specs.Run.{run_value}
-use Rattle.lin_edn.specs.Scans.{IsStopAt, IsAhead, ArePairs, is_dark, is_quoting, is_inside}
+use Rattle.lin_edn.specs.Bytes.{a_map, Class, white, semicolon, opener, closer, quote, backslash, hash, inside, class, is_white, is_stop, is_newline, quoted, stays}
+use Rattle.lin_edn.specs.Grammar.{Frame, longest, outermost}
+use Rattle.lin_edn.specs.Machine.{Mode, between, in_run, in_tag, in_text, in_comment, go, run, begun}
+use Rattle.lin_edn.specs.Scans.{IsStopAt, IsAhead, is_dark, is_quoting, is_inside}
 use Rattle.lin_edn.specs.declared.reader.Mode.{Mode as CodeMode}
 use Rattle.lin_edn.specs.declared.reader.Mode.TheVariants as mode
 use Rattle.lin_edn.specs.Turns.{mode_of, IsBegun}
-use Rattle.lin_edn.specs.Value.{Value, map, entries_of}
-use Rattle.lin_edn.specs.View.{entry_view}
-use Rattle.lin_edn.specs.declared.Entry.{Entry}
-use Rattle.lin_edn.specs.declared.EdnCause.TheVariants.{TooDeep}
-use Rattle.std.proofs.lemmas.List.{map-append}
-use Rattle.lin_edn.proofs.Flat.{flat_key, flat_pair, made_even}
-use Rattle.lin_edn.proofs.Forth.{begins_run, close_run, enters, ends_run, run_goes, tag_goes, text_goes, comment_goes}
+use Rattle.lin_edn.proofs.Forth.{begins_run, run_goes, tag_goes, text_goes, comment_goes}
 use Rattle.lin_edn.proofs.Fronts.{positive}
-use Rattle.lin_edn.proofs.Runs.{range_more, range_one, stops}
+use Rattle.lin_edn.proofs.Runs.{range_more}
 
 along : (P : ℕ → Type 0) (k at : ℕ) → ((i : ℕ) → at ≤ i → i < at + k → P i → P (i + 1)) → P at → P (at + k)
 along P zero at h p = subst P (omega arith) p
@@ -91,6 +83,9 @@ lit false h = absurd (cc)
 pub white_class : (c : ℕ) → is_white c ≡ true → class c ≡ white
 white_class c h = rw h refl
 
+pub opens_map : (c : ℕ) → c ≡ 123 → class c ≡ opener a_map
+opens_map c h = rw h refl
+
 room : (i p : ℕ) (st : List Frame) → i < outermost p st + longest → i < outermost i st + longest
 room i p [] lt = let z : 0 < longest = positive in omega arith
 room i p (f ∷ st) lt = lt
@@ -112,33 +107,6 @@ inside_of quote h = absurd (cc)
 inside_of backslash h = absurd (cc)
 inside_of hash h = absurd (cc)
 inside_of inside h = refl
-
--- a run in a collection
-pub run_in : (s : List ℕ) (from start past end : ℕ) → from ≤ start → start < past → past < end → end ≤ length s →
-    ((i : ℕ) → from ≤ i → i < start → is_dark (get_or s i 0) ≡ false) → is_inside (class (get_or s start 0)) ≡ true →
-    ((i : ℕ) → start + 1 ≤ i → i < past → is_stop (get_or s i 0) ≡ false) → is_stop (get_or s past 0) ≡ true →
-    (k : Kind) (o : ℕ) (vs : List Value) (st : List Frame) → end ≤ outermost o st + longest →
-    run longest from (frame k o vs ∷ st) between (drop from s)
-    ≡ run longest past (frame k o (vs ++ run_value start (slice_range s start past) ∷ []) ∷ st) between (drop past s)
-run_in s from start past end a b c inside_s whites first_byte stays_in ends k o vs st short =
-    let top = frame k o vs ∷ st in
-    let at_start : start < length s = omega arith in
-    let at_stop : past < length s = omega arith in
-    let next = drop (past + 1) s in
-    let w = slice_range s start past in
-    white_row s from start o top a (omega arith) (omega arith) whites
-    ∙ ap (run longest start top between) (at_byte s start at_start)
-    ∙ begins_run longest start top (get_or s start 0) (drop (start + 1) s) inside (go top (in_run start (get_or s start 0 ∷ [])))
-    (inside_of (class (get_or s start 0)) first_byte) (omega arith) refl
-    ∙ ap (λ x. run longest (start + 1) top (in_run start x) (drop (start + 1) s)) (sym (range_one s start at_start))
-    ∙ run_row s (start + 1) past start top (omega arith) (omega arith) (omega arith) (omega arith) stays_in
-    ∙ ap (run longest past top (in_run start w)) (at_byte s past at_stop)
-    ∙ ends_run longest past top (in_run start w) (run_value start w) start (get_or s past 0) next (rw ends refl)
-    ∙ ap (run longest past (frame k o (vs ++ run_value start w ∷ []) ∷ st) between) (sym (at_byte s past at_stop))
-
--- a pair more
-pub pair_more : (es : List (Value × Value)) (k v : Value) → (flat es None ++ k ∷ []) ++ v ∷ [] ≡ flat (es ++ (k, v) ∷ []) None
-pair_more es k v = ap (λ l. l ++ v ∷ []) (sym (flat_key es k)) ∙ sym (flat_pair es k v)
 
 -- which byte stops what is open beside the levels
 abbrev pub stops_in : CodeMode → ℕ → Bool
@@ -176,48 +144,3 @@ pub found_ahead : (s : List ℕ) (at end r from : ℕ) (st : List Frame) (m foun
     ((t : List ℕ) → from ≡ begun at st (mode_of t at m)) → end ≤ from + longest → IsAhead s at r st m
 found_ahead s at end r from st m found is h before within begins short =
     mode_ahead s at end r st m (subst (λ k. IsStopAt (stops_in k) s at end r) (sym is) h) before within (let e = begins s in omega arith)
-
--- a map that is opened at a place
-pub over_here : (s : List ℕ) (at : ℕ) (st : List Frame) → at < length s → nat_le (outermost at st + longest) at ≡ true →
-    run longest at st between (drop at s) ≡ too_long (outermost at st)
-over_here s at st lt h = stops longest s at st between (too_long (outermost at st)) lt (rw h refl)
-
-pub opens_map : (c : ℕ) → c ≡ 123 → class c ≡ opener a_map
-opens_map c h = rw h refl
-
-too_deep : (at : ℕ) (st : List Frame) (t : Turn) → nat_le 64 (length st) ≡ true → deeper at at st t ≡ stop (fault at at TooDeep)
-too_deep at st t h = rw h refl
-
-pub deep_here : (s : List ℕ) (at : ℕ) (st : List Frame) → at < length s → get_or s at 0 ≡ 123 → at < outermost at st + longest → nat_le 64 (length st) ≡ true →
-    run longest at st between (drop at s) ≡ fault at at TooDeep
-deep_here s at st lt h short deep =
-    ap (run longest at st between) (at_byte s at lt)
-    ∙ begins_run longest at st (get_or s at 0) (drop (at + 1) s) (opener a_map) (stop (fault at at TooDeep)) (opens_map (get_or s at 0) h) short
-    (too_deep at st (go (frame a_map at [] ∷ st) between) deep)
-
-pub map_to : (s : List ℕ) (at paired next end : ℕ) (st : List Frame) (es : List (Value × Value)) → at < length s → get_or s at 0 ≡ 123 →
-    length st < 64 → at < outermost at st + longest → end ≤ length s → end ≤ outermost at st + longest →
-    ArePairs s (at + 1) paired end [] es → IsStopAt is_dark s paired end next →
-    run longest at st between (drop at s) ≡ run longest next (frame a_map at (flat es None) ∷ st) between (drop next s)
-map_to s at paired next end st es lt h levels short within end_short pairs whites =
-    let top = frame a_map at (flat es None) ∷ st in
-    ap (run longest at st between) (at_byte s at lt)
-    ∙ begins_run longest at st (get_or s at 0) (drop (at + 1) s) (opener a_map) (go (frame a_map at [] ∷ st) between) (opens_map (get_or s at 0) h) short
-    (enters at at st (go (frame a_map at [] ∷ st) between) levels)
-    ∙ pairs.2 at st end_short
-    ∙ white_row s paired next at top whites.0 (omega arith) (omega arith) whites.2
-
-pub map_ends : (s : List ℕ) (next at : ℕ) (st : List Frame) (es : List (Value × Value)) → next < length s → get_or s next 0 ≡ 125 →
-    next < outermost at st + longest →
-    run longest next (frame a_map at (flat es None) ∷ st) between (drop next s)
-    ≡ on_turn (put (map (entries_of es)) at st (next + 1)) (λ st' m'. run longest (next + 1) st' m' (drop (next + 1) s))
-map_ends s next at st es lt h short =
-    ap (run longest next (frame a_map at (flat es None) ∷ st) between) (at_byte s next lt ∙ ap (λ c. c ∷ drop (next + 1) s) h)
-    ∙ close_run longest a_map at (flat es None) st next (drop (next + 1) s) (map (entries_of es)) (made_even es) short
-
--- an entry more
-pub entry_more : (old new : List Entry) (e : Entry) (k v : Value) → new ≡ old ++ e ∷ [] → entry_view e ≡ (k, v) →
-    flat (each entry_view old ++ (k, v) ∷ []) None ≡ flat (each entry_view new) None
-entry_more old new e k v h is =
-    sym (ap (λ l. flat (each entry_view l) None) h ∙ ap (λ l. flat l None) (map-append entry_view old (e ∷ []))
-    ∙ ap (λ x. flat (each entry_view old ++ x ∷ []) None) is)

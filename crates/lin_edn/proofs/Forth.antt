@@ -36,7 +36,7 @@ put_then most v p at c (frame k o vs ∷ st) s = refl
 put_then most v p at c (discarding o ∷ st) s = refl
 put_then most v p at c (tagging o i w ∷ st) s = put_then most (tagged i w v) o at c st s
 
-pub ends_run : (most at : ℕ) (st : List Frame) (m : Mode) (v : Value) (p c : ℕ) (s : List ℕ) → ended at st m c ≡ put v p st at →
+ends_run : (most at : ℕ) (st : List Frame) (m : Mode) (v : Value) (p c : ℕ) (s : List ℕ) → ended at st m c ≡ put v p st at →
     run most at st m (c ∷ s) ≡ on_turn (put v p st at) (λ st' m'. run most at st' m' (c ∷ s))
 unfolding run
 ends_run most at st m v p c s e =
@@ -126,7 +126,7 @@ comment_run most (goes {p = p} {q = q} {b = b} {t = t} i h) st le =
     let a : p < q = (comment_past i).0 in comment_run most i st (omega arith) ∙ comment_goes most q st p b t h (omega arith)
 
 -- levels
-pub enters : (at p : ℕ) (st : List Frame) (t : Turn) → length st < 64 → deeper at p st t ≡ t
+enters : (at p : ℕ) (st : List Frame) (t : Turn) → length st < 64 → deeper at p st t ≡ t
 enters at p st t h = rw (is_above 64 (length st) h) refl
 
 pub tag_run : (most : ℕ) {p q : ℕ} {s t w : List ℕ} → Tag p s w q t → (st : List Frame) → length st < 64 → q ≤ outermost p st + most →
@@ -145,7 +145,7 @@ opens_run most (set_bracket {p = p} {q = q} {b = b} {t = t} {w = w} i h) st lt l
     let a : p < q = (one_past i).0 in
     hash_run most i st (omega arith) ∙ hash_goes most q st p w b t opens_set _ h refl (enters q p st (go (frame a_set p [] ∷ st) between) lt) (omega arith)
 
-pub close_run : (most : ℕ) (k : Kind) (o : ℕ) (vs : List Value) (st : List Frame) (at : ℕ) (t : List ℕ) (v : Value) → made k vs ≡ Some v →
+close_run : (most : ℕ) (k : Kind) (o : ℕ) (vs : List Value) (st : List Frame) (at : ℕ) (t : List ℕ) (v : Value) → made k vs ≡ Some v →
     at < outermost o st + most →
     run most at (frame k o vs ∷ st) between (closing k ∷ t) ≡ on_turn (put v o st (at + 1)) (λ st' m'. run most (at + 1) st' m' t)
 close_run most a_list o vs st at t v h lt = takes most at (frame a_list o vs ∷ st) between 41 t _ refl lt (ap (λ m. closed m o st at) h)

@@ -1,28 +1,17 @@
 -- What stands behind one tag or two that wait for their element, in words of the grammar.
-use Rattle.std.proofs.Common.{◌≡◌, ℕ, true, suc, ◌+◌, ◌-◌, ◌<◌, ◌≤◌, Bool, false, List, [], ◌∷◌, length, drop, ap, ◌∙◌, Some, Result, Ok, Err, None, IfOk, IfSome, Option, refl, subst, arith}
+use Rattle.std.proofs.Common.{◌≡◌, ℕ, true, suc, ◌+◌, ◌-◌, ◌<◌, ◌≤◌, Bool, false, List, [], ◌∷◌, length, drop, ap, ◌∙◌, Some, refl, subst, arith}
 use Rattle.std.proofs.lemmas.List.{drop-drop}
 use Rattle.lin_edn.specs.Bytes.{Kind, hash, behind, discards as discards_next, is_stop, closing}
 use Rattle.lin_edn.specs.Grammar.{One, Tag, Opens, discards, Blank, discarded, Blanks, no_blank, one_more, Element, tagged_element, collection, Row, empty, blank, element, longest, Frame, frame, discarding, tagging, outermost}
 use Rattle.lin_edn.specs.Machine.{Answer, complete, blank as blank_answer, partial, fault, too_long, run, between, put}
-use Rattle.lin_edn.specs.Rows.{IsElementAt}
-use Rattle.lin_edn.specs.Scans.{IsBehindTag, IsBehindTwo, IsFound}
+use Rattle.lin_edn.specs.Rows.{IsElementAt, IsNoElementAt, levels_behind}
+use Rattle.lin_edn.specs.Scans.{waiting, IsWrapped, IsBehindTags, IsNoneBehindTags}
 use Rattle.lin_edn.specs.Value.{Value, tagged, made}
-use Rattle.lin_edn.specs.View.{view}
-use Rattle.lin_edn.specs.declared.Edn.{Edn}
-use Rattle.lin_edn.specs.declared.EdnFault.{EdnFault}
 use Rattle.lin_edn.proofs.Back.{AfterOn, Keeps, holds, bound_here}
+use Rattle.lin_edn.proofs.Chains.{end_of}
+use Rattle.lin_edn.proofs.Forth.{blanks_run, element_run}
 use Rattle.lin_edn.proofs.Rising.{blanks_tail, element_past, tail_rises, then}
 use Rattle.lin_edn.proofs.Sizes.{tail_drop}
-
--- the tags that wait at the bottom, two or one
-abbrev waiting : Bool → List Frame
-waiting true = tagging 0 0 [] ∷ tagging 0 0 [] ∷ []
-waiting false = tagging 0 0 [] ∷ []
-
--- how many levels they leave
-abbrev levels_left : Bool → ℕ
-levels_left true = 62
-levels_left false = 63
 
 -- an element behind them
 abbrev wrapped : Bool → Value → Value
@@ -43,7 +32,7 @@ data Above (from : ℕ) (s : List ℕ) : Bool → ℕ → List Frame → ℕ →
 -- what is answered holds what stands there
 abbrev Told : Bool → ℕ → List ℕ → Answer → Type 0
 Told two from s (complete w o q) = (v : Value) × (w ≡ wrapped two v) × (p : ℕ) × (t u : List ℕ)
-    × Blanks (levels_left two) from s p t × Element (levels_left two) p t v q u × (q ≤ longest)
+    × Blanks (levels_behind two) from s p t × Element (levels_behind two) p t v q u × (q ≤ longest)
 Told two from s (blank_answer p) = Unit {0}
 Told two from s (partial p) = Unit {0}
 Told two from s (fault j p k) = Unit {0}
@@ -96,7 +85,7 @@ above_keeps two from s = record {
 }
 
 -- before the first byte
-none_above : (two : Bool) (from : ℕ) (s : List ℕ) → Above from s two (levels_left two) (waiting two) from s
+none_above : (two : Bool) (from : ℕ) (s : List ℕ) → Above from s two (levels_behind two) (waiting two) from s
 none_above true from s = two_wait no_blank
 none_above false from s = one_waits no_blank
 
@@ -106,35 +95,35 @@ begins_above false from le = omega arith
 
 -- what the machine finds behind the tags stands there
 inside_tags : (two : Bool) (s : List ℕ) (from : ℕ) (w : Value) (o used : ℕ) → run longest from (waiting two) between (drop from s) ≡ complete w o used → from ≤ longest →
-    (v : Value) × (w ≡ wrapped two v) × IsElementAt (levels_left two) s from v used
+    (v : Value) × (w ≡ wrapped two v) × IsElementAt (levels_behind two) s from v used
 inside_tags two s from w o used b le =
     let rest = drop from s in
     let h = subst (Told two from rest) b
-    (holds (Told two from rest) (Above from rest two) (above_keeps two from rest) rest from (waiting two) between (levels_left two, none_above two from rest) (begins_above two from le)) in
+    (holds (Told two from rest) (Above from rest two) (above_keeps two from rest) rest from (waiting two) between (levels_behind two, none_above two from rest) (begins_above two from le)) in
     let first : from ≤ h.2 = tail_rises (blanks_tail h.5) in
     let later : h.2 < used = (element_past h.6).0 in
     let behind_it : h.4 ≡ drop used s = tail_drop (then (blanks_tail h.5) (element_past h.6).1) ∙ drop-drop (used - from) from s ∙ ap (λ n. drop n s) (omega arith) in
-    (h.0, h.1, (h.2, h.3, h.5, subst (Element (levels_left two) h.2 h.3 h.0 used) behind_it h.6, h.7))
+    (h.0, h.1, (h.2, h.3, h.5, subst (Element (levels_behind two) h.2 h.3 h.0 used) behind_it h.6, h.7))
 
-pub inner : (s : List ℕ) (from : ℕ) (v : Value) (used : ℕ) → IsBehindTag s from v used → from ≤ longest → IsElementAt 63 s from v used
-inner s from v used b le =
-    let h = inside_tags false s from (tagged b.0 b.1 v) b.2 used b.3 le in
-    let same : h.0 ≡ v = (let f = h.1 in cc) in subst (λ x. IsElementAt 63 s from x used) same h.2
+same_wrapped : (two : Bool) (u v w : Value) → w ≡ wrapped two u → IsWrapped two v w → u ≡ v
+same_wrapped true u v w h t = let e = t.4 in cc
+same_wrapped false u v w h t = let e = t.2 in cc
 
-pub inner_two : (s : List ℕ) (from : ℕ) (v : Value) (used : ℕ) → IsBehindTwo s from v used → from ≤ longest → IsElementAt 62 s from v used
-inner_two s from v used b le =
-    let h = inside_tags true s from (tagged b.0 b.2 (tagged b.1 b.3 v)) b.4 used b.5 le in
-    let same : h.0 ≡ v = (let f = h.1 in cc) in subst (λ x. IsElementAt 62 s from x used) same h.2
+pub inner : (two : Bool) (s : List ℕ) (from : ℕ) (v : Value) (used : ℕ) → IsBehindTags two s from v used → from ≤ longest → IsElementAt (levels_behind two) s from v used
+inner two s from v used b le =
+    let h = inside_tags two s from b.0 b.1 used b.3 le in
+    subst (λ x. IsElementAt (levels_behind two) s from x used) (same_wrapped two h.0 v b.0 h.1 b.2) h.2
 
--- if one is found
-pub inner_if : (s : List ℕ) (from : ℕ) (r : Result (Option (Edn × ℕ)) EdnFault) → IsFound s from r → from ≤ longest →
-    IfOk r (λ found. IfSome found (λ x. IsElementAt 63 s from (view x.0) x.1))
-inner_if s from (Ok (Some x)) h le = inner s from (view x.0) x.1 h le
-inner_if s from (Ok None) h le = tt
-inner_if s from (Err f) h le = tt
+-- where the machine finds none, none stands
+behind_two : {p q o : ℕ} {s t u : List ℕ} {v : Value} → Blanks 62 p s q t → Element 62 q t v o u → o ≤ longest →
+    run longest p (waiting true) between s ≡ complete (wrapped true v) 0 o
+behind_two {q = q} {o = o} bs e le =
+    let a : q < o = (element_past e).0 in
+    blanks_run longest bs (tagging 0 0 []) (tagging 0 0 [] ∷ []) (omega arith) (omega arith) ∙ element_run longest e (waiting true) (omega arith) (omega arith)
 
-pub inner_two_if : (s : List ℕ) (from : ℕ) (r : Result (Option (Edn × ℕ)) EdnFault) → IfOk r (λ found. IfSome found (λ x. IsBehindTwo s from (view x.0) x.1)) →
-    from ≤ longest → IfOk r (λ found. IfSome found (λ x. IsElementAt 62 s from (view x.0) x.1))
-inner_two_if s from (Ok (Some x)) h le = inner_two s from (view x.0) x.1 h le
-inner_two_if s from (Ok None) h le = tt
-inner_two_if s from (Err f) h le = tt
+found_behind : (two : Bool) (s : List ℕ) (from : ℕ) (v : Value) (used : ℕ) → IsElementAt (levels_behind two) s from v used → IsBehindTags two s from v used
+found_behind true s from v used e = (wrapped true v, 0, (0, 0, [], [], refl), behind_two e.2 e.3 e.4)
+found_behind false s from v used e = (wrapped false v, 0, (0, [], refl), end_of longest e.2 e.3 (omega arith) e.4)
+
+pub none_there : (two : Bool) (s : List ℕ) (from : ℕ) → IsNoneBehindTags two s from → IsNoElementAt (levels_behind two) s from
+none_there two s from none v used e = none v used (found_behind two s from v used e)

@@ -5,8 +5,8 @@ use Rattle.lin_edn.specs.Bytes.{a_set, Class, class, white, semicolon, opener, c
 use Rattle.lin_edn.specs.Grammar.{no_blank_yet, Open, none_open, Frame, frame, discarding, tagging, longest, IsUnfinished, IsBlankText, outermost}
 use Rattle.lin_edn.specs.Machine.{Mode, between, in_run, after_hash, after_backslash, in_tag, in_text, in_escape, in_comment, partial, blank, fault, too_long, Turn, go, stop, run, step, limited, ended, taken, begun, put, deeper, begins, goes_on, quotes, apart, close, closed, at_end}
 use Rattle.lin_edn.specs.Run.{run_value}
-use Rattle.lin_edn.specs.Rows.{IsRow, bracket_of}
-use Rattle.lin_edn.specs.Skimming.{Shape, brackets, a_discard, a_tag, shape_of, still, put_shape, with_part, apart_shape, ended_shape, deeper_shape, close_shape, begins_shape, goes_on_shape, quotes_shape, taken_shape, IsIn, LeavesOpen, HasSeen, HasGone, shapes_of, IsOpenText}
+use Rattle.lin_edn.specs.Rows.{IsRow, IsRound, bracket_of, row_levels}
+use Rattle.lin_edn.specs.Skimming.{Shape, brackets, a_discard, a_tag, shape_of, still, put_shape, with_part, apart_shape, ended_shape, deeper_shape, close_shape, begins_shape, goes_on_shape, quotes_shape, taken_shape, IsIn, LeavesOpen, HasSeen, HasGone, shapes_of, row_shapes, IsOpenText}
 use Rattle.lin_edn.specs.Value.{Value, atom, text as a_text, tagged, made}
 use Rattle.lin_edn.specs.declared.EdnCause.TheVariants.{Unbalanced, TooDeep}
 use Rattle.lin_edn.specs.declared.series.Series.{Series}
@@ -287,16 +287,28 @@ seen_gone old new text piece g seen =
     )
 
 -- in a list or vector
-row_shape : (b : Bool) (vs : List Value) → shape_of (frame (bracket_of b) 0 vs) ≡ brackets (bracket_of b) true
-row_shape true vs = refl
-row_shape false vs = refl
+row_shape : (b : Bool) (o : ℕ) (vs : List Value) → shape_of (frame (bracket_of b) o vs) ≡ brackets (bracket_of b) true
+row_shape true o vs = refl
+row_shape false o vs = refl
 
-pub seen_in : (r : Series) (text : List ℕ) (vs : List Value) (old new : Skim) → old.length ≡ r.at → shapes_of old.levels.items ≡ brackets (bracket_of r.is_vector) true ∷ [] →
-    old.part ≡ part.Between → HasGone old new (drop r.at text) → IsRow r text vs → HasSeen new text
-seen_in r text vs old new size shapes is_between g row =
+round_shapes : (is_tagged b : Bool) (begun o : ℕ) (st : List Frame) (vs : List Value) → IsRound is_tagged begun o st → begun ≡ 0 →
+    (each shape_of (frame (bracket_of b) o vs ∷ st) ≡ row_shapes is_tagged b) × (outermost o st ≡ 0)
+round_shapes true b begun o st vs round first = (
+  ap (λ (fs : List Frame). each shape_of (frame (bracket_of b) o vs ∷ fs)) round.2 ∙ ap (λ l. l ∷ a_tag ∷ []) (row_shape b o vs),
+  ap (outermost o) round.2 ∙ first,
+)
+round_shapes false b begun o st vs round first = (
+  ap (λ (fs : List Frame). each shape_of (frame (bracket_of b) o vs ∷ fs)) round.1 ∙ ap (λ l. l ∷ []) (row_shape b o vs),
+  ap (outermost o) round.1 ∙ round.0 ∙ first,
+)
+
+pub seen_in : (r : Series) (text : List ℕ) (vs : List Value) (old new : Skim) → old.length ≡ r.at → shapes_of old.levels.items ≡ row_shapes r.is_tagged r.is_vector →
+    old.part ≡ part.Between → r.begun ≡ 0 → HasGone old new (drop r.at text) → IsRow r text vs → HasSeen new text
+seen_in r text vs old new size shapes is_between first g row =
     let rest = drop r.at text in
-    let begins : LeavesOpen text r.at rest (brackets (bracket_of r.is_vector) true ∷ []) part.Between =
-    (row.1, 63, frame (bracket_of r.is_vector) 0 vs ∷ [], r.at, rest, row.2, (refl, refl), ap (λ l. l ∷ []) (row_shape r.is_vector vs), refl) in (
+    let round = round_shapes r.is_tagged r.is_vector r.begun row.2 row.3 vs row.4 first in
+    let begins : LeavesOpen text r.at rest (row_shapes r.is_tagged r.is_vector) part.Between =
+    (row.1, row_levels r, frame (bracket_of r.is_vector) row.2 vs ∷ row.3, r.at, rest, row.5, (refl, refl), round.0, round.1) in (
       (let e = length-drop r.at text in let i : r.at ≤ length text = row.0 in let j : new.length ≡ old.length + length rest = g.0 in omega arith),
       g.1 text [] (rw (size, shapes, is_between, append-nil rest) begins),
     )

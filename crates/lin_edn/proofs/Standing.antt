@@ -1,11 +1,11 @@
 -- What the scans of rows of bytes find, in words of the grammar.
-use Rattle.std.proofs.Common.{◌≡◌, ℕ, suc, ◌+◌, ◌<◌, ◌≤◌, true, false, not, List, [], ◌∷◌, length, drop, get_or, refl, sym, ap, subst, arith, ◌∙◌}
+use Rattle.std.proofs.Common.{◌≡◌, ℕ, ◌+◌, ◌<◌, ◌≤◌, true, false, not, List, [], ◌∷◌, length, drop, get_or, refl, sym, ap, subst, arith, ◌∙◌}
 use Rattle.std.specs.List.{slice_range}
 use Rattle.lin_edn.specs.Bytes.{Class, class, white, inside, quote, hash, is_white, is_stop, quoted, ends, behind, names_tag}
-use Rattle.lin_edn.specs.Grammar.{One, one, Inside, first, next, Tag, first_of_tag, next_of_tag, tagged_element, Blanks, no_blank, one_more, Text, opened, plain, Blank, white_byte, Element, run as a_run, whole_text, Row, blank, ShortBlanks, one_more_short, longest}
+use Rattle.lin_edn.specs.Grammar.{One, one, Inside, first, next, Tag, first_of_tag, next_of_tag, IsTagAt, Blanks, no_blank, one_more, Text, opened, plain, Blank, white_byte, Element, run as a_run, whole_text, Row, blank, ShortBlanks, one_more_short, longest}
 use Rattle.lin_edn.specs.Run.{run_value}
 use Rattle.lin_edn.specs.Scans.{IsStopAt, is_dark, is_quoting, is_inside}
-use Rattle.lin_edn.specs.Value.{Value, tagged, text as text_value}
+use Rattle.lin_edn.specs.Value.{Value, text as text_value}
 use Rattle.lin_edn.proofs.Ahead.{along_to, at_byte, lit, white_class, inside_of, stays_of}
 use Rattle.lin_edn.specs.Machine.{complete}
 use Rattle.lin_edn.proofs.Forth.{element_run}
@@ -87,12 +87,10 @@ text_stands s from until end lt begins h within before stops n =
 pub hashes : (c : ℕ) → c ≡ 35 → class c ≡ hash
 hashes c h = rw h refl
 
--- a tag in front of an element
-pub tag_apart : (s : List ℕ) (from until end : ℕ) → from + 1 < length s → get_or s from 0 ≡ 35 → behind (get_or s (from + 1) 0) ≡ names_tag →
-    IsStopAt is_stop s (from + 2) end until → end ≤ length s → until < end →
-    (n r q : ℕ) (v : Value) (u t : List ℕ) → Blanks n until (drop until s) r u → Element n r u v q t →
-    Element (suc n) from (drop from s) (tagged (from + 1) (slice_range s (from + 1) until) v) q t
-tag_apart s from until end lt begins names h within before n r q v u t bs e =
+-- a tag
+pub tag_stands : (s : List ℕ) (from until end : ℕ) → from + 1 < length s → get_or s from 0 ≡ 35 → behind (get_or s (from + 1) 0) ≡ names_tag →
+    IsStopAt is_stop s (from + 2) end until → end ≤ length s → until < end → IsTagAt s from until
+tag_stands s from until end lt begins names h within before =
     let place : from + 1 + 1 ≡ from + 2 = omega arith in
     let opened_tag : One hash from (drop from s) (get_or s from 0 ∷ []) (from + 1) (get_or s (from + 1) 0 ∷ drop (from + 1 + 1) s) =
     subst (λ l. One hash from (drop from s) (get_or s from 0 ∷ []) (from + 1) l) (at_byte s (from + 1) lt) (one_at s from hash (omega arith) (hashes (get_or s from 0) begins)) in
@@ -103,8 +101,14 @@ tag_apart s from until end lt begins names h within before n r q v u t bs e =
     subst (λ w. Tag from (drop from s) w (i + 1) (drop (i + 1) s)) (sym (range_more s (from + 1) i (omega arith) (omega arith)))
     (next_of_tag (subst (λ l. Tag from (drop from s) (slice_range s (from + 1) i) i l) (at_byte s i (omega arith)) so_far) (h.2 i a b)))
     (subst (λ i. Tag from (drop from s) (slice_range s (from + 1) i) i (drop i s)) place start) in
-    tagged_element (subst (λ l. Tag from (drop from s) (slice_range s (from + 1) until) until l) (at_byte s until (omega arith)) whole) (h.3 before)
-    (subst (λ l. Blanks n until l r u) (at_byte s until (omega arith)) bs) e
+    let rest = at_byte s until (omega arith) in (
+      slice_range s (from + 1) until,
+      get_or s until 0,
+      drop (until + 1) s,
+      subst (λ l. Tag from (drop from s) (slice_range s (from + 1) until) until l) rest whole,
+      h.3 before,
+      rest,
+    )
 
 -- two elements at a place are one
 pub one_element : {n m p q r : ℕ} {s t u : List ℕ} {v w : Value} → n ≤ 64 → m ≤ 64 → Element n p s v q t → Element m p s w r u → (v ≡ w) × (q ≡ r)

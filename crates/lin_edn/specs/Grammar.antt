@@ -2,7 +2,7 @@
 --
 -- A row as `Element n p s v q t` reads: with n more levels, the bytes s, which stand from place p on,
 -- begin with the spelling of v, which ends before place q, from where on the bytes t stand.
-use Rattle.std.specs.Prelude.{◌≡◌, ℕ, suc, ◌+◌, ◌<◌, ◌≤◌, Bool, true, false, List, [], ◌∷◌, ◌++◌, length, take, Some, None, ◌==◌}
+use Rattle.std.specs.Prelude.{◌≡◌, ℕ, suc, ◌+◌, ◌<◌, ◌≤◌, Bool, true, false, List, [], ◌∷◌, ◌++◌, length, drop, take, Some, None, ◌==◌}
 use Rattle.lin_edn.specs.Bytes.{Kind, a_set, Class, class, white, semicolon, opener, closer, quote, backslash, hash, inside, is_stop, is_newline, closing, Behind, behind, opens_set, opens_text, discards as discards_next, joins, stands_apart, names_tag, quoted, ends, escapes, stays}
 use Rattle.lin_edn.specs.Run.{run_value}
 use Rattle.lin_edn.specs.Value.{Value, atom, text, tagged, made}
@@ -24,6 +24,10 @@ pub data Inside : ℕ → List ℕ → List ℕ → ℕ → List ℕ → Type 0 
 pub data Tag : ℕ → List ℕ → List ℕ → ℕ → List ℕ → Type 0 where
   first_of_tag : {p q b : ℕ} {s t w : List ℕ} → One hash p s w q (b ∷ t) → behind b ≡ names_tag → Tag p s (b ∷ []) (q + 1) t
   next_of_tag : {p q b : ℕ} {s t w : List ℕ} → Tag p s w q (b ∷ t) → is_stop b ≡ false → Tag p s (w ++ b ∷ []) (q + 1) t
+
+-- from one place to another stands a tag, which a stop byte ends
+abbrev pub IsTagAt : List ℕ → ℕ → ℕ → Type 0
+IsTagAt s from until = (w : List ℕ) × (c : ℕ) × (t : List ℕ) × Tag from (drop from s) w until (c ∷ t) × (is_stop c ≡ true) × (drop until s ≡ c ∷ t)
 
 mutual
   -- the beginning of a text

@@ -3,6 +3,7 @@
 use Rattle.std.specs.Prelude.{◌≡◌, ℕ, ◌+◌, ◌<◌, ◌≤◌, Bool, true, false, ◌&&◌, ◌==◌, nat_le, if◌then◌else◌, List, [], ◌∷◌, ◌++◌, length, map, reverse, Option, Some, None, option_map, is_some, not}
 use Rattle.lin_edn.specs.Bytes.{Kind, a_list, a_vector, a_set, a_map, Class, class, white, semicolon, opener, closer, quote, backslash, hash, inside, is_stop, is_newline, closing, Behind, behind, opens_set, opens_text, discards, joins, stands_apart, names_tag, Quoted, quoted, ends, escapes, stays}
 use Rattle.lin_edn.specs.Grammar.{One, Inside, Tag, Text, Escape, Comment, Frame, frame, discarding, tagging, outermost, Open, longest, IsUnfinished, IsBlankText}
+use Rattle.lin_edn.specs.Rows.{bracket_of}
 use Rattle.lin_edn.specs.Value.{made}
 use Rattle.lin_edn.specs.declared.skim.Level.{Level}
 use Rattle.lin_edn.specs.declared.skim.Level.TheVariants as level
@@ -33,6 +34,11 @@ level_view level.Discard = a_discard
 -- the open levels, the innermost first
 abbrev pub shapes_of : List Level → List Shape
 shapes_of ls = reverse (map level_view ls)
+
+-- the levels that a vector or list opens, behind a tag or none
+abbrev pub row_shapes : Bool → Bool → List Shape
+row_shapes true is_vector = brackets (bracket_of is_vector) true ∷ a_tag ∷ []
+row_shapes false is_vector = brackets (bracket_of is_vector) true ∷ []
 
 -- with so many more levels, this is begun at one place and open at another; a tag is a level more once its name ends
 abbrev pub IsIn : Part → ℕ → ℕ → List ℕ → ℕ → List ℕ → Type 0

@@ -1,10 +1,10 @@
 //! White, runs, texts and tags of an input, found in place.
 
-ghost use Rattle.std.specs.Prelude.{◌≡◌, ℕ, suc, ◌+◌, ◌<◌, ◌≤◌, List, length, drop};
+ghost use Rattle.std.specs.Prelude.{◌≡◌, ℕ, ◌+◌, ◌<◌, ◌≤◌, List, length, drop};
 ghost use Rattle.std.specs.List.{slice_range};
-ghost use Rattle.lin_edn.specs.Grammar.{ShortBlanks, Blanks, Row, Element};
+ghost use Rattle.lin_edn.specs.Grammar.{ShortBlanks, Blanks, Row, Element, IsTagAt};
 ghost use Rattle.lin_edn.specs.Run.{run_value};
-ghost use Rattle.lin_edn.specs.Value.{Value, tagged, text as text_value};
+ghost use Rattle.lin_edn.specs.Value.{Value, text as text_value};
 
 use crate::reader::{Behind, behind_hash};
 use crate::scan::{is_plain, is_white, plain_end, run_end, white_end};
@@ -85,10 +85,7 @@ pub fn tag_until(input: &[u8], from: usize, end: usize) -> usize
     requires begun { from ≤ end }
     requires inside { end ≤ length input.now }
     ensures within { (from ≤ result) × (result ≤ end) }
-    ensures tag { from < result → (n : ℕ) (q : ℕ) (v : Value) (t : List ℕ) → Element n result (drop result input.now) v q t →
-        Element (suc n) from (drop from input.now) (tagged (from + 1) (slice_range input.now (from + 1) result) v) q t }
-    ensures apart { from < result → (n : ℕ) (r : ℕ) (q : ℕ) (v : Value) (u : List ℕ) (t : List ℕ) → Blanks n result (drop result input.now) r u → Element n r u v q t →
-        Element (suc n) from (drop from input.now) (tagged (from + 1) (slice_range input.now (from + 1) result) v) q t }
+    ensures tag { from < result → IsTagAt input.now from result }
 {
     if end - from < 2 {
         return from;

@@ -69,7 +69,7 @@ pub(crate) fn map_of<'a>(entries: Vec<Entry<'a>>) -> Edn<'a>
 }
 
 /// A key with its value.
-pub(crate) fn entry_of<'a>(key: Edn<'a>, value: Edn<'a>) -> Entry<'a>
+fn entry_of<'a>(key: Edn<'a>, value: Edn<'a>) -> Entry<'a>
     ensures { entry_view result ≡ (view key.entry, view value.entry) }
 {
     Entry { key, value }

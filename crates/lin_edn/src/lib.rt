@@ -25,7 +25,7 @@ pub use crate::found::{run_until, tag_until, text_until, white_until};
 pub use crate::nested::nested_until;
 pub use crate::reader::window;
 pub use crate::run::{integer, run_element};
-pub use crate::series::{Inside, Series, element_within};
+pub use crate::series::{Inside, Series};
 pub use crate::skim::Skim;
 use std::alloc::{AllocError, Global};
 

@@ -3,31 +3,25 @@
 ghost use Rattle.std.specs.Prelude.{◌≡◌, ℕ, ◌+◌, ◌<◌, ◌≤◌, nat_le, slice_index, drop, Ok, List, length, IfOk, [], ◌∷◌, map, option_map};
 ghost use Rattle.std.specs.List.{slice_range};
 ghost use Rattle.lin_edn.specs.Bytes as bytes;
-ghost use Rattle.lin_edn.specs.Grammar.{longest, discarding};
+ghost use Rattle.lin_edn.specs.Grammar.{longest};
 ghost use Rattle.lin_edn.specs.Grammar as grammar;
 ghost use Rattle.lin_edn.specs.Levels.{frame_view, frames_of, flat};
 ghost use Rattle.lin_edn.specs.Machine as machine;
-ghost use Rattle.lin_edn.specs.Run.{run_value};
-ghost use Rattle.lin_edn.specs.Scans.{IsAhead, IsRunTo, ArePairs, AreOpened, IsWent, GoesFrom};
+ghost use Rattle.lin_edn.specs.Scans.{IsAhead};
 ghost use Rattle.lin_edn.specs.Turns.{IsMove, IsEnding, IsBegun, mode_of, behind_of, Answers};
 ghost use Rattle.lin_edn.specs.Value as value;
 ghost use Rattle.lin_edn.specs.View.{view, entry_view};
-ghost use Rattle.lin_edn.specs.declared.reader.Mode.TheVariants as the_mode;
 
 use crate::levels::{
-    Frame, Placed, Sequence, closing, depth, entry_of, finish, gathered, map_of, opened_at, pop,
-    push,
+    Frame, Placed, Sequence, closing, depth, finish, gathered, map_of, opened_at, pop, push,
 };
 use crate::run::run_element;
-use crate::scan::{is_plain, is_stop, is_white, line_end, plain_end, run_end, white_end};
+use crate::scan::{is_stop, is_white, line_end, plain_end, run_end, white_end};
 use crate::{Edn, EdnCause, EdnFault, Entry, Next, Span};
 use std::alloc::{AllocError, Global};
 
 // The greatest number of bytes that a top-level element, comment or discard has.
 pub(crate) const LONGEST: usize = 16_777_216;
-
-// Room for the entries of the usual map at its beginning.
-pub(crate) const USUAL_ENTRIES: usize = 6;
 
 // The greatest number of levels.
 pub(crate) const DEEPEST: usize = 64;
@@ -58,15 +52,6 @@ pub(crate) enum Ended<'a> {
 #[derive(Drop)]
 pub(crate) enum Moved<'a> {
     On(Mode),
-    /// A top-level element, with the places where it begins and ends.
-    Done(Edn<'a>, usize, usize),
-    Fault(usize, EdnCause),
-}
-
-/// What came of the bytes up to a place.
-#[derive(Drop)]
-pub(crate) enum Went<'a> {
-    On(Mode, usize),
     /// A top-level element, with the places where it begins and ends.
     Done(Edn<'a>, usize, usize),
     Fault(usize, EdnCause),
@@ -546,212 +531,6 @@ fn ahead(stack: &[Frame], input: &[u8], mode: Mode, at: usize) -> usize
     }
 }
 
-/// Where the run behind white bytes begins and ends; where none ends before `end`, that is its end.
-fn plain_run(input: &[u8], from: usize, end: usize) -> (usize, usize)
-    requires begun { from ≤ end }
-    requires inside { end ≤ length input.now }
-    ensures { IsRunTo input.now from end result }
-{
-    let start = white_end(input, from, end);
-    if start == end {
-        return (end, end);
-    }
-    if !is_plain(input[start]) {
-        return (end, end);
-    }
-    (start, run_end(input, start + 1, end))
-}
-
-/// Takes all pairs of runs that stand in a map from a place on, and answers where they end.
-fn take_pairs<'a>(
-    entries: &mut Vec<Entry<'a>>,
-    input: &'a [u8],
-    from: usize,
-    end: usize,
-) -> Result<usize, AllocError>
-    requires begun { from ≤ end }
-    requires inside { end ≤ length input.now }
-    ensures { IfOk result (λ next. ArePairs input.now from next end (map entry_view entries.old.items) (map entry_view entries.new.items)) }
-{
-    let mut at = from;
-    while at < end {
-        let (key_at, key_end) = plain_run(input, at, end);
-        if key_end == end {
-            return Ok(at);
-        }
-        let (value_at, value_end) = plain_run(input, key_end, end);
-        if value_end == end {
-            return Ok(at);
-        }
-        let key = run_element(key_at, &input[key_at..key_end]);
-        let value = run_element(value_at, &input[value_at..value_end]);
-        entries.push(entry_of(key, value))?;
-        at = value_end;
-    }
-    Ok(at)
-}
-
-/// Takes all pairs of runs that stand behind the opening byte of a map, and the white behind them.
-pub(crate) fn open_pairs<'a>(
-    entries: &mut Vec<Entry<'a>>,
-    input: &'a [u8],
-    at: usize,
-    end: usize,
-) -> Result<usize, AllocError>
-    requires begun { at < end }
-    requires inside { end ≤ length input.now }
-    requires opens { slice_index input.now at ≡ 123 }
-    requires none { entries.old.items ≡ [] }
-    ensures { IfOk result (λ next. AreOpened input.now at next end (map entry_view entries.new.items)) }
-{
-    let paired = take_pairs(entries, input, at + 1, end)?;
-    Ok(white_end(input, paired, end))
-}
-
-/// Takes the map whose opening byte stands at a place, up to its end where it holds runs alone.
-fn open_map<'a>(
-    alloc: Global,
-    stack: &mut Vec<Frame<'a>>,
-    input: &'a [u8],
-    at: usize,
-) -> Result<Went<'a>, AllocError>
-    requires inside { at < length input.now }
-    requires opens { slice_index input.now at ≡ 123 }
-    ensures { IfOk result (GoesFrom input.now at the_mode.Between stack.old.items stack.new.items) }
-{
-    let begun = outermost(stack, at);
-    if is_over(begun, at) {
-        return Ok(Went::Fault(begun, EdnCause::TooLong));
-    }
-    if depth(stack) >= DEEPEST {
-        return Ok(Went::Fault(at, EdnCause::TooDeep));
-    }
-    let end = window(begun, input.len());
-    let mut entries = Vec::with_capacity(alloc, USUAL_ENTRIES)?;
-    let next = open_pairs(&mut entries, input, at, end)?;
-    if next < end && input[next] == b'}' {
-        return Ok(close_pairs(alloc, stack, entries, at, next)?);
-    }
-    push(stack, Frame::Entries(at, entries, None))?;
-    Ok(Went::On(Mode::Between, next))
-}
-
-/// Ends a map of runs that began at a place.
-fn close_pairs<'a>(
-    alloc: Global,
-    stack: &mut Vec<Frame<'a>>,
-    entries: Vec<Entry<'a>>,
-    from: usize,
-    at: usize,
-) -> Result<Went<'a>, AllocError>
-    requires { at < usize.MAX }
-    ensures { IfOk result (λ went. (s : List ℕ) (o : ℕ) (a : machine.Answer) → o ≤ at → at < length s →
-        a ≡ machine.on_turn (machine.put (value.map (value.entries_of (map entry_view entries.entry.items))) from (frames_of stack.old.items) (at + 1))
-        (λ st m. machine.run longest (at + 1) st m (drop (at + 1) s)) →
-        IsWent s o went (frames_of stack.new.items) a) }
-{
-    match finish(alloc, stack, map_of(entries), from)? {
-        Placed::Inside => Ok(Went::On(Mode::Between, at + 1)),
-        Placed::Alone(element, from) => Ok(Went::Done(element, from, at + 1)),
-    }
-}
-
-/// Whether the innermost level is a map that waits for a key.
-fn awaits_key(stack: &[Frame]) -> bool {
-    match stack.last() {
-        Some(Frame::Entries(_, _, key)) => key.is_none(),
-        _ => false,
-    }
-}
-
-/// Takes the byte at a place, and all pairs of runs that begin there in the innermost level.
-fn more_pairs<'a>(
-    alloc: Global,
-    stack: &mut Vec<Frame<'a>>,
-    input: &'a [u8],
-    at: usize,
-) -> Result<Went<'a>, AllocError>
-    requires inside { at < length input.now }
-    ensures { IfOk result (GoesFrom input.now at the_mode.Between stack.old.items stack.new.items) }
-{
-    let end = window(outermost(stack, at), input.len());
-    if end <= at {
-        return Ok(one_step(alloc, stack, input, Mode::Between, at)?);
-    }
-    let next = pairs_on_top(stack, input, at, end)?;
-    if next > at {
-        return Ok(Went::On(Mode::Between, next));
-    }
-    Ok(one_step(alloc, stack, input, Mode::Between, at)?)
-}
-
-/// Takes the pairs of runs that begin at a place, where the innermost level is a map that waits for a key.
-fn pairs_on_top<'a>(
-    stack: &mut Vec<Frame<'a>>,
-    input: &'a [u8],
-    at: usize,
-    end: usize,
-) -> Result<usize, AllocError>
-    requires begun { at ≤ end }
-    requires inside { end ≤ length input.now }
-    ensures { IfOk result (λ next. (at ≤ next) × (next ≤ end) × (end ≤ grammar.outermost at (frames_of stack.old.items) + longest →
-        machine.run longest at (frames_of stack.old.items) machine.between (drop at input.now)
-        ≡ machine.run longest next (frames_of stack.new.items) machine.between (drop next input.now))) }
-{
-    match pop(stack) {
-        Some(Frame::Entries(from, mut entries, None)) => {
-            let next = take_pairs(&mut entries, input, at, end)?;
-            push(stack, Frame::Entries(from, entries, None))?;
-            Ok(next)
-        }
-        Some(frame) => {
-            push(stack, frame)?;
-            Ok(at)
-        }
-        None => Ok(at),
-    }
-}
-
-/// Takes the byte at a place, and all that can be taken with it.
-fn go_from<'a>(
-    alloc: Global,
-    stack: &mut Vec<Frame<'a>>,
-    input: &'a [u8],
-    mode: Mode,
-    at: usize,
-) -> Result<Went<'a>, AllocError>
-    requires inside { at < length input.now }
-    requires begun { IsBegun mode at }
-    ensures { IfOk result (GoesFrom input.now at mode stack.old.items stack.new.items) }
-{
-    match mode {
-        Mode::Between if input[at] == b'{' => Ok(open_map(alloc, stack, input, at)?),
-        Mode::Between if is_plain(input[at]) && awaits_key(stack) => Ok(more_pairs(
-            alloc, stack, input, at,
-        )?),
-        _ => Ok(one_step(alloc, stack, input, mode, at)?),
-    }
-}
-
-/// Takes the byte at a place.
-fn one_step<'a>(
-    alloc: Global,
-    stack: &mut Vec<Frame<'a>>,
-    input: &'a [u8],
-    mode: Mode,
-    at: usize,
-) -> Result<Went<'a>, AllocError>
-    requires inside { at < length input.now }
-    requires begun { IsBegun mode at }
-    ensures { IfOk result (GoesFrom input.now at mode stack.old.items stack.new.items) }
-{
-    match step(alloc, stack, input, mode, at)? {
-        Moved::On(mode) => Ok(Went::On(mode, at + 1)),
-        Moved::Done(element, from, used) => Ok(Went::Done(element, from, used)),
-        Moved::Fault(from, cause) => Ok(Went::Fault(from, cause)),
-    }
-}
-
 /// What stands at the front of the input, in one pass over it.
 pub(crate) fn scan<'a>(alloc: Global, input: &'a [u8]) -> Result<Next<'a>, EdnFault>
     ensures { Answers (machine.run longest 0 [] machine.between input.entry.now) result }
@@ -776,13 +555,13 @@ pub(crate) fn scan_on<'a>(
         if here == input.len() {
             return Ok(at_end(&stack, mode, here));
         }
-        match go_from(alloc, &mut stack, input, mode, here)? {
-            Went::On(next_mode, next) => {
-                mode = next_mode;
-                at = next;
+        match step(alloc, &mut stack, input, mode, here)? {
+            Moved::On(next) => {
+                mode = next;
+                at = here + 1;
             }
-            Went::Done(value, at, used) => return Ok(Next::Complete { value, at, used }),
-            Went::Fault(at, cause) => return Err(EdnFault { at, cause }),
+            Moved::Done(value, at, used) => return Ok(Next::Complete { value, at, used }),
+            Moved::Fault(at, cause) => return Err(EdnFault { at, cause }),
         }
     }
     Ok(at_end(&stack, mode, at))

@@ -1,29 +1,31 @@
 //! A list or vector that is read element by element.
 
-ghost use Rattle.std.specs.Prelude.{◌≡◌, ℕ, ◌<◌, ◌≤◌, ◌++◌, [], List, Ok, IfOk, IfSome, IfNone, MatchOption, length, drop, map};
+ghost use Rattle.std.specs.Prelude.{◌≡◌, ℕ, ◌+◌, ◌<◌, ◌≤◌, ◌++◌, [], List, IfOk, IfSome, IfNone, MatchOption, Ok, drop, length, slice_index};
 ghost use Rattle.lin_edn.specs.Bytes as bytes;
-ghost use Rattle.lin_edn.specs.Grammar.{longest, tagging, Row};
-ghost use Rattle.lin_edn.specs.Levels.{frame_view};
+ghost use Rattle.lin_edn.specs.Grammar.{longest, tagging, Opens, Row, ShortBlanks};
+ghost use Rattle.lin_edn.specs.Levels.{frame_view, frames_of};
 ghost use Rattle.lin_edn.specs.Machine.{Answer, complete};
-ghost use Rattle.lin_edn.specs.Rows.{IsRow, IsNext, IsElementAt, IsBracketless, bracket_of, row_end};
-ghost use Rattle.lin_edn.specs.Scans.{AreOpened, IsBehindTwo, IsFound};
+ghost use Rattle.lin_edn.specs.Rows.{IsRow, IsNext, IsBracketless, bracket_of, row_begun, row_end, row_levels};
+ghost use Rattle.lin_edn.specs.Scans.{IsFound, IsWrapped, waiting};
 ghost use Rattle.lin_edn.specs.Turns.{Answers};
 ghost use Rattle.lin_edn.specs.Value.{Value, tagged};
-ghost use Rattle.lin_edn.specs.View.{view, entry_view};
+ghost use Rattle.lin_edn.specs.View.{view};
 
-use crate::levels::{Frame, map_of, push};
-use crate::reader::{USUAL_ENTRIES, open_pairs, scan_on, window};
+use crate::found::tag_until;
+use crate::levels::{Frame, push};
+use crate::reader::{scan_on, window};
 use crate::scan::white_end;
-use crate::{Edn, EdnCause, EdnFault, Entry, Next, Span};
-use std::alloc::Global;
+use crate::{Edn, EdnCause, EdnFault, Next, Span};
+use std::alloc::{AllocError, Global};
 
-// The greatest number of levels within a list or vector without a tag.
-const INNER_LEVELS: usize = 63;
-
-/// A list or vector in front of a text, whose elements are read one by one, so that none has to be kept.
+/// A list or vector in front of a text, with a tag in front of it or none, whose elements are read one by one, so that none has to
+/// be kept.
 #[derive(Clone, Copy)]
 pub struct Series {
     is_vector: bool,
+    is_tagged: bool,
+    // Where it begins: at its tag, if it has one.
+    begun: usize,
     // How far the text is read.
     at: usize,
 }
@@ -41,45 +43,26 @@ pub enum Inside<'a> {
 }
 
 impl Series {
-    /// Whether it is a vector.
-    pub(crate) fn is_vector(&self) -> bool
-        ensures { result ≡ self.now.is_vector }
-    {
-        self.is_vector
-    }
-
-    /// How far the text is read.
-    pub(crate) fn end(&self) -> usize
-        ensures { result ≡ row_end self.now }
-    {
-        self.at
-    }
-
-    /// The list or vector that a text begins with, before its first element.
+    /// The list or vector that a text begins with behind white, with a tag in front of it or none, before its first element.
     pub fn begin(text: &[u8]) -> Option<Series>
         ensures some { IfSome result (λ r. IsRow r text.now []) }
         ensures none { IfNone result (IsBracketless text.now) }
     {
-        if text.is_empty() {
-            return None;
-        }
-        match text[0] {
-            b'[' => Some(Series {
-                is_vector: true,
-                at: 1,
+        let end = window(0, text.len());
+        let begun = white_end(text, 0, end);
+        match bracket_at(text, begun, end) {
+            Some(is_vector) => Some(Series {
+                is_vector,
+                is_tagged: false,
+                begun,
+                at: begun + 1,
             }),
-            b'(' => Some(Series {
-                is_vector: false,
-                at: 1,
-            }),
-            _ => None,
+            None => behind_tag(text, begun, end),
         }
     }
 
     /// Reads on in the same text, or in a longer one that begins with it.
-    ///
-    /// A map's entries go where `spare` had room: those of the last map, say. What it holds is dropped.
-    pub fn next<'a>(&mut self, alloc: Global, text: &'a [u8], spare: Vec<Entry<'a>>) -> Inside<'a>
+    pub fn next<'a>(&mut self, alloc: Global, text: &'a [u8]) -> Inside<'a>
         ensures { (vs : List Value) → IsRow self.old text.entry.now vs → IsNext self.old self.new text.entry.now vs result }
     {
         let end = window(0, text.len());
@@ -93,7 +76,7 @@ impl Series {
         if text[self.at] == self.closing() {
             return Inside::Closed(self.at + 1);
         }
-        match within(alloc, text, self.at, end, spare) {
+        match element_at(alloc, text, self.at, self.is_tagged) {
             Ok(Some((element, used))) => {
                 self.at = used;
                 Inside::Element(element)
@@ -106,6 +89,27 @@ impl Series {
         }
     }
 
+    /// Whether it is a vector.
+    pub(crate) fn is_vector(&self) -> bool
+        ensures { result ≡ self.now.is_vector }
+    {
+        self.is_vector
+    }
+
+    /// Whether a tag stands in front of it.
+    pub(crate) fn is_tagged(&self) -> bool
+        ensures { result ≡ self.now.is_tagged }
+    {
+        self.is_tagged
+    }
+
+    /// Where it begins: at its tag, if it has one.
+    pub fn begun(&self) -> usize
+        ensures { result ≡ row_begun self.now }
+    {
+        self.begun
+    }
+
     /// Where it is read on from.
     pub fn place(&self) -> usize
         ensures { result ≡ row_end self.now }
@@ -113,11 +117,19 @@ impl Series {
         self.at
     }
 
+    /// How many levels it has inside: 63, or 62 behind a tag.
+    pub fn levels(&self) -> usize
+        ensures levels { result ≡ row_levels self.now }
+        ensures some { 62 ≤ result }
+    {
+        if self.is_tagged { 62 } else { 63 }
+    }
+
     /// Reads on over blanks and elements that are known to stand up to a place.
     pub fn pass(&mut self, until: usize)
         ensures end { row_end self.new ≡ until }
         ensures row { (s : List ℕ) (vs : List Value) (ws : List Value) → IsRow self.old s vs → until ≤ length s → until ≤ longest
-            → Row 63 (row_end self.old) (drop (row_end self.old) s) ws until (drop until s) → IsRow self.new s (vs ++ ws) }
+            → Row (row_levels self.old) (row_end self.old) (drop (row_end self.old) s) ws until (drop until s) → IsRow self.new s (vs ++ ws) }
     {
         self.at = until;
     }
@@ -130,102 +142,73 @@ impl Series {
     }
 }
 
-/// Reads the element behind a place of an input that begins with an open collection, and tells where it ends.
-fn within<'a>(
-    alloc: Global,
-    input: &'a [u8],
-    from: usize,
-    end: usize,
-    mut entries: Vec<Entry<'a>>,
-) -> Result<Option<(Edn<'a>, usize)>, EdnFault>
-    requires begun { from < end }
-    requires inside { (end ≤ length input.now) × (end ≤ longest) }
-    ensures { IsFound input.now from result }
+/// Whether the bracket at a place opens a vector and no list, if it opens either.
+fn bracket_at(text: &[u8], from: usize, end: usize) -> Option<bool>
+    requires begun { from ≤ end }
+    requires inside { end ≤ length text.now }
+    ensures some { IfSome result (λ b. (from < end) × Opens (bracket_of b) from (drop from text.now) (from + 1) (drop (from + 1) text.now)) }
+    ensures none { IfNone result (from < end → (slice_index text.now from ≡ 91 → ⊥) × (slice_index text.now from ≡ 40 → ⊥)) }
 {
-    if input[from] != b'{' {
-        return other_within(alloc, input, from);
+    if from == end {
+        return None;
     }
-    entries.clear();
-    entries.reserve(USUAL_ENTRIES)?;
-    let next = open_pairs(&mut entries, input, from, end)?;
-    if next < end && input[next] == b'}' {
-        return Ok(Some((map_of(entries), next + 1)));
+    match text[from] {
+        b'[' => Some(true),
+        b'(' => Some(false),
+        _ => None,
     }
-    map_within(alloc, input, from, next, end, entries)
 }
 
-/// Reads an element that is no map.
+/// The list or vector behind the tag at a place, if both stand there.
+fn behind_tag(text: &[u8], begun: usize, end: usize) -> Option<Series>
+    requires begun { begun ≤ end }
+    requires inside { (end ≤ length text.now) × (end ≤ longest) }
+    requires white { ShortBlanks text.now begun (drop begun text.now) }
+    ensures { IfSome result (λ r. IsRow r text.now []) }
+{
+    let until = tag_until(text, begun, end);
+    if until == begun {
+        return None;
+    }
+    let from = white_end(text, until, end);
+    let is_vector = bracket_at(text, from, end)?;
+    Some(Series {
+        is_vector,
+        is_tagged: true,
+        begun,
+        at: from + 1,
+    })
+}
+
+/// Reads the element behind a place of an input that begins with an open collection, which has a tag in front of it or none, and tells
+/// where it ends.
 #[inline(never)]
-fn other_within<'a>(
+fn element_at<'a>(
     alloc: Global,
     input: &'a [u8],
     from: usize,
+    is_tagged: bool,
 ) -> Result<Option<(Edn<'a>, usize)>, EdnFault>
     requires { from ≤ length input.now }
-    ensures { IsFound input.now from result }
+    ensures { IsFound is_tagged input.now from result }
+{
+    let stack = waiting_tags(alloc, input, is_tagged)?;
+    Ok(unwrapped(scan_on(alloc, stack, input, from)?, is_tagged))
+}
+
+/// Tags that wait for their element, two or one: they keep the element from standing alone, where so many more levels are open.
+fn waiting_tags<'a>(alloc: Global, input: &'a [u8], two: bool) -> Result<Vec<Frame<'a>>, AllocError>
+    ensures { IfOk result (λ stack. frames_of stack.items ≡ waiting two) }
 {
     let mut stack = Vec::new(alloc);
     push(&mut stack, waiting_tag(input))?;
-    Ok(untagged(scan_on(alloc, stack, input, from)?))
-}
-
-/// The element at a place behind an open list or vector, be it behind blanks, and where it ends, within so many levels: 62 or 63.
-/// Nothing where none is found.
-pub fn element_within<'a>(
-    alloc: Global,
-    text: &'a [u8],
-    from: usize,
-    levels: usize,
-) -> Result<Option<(Edn<'a>, usize)>, EdnFault>
-    requires levels { (62 ≤ levels) × (levels ≤ 63) }
-    requires begun { (from ≤ length text.now) × (from ≤ longest) }
-    ensures within { IfOk result (λ found. IfSome found (λ r. (from < r.1) × (r.1 ≤ length text.now))) }
-    ensures element { IfOk result (λ found. IfSome found (λ r. IsElementAt levels text.now from (view r.0) r.1)) }
-{
-    if levels == INNER_LEVELS {
-        return other_within(alloc, text, from);
+    if two {
+        push(&mut stack, waiting_tag(input))?;
     }
-    deeper_within(alloc, text, from)
+    Ok(stack)
 }
 
-/// Reads an element that has a level less.
-#[inline(never)]
-fn deeper_within<'a>(
-    alloc: Global,
-    input: &'a [u8],
-    from: usize,
-) -> Result<Option<(Edn<'a>, usize)>, EdnFault>
-    requires { from ≤ length input.now }
-    ensures { IfOk result (λ found. IfSome found (λ r. IsBehindTwo input.now from (view r.0) r.1)) }
-{
-    let mut stack = Vec::new(alloc);
-    push(&mut stack, waiting_tag(input))?;
-    push(&mut stack, waiting_tag(input))?;
-    Ok(untagged_twice(scan_on(alloc, stack, input, from)?))
-}
-
-/// Goes on in a map that holds more than pairs of runs, behind those that it begins with.
-#[inline(never)]
-fn map_within<'a>(
-    alloc: Global,
-    input: &'a [u8],
-    from: usize,
-    next: usize,
-    end: usize,
-    entries: Vec<Entry<'a>>,
-) -> Result<Option<(Edn<'a>, usize)>, EdnFault>
-    requires begun { from < end }
-    requires inside { (end ≤ length input.now) × (end ≤ longest) }
-    requires opened { AreOpened input.now from next end (map entry_view entries.items) }
-    ensures { IsFound input.now from result }
-{
-    let mut stack = Vec::new(alloc);
-    push(&mut stack, waiting_tag(input))?;
-    push(&mut stack, Frame::Entries(from, entries, None))?;
-    Ok(untagged(scan_on(alloc, stack, input, next)?))
-}
-
-/// A tag that waits for its element: it keeps the element from standing alone, where one more level is open.
+/// A tag that waits for its element.
 fn waiting_tag<'a>(input: &'a [u8]) -> Frame<'a>
     ensures { frame_view result ≡ tagging 0 0 [] }
 {
@@ -238,31 +221,30 @@ fn waiting_tag<'a>(input: &'a [u8]) -> Frame<'a>
     )
 }
 
-/// The element behind that tag.
-fn untagged<'a>(next: Next<'a>) -> Option<(Edn<'a>, usize)>
+/// The element behind two such tags, or one.
+fn unwrapped<'a>(next: Next<'a>, two: bool) -> Option<(Edn<'a>, usize)>
     ensures { (answer : Answer) → Answers answer (Ok next.entry) → MatchOption result
-        ((i : ℕ) (w : List ℕ) (v : Value) (p : ℕ) (used : ℕ) → answer ≡ complete (tagged i w v) p used → ⊥)
-        (λ r. (i : ℕ) × (w : List ℕ) × (p : ℕ) × (answer ≡ complete (tagged i w (view r.0)) p r.1)) }
+        ((w : Value) (v : Value) (p : ℕ) (used : ℕ) → IsWrapped two v w → answer ≡ complete w p used → ⊥)
+        (λ r. (w : Value) × (p : ℕ) × IsWrapped two (view r.0) w × (answer ≡ complete w p r.1)) }
 {
-    match next {
-        Next::Complete { value, used, .. } => match value {
-            Edn::Tagged(_, element) => Some((Box::into_inner(element), used)),
-            _ => None,
-        },
-        _ => None,
+    let Next::Complete { value, used, .. } = next else {
+        return None;
+    };
+    let element = untagged(value)?;
+    if !two {
+        return Some((element, used));
     }
+    let inner = untagged(element)?;
+    Some((inner, used))
 }
 
-/// The element behind two such tags.
-fn untagged_twice<'a>(next: Next<'a>) -> Option<(Edn<'a>, usize)>
-    ensures { (answer : Answer) → Answers answer (Ok next.entry) → IfSome result
-        (λ r. (i j : ℕ) × (w x : List ℕ) × (p : ℕ) × (answer ≡ complete (tagged i w (tagged j x (view r.0))) p r.1)) }
+/// The element behind a tag.
+fn untagged<'a>(element: Edn<'a>) -> Option<Edn<'a>>
+    ensures { MatchOption result ((i : ℕ) (name : List ℕ) (v : Value) → view element.entry ≡ tagged i name v → ⊥)
+        (λ e. (i : ℕ) × (name : List ℕ) × (view element.entry ≡ tagged i name (view e))) }
 {
-    match untagged(next) {
-        Some((element, used)) => match element {
-            Edn::Tagged(_, inner) => Some((Box::into_inner(inner), used)),
-            _ => None,
-        },
-        None => None,
+    match element {
+        Edn::Tagged(_, inner) => Some(Box::into_inner(inner)),
+        _ => None,
     }
 }

@@ -4,7 +4,7 @@ ghost use Rattle.std.specs.Prelude.{◌≡◌, ℕ, ◌<◌, List, [], ◌∷◌
 ghost use Rattle.lin_edn.specs.Bytes as bytes;
 ghost use Rattle.lin_edn.specs.Rows.{IsRow, bracket_of};
 ghost use Rattle.lin_edn.specs.Skimming as skimming;
-ghost use Rattle.lin_edn.specs.Skimming.{HasSeen, HasGone, IsOpenText, shapes_of, level_view};
+ghost use Rattle.lin_edn.specs.Skimming.{HasSeen, HasGone, IsOpenText, shapes_of, level_view, row_shapes};
 ghost use Rattle.lin_edn.specs.Value.{Value};
 ghost use Rattle.lin_edn.specs.declared.skim.Part.TheVariants as part;
 
@@ -86,12 +86,15 @@ impl Skim {
     pub fn go_on_in(&mut self, series: &Series, text: &[u8]) -> bool
         ensures { result ≡ true → (vs : List Value) → IsRow series.now text.now vs → HasSeen self.new text.now }
     {
-        let at = series.end();
+        let at = series.place();
         if at > text.len() {
             return false;
         }
+        if series.begun() > 0 {
+            return false;
+        }
         self.levels.clear();
-        if !push(&mut self.levels, level_of(series)) {
+        if !open_in(&mut self.levels, series) {
             return false;
         }
         self.part = Part::Between;
@@ -138,6 +141,17 @@ impl Skim {
         self.length += 1;
         true
     }
+}
+
+/// Opens a list or vector, and the tag in front of it if it has one.
+fn open_in(levels: &mut Vec<Level>, series: &Series) -> bool
+    requires { levels.old.items ≡ [] }
+    ensures { result ≡ true → shapes_of levels.new.items ≡ row_shapes series.now.is_tagged series.now.is_vector }
+{
+    if series.is_tagged() {
+        return push(levels, Level::Tag) && push(levels, level_of(series));
+    }
+    push(levels, level_of(series))
 }
 
 /// The level that a list or vector is.

@@ -1,6 +1,4 @@
-use crate::{
-    Edn, EdnCause, EdnFault, Inside, Next, Series, Skim, element_within, nested_until, next_element,
-};
+use crate::{Edn, EdnCause, EdnFault, Inside, Next, Series, Skim, nested_until, next_element};
 use std::alloc::{AllocError, Global};
 use std::test::Fail;
 
@@ -281,13 +279,13 @@ fn skimmed(rt: HostRuntime) {
     assert!(rt; skim.go_on(b" 3"));
 }
 
-/// How many elements the list or vector has that an input begins with, and where it ends; 0 where that isn't told.
+/// How many elements are read of the list or vector that an input begins with, and where it ends; 0 where that isn't told.
 fn walked(alloc: Global, input: &[u8]) -> (usize, usize) {
     let Some(mut series) = Series::begin(input) else {
         return (0, 0);
     };
     for elements in 0..100 {
-        match series.next(alloc, input, Vec::new(alloc)) {
+        match series.next(alloc, input) {
             Inside::Element(_) => {}
             Inside::Closed(used) => return (elements, used),
             Inside::Unknown | Inside::OutOfMemory => return (elements, 0),
@@ -310,7 +308,15 @@ fn element_by_element(rt: HostRuntime) {
         (5, 33)
     );
     assert_eq!(rt; walked(alloc, b"{1 2}"), (0, 0));
-    assert_eq!(rt; walked(alloc, b" [1]"), (0, 0));
+    // Behind white, and behind a tag.
+    assert_eq!(rt; walked(alloc, b" ,[1]"), (1, 5));
+    assert_eq!(rt; walked(alloc, b"#t[1 2]"), (2, 7));
+    assert_eq!(rt; walked(alloc, b"\n#a/b ,( {:a 1} [1 #c 2] )"), (2, 26));
+    assert_eq!(rt; walked(alloc, b"#t 1"), (0, 0));
+    assert_eq!(rt; walked(alloc, b"#t"), (0, 0));
+    assert_eq!(rt; walked(alloc, b"#t #u [1]"), (0, 0));
+    assert_eq!(rt; walked(alloc, b"#_ [1]"), (0, 0));
+    assert_eq!(rt; walked(alloc, b"#{1}"), (0, 0));
     // An atom is finished by the byte behind it.
     assert_eq!(rt; walked(alloc, b"[1 23"), (1, 0));
     assert_eq!(rt; walked(alloc, b"[1 23 "), (2, 0));
@@ -326,7 +332,7 @@ fn skims_in(alloc: Global, input: &[u8]) -> bool {
         return false;
     };
     for _ in 0..100 {
-        match series.next(alloc, input, Vec::new(alloc)) {
+        match series.next(alloc, input) {
             Inside::Element(_) => {}
             _ => return Skim::new(alloc).go_on_in(&series, input),
         }
@@ -340,6 +346,10 @@ fn skimmed_from_within(rt: HostRuntime) {
     assert!(rt; skims_in(alloc, b"["));
     assert!(rt; skims_in(alloc, b"[1 {:a 1} {:b #{1"));
     assert!(rt; skims_in(alloc, b"(1 {:a 1} ; ) "));
+    assert!(rt; skims_in(alloc, b"#t [1 {:a 1} {:b 1"));
+    assert!(rt; !skims_in(alloc, b"#t [1 {:a 1} )"));
+    // What it skims begins with the first byte.
+    assert!(rt; !skims_in(alloc, b" [1 {:a 1"));
     assert!(rt; !skims_in(alloc, b"[1 {:a 1} )"));
     assert!(rt; !skims_in(alloc, b"[1 #_ 2 ]"));
     assert!(rt; !skims_in(alloc, b"[1 {:a}"));
@@ -352,50 +362,31 @@ fn levels_within(rt: HostRuntime) -> Result<(), Fail> {
     assert!(rt; skims_in(alloc, deepest.as_slice()));
     let deeper = padded(alloc, b"[", b'(', 64, b"1")?;
     assert!(rt; !skims_in(alloc, deeper.as_slice()));
+    let deepest = padded(alloc, b"#t [", b'(', 62, b"1")?;
+    assert!(rt; skims_in(alloc, deepest.as_slice()));
+    let deeper = padded(alloc, b"#t [", b'(', 63, b"1")?;
+    assert!(rt; !skims_in(alloc, deeper.as_slice()));
     Ok(())
 }
 
-/// What an element is that was found, and where it ends.
-fn found(element: Result<Option<(Edn, usize)>, EdnFault>) -> Option<(u8, usize)> {
-    match element {
-        Ok(Some((element, used))) => Some((letter(&element), used)),
-        _ => None,
-    }
-}
-
 #[test]
-#[tactic(auto, unfolding(crate::specs::Grammar::longest))]
-fn elements_within(rt: HostRuntime) -> Result<(), Fail> {
+fn levels_of_elements(rt: HostRuntime) -> Result<(), Fail> {
     let alloc = rt.alloc();
-    let map = b"[{1 #{2}} 3]";
-    assert_eq!(rt; found(element_within(alloc, map, 1, 63)), Some((b'm', 9)));
-    assert_eq!(rt; found(element_within(alloc, map, 1, 62)), Some((b'm', 9)));
-    assert_eq!(rt; found(element_within(alloc, map, 9, 62)), Some((b'i', 11)));
-    // The bracket that is open closes nothing here.
-    assert_eq!(rt; found(element_within(alloc, map, 11, 62)), None);
-    let tagged = b"#a ( #_ 1 ; 2)\n #b #c \"\\\"\" ";
-    assert_eq!(rt;
-        found(element_within(alloc, tagged, 4, 62)),
-        Some((b'#', 26))
-    );
-    let unfinished = b"[{:a 1";
-    assert_eq!(rt; found(element_within(alloc, unfinished, 1, 63)), None);
-    let deepest = padded(alloc, b"", b'(', 62, b"")?;
-    let deepest = padded(alloc, deepest.as_slice(), b')', 62, b"")?;
-    assert_eq!(rt;
-        found(element_within(alloc, deepest.as_slice(), 0, 62)),
-        Some((b'l', 124))
-    );
-    let deeper = padded(alloc, b"", b'(', 63, b"")?;
-    let deeper = padded(alloc, deeper.as_slice(), b')', 63, b"")?;
-    assert_eq!(rt;
-        found(element_within(alloc, deeper.as_slice(), 0, 62)),
-        None
-    );
-    assert_eq!(rt;
-        found(element_within(alloc, deeper.as_slice(), 0, 63)),
-        Some((b'l', 126))
-    );
+    for (front, most, more) in [
+        (b"[".as_slice(), 63, 64),
+        (b"#t [".as_slice(), 62, 63),
+        (b" (".as_slice(), 63, 64),
+    ] {
+        let opened = padded(alloc, front, b'[', most, b"")?;
+        let deepest = padded(alloc, opened.as_slice(), b']', most, b" ")?;
+        assert_eq!(rt; walked(alloc, deepest.as_slice()), (1, 0));
+        let opened = padded(alloc, front, b'[', more, b"")?;
+        let deeper = padded(alloc, opened.as_slice(), b']', more, b" ")?;
+        assert_eq!(rt; walked(alloc, deeper.as_slice()), (0, 0));
+        let series = Series::begin(front);
+        assert_eq!(rt; series.map(|series| series.levels()), Some(most));
+        assert_eq!(rt; series.map(|series| series.place()), Some(front.len()));
+    }
     Ok(())
 }
 

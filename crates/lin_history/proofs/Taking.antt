@@ -1,10 +1,9 @@
 -- Usual maps in streams, and in lists and vectors.
 use Rattle.std.proofs.Common.{◌≡◌, ℕ, suc, ◌+◌, ◌<◌, ◌≤◌, Bool, false, inl, inr, List, [], ◌∷◌, ◌++◌, Option, Some, None, Result, Ok, Err, OnOk, length, drop, refl, sym, ap, subst, ◌∙◌, arith}
-use Rattle.std.specs.List.{slice_range}
 use Rattle.std.specs.Option.{is_some}
 use Rattle.std.proofs.lemmas.Bool.{cases_lt}
-use Rattle.lin_edn.specs.Grammar.{Element, Row, empty, element, longest, spells, no_blank_yet}
-use Rattle.lin_edn.specs.Rows.{IsRow, row_end}
+use Rattle.lin_edn.specs.Grammar.{Element, tagged_element, Row, empty, element, longest, IsTagAt, no_blank, spells, no_blank_yet}
+use Rattle.lin_edn.specs.Rows.{IsRow, row_end, row_levels}
 use Rattle.lin_edn.specs.Value.{Value, map, tagged, Entries, values_of}
 use Rattle.lin_edn.specs.declared.series.Series.{Series}
 use Rattle.lin_history.specs.Reads.{IsTold, IsToldOn, IsElement}
@@ -45,31 +44,29 @@ abbrev pub IsTagged : List ℕ → ℕ → ℕ → Entries → ℕ → Type 0
 IsTagged s at levels es used = (v : Value) × (bare v ≡ map es) × Element levels at (drop at s) v used (drop used s)
 
 pub tagged_or_not : (s : List ℕ) (at begun used levels inside : ℕ) (es : Entries) → at ≤ begun →
-    (at < begun → suc (suc inside) ≡ levels) → (begun ≡ at → suc inside ≡ levels) →
-    (at < begun → (n q : ℕ) (v : Value) (t : List ℕ) → Element n begun (drop begun s) v q t → Element (suc n) at (drop at s) (tagged (at + 1) (slice_range s (at + 1) begun) v) q t) →
+    (at < begun → suc (suc inside) ≡ levels) → (begun ≡ at → suc inside ≡ levels) → (at < begun → IsTagAt s at begun) →
     Element (suc inside) begun (drop begun s) (map es) used (drop used s) → IsTagged s at levels es used
 tagged_or_not s at begun used levels inside es le two one tag e = elim (cases_lt at begun) [
-  | inl lt ↦ (
-    tagged (at + 1) (slice_range s (at + 1) begun) (map es),
+  | inl lt ↦ (let t = tag lt in (
+    tagged (at + 1) t.0 (map es),
     refl,
-    subst (λ n. Element n at (drop at s) (tagged (at + 1) (slice_range s (at + 1) begun) (map es)) used (drop used s)) (two lt) (tag lt (suc inside) used (map es) (drop used s) e),
-  )
+    subst (λ n. Element n at (drop at s) (tagged (at + 1) t.0 (map es)) used (drop used s)) (two lt)
+        (tagged_element t.3 t.4 no_blank (subst (λ l. Element (suc inside) begun l (map es) used (drop used s)) t.5 e)),
+  ))
   | inr ge ↦
       let same : begun ≡ at = omega arith in
       (map es, refl, subst (λ n. Element n at (drop at s) (map es) used (drop used s)) (one same) (subst (λ i. Element (suc inside) i (drop i s) (map es) used (drop used s)) same e))
 ]
 
 -- the row up to the end of a usual map
-row_taken : (k : Bool) (s : List ℕ) (from : ℕ) (taken : Taken) (t : IsTaken k s from 63 taken) → Row 63 from (drop from s) (t.value ∷ []) taken.used (drop taken.used s)
-row_taken k s from taken t = element (t.row 63 from (drop from s) [] empty) t.element
-
-pub passed : (k : Bool) (s : List ℕ) (vs : List Value) (old mid new : Series) (taken : Taken) (t : IsTaken k s (row_end old) 63 taken) → mid ≡ old →
+pub passed : (k : Bool) (s : List ℕ) (vs : List Value) (old mid new : Series) (taken : Taken) (t : IsTaken k s (row_end old) (row_levels old) taken) → mid ≡ old →
     ((z : List ℕ) (xs ws : List Value) → IsRow mid z xs → taken.used ≤ length z → taken.used ≤ longest →
-    Row 63 (row_end mid) (drop (row_end mid) z) ws taken.used (drop taken.used z) → IsRow new z (xs ++ ws)) →
+    Row (row_levels mid) (row_end mid) (drop (row_end mid) z) ws taken.used (drop taken.used z) → IsRow new z (xs ++ ws)) →
     IsRow old s vs → IsRow new s (vs ++ t.value ∷ [])
 passed k s vs old mid new taken t same pass row =
     pass s vs (t.value ∷ []) (subst (λ r. IsRow r s vs) (sym same) row) t.inside t.reached
-    (subst (λ (r : Series). Row 63 (row_end r) (drop (row_end r) s) (t.value ∷ []) taken.used (drop taken.used s)) (sym same) (row_taken k s (row_end old) taken t))
+    (subst (λ (r : Series). Row (row_levels r) (row_end r) (drop (row_end r) s) (t.value ∷ []) taken.used (drop taken.used s)) (sym same)
+    (element (t.row (row_levels old) (row_end old) (drop (row_end old) s) [] empty) t.element))
 
 -- a usual map in front of a text
 pub in_front : (k : Bool) (s : List ℕ) (taken : Taken) (old new : List Event) → IsTaken k s 0 64 taken → new ≡ old ++ events_of taken.event → IsElement k s old new taken.used

@@ -1,15 +1,16 @@
 -- What waits of a list or vector that is read map by map.
-use Rattle.std.proofs.Common.{◌≡◌, ◌≢◌, ℕ, ◌+◌, ◌≤◌, Bool, true, false, List, [], ◌∷◌, ◌++◌, Option, Some, None, Result, Ok, Err, length, drop, refl, sym, ap, ◌∙◌, subst, append-nil, zero-add, add-zero, true≢false}
+use Rattle.std.proofs.Common.{◌≡◌, ◌≢◌, ℕ, ◌+◌, ◌<◌, ◌≤◌, Bool, true, false, List, [], ◌∷◌, ◌++◌, Option, Some, None, Result, Ok, Err, length, drop, refl, sym, ap, ◌∙◌, subst, append-nil, arith, zero-add, true≢false}
 use Rattle.std.specs.Option.{is_some}
 use Rattle.lin_edn.specs.Value.{Value, values_of}
-use Rattle.lin_edn.specs.Grammar.{Spells}
-use Rattle.lin_edn.specs.Rows.{value_in}
+use Rattle.lin_edn.specs.Rows.{IsBehind, row_begun, value_in}
 use Rattle.lin_history.specs.Table.{event}
 use Rattle.lin_history.specs.Stream.{Told, before, told, told_by, Gives, nothing, element}
-use Rattle.lin_history.specs.Reads.{IsReadTo, IsTold, IsToldOn}
+use Rattle.lin_history.specs.Reads.{IsElement, IsReadTo, IsTold, IsToldOn}
+use Rattle.lin_history.specs.Rests.{IsWhole}
 use Rattle.lin_history.specs.declared.events.Event.{Event}
 use Rattle.lin_history.specs.declared.follow.Read.{Read}
 use Rattle.lin_history.specs.declared.follow.FollowFault.TheVariants as fault
+use Rattle.lin_history.specs.declared.row.Row.{Row}
 use Rattle.lin_history.specs.declared.table.EventFault.{EventFault}
 use Rattle.lin_history.specs.declared.table.EventFault.TheVariants as cause
 use Rattle.lin_history.proofs.Fronts.{ends_in_fault, told_fault}
@@ -84,26 +85,39 @@ pub waits_on : (k : Bool) (v : Value) (old new : List Event) (o o' : Option Even
     told_by k (values_of vs) ≡ record { events = old; ends = o } → told_by k (values_of (vs ++ v ∷ [])) ≡ record { events = new; ends = o' }
 waits_on k v old new o o' t vs e = t.2 vs old e ∙ ap (λ (es : List Event). record { events = es; ends = o' }) (sym t.1)
 
--- a list or vector tells what its maps tell
-pub row_told : (k b : Bool) (vs : List Value) → told k (value_in b vs) ≡ told_by k (values_of vs)
-row_told k true vs = refl
-row_told k false vs = refl
+-- a list or vector tells what its maps tell, with a tag in front of it or none
+pub row_told : (k is_tagged b : Bool) (vs : List Value) (v : Value) → IsBehind is_tagged (value_in b vs) v → told k v ≡ told_by k (values_of vs)
+row_told k true true vs v h = ap (told k) h.2
+row_told k true false vs v h = ap (told k) h.2
+row_told k false true vs v h = ap (told k) h
+row_told k false false vs v h = ap (told k) h
 
--- what waited is ready, and the fault behind it is the element's
-pub closes_in_fault : (k : Bool) (s : List ℕ) (p : ℕ) (old new es : List Event) (o : Option EventFault) (v : Value) (used : ℕ) (f : EventFault) →
-    Spells s v 0 used → used ≤ length s → told k v ≡ record { events = es; ends = o } → o ≡ Some f → new ≡ old ++ es →
-    IsReadTo k s p old new (record { used = used; outcome = Err (fault.Event p f) })
-closes_in_fault k s p old new es o v used f spelled inside tells is put =
-    subst (λ n. IsReadTo k s p old new (record { used = used; outcome = Err (fault.Event n f) })) (add-zero p)
-    (ends_in_fault k s p old new v 0 used f spelled inside (ap (λ (t : Told). t.ends) tells ∙ is) (put ∙ ap (λ (t : Told). old ++ t.events) (sym tells)))
+-- what waited is ready, as what stands in front of a text
+pub row_without_fault : (k : Bool) (s : List ℕ) (old new : List Event) (row : Row) (used : ℕ) → (w : IsWhole k row s used) → row_begun row.series < used → used ≤ length s →
+    row.ends ≡ None → new ≡ old ++ row.waiting.items → IsElement k s old new used
+row_without_fault k s old new row used w some inside is put = record {
+  events = row.waiting.items;
+  value = w.0;
+  at = row_begun row.series;
+  put = put;
+  some = omega arith;
+  inside = inside;
+  spelled = w.1;
+  told = w.2 ∙ ap (λ (o : Option EventFault). record { events = row.waiting.items; ends = o }) is;
+}
 
--- what waited is ready, and the text is read on behind the element
-pub closes : (k : Bool) (s : List ℕ) (p : ℕ) (old mid new es : List Event) (o : Option EventFault) (v : Value) (used : ℕ) (r : Read) →
-    Spells s v 0 used → used ≤ length s → told k v ≡ record { events = es; ends = o } → o ≡ None → mid ≡ old ++ es →
+-- and the fault behind it is the element's
+pub row_with_fault : (k : Bool) (s : List ℕ) (p : ℕ) (old new : List Event) (row : Row) (used : ℕ) (f : EventFault) → (w : IsWhole k row s used) → used ≤ length s →
+    row.ends ≡ Some f → new ≡ old ++ row.waiting.items → IsReadTo k s p old new (record { used = used; outcome = Err (fault.Event (p + row_begun row.series) f) })
+row_with_fault k s p old new row used f w inside is put =
+    ends_in_fault k s p old new w.0 (row_begun row.series) used f w.1 inside (ap (λ (t : Told). t.ends) w.2 ∙ is) (put ∙ ap (λ (t : Told). old ++ t.events) (sym w.2))
+
+-- the text is read on behind the element
+pub reads_on : (k : Bool) (s : List ℕ) (p : ℕ) (old mid new : List Event) (used : ℕ) (r : Read) → IsElement k s old mid used →
     IsReadTo k (drop used s) (p + used) mid new r → IsReadTo k s p old new (record { used = used + r.used; outcome = r.outcome })
-closes k s p old mid new es o v used r spelled inside tells is put rest =
+reads_on k s p old mid new used r e rest =
     let up : IsReadUp k s used old mid = record {
-      inside = inside;
-      read = (es, put, subst (λ n. Gives k s es n) (zero-add used) (element {es = []} nothing spelled (tells ∙ ap (λ e. record { events = es; ends = e }) is)));
+      inside = e.inside;
+      read = (e.events, e.put, subst (λ n. Gives k s e.events n) (zero-add used) (element {es = []} nothing e.spelled e.told));
     } in
     the_end k s p used old mid new r up rest

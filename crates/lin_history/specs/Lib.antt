@@ -11,7 +11,6 @@ pub mod Sees
 pub mod Reads
 pub mod Rests
 pub mod Usual
-pub mod Whole
 pub mod Meters
 pub mod WellFormed
 pub mod Alternation

@@ -2,7 +2,7 @@
 -- and by the invariant of `Follow` over its private fields.
 use Rattle.std.specs.Prelude.{◌≡◌, ℕ, Bool, true, false, List, drop, Option, Some, None, Result, Ok, Err}
 use Rattle.lin_edn.specs.Grammar.{Spells}
-use Rattle.lin_edn.specs.Rows.{IsRow}
+use Rattle.lin_edn.specs.Rows.{IsRow, row_begun}
 use Rattle.lin_edn.specs.Skimming.{HasSeen}
 use Rattle.lin_edn.specs.Value.{Value, values_of}
 use Rattle.lin_history.specs.Stream.{Told, told, told_by}
@@ -27,9 +27,9 @@ abbrev pub IsWaiting : Bool → Option Row → List ℕ → Type 0
 IsWaiting keyed None text = Unit {0}
 IsWaiting keyed (Some row) text = IsOpen keyed row text
 
--- a text begins with an element that ends before a place, and what it tells waits
+-- a list or vector in front of a text ends before a place, and what it tells waits
 abbrev pub IsWhole : Bool → Row → List ℕ → ℕ → Type 0
-IsWhole keyed row text used = (v : Value) × Spells text v 0 used × (told keyed v ≡ told_of row)
+IsWhole keyed row text used = (v : Value) × Spells text v (row_begun row.series) used × (told keyed v ≡ told_of row)
 
 -- a list or vector is read as far as its maps are whole
 abbrev pub IsFar : Bool → Row → List ℕ → Result Far OutOfMemory → Type 0

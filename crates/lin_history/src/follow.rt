@@ -1,5 +1,6 @@
 //! The events of a stream that comes in pieces.
 ghost use Rattle.std.specs.Prelude.{◌≡◌, ◌+◌, ◌≤◌, ◌++◌, [], ◌∷◌, true, false, Bool, ℕ, List, Ok, Err, map, length, drop, MatchOption, OnOk, OnErr};
+ghost use Rattle.lin_edn.specs.Rows.{row_begun};
 ghost use Rattle.lin_edn.specs.Value.{values_of};
 ghost use Rattle.lin_edn.specs.View.{view};
 ghost use Rattle.lin_edn.specs.Skimming.{IsOpenText};
@@ -7,16 +8,14 @@ ghost use Rattle.lin_history.specs.Stream.{told, told_by, StreamsAreUnique};
 ghost use Rattle.lin_history.specs.Sees.{Sees, Takes, TakesAll, Feeds, StaysFaulty, FaultsStay, most};
 ghost use Rattle.lin_history.specs.Reads.{IsTold, IsReadOn, IsReadTo, IsFront, IsStanding, IsRead};
 ghost use Rattle.lin_history.specs.Rests.{IsOpen, IsWhole, IsSeen, Knows, IsUnaware, GoesOn, IsReadHeld};
-ghost use Rattle.lin_history.specs.Whole.{IsWholeRow};
 ghost use Rattle.lin_history.specs.declared.events.Event.{Event as TheEvent};
 ghost use Rattle.lin_history.specs.declared.follow.FollowFault.{FollowFault as TheFault};
 
 use crate::events::Event;
 use crate::numbers::OutOfMemory;
-use crate::row::{Far, Row, begin_row, put_all, put_event, read_maps, tell_one};
+use crate::row::{Far, Row, begin_row, put_all, put_event, read_maps, tell_one, whole_row};
 use crate::table::{EventFault, bare};
 use crate::usual::next_usual;
-use crate::whole::{WholeRow, read_row};
 use lin_edn::{
     Edn, EdnCause, Next, Skim, blanks_are_skipped, blanks_in_front, more_bytes, next_element,
     places, readings_are_unique,
@@ -308,7 +307,7 @@ fn read_anew(
     Ok(read)
 }
 
-/// Puts what waited behind what is ready, now that its list or vector is whole, and reads what stands behind that.
+/// Tells a list or vector that is whole, and reads what stands behind it.
 fn close(
     alloc: Global,
     keyed: bool,
@@ -323,19 +322,15 @@ fn close(
     ensures { IsReadOn keyed held.now passed ready.old.items ready.new.items result }
 {
     places();
-    put_all(ready, row.waiting)?;
-    match row.ends {
-        Some(cause) => Ok(Read {
-            used,
-            outcome: Err(FollowFault::Event { at: passed, cause }),
-        }),
-        None => {
+    match tell_row(row, used, passed, ready)? {
+        Front::Element(used) => {
             let read = read_on(alloc, keyed, &held[used..], passed + used as u64, ready)?;
             Ok(Read {
                 used: used + read.used,
                 outcome: read.outcome,
             })
         }
+        Front::End(read) => Ok(read),
     }
 }
 
@@ -463,32 +458,40 @@ fn read_front(
     requires { place + length text.now ≤ most }
     ensures { IsFront keyed text.now place ready.old.items ready.new.items result }
 {
+    places();
     match next_usual(keyed, text, 0, LEVELS) {
         Some(taken) => {
             put_event(ready, taken.event)?;
             Ok(Front::Element(taken.used))
         }
-        None => match read_row(alloc, keyed, text, ready)? {
-            Some(row) => Ok(front_of(row, place)),
+        None => match whole_row(alloc, keyed, text)? {
+            Some((row, used)) => tell_row(row, used, place, ready),
             None => read_element(alloc, keyed, text, place, ready),
         },
     }
 }
 
-/// What a list or vector is in front of a text, which stands from a place of the stream on.
-fn front_of(row: WholeRow, place: u64) -> Front
-    requires { place + row.at ≤ most }
-    ensures { (keyed : Bool) (text : List ℕ) (old new : List TheEvent) → IsWholeRow keyed text old new row → IsFront keyed text place old new (Ok result) }
+/// Puts what waits of a list or vector that is whole, in front of a text from a place of the stream on, behind what is ready.
+fn tell_row(
+    row: Row,
+    used: usize,
+    place: u64,
+    ready: &mut VecDeque<Event>,
+) -> Result<Front, OutOfMemory>
+    requires { place + row_begun row.series ≤ most }
+    ensures { (keyed : Bool) (text : List ℕ) → IsWhole keyed row text used → IsFront keyed text place ready.old.items ready.new.items result }
 {
+    places();
+    put_all(ready, row.waiting)?;
     match row.ends {
-        None => Front::Element(row.used),
-        Some(cause) => ends(
-            row.used,
+        None => Ok(Front::Element(used)),
+        Some(cause) => Ok(ends(
+            used,
             Err(FollowFault::Event {
-                at: place + row.at as u64,
+                at: place + row.series.begun() as u64,
                 cause,
             }),
-        ),
+        )),
     }
 }
 

@@ -12,7 +12,6 @@ mod row;
 mod shapes;
 mod table;
 mod usual;
-mod whole;
 
 pub use calls::{Call, Name, Reply, Val};
 pub use events::{Body, Event};

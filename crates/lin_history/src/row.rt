@@ -1,11 +1,11 @@
-//! A list or vector that is read map by map while it is unfinished.
-ghost use Rattle.std.specs.Prelude.{◌≡◌, ◌<◌, ◌++◌, [], ◌∷◌, Bool, ℕ, List, Ok, OnOk, OnErr};
-ghost use Rattle.lin_edn.specs.Rows.{row_end};
+//! A list or vector that is read map by map.
+ghost use Rattle.std.specs.Prelude.{◌≡◌, ◌<◌, ◌++◌, [], ◌∷◌, Bool, ℕ, List, Ok, IfOk, IfSome, OnOk, OnErr};
+ghost use Rattle.lin_edn.specs.Rows.{row_end, row_levels};
 ghost use Rattle.lin_edn.specs.Value.{Value, values_of};
 ghost use Rattle.lin_edn.specs.View.{view};
 ghost use Rattle.lin_history.specs.Stream.{told_by};
 ghost use Rattle.lin_history.specs.Reads.{IsTold, IsToldOn, IsPutBehind};
-ghost use Rattle.lin_history.specs.Rests.{told_of, IsOpen, IsWaiting, IsFar};
+ghost use Rattle.lin_history.specs.Rests.{told_of, IsOpen, IsWaiting, IsFar, IsWhole};
 ghost use Rattle.lin_history.specs.Table.{event as told_in};
 ghost use Rattle.lin_history.specs.Usual.{IsTaken, events_of};
 
@@ -13,14 +13,11 @@ use crate::events::Event;
 use crate::numbers::OutOfMemory;
 use crate::table::{EventFault, event_of};
 use crate::usual::{Taken, next_usual};
-use lin_edn::{Edn, Entry, Inside, Series};
+use lin_edn::{Edn, Inside, Series};
 use std::alloc::Global;
 use std::collections::VecDeque;
 
-// The greatest number of levels within a list or vector at the top.
-pub(crate) const INNER_LEVELS: usize = 63;
-
-/// A list or vector that is unfinished, as far as it is read.
+/// A list or vector, as far as it is read.
 #[derive(Drop)]
 pub(crate) struct Row {
     pub series: Series,
@@ -39,7 +36,7 @@ pub(crate) enum Far {
     Open(bool),
 }
 
-/// The list or vector that a text begins with, if it does, before its first map.
+/// The list or vector that a text begins with behind white, with a tag in front of it or none, before its first map.
 pub(crate) fn begin_row(alloc: Global, text: &[u8]) -> Option<Row>
     ensures { (keyed : Bool) → IsWaiting keyed result text.now }
 {
@@ -49,6 +46,24 @@ pub(crate) fn begin_row(alloc: Global, text: &[u8]) -> Option<Row>
         waiting: VecDeque::new(alloc),
         ends: None,
     })
+}
+
+/// The list or vector that a text begins with, if it is whole there, and where it ends.
+#[inline(never)]
+pub(crate) fn whole_row(
+    alloc: Global,
+    keyed: bool,
+    text: &[u8],
+) -> Result<Option<(Row, usize)>, OutOfMemory>
+    ensures { IfOk result (λ found. IfSome found (λ r. IsWhole keyed r.0 text.now r.1)) }
+{
+    let Some(mut row) = begin_row(alloc, text) else {
+        return Ok(None);
+    };
+    match read_maps(alloc, keyed, text, &mut row)? {
+        Far::Closed(used) => Ok(Some((row, used))),
+        Far::Open(_) => Ok(None),
+    }
 }
 
 /// Reads on as far as maps are whole.
@@ -62,29 +77,23 @@ pub(crate) fn read_maps(
     ensures { IsFar keyed row.new text.now result }
 {
     let mut more = false;
-    let mut spare = Vec::new(alloc);
     'maps: loop {
-        match next_usual(keyed, text, row.series.place(), INNER_LEVELS) {
-            Some(taken) => {
-                pass_usual(row, taken)?;
-                more = true;
-            }
-            None => match row.series.next(alloc, text, spare) {
-                Inside::Element(element) => {
-                    spare = take_map(alloc, keyed, element, row)?;
-                    more = true;
-                }
+        match next_usual(keyed, text, row.series.place(), row.series.levels()) {
+            Some(taken) => pass_usual(row, taken)?,
+            None => match row.series.next(alloc, text) {
+                Inside::Element(element) => take_map(alloc, keyed, &element, row)?,
                 Inside::Closed(used) => return Ok(Far::Closed(used)),
                 Inside::Unknown => return Ok(Far::Open(more)),
                 Inside::OutOfMemory => return Err(OutOfMemory),
             },
         }
+        more = true;
     }
 }
 
 /// Takes a usual map that comes next.
 fn pass_usual(row: &mut Row, taken: Taken) -> Result<(), OutOfMemory>
-    ensures { OnOk result ((keyed : Bool) (s : List ℕ) → IsTaken keyed s (row_end row.old.series) 63 taken → IsOpen keyed row.old s
+    ensures { OnOk result ((keyed : Bool) (s : List ℕ) → IsTaken keyed s (row_end row.old.series) (row_levels row.old.series) taken → IsOpen keyed row.old s
         → IsOpen keyed row.new s × (row_end row.old.series < row_end row.new.series)) }
 {
     let used = taken.used;
@@ -94,7 +103,7 @@ fn pass_usual(row: &mut Row, taken: Taken) -> Result<(), OutOfMemory>
 }
 
 /// Puts the event of a usual map, if it says one, behind those before it, unless a fault stands there.
-pub(crate) fn wait_for(
+fn wait_for(
     waiting: &mut VecDeque<Event>,
     ends: Option<EventFault>,
     event: Option<Event>,
@@ -108,31 +117,18 @@ pub(crate) fn wait_for(
     put_event(waiting, event)
 }
 
-/// Takes a map that is read, and gives its entries back for their room.
-fn take_map<'a>(
-    alloc: Global,
-    keyed: bool,
-    element: Edn<'a>,
-    row: &mut Row,
-) -> Result<Vec<Entry<'a>>, OutOfMemory>
+/// Takes a map that is read.
+fn take_map(alloc: Global, keyed: bool, element: &Edn, row: &mut Row) -> Result<(), OutOfMemory>
     ensures series { row.new.series ≡ row.old.series }
     ensures told { OnOk result ((vs : List Value) → told_by keyed (values_of vs) ≡ told_of row.old
-        → told_by keyed (values_of (vs ++ view element.entry ∷ [])) ≡ told_of row.new) }
+        → told_by keyed (values_of (vs ++ view element.now ∷ [])) ≡ told_of row.new) }
 {
-    wait(alloc, keyed, &element, &mut row.waiting, &mut row.ends)?;
-    Ok(room_of(alloc, element))
-}
-
-/// The room that a map's entries have, and they with it.
-fn room_of<'a>(alloc: Global, element: Edn<'a>) -> Vec<Entry<'a>> {
-    match element {
-        Edn::Map(entries) => entries,
-        _other => Vec::new(alloc),
-    }
+    wait(alloc, keyed, element, &mut row.waiting, &mut row.ends)?;
+    Ok(())
 }
 
 /// Puts the event of a map behind those before it, unless a fault stands there; a fault ends them.
-pub(crate) fn wait(
+fn wait(
     alloc: Global,
     keyed: bool,
     element: &Edn,

@@ -1,6 +1,6 @@
 use Rattle.std.proofs.Common.{◌≡◌, suc, ◌+◌, ◌-◌, ◌≤◌, length, drop, arith, ◌∙◌, sym, subst}
 use Rattle.std.specs.List.{slice_range}
-use Rattle.lin_edn.specs.Grammar.{Element}
+use Rattle.lin_edn.specs.Grammar.{Blanks, Element, tagged_element}
 use Rattle.lin_edn.specs.Run.{run_value}
 use Rattle.lin_edn.specs.Skimming.{level_view}
 use Rattle.lin_edn.specs.Value.{tagged, text as text_value}
@@ -57,8 +57,9 @@ nested_until-returns-clause-value t c = λ far.
     let e = c.if-used-at.false in
     let some = c.if-levels-eq0.false in
     let value = c.nested_until-used.ensures.value (omega arith) in
+    let named = c.tag_until-tag.ensures.tag (omega arith) in
     let one_less : suc (levels - 1) ≡ levels = omega arith in (
-      tagged (from + 1) (slice_range s (from + 1) tag) value.0,
-      subst (λ n. Element n from (drop from s) (tagged (from + 1) (slice_range s (from + 1) tag) value.0) used (drop used s)) one_less
-          (c.tag_until-tag.ensures.apart (omega arith) (levels - 1) at used value.0 (drop at s) (drop used s) (c.white_until-at.ensures.blanks (levels - 1)) value.1),
+      tagged (from + 1) named.0 value.0,
+      subst (λ n. Element n from (drop from s) (tagged (from + 1) named.0 value.0) used (drop used s)) one_less
+          (tagged_element named.3 named.4 (subst (λ l. Blanks (levels - 1) tag l at (drop at s)) named.5 (c.white_until-at.ensures.blanks (levels - 1))) value.1),
     )

@@ -1,7 +1,14 @@
-use Rattle.std.proofs.Common.{◌++◌, drop, sym, ◌∙◌, subst}
+use Rattle.std.proofs.Common.{List, ℕ, ◌++◌, drop, sym, ◌∙◌, subst}
+use Rattle.lin_edn.specs.Rows.{IsRow}
 use Rattle.lin_history.specs.Rests.{IsWaiting, Knows, GoesOn}
 use Rattle.lin_history.proofs.Resting.{held_goes_on}
 use Rattle.lin_history.proofs.follow.read_held.Goals as goal
+
+pub read_in-requires-clause-waiting : goal.read_in-requires-clause-waiting
+read_in-requires-clause-waiting c =
+    let known = c.requires.known in
+    let row = subst (λ o. IsWaiting c.args.keyed o known.0) (sym c.in-Some.ensures.value) known.2.1 in
+    (row.0, subst (λ (l : List ℕ). IsRow c.in-Some.row.series l row.0) (sym known.1) (c.more_bytes.ensures.row c.in-Some.row.series known.0 c.args.piece.now row.0 row.1), row.2)
 
 pub read_anew-requires-clause-unaware : goal.read_anew-requires-clause-unaware
 read_anew-requires-clause-unaware c =

@@ -1,16 +1,23 @@
-use Rattle.std.proofs.Common.{◌≡◌, ℕ, ◌<◌, ◌==◌, true, false, arith, sym, ◌∙◌}
-use Rattle.std.proofs.lemmas.Bool.Decides.{nat_tests}
-use Rattle.lin_edn.proofs.Nesting.{vector_opens, list_opens}
-use Rattle.lin_edn.proofs.Rows.{row_opens}
+use Rattle.std.proofs.Common.{◌≤◌, arith}
+use Rattle.lin_edn.specs.Grammar.{longest, no_blank_yet}
+use Rattle.lin_edn.proofs.Rows.{row_plain, bracketless}
+use Rattle.lin_edn.proofs.Standing.{white_short}
 use Rattle.lin_edn.proofs.series.Series.begin.Goals as goal
 
-not_empty : (n : ℕ) → (n == 0) ≡ false → 0 < n
-not_empty n h = grind (arith, nat_tests)
+pub returns-in-Some-clause-some : goal.returns-in-Some-clause-some
+returns-in-Some-clause-some c =
+    let s = c.args.text.now in
+    let within = c.window-end.ensures.within in
+    let short : c.window-end.result ≤ longest = (let e = c.window-end.ensures.short in omega arith) in
+    let opens = c.in-Some.ensures.some in
+    row_plain s c.white_end-begun.result c.window-end.result c.in-Some.is_vector
+    (white_short s 0 c.white_end-begun.result c.window-end.result c.white_end-begun.ensures within no_blank_yet) opens.0 within short opens.1
 
-pub returns-in-91-clause-some : goal.returns-in-91-clause-some
-returns-in-91-clause-some c =
-    let lt = not_empty _ (sym c.is_empty.ensures ∙ c.if-is_empty.false) in row_opens true c.args.text.now lt (vector_opens c.args.text.now 0 lt c.in-91.is)
+pub behind_tag-requires-clause-white : goal.behind_tag-requires-clause-white
+behind_tag-requires-clause-white c =
+    white_short c.args.text.now 0 c.white_end-begun.result c.window-end.result c.white_end-begun.ensures c.window-end.ensures.within no_blank_yet
 
-pub returns-in-40-clause-some : goal.returns-in-40-clause-some
-returns-in-40-clause-some c =
-    let lt = not_empty _ (sym c.is_empty.ensures ∙ c.if-is_empty.false) in row_opens false c.args.text.now lt (list_opens c.args.text.now 0 lt c.in-40.is)
+pub returns-in-None-clause-none : goal.returns-in-None-clause-none
+returns-in-None-clause-none c =
+    bracketless c.behind_tag.result c.args.text.now c.white_end-begun.result c.window-end.result c.window-end.ensures.whole c.white_end-begun.ensures
+    c.in-None.ensures.none
