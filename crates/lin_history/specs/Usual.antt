@@ -1,40 +1,33 @@
 -- What is read of a usual map without its elements: cited by the contracts of private functions alone.
 use Rattle.std.specs.Prelude.{◌≡◌, ℕ, suc, ◌+◌, ◌<◌, ◌≤◌, Bool, true, false, List, [], ◌∷◌, length, drop, Option, Some, None, Ok, codes}
 use Rattle.lin_edn.specs.Grammar.{Element, Row, ShortBlanks, longest}
-use Rattle.lin_edn.specs.Run.{run_value}
-use Rattle.lin_edn.specs.Value.{Value, vector, map, no_values, value as one_value, Entries, entries_of}
-use Rattle.lin_history.specs.Table.{bare, is_word, under, parts_of, body_of, event}
-use Rattle.lin_history.specs.declared.calls.Name.{Name}
-use Rattle.lin_history.specs.declared.table.EventType.{EventType}
-use Rattle.lin_history.specs.declared.usual.Pair.{Pair}
+use Rattle.lin_edn.specs.Bytes.{Kind, a_set, a_vector}
+use Rattle.lin_edn.specs.Value.{Value, map, Entries, entries_of}
+use Rattle.lin_history.specs.Table.{bare, is_word, under, event}
 use Rattle.lin_history.specs.declared.usual.Places.{Places}
-use Rattle.lin_history.specs.declared.usual.Said.{Said}
 use Rattle.lin_history.specs.declared.usual.Taken.{Taken}
 use Rattle.lin_history.specs.declared.events.Event.{Event}
 
--- the value of a vector of two runs
-abbrev pub pair_view : Pair → Value
-pair_view p = vector (one_value (run_value p.first_at p.first.now) (one_value (run_value p.second_at p.second.now) no_values))
+-- a set, or a vector
+abbrev pub kind_of : Bool → Kind
+kind_of true = a_set
+kind_of false = a_vector
 
--- a value says the object's key and the body
-abbrev pub IsBodyOf : Bool → EventType → Name → Value → Said → Type 0
-IsBodyOf keyed t f v said = (inner : Value) × (parts_of keyed v ≡ Some (said.key, inner)) × (body_of t f inner ≡ Some said.body)
+-- an element without a tag stands at a place
+abbrev pub IsBareAt : List ℕ → ℕ → Value → Type 0
+IsBareAt s at v = (bare v ≡ v) × (n : ℕ) × (until : ℕ) × (n ≤ 64) × Element n at (drop at s) v until (drop until s)
 
--- from one place to another stands an element without a tag and with one more level at most
-abbrev pub IsValueAt : List ℕ → ℕ → Value → ℕ → Type 0
-IsValueAt s from v until = (bare v ≡ v) × ((n : ℕ) → Element (suc n) from (drop from s) v until (drop until s))
-
--- these are the values under a key, whose place is kept
-abbrev pub IsPlaced : List ℕ → List Value → Option ℕ → Type 0
-IsPlaced s vs None = vs ≡ []
-IsPlaced s vs (Some at) = (v : Value) × (until : ℕ) × (vs ≡ v ∷ []) × IsValueAt s at v until
+-- these are the values under a key, without their tags, of elements with so many levels at most; the place of the element is kept
+abbrev pub IsPlaced : List ℕ → ℕ → List Value → Option ℕ → Type 0
+IsPlaced s levels vs None = vs ≡ []
+IsPlaced s levels vs (Some at) = (v : Value) × (until : ℕ) × (vs ≡ bare v ∷ []) × Element levels at (drop at s) v until (drop until s)
 
 -- the places of the values under the four keys of a map are kept
-pub record ArePlaced (s : List ℕ) (es : Entries) (ps : Places) : Type 0 where
-  pub process : IsPlaced s (under (codes ":process") es) ps.process
-  pub types : IsPlaced s (under (codes ":type") es) ps.event_type
-  pub function : IsPlaced s (under (codes ":f") es) ps.function
-  pub values : IsPlaced s (under (codes ":value") es) ps.value
+pub record ArePlaced (s : List ℕ) (levels : ℕ) (es : Entries) (ps : Places) : Type 0 where
+  pub process : IsPlaced s levels (under (codes ":process") es) ps.process
+  pub types : IsPlaced s levels (under (codes ":type") es) ps.event_type
+  pub function : IsPlaced s levels (under (codes ":f") es) ps.function
+  pub values : IsPlaced s levels (under (codes ":value") es) ps.value
 
 -- a place is kept where none was, if the key is the one that counts
 abbrev pub IsPut : Bool → Option ℕ → ℕ → Option ℕ → Type 0
@@ -48,11 +41,6 @@ pub record IsAdded (old : Places) (k : Value) (at : ℕ) (new : Places) : Type 0
   pub function : IsPut (is_word (codes ":f") k) old.function at new.function
   pub values : IsPut (is_word (codes ":value") k) old.value at new.value
 
--- a key is none of those that count
-abbrev pub IsIgnored : Value → Type 0
-IsIgnored k = (is_word (codes ":process") k ≡ false) × (is_word (codes ":type") k ≡ false) × (is_word (codes ":f") k ≡ false)
-    × (is_word (codes ":value") k ≡ false)
-
 -- keys and values in reading order
 abbrev pub in_turn : List (Value × Value) → List Value
 in_turn [] = []
@@ -60,12 +48,12 @@ in_turn (e ∷ es) = e.0 ∷ e.1 ∷ in_turn es
 
 -- between an opening byte and a place stand entries with so many levels, and the places of the values that count are kept
 abbrev pub IsUpTo : List ℕ → ℕ → ℕ → ℕ → Places → Type 0
-IsUpTo s from levels at ps = (es : List (Value × Value)) × ArePlaced s (entries_of es) ps ×
+IsUpTo s from levels at ps = (es : List (Value × Value)) × ArePlaced s levels (entries_of es) ps ×
     Row levels (from + 1) (drop (from + 1) s) (in_turn es) at (drop at s)
 
 -- from one place to another stands a map with so many levels inside, and the places of the values that count are kept
 abbrev pub IsMapAt : List ℕ → ℕ → ℕ → Places → ℕ → Type 0
-IsMapAt s from levels ps until = (es : Entries) × ArePlaced s es ps × Element (suc levels) from (drop from s) (map es) until (drop until s)
+IsMapAt s from levels ps until = (es : Entries) × ArePlaced s levels es ps × Element (suc levels) from (drop from s) (map es) until (drop until s)
 
 -- behind white a map stands, with a tag or none and with so many levels, that tells this
 pub record IsTaken (keyed : Bool) (s : List ℕ) (from levels : ℕ) (taken : Taken) : Type 0 where

@@ -459,7 +459,7 @@ fn read_front(
     ensures { IsFront keyed text.now place ready.old.items ready.new.items result }
 {
     places();
-    match next_usual(keyed, text, 0, LEVELS) {
+    match next_usual(alloc, keyed, text, 0, LEVELS) {
         Some(taken) => {
             put_event(ready, taken.event)?;
             Ok(Front::Element(taken.used))

@@ -12,6 +12,7 @@ mod row;
 mod shapes;
 mod table;
 mod usual;
+mod values;
 
 pub use calls::{Call, Name, Reply, Val};
 pub use events::{Body, Event};

@@ -78,7 +78,7 @@ pub(crate) fn read_maps(
 {
     let mut more = false;
     'maps: loop {
-        match next_usual(keyed, text, row.series.place(), row.series.levels()) {
+        match next_usual(alloc, keyed, text, row.series.place(), row.series.levels()) {
             Some(taken) => pass_usual(row, taken)?,
             None => match row.series.next(alloc, text) {
                 Inside::Element(element) => take_map(alloc, keyed, &element, row)?,

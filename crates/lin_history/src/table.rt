@@ -37,7 +37,7 @@ pub enum EventFault {
 }
 
 #[derive(Clone, Copy)]
-pub(crate) enum EventType {
+enum EventType {
     Invoke,
     Ok,
     Fail,
@@ -341,7 +341,7 @@ fn parts_of<'e, 'a>(value: &'e Edn<'a>, keyed: bool) -> Option<(i64, &'e Edn<'a>
 }
 
 /// The event of a map with these values under its keys.
-fn event_with(
+pub(crate) fn event_with(
     alloc: Global,
     keyed: bool,
     process: &Edn,

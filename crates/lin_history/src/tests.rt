@@ -384,6 +384,10 @@ fn usual_maps_say_what_other_maps_say(rt: HostRuntime) -> Result<(), Fail> {
             b"{:type :info, :f :start, :process :nemesis, :value \"a {b}\", :error \"c\"}{:process 1 :type :invoke :f :read}",
             1,
         ),
+        (
+            b"{:process 3 :type :ok :f :read :value #{3,1 2}}{:process 3 :type :ok :f :read :value #a [1 #b 2]} {:process #c 4 :type #d :ok :f :read :value #{[1]}}",
+            2,
+        ),
         (b"{:process :nemesis :process 1}", 0),
         (
             b"{:process 0 :type :invoke :f :write :value 12345678901234567890}",
@@ -434,6 +438,10 @@ fn usual_maps_say_what_other_maps_say(rt: HostRuntime) -> Result<(), Fail> {
             2,
         ),
         (b"{:process 0 :type :invoke :f :write :value [-7, nil]}", 1),
+        (
+            b"{:process 0 :type :ok :f :read :value [7 #{2 1}]}{:process 0 :type :ok :f :read :value [7 [2 1]]}{:process 0 :type :ok :f :read :value [7 [2 [1]]]}",
+            2,
+        ),
         (b"{:process 0 :type :invoke :f :write :value [nil 7]}", 0),
         (b"{:process 0 :type :invoke :f :write :value [7 :a]}", 0),
         (b"{:process 0 :type :invoke :f :read :value [7 nil 1]}", 0),

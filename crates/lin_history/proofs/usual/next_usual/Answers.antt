@@ -25,5 +25,5 @@ returns c =
       value = here.0;
       is_map = here.1;
       element = here.2;
-      told = c.in_ok-event.ensures map.0 map.1;
+      told = c.in_ok-event.ensures c.levels_inside-inside.result map.0 (let low = c.requires.1 in let few = c.levels_inside-inside.ensures.few in omega arith) map.1;
     }

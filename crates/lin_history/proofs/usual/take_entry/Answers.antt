@@ -1,7 +1,7 @@
 use Rattle.std.proofs.Common.{arith}
 use Rattle.std.specs.List.{slice_range}
 use Rattle.lin_edn.specs.Run.{run_value}
-use Rattle.lin_history.proofs.Maps.{entry_more, ignored_more}
+use Rattle.lin_history.proofs.Maps.{entry_more}
 use Rattle.lin_history.proofs.usual.take_entry.Goals as goal
 
 pub returns-clause-taken : goal.returns-clause-taken
@@ -16,18 +16,5 @@ returns-clause-taken c = λ far start upto.
     let d = c.value_until-used.ensures.within.0 in
     let e = c.if-used-at.false in
     let value = c.value_until-used.ensures.value (omega arith) in
-    entry_more s start from until at used c.args.levels (run_value from (slice_range s from until)) value.0 c.args.places.now c.keep.new.places c.requires.room upto
+    entry_more s start from until at used c.args.levels (run_value from (slice_range s from until)) value.0 c.args.places.now c.keep.new.places upto
     (c.run_until-until.ensures.run (omega arith)) c.white_until-at.ensures.row value.1 (c.keep.ensures c.if-not-keep.false from)
-
-pub returns-then-used-at-clause-taken : goal.returns-then-used-at-clause-taken
-returns-then-used-at-clause-taken c = λ far start upto.
-    let s = c.args.text.now in
-    let from = c.args.from in
-    let until = c.run_until-until.result in
-    let at = c.white_until-at.result in
-    let used = c.ignored_until-far.result in
-    let a = c.ignored_until-far.ensures.within.0 in
-    let b = c.if-far-at.false in
-    let value = c.ignored_until-far.ensures.value (omega arith) in
-    ignored_more s start from until at used c.args.levels (run_value from (slice_range s from until)) value.0 c.args.places.now upto
-    (c.run_until-until.ensures.run (omega arith)) c.white_until-at.ensures.row value.1 (c.ignored_until-far.ensures.ignored (omega arith) from)

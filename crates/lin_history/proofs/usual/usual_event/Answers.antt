@@ -1,17 +1,17 @@
-use Rattle.std.proofs.Common.{◌≡◌, ℤ, Ok, Some, ap, sym, ◌∙◌, arith, to_z, of_z, w64}
-use Rattle.std.proofs.lemmas.Int.{to_z-of_z}
+use Rattle.std.proofs.Common.{sym, ◌∙◌, arith}
+use Rattle.lin_edn.specs.View.{view}
 use Rattle.lin_history.proofs.Usuals.{usual_event_is, usual_named}
 use Rattle.lin_history.proofs.usual.usual_event.Goals as goal
 
-pub returns-then-is_named_at : goal.returns-then-is_named_at
-returns-then-is_named_at c = λ es are.
-    usual_named c.elements_are_unique.ensures c.args.keyed c.args.text.now es c.args.places c.in_ok-at.at are c.in_ok-at.was (c.is_named_at.ensures c.if-is_named_at.true)
+pub returns-then-is_keyword : goal.returns-then-is_keyword
+returns-then-is_keyword c = λ levels es low are.
+    usual_named c.elements_are_unique.ensures c.args.keyed c.args.text.now levels es c.args.places c.in_ok-places.field-0 (view c.in_ok-process.process) low are
+    c.in_ok-places.was c.in_ok-process.ensures (sym c.is_keyword.ensures ∙ c.if-is_keyword.true)
 
-pub returns : goal.returns
-returns c = λ es are.
-    let key = c.in_ok-said.said.key in
-    let same : to_z w64 (of_z w64 key) ≡ key = grind (arith, to_z-of_z) in
-    usual_event_is c.elements_are_unique.ensures c.args.keyed c.args.text.now es c.args.places c.in_ok-at.at c.in_ok-places.field-0 c.in_ok-places-2.field-0 c.in_ok-places-3.field-0
-    c.in-Some.process c.in_ok-event_type.event_type c.in_ok-name.name c.in_ok-said.said are c.in_ok-at.was c.in_ok-places.was c.in_ok-places-2.was c.in_ok-places-3.was
-    c.in-Some.ensures c.in_ok-event_type.ensures c.in_ok-name.ensures c.in_ok-said.ensures
-    ∙ ap (λ (i : ℤ). Ok (Some (record { process = c.in-Some.process; key = i; body = c.in_ok-said.said.body }))) (sym same)
+pub returns-in-Ok : goal.returns-in-Ok
+returns-in-Ok c = λ levels es low are.
+    usual_event_is c.elements_are_unique.ensures c.args.keyed c.args.text.now levels es c.args.places c.in_ok-places.field-0 c.in_ok-places-2.field-0
+    c.in_ok-places-3.field-0 c.in_ok-places-4.field-0 (view c.in_ok-process.process) (view c.in_ok-event_type.event_type) (view c.in_ok-function.function)
+    (view c.in_ok-value.value) c.in-Ok.told low are c.in_ok-places.was c.in_ok-places-2.was c.in_ok-places-3.was c.in_ok-places-4.was c.in_ok-process.ensures
+    c.in_ok-event_type.ensures c.in_ok-function.ensures (c.in_ok-value.ensures.bare, 2, c.in_ok-value.field-0-1, omega arith, c.in_ok-value.ensures.value)
+    (sym c.is_keyword.ensures ∙ c.if-is_keyword.false) c.in-Ok.ensures

@@ -1,0 +1,115 @@
+//! Values of usual maps, read in place.
+ghost use Rattle.std.specs.Prelude.{◌≡◌, ℕ, ◌+◌, ◌<◌, ◌≤◌, ◌∷◌, ◌++◌, [], IfSome, Some, length, drop, map};
+ghost use Rattle.lin_edn.specs.Bytes as bytes;
+ghost use Rattle.lin_edn.specs.Grammar.{Element, Opens, Row};
+ghost use Rattle.lin_edn.specs.Value.{made};
+ghost use Rattle.lin_edn.specs.View.{view};
+ghost use Rattle.lin_history.specs.Table.{bare};
+ghost use Rattle.lin_history.specs.Usual.{kind_of};
+
+use lin_edn::{Edn, run_element, run_until, white_until};
+use std::alloc::Global;
+
+/// The value at a place, and where it ends: a run, or a vector or set of such values with white between them, with so many levels
+/// at most. Nothing where none stands there, or where memory is refused.
+#[cycle(value)]
+pub(crate) fn value_at<'a>(
+    alloc: Global,
+    text: &'a [u8],
+    from: usize,
+    levels: usize,
+) -> Option<(Edn<'a>, usize)>
+    ensures within { IfSome result (λ r. (from < r.1) × (r.1 ≤ length text.now)) }
+    ensures bare { IfSome result (λ r. bare (view r.0) ≡ view r.0) }
+    ensures value { IfSome result (λ r. Element levels from (drop from text.entry.now) (view r.0) r.1 (drop r.1 text.entry.now)) }
+{
+    if from > text.len() {
+        return None;
+    }
+    let until = run_until(text, from, text.len());
+    if until > from {
+        return Some((run_element(from, &text[from..until]), until));
+    }
+    if levels == 0 {
+        return None;
+    }
+    let (is_set, inner) = opened_at(text, from)?;
+    let (items, used) = items_at(alloc, text, inner, levels - 1, is_set)?;
+    Some((gathered(is_set, items), used))
+}
+
+/// The values from a place on up to the byte that closes their vector or set, and where that byte ends.
+#[cycle(value)]
+fn items_at<'a>(
+    alloc: Global,
+    text: &'a [u8],
+    inner: usize,
+    levels: usize,
+    is_set: bool,
+) -> Option<(Vec<Edn<'a>>, usize)>
+    requires { inner ≤ length text.now }
+    ensures within { IfSome result (λ r. (inner < r.1) × (r.1 ≤ length text.now)) }
+    ensures row { IfSome result (λ r. (until : ℕ) × (r.1 ≡ until + 1)
+        × Row levels inner (drop inner text.entry.now) (map view r.0.items) until (bytes.closing (kind_of is_set) ∷ drop r.1 text.entry.now)) }
+{
+    let mut items = Vec::new(alloc);
+    let mut at = white_until(text, inner, text.len());
+    while at < text.len() {
+        if text[at] == closing(is_set) {
+            return Some((items, at + 1));
+        }
+        let (item, used) = value_at(alloc, text, at, levels)?;
+        put(&mut items, item)?;
+        at = white_until(text, used, text.len());
+    }
+    None
+}
+
+/// Puts a value behind the others; nothing where memory is refused.
+fn put<'a>(items: &mut Vec<Edn<'a>>, item: Edn<'a>) -> Option<()>
+    ensures { IfSome result (λ _. map view items.new.items ≡ map view items.old.items ++ view item.entry ∷ []) }
+{
+    items.push(item).ok()
+}
+
+/// Whether the collection that opens at a place is a set, if that is a set or a vector, and where its opening bytes end.
+fn opened_at(text: &[u8], from: usize) -> Option<(bool, usize)>
+    ensures within { IfSome result (λ r. (from < r.1) × (r.1 ≤ length text.now)) }
+    ensures opens { IfSome result (λ r. Opens (kind_of r.0) from (drop from text.now) r.1 (drop r.1 text.now)) }
+{
+    if from >= text.len() {
+        return None;
+    }
+    if text[from] == b'[' {
+        return Some((false, from + 1));
+    }
+    if text.len() - from < 2 {
+        return None;
+    }
+    if text[from] != b'#' {
+        return None;
+    }
+    if text[from + 1] != b'{' {
+        return None;
+    }
+    Some((true, from + 2))
+}
+
+/// The byte that closes a set or a vector.
+fn closing(is_set: bool) -> u8
+    ensures { result ≡ bytes.closing (kind_of is_set) }
+{
+    if is_set { b'}' } else { b']' }
+}
+
+/// The set or vector of some values.
+fn gathered<'a>(is_set: bool, items: Vec<Edn<'a>>) -> Edn<'a>
+    ensures made { made (kind_of is_set) (map view items.entry.items) ≡ Some (view result) }
+    ensures bare { bare (view result) ≡ view result }
+{
+    if is_set {
+        Edn::Set(items)
+    } else {
+        Edn::Vector(items)
+    }
+}
