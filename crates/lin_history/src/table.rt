@@ -1,6 +1,6 @@
 //! Events from the maps that recorders write.
 ghost use Rattle.std.specs.Prelude.{◌≡◌, ◌||◌, ◌++◌, [], ◌∷◌, true, Some, None, codes, map, option_map, IsTrue, IsSome, is_some, IfOk};
-ghost use Rattle.lin_edn.specs.Value.{values_of, entries_of};
+ghost use Rattle.lin_edn.specs.Value.{Value, values_of, entries_of};
 ghost use Rattle.lin_edn.specs.View.{view, entry_view};
 ghost use Rattle.lin_history.specs.Table as table;
 ghost use Rattle.lin_history.specs.Table.{bare as bare_value, is_word as says, under, is_several, event, IsAnswer};
@@ -37,7 +37,7 @@ pub enum EventFault {
 }
 
 #[derive(Clone, Copy)]
-enum EventType {
+pub(crate) enum EventType {
     Invoke,
     Ok,
     Fail,
@@ -167,7 +167,7 @@ fn function_of(element: &Edn) -> Option<Name>
     None
 }
 
-fn process_of(element: &Edn) -> Option<u64>
+pub(crate) fn process_of(element: &Edn) -> Option<u64>
     ensures { result ≡ table.process_of (view element.now) }
 {
     match element {
@@ -341,7 +341,7 @@ fn parts_of<'e, 'a>(value: &'e Edn<'a>, keyed: bool) -> Option<(i64, &'e Edn<'a>
 }
 
 /// The event of a map with these values under its keys.
-pub(crate) fn event_with(
+fn event_with(
     alloc: Global,
     keyed: bool,
     process: &Edn,
@@ -360,6 +360,21 @@ pub(crate) fn event_with(
     let Some(name) = function_of(function) else {
         return Err(EventFault::BadFunction);
     };
+    event_said(alloc, keyed, process, event_type, name, value)
+}
+
+/// The event of a map whose other values say so.
+pub(crate) fn event_said(
+    alloc: Global,
+    keyed: bool,
+    process: u64,
+    event_type: EventType,
+    name: Name,
+    value: &Edn,
+) -> Result<Option<Event>, EventFault>
+    ensures { (p : Value) (t : Value) (f : Value) → table.process_of p ≡ Some process → table.type_of t ≡ Some event_type → table.function_of f ≡ Some name →
+        IsAnswer (table.event_with keyed p t f (view value.now)) result }
+{
     let Some((key, value)) = parts_of(value, keyed) else {
         return Err(EventFault::BadKey);
     };

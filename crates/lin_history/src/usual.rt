@@ -5,11 +5,13 @@ ghost use Rattle.lin_edn.specs.Run.{run_value};
 ghost use Rattle.lin_edn.specs.Value as value;
 ghost use Rattle.lin_edn.specs.Value.{Value, Entries};
 ghost use Rattle.lin_edn.specs.View.{view};
+ghost use Rattle.lin_history.specs.Table as table;
 ghost use Rattle.lin_history.specs.Table.{event};
 ghost use Rattle.lin_history.specs.Usual.{ArePlaced, IsAdded, IsBareAt, IsUpTo, IsMapAt, IsTaken};
 
+use crate::calls::Name;
 use crate::events::Event;
-use crate::table::{event_with, is_keyword};
+use crate::table::{EventType, event_said, is_keyword, process_of};
 use crate::values::value_at;
 use lin_edn::{
     Edn, elements_are_unique, nested_until, run_element, run_until, tag_until, white_until, window,
@@ -131,9 +133,9 @@ fn usual_map(text: &[u8], from: usize, end: usize, levels: usize) -> Option<(Pla
     None
 }
 
-/// The run at a place.
-fn run_at<'a>(text: &'a [u8], at: usize) -> Option<Edn<'a>>
-    ensures { IfSome result (λ e. IsBareAt text.entry.now at (view e)) }
+/// The bytes of the run at a place.
+fn word_at<'a>(text: &'a [u8], at: usize) -> Option<&'a [u8]>
+    ensures { IfSome result (λ word. IsBareAt text.entry.now at (run_value at word.now)) }
 {
     if at >= text.len() {
         return None;
@@ -142,7 +144,57 @@ fn run_at<'a>(text: &'a [u8], at: usize) -> Option<Edn<'a>>
     if until == at {
         return None;
     }
-    Some(run_element(at, &text[at..until]))
+    Some(&text[at..until])
+}
+
+/// The type that a word says.
+fn type_in(word: &[u8]) -> Option<EventType>
+    ensures { (p : ℕ) → result ≡ table.type_of (run_value p word.now) }
+{
+    if word == b":invoke".as_slice() {
+        return Some(EventType::Invoke);
+    }
+    if word == b":ok".as_slice() {
+        return Some(EventType::Ok);
+    }
+    if word == b":fail".as_slice() {
+        return Some(EventType::Fail);
+    }
+    if word == b":info".as_slice() {
+        return Some(EventType::Info);
+    }
+    None
+}
+
+/// The function that a word says.
+fn function_in(word: &[u8]) -> Option<Name>
+    ensures { (p : ℕ) → result ≡ table.function_of (run_value p word.now) }
+{
+    if word == b":read".as_slice() {
+        return Some(Name::Read);
+    }
+    if word == b":write".as_slice() {
+        return Some(Name::Write);
+    }
+    if word == b":cas".as_slice() {
+        return Some(Name::Cas);
+    }
+    if word == b":enqueue".as_slice() {
+        return Some(Name::Enqueue);
+    }
+    if word == b":dequeue".as_slice() {
+        return Some(Name::Dequeue);
+    }
+    if word == b":add".as_slice() {
+        return Some(Name::Add);
+    }
+    if word == b":acquire".as_slice() {
+        return Some(Name::Acquire);
+    }
+    if word == b":release".as_slice() {
+        return Some(Name::Release);
+    }
+    None
 }
 
 /// The event of a usual map, or that it is none; nothing where this has to be seen from its elements.
@@ -150,14 +202,16 @@ fn usual_event(alloc: Global, keyed: bool, text: &[u8], places: Places) -> Optio
     ensures { IfSome result (λ told. (levels : ℕ) (es : Entries) → levels ≤ 64 → ArePlaced text.now levels es places → event keyed (value.map es) ≡ Ok told) }
 {
     elements_are_unique();
-    let process = run_at(text, places.process?)?;
+    let at = places.process?;
+    let process = run_element(at, word_at(text, at)?);
     if is_keyword(&process) {
         return Some(None);
     }
-    let event_type = run_at(text, places.event_type?)?;
-    let function = run_at(text, places.function?)?;
+    let number = process_of(&process)?;
+    let event_type = type_in(word_at(text, places.event_type?)?)?;
+    let name = function_in(word_at(text, places.function?)?)?;
     let (value, _) = value_at(alloc, text, places.value?, VALUE_LEVELS)?;
-    match event_with(alloc, keyed, &process, &event_type, &function, &value) {
+    match event_said(alloc, keyed, number, event_type, name, &value) {
         Ok(told) => Some(told),
         Err(_) => None,
     }
