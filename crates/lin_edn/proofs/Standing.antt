@@ -1,5 +1,5 @@
 -- What the scans of rows of bytes find, in words of the grammar.
-use Rattle.std.proofs.Common.{◌≡◌, ℕ, ◌+◌, ◌<◌, ◌≤◌, true, false, not, List, [], ◌∷◌, length, drop, get_or, refl, sym, ap, subst, arith, ◌∙◌}
+use Rattle.std.proofs.Common.{◌≡◌, ℕ, ◌+◌, ◌<◌, ◌≤◌, true, false, List, [], ◌∷◌, length, drop, get_or, refl, sym, subst, arith, ◌∙◌}
 use Rattle.std.specs.List.{slice_range}
 use Rattle.lin_edn.specs.Bytes.{Class, class, white, inside, quote, hash, is_white, is_stop, quoted, ends, behind, names_tag}
 use Rattle.lin_edn.specs.Grammar.{One, one, Inside, first, next, Tag, first_of_tag, next_of_tag, IsTagAt, Blanks, no_blank, one_more, Text, opened, plain, Blank, white_byte, Element, run as a_run, whole_text, Row, blank, ShortBlanks, one_more_short, longest}
@@ -19,13 +19,6 @@ one_at s i k lt h = subst (λ l. One k i l (get_or s i 0 ∷ []) (i + 1) (drop (
 blank_at : (n i : ℕ) (s : List ℕ) → i < length s → is_dark (get_or s i 0) ≡ false → Blank n i (drop i s) (i + 1) (drop (i + 1) s)
 blank_at n i s lt h = white_byte (one_at s i white lt (white_class (get_or s i 0) (lit (is_white (get_or s i 0)) h)))
 
--- one white byte
-light : (c : ℕ) → true ≡ is_white c → is_dark c ≡ false
-light c h = ap not (sym h)
-
-pub short_byte : (s : List ℕ) (i : ℕ) → i < length s → true ≡ is_white (get_or s i 0) → ShortBlanks s i (drop i s) → ShortBlanks s (i + 1) (drop (i + 1) s)
-short_byte s i lt h bs = one_more_short bs (blank_at 64 i s lt (light (get_or s i 0) h)) (let z : 0 < longest = positive in omega arith)
-
 -- white bytes as short blanks
 pub white_short : (s : List ℕ) (at until end : ℕ) → IsStopAt is_dark s at end until → end ≤ length s → ShortBlanks s at (drop at s) → ShortBlanks s until (drop until s)
 white_short s at until end h within =
@@ -39,10 +32,6 @@ with_blanks row no_blank = row
 with_blanks row (one_more bs b) = blank (with_blanks row bs) b
 
 -- white bytes as blanks
-pub blanks_byte : (s : List ℕ) (from i : ℕ) → i < length s → true ≡ is_white (get_or s i 0) → (n : ℕ) → Blanks n from (drop from s) i (drop i s) →
-    Blanks n from (drop from s) (i + 1) (drop (i + 1) s)
-blanks_byte s from i lt h n bs = one_more bs (blank_at n i s lt (light (get_or s i 0) h))
-
 pub white_blanks : (s : List ℕ) (from at until end : ℕ) → IsStopAt is_dark s at end until → end ≤ length s → (n : ℕ) → Blanks n from (drop from s) at (drop at s) →
     Blanks n from (drop from s) until (drop until s)
 white_blanks s from at until end h within n bs =

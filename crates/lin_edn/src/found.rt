@@ -7,7 +7,7 @@ ghost use Rattle.lin_edn.specs.Run.{run_value};
 ghost use Rattle.lin_edn.specs.Value.{Value, text as text_value};
 
 use crate::reader::{Behind, behind_hash};
-use crate::scan::{is_plain, is_white, plain_end, run_end, white_end};
+use crate::scan::{is_plain, plain_end, run_end, white_end};
 
 /// Where the white from a place on ends, or `end`.
 #[inline(always)]
@@ -20,20 +20,7 @@ pub fn white_until(input: &[u8], from: usize, end: usize) -> usize
         Row n p s vs from (drop from input.now) → Row n p s vs result (drop result input.now) }
     ensures blanks { (n : ℕ) → Blanks n from (drop from input.now) result (drop result input.now) }
 {
-    if from == end {
-        return from;
-    }
-    if !is_white(input[from]) {
-        return from;
-    }
-    // One white byte is usual, or two.
-    if from + 1 == end {
-        return end;
-    }
-    if !is_white(input[from + 1]) {
-        return from + 1;
-    }
-    white_end(input, from + 2, end)
+    white_end(input, from, end)
 }
 
 /// Where the run at a place ends; that place where none stands there that ends before `end`.

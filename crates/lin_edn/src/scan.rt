@@ -85,7 +85,7 @@ fn last_run_end(input: &[u8], from: usize, end: usize) -> usize
 }
 
 /// Where the white from a place on ends.
-#[inline(never)]
+#[inline(always)]
 pub(crate) fn white_end(input: &[u8], from: usize, end: usize) -> usize
     requires begun { from ≤ end }
     requires inside { end ≤ length input.now }

@@ -1,12 +1,15 @@
 -- Usual maps: the values that their bytes spell.
 use Rattle.std.proofs.Common.{◌≡◌, ℕ, suc, ℤ, ◌+◌, ◌<◌, Bool, true, false, List, [], ◌∷◌, ◌++◌, Option, Some, None, codes, drop, drop-cons, length, get_or, option_map, append-nil, append_assoc, refl, sym, ap, subst, ◌∙◌, arith, if◌then◌else◌}
 use Rattle.std.specs.Str.{bytes_eq}
+use Rattle.std.proofs.lemmas.Option.{none-some}
+use Rattle.std.proofs.lemmas.Slice.Eq.{bytes_eq-Decides}
 use Rattle.lin_edn.specs.Bytes.{Class, class, opener, hash, behind, opens_set, a_vector, a_set, a_map}
 use Rattle.lin_edn.specs.Grammar.{One, one, Element, Opens, collection, bracket, set_bracket, Row, empty, element}
 use Rattle.lin_edn.specs.Run.{run_value, of_number, is_keyword, integer}
-use Rattle.lin_edn.specs.Value.{Value, nil, bool, keyword, atom, map, entry, entries_of, pairs_from}
+use Rattle.lin_edn.specs.Value.{Value, nil, bool, int, keyword, atom, vector, map, values_of, entry, entries_of, pairs_from}
 use Rattle.lin_history.specs.Table.{bare, is_word, here, under}
-use Rattle.lin_history.specs.Usual.{in_turn, IsPlaced, IsPut, IsAdded, IsUpTo, IsMapAt}
+use Rattle.lin_history.specs.Usual.{in_turn, IsPlaced, IsPut, IsAdded, IsValueAt, IsUpTo, IsMapAt}
+use Rattle.lin_history.specs.declared.usual.Place.{Place}
 use Rattle.lin_history.specs.declared.usual.Places.{Places}
 
 -- no run is a tagged element
@@ -37,11 +40,22 @@ other_word x p w h =
     other_if x (bytes_eq w (codes "nil")) nil _ refl (other_if x (bytes_eq w (codes "true")) (bool true) _ refl
     (other_if x (bytes_eq w (codes "false")) (bool false) _ refl (other_number x p w (integer w) h)))
 
+-- a run that writes an integer is that integer
+other_than : (b : Bool) → (b ≡ true → ⊥) → b ≡ false
+other_than true h = absurd (h refl)
+other_than false h = refl
+
+no_word : (w : List ℕ) (z : ℤ) → integer w ≡ Some z → (x : List ℕ) → integer x ≡ None → bytes_eq w x ≡ false
+no_word w z h x none = other_than (bytes_eq w x) (λ t. none-some z (sym none ∙ ap integer (sym ((bytes_eq-Decides w x).0 t)) ∙ h))
+
+pub integer_value : (p : ℕ) (w : List ℕ) (z : ℤ) → integer w ≡ Some z → run_value p w ≡ int z
+integer_value p w z h = rw (no_word w z h (codes "nil") refl, no_word w z h (codes "true") refl, no_word w z h (codes "false") refl, h) refl
+
 -- a key that is none of the four
-none_put : (x : List ℕ) (p : ℕ) (w : List ℕ) (old : Option ℕ) (at : ℕ) → bytes_eq w x ≡ false → IsPut (is_word x (run_value p w)) old at old
+none_put : (x : List ℕ) (p : ℕ) (w : List ℕ) (old : Option Place) (at : Place) → bytes_eq w x ≡ false → IsPut (is_word x (run_value p w)) old at old
 none_put x p w old at h = subst (λ b. IsPut b old at old) (sym (other_word x p w h)) refl
 
-pub none_added : (ps : Places) (p : ℕ) (w : List ℕ) (at : ℕ) → bytes_eq w (codes ":process") ≡ false → bytes_eq w (codes ":type") ≡ false →
+pub none_added : (ps : Places) (p : ℕ) (w : List ℕ) (at : Place) → bytes_eq w (codes ":process") ≡ false → bytes_eq w (codes ":type") ≡ false →
     bytes_eq w (codes ":f") ≡ false → bytes_eq w (codes ":value") ≡ false → IsAdded ps (run_value p w) at ps
 none_added ps p w at a b c d = record {
   process = none_put (codes ":process") p w ps.process at a;
@@ -83,6 +97,12 @@ pub row_ends : (s : List ℕ) (levels inner at c : ℕ) (vs : List Value) → Ro
     Row levels inner (drop inner s) vs at (c ∷ drop (at + 1) s)
 row_ends s levels inner at c vs row lt h = subst (Row levels inner (drop inner s) vs at) (at_byte s at lt ∙ ap (λ b. b ∷ drop (at + 1) s) h) row
 
+-- the vector of two
+pub two_in : (s : List ℕ) (from last levels : ℕ) (v w : Value) → Opens a_vector from (drop from s) (from + 1) (drop (from + 1) s) →
+    Row levels (from + 1) (drop (from + 1) s) (v ∷ w ∷ []) last (drop last s) → last < length s → get_or s last 0 ≡ 93 →
+    Element (suc levels) from (drop from s) (vector (values_of (v ∷ w ∷ []))) (last + 1) (drop (last + 1) s)
+two_in s from last levels v w opens row lt h = collection opens (row_ends s levels (from + 1) last 93 (v ∷ w ∷ []) row lt h) refl
+
 -- keys and values in turn
 turn_more : (es : List (Value × Value)) (k v : Value) → (in_turn es ++ k ∷ []) ++ v ∷ [] ≡ in_turn (es ++ (k, v) ∷ [])
 turn_more [] k v = refl
@@ -97,18 +117,18 @@ under_more : (x : List ℕ) (es : List (Value × Value)) (k v : Value) → under
 under_more x [] k v = append-nil (here x k v)
 under_more x (e ∷ es) k v = ap (λ l. here x e.0 e.1 ++ l) (under_more x es k v) ∙ sym (append_assoc (here x e.0 e.1) (under x (entries_of es)) (here x k v))
 
-placed_more : (s : List ℕ) (levels : ℕ) (vs : List Value) (b : Bool) (old new : Option ℕ) (at : ℕ) (v : Value) (until : ℕ) → IsPut b old at new → IsPlaced s levels vs old →
-    Element levels at (drop at s) v until (drop until s) → IsPlaced s levels (vs ++ (if b then bare v ∷ [] else [])) new
-placed_more s levels vs true old new at v until put placed here =
+placed_more : (s : List ℕ) (levels : ℕ) (vs : List Value) (b : Bool) (old new : Option Place) (p : Place) (v : Value) (used : ℕ) → IsPut b old p new → IsPlaced s levels vs old →
+    IsValueAt s levels p v used → IsPlaced s levels (vs ++ (if b then bare v ∷ [] else [])) new
+placed_more s levels vs true old new p v used put placed here =
     let none : vs ≡ [] = subst (IsPlaced s levels vs) put.0 placed in
-    subst (IsPlaced s levels (vs ++ bare v ∷ [])) (sym put.1) (v, until, ap (λ l. l ++ bare v ∷ []) none, here)
-placed_more s levels vs false old new at v until put placed here =
+    subst (IsPlaced s levels (vs ++ bare v ∷ [])) (sym put.1) (v, used, ap (λ l. l ++ bare v ∷ []) none, here)
+placed_more s levels vs false old new p v used put placed here =
     subst (IsPlaced s levels (vs ++ [])) (sym put) (subst (λ l. IsPlaced s levels l old) (sym (append-nil vs)) placed)
 
-under_placed : (s : List ℕ) (levels : ℕ) (x : List ℕ) (es : List (Value × Value)) (k v : Value) (old new : Option ℕ) (at until : ℕ) → IsPut (is_word x k) old at new →
-    IsPlaced s levels (under x (entries_of es)) old → Element levels at (drop at s) v until (drop until s) → IsPlaced s levels (under x (entries_of (es ++ (k, v) ∷ []))) new
-under_placed s levels x es k v old new at until put placed here =
-    subst (λ l. IsPlaced s levels l new) (sym (under_more x es k v)) (placed_more s levels (under x (entries_of es)) (is_word x k) old new at v until put placed here)
+under_placed : (s : List ℕ) (levels : ℕ) (x : List ℕ) (es : List (Value × Value)) (k v : Value) (old new : Option Place) (p : Place) (used : ℕ) → IsPut (is_word x k) old p new →
+    IsPlaced s levels (under x (entries_of es)) old → IsValueAt s levels p v used → IsPlaced s levels (under x (entries_of (es ++ (k, v) ∷ []))) new
+under_placed s levels x es k v old new p used put placed here =
+    subst (λ l. IsPlaced s levels l new) (sym (under_more x es k v)) (placed_more s levels (under x (entries_of es)) (is_word x k) old new p v used put placed here)
 
 -- the row of an entry more
 row_more : (s : List ℕ) (start from until at used levels : ℕ) (es : List (Value × Value)) (k v : Value) →
@@ -119,21 +139,21 @@ row_more s start from until at used levels es k v row key whites here =
     subst (λ l. Row levels (start + 1) (drop (start + 1) s) l used (drop used s)) (turn_more es k v)
     (element (whites levels (start + 1) (drop (start + 1) s) (in_turn es ++ k ∷ []) (element row (key levels))) here)
 
-pub entry_more : (s : List ℕ) (start from until at used levels : ℕ) (k v : Value) (old new : Places) → IsUpTo s start levels from old →
+pub entry_more : (s : List ℕ) (start from until at used levels : ℕ) (p : Place) (k v : Value) (old new : Places) → p.at ≡ at → IsUpTo s start levels from old →
     ((n : ℕ) → Element n from (drop from s) k until (drop until s)) →
     ((n p : ℕ) (t : List ℕ) (vs : List Value) → Row n p t vs until (drop until s) → Row n p t vs at (drop at s)) →
-    Element levels at (drop at s) v used (drop used s) → IsAdded old k at new → IsUpTo s start levels used new
-entry_more s start from until at used levels k v old new upto key whites here added =
+    IsValueAt s levels p v used → IsAdded old k p new → IsUpTo s start levels used new
+entry_more s start from until at used levels p k v old new there upto key whites here added =
     let es = upto.0 in
     let are = upto.1 in (
       es ++ (k, v) ∷ [],
       record {
-        process = under_placed s levels (codes ":process") es k v old.process new.process at used added.process are.process here;
-        types = under_placed s levels (codes ":type") es k v old.event_type new.event_type at used added.types are.types here;
-        function = under_placed s levels (codes ":f") es k v old.function new.function at used added.function are.function here;
-        values = under_placed s levels (codes ":value") es k v old.value new.value at used added.values are.values here;
+        process = under_placed s levels (codes ":process") es k v old.process new.process p used added.process are.process here;
+        types = under_placed s levels (codes ":type") es k v old.event_type new.event_type p used added.types are.types here;
+        function = under_placed s levels (codes ":f") es k v old.function new.function p used added.function are.function here;
+        values = under_placed s levels (codes ":value") es k v old.value new.value p used added.values are.values here;
       },
-      row_more s start from until at used levels es k v upto.2 key whites here,
+      row_more s start from until at used levels es k v upto.2 key whites (subst (λ i. Element levels i (drop i s) v used (drop used s)) there here.0),
     )
 
 -- blanks more

@@ -1,45 +1,80 @@
 -- Usual maps: the events that they say.
-use Rattle.std.proofs.Common.{◌≡◌, ℕ, ◌≤◌, Bool, true, false, List, [], ◌∷◌, Option, Some, None, Ok, drop, codes, refl, ap, subst, ◌∙◌}
-use Rattle.lin_edn.specs.Value.{Value, map, Entries}
+use Rattle.std.proofs.Common.{◌≡◌, ℕ, ℤ, pos, ◌<◌, ◌≤◌, Bool, true, false, List, [], ◌∷◌, Option, Some, None, Ok, drop, codes, refl, sym, ap, subst, ◌∙◌, arith}
+use Rattle.std.proofs.lemmas.Option.{none-some}
+use Rattle.std.specs.List.{slice_range}
+use Rattle.lin_edn.specs.Grammar.{Element}
 use Rattle.lin_edn.specs.Laws.{ElementsAreUnique}
-use Rattle.lin_history.specs.Table.{bare, under, is_several, is_named, event, event_under, event_with}
-use Rattle.lin_history.specs.Usual.{IsBareAt, IsPlaced, ArePlaced}
+use Rattle.lin_edn.specs.Run.{run_value}
+use Rattle.lin_edn.specs.Value.{Value, nil, bool, int, atom, keyword, text, list, vector, set, map, tagged, values_of, Entries}
+use Rattle.lin_history.specs.Table.{bare, under, is_several, is_named, or_nil, event, event_under, event_with, parts_of, process_of}
+use Rattle.lin_history.specs.Usual.{IsPlaced, ArePlaced, AreParts}
 use Rattle.lin_history.specs.declared.events.Event.{Event}
+use Rattle.lin_history.specs.declared.usual.Place.{Place}
 use Rattle.lin_history.specs.declared.usual.Places.{Places}
+use Rattle.lin_history.proofs.Maps.{bare_run}
 
--- the value at a kept place is the only one under its key
-placed : ElementsAreUnique → (s : List ℕ) (levels : ℕ) (vs : List Value) (o : Option ℕ) (at : ℕ) (v : Value) → levels ≤ 64 → IsPlaced s levels vs o → o ≡ Some at →
-    IsBareAt s at v → vs ≡ v ∷ []
-placed unique s levels vs o at v few p e here =
-    let there = subst (IsPlaced s levels vs) e p in
-    let same : there.0 ≡ v = (unique levels here.1 at there.1 here.2 (drop at s) (drop there.1 s) (drop here.2 s) there.0 v few here.3 there.3 here.4).0 in
-    there.2 ∙ ap (λ w. w ∷ []) (ap bare same ∙ here.0)
+-- a kept run is the only value under its key
+pub word_alone : (s : List ℕ) (levels : ℕ) (vs : List Value) (p : Place) → p.at < p.until → IsPlaced s levels vs (Some p) → vs ≡ run_value p.at (slice_range s p.at p.until) ∷ []
+word_alone s levels vs p lt there =
+    let word = slice_range s p.at p.until in
+    there.2 ∙ ap (λ v. bare v ∷ []) (there.3.1 lt) ∙ ap (λ v. v ∷ []) (bare_run p.at word)
+
+-- an element at a kept place is the only value under its key
+alone : ElementsAreUnique → (s : List ℕ) (levels : ℕ) (vs : List Value) (p : Place) (v : Value) (used : ℕ) → levels ≤ 64 → IsPlaced s levels vs (Some p) →
+    bare v ≡ v → Element 2 p.at (drop p.at s) v used (drop used s) → vs ≡ v ∷ []
+alone unique s levels vs p v used few there whole here =
+    let same : there.0 ≡ v = (unique levels 2 p.at there.1 used (drop p.at s) (drop there.1 s) (drop used s) there.0 v few (omega arith) there.3.0 here).0 in
+    there.2 ∙ ap (λ w. w ∷ []) (ap bare same ∙ whole)
+
+parts_alone : (keyed : Bool) (vs : List Value) (w : Value) (key : ℤ) (v : Value) → vs ≡ w ∷ [] → parts_of keyed w ≡ Some (key, v) → AreParts keyed vs key v
+parts_alone keyed vs w key v one parts = subst (λ l. AreParts keyed l key v) (sym one) (refl, parts)
+
+pub pair_parts : ElementsAreUnique → (s : List ℕ) (levels : ℕ) (vs : List Value) (p : Place) (key : ℤ) (v : Value) (used : ℕ) → levels ≤ 64 → IsPlaced s levels vs (Some p) →
+    bare v ≡ v → Element 2 p.at (drop p.at s) (vector (values_of (int key ∷ v ∷ []))) used (drop used s) → AreParts true vs key v
+pair_parts unique s levels vs p key v used few there whole here =
+    let pair = vector (values_of (int key ∷ v ∷ [])) in
+    parts_alone true vs pair key v (alone unique s levels vs p pair used few there refl here) (ap (λ w. Some (key, w)) whole)
+
+pub word_parts : (vs : List Value) (v : Value) → vs ≡ v ∷ [] → AreParts false vs (pos 0) v
+word_parts vs v one = parts_alone false vs v (pos 0) v one refl
+
+pub value_parts : ElementsAreUnique → (s : List ℕ) (levels : ℕ) (vs : List Value) (p : Place) (v : Value) (used : ℕ) → levels ≤ 64 → IsPlaced s levels vs (Some p) →
+    bare v ≡ v → Element 2 p.at (drop p.at s) v used (drop used s) → AreParts false vs (pos 0) v
+value_parts unique s levels vs p v used few there whole here = parts_alone false vs v (pos 0) v (alone unique s levels vs p v used few there whole here) refl
+
+-- a number is no name
+numbered : (v : Value) (n : ℕ) → process_of v ≡ Some n → is_named (v ∷ []) ≡ false
+numbered nil n h = refl
+numbered (bool b) n h = refl
+numbered (int i) n h = refl
+numbered (atom at w) n h = refl
+numbered (keyword at w) n h = absurd (none-some n h)
+numbered (text at w) n h = refl
+numbered (list vs) n h = refl
+numbered (vector vs) n h = refl
+numbered (set vs) n h = refl
+numbered (map es) n h = refl
+numbered (tagged at w v) n h = refl
 
 -- no key stands twice
-few : (s : List ℕ) (levels : ℕ) (vs : List Value) (o : Option ℕ) → IsPlaced s levels vs o → is_several vs ≡ false
+few : (s : List ℕ) (levels : ℕ) (vs : List Value) (o : Option Place) → IsPlaced s levels vs o → is_several vs ≡ false
 few s levels vs None p = ap is_several p
 few s levels vs (Some at) p = ap is_several p.2
 
 -- the event of a usual map
-pub usual_event_is : ElementsAreUnique → (keyed : Bool) (s : List ℕ) (levels : ℕ) (es : Entries) (ps : Places) (p t f v : ℕ) (a b d e : Value) (told : Option Event) →
-    levels ≤ 64 → ArePlaced s levels es ps → ps.process ≡ Some p → ps.event_type ≡ Some t → ps.function ≡ Some f → ps.value ≡ Some v →
-    IsBareAt s p a → IsBareAt s t b → IsBareAt s f d → IsBareAt s v e → is_named (a ∷ []) ≡ false → event_with keyed a b d e ≡ Ok told → event keyed (map es) ≡ Ok told
-usual_event_is unique keyed s levels es ps p t f v a b d e told low are process type function value pa pb pd pe named is =
-    let first = placed unique s levels (under (codes ":process") es) ps.process p a low are.process process pa in
-    let second = placed unique s levels (under (codes ":type") es) ps.event_type t b low are.types type pb in
-    let third = placed unique s levels (under (codes ":f") es) ps.function f d low are.function function pd in
-    let fourth = placed unique s levels (under (codes ":value") es) ps.value v e low are.values value pe in
-    rw (first, second, third, fourth, named) is
+pub usual_event_is : (keyed : Bool) (es : Entries) (a b d : Value) (n : ℕ) (told : Option Event) →
+    under (codes ":process") es ≡ a ∷ [] → under (codes ":type") es ≡ b ∷ [] → under (codes ":f") es ≡ d ∷ [] → is_several (under (codes ":value") es) ≡ false →
+    process_of a ≡ Some n → event_with keyed a b d (or_nil (under (codes ":value") es)) ≡ Ok told → event keyed (map es) ≡ Ok told
+usual_event_is keyed es a b d n told first second third fourth process is = rw (first, second, third, fourth, numbered a n process) is
 
 named_under : (keyed : Bool) (v : Value) (ts fs vs : List Value) → is_named (v ∷ []) ≡ true → is_several ts ≡ false → is_several fs ≡ false → is_several vs ≡ false →
     event_under keyed (v ∷ []) ts fs vs ≡ Ok None
 named_under keyed v ts fs vs h a b c = rw (a, b, c, h) refl
 
 -- a usual map of the nemesis
-pub usual_named : ElementsAreUnique → (keyed : Bool) (s : List ℕ) (levels : ℕ) (es : Entries) (ps : Places) (p : ℕ) (v : Value) → levels ≤ 64 → ArePlaced s levels es ps →
-    ps.process ≡ Some p → IsBareAt s p v → is_named (v ∷ []) ≡ true → event keyed (map es) ≡ Ok None
-usual_named unique keyed s levels es ps p v low are a there named =
-    let first = placed unique s levels (under (codes ":process") es) ps.process p v low are.process a there in
+pub usual_named : (keyed : Bool) (s : List ℕ) (levels : ℕ) (es : Entries) (ps : Places) (v : Value) → ArePlaced s levels es ps →
+    under (codes ":process") es ≡ v ∷ [] → is_named (v ∷ []) ≡ true → event keyed (map es) ≡ Ok None
+usual_named keyed s levels es ps v are first named =
     rw first (named_under keyed v (under (codes ":type") es) (under (codes ":f") es) (under (codes ":value") es) named
     (few s levels (under (codes ":type") es) ps.event_type are.types) (few s levels (under (codes ":f") es) ps.function are.function)
     (few s levels (under (codes ":value") es) ps.value are.values))

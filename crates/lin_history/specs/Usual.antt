@@ -1,10 +1,15 @@
 -- What is read of a usual map without its elements: cited by the contracts of private functions alone.
-use Rattle.std.specs.Prelude.{◌≡◌, ℕ, suc, ◌+◌, ◌<◌, ◌≤◌, Bool, true, false, List, [], ◌∷◌, length, drop, Option, Some, None, Ok, codes}
+use Rattle.std.specs.Prelude.{◌≡◌, ℕ, ℤ, suc, ◌+◌, ◌<◌, ◌≤◌, Bool, true, false, List, [], ◌∷◌, length, drop, Option, Some, None, Ok, codes}
 use Rattle.lin_edn.specs.Grammar.{Element, Row, ShortBlanks, longest}
+use Rattle.std.specs.List.{slice_range}
 use Rattle.lin_edn.specs.Bytes.{Kind, a_set, a_vector}
+use Rattle.lin_edn.specs.Run.{run_value}
 use Rattle.lin_edn.specs.Value.{Value, map, Entries, entries_of}
-use Rattle.lin_history.specs.Table.{bare, is_word, under, event}
+use Rattle.lin_history.specs.Table.{bare, is_word, under, process_of, parts_of, or_nil, is_several, is_named, event}
+use Rattle.lin_history.specs.declared.usual.Place.{Place}
 use Rattle.lin_history.specs.declared.usual.Places.{Places}
+use Rattle.lin_history.specs.declared.usual.Process.{Process}
+use Rattle.lin_history.specs.declared.usual.Process.TheVariants.{Number, Named}
 use Rattle.lin_history.specs.declared.usual.Taken.{Taken}
 use Rattle.lin_history.specs.declared.events.Event.{Event}
 
@@ -13,14 +18,23 @@ abbrev pub kind_of : Bool → Kind
 kind_of true = a_set
 kind_of false = a_vector
 
--- an element without a tag stands at a place
-abbrev pub IsBareAt : List ℕ → ℕ → Value → Type 0
-IsBareAt s at v = (bare v ≡ v) × (n : ℕ) × (until : ℕ) × (n ≤ 64) × Element n at (drop at s) v until (drop until s)
+-- from a place on an element with so many levels at most stands, up to another place; where the run there ends is kept, if it is one
+abbrev pub IsValueAt : List ℕ → ℕ → Place → Value → ℕ → Type 0
+IsValueAt s levels p v used = Element levels p.at (drop p.at s) v used (drop used s) × (p.at < p.until → v ≡ run_value p.at (slice_range s p.at p.until))
 
--- these are the values under a key, without their tags, of elements with so many levels at most; the place of the element is kept
-abbrev pub IsPlaced : List ℕ → ℕ → List Value → Option ℕ → Type 0
+-- these are the values under a key, without their tags; the place of the element is kept
+abbrev pub IsPlaced : List ℕ → ℕ → List Value → Option Place → Type 0
 IsPlaced s levels vs None = vs ≡ []
-IsPlaced s levels vs (Some at) = (v : Value) × (until : ℕ) × (vs ≡ bare v ∷ []) × Element levels at (drop at s) v until (drop until s)
+IsPlaced s levels vs (Some p) = (v : Value) × (used : ℕ) × (vs ≡ bare v ∷ []) × IsValueAt s levels p v used
+
+-- the values under a key are one, or none, and say the object's key and the value
+abbrev pub AreParts : Bool → List Value → ℤ → Value → Type 0
+AreParts keyed vs key v = (is_several vs ≡ false) × (parts_of keyed (or_nil vs) ≡ Some (key, v))
+
+-- a value says the process: its number, or a name
+abbrev pub IsProcess : Value → Process → Type 0
+IsProcess v (Number n) = process_of v ≡ Some n
+IsProcess v Named = is_named (v ∷ []) ≡ true
 
 -- the places of the values under the four keys of a map are kept
 pub record ArePlaced (s : List ℕ) (levels : ℕ) (es : Entries) (ps : Places) : Type 0 where
@@ -30,16 +44,16 @@ pub record ArePlaced (s : List ℕ) (levels : ℕ) (es : Entries) (ps : Places) 
   pub values : IsPlaced s levels (under (codes ":value") es) ps.value
 
 -- a place is kept where none was, if the key is the one that counts
-abbrev pub IsPut : Bool → Option ℕ → ℕ → Option ℕ → Type 0
-IsPut true old at new = (old ≡ None) × (new ≡ Some at)
-IsPut false old at new = new ≡ old
+abbrev pub IsPut : Bool → Option Place → Place → Option Place → Type 0
+IsPut true old p new = (old ≡ None) × (new ≡ Some p)
+IsPut false old p new = new ≡ old
 
 -- the place of the value of a key is kept, if the key counts
-pub record IsAdded (old : Places) (k : Value) (at : ℕ) (new : Places) : Type 0 where
-  pub process : IsPut (is_word (codes ":process") k) old.process at new.process
-  pub types : IsPut (is_word (codes ":type") k) old.event_type at new.event_type
-  pub function : IsPut (is_word (codes ":f") k) old.function at new.function
-  pub values : IsPut (is_word (codes ":value") k) old.value at new.value
+pub record IsAdded (old : Places) (k : Value) (p : Place) (new : Places) : Type 0 where
+  pub process : IsPut (is_word (codes ":process") k) old.process p new.process
+  pub types : IsPut (is_word (codes ":type") k) old.event_type p new.event_type
+  pub function : IsPut (is_word (codes ":f") k) old.function p new.function
+  pub values : IsPut (is_word (codes ":value") k) old.value p new.value
 
 -- keys and values in reading order
 abbrev pub in_turn : List (Value × Value) → List Value

@@ -1,6 +1,6 @@
 //! Events from the maps that recorders write.
-ghost use Rattle.std.specs.Prelude.{◌≡◌, ◌||◌, ◌++◌, [], ◌∷◌, true, Some, None, codes, map, option_map, IsTrue, IsSome, is_some, IfOk};
-ghost use Rattle.lin_edn.specs.Value.{Value, values_of, entries_of};
+ghost use Rattle.std.specs.Prelude.{◌≡◌, Bool, ◌||◌, ◌++◌, [], ◌∷◌, true, Some, None, codes, map, option_map, IsTrue, IsSome, is_some, IfOk};
+ghost use Rattle.lin_edn.specs.Value.{Value, int, values_of, entries_of};
 ghost use Rattle.lin_edn.specs.View.{view, entry_view};
 ghost use Rattle.lin_history.specs.Table as table;
 ghost use Rattle.lin_history.specs.Table.{bare as bare_value, is_word as says, under, is_several, event, IsAnswer};
@@ -167,11 +167,18 @@ fn function_of(element: &Edn) -> Option<Name>
     None
 }
 
-pub(crate) fn process_of(element: &Edn) -> Option<u64>
+/// The process that an integer says.
+pub(crate) fn process_number(number: i64) -> Option<u64>
+    ensures { result ≡ table.process_of (int number) }
+{
+    u64::try_from(number).ok()
+}
+
+fn process_of(element: &Edn) -> Option<u64>
     ensures { result ≡ table.process_of (view element.now) }
 {
     match element {
-        Edn::Int(process) => u64::try_from(*process).ok(),
+        Edn::Int(number) => process_number(*number),
         _ => None,
     }
 }
@@ -360,24 +367,25 @@ fn event_with(
     let Some(name) = function_of(function) else {
         return Err(EventFault::BadFunction);
     };
-    event_said(alloc, keyed, process, event_type, name, value)
-}
-
-/// The event of a map whose other values say so.
-pub(crate) fn event_said(
-    alloc: Global,
-    keyed: bool,
-    process: u64,
-    event_type: EventType,
-    name: Name,
-    value: &Edn,
-) -> Result<Option<Event>, EventFault>
-    ensures { (p : Value) (t : Value) (f : Value) → table.process_of p ≡ Some process → table.type_of t ≡ Some event_type → table.function_of f ≡ Some name →
-        IsAnswer (table.event_with keyed p t f (view value.now)) result }
-{
     let Some((key, value)) = parts_of(value, keyed) else {
         return Err(EventFault::BadKey);
     };
+    event_said(alloc, process, event_type, name, key, value)
+}
+
+/// The event of a map whose values say so, the last of them the object's key and the value.
+pub(crate) fn event_said(
+    alloc: Global,
+    process: u64,
+    event_type: EventType,
+    name: Name,
+    key: i64,
+    value: &Edn,
+) -> Result<Option<Event>, EventFault>
+    ensures { (keyed : Bool) (p : Value) (t : Value) (f : Value) (v : Value) →
+        table.process_of p ≡ Some process → table.type_of t ≡ Some event_type → table.function_of f ≡ Some name → table.parts_of keyed v ≡ Some (key, view value.now) →
+        IsAnswer (table.event_with keyed p t f v) result }
+{
     let body = body_of(alloc, event_type, name, value)?;
     Ok(Some(Event { process, key, body }))
 }

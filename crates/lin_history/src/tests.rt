@@ -442,6 +442,13 @@ fn usual_maps_say_what_other_maps_say(rt: HostRuntime) -> Result<(), Fail> {
             b"{:process 0 :type :ok :f :read :value [7 #{2 1}]}{:process 0 :type :ok :f :read :value [7 [2 1]]}{:process 0 :type :ok :f :read :value [7 [2 [1]]]}",
             2,
         ),
+        (
+            b"{:process 0 :type :invoke :f :write :value [ +7 , 1 ]}{:process 1 :type :invoke :f :write :value (7 1)}{:process 2 :type :invoke :f :write :value #a [7N #b 1]}",
+            3,
+        ),
+        (b"{:process 0 :type :invoke :f :write :value [7]}", 0),
+        (b"{:process 0 :type :invoke :f :write :value [7.5 1]}", 0),
+        (b"{:process 0 :type :invoke :f :write :value 7}", 0),
         (b"{:process 0 :type :invoke :f :write :value [nil 7]}", 0),
         (b"{:process 0 :type :invoke :f :write :value [7 :a]}", 0),
         (b"{:process 0 :type :invoke :f :read :value [7 nil 1]}", 0),

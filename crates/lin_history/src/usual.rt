@@ -1,20 +1,21 @@
 //! Usual operation maps, read from their bytes without building their elements.
-ghost use Rattle.std.specs.Prelude.{◌≡◌, ℕ, suc, ◌<◌, ◌≤◌, true, false, None, Some, Ok, IfSome, length, drop, slice_index, [], ◌∷◌};
-ghost use Rattle.lin_edn.specs.Grammar.{Element};
+ghost use Rattle.std.specs.Prelude.{◌≡◌, ℕ, suc, ◌<◌, ◌≤◌, true, false, None, Some, Ok, IfSome, List, length, slice_index, [], ◌∷◌};
+ghost use Rattle.std.specs.Str.{bytes_eq};
 ghost use Rattle.lin_edn.specs.Run.{run_value};
 ghost use Rattle.lin_edn.specs.Value as value;
 ghost use Rattle.lin_edn.specs.Value.{Value, Entries};
 ghost use Rattle.lin_edn.specs.View.{view};
 ghost use Rattle.lin_history.specs.Table as table;
 ghost use Rattle.lin_history.specs.Table.{event};
-ghost use Rattle.lin_history.specs.Usual.{ArePlaced, IsAdded, IsBareAt, IsUpTo, IsMapAt, IsTaken};
+ghost use Rattle.lin_history.specs.Usual.{AreParts, ArePlaced, IsAdded, IsPlaced, IsProcess, IsValueAt, IsUpTo, IsMapAt, IsTaken};
 
 use crate::calls::Name;
 use crate::events::Event;
-use crate::table::{EventType, event_said, is_keyword, process_of};
-use crate::values::value_at;
+use crate::table::{EventType, event_said, is_keyword, process_number};
+use crate::values::{pair_at, value_at};
 use lin_edn::{
-    Edn, elements_are_unique, nested_until, run_element, run_until, tag_until, white_until, window,
+    Edn, elements_are_unique, integer, nested_until, run_element, run_until, tag_until,
+    white_until, window,
 };
 use std::alloc::Global;
 
@@ -28,64 +29,91 @@ pub(crate) struct Taken {
     pub used: usize,
 }
 
-/// Where the values of the keys that count begin.
+/// Where a value begins, and where the run there ends: where it begins, if the value is no run.
 #[derive(Clone, Copy)]
-struct Places {
-    process: Option<usize>,
-    event_type: Option<usize>,
-    function: Option<usize>,
-    value: Option<usize>,
+struct Place {
+    at: usize,
+    until: usize,
 }
 
-/// Keeps the place of a value whose key stands once; else nothing, which is told.
-fn put(slot: &mut Option<usize>, at: usize) -> bool
-    ensures { result ≡ true → (slot.old ≡ None) × (slot.new ≡ Some at) }
+/// The values of the keys that count.
+#[derive(Clone, Copy)]
+struct Places {
+    process: Option<Place>,
+    event_type: Option<Place>,
+    function: Option<Place>,
+    value: Option<Place>,
+}
+
+/// What `:process` says.
+#[derive(Clone, Copy)]
+enum Process {
+    Number(u64),
+    /// A keyword, as that of the nemesis.
+    Named,
+}
+
+/// Keeps the value of a key that stands once; else nothing, which is told.
+fn put(slot: &mut Option<Place>, place: Place) -> bool
+    ensures { result ≡ true → (slot.old ≡ None) × (slot.new ≡ Some place) }
 {
     if slot.is_some() {
         return false;
     }
-    *slot = Some(at);
+    *slot = Some(place);
     true
 }
 
-/// Keeps the place of the value of a key that counts, unless one stands there.
-fn keep(places: &mut Places, key: &[u8], at: usize) -> bool
-    ensures { result ≡ true → (p : ℕ) → IsAdded places.old (run_value p key.now) at places.new }
+/// Whether a word is another. Unlike `==` this calls nothing where the other one is known, which tells in the time of reading.
+#[inline(always)]
+fn is_same(word: &[u8], other: &[u8]) -> bool
+    ensures { result ≡ bytes_eq word.now other.now }
 {
-    if key == b":process".as_slice() {
-        return put(&mut places.process, at);
+    if word.len() != other.len() {
+        return false;
     }
-    if key == b":type".as_slice() {
-        return put(&mut places.event_type, at);
+    other.starts_with(word)
+}
+
+/// Keeps the value of a key that counts, unless one stands there.
+fn keep(places: &mut Places, key: &[u8], place: Place) -> bool
+    ensures { result ≡ true → (p : ℕ) → IsAdded places.old (run_value p key.now) place places.new }
+{
+    if is_same(key, b":process") {
+        return put(&mut places.process, place);
     }
-    if key == b":f".as_slice() {
-        return put(&mut places.function, at);
+    if is_same(key, b":type") {
+        return put(&mut places.event_type, place);
     }
-    if key == b":value".as_slice() {
-        return put(&mut places.value, at);
+    if is_same(key, b":f") {
+        return put(&mut places.function, place);
+    }
+    if is_same(key, b":value") {
+        return put(&mut places.value, place);
     }
     true
 }
 
-/// Where the usual value at a place ends, with so many levels at most; that place where none stands there.
-fn value_until(text: &[u8], from: usize, end: usize, levels: usize) -> usize
-    requires begun { from ≤ end }
+/// The usual value at a place, with so many levels at most, and where it ends; that place where none stands there.
+fn usual_value(text: &[u8], at: usize, end: usize, levels: usize) -> (Place, usize)
+    requires begun { at ≤ end }
     requires inside { end ≤ length text.now }
-    ensures within { (from ≤ result) × (result ≤ end) }
-    ensures value { from < result → (v : Value) × Element levels from (drop from text.now) v result (drop result text.now) }
+    ensures at { result.0.at ≡ at }
+    ensures within { (at ≤ result.1) × (result.1 ≤ end) }
+    ensures value { at < result.1 → (v : Value) × IsValueAt text.now levels result.0 v result.1 }
 {
-    let until = run_until(text, from, end);
-    if until > from {
-        return until;
+    let until = run_until(text, at, end);
+    let place = Place { at, until };
+    if until > at {
+        return (place, until);
     }
-    nested_until(text, from, end, levels)
+    (place, nested_until(text, at, end, levels))
 }
 
 /// Takes the usual entry at a place, whose value has so many levels at most, and tells where it ends; that place where none stands there.
 fn take_entry(text: &[u8], from: usize, end: usize, levels: usize, places: &mut Places) -> usize
     requires begun { from ≤ end }
     requires inside { end ≤ length text.now }
-    requires room { 0 < levels }
     ensures within { (from ≤ result) × (result ≤ end) }
     ensures taken { from < result → (start : ℕ) → IsUpTo text.now start levels from places.old → IsUpTo text.now start levels result places.new }
 {
@@ -94,11 +122,11 @@ fn take_entry(text: &[u8], from: usize, end: usize, levels: usize, places: &mut 
         return from;
     }
     let at = white_until(text, until, end);
-    let used = value_until(text, at, end, levels);
+    let (place, used) = usual_value(text, at, end, levels);
     if used == at {
         return from;
     }
-    if !keep(places, &text[from..until], at) {
+    if !keep(places, &text[from..until], place) {
         return from;
     }
     used
@@ -109,7 +137,6 @@ fn usual_map(text: &[u8], from: usize, end: usize, levels: usize) -> Option<(Pla
     requires begun { from < end }
     requires inside { end ≤ length text.now }
     requires opens { slice_index text.now from ≡ 123 }
-    requires room { 0 < levels }
     ensures within { IfSome result (λ r. (from < r.1) × (r.1 ≤ end)) }
     ensures map { IfSome result (λ r. IsMapAt text.now from levels r.0 r.1) }
 {
@@ -133,34 +160,46 @@ fn usual_map(text: &[u8], from: usize, end: usize, levels: usize) -> Option<(Pla
     None
 }
 
-/// The bytes of the run at a place.
-fn word_at<'a>(text: &'a [u8], at: usize) -> Option<&'a [u8]>
-    ensures { IfSome result (λ word. IsBareAt text.entry.now at (run_value at word.now)) }
+/// The word of a value that is a run.
+fn word_of<'a>(text: &'a [u8], place: Place) -> Option<&'a [u8]>
+    ensures { IfSome result (λ word. (levels : ℕ) (vs : List Value) → IsPlaced text.entry.now levels vs (Some place) → vs ≡ run_value place.at word.now ∷ []) }
 {
-    if at >= text.len() {
+    if place.until <= place.at {
         return None;
     }
-    let until = run_until(text, at, text.len());
-    if until == at {
+    if place.until > text.len() {
         return None;
     }
-    Some(&text[at..until])
+    Some(&text[place.at..place.until])
+}
+
+/// The process that a word says, which begins at a place.
+fn process_in(at: usize, word: &[u8]) -> Option<Process>
+    ensures { IfSome result (IsProcess (run_value at word.now)) }
+{
+    if let Some(number) = integer(word) {
+        return Some(Process::Number(process_number(number)?));
+    }
+    if is_keyword(&run_element(at, word)) {
+        return Some(Process::Named);
+    }
+    None
 }
 
 /// The type that a word says.
 fn type_in(word: &[u8]) -> Option<EventType>
     ensures { (p : ℕ) → result ≡ table.type_of (run_value p word.now) }
 {
-    if word == b":invoke".as_slice() {
+    if is_same(word, b":invoke") {
         return Some(EventType::Invoke);
     }
-    if word == b":ok".as_slice() {
+    if is_same(word, b":ok") {
         return Some(EventType::Ok);
     }
-    if word == b":fail".as_slice() {
+    if is_same(word, b":fail") {
         return Some(EventType::Fail);
     }
-    if word == b":info".as_slice() {
+    if is_same(word, b":info") {
         return Some(EventType::Info);
     }
     None
@@ -170,48 +209,74 @@ fn type_in(word: &[u8]) -> Option<EventType>
 fn function_in(word: &[u8]) -> Option<Name>
     ensures { (p : ℕ) → result ≡ table.function_of (run_value p word.now) }
 {
-    if word == b":read".as_slice() {
+    if is_same(word, b":read") {
         return Some(Name::Read);
     }
-    if word == b":write".as_slice() {
+    if is_same(word, b":write") {
         return Some(Name::Write);
     }
-    if word == b":cas".as_slice() {
+    if is_same(word, b":cas") {
         return Some(Name::Cas);
     }
-    if word == b":enqueue".as_slice() {
+    if is_same(word, b":enqueue") {
         return Some(Name::Enqueue);
     }
-    if word == b":dequeue".as_slice() {
+    if is_same(word, b":dequeue") {
         return Some(Name::Dequeue);
     }
-    if word == b":add".as_slice() {
+    if is_same(word, b":add") {
         return Some(Name::Add);
     }
-    if word == b":acquire".as_slice() {
+    if is_same(word, b":acquire") {
         return Some(Name::Acquire);
     }
-    if word == b":release".as_slice() {
+    if is_same(word, b":release") {
         return Some(Name::Release);
     }
     None
+}
+
+/// The object's key and the value that a map says whose `:value` stands at a place, or nowhere.
+#[inline(always)]
+fn parts_at<'a>(
+    alloc: Global,
+    keyed: bool,
+    text: &'a [u8],
+    place: Option<Place>,
+) -> Option<(i64, Edn<'a>)>
+    ensures { IfSome result (λ r. (levels : ℕ) (vs : List Value) → levels ≤ 64 → IsPlaced text.entry.now levels vs place → AreParts keyed vs r.0 (view r.1)) }
+{
+    elements_are_unique();
+    let Some(place) = place else {
+        if keyed {
+            return None;
+        }
+        return Some((0, Edn::Nil));
+    };
+    if keyed {
+        let (key, value, _) = pair_at(alloc, text, place.at)?;
+        return Some((key, value));
+    }
+    if let Some(word) = word_of(text, place) {
+        return Some((0, run_element(place.at, word)));
+    }
+    let (value, _) = value_at(alloc, text, place.at, VALUE_LEVELS)?;
+    Some((0, value))
 }
 
 /// The event of a usual map, or that it is none; nothing where this has to be seen from its elements.
 fn usual_event(alloc: Global, keyed: bool, text: &[u8], places: Places) -> Option<Option<Event>>
     ensures { IfSome result (λ told. (levels : ℕ) (es : Entries) → levels ≤ 64 → ArePlaced text.now levels es places → event keyed (value.map es) ≡ Ok told) }
 {
-    elements_are_unique();
-    let at = places.process?;
-    let process = run_element(at, word_at(text, at)?);
-    if is_keyword(&process) {
-        return Some(None);
-    }
-    let number = process_of(&process)?;
-    let event_type = type_in(word_at(text, places.event_type?)?)?;
-    let name = function_in(word_at(text, places.function?)?)?;
-    let (value, _) = value_at(alloc, text, places.value?, VALUE_LEVELS)?;
-    match event_said(alloc, keyed, number, event_type, name, &value) {
+    let place = places.process?;
+    let number = match process_in(place.at, word_of(text, place)?)? {
+        Process::Number(number) => number,
+        Process::Named => return Some(None),
+    };
+    let event_type = type_in(word_of(text, places.event_type?)?)?;
+    let name = function_in(word_of(text, places.function?)?)?;
+    let (key, value) = parts_at(alloc, keyed, text, places.value)?;
+    match event_said(alloc, number, event_type, name, key, &value) {
         Ok(told) => Some(told),
         Err(_) => None,
     }
@@ -220,7 +285,6 @@ fn usual_event(alloc: Global, keyed: bool, text: &[u8], places: Places) -> Optio
 /// How many of some levels are left in a map, where a tag stands in front of it from a place on, or none.
 fn levels_inside(from: usize, begun: usize, levels: usize) -> usize
     requires { 3 ≤ levels }
-    ensures some { 0 < result }
     ensures few { result ≤ levels }
     ensures tagged { from < begun → suc (suc result) ≡ levels }
     ensures plain { begun ≡ from → suc result ≡ levels }

@@ -1,14 +1,59 @@
 //! Values of usual maps, read in place.
 ghost use Rattle.std.specs.Prelude.{◌≡◌, ℕ, ◌+◌, ◌<◌, ◌≤◌, ◌∷◌, ◌++◌, [], IfSome, Some, length, drop, map};
 ghost use Rattle.lin_edn.specs.Bytes as bytes;
+ghost use Rattle.lin_edn.specs.Bytes.{a_vector};
 ghost use Rattle.lin_edn.specs.Grammar.{Element, Opens, Row};
-ghost use Rattle.lin_edn.specs.Value.{made};
+ghost use Rattle.lin_edn.specs.Value.{made, int, vector, values_of};
 ghost use Rattle.lin_edn.specs.View.{view};
 ghost use Rattle.lin_history.specs.Table.{bare};
 ghost use Rattle.lin_history.specs.Usual.{kind_of};
 
-use lin_edn::{Edn, run_element, run_until, white_until};
+use lin_edn::{Edn, integer, run_element, run_until, white_until};
 use std::alloc::Global;
+
+/// The pair of an integer and such a value, of one level at most, at a place.
+#[inline(never)]
+pub(crate) fn pair_at<'a>(
+    alloc: Global,
+    text: &'a [u8],
+    from: usize,
+) -> Option<(i64, Edn<'a>, usize)>
+    ensures bare { IfSome result (λ r. bare (view r.1) ≡ view r.1) }
+    ensures pair { IfSome result (λ r. Element 2 from (drop from text.entry.now) (vector (values_of (int r.0 ∷ view r.1 ∷ []))) r.2 (drop r.2 text.entry.now)) }
+{
+    let (key, until) = key_at(text, from)?;
+    let at = white_until(text, until, text.len());
+    let (value, used) = value_at(alloc, text, at, 1)?;
+    let last = white_until(text, used, text.len());
+    if last >= text.len() {
+        return None;
+    }
+    if text[last] != b']' {
+        return None;
+    }
+    Some((key, value, last + 1))
+}
+
+/// The integer that the vector at a place begins with, and where it ends.
+fn key_at(text: &[u8], from: usize) -> Option<(i64, usize)>
+    ensures within { IfSome result (λ r. (from < r.1) × (r.1 ≤ length text.now)) }
+    ensures opens { IfSome result (λ r. Opens a_vector from (drop from text.now) (from + 1) (drop (from + 1) text.now)) }
+    ensures key { IfSome result (λ r. Row 1 (from + 1) (drop (from + 1) text.now) (int r.0 ∷ []) r.1 (drop r.1 text.now)) }
+{
+    if from >= text.len() {
+        return None;
+    }
+    if text[from] != b'[' {
+        return None;
+    }
+    let at = white_until(text, from + 1, text.len());
+    let until = run_until(text, at, text.len());
+    if until == at {
+        return None;
+    }
+    let key = integer(&text[at..until])?;
+    Some((key, until))
+}
 
 /// The value at a place, and where it ends: a run, or a vector or set of such values with white between them, with so many levels
 /// at most. Nothing where none stands there, or where memory is refused.

@@ -10,11 +10,11 @@ returns-clause-taken c = λ far start upto.
     let from = c.args.from in
     let until = c.run_until-until.result in
     let at = c.white_until-at.result in
-    let used = c.value_until-used.result in
+    let used = c.usual_value-used.result.1 in
     let a = c.run_until-until.ensures.within.0 in
     let b = c.if-until-from.false in
-    let d = c.value_until-used.ensures.within.0 in
+    let d = c.usual_value-used.ensures.within.0 in
     let e = c.if-used-at.false in
-    let value = c.value_until-used.ensures.value (omega arith) in
-    entry_more s start from until at used c.args.levels (run_value from (slice_range s from until)) value.0 c.args.places.now c.keep.new.places upto
-    (c.run_until-until.ensures.run (omega arith)) c.white_until-at.ensures.row value.1 (c.keep.ensures c.if-not-keep.false from)
+    let value = c.usual_value-used.ensures.value (omega arith) in
+    entry_more s start from until at used c.args.levels c.usual_value-used.result.0 (run_value from (slice_range s from until)) value.0 c.args.places.now c.keep.new.places
+    c.usual_value-used.ensures.at upto (c.run_until-until.ensures.run (omega arith)) c.white_until-at.ensures.row value.1 (c.keep.ensures c.if-not-keep.false from)
