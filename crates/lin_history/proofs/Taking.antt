@@ -2,7 +2,7 @@
 use Rattle.std.proofs.Common.{◌≡◌, ℕ, suc, ◌+◌, ◌<◌, ◌≤◌, Bool, false, inl, inr, List, [], ◌∷◌, ◌++◌, Option, Some, None, Result, Ok, Err, OnOk, length, drop, refl, sym, ap, subst, ◌∙◌, arith}
 use Rattle.std.specs.Option.{is_some}
 use Rattle.std.proofs.lemmas.Bool.{cases_lt}
-use Rattle.lin_edn.specs.Grammar.{Element, tagged_element, Row, empty, element, longest, IsTagAt, no_blank, spells, no_blank_yet}
+use Rattle.lin_edn.specs.Grammar.{Element, tagged_element, Row, empty, element, longest, IsTagAt, no_blank, Spells, spells, no_blank_yet}
 use Rattle.lin_edn.specs.Rows.{IsRow, row_end, row_levels}
 use Rattle.lin_edn.specs.Value.{Value, map, tagged, Entries, values_of}
 use Rattle.lin_edn.specs.declared.series.Series.{Series}
@@ -69,10 +69,15 @@ passed k s vs old mid new taken t same pass row =
     (element (t.row (row_levels old) (row_end old) (drop (row_end old) s) [] empty) t.element))
 
 -- a usual map in front of a text
+pub spelled_so : (k : Bool) (s : List ℕ) (taken : Taken) (t : IsTaken k s 0 64 taken) → Spells s t.value t.at taken.used
+spelled_so k s taken t =
+    let a = t.some in
+    let b = t.reached in
+    spells (t.short no_blank_yet) t.element (omega arith)
+
 pub in_front : (k : Bool) (s : List ℕ) (taken : Taken) (old new : List Event) → IsTaken k s 0 64 taken → new ≡ old ++ events_of taken.event → IsElement k s old new taken.used
 in_front k s taken old new t put =
     let a = t.some in
-    let b = t.reached in
     record {
       events = events_of taken.event;
       value = t.value;
@@ -80,6 +85,6 @@ in_front k s taken old new t put =
       put = put;
       some = omega arith;
       inside = t.inside;
-      spelled = spells (t.short no_blank_yet) t.element (omega arith);
+      spelled = spelled_so k s taken t;
       told = ap (λ v. told_by k (maps_in v)) t.is_map ∙ told_one k (map t.entries) taken.event t.told;
     }

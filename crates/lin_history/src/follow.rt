@@ -15,7 +15,7 @@ use crate::events::Event;
 use crate::numbers::OutOfMemory;
 use crate::row::{Far, Row, begin_row, put_all, put_event, read_maps, tell_one, whole_row};
 use crate::table::{EventFault, bare};
-use crate::usual::next_usual;
+use crate::usual::{LEVELS, next_usual};
 use lin_edn::{
     Edn, EdnCause, Next, Skim, blanks_are_skipped, blanks_in_front, more_bytes, next_element,
     places, readings_are_unique,
@@ -27,9 +27,6 @@ use std::mem;
 
 /// The greatest number of bytes of a stream.
 const MOST: u64 = 1_099_511_627_776;
-
-/// The greatest number of levels.
-const LEVELS: usize = 64;
 
 /// Why a stream isn't read further. A place counts in the bytes of the whole stream.
 #[derive(Clone, Copy, Debug, PartialEq, Eq)]

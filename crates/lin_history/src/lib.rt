@@ -25,6 +25,7 @@ pub use meter::Meter;
 pub use numbers::{IntSet, Numbers, OutOfMemory, sets};
 pub use shapes::{Cause, Shape, Status};
 pub use table::{EventFault, event_of};
+pub use usual::usual_event_of;
 
 #[cfg(test)]
 mod row_tests;

@@ -1,5 +1,6 @@
 use crate::{
     Body, Call, Event, EventFault, Follow, FollowFault, IntSet, Meter, Name, Reply, Val, event_of,
+    usual_event_of,
 };
 use lin_edn::{EdnCause, Next, next_element};
 use std::alloc::Global;
@@ -621,6 +622,42 @@ fn event_in(
 
 fn fault_in(rt: &impl Abort, alloc: Global, text: &[u8], keyed: bool) -> Option<EventFault> {
     event_in(rt, alloc, text, keyed).err()
+}
+
+#[test]
+fn a_usual_map_in_front_says_its_event(rt: HostRuntime) -> Result<(), Fail> {
+    let alloc = rt.alloc();
+    let map = b" #op{:process 3, :type :invoke, :f :write, :value [7 5]}";
+    let text = b" #op{:process 3, :type :invoke, :f :write, :value [7 5]} {".as_slice();
+    let Some((told, used)) = usual_event_of(alloc, text, true) else {
+        assert!(rt; false, "a usual map says an event");
+        return Ok(());
+    };
+    assert_eq!(rt; used, map.len());
+    match told {
+        Some(event) => {
+            assert_eq!(rt; event.process, 3);
+            assert_eq!(rt; event.key, 7);
+            assert!(rt; event.body == Body::Invoke(Call::Write(Val::Int(5))));
+        }
+        None => assert!(rt; false, "a write is an event"),
+    }
+    let Some((told, used)) = usual_event_of(alloc, b"{:process :nemesis}", false) else {
+        assert!(rt; false, "the nemesis may be told");
+        return Ok(());
+    };
+    assert!(rt; told.is_none());
+    assert_eq!(rt; used, 19);
+    for text in [
+        b"".as_slice(),
+        b"{:process 0 :type :invoke :f :read",
+        b"{:process 0 :type :invoke :f :read #_ 1}",
+        b"{:process 0 :type :invoke :f :reads}",
+        b"[{:process 0 :type :invoke :f :read}]",
+    ] {
+        assert!(rt; usual_event_of(alloc, text, false).is_none());
+    }
+    Ok(())
 }
 
 #[test]
