@@ -1,5 +1,5 @@
 //! The commands of an edit script: a line each.
-ghost use Rattle.std.specs.Prelude.{◌≡◌, ◌⊎◌, ◌+◌, ◌^◌, ◌<◌, ◌≤◌, Err, length, drop};
+ghost use Rattle.std.specs.Prelude.{◌≡◌, ◌⊎◌, ◌+◌, ◌^◌, ◌<◌, ◌≤◌, Ok, Some, Err, length, drop};
 ghost use Rattle.lin_edn.specs.View.{view};
 ghost use Rattle.lin_history.specs.Table.{event};
 ghost use Rattle.lin_report.specs.CommandLaws.{CommandsAreUnique};
@@ -9,7 +9,7 @@ ghost use Rattle.lin_report.specs.MapCommands.{IsBlankOrNot, IsMade};
 
 use crate::senses::{Sense, Target, sense_of};
 use lin_edn::{Edn, EdnCause, EdnFault, Next, next_element, places, readings_are_unique};
-use lin_history::{EventFault, event_of};
+use lin_history::{Event, EventFault, event_of, usual_event_of};
 use lin_session::{Edit, Scope};
 use std::alloc::Global;
 use thiserror::Error;
@@ -94,6 +94,16 @@ fn is_blank(alloc: Global, text: &[u8], from: usize) -> Result<bool, CommandFaul
     }
 }
 
+/// The command that an event makes; an operation of the nemesis is skipped.
+fn command_for(target: Target, told: Option<Event>) -> Command
+    ensures { Ok (Some result) ≡ said.command_of target (Ok told) }
+{
+    match told {
+        Some(event) => Command::Edit(target.edit(event)),
+        None => Command::Skipped,
+    }
+}
+
 /// The command that an operation map makes.
 fn command_of(
     alloc: Global,
@@ -104,8 +114,7 @@ fn command_of(
     ensures { IsMade (said.command_of target (event keyed (view element.now))) result }
 {
     match event_of(alloc, element, keyed) {
-        Ok(Some(event)) => Ok(Some(Command::Edit(target.edit(event)))),
-        Ok(None) => Ok(Some(Command::Skipped)),
+        Ok(told) => Ok(Some(command_for(target, told))),
         Err(EventFault::OutOfMemory) => Err(CommandFault::OutOfMemory),
         Err(fault) => Err(CommandFault::Event(fault)),
     }
@@ -113,6 +122,28 @@ fn command_of(
 
 /// The command that a text says, which stands from a place of the line on and has to be one map.
 fn read_map(
+    alloc: Global,
+    keyed: bool,
+    target: Target,
+    text: &[u8],
+    from: usize,
+) -> Result<Option<Command>, CommandFault>
+    requires { from + length text.now < 2 ^ 64 }
+    ensures { IsMapCommand keyed target from text.now result ⊎ (result ≡ Err CommandFault.OutOfMemory) }
+{
+    places();
+    let Some((told, used)) = usual_event_of(alloc, text, keyed) else {
+        return read_element(alloc, keyed, target, text, from);
+    };
+    if is_blank(alloc, text, used)? {
+        Ok(Some(command_for(target, told)))
+    } else {
+        Err(CommandFault::NotOneMap)
+    }
+}
+
+/// The same, whatever the map holds.
+fn read_element(
     alloc: Global,
     keyed: bool,
     target: Target,

@@ -61,7 +61,7 @@ fn numbers_and_kinds_are_tested_next(rt: HostRuntime) {
 
 #[test]
 fn maps_stand_alone(rt: HostRuntime) {
-    let refused: [&[u8]; 11] = [
+    let refused: [&[u8]; 14] = [
         b"append",
         b"append   ",
         b"append {:process 0",
@@ -71,6 +71,9 @@ fn maps_stand_alone(rt: HostRuntime) {
         b"append {} )",
         b"append {} #_ ]",
         b"append {} #_",
+        b"append {:process 0 :type :invoke :f :read} {}",
+        b"append {:process 0 :type :invoke :f :read} )",
+        b"append {:process :nemesis} #_",
         b"replace 0",
         b"replace 0 ; {}",
     ];

@@ -1,4 +1,4 @@
-use Rattle.std.proofs.Common.{◌≡◌, IfSome, ℤ, subst, sym, to_z, of_z, w64}
+use Rattle.std.proofs.Common.{◌≡◌, IfSome, subst, sym, to_z, of_z, w64}
 use Rattle.std.proofs.lemmas.Int.{to_z-of_z}
 use Rattle.lin_session.specs.Answers.{IsVerdict}
 use Rattle.lin_session.specs.declared.answers.Scope.TheVariants.{Object}
