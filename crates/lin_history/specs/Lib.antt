@@ -7,6 +7,7 @@ pub mod Numbers
 pub mod Table
 pub mod Fields
 pub mod Stream
+pub mod Next
 pub mod Sees
 pub mod Reads
 pub mod Rests

@@ -7,6 +7,7 @@ mod events;
 mod follow;
 mod laws;
 mod meter;
+mod next;
 mod numbers;
 mod row;
 mod shapes;
@@ -22,10 +23,10 @@ pub use laws::{
     statuses_after_events, well_formed_is_alternating,
 };
 pub use meter::Meter;
+pub use next::{NextEvent, next_event};
 pub use numbers::{IntSet, Numbers, OutOfMemory, sets};
 pub use shapes::{Cause, Shape, Status};
 pub use table::{EventFault, event_of};
-pub use usual::usual_event_of;
 
 #[cfg(test)]
 mod row_tests;

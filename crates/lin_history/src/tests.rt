@@ -1,8 +1,8 @@
 use crate::{
-    Body, Call, Event, EventFault, Follow, FollowFault, IntSet, Meter, Name, Reply, Val, event_of,
-    usual_event_of,
+    Body, Call, Event, EventFault, Follow, FollowFault, IntSet, Meter, Name, NextEvent, Reply, Val,
+    event_of, next_event,
 };
-use lin_edn::{EdnCause, Next, next_element};
+use lin_edn::{EdnCause, EdnFault, Next, next_element};
 use std::alloc::Global;
 use std::process::Abort;
 use std::test::Fail;
@@ -624,39 +624,72 @@ fn fault_in(rt: &impl Abort, alloc: Global, text: &[u8], keyed: bool) -> Option<
     event_in(rt, alloc, text, keyed).err()
 }
 
+/// What the element in front of a text says, and where it ends.
+fn said_in_front(
+    rt: &impl Abort,
+    alloc: Global,
+    text: &[u8],
+    keyed: bool,
+) -> (Result<Option<Event>, EventFault>, usize) {
+    match next_event(alloc, text, keyed) {
+        Ok(NextEvent::Complete { said, used }) => (said, used),
+        _ => {
+            assert!(rt; false, "an element stands in front");
+            (Ok(None), 0)
+        }
+    }
+}
+
 #[test]
-fn a_usual_map_in_front_says_its_event(rt: HostRuntime) -> Result<(), Fail> {
+fn the_element_in_front_says_its_event(rt: HostRuntime) -> Result<(), Fail> {
     let alloc = rt.alloc();
     let map = b" #op{:process 3, :type :invoke, :f :write, :value [7 5]}";
     let text = b" #op{:process 3, :type :invoke, :f :write, :value [7 5]} {".as_slice();
-    let Some((told, used)) = usual_event_of(alloc, text, true) else {
-        assert!(rt; false, "a usual map says an event");
-        return Ok(());
-    };
+    let (said, used) = said_in_front(&rt, alloc, text, true);
     assert_eq!(rt; used, map.len());
-    match told {
-        Some(event) => {
+    match said {
+        Ok(Some(event)) => {
             assert_eq!(rt; event.process, 3);
             assert_eq!(rt; event.key, 7);
             assert!(rt; event.body == Body::Invoke(Call::Write(Val::Int(5))));
         }
-        None => assert!(rt; false, "a write is an event"),
+        _ => assert!(rt; false, "a write is an event"),
     }
-    let Some((told, used)) = usual_event_of(alloc, b"{:process :nemesis}", false) else {
-        assert!(rt; false, "the nemesis may be told");
-        return Ok(());
-    };
-    assert!(rt; told.is_none());
+    let (said, used) = said_in_front(&rt, alloc, b"{:process :nemesis}", false);
+    assert!(rt; matches!(said, Ok(None)));
     assert_eq!(rt; used, 19);
-    for text in [
-        b"".as_slice(),
-        b"{:process 0 :type :invoke :f :read",
-        b"{:process 0 :type :invoke :f :read #_ 1}",
-        b"{:process 0 :type :invoke :f :reads}",
-        b"[{:process 0 :type :invoke :f :read}]",
-    ] {
-        assert!(rt; usual_event_of(alloc, text, false).is_none());
-    }
+    let (said, used) = said_in_front(&rt, alloc, b"{:process 0 :type :info :f :read #_ 1}", false);
+    assert!(rt; matches!(said, Ok(Some(_))));
+    assert_eq!(rt; used, 38);
+    let (said, _) = said_in_front(&rt, alloc, b"{:process 0 :type :info :f :reads}", false);
+    assert!(rt; said.err() == Some(EventFault::BadFunction));
+    let (said, _) = said_in_front(&rt, alloc, b"[{:process 0 :type :info :f :read}]", false);
+    assert!(rt; said.err() == Some(EventFault::NotAMap));
+    Ok(())
+}
+
+#[test]
+fn no_element_in_front_says_none(rt: HostRuntime) -> Result<(), Fail> {
+    let alloc = rt.alloc();
+    assert!(rt;
+        matches!(
+            next_event(alloc, b" ; none", false),
+            Ok(NextEvent::Blank { used: 1 })
+        )
+    );
+    assert!(rt;
+        matches!(
+            next_event(alloc, b" {:process 0", false),
+            Ok(NextEvent::Partial { at: 1 })
+        )
+    );
+    assert!(rt;
+        next_event(alloc, b" ]", false).err()
+            == Some(EdnFault {
+                at: 1,
+                cause: EdnCause::Unbalanced
+            })
+    );
     Ok(())
 }
 

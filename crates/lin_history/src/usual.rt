@@ -1,7 +1,6 @@
 //! Usual operation maps, read from their bytes without building their elements.
 ghost use Rattle.std.specs.Prelude.{◌≡◌, ℕ, suc, ◌<◌, ◌≤◌, true, false, None, Some, Ok, IfSome, List, length, slice_index, [], ◌∷◌};
 ghost use Rattle.std.specs.Str.{bytes_eq};
-ghost use Rattle.lin_edn.specs.Grammar.{Spells};
 ghost use Rattle.lin_edn.specs.Run.{run_value};
 ghost use Rattle.lin_edn.specs.Value as value;
 ghost use Rattle.lin_edn.specs.Value.{Value, Entries};
@@ -324,15 +323,4 @@ pub(crate) fn next_usual(
     let (places, used) = usual_map(text, begun, end, inside)?;
     let event = usual_event(alloc, keyed, text, places)?;
     Some(Taken { event, used })
-}
-
-/// The event of the operation map in front of a text, or that it is none, and where the map ends.
-///
-/// Nothing where no usual map stands there, nor behind white and a tag: one of runs, texts without a backslash and collections of
-/// these. Nothing too where it says no event, or memory is refused. What the map says, `event_of` says of its element.
-pub fn usual_event_of(alloc: Global, text: &[u8], keyed: bool) -> Option<(Option<Event>, usize)>
-    ensures { IfSome result (λ r. (v : Value) × (at : ℕ) × Spells text.now v at r.1 × (event keyed v ≡ Ok r.0)) }
-{
-    let taken = next_usual(alloc, keyed, text, 0, LEVELS)?;
-    Some((taken.event, taken.used))
 }

@@ -1,15 +1,16 @@
 //! The commands of an edit script: a line each.
-ghost use Rattle.std.specs.Prelude.{◌≡◌, ◌⊎◌, ◌+◌, ◌^◌, ◌<◌, ◌≤◌, Ok, Some, Err, length, drop};
-ghost use Rattle.lin_edn.specs.View.{view};
-ghost use Rattle.lin_history.specs.Table.{event};
+ghost use Rattle.std.specs.Prelude.{◌≡◌, ◌⊎◌, ◌+◌, ◌^◌, ◌<◌, ◌≤◌, Option, Result, Err, length, drop};
+ghost use Rattle.lin_history.specs.Table.{IsAnswer};
+ghost use Rattle.lin_history.specs.declared.events.Event.{Event as TheEvent};
+ghost use Rattle.lin_history.specs.declared.table.EventFault.{EventFault as TheFault};
 ghost use Rattle.lin_report.specs.CommandLaws.{CommandsAreUnique};
 ghost use Rattle.lin_report.specs.Commands as said;
 ghost use Rattle.lin_report.specs.Commands.{IsMapCommand, IsRead};
 ghost use Rattle.lin_report.specs.MapCommands.{IsBlankOrNot, IsMade};
 
 use crate::senses::{Sense, Target, sense_of};
-use lin_edn::{Edn, EdnCause, EdnFault, Next, next_element, places, readings_are_unique};
-use lin_history::{Event, EventFault, event_of, usual_event_of};
+use lin_edn::{EdnCause, EdnFault, Next, next_element, places, readings_are_unique};
+use lin_history::{Event, EventFault, NextEvent, next_event};
 use lin_session::{Edit, Scope};
 use std::alloc::Global;
 use thiserror::Error;
@@ -94,27 +95,16 @@ fn is_blank(alloc: Global, text: &[u8], from: usize) -> Result<bool, CommandFaul
     }
 }
 
-/// The command that an event makes; an operation of the nemesis is skipped.
-fn command_for(target: Target, told: Option<Event>) -> Command
-    ensures { Ok (Some result) ≡ said.command_of target (Ok told) }
+/// The command that an operation map makes which says this; one of the nemesis is skipped.
+fn command_of(
+    target: Target,
+    told: Result<Option<Event>, EventFault>,
+) -> Result<Option<Command>, CommandFault>
+    ensures { (wanted : Result (Option TheEvent) TheFault) → IsAnswer wanted told → IsMade (said.command_of target wanted) result }
 {
     match told {
-        Some(event) => Command::Edit(target.edit(event)),
-        None => Command::Skipped,
-    }
-}
-
-/// The command that an operation map makes.
-fn command_of(
-    alloc: Global,
-    keyed: bool,
-    target: Target,
-    element: &Edn,
-) -> Result<Option<Command>, CommandFault>
-    ensures { IsMade (said.command_of target (event keyed (view element.now))) result }
-{
-    match event_of(alloc, element, keyed) {
-        Ok(told) => Ok(Some(command_for(target, told))),
+        Ok(Some(event)) => Ok(Some(Command::Edit(target.edit(event)))),
+        Ok(None) => Ok(Some(Command::Skipped)),
         Err(EventFault::OutOfMemory) => Err(CommandFault::OutOfMemory),
         Err(fault) => Err(CommandFault::Event(fault)),
     }
@@ -132,38 +122,16 @@ fn read_map(
     ensures { IsMapCommand keyed target from text.now result ⊎ (result ≡ Err CommandFault.OutOfMemory) }
 {
     places();
-    let Some((told, used)) = usual_event_of(alloc, text, keyed) else {
-        return read_element(alloc, keyed, target, text, from);
-    };
-    if is_blank(alloc, text, used)? {
-        Ok(Some(command_for(target, told)))
-    } else {
-        Err(CommandFault::NotOneMap)
-    }
-}
-
-/// The same, whatever the map holds.
-fn read_element(
-    alloc: Global,
-    keyed: bool,
-    target: Target,
-    text: &[u8],
-    from: usize,
-) -> Result<Option<Command>, CommandFault>
-    requires { from + length text.now < 2 ^ 64 }
-    ensures { IsMapCommand keyed target from text.now result ⊎ (result ≡ Err CommandFault.OutOfMemory) }
-{
-    places();
-    match next_element(alloc, text) {
-        Ok(Next::Complete { value, at: _, used }) => {
+    match next_event(alloc, text, keyed) {
+        Ok(NextEvent::Complete { said, used }) => {
             if is_blank(alloc, text, used)? {
-                command_of(alloc, keyed, target, &value)
+                command_of(target, said)
             } else {
                 Err(CommandFault::NotOneMap)
             }
         }
-        Ok(Next::Partial { .. }) => Err(CommandFault::NotOneMap),
-        Ok(Next::Blank { .. }) => Err(CommandFault::NotOneMap),
+        Ok(NextEvent::Partial { .. }) => Err(CommandFault::NotOneMap),
+        Ok(NextEvent::Blank { .. }) => Err(CommandFault::NotOneMap),
         Err(fault) => match fault.cause {
             EdnCause::OutOfMemory => Err(CommandFault::OutOfMemory),
             cause => Err(CommandFault::Edn(EdnFault {

@@ -1,0 +1,48 @@
+//! The event of the element in front of a text.
+ghost use Rattle.lin_history.specs.Next.{SaysEvent};
+
+use crate::events::Event;
+use crate::table::{EventFault, event_of};
+use crate::usual::{LEVELS, next_usual};
+use lin_edn::{EdnFault, Next, next_element};
+use std::alloc::Global;
+
+/// What stands at the front of a text.
+#[derive(Drop)]
+pub enum NextEvent {
+    /// After blanks an element, which ends before `used`, and what `event_of` says of it.
+    Complete {
+        said: Result<Option<Event>, EventFault>,
+        used: usize,
+    },
+    /// The bytes from `at` on are the unfinished beginning of an element or discard.
+    Partial {
+        at: usize,
+    },
+    /// Blanks of `used` bytes, and then nothing or an unfinished comment.
+    Blank {
+        used: usize,
+    },
+}
+
+/// The event of the element at the front of a text, or what stands there in its place: what `event_of` says of what `next_element` reads.
+///
+/// `EdnCause::OutOfMemory` may stand in place of any answer. A usual map is read without building its elements.
+pub fn next_event(alloc: Global, text: &[u8], keyed: bool) -> Result<NextEvent, EdnFault>
+    ensures { SaysEvent keyed text.now result }
+{
+    if let Some(taken) = next_usual(alloc, keyed, text, 0, LEVELS) {
+        return Ok(NextEvent::Complete {
+            said: Ok(taken.event),
+            used: taken.used,
+        });
+    }
+    match next_element(alloc, text)? {
+        Next::Complete { value, at: _, used } => Ok(NextEvent::Complete {
+            said: event_of(alloc, &value, keyed),
+            used,
+        }),
+        Next::Partial { at } => Ok(NextEvent::Partial { at }),
+        Next::Blank { used } => Ok(NextEvent::Blank { used }),
+    }
+}
