@@ -21,7 +21,7 @@ mod skim;
 #[cfg(test)]
 mod tests;
 
-pub use crate::found::{run_until, tag_until, text_until, white_until};
+pub use crate::found::{run_until, tag_until, white_until};
 pub use crate::nested::nested_until;
 pub use crate::reader::window;
 pub use crate::run::{integer, run_element};

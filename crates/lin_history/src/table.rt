@@ -1,6 +1,8 @@
 //! Events from the maps that recorders write.
-ghost use Rattle.std.specs.Prelude.{◌≡◌, Bool, ◌||◌, ◌++◌, [], ◌∷◌, true, Some, None, codes, map, option_map, IsTrue, IsSome, is_some, IfOk};
-ghost use Rattle.lin_edn.specs.Value.{Value, int, values_of, entries_of};
+ghost use Rattle.std.specs.Prelude.{◌≡◌, ℕ, Bool, ◌||◌, ◌++◌, [], ◌∷◌, true, Some, None, map, option_map, IsTrue, IsSome, is_some, IfOk};
+ghost use Rattle.std.specs.Str.{bytes_eq};
+ghost use Rattle.lin_edn.specs.Run.{run_value};
+ghost use Rattle.lin_edn.specs.Value.{Value, int, keyword, values_of, entries_of};
 ghost use Rattle.lin_edn.specs.View.{view, entry_view};
 ghost use Rattle.lin_history.specs.Table as table;
 ghost use Rattle.lin_history.specs.Table.{bare as bare_value, is_word as says, under, is_several, event, IsAnswer};
@@ -63,12 +65,23 @@ pub(crate) fn bare<'e, 'a>(element: &'e Edn<'a>) -> &'e Edn<'a>
     }
 }
 
+/// Whether a word is another. Unlike `==` this calls nothing where the other one is known, which tells in the time of reading.
+#[inline(always)]
+pub(crate) fn is_same(word: &[u8], other: &[u8]) -> bool
+    ensures { result ≡ bytes_eq word.now other.now }
+{
+    if word.len() != other.len() {
+        return false;
+    }
+    other.starts_with(word)
+}
+
 /// Whether an element is a keyword.
 fn is_word(element: &Edn, word: &[u8]) -> bool
     ensures { result ≡ says word.now (view element.now) }
 {
     match element {
-        Edn::Keyword(span) => span.text == word,
+        Edn::Keyword(span) => is_same(span.text, word),
         _ => false,
     }
 }
@@ -119,52 +132,74 @@ fn fields_of<'e, 'a>(entries: &'e [Entry<'a>]) -> Result<Fields<'e, 'a>, EventFa
     Ok(fields)
 }
 
-fn type_of(element: &Edn) -> Option<EventType>
-    ensures { result ≡ table.type_of (view element.now) }
+/// The type that a word says.
+pub(crate) fn type_named(word: &[u8]) -> Option<EventType>
+    ensures keyword { result ≡ table.type_of (keyword 0 word.now) }
+    ensures run { (p : ℕ) → result ≡ table.type_of (run_value p word.now) }
 {
-    if is_word(element, b":invoke") {
+    if is_same(word, b":invoke") {
         return Some(EventType::Invoke);
     }
-    if is_word(element, b":ok") {
+    if is_same(word, b":ok") {
         return Some(EventType::Ok);
     }
-    if is_word(element, b":fail") {
+    if is_same(word, b":fail") {
         return Some(EventType::Fail);
     }
-    if is_word(element, b":info") {
+    if is_same(word, b":info") {
         return Some(EventType::Info);
     }
     None
 }
 
-fn function_of(element: &Edn) -> Option<Name>
-    ensures { result ≡ table.function_of (view element.now) }
+/// The function that a word says.
+pub(crate) fn function_named(word: &[u8]) -> Option<Name>
+    ensures keyword { result ≡ table.function_of (keyword 0 word.now) }
+    ensures run { (p : ℕ) → result ≡ table.function_of (run_value p word.now) }
 {
-    if is_word(element, b":read") {
+    if is_same(word, b":read") {
         return Some(Name::Read);
     }
-    if is_word(element, b":write") {
+    if is_same(word, b":write") {
         return Some(Name::Write);
     }
-    if is_word(element, b":cas") {
+    if is_same(word, b":cas") {
         return Some(Name::Cas);
     }
-    if is_word(element, b":enqueue") {
+    if is_same(word, b":enqueue") {
         return Some(Name::Enqueue);
     }
-    if is_word(element, b":dequeue") {
+    if is_same(word, b":dequeue") {
         return Some(Name::Dequeue);
     }
-    if is_word(element, b":add") {
+    if is_same(word, b":add") {
         return Some(Name::Add);
     }
-    if is_word(element, b":acquire") {
+    if is_same(word, b":acquire") {
         return Some(Name::Acquire);
     }
-    if is_word(element, b":release") {
+    if is_same(word, b":release") {
         return Some(Name::Release);
     }
     None
+}
+
+fn type_of(element: &Edn) -> Option<EventType>
+    ensures { result ≡ table.type_of (view element.now) }
+{
+    match element {
+        Edn::Keyword(span) => type_named(span.text),
+        _ => None,
+    }
+}
+
+fn function_of(element: &Edn) -> Option<Name>
+    ensures { result ≡ table.function_of (view element.now) }
+{
+    match element {
+        Edn::Keyword(span) => function_named(span.text),
+        _ => None,
+    }
 }
 
 /// The process that an integer says.

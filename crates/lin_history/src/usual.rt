@@ -1,17 +1,14 @@
 //! Usual operation maps, read from their bytes without building their elements.
 ghost use Rattle.std.specs.Prelude.{◌≡◌, ℕ, suc, ◌<◌, ◌≤◌, true, false, None, Some, Ok, IfSome, List, length, slice_index, [], ◌∷◌};
-ghost use Rattle.std.specs.Str.{bytes_eq};
 ghost use Rattle.lin_edn.specs.Run.{run_value};
 ghost use Rattle.lin_edn.specs.Value as value;
 ghost use Rattle.lin_edn.specs.Value.{Value, Entries};
 ghost use Rattle.lin_edn.specs.View.{view};
-ghost use Rattle.lin_history.specs.Table as table;
 ghost use Rattle.lin_history.specs.Table.{event};
 ghost use Rattle.lin_history.specs.Usual.{AreParts, ArePlaced, IsAdded, IsPlaced, IsProcess, IsValueAt, IsUpTo, IsMapAt, IsTaken};
 
-use crate::calls::Name;
 use crate::events::Event;
-use crate::table::{EventType, event_said, is_keyword, process_number};
+use crate::table::{event_said, function_named, is_keyword, is_same, process_number, type_named};
 use crate::values::{pair_at, value_at};
 use lin_edn::{
     Edn, elements_are_unique, integer, nested_until, run_element, run_until, tag_until,
@@ -65,17 +62,6 @@ fn put(slot: &mut Option<Place>, place: Place) -> bool
     }
     *slot = Some(place);
     true
-}
-
-/// Whether a word is another. Unlike `==` this calls nothing where the other one is known, which tells in the time of reading.
-#[inline(always)]
-fn is_same(word: &[u8], other: &[u8]) -> bool
-    ensures { result ≡ bytes_eq word.now other.now }
-{
-    if word.len() != other.len() {
-        return false;
-    }
-    other.starts_with(word)
 }
 
 /// Keeps the value of a key that counts, unless one stands there.
@@ -189,56 +175,6 @@ fn process_in(at: usize, word: &[u8]) -> Option<Process>
     None
 }
 
-/// The type that a word says.
-fn type_in(word: &[u8]) -> Option<EventType>
-    ensures { (p : ℕ) → result ≡ table.type_of (run_value p word.now) }
-{
-    if is_same(word, b":invoke") {
-        return Some(EventType::Invoke);
-    }
-    if is_same(word, b":ok") {
-        return Some(EventType::Ok);
-    }
-    if is_same(word, b":fail") {
-        return Some(EventType::Fail);
-    }
-    if is_same(word, b":info") {
-        return Some(EventType::Info);
-    }
-    None
-}
-
-/// The function that a word says.
-fn function_in(word: &[u8]) -> Option<Name>
-    ensures { (p : ℕ) → result ≡ table.function_of (run_value p word.now) }
-{
-    if is_same(word, b":read") {
-        return Some(Name::Read);
-    }
-    if is_same(word, b":write") {
-        return Some(Name::Write);
-    }
-    if is_same(word, b":cas") {
-        return Some(Name::Cas);
-    }
-    if is_same(word, b":enqueue") {
-        return Some(Name::Enqueue);
-    }
-    if is_same(word, b":dequeue") {
-        return Some(Name::Dequeue);
-    }
-    if is_same(word, b":add") {
-        return Some(Name::Add);
-    }
-    if is_same(word, b":acquire") {
-        return Some(Name::Acquire);
-    }
-    if is_same(word, b":release") {
-        return Some(Name::Release);
-    }
-    None
-}
-
 /// The object's key and the value that a map says whose `:value` stands at a place, or nowhere.
 #[inline(always)]
 fn parts_at<'a>(
@@ -276,8 +212,8 @@ fn usual_event(alloc: Global, keyed: bool, text: &[u8], places: Places) -> Optio
         Process::Number(number) => number,
         Process::Named => return Some(None),
     };
-    let event_type = type_in(word_of(text, places.event_type?)?)?;
-    let name = function_in(word_of(text, places.function?)?)?;
+    let event_type = type_named(word_of(text, places.event_type?)?)?;
+    let name = function_named(word_of(text, places.function?)?)?;
     let (key, value) = parts_at(alloc, keyed, text, places.value)?;
     match event_said(alloc, number, event_type, name, key, &value) {
         Ok(told) => Some(told),

@@ -28,6 +28,6 @@ returns-in-Ok c = λ levels es low are.
     (c.in_ok-word_of.ensures levels _ (subst (IsPlaced s levels _) c.in_ok-place.was are.process))
     (c.in_ok-word_of-2.ensures levels _ (subst (IsPlaced s levels _) c.in_ok-places.was are.types))
     (c.in_ok-word_of-3.ensures levels _ (subst (IsPlaced s levels _) c.in_ok-places-2.was are.function)) parts.0 number
-    (c.in-Ok.ensures c.args.keyed process type function (or_nil values) number (sym (c.in_ok-event_type.ensures c.in_ok-places.field-0.at))
-    (sym (c.in_ok-name.ensures c.in_ok-places-2.field-0.at))
+    (c.in-Ok.ensures c.args.keyed process type function (or_nil values) number (sym (c.in_ok-event_type.ensures.run c.in_ok-places.field-0.at))
+    (sym (c.in_ok-name.ensures.run c.in_ok-places-2.field-0.at))
     (subst (λ z. parts_of c.args.keyed (or_nil values) ≡ Some (z, view c.in_ok-key.value)) (sym (to_z-of_z w64 c.in_ok-key.key fits)) parts.1))
