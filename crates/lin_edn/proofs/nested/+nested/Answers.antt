@@ -1,4 +1,4 @@
-use Rattle.std.proofs.Common.{◌≡◌, suc, ◌+◌, ◌-◌, ◌≤◌, length, drop, arith, ◌∙◌, sym, subst}
+use Rattle.std.proofs.Common.{◌≡◌, suc, ◌+◌, ◌-◌, ◌≤◌, length, drop, arith, ◌∷◌, ◌∙◌, sym, subst}
 use Rattle.std.specs.List.{slice_range}
 use Rattle.lin_edn.specs.Grammar.{Blanks, Element, tagged_element}
 use Rattle.lin_edn.specs.Run.{run_value}
@@ -61,5 +61,5 @@ nested_until-returns-clause-value t c = λ far.
     let one_less : suc (levels - 1) ≡ levels = omega arith in (
       tagged (from + 1) named.0 value.0,
       subst (λ n. Element n from (drop from s) (tagged (from + 1) named.0 value.0) used (drop used s)) one_less
-          (tagged_element {v = value.0} named.3 named.4 (subst (λ l. Blanks (levels - 1) tag l at (drop at s)) named.5 (c.white_until-at.ensures.blanks (levels - 1))) value.1),
+          (tagged_element {v = value.0} named.3 named.4 (subst (λ l. Blanks (levels - 1) tag l at (drop at s)) {y = named.1 ∷ named.2} named.5 (c.white_until-at.ensures.blanks (levels - 1))) value.1),
     )
