@@ -11,11 +11,19 @@ trap 'rm -rf "$folder"' EXIT
 program=$here/../crates/lincheck/out/lincheck
 rows=0
 
-recording() { # name, order; the recording itself on standard input
+recording() { # name, order, options; the recording itself on standard input
     rows=$((rows + 1))
     cat > "$folder/$rows.edn"
     printf '%s' "$1" > "$folder/$rows.name"
     printf '%s' "$2" > "$folder/$rows.order"
+    printf '%s' "${3:-}" > "$folder/$rows.options"
+}
+
+# puts the words of the program's run on a recording into `run`
+words_of() { # row
+    local options
+    read -r -a options < "$folder/$1.options" || true
+    run=("$program" verify "${options[@]}" "$folder/$1.edn" "$(cat "$folder/$1.order")")
 }
 
 # adds the processor seconds of a command to a file
@@ -30,7 +38,8 @@ measure() { # row
     local file=$folder/$1.edn
     seconds "$folder/$1.md5" md5sum "$file"
     seconds "$folder/$1.lines" wc -l "$file"
-    seconds "$folder/$1.own" "$program" verify "$file" "$(cat "$folder/$1.order")"
+    words_of "$1"
+    seconds "$folder/$1.own" "${run[@]}"
     cp "$folder/printed" "$folder/$1.printed"
 }
 
@@ -40,7 +49,8 @@ line() { # row
     local file=$folder/$1.edn bytes limit memory=yes
     bytes=$(stat -c %s "$file")
     limit=$(( bytes * 4 / 1024 + 16384 ))
-    (ulimit -v "$limit"; exec "$program" verify "$file" "$(cat "$folder/$1.order")") > "$folder/within" 2>&1 || true
+    words_of "$1"
+    (ulimit -v "$limit"; exec "${run[@]}") > "$folder/within" 2>&1 || true
     cmp -s "$folder/$1.printed" "$folder/within" || memory=no
     awk -v name="$(cat "$folder/$1.name")" -v bytes="$bytes" -v md5="$(least "$folder/$1.md5")" -v lines="$(least "$folder/$1.lines")" \
         -v own="$(least "$folder/$1.own")" -v memory="$memory" -v said="$(cat "$folder/within")" 'BEGIN {
@@ -51,6 +61,10 @@ for events in 10000 100000 "$most"; do
     "$here/generate.sh" "$events" > "$folder/lines.edn"
     recording "$events events, \`empty\`" empty < "$folder/lines.edn"
 done
+sed 's/^/#jepsen.history.Op/' "$folder/lines.edn" > "$folder/shaped.edn"
+recording "$most events behind a tag, \`empty\`" empty < "$folder/shaped.edn"
+sed 's/:value \([^,]*\),/:value [7 \1],/' "$folder/lines.edn" > "$folder/shaped.edn"
+recording "$most events with keys, \`empty\`" empty --keyed < "$folder/shaped.edn"
 "$here/generate.sh" 100000 26 lines "$folder/order" > "$folder/ordered.edn"
 recording "100000 events, a legal order of $(stat -c %s "$folder/order") bytes" "$(cat "$folder/order")" < "$folder/ordered.edn"
 for shape in lines vector; do
