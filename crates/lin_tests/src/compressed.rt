@@ -149,6 +149,18 @@ fn came_within(rt: &impl Abort, alloc: Global, kind: Kind, events: &[Event], bud
     came
 }
 
+/// The events, one after the other, come to this.
+fn comes_within(
+    rt: &impl Abort,
+    alloc: Global,
+    kind: Kind,
+    events: &[Event],
+    budget: u32,
+    wanted: Came,
+) {
+    assert_eq!(rt; came_within(rt, alloc, kind, events, budget), wanted);
+}
+
 /// Whether so many events, the first ones, have a legal order, if frontiers tell.
 pub(crate) fn told(
     rt: &impl Abort,
@@ -172,25 +184,16 @@ fn a_read_is_put_before_a_write_that_returned_first(rt: HostRuntime) {
         gives(0, Name::Read, Val::Nil),
     ];
     // No member is more than the state and what is on offer, and nothing is placed before a completion asks for it.
-    assert_eq!(rt;
-        came_within(&rt, alloc, kind, &early[..2], AMPLE),
-        Came::Sound(1)
-    );
-    assert_eq!(rt;
-        came_within(&rt, alloc, kind, &early[..3], AMPLE),
-        Came::Sound(1)
-    );
-    assert_eq!(rt;
-        came_within(&rt, alloc, kind, &early, AMPLE),
-        Came::Sound(1)
-    );
+    comes_within(&rt, alloc, kind, &early[..2], AMPLE, Came::Sound(1));
+    comes_within(&rt, alloc, kind, &early[..3], AMPLE, Came::Sound(1));
+    comes_within(&rt, alloc, kind, &early, AMPLE, Came::Sound(1));
     let late = [
         invoke(1, write(1)),
         done(1, Name::Write),
         invoke(0, Call::Read),
         gives(0, Name::Read, Val::Nil),
     ];
-    assert_eq!(rt; came_within(&rt, alloc, kind, &late, AMPLE), Came::Empty);
+    comes_within(&rt, alloc, kind, &late, AMPLE, Came::Empty);
 }
 
 #[test]
@@ -207,20 +210,11 @@ fn a_read_places_a_write_that_crashed(rt: HostRuntime) {
         invoke(2, Call::Read),
         gives(2, Name::Read, Val::Int(2)),
     ];
-    assert_eq!(rt;
-        came_within(&rt, alloc, kind, &events[..4], AMPLE),
-        Came::Sound(1)
-    );
+    comes_within(&rt, alloc, kind, &events[..4], AMPLE, Came::Sound(1));
     // The first write alone; with the second before it that one can't fail, and would be no better.
-    assert_eq!(rt;
-        came_within(&rt, alloc, kind, &events[..5], AMPLE),
-        Came::Sound(2)
-    );
-    assert_eq!(rt;
-        came_within(&rt, alloc, kind, &events[..6], AMPLE),
-        Came::Sound(1)
-    );
-    assert_eq!(rt; came_within(&rt, alloc, kind, &events, AMPLE), Came::Empty);
+    comes_within(&rt, alloc, kind, &events[..5], AMPLE, Came::Sound(2));
+    comes_within(&rt, alloc, kind, &events[..6], AMPLE, Came::Sound(1));
+    comes_within(&rt, alloc, kind, &events, AMPLE, Came::Empty);
 }
 
 #[test]
@@ -237,11 +231,8 @@ fn a_queue_places_what_a_reply_asks_for(rt: HostRuntime) {
         invoke(2, Call::Dequeue),
         gives(2, Name::Dequeue, Val::Nil),
     ];
-    assert_eq!(rt;
-        came_within(&rt, alloc, kind, &events[..7], AMPLE),
-        Came::Sound(1)
-    );
-    assert_eq!(rt; came_within(&rt, alloc, kind, &events, AMPLE), Came::Empty);
+    comes_within(&rt, alloc, kind, &events[..7], AMPLE, Came::Sound(1));
+    comes_within(&rt, alloc, kind, &events, AMPLE, Came::Empty);
 }
 
 #[test]
@@ -254,17 +245,14 @@ fn a_crashed_write_is_placed_only_where_it_shows(rt: HostRuntime) {
         done(1, Name::Write),
     ];
     // (2, {}) and (2, {p0}), which places the other write before this one; it need not come behind.
-    assert_eq!(rt; came_within(&rt, alloc, kind, &open, AMPLE), Came::Sound(2));
+    comes_within(&rt, alloc, kind, &open, AMPLE, Came::Sound(2));
     let marked = [
         invoke(0, write(1)),
         invoke(1, write(2)),
         info(0, Name::Write),
         done(1, Name::Write),
     ];
-    assert_eq!(rt;
-        came_within(&rt, alloc, kind, &marked, AMPLE),
-        Came::Sound(1)
-    );
+    comes_within(&rt, alloc, kind, &marked, AMPLE, Came::Sound(1));
 }
 
 #[test]
@@ -280,17 +268,11 @@ fn what_a_crashed_write_explains_stays(rt: HostRuntime) {
         gives(1, Name::Read, Val::Nil),
     ];
     // (nil, {}), (nil, {p1 nil}), (1, {p0}), (1, {p0, p1 nil}) and (1, {p0, p1 1}).
-    assert_eq!(rt;
-        came_within(&rt, alloc, kind, &seen[..3], 5),
-        Came::Sound(1)
-    );
-    assert_eq!(rt; came_within(&rt, alloc, kind, &seen[..3], 4), Came::Over);
+    comes_within(&rt, alloc, kind, &seen[..3], 5, Came::Sound(1));
+    comes_within(&rt, alloc, kind, &seen[..3], 4, Came::Over);
     // (1, {p0}): the write is placed now.
-    assert_eq!(rt;
-        came_within(&rt, alloc, kind, &seen[..4], AMPLE),
-        Came::Sound(1)
-    );
-    assert_eq!(rt; came_within(&rt, alloc, kind, &seen, AMPLE), Came::Empty);
+    comes_within(&rt, alloc, kind, &seen[..4], AMPLE, Came::Sound(1));
+    comes_within(&rt, alloc, kind, &seen, AMPLE, Came::Empty);
 }
 
 #[test]
@@ -301,24 +283,15 @@ fn where_nothing_crashed_all_are_counted(rt: HostRuntime) {
         invoke(1, Call::Enqueue(2)),
         invoke(2, Call::Enqueue(3)),
     ];
-    assert_eq!(rt;
-        came_within(&rt, alloc, Kind::Fifo, &queue, 16),
-        Came::Sound(1)
-    );
-    assert_eq!(rt; came_within(&rt, alloc, Kind::Fifo, &queue, 15), Came::Over);
+    comes_within(&rt, alloc, Kind::Fifo, &queue, 16, Came::Sound(1));
+    comes_within(&rt, alloc, Kind::Fifo, &queue, 15, Came::Over);
     let writes = [
         invoke(0, write(1)),
         invoke(1, write(2)),
         fail(0, Name::Write),
     ];
-    assert_eq!(rt;
-        came_within(&rt, alloc, Kind::Register, &writes[..2], 4),
-        Came::Over
-    );
-    assert_eq!(rt;
-        came_within(&rt, alloc, Kind::Register, &writes, 5),
-        Came::Sound(1)
-    );
+    comes_within(&rt, alloc, Kind::Register, &writes[..2], 4, Came::Over);
+    comes_within(&rt, alloc, Kind::Register, &writes, 5, Came::Sound(1));
 }
 
 #[test]
@@ -344,24 +317,12 @@ fn many_members_are_told_apart(rt: HostRuntime) {
         gives(5, Name::Dequeue, Val::Int(3)),
     ];
     // Each sequence of some of the five waits in a configuration of its own: 1 + 5 + 20 + 60 + 120 + 120.
-    assert_eq!(rt;
-        came_within(&rt, alloc, kind, &queue[..10], 326),
-        Came::Sound(1)
-    );
-    assert_eq!(rt;
-        came_within(&rt, alloc, kind, &queue[..10], 325),
-        Came::Over
-    );
+    comes_within(&rt, alloc, kind, &queue[..10], 326, Came::Sound(1));
+    comes_within(&rt, alloc, kind, &queue[..10], 325, Came::Over);
     // Behind 3 each sequence of some of the other four: 1 + 4 + 12 + 24 + 24. Behind 1 then of the other three: 1 + 3 + 6 + 6.
-    assert_eq!(rt;
-        came_within(&rt, alloc, kind, &queue[..12], AMPLE),
-        Came::Sound(65)
-    );
-    assert_eq!(rt;
-        came_within(&rt, alloc, kind, &queue[..14], AMPLE),
-        Came::Sound(16)
-    );
-    assert_eq!(rt; came_within(&rt, alloc, kind, &queue, AMPLE), Came::Empty);
+    comes_within(&rt, alloc, kind, &queue[..12], AMPLE, Came::Sound(65));
+    comes_within(&rt, alloc, kind, &queue[..14], AMPLE, Came::Sound(16));
+    comes_within(&rt, alloc, kind, &queue, AMPLE, Came::Empty);
 }
 
 /// The same write of so many processes, each of which crashes in it.
@@ -397,14 +358,11 @@ fn crashed_writes_of_one_value_stand_in_for_one_another(rt: HostRuntime) {
     // Which of the ten was placed isn't told apart: each read of 1 behind another value places one more.
     for _ in 0..10 {
         push_read_of_one(&rt, &mut events);
-        assert_eq!(rt;
-            came_within(&rt, alloc, kind, &events, AMPLE),
-            Came::Sound(1)
-        );
+        comes_within(&rt, alloc, kind, &events, AMPLE, Came::Sound(1));
     }
     // Then none is left.
     push_read_of_one(&rt, &mut events);
-    assert_eq!(rt; came_within(&rt, alloc, kind, &events, AMPLE), Came::Empty);
+    comes_within(&rt, alloc, kind, &events, AMPLE, Came::Empty);
 }
 
 #[test]
@@ -420,18 +378,9 @@ fn operations_are_alike_from_when_both_crashed(rt: HostRuntime) {
         info(1, Name::Write),
     ];
     // The one or the other write was read, and may return yet, or not.
-    assert_eq!(rt;
-        came_within(&rt, alloc, kind, &events[..4], AMPLE),
-        Came::Sound(2)
-    );
-    assert_eq!(rt;
-        came_within(&rt, alloc, kind, &events[..5], AMPLE),
-        Came::Sound(2)
-    );
-    assert_eq!(rt;
-        came_within(&rt, alloc, kind, &events, AMPLE),
-        Came::Sound(1)
-    );
+    comes_within(&rt, alloc, kind, &events[..4], AMPLE, Came::Sound(2));
+    comes_within(&rt, alloc, kind, &events[..5], AMPLE, Came::Sound(2));
+    comes_within(&rt, alloc, kind, &events, AMPLE, Came::Sound(1));
 }
 
 #[test]
@@ -443,13 +392,10 @@ fn a_read_and_a_write_at_once_have_five_configurations(rt: HostRuntime) {
         invoke(1, write(1)),
         done(1, Name::Write),
     ];
-    assert_eq!(rt;
-        came_within(&rt, alloc, kind, &events[..2], 5),
-        Came::Sound(1)
-    );
-    assert_eq!(rt; came_within(&rt, alloc, kind, &events[..2], 4), Came::Over);
+    comes_within(&rt, alloc, kind, &events[..2], 5, Came::Sound(1));
+    comes_within(&rt, alloc, kind, &events[..2], 4, Came::Over);
     // The read without a reply, with the value from before the write, and with that of the write.
-    assert_eq!(rt; came_within(&rt, alloc, kind, &events, 5), Came::Sound(1));
+    comes_within(&rt, alloc, kind, &events, 5, Came::Sound(1));
 }
 
 #[test]
@@ -465,45 +411,27 @@ fn crashed_reads_cost_nothing(rt: HostRuntime) {
         info(2, Name::Read),
     ];
     assert_eq!(rt; came_of(&rt, alloc, kind, &reads, 3), Came::Over);
-    assert_eq!(rt; came_within(&rt, alloc, kind, &reads, 3), Came::Sound(1));
-    assert_eq!(rt; came_within(&rt, alloc, kind, &reads[..1], 1), Came::Over);
-    assert_eq!(rt;
-        came_within(&rt, alloc, kind, &reads[..1], 2),
-        Came::Sound(1)
-    );
+    comes_within(&rt, alloc, kind, &reads, 3, Came::Sound(1));
+    comes_within(&rt, alloc, kind, &reads[..1], 1, Came::Over);
+    comes_within(&rt, alloc, kind, &reads[..1], 2, Came::Sound(1));
 }
 
 #[test]
 fn small_budgets_count_configurations(rt: HostRuntime) {
     let alloc = rt.alloc();
     let queue = [invoke(0, Call::Enqueue(1)), invoke(1, Call::Enqueue(2))];
-    assert_eq!(rt;
-        came_within(&rt, alloc, Kind::Fifo, &queue, 5),
-        Came::Sound(1)
-    );
-    assert_eq!(rt; came_within(&rt, alloc, Kind::Fifo, &queue, 4), Came::Over);
-    assert_eq!(rt;
-        came_within(&rt, alloc, Kind::Fifo, &queue[..1], 1),
-        Came::Over
-    );
-    assert_eq!(rt;
-        came_within(&rt, alloc, Kind::Fifo, &queue[..1], 2),
-        Came::Sound(1)
-    );
+    comes_within(&rt, alloc, Kind::Fifo, &queue, 5, Came::Sound(1));
+    comes_within(&rt, alloc, Kind::Fifo, &queue, 4, Came::Over);
+    comes_within(&rt, alloc, Kind::Fifo, &queue[..1], 1, Came::Over);
+    comes_within(&rt, alloc, Kind::Fifo, &queue[..1], 2, Came::Sound(1));
     // (nil, {}), (1, {p0}), (2, {p1}) and (1, {p0, p1}); (2, {p1}) covers (2, {p0, p1}).
     let crashed = [
         invoke(0, write(1)),
         info(0, Name::Write),
         invoke(1, write(2)),
     ];
-    assert_eq!(rt;
-        came_within(&rt, alloc, Kind::Register, &crashed, 4),
-        Came::Sound(1)
-    );
-    assert_eq!(rt;
-        came_within(&rt, alloc, Kind::Register, &crashed, 3),
-        Came::Over
-    );
+    comes_within(&rt, alloc, Kind::Register, &crashed, 4, Came::Sound(1));
+    comes_within(&rt, alloc, Kind::Register, &crashed, 3, Came::Over);
 }
 
 /// So many writes of different numbers that are open.
@@ -523,17 +451,11 @@ fn a_long_search_counts_what_was_before(rt: HostRuntime) {
     // n open writes have 1 + n * 2^(n - 1) configurations: 2,305 of nine, which aren't counted before the search asks for it. It comes to
     // 1 + 8 * 2^7 members, the first write being placed last.
     let mut nine = open_writes(&rt, alloc, 9);
-    assert_eq!(rt; came_within(&rt, alloc, kind, &nine, 1_024), Came::Sound(1));
+    comes_within(&rt, alloc, kind, &nine, 1_024, Came::Sound(1));
     nine.push(done(0, Name::Write)).expect(&rt, "memory");
-    assert_eq!(rt;
-        came_within(&rt, alloc, kind, &nine, 1_024),
-        Came::OverBefore
-    );
+    comes_within(&rt, alloc, kind, &nine, 1_024, Came::OverBefore);
     // No write need come before the first, but each may: one member for each set of the others.
-    assert_eq!(rt;
-        came_within(&rt, alloc, kind, &nine, 2_305),
-        Came::Sound(256)
-    );
+    comes_within(&rt, alloc, kind, &nine, 2_305, Came::Sound(256));
 }
 
 #[test]
@@ -549,14 +471,8 @@ fn a_larger_budget_searches_longer(rt: HostRuntime) {
     events.push(done(0, Name::Write)).expect(&rt, "memory");
     // The search comes to 1 + 10 * 2^9 members: by each set of the other writes, with each of it last. A sixteenth of the usual budget
     // is fewer, and there are more configurations than it before the event.
-    assert_eq!(rt;
-        came_within(&rt, alloc, kind, &events, AMPLE),
-        Came::OverBefore
-    );
-    assert_eq!(rt;
-        came_within(&rt, alloc, kind, &events, 1_000_000),
-        Came::Sound(1_024)
-    );
+    comes_within(&rt, alloc, kind, &events, AMPLE, Came::OverBefore);
+    comes_within(&rt, alloc, kind, &events, 1_000_000, Came::Sound(1_024));
 }
 
 #[test]
@@ -566,15 +482,15 @@ fn writes_that_others_overwrite_are_not_placed(rt: HostRuntime) {
     // Whichever others took effect, the write that returns overwrote them; the next one came behind it, or was overwritten by it.
     let mut nine = open_writes(&rt, alloc, 9);
     nine.push(done(0, Name::Write)).expect(&rt, "memory");
-    assert_eq!(rt; came_within(&rt, alloc, kind, &nine, 1_024), Came::Sound(1));
+    comes_within(&rt, alloc, kind, &nine, 1_024, Came::Sound(1));
     nine.push(done(1, Name::Write)).expect(&rt, "memory");
-    assert_eq!(rt; came_within(&rt, alloc, kind, &nine, 1_024), Came::Sound(2));
+    comes_within(&rt, alloc, kind, &nine, 1_024, Came::Sound(2));
     let open = [
         invoke(0, write(1)),
         invoke(1, write(2)),
         done(1, Name::Write),
     ];
-    assert_eq!(rt; came_within(&rt, alloc, kind, &open, AMPLE), Came::Sound(1));
+    comes_within(&rt, alloc, kind, &open, AMPLE, Came::Sound(1));
 }
 
 #[test]
@@ -592,14 +508,8 @@ fn an_overwritten_write_is_seen_by_early_reads_alone(rt: HostRuntime) {
         gives(2, Name::Read, Val::Int(2)),
     ];
     // The write of 1 came ahead of the write of 2, and the read between them; or it came behind both.
-    assert_eq!(rt;
-        came_within(&rt, alloc, kind, &early[..5], AMPLE),
-        Came::Sound(2)
-    );
-    assert_eq!(rt;
-        came_within(&rt, alloc, kind, &early, AMPLE),
-        Came::Sound(1)
-    );
+    comes_within(&rt, alloc, kind, &early[..5], AMPLE, Came::Sound(2));
+    comes_within(&rt, alloc, kind, &early, AMPLE, Came::Sound(1));
     // A read that was invoked behind the write of 2 can see 1 only behind it.
     let late = [
         invoke(0, write(1)),
@@ -611,11 +521,8 @@ fn an_overwritten_write_is_seen_by_early_reads_alone(rt: HostRuntime) {
         invoke(2, Call::Read),
         gives(2, Name::Read, Val::Int(2)),
     ];
-    assert_eq!(rt;
-        came_within(&rt, alloc, kind, &late[..5], AMPLE),
-        Came::Sound(1)
-    );
-    assert_eq!(rt; came_within(&rt, alloc, kind, &late, AMPLE), Came::Empty);
+    comes_within(&rt, alloc, kind, &late[..5], AMPLE, Came::Sound(1));
+    comes_within(&rt, alloc, kind, &late, AMPLE, Came::Empty);
 }
 
 #[test]
@@ -661,10 +568,7 @@ fn adds_of_many_clients_keep_one_member(rt: HostRuntime) {
     assert_eq!(rt; counts.members, 82);
     assert_eq!(rt; counts.tries, 41);
     let events = adds_and_a_read(&rt, alloc, 40, &all[1..]);
-    assert_eq!(rt;
-        came_within(&rt, alloc, Kind::Set, &events, AMPLE),
-        Came::Empty
-    );
+    comes_within(&rt, alloc, Kind::Set, &events, AMPLE, Came::Empty);
 }
 
 /// The first prefix of the events of which the members say otherwise than a search through all orders, if there is one.

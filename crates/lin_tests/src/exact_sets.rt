@@ -99,6 +99,18 @@ pub(crate) fn came_of(
     }
 }
 
+/// The events, one after the other, come to this. A test that asks so has one way out, and is proved the sooner.
+fn comes_to(
+    rt: &impl Abort,
+    alloc: Global,
+    kind: Kind,
+    events: &[Event],
+    budget: u32,
+    wanted: Came,
+) {
+    assert_eq!(rt; came_of(rt, alloc, kind, events, budget), wanted);
+}
+
 #[test]
 fn writes_of_a_register(rt: HostRuntime) {
     let alloc = rt.alloc();
@@ -109,23 +121,14 @@ fn writes_of_a_register(rt: HostRuntime) {
         invoke(2, write(3)),
         invoke(3, write(4)),
     ];
-    assert_eq!(rt; came_of(&rt, alloc, kind, &[], AMPLE), Came::Sound(1));
-    assert_eq!(rt;
-        came_of(&rt, alloc, kind, &events[..1], AMPLE),
-        Came::Sound(2)
-    );
-    assert_eq!(rt;
-        came_of(&rt, alloc, kind, &events[..2], AMPLE),
-        Came::Sound(5)
-    );
-    assert_eq!(rt;
-        came_of(&rt, alloc, kind, &events[..3], AMPLE),
-        Came::Sound(13)
-    );
-    assert_eq!(rt; came_of(&rt, alloc, kind, &events, AMPLE), Came::Sound(33));
+    comes_to(&rt, alloc, kind, &[], AMPLE, Came::Sound(1));
+    comes_to(&rt, alloc, kind, &events[..1], AMPLE, Came::Sound(2));
+    comes_to(&rt, alloc, kind, &events[..2], AMPLE, Came::Sound(5));
+    comes_to(&rt, alloc, kind, &events[..3], AMPLE, Came::Sound(13));
+    comes_to(&rt, alloc, kind, &events, AMPLE, Came::Sound(33));
 
     let same = [invoke(0, write(7)), invoke(1, write(7))];
-    assert_eq!(rt; came_of(&rt, alloc, kind, &same, AMPLE), Came::Sound(4));
+    comes_to(&rt, alloc, kind, &same, AMPLE, Came::Sound(4));
 }
 
 #[test]
@@ -136,27 +139,15 @@ fn open_operations_of_other_objects(rt: HostRuntime) {
         invoke(1, Call::Enqueue(2)),
         invoke(2, Call::Enqueue(3)),
     ];
-    assert_eq!(rt;
-        came_of(&rt, alloc, Kind::Fifo, &queue[..1], AMPLE),
-        Came::Sound(2)
-    );
-    assert_eq!(rt;
-        came_of(&rt, alloc, Kind::Fifo, &queue[..2], AMPLE),
-        Came::Sound(5)
-    );
-    assert_eq!(rt;
-        came_of(&rt, alloc, Kind::Fifo, &queue, AMPLE),
-        Came::Sound(16)
-    );
+    comes_to(&rt, alloc, Kind::Fifo, &queue[..1], AMPLE, Came::Sound(2));
+    comes_to(&rt, alloc, Kind::Fifo, &queue[..2], AMPLE, Came::Sound(5));
+    comes_to(&rt, alloc, Kind::Fifo, &queue, AMPLE, Came::Sound(16));
 
     let set = [invoke(0, Call::Add(1)), invoke(1, Call::Add(2))];
-    assert_eq!(rt; came_of(&rt, alloc, Kind::Set, &set, AMPLE), Came::Sound(4));
+    comes_to(&rt, alloc, Kind::Set, &set, AMPLE, Came::Sound(4));
 
     let mutex = [invoke(0, Call::Acquire), invoke(1, Call::Acquire)];
-    assert_eq!(rt;
-        came_of(&rt, alloc, Kind::Mutex, &mutex, AMPLE),
-        Came::Sound(3)
-    );
+    comes_to(&rt, alloc, Kind::Mutex, &mutex, AMPLE, Came::Sound(3));
 }
 
 #[test]
@@ -169,25 +160,22 @@ fn completions_of_writes(rt: HostRuntime) {
         ok(0, Name::Write, Reply::Done),
         ok(1, Name::Write, Reply::Done),
     ];
-    assert_eq!(rt;
-        came_of(&rt, alloc, kind, &both_ok[..3], AMPLE),
-        Came::Sound(3)
-    );
-    assert_eq!(rt; came_of(&rt, alloc, kind, &both_ok, AMPLE), Came::Sound(2));
+    comes_to(&rt, alloc, kind, &both_ok[..3], AMPLE, Came::Sound(3));
+    comes_to(&rt, alloc, kind, &both_ok, AMPLE, Came::Sound(2));
 
     let failed = [
         invoke(0, write(1)),
         invoke(1, write(2)),
         fail(0, Name::Write),
     ];
-    assert_eq!(rt; came_of(&rt, alloc, kind, &failed, AMPLE), Came::Sound(2));
+    comes_to(&rt, alloc, kind, &failed, AMPLE, Came::Sound(2));
 
     let crashed = [
         invoke(0, write(1)),
         invoke(1, write(2)),
         info(0, Name::Write),
     ];
-    assert_eq!(rt; came_of(&rt, alloc, kind, &crashed, AMPLE), Came::Sound(5));
+    comes_to(&rt, alloc, kind, &crashed, AMPLE, Came::Sound(5));
 }
 
 #[test]
@@ -200,24 +188,18 @@ fn a_stale_read_leaves_none(rt: HostRuntime) {
         invoke(1, Call::Read),
         ok(1, Name::Read, Reply::Value(Val::Nil)),
     ];
-    assert_eq!(rt;
-        came_of(&rt, alloc, kind, &stale[..3], AMPLE),
-        Came::Sound(2)
-    );
-    assert_eq!(rt; came_of(&rt, alloc, kind, &stale, AMPLE), Came::Empty);
+    comes_to(&rt, alloc, kind, &stale[..3], AMPLE, Came::Sound(2));
+    comes_to(&rt, alloc, kind, &stale, AMPLE, Came::Empty);
 }
 
 #[test]
 fn a_budget_holds_so_many_and_no_more(rt: HostRuntime) {
     let alloc = rt.alloc();
     let queue = [invoke(0, Call::Enqueue(1)), invoke(1, Call::Enqueue(2))];
-    assert_eq!(rt; came_of(&rt, alloc, Kind::Fifo, &queue, 5), Came::Sound(5));
-    assert_eq!(rt; came_of(&rt, alloc, Kind::Fifo, &queue, 4), Came::Over);
-    assert_eq!(rt; came_of(&rt, alloc, Kind::Fifo, &queue[..1], 1), Came::Over);
-    assert_eq!(rt;
-        came_of(&rt, alloc, Kind::Fifo, &queue[..1], 2),
-        Came::Sound(2)
-    );
+    comes_to(&rt, alloc, Kind::Fifo, &queue, 5, Came::Sound(5));
+    comes_to(&rt, alloc, Kind::Fifo, &queue, 4, Came::Over);
+    comes_to(&rt, alloc, Kind::Fifo, &queue[..1], 1, Came::Over);
+    comes_to(&rt, alloc, Kind::Fifo, &queue[..1], 2, Came::Sound(2));
 }
 
 /// The operations that are open after the events: how many there are, and how many of them have crashed.
@@ -248,44 +230,59 @@ fn operations_open_and_close(rt: HostRuntime) {
 }
 
 #[test]
-fn configurations_and_nodes_are_read(rt: HostRuntime) {
+fn a_frontier_begins_with_one_configuration(rt: HostRuntime) {
     let alloc = rt.alloc();
     let object = Any {
         kind: Kind::Register,
     };
     let mut nodes = Nodes::new(alloc);
-    let mut meter = Meter::new();
     let start = Frontier::start(alloc, &object, &mut nodes).expect(&rt, "memory");
-    assert_eq!(rt; (start.len(), nodes.len()), (1, 0));
-    let step = start
-        .advance_all(
-            alloc,
-            &object,
-            &[],
-            0,
-            &invoke(7, write(1)),
-            AMPLE,
-            &mut nodes,
-            &mut meter,
-        )
-        .expect(&rt, "memory");
-    assert_eq!(rt; (meter.steps(), meter.tries(), nodes.len()), (1, 1, 1));
-    if let Step::Next(next) = step {
-        assert_eq!(rt; next.len(), 2);
-        if let Some((config, node)) = next.get(1) {
-            assert_eq!(rt; (config.placed().len(), node), (1, 1));
-            if let Some(pair) = config.placed().first() {
-                assert!(rt; pair.0 == 7 && pair.1 == Reply::Done);
-            }
-            assert!(rt; *config.state() == State::Value(Val::Int(1)));
+    assert!(rt; start.len() == 1 && nodes.len() == 0);
+    let config = Config::new(object.start(alloc));
+    assert!(rt; config.placed().is_empty() && *config.state() == State::Value(Val::Nil));
+}
+
+/// The frontier after a write by one process, the nodes and the meter.
+fn written(rt: &impl Abort, alloc: Global, nodes: &mut Nodes, meter: &mut Meter) -> Frontier<Any> {
+    let object = Any {
+        kind: Kind::Register,
+    };
+    let start = Frontier::start(alloc, &object, nodes).expect(rt, "memory");
+    let event = invoke(7, write(1));
+    match start
+        .advance_all(alloc, &object, &[], 0, &event, AMPLE, nodes, meter)
+        .expect(rt, "memory")
+    {
+        Step::Next(next) => next,
+        _ => {
+            assert!(rt; false, "a write has a place");
+            start
         }
-        assert!(rt; next.get(2).is_none());
     }
+}
+
+#[test]
+fn a_write_is_counted_and_has_a_node(rt: HostRuntime) {
+    let mut nodes = Nodes::new(rt.alloc());
+    let mut meter = Meter::new();
+    let next = written(&rt, rt.alloc(), &mut nodes, &mut meter);
+    assert!(rt; meter.steps() == 1 && meter.tries() == 1 && nodes.len() == 1);
+    assert!(rt; next.len() == 2 && next.get(2).is_none());
     nodes.cut(0);
     assert_eq!(rt; nodes.len(), 0);
-    let config = Config::new(object.start(alloc));
-    assert!(rt; config.placed().is_empty());
-    assert!(rt; *config.state() == State::Value(Val::Nil));
+}
+
+#[test]
+fn configurations_and_nodes_are_read(rt: HostRuntime) {
+    let mut nodes = Nodes::new(rt.alloc());
+    let next = written(&rt, rt.alloc(), &mut nodes, &mut Meter::new());
+    let (config, node) = next.get(1).expect(&rt, "two configurations");
+    assert!(rt; node == 1 && *config.state() == State::Value(Val::Int(1)));
+    let [pair] = config.placed() else {
+        assert!(rt; false, "one operation is placed");
+        return;
+    };
+    assert!(rt; pair.0 == 7 && pair.1 == Reply::Done);
 }
 
 /// The first prefix of the events of which the frontier says otherwise than the plain search, if there is one.

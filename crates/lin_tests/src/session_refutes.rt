@@ -43,6 +43,11 @@ fn answered(alloc: Global, session: &mut Session, key: i64) -> Option<Verdict> {
     }
 }
 
+/// Asserts what is answered in place of a refutation.
+fn answers(rt: &impl Abort, alloc: Global, session: &mut Session, key: i64, expected: Verdict) {
+    assert!(rt; answered(alloc, session, key) == Some(expected));
+}
+
 /// A stale read of the object of key 1, among events of another one.
 fn stale_read() -> [Event; 6] {
     [
@@ -61,11 +66,11 @@ fn an_object_is_refuted_in_the_shortest_prefix(rt: HostRuntime) -> Result<(), Fa
     let mut session = registers(&rt, alloc, 65_536, &stale_read());
     assert!(rt; is_refuted(alloc, &mut session, 1, 5)?);
     assert!(rt; session.len() == 6 && session.budget() == 65_536);
-    assert!(rt; answered(alloc, &mut session, 0) == Some(Verdict::Yes));
-    assert!(rt; answered(alloc, &mut session, 7) == Some(Verdict::Yes));
+    answers(&rt, alloc, &mut session, 0, Verdict::Yes);
+    answers(&rt, alloc, &mut session, 7, Verdict::Yes);
 
     make(&rt, &mut session, Edit::Replace(4, saw(1, 1, Val::Int(1))));
-    assert!(rt; answered(alloc, &mut session, 1) == Some(Verdict::Yes));
+    answers(&rt, alloc, &mut session, 1, Verdict::Yes);
     make(&rt, &mut session, Edit::SetKind(1, Kind::CasRegister));
     make(&rt, &mut session, Edit::Replace(4, saw(1, 1, Val::Int(2))));
     assert!(rt; is_refuted(alloc, &mut session, 1, 5)?);
@@ -101,7 +106,7 @@ fn an_object_over_the_budget_is_undecided(rt: HostRuntime) -> Result<(), Fail> {
         saw(3, 0, Val::Int(9)),
     ];
     let mut session = registers(&rt, alloc, 8, &history);
-    assert!(rt; answered(alloc, &mut session, 1) == Some(Verdict::Undecided { at: 2 }));
+    answers(&rt, alloc, &mut session, 1, Verdict::Undecided { at: 2 });
     assert!(rt; is_refuted(alloc, &mut session, 0, 5)?);
     Ok(())
 }
@@ -112,8 +117,8 @@ fn an_ill_formed_history_is_answered_so(rt: HostRuntime) -> Result<(), Fail> {
     let mut session = registers(&rt, alloc, 65_536, &[read(0, 0), wrote(0, 0)]);
     let judged = judged(&rt, alloc, &mut session, Scope::Whole);
     assert!(rt; matches!(judged, Verdict::IllFormed { at: 1, .. }));
-    assert!(rt; answered(alloc, &mut session, 0) == Some(judged));
-    assert!(rt; answered(alloc, &mut session, 3) == Some(judged));
+    answers(&rt, alloc, &mut session, 0, judged);
+    answers(&rt, alloc, &mut session, 3, judged);
     Ok(())
 }
 

@@ -1,5 +1,7 @@
 //! Objects that have more configurations than the budget, of which legal orders and failures are looked for.
-use crate::sessions::{asked, invoke, judged, objects, ok, read, registers, saw, write, wrote};
+use crate::sessions::{
+    answers, asked, invoke, judges, objects, ok, read, registers, saw, write, wrote,
+};
 use lin_history::{Call, Event, IntSet, Name, Reply, Val};
 use lin_objects::{Kind, Kinds};
 use lin_order::check_order;
@@ -30,11 +32,17 @@ fn many_open_writes_of_a_register_are_decided(rt: HostRuntime) -> Result<(), Fai
     let alloc = rt.alloc();
     let mut history = writes_at_once(alloc)?;
     let mut session = registers(&rt, alloc, 1_024, &history);
-    assert!(rt; asked(&rt, alloc, &mut session, Scope::Whole) == Verdict::Yes);
+    answers(&rt, alloc, &mut session, Scope::Whole, Verdict::Yes);
     history.push(read(11, 0))?;
     history.push(saw(11, 0, Val::Int(77)))?;
     let mut session = registers(&rt, alloc, 1_024, &history);
-    assert!(rt; judged(&rt, alloc, &mut session, Scope::Whole) == Verdict::No { prefix: 14 });
+    judges(
+        &rt,
+        alloc,
+        &mut session,
+        Scope::Whole,
+        Verdict::No { prefix: 14 },
+    );
     Ok(())
 }
 
@@ -43,11 +51,17 @@ fn an_order_of_many_open_writes_is_found(rt: HostRuntime) -> Result<(), Fail> {
     let alloc = rt.alloc();
     let history = writes_at_once(alloc)?;
     let mut session = cas_registers(&rt, alloc, &history);
-    assert!(rt; asked(&rt, alloc, &mut session, Scope::Whole) == Verdict::Undecided { at: 10 });
-    assert!(rt; judged(&rt, alloc, &mut session, Scope::Whole) == Verdict::Yes);
-    assert!(rt; judged(&rt, alloc, &mut session, OBJECT) == Verdict::Yes);
+    answers(
+        &rt,
+        alloc,
+        &mut session,
+        Scope::Whole,
+        Verdict::Undecided { at: 10 },
+    );
+    judges(&rt, alloc, &mut session, Scope::Whole, Verdict::Yes);
+    judges(&rt, alloc, &mut session, OBJECT, Verdict::Yes);
     // Nothing changed since: the same again.
-    assert!(rt; judged(&rt, alloc, &mut session, OBJECT) == Verdict::Yes);
+    judges(&rt, alloc, &mut session, OBJECT, Verdict::Yes);
     Ok(())
 }
 
@@ -94,7 +108,13 @@ fn none_is_looked_for_where_configurations_are_counted(rt: HostRuntime) -> Resul
     let history = writes_at_once(alloc)?;
     // Eight open writes have 8 * 128 + 1 configurations.
     let mut session = registers(&rt, alloc, 1_023, &history);
-    assert!(rt; judged(&rt, alloc, &mut session, Scope::Whole) == Verdict::Undecided { at: 7 });
+    judges(
+        &rt,
+        alloc,
+        &mut session,
+        Scope::Whole,
+        Verdict::Undecided { at: 7 },
+    );
     Ok(())
 }
 
@@ -105,9 +125,21 @@ fn a_value_that_nobody_wrote_is_a_failure(rt: HostRuntime) -> Result<(), Fail> {
     history.push(read(11, 0))?;
     history.push(saw(11, 0, Val::Int(77)))?;
     let mut session = cas_registers(&rt, alloc, &history);
-    assert!(rt; asked(&rt, alloc, &mut session, Scope::Whole) == Verdict::Undecided { at: 10 });
-    assert!(rt; judged(&rt, alloc, &mut session, Scope::Whole) == Verdict::No { prefix: 14 });
-    assert!(rt; judged(&rt, alloc, &mut session, OBJECT) == Verdict::No { prefix: 14 });
+    answers(
+        &rt,
+        alloc,
+        &mut session,
+        Scope::Whole,
+        Verdict::Undecided { at: 10 },
+    );
+    judges(
+        &rt,
+        alloc,
+        &mut session,
+        Scope::Whole,
+        Verdict::No { prefix: 14 },
+    );
+    judges(&rt, alloc, &mut session, OBJECT, Verdict::No { prefix: 14 });
     Ok(())
 }
 
@@ -123,7 +155,7 @@ fn an_old_value_is_a_failure_where_one_write_left_it(rt: HostRuntime) -> Result<
     history.push(read(11, 0))?;
     history.push(saw(11, 0, Val::Int(77)))?;
     let mut session = cas_registers(&rt, alloc, &history);
-    assert!(rt; judged(&rt, alloc, &mut session, OBJECT) == Verdict::No { prefix: 18 });
+    judges(&rt, alloc, &mut session, OBJECT, Verdict::No { prefix: 18 });
     Ok(())
 }
 
@@ -138,8 +170,20 @@ fn neither_is_found_where_two_writes_left_a_value(rt: HostRuntime) -> Result<(),
     history.push(read(11, 0))?;
     history.push(saw(11, 0, Val::Int(77)))?;
     let mut session = cas_registers(&rt, alloc, &history);
-    assert!(rt; judged(&rt, alloc, &mut session, Scope::Whole) == Verdict::Undecided { at: 10 });
-    assert!(rt; judged(&rt, alloc, &mut session, OBJECT) == Verdict::Undecided { at: 10 });
+    judges(
+        &rt,
+        alloc,
+        &mut session,
+        Scope::Whole,
+        Verdict::Undecided { at: 10 },
+    );
+    judges(
+        &rt,
+        alloc,
+        &mut session,
+        OBJECT,
+        Verdict::Undecided { at: 10 },
+    );
     Ok(())
 }
 
@@ -150,9 +194,27 @@ fn a_failure_of_another_object_is_no_longer_hidden(rt: HostRuntime) -> Result<()
     history.push(read(11, 1))?;
     history.push(saw(11, 1, Val::Int(5)))?;
     let mut session = cas_registers(&rt, alloc, &history);
-    assert!(rt; asked(&rt, alloc, &mut session, Scope::Whole) == Verdict::Undecided { at: 10 });
-    assert!(rt; judged(&rt, alloc, &mut session, Scope::Whole) == Verdict::No { prefix: 14 });
-    assert!(rt; judged(&rt, alloc, &mut session, Scope::Object(1)) == Verdict::No { prefix: 14 });
+    answers(
+        &rt,
+        alloc,
+        &mut session,
+        Scope::Whole,
+        Verdict::Undecided { at: 10 },
+    );
+    judges(
+        &rt,
+        alloc,
+        &mut session,
+        Scope::Whole,
+        Verdict::No { prefix: 14 },
+    );
+    judges(
+        &rt,
+        alloc,
+        &mut session,
+        Scope::Object(1),
+        Verdict::No { prefix: 14 },
+    );
     Ok(())
 }
 
@@ -186,10 +248,10 @@ fn is_over(rt: &impl Abort, alloc: Global, kind: Kind, history: &[Event]) -> boo
     matches!(answer, Verdict::Undecided { .. })
 }
 
-/// What is told of the objects of the kind.
-fn found(rt: &impl Abort, alloc: Global, kind: Kind, history: &[Event]) -> Verdict {
+/// Asserts what is judged of the objects of the kind.
+fn finds(rt: &impl Abort, alloc: Global, kind: Kind, history: &[Event], expected: Verdict) {
     let mut session = objects(rt, alloc, kind, 1_024, history);
-    judged(rt, alloc, &mut session, Scope::Whole)
+    judges(rt, alloc, &mut session, Scope::Whole, expected);
 }
 
 #[test]
@@ -197,12 +259,12 @@ fn queues_over_the_budget_are_decided(rt: HostRuntime) -> Result<(), Fail> {
     let alloc = rt.alloc();
     let history = enqueues_at_once(alloc)?;
     assert!(rt; is_over(&rt, alloc, Kind::Fifo, &history));
-    assert!(rt; found(&rt, alloc, Kind::Fifo, &history) == Verdict::Yes);
+    finds(&rt, alloc, Kind::Fifo, &history, Verdict::Yes);
     let history = with_dequeue(alloc, 5)?;
-    assert!(rt; found(&rt, alloc, Kind::Fifo, &history) == Verdict::Yes);
+    finds(&rt, alloc, Kind::Fifo, &history, Verdict::Yes);
     // 77 was put in before 78, and nothing took it out.
     let history = with_dequeue(alloc, 78)?;
-    assert!(rt; found(&rt, alloc, Kind::Fifo, &history) == Verdict::No { prefix: 18 });
+    finds(&rt, alloc, Kind::Fifo, &history, Verdict::No { prefix: 18 });
     Ok(())
 }
 
@@ -226,11 +288,11 @@ fn sets_over_the_budget_are_decided(rt: HostRuntime) -> Result<(), Fail> {
     let alloc = rt.alloc();
     let mut history = adds_at_once(alloc)?;
     assert!(rt; is_over(&rt, alloc, Kind::Set, &history));
-    assert!(rt; found(&rt, alloc, Kind::Set, &history) == Verdict::Yes);
+    finds(&rt, alloc, Kind::Set, &history, Verdict::Yes);
     // What was found is lost.
     history.push(read(14, 0))?;
     let none = Reply::Members(IntSet::new(alloc));
     history.push(ok(14, 0, Name::Read, none))?;
-    assert!(rt; found(&rt, alloc, Kind::Set, &history) == Verdict::No { prefix: 18 });
+    finds(&rt, alloc, Kind::Set, &history, Verdict::No { prefix: 18 });
     Ok(())
 }

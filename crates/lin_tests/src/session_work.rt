@@ -1,6 +1,7 @@
 //! How much work a question takes after an edit.
 use crate::sessions::{
-    asked, invoke, judged, make, objects, ok, read, registers, saw, stale_read, told, write, wrote,
+    asked, invoke, judged, judges, make, objects, ok, read, registers, saw, stale_read, told,
+    write, wrote,
 };
 use lin_history::{Body, Call, Event, IntSet, Name, Reply, Val};
 use lin_objects::Kind;
@@ -29,13 +30,24 @@ fn work(rt: &impl Abort, alloc: Global, session: &mut Session, scope: Scope) -> 
     )
 }
 
+/// Asserts how many steps the next question of the scope takes, and how many scans.
+fn takes(
+    rt: &impl Abort,
+    alloc: Global,
+    session: &mut Session,
+    scope: Scope,
+    expected: (u64, u64),
+) {
+    assert!(rt; work(rt, alloc, session, scope) == expected);
+}
+
 #[test]
 fn what_is_settled_takes_no_work(rt: HostRuntime) -> Result<(), Fail> {
     let alloc = rt.alloc();
     let mut session = registers(&rt, alloc, 65_536, &[]);
     writes(&rt, alloc, &mut session, 0, 100);
-    assert!(rt; work(&rt, alloc, &mut session, Scope::Whole) == (0, 0));
-    assert!(rt; work(&rt, alloc, &mut session, Scope::Object(0)) == (0, 0));
+    takes(&rt, alloc, &mut session, Scope::Whole, (0, 0));
+    takes(&rt, alloc, &mut session, Scope::Object(0), (0, 0));
     Ok(())
 }
 
@@ -59,13 +71,13 @@ fn an_equal_event_takes_no_work(rt: HostRuntime) -> Result<(), Fail> {
     told(&rt, alloc, &mut session, Scope::Whole, no);
     make(&rt, &mut session, Edit::Replace(1, wrote(0, 0)));
     make(&rt, &mut session, Edit::Replace(3, saw(1, 0, Val::Nil)));
-    assert!(rt; work(&rt, alloc, &mut session, Scope::Whole) == (0, 0));
+    takes(&rt, alloc, &mut session, Scope::Whole, (0, 0));
     told(&rt, alloc, &mut session, Scope::Whole, no);
 
     make(&rt, &mut session, Edit::Replace(3, saw(1, 0, Val::Int(1))));
     told(&rt, alloc, &mut session, Scope::Whole, Verdict::Yes);
     make(&rt, &mut session, Edit::Replace(2, read(1, 0)));
-    assert!(rt; work(&rt, alloc, &mut session, Scope::Object(0)) == (0, 0));
+    takes(&rt, alloc, &mut session, Scope::Object(0), (0, 0));
     told(&rt, alloc, &mut session, Scope::Whole, Verdict::Yes);
     Ok(())
 }
@@ -76,7 +88,7 @@ fn one_more_event_is_one_step(rt: HostRuntime) -> Result<(), Fail> {
     let mut session = registers(&rt, alloc, 65_536, &[]);
     writes(&rt, alloc, &mut session, 0, 100);
     make(&rt, &mut session, Edit::Append(write(0, 0, 7)));
-    assert!(rt; work(&rt, alloc, &mut session, Scope::Whole) == (1, 1));
+    takes(&rt, alloc, &mut session, Scope::Whole, (1, 1));
 
     make(&rt, &mut session, Edit::Truncate(64));
     make(&rt, &mut session, Edit::Append(write(0, 0, 7)));
@@ -237,9 +249,10 @@ fn open_beside_a_read(alloc: Global) -> Result<Vec<Event>, Fail> {
     Ok(history)
 }
 
-/// What is decided, without a try.
-fn decided(rt: &impl Abort, alloc: Global, session: &mut Session, scope: Scope) -> Verdict {
-    session.decide(alloc, scope, 0).expect(rt, "memory")
+/// Asserts what is decided, without a try.
+fn decides(rt: &impl Abort, alloc: Global, session: &mut Session, scope: Scope, expected: Verdict) {
+    assert!(rt; session.decide(alloc, scope, 0).expect(rt, "memory") == expected);
+    assert!(rt; session.meter().tries() == 0);
 }
 
 /// How many events of the whole are taken in when it is decided with so many tries for each, and how many calls are tried.
@@ -261,18 +274,16 @@ fn a_set_is_decided_without_its_chain(rt: HostRuntime) -> Result<(), Fail> {
     let alloc = rt.alloc();
     let mut history = three_of_four(alloc)?;
     let mut session = objects(&rt, alloc, Kind::Set, 65_536, &history);
-    assert!(rt; decided(&rt, alloc, &mut session, Scope::Whole) == Verdict::Yes);
-    assert!(rt; session.meter().tries() == 0);
+    decides(&rt, alloc, &mut session, Scope::Whole, Verdict::Yes);
     // The next question costs as much as if that one had not been asked.
-    assert!(rt; judged(&rt, alloc, &mut session, Scope::Whole) == Verdict::Yes);
+    judges(&rt, alloc, &mut session, Scope::Whole, Verdict::Yes);
     assert!(rt; 0 < session.meter().tries());
     // A later read lost one of them.
     history.push(invoke(4, 0, Call::Read))?;
     history.push(ok(4, 0, Name::Read, first_numbers(alloc, 2)?))?;
     let mut session = objects(&rt, alloc, Kind::Set, 65_536, &history);
     let no = Verdict::No { prefix: 12 };
-    assert!(rt; decided(&rt, alloc, &mut session, Scope::Object(0)) == no);
-    assert!(rt; session.meter().tries() == 0);
+    decides(&rt, alloc, &mut session, Scope::Object(0), no);
     Ok(())
 }
 

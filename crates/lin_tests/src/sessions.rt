@@ -94,6 +94,11 @@ fn fault_of(session: &mut Session, edit: Edit) -> Option<EditFault> {
     }
 }
 
+/// Asserts why an edit is refused, or that it isn't.
+fn refuses(rt: &impl Abort, session: &mut Session, edit: Edit, expected: Option<EditFault>) {
+    assert!(rt; fault_of(session, edit) == expected);
+}
+
 /// What is answered, without the order.
 pub(crate) fn asked(
     rt: &impl Abort,
@@ -119,6 +124,28 @@ pub(crate) fn judged(
     session.judge(alloc, scope).expect(rt, "memory")
 }
 
+/// Asserts what is answered, without the order. A test that asks so has one way out, and is proved the sooner.
+pub(crate) fn answers(
+    rt: &impl Abort,
+    alloc: Global,
+    session: &mut Session,
+    scope: Scope,
+    expected: Verdict,
+) {
+    assert!(rt; asked(rt, alloc, session, scope) == expected);
+}
+
+/// Asserts what is judged.
+pub(crate) fn judges(
+    rt: &impl Abort,
+    alloc: Global,
+    session: &mut Session,
+    scope: Scope,
+    expected: Verdict,
+) {
+    assert!(rt; judged(rt, alloc, session, scope) == expected);
+}
+
 /// Asserts what is answered without the order, and judged the same.
 pub(crate) fn told(
     rt: &impl Abort,
@@ -127,8 +154,8 @@ pub(crate) fn told(
     scope: Scope,
     expected: Verdict,
 ) {
-    assert!(rt; asked(rt, alloc, session, scope) == expected);
-    assert!(rt; judged(rt, alloc, session, scope) == expected);
+    answers(rt, alloc, session, scope, expected);
+    judges(rt, alloc, session, scope, expected);
 }
 
 /// The order of a yes, or none.
@@ -207,8 +234,13 @@ fn a_budget_is_from_one_to_a_million(rt: HostRuntime) -> Result<(), Fail> {
         assert!(rt; Session::new(alloc, Kind::Register, budget).is_err());
     }
     let mut session = Session::new(alloc, Kind::Register, 1_000_000).expect(&rt, "a budget");
-    assert!(rt; fault_of(&mut session, Edit::SetBudget(0)) == Some(EditFault::BadBudget));
-    assert!(rt; fault_of(&mut session, Edit::SetBudget(1)) == None);
+    refuses(
+        &rt,
+        &mut session,
+        Edit::SetBudget(0),
+        Some(EditFault::BadBudget),
+    );
+    refuses(&rt, &mut session, Edit::SetBudget(1), None);
     assert!(rt; session.budget() == 1);
     Ok(())
 }
@@ -396,9 +428,24 @@ fn a_larger_budget_decides(rt: HostRuntime) -> Result<(), Fail> {
 fn refused_edits_change_nothing(rt: HostRuntime) -> Result<(), Fail> {
     let alloc = rt.alloc();
     let mut session = registers(&rt, alloc, 65_536, &stale_read());
-    assert!(rt; fault_of(&mut session, Edit::Truncate(5)) == Some(EditFault::BadPosition));
-    assert!(rt; fault_of(&mut session, Edit::Remove(4)) == Some(EditFault::BadPosition));
-    assert!(rt; fault_of(&mut session, Edit::SetBudget(0)) == Some(EditFault::BadBudget));
+    refuses(
+        &rt,
+        &mut session,
+        Edit::Truncate(5),
+        Some(EditFault::BadPosition),
+    );
+    refuses(
+        &rt,
+        &mut session,
+        Edit::Remove(4),
+        Some(EditFault::BadPosition),
+    );
+    refuses(
+        &rt,
+        &mut session,
+        Edit::SetBudget(0),
+        Some(EditFault::BadBudget),
+    );
     make(&rt, &mut session, Edit::Truncate(4));
     assert!(rt; session.len() == 4);
     assert!(rt; session.event(3) == Some(&saw(1, 0, Val::Nil)));
