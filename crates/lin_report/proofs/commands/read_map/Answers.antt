@@ -10,14 +10,14 @@ use Rattle.lin_report.proofs.commands.read_map.Goals as goal
 pub returns-then-branch : goal.returns-then-branch
 returns-then-branch c =
     let found : (v : Value) × (at : ℕ) × Spells c.args.text.now v at c.in-Ok-Complete.used × IsAnswer (event c.args.keyed v) c.in-Ok-Complete.said =
-        rw c.in-Ok-Complete.field-0-is at c.in-Ok-Complete.ensures in
+    rw c.in-Ok-Complete.field-0-is at c.in-Ok-Complete.ensures in
     read_alone c.args.keyed c.args.target c.args.from c.args.text.now found.0 found.1 _ _ _ found.2 c.in_ok-is_blank-in-Ok-Complete.ensures c.if-branch.true
     (c.command_of.ensures (event c.args.keyed found.0) found.3)
 
 pub returns-else-branch : goal.returns-else-branch
 returns-else-branch c =
     let found : (v : Value) × (at : ℕ) × Spells c.args.text.now v at c.in-Ok-Complete.used × IsAnswer (event c.args.keyed v) c.in-Ok-Complete.said =
-        rw c.in-Ok-Complete.field-0-is at c.in-Ok-Complete.ensures in
+    rw c.in-Ok-Complete.field-0-is at c.in-Ok-Complete.ensures in
     read_followed c.args.keyed c.args.target c.args.from c.args.text.now found.0 found.1 _ _ found.2 c.in_ok-is_blank-in-Ok-Complete.ensures c.if-branch.false
 
 pub returns-in-Ok-Partial : goal.returns-in-Ok-Partial
