@@ -6,9 +6,11 @@ use Rattle.lin_edn.specs.Grammar.{Element}
 use Rattle.lin_edn.specs.Laws.{ElementsAreUnique}
 use Rattle.lin_edn.specs.Run.{run_value}
 use Rattle.lin_edn.specs.Value.{Value, nil, bool, int, atom, keyword, text, list, vector, set, map, tagged, values_of, Entries}
-use Rattle.lin_history.specs.Table.{bare, under, is_several, is_named, or_nil, event, event_under, event_with, parts_of, process_of}
-use Rattle.lin_history.specs.Usual.{IsPlaced, ArePlaced, AreParts}
+use Rattle.lin_history.specs.Table.{bare, under, is_several, is_named, or_nil, event, event_under, event_with, parts_of, process_of, type_of, function_of}
+use Rattle.lin_history.specs.Usual.{IsPlaced, ArePlaced, AreParts, TellsWith}
+use Rattle.lin_history.specs.declared.calls.Name.{Name}
 use Rattle.lin_history.specs.declared.events.Event.{Event}
+use Rattle.lin_history.specs.declared.table.EventType.{EventType}
 use Rattle.lin_history.specs.declared.usual.Place.{Place}
 use Rattle.lin_history.specs.declared.usual.Places.{Places}
 use Rattle.lin_history.proofs.Maps.{bare_run}
@@ -62,10 +64,16 @@ few s levels vs None p = ap is_several p
 few s levels vs (Some at) p = ap is_several p.2
 
 -- the event of a usual map
-pub usual_event_is : (keyed : Bool) (es : Entries) (a b d : Value) (n : ℕ) (told : Option Event) →
+usual_event_is : (keyed : Bool) (es : Entries) (a b d : Value) (n : ℕ) (told : Option Event) →
     under (codes ":process") es ≡ a ∷ [] → under (codes ":type") es ≡ b ∷ [] → under (codes ":f") es ≡ d ∷ [] → is_several (under (codes ":value") es) ≡ false →
     process_of a ≡ Some n → event_with keyed a b d (or_nil (under (codes ":value") es)) ≡ Ok told → event keyed (map es) ≡ Ok told
 usual_event_is keyed es a b d n told first second third fourth process is = rw (first, second, third, fourth, numbered a n process) is
+
+pub usual_told : (keyed : Bool) (es : Entries) (a b d : Value) (n : ℕ) (t : EventType) (f : Name) (told : Option Event) →
+    under (codes ":process") es ≡ a ∷ [] → under (codes ":type") es ≡ b ∷ [] → under (codes ":f") es ≡ d ∷ [] →
+    process_of a ≡ Some n → type_of b ≡ Some t → function_of d ≡ Some f → TellsWith keyed n t f (under (codes ":value") es) told → event keyed (map es) ≡ Ok told
+usual_told keyed es a b d n t f told first second third process type function tells =
+    usual_event_is keyed es a b d n told first second third tells.0 process (tells.1 a b d process type function)
 
 named_under : (keyed : Bool) (v : Value) (ts fs vs : List Value) → is_named (v ∷ []) ≡ true → is_several ts ≡ false → is_several fs ≡ false → is_several vs ≡ false →
     event_under keyed (v ∷ []) ts fs vs ≡ Ok None

@@ -3,16 +3,30 @@ use Rattle.std.specs.Prelude.{◌≡◌, ℤ, true, ◌||◌, List, [], ◌∷�
 use Rattle.std.specs.Borrow.{Bor}
 use Rattle.lin_edn.specs.declared.Edn.{Edn}
 use Rattle.lin_edn.specs.View.{view}
-use Rattle.lin_edn.specs.Value.{Value, Entries}
+use Rattle.lin_edn.specs.Value.{Value, Entries, nil, int}
 use Rattle.lin_history.specs.Table.{is_several, here, under}
+use Rattle.lin_history.specs.declared.calls.Val.{Val}
+use Rattle.lin_history.specs.declared.calls.Val.TheVariants as val
 use Rattle.lin_history.specs.declared.events.Body.{Body}
 use Rattle.lin_history.specs.declared.events.Body.TheVariants as body
 use Rattle.lin_history.specs.declared.calls.Reply.{Reply}
 use Rattle.lin_history.specs.declared.calls.Reply.TheVariants.{Members}
 use Rattle.lin_history.specs.declared.calls.Name.TheVariants.{Read}
 use Rattle.lin_history.specs.declared.table.Fields.{Fields}
+use Rattle.lin_history.specs.declared.table.Given.{Given}
+use Rattle.lin_history.specs.declared.table.Given.TheVariants as given
 use Rattle.lin_history.specs.declared.table.EventFault.{EventFault}
 use Rattle.lin_history.specs.declared.table.EventFault.TheVariants.{DuplicateKey, BadValue, OutOfMemory}
+
+-- the value that says nil or an integer
+abbrev pub value_of : Val → Value
+value_of val.Nil = nil
+value_of (val.Int i) = int i
+
+-- the value of an operation
+abbrev pub given_view : Given → Value
+given_view (given.Val v) = value_of v
+given_view (given.Element e) = view e.now
 
 -- the value that was found, if any
 abbrev pub found : Option (Bor Edn) → List Value

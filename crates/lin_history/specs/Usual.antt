@@ -5,7 +5,9 @@ use Rattle.std.specs.List.{slice_range}
 use Rattle.lin_edn.specs.Bytes.{Kind, a_set, a_vector}
 use Rattle.lin_edn.specs.Run.{run_value}
 use Rattle.lin_edn.specs.Value.{Value, map, Entries, entries_of}
-use Rattle.lin_history.specs.Table.{bare, is_word, under, process_of, parts_of, or_nil, is_several, is_named, event}
+use Rattle.lin_history.specs.Table.{bare, is_word, under, process_of, type_of, function_of, parts_of, or_nil, is_several, is_named, event, event_with}
+use Rattle.lin_history.specs.declared.calls.Name.{Name}
+use Rattle.lin_history.specs.declared.table.EventType.{EventType}
 use Rattle.lin_history.specs.declared.usual.Place.{Place}
 use Rattle.lin_history.specs.declared.usual.Places.{Places}
 use Rattle.lin_history.specs.declared.usual.Process.{Process}
@@ -30,6 +32,11 @@ IsPlaced s levels vs (Some p) = (v : Value) × (used : ℕ) × (vs ≡ bare v �
 -- the values under a key are one, or none, and say the object's key and the value
 abbrev pub AreParts : Bool → List Value → ℤ → Value → Type 0
 AreParts keyed vs key v = (is_several vs ≡ false) × (parts_of keyed (or_nil vs) ≡ Some (key, v))
+
+-- a map with this process, type and function, and these values under `:value`, tells this
+abbrev pub TellsWith : Bool → ℕ → EventType → Name → List Value → Option Event → Type 0
+TellsWith keyed n t f vs told = (is_several vs ≡ false) × ((process type function : Value) →
+    process_of process ≡ Some n → type_of type ≡ Some t → function_of function ≡ Some f → event_with keyed process type function (or_nil vs) ≡ Ok told)
 
 -- a value says the process: its number, or a name
 abbrev pub IsProcess : Value → Process → Type 0

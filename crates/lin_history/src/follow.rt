@@ -445,6 +445,7 @@ fn tell(
 }
 
 /// Reads what stands in front of a text, which stands from a place of the stream on.
+#[inline(always)]
 fn read_front(
     alloc: Global,
     keyed: bool,
@@ -461,10 +462,26 @@ fn read_front(
             put_event(ready, taken.event)?;
             Ok(Front::Element(taken.used))
         }
-        None => match whole_row(alloc, keyed, text)? {
-            Some((row, used)) => tell_row(row, used, place, ready),
-            None => read_element(alloc, keyed, text, place, ready),
-        },
+        None => read_unusual(alloc, keyed, text, place, ready),
+    }
+}
+
+/// Reads what stands in front of a text, where that is no usual map. It stands apart, so that a usual map sets nothing up for it.
+#[inline(never)]
+fn read_unusual(
+    alloc: Global,
+    keyed: bool,
+    text: &[u8],
+    place: u64,
+    ready: &mut VecDeque<Event>,
+) -> Result<Front, OutOfMemory>
+    requires { place + length text.now ≤ most }
+    ensures { IsFront keyed text.now place ready.old.items ready.new.items result }
+{
+    places();
+    match whole_row(alloc, keyed, text)? {
+        Some((row, used)) => tell_row(row, used, place, ready),
+        None => read_element(alloc, keyed, text, place, ready),
     }
 }
 

@@ -92,6 +92,7 @@ pub(crate) fn read_maps(
 }
 
 /// Takes a usual map that comes next.
+#[inline(always)]
 fn pass_usual(row: &mut Row, taken: Taken) -> Result<(), OutOfMemory>
     ensures { OnOk result ((keyed : Bool) (s : List ℕ) → IsTaken keyed s (row_end row.old.series) (row_levels row.old.series) taken → IsOpen keyed row.old s
         → IsOpen keyed row.new s × (row_end row.old.series < row_end row.new.series)) }
@@ -103,6 +104,7 @@ fn pass_usual(row: &mut Row, taken: Taken) -> Result<(), OutOfMemory>
 }
 
 /// Puts the event of a usual map, if it says one, behind those before it, unless a fault stands there.
+#[inline(always)]
 fn wait_for(
     waiting: &mut VecDeque<Event>,
     ends: Option<EventFault>,
@@ -170,6 +172,7 @@ pub(crate) fn put_all(
 }
 
 /// Puts an event behind those that are ready; refused, they are as they were.
+#[inline(always)]
 fn put_back(ready: &mut VecDeque<Event>, event: Event) -> Result<(), OutOfMemory>
     ensures ok { OnOk result (ready.new.items ≡ ready.old.items ++ event ∷ []) }
     ensures err { OnErr result (ready.new.items ≡ ready.old.items) }
@@ -179,6 +182,7 @@ fn put_back(ready: &mut VecDeque<Event>, event: Event) -> Result<(), OutOfMemory
 }
 
 /// Puts the event that a usual map says, if any, behind those that are ready; refused, they are as they were.
+#[inline(always)]
 pub(crate) fn put_event(
     ready: &mut VecDeque<Event>,
     event: Option<Event>,

@@ -6,8 +6,9 @@ ghost use Rattle.lin_edn.specs.Value.{Value, int, keyword, values_of, entries_of
 ghost use Rattle.lin_edn.specs.View.{view, entry_view};
 ghost use Rattle.lin_history.specs.Table as table;
 ghost use Rattle.lin_history.specs.Table.{bare as bare_value, is_word as says, under, is_several, event, IsAnswer};
+ghost use Rattle.lin_history.specs.declared.calls.Name.TheVariants.{Cas};
 ghost use Rattle.lin_history.specs.declared.calls.Reply.TheVariants.{Members};
-ghost use Rattle.lin_history.specs.Fields.{found, IsPut, IsKept, IsFields, IsReply, IsBody};
+ghost use Rattle.lin_history.specs.Fields.{found, given_view, IsPut, IsKept, IsFields, IsReply, IsBody};
 
 use crate::calls::{Call, Name, Reply, Val};
 use crate::events::{Body, Event};
@@ -44,6 +45,14 @@ pub(crate) enum EventType {
     Ok,
     Fail,
     Info,
+}
+
+/// The value of an operation, without tags.
+#[derive(Clone, Copy)]
+pub(crate) enum Given<'e, 'a> {
+    /// Nil or an integer, for which no element has to be built.
+    Val(Val),
+    Element(&'e Edn<'a>),
 }
 
 /// The values of the keys that count, without tags.
@@ -258,21 +267,52 @@ fn pair_of<'e, 'a>(element: &'e Edn<'a>) -> Option<(&'e Edn<'a>, &'e Edn<'a>)>
     }
 }
 
-fn call_of(name: Name, value: &Edn) -> Option<Call>
-    ensures { result ≡ table.call_of name (view value.now) }
+impl Given<'_, '_> {
+    /// Nil or an integer.
+    fn val(self) -> Option<Val>
+        ensures { result ≡ table.val_of (given_view self.entry) }
+    {
+        match self {
+            Given::Val(val) => Some(val),
+            Given::Element(element) => val_of(element),
+        }
+    }
+
+    fn int(self) -> Option<i64>
+        ensures { result ≡ table.int_of (given_view self.entry) }
+    {
+        match self {
+            Given::Val(Val::Int(i)) => Some(i),
+            Given::Val(Val::Nil) => None,
+            Given::Element(element) => int_of(element),
+        }
+    }
+}
+
+/// The compare-and-set of an old and a new value.
+fn cas_of(value: Given) -> Option<Call>
+    ensures { result ≡ table.call_of Cas (given_view value.entry) }
+{
+    let Given::Element(element) = value else {
+        return None;
+    };
+    let (old, new) = pair_of(element)?;
+    Some(Call::Cas(val_of(old)?, val_of(new)?))
+}
+
+#[inline(always)]
+fn call_of(name: Name, value: Given) -> Option<Call>
+    ensures { result ≡ table.call_of name (given_view value.entry) }
 {
     match name {
         Name::Read => Some(Call::Read),
         Name::Dequeue => Some(Call::Dequeue),
         Name::Acquire => Some(Call::Acquire),
         Name::Release => Some(Call::Release),
-        Name::Write => Some(Call::Write(val_of(value)?)),
-        Name::Enqueue => Some(Call::Enqueue(int_of(value)?)),
-        Name::Add => Some(Call::Add(int_of(value)?)),
-        Name::Cas => {
-            let (old, new) = pair_of(value)?;
-            Some(Call::Cas(val_of(old)?, val_of(new)?))
-        }
+        Name::Write => Some(Call::Write(value.val()?)),
+        Name::Enqueue => Some(Call::Enqueue(value.int()?)),
+        Name::Add => Some(Call::Add(value.int()?)),
+        Name::Cas => cas_of(value),
     }
 }
 
@@ -325,10 +365,21 @@ fn members_in(alloc: Global, items: &[Edn]) -> Result<Reply, EventFault>
 }
 
 /// What a read saw.
-fn seen(alloc: Global, value: &Edn) -> Result<Reply, EventFault>
-    ensures { IsReply (table.seen (view value.now)) result }
+#[inline(always)]
+fn seen(alloc: Global, value: Given) -> Result<Reply, EventFault>
+    ensures { IsReply (table.seen (given_view value.entry)) result }
 {
-    let items = match value {
+    match value {
+        Given::Val(val) => Ok(Reply::Value(val)),
+        Given::Element(element) => seen_in(alloc, element),
+    }
+}
+
+/// What a read saw that tells it by an element.
+fn seen_in(alloc: Global, element: &Edn) -> Result<Reply, EventFault>
+    ensures { IsReply (table.seen (view element.now)) result }
+{
+    let items = match element {
         Edn::Nil => return Ok(Reply::Value(Val::Nil)),
         Edn::Int(i) => return Ok(Reply::Value(Val::Int(*i))),
         Edn::Set(items) => items.as_slice(),
@@ -339,12 +390,13 @@ fn seen(alloc: Global, value: &Edn) -> Result<Reply, EventFault>
     members_in(alloc, items)
 }
 
-fn reply_of(alloc: Global, name: Name, value: &Edn) -> Result<Reply, EventFault>
-    ensures { IsReply (table.reply_of name (view value.now)) result }
+#[inline(always)]
+fn reply_of(alloc: Global, name: Name, value: Given) -> Result<Reply, EventFault>
+    ensures { IsReply (table.reply_of name (given_view value.entry)) result }
 {
     match name {
         Name::Read => seen(alloc, value),
-        Name::Dequeue => match val_of(value) {
+        Name::Dequeue => match value.val() {
             Some(taken) => Ok(Reply::Value(taken)),
             None => Err(EventFault::BadValue),
         },
@@ -352,13 +404,14 @@ fn reply_of(alloc: Global, name: Name, value: &Edn) -> Result<Reply, EventFault>
     }
 }
 
+#[inline(always)]
 fn body_of(
     alloc: Global,
     event_type: EventType,
     name: Name,
-    value: &Edn,
+    value: Given,
 ) -> Result<Body, EventFault>
-    ensures { IsBody (table.body_of event_type name (view value.now)) result }
+    ensures { IsBody (table.body_of event_type name (given_view value.entry)) result }
 {
     match event_type {
         EventType::Invoke => match call_of(name, value) {
@@ -405,20 +458,21 @@ fn event_with(
     let Some((key, value)) = parts_of(value, keyed) else {
         return Err(EventFault::BadKey);
     };
-    event_said(alloc, process, event_type, name, key, value)
+    event_said(alloc, process, event_type, name, key, Given::Element(value))
 }
 
 /// The event of a map whose values say so, the last of them the object's key and the value.
+#[inline(always)]
 pub(crate) fn event_said(
     alloc: Global,
     process: u64,
     event_type: EventType,
     name: Name,
     key: i64,
-    value: &Edn,
+    value: Given,
 ) -> Result<Option<Event>, EventFault>
     ensures { (keyed : Bool) (p : Value) (t : Value) (f : Value) (v : Value) →
-        table.process_of p ≡ Some process → table.type_of t ≡ Some event_type → table.function_of f ≡ Some name → table.parts_of keyed v ≡ Some (key, view value.now) →
+        table.process_of p ≡ Some process → table.type_of t ≡ Some event_type → table.function_of f ≡ Some name → table.parts_of keyed v ≡ Some (key, given_view value.entry) →
         IsAnswer (table.event_with keyed p t f v) result }
 {
     let body = body_of(alloc, event_type, name, value)?;

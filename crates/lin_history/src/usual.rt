@@ -1,15 +1,22 @@
 //! Usual operation maps, read from their bytes without building their elements.
-ghost use Rattle.std.specs.Prelude.{◌≡◌, ℕ, suc, ◌<◌, ◌≤◌, true, false, None, Some, Ok, IfSome, List, length, slice_index, [], ◌∷◌};
+//!
+//! What is inlined here keeps a map's event in registers up to where it is put. An event that is handed on in memory is written in
+//! parts and read whole, for which a processor waits: that took a tenth of the time of reading.
+ghost use Rattle.std.specs.Prelude.{◌≡◌, ℕ, Bool, pos, suc, ◌<◌, ◌≤◌, true, false, None, Some, Ok, IfSome, List, length, slice_index, [], ◌∷◌};
 ghost use Rattle.lin_edn.specs.Run.{run_value};
 ghost use Rattle.lin_edn.specs.Value as value;
 ghost use Rattle.lin_edn.specs.Value.{Value, Entries};
 ghost use Rattle.lin_edn.specs.View.{view};
+ghost use Rattle.lin_history.specs.Fields.{given_view, value_of};
 ghost use Rattle.lin_history.specs.Table.{event};
-ghost use Rattle.lin_history.specs.Usual.{AreParts, ArePlaced, IsAdded, IsPlaced, IsProcess, IsValueAt, IsUpTo, IsMapAt, IsTaken};
+ghost use Rattle.lin_history.specs.Usual.{AreParts, ArePlaced, IsAdded, IsPlaced, IsProcess, IsValueAt, IsUpTo, IsMapAt, IsTaken, TellsWith};
 
+use crate::calls::{Name, Val};
 use crate::events::Event;
-use crate::table::{event_said, function_named, is_keyword, is_same, process_number, type_named};
-use crate::values::{pair_at, value_at};
+use crate::table::{
+    EventType, Given, event_said, function_named, is_keyword, is_same, process_number, type_named,
+};
+use crate::values::{pair_at, plain_pair, val_in, value_at};
 use lin_edn::{
     Edn, elements_are_unique, integer, nested_until, run_element, run_until, tag_until,
     white_until, window,
@@ -100,6 +107,7 @@ fn usual_value(text: &[u8], at: usize, end: usize, levels: usize) -> (Place, usi
 }
 
 /// Takes the usual entry at a place, whose value has so many levels at most, and tells where it ends; that place where none stands there.
+#[inline(always)]
 fn take_entry(text: &[u8], from: usize, end: usize, levels: usize, places: &mut Places) -> usize
     requires begun { from ≤ end }
     requires inside { end ≤ length text.now }
@@ -122,6 +130,7 @@ fn take_entry(text: &[u8], from: usize, end: usize, levels: usize, places: &mut 
 }
 
 /// The usual map whose opening byte stands at a place, with so many levels inside at most, and where it ends.
+#[inline(never)]
 fn usual_map(text: &[u8], from: usize, end: usize, levels: usize) -> Option<(Places, usize)>
     requires begun { from < end }
     requires inside { end ≤ length text.now }
@@ -163,6 +172,7 @@ fn word_of<'a>(text: &'a [u8], place: Place) -> Option<&'a [u8]>
 }
 
 /// The process that a word says, which begins at a place.
+#[inline(always)]
 fn process_in(at: usize, word: &[u8]) -> Option<Process>
     ensures { IfSome result (IsProcess (run_value at word.now)) }
 {
@@ -175,7 +185,7 @@ fn process_in(at: usize, word: &[u8]) -> Option<Process>
     None
 }
 
-/// The object's key and the value that a map says whose `:value` stands at a place, or nowhere.
+/// The object's key and the value that a map says whose `:value` stands at a place.
 #[inline(always)]
 fn parts_at<'a>(
     alloc: Global,
@@ -186,12 +196,7 @@ fn parts_at<'a>(
     ensures { IfSome result (λ r. (levels : ℕ) (vs : List Value) → levels ≤ 64 → IsPlaced text.entry.now levels vs place → AreParts keyed vs r.0 (view r.1)) }
 {
     elements_are_unique();
-    let Some(place) = place else {
-        if keyed {
-            return None;
-        }
-        return Some((0, Edn::Nil));
-    };
+    let place = place?;
     if keyed {
         let (key, value, _) = pair_at(alloc, text, place.at)?;
         return Some((key, value));
@@ -203,7 +208,73 @@ fn parts_at<'a>(
     Some((0, value))
 }
 
+/// The object's key and the value that a map says whose `:value` stands at a place, or nowhere, where that value is nil or an integer:
+/// no element has to be built.
+#[inline(always)]
+fn plain_parts(keyed: bool, text: &[u8], place: Option<Place>) -> Option<(i64, Val)>
+    ensures { IfSome result (λ r. (levels : ℕ) (vs : List Value) → levels ≤ 64 → IsPlaced text.now levels vs place → AreParts keyed vs r.0 (value_of r.1)) }
+{
+    elements_are_unique();
+    let Some(place) = place else {
+        if keyed {
+            return None;
+        }
+        return Some((0, Val::Nil));
+    };
+    if keyed {
+        let (key, val, _) = plain_pair(text, place.at)?;
+        return Some((key, val));
+    }
+    let val = val_in(word_of(text, place)?)?;
+    Some((0, val))
+}
+
+/// The event of a usual map with this process, type, function, key and value.
+#[inline(always)]
+fn event_given(
+    alloc: Global,
+    process: u64,
+    event_type: EventType,
+    name: Name,
+    key: i64,
+    value: Given,
+) -> Option<Option<Event>>
+    ensures { IfSome result (λ told. (keyed : Bool) (vs : List Value) → AreParts keyed vs key (given_view value.entry) → TellsWith keyed process event_type name vs told) }
+{
+    match event_said(alloc, process, event_type, name, key, value) {
+        Ok(told) => Some(told),
+        Err(_) => None,
+    }
+}
+
+/// The event of a usual map with this process, type and function, whose `:value` is built as an element. It stands apart, so that other
+/// maps set nothing up for it.
+#[inline(never)]
+fn element_event(
+    alloc: Global,
+    keyed: bool,
+    text: &[u8],
+    process: u64,
+    event_type: EventType,
+    name: Name,
+    place: Option<Place>,
+) -> Option<Option<Event>>
+    ensures { IfSome result (λ told. (levels : ℕ) (vs : List Value) → levels ≤ 64 → IsPlaced text.now levels vs place → TellsWith keyed process event_type name vs told) }
+{
+    let (key, value) = parts_at(alloc, keyed, text, place)?;
+    let told = event_given(
+        alloc,
+        process,
+        event_type,
+        name,
+        key,
+        Given::Element(&value),
+    )?;
+    Some(told)
+}
+
 /// The event of a usual map, or that it is none; nothing where this has to be seen from its elements.
+#[inline(always)]
 fn usual_event(alloc: Global, keyed: bool, text: &[u8], places: Places) -> Option<Option<Event>>
     ensures { IfSome result (λ told. (levels : ℕ) (es : Entries) → levels ≤ 64 → ArePlaced text.now levels es places → event keyed (value.map es) ≡ Ok told) }
 {
@@ -214,11 +285,12 @@ fn usual_event(alloc: Global, keyed: bool, text: &[u8], places: Places) -> Optio
     };
     let event_type = type_named(word_of(text, places.event_type?)?)?;
     let name = function_named(word_of(text, places.function?)?)?;
-    let (key, value) = parts_at(alloc, keyed, text, places.value)?;
-    match event_said(alloc, number, event_type, name, key, &value) {
-        Ok(told) => Some(told),
-        Err(_) => None,
+    if let Some((key, value)) = plain_parts(keyed, text, places.value) {
+        let told = event_given(alloc, number, event_type, name, key, Given::Val(value))?;
+        return Some(told);
     }
+    let told = element_event(alloc, keyed, text, number, event_type, name, places.value)?;
+    Some(told)
 }
 
 /// How many of some levels are left in a map, where a tag stands in front of it from a place on, or none.
@@ -233,6 +305,7 @@ fn levels_inside(from: usize, begun: usize, levels: usize) -> usize
 
 /// The usual map, with a tag directly in front of it or none, behind the white from a place on, among the bytes that the first element of a text can have;
 /// with so many levels at most.
+#[inline(always)]
 pub(crate) fn next_usual(
     alloc: Global,
     keyed: bool,

@@ -3,11 +3,15 @@ ghost use Rattle.std.specs.Prelude.{◌≡◌, ℕ, ◌+◌, ◌<◌, ◌≤◌,
 ghost use Rattle.lin_edn.specs.Bytes as bytes;
 ghost use Rattle.lin_edn.specs.Bytes.{a_vector};
 ghost use Rattle.lin_edn.specs.Grammar.{Element, Opens, Row};
+ghost use Rattle.lin_edn.specs.Run.{run_value};
 ghost use Rattle.lin_edn.specs.Value.{made, int, vector, values_of};
 ghost use Rattle.lin_edn.specs.View.{view};
+ghost use Rattle.lin_history.specs.Fields.{value_of};
 ghost use Rattle.lin_history.specs.Table.{bare};
 ghost use Rattle.lin_history.specs.Usual.{kind_of};
 
+use crate::calls::Val;
+use crate::table::is_same;
 use lin_edn::{Edn, integer, run_element, run_until, white_until};
 use std::alloc::Global;
 
@@ -34,7 +38,41 @@ pub(crate) fn pair_at<'a>(
     Some((key, value, last + 1))
 }
 
+/// Nil or the integer that a word says.
+#[inline(always)]
+pub(crate) fn val_in(word: &[u8]) -> Option<Val>
+    ensures { IfSome result (λ val. (p : ℕ) → run_value p word.now ≡ value_of val) }
+{
+    if is_same(word, b"nil") {
+        return Some(Val::Nil);
+    }
+    Some(Val::Int(integer(word)?))
+}
+
+/// The pair of an integer and nil or an integer at a place, and where it ends.
+#[inline(never)]
+pub(crate) fn plain_pair(text: &[u8], from: usize) -> Option<(i64, Val, usize)>
+    ensures { IfSome result (λ r. Element 2 from (drop from text.now) (vector (values_of (int r.0 ∷ value_of r.1 ∷ []))) r.2 (drop r.2 text.now)) }
+{
+    let (key, until) = key_at(text, from)?;
+    let at = white_until(text, until, text.len());
+    let used = run_until(text, at, text.len());
+    if used == at {
+        return None;
+    }
+    let val = val_in(&text[at..used])?;
+    let last = white_until(text, used, text.len());
+    if last >= text.len() {
+        return None;
+    }
+    if text[last] != b']' {
+        return None;
+    }
+    Some((key, val, last + 1))
+}
+
 /// The integer that the vector at a place begins with, and where it ends.
+#[inline(always)]
 fn key_at(text: &[u8], from: usize) -> Option<(i64, usize)>
     ensures within { IfSome result (λ r. (from < r.1) × (r.1 ≤ length text.now)) }
     ensures opens { IfSome result (λ r. Opens a_vector from (drop from text.now) (from + 1) (drop (from + 1) text.now)) }

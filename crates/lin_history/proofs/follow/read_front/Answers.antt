@@ -4,6 +4,3 @@ use Rattle.lin_history.proofs.follow.read_front.Goals as goal
 pub returns-in_ok-put_event-in-Some : goal.returns-in_ok-put_event-in-Some
 returns-in_ok-put_event-in-Some c =
     in_front c.args.keyed c.args.text.now c.in-Some.taken c.args.ready.now.items c.put_event.new.ready.items c.in-Some.ensures c.in_ok-put_event-in-Some.ensures.ok
-
-pub returns-in-Some-2 : goal.returns-in-Some-2
-returns-in-Some-2 c = c.tell_row.ensures c.args.keyed c.args.text.now (rw c.in-Some-2.is at c.in_ok-row-in-None.ensures)
