@@ -1,39 +1,37 @@
 //! Lists and vectors that are whole in one piece, whatever their maps hold.
-use crate::tests::{end_of, event, nesting, taken, tells_the_same, too_deep_at};
-use crate::{Body, Call, Event, EventFault, Follow, FollowFault, IntSet, Name, Reply};
+use crate::tests::{
+    ends, ends_with, event, is_too_deep, joined, nesting, set_of, taken, tells_the_same,
+};
+use crate::{Body, Call, EventFault, Follow, FollowFault, Name, Reply};
 use lin_edn::EdnCause;
 use std::alloc::Global;
-use std::test::Fail;
+use std::process::Abort;
 
 /// The maps of a row: one with a set and one with a backslash in a text among usual ones, and a discard.
 const MAPS: &[u8] =
     b"{:process 0 :type :invoke :f :read} {:process 0 :type :ok :f :read :value #{2 1}}
  {:process 1 :note \"a \\\" }\" :type :invoke :f :read}, #_ {5 6} {:process 1 :type :info :f :read}";
 
-/// Those maps behind some bytes and before others.
-fn row_of(alloc: Global, front: &[u8], last: &[u8]) -> Result<Vec<u8>, Fail> {
-    let mut text = Vec::from_slice(alloc, front)?;
-    text.extend_from_slice(MAPS)?;
-    text.extend_from_slice(last)?;
-    Ok(text)
-}
-
-/// The events that they say.
-fn events_of_maps(alloc: Global) -> Result<Vec<Event>, Fail> {
-    let mut members = IntSet::new(alloc);
-    for member in [1, 2] {
-        members.insert(member)?;
-    }
-    let mut events = Vec::new(alloc);
-    events.push(event(0, Body::Invoke(Call::Read)))?;
-    events.push(event(0, Body::Ok(Name::Read, Reply::Members(members))))?;
-    events.push(event(1, Body::Invoke(Call::Read)))?;
-    events.push(event(1, Body::Info(Name::Read)))?;
-    Ok(events)
+/// Asserts that a row of those maps, behind some bytes and before others, tells their events.
+fn tells_the_maps(rt: &impl Abort, alloc: Global, front: &[u8], last: &[u8]) {
+    let text = joined(rt, alloc, &[front, MAPS, last]);
+    let mut follow = Follow::new(alloc, false);
+    let _fed = follow.feed(&text);
+    ends(rt, &follow, Ok(()));
+    let members = set_of(rt, alloc, &[1, 2]);
+    let expected = [
+        event(0, Body::Invoke(Call::Read)),
+        event(0, Body::Ok(Name::Read, Reply::Members(members))),
+        event(1, Body::Invoke(Call::Read)),
+        event(1, Body::Info(Name::Read)),
+    ];
+    let events = taken(rt, alloc, &mut follow);
+    assert!(rt; events.as_slice() == expected.as_slice());
+    tells_the_same(rt, alloc, false, &text, 4);
 }
 
 #[test]
-fn a_row_tells_its_events_whatever_its_maps_hold(rt: HostRuntime) -> Result<(), Fail> {
+fn a_row_tells_its_events_whatever_its_maps_hold(rt: HostRuntime) {
     let alloc = rt.alloc();
     for (front, last) in [
         (b"#h [".as_slice(), b"]".as_slice()),
@@ -45,18 +43,12 @@ fn a_row_tells_its_events_whatever_its_maps_hold(rt: HostRuntime) -> Result<(), 
         (b"#h [".as_slice(), b" ; ]\n]".as_slice()),
         (b"[".as_slice(), b" #_ [] ]".as_slice()),
     ] {
-        let text = row_of(alloc, front, last)?;
-        let mut follow = Follow::new(alloc, false);
-        let _fed = follow.feed(text.as_slice());
-        assert_eq!(rt; follow.finish(), Ok(()));
-        assert!(rt; taken(alloc, &mut follow)? == events_of_maps(alloc)?);
-        tells_the_same(&rt, alloc, false, text.as_slice(), 4)?;
+        tells_the_maps(&rt, alloc, front, last);
     }
-    Ok(())
 }
 
 #[test]
-fn a_row_ends_at_its_first_fault(rt: HostRuntime) -> Result<(), Fail> {
+fn a_row_ends_at_its_first_fault(rt: HostRuntime) {
     let alloc = rt.alloc();
     let not_a_map = EventFault::NotAMap;
     for (text, count, at, cause) in [
@@ -93,17 +85,14 @@ fn a_row_ends_at_its_first_fault(rt: HostRuntime) -> Result<(), Fail> {
             not_a_map,
         ),
     ] {
-        assert_eq!(rt;
-            end_of(&rt, alloc, text, count),
-            Err(FollowFault::Event { at, cause })
-        );
-        tells_the_same(&rt, alloc, false, text, count)?;
+        let fault = FollowFault::Event { at, cause };
+        ends_with(&rt, alloc, text, count, Err(fault));
+        tells_the_same(&rt, alloc, false, text, count);
     }
-    Ok(())
 }
 
 #[test]
-fn a_row_that_is_no_edn_tells_nothing(rt: HostRuntime) -> Result<(), Fail> {
+fn a_row_that_is_no_edn_tells_nothing(rt: HostRuntime) {
     let alloc = rt.alloc();
     for (text, outcome) in [
         (
@@ -132,28 +121,22 @@ fn a_row_that_is_no_edn_tells_nothing(rt: HostRuntime) -> Result<(), Fail> {
             },
         ),
     ] {
-        assert_eq!(rt; end_of(&rt, alloc, text, 0), Err(outcome));
-        tells_the_same(&rt, alloc, false, text, 0)?;
+        ends_with(&rt, alloc, text, 0, Err(outcome));
+        tells_the_same(&rt, alloc, false, text, 0);
     }
-    Ok(())
 }
 
 #[test]
-fn unusual_maps_nest_up_to_the_limit(rt: HostRuntime) -> Result<(), Fail> {
+fn unusual_maps_nest_up_to_the_limit(rt: HostRuntime) {
     let alloc = rt.alloc();
     for (front, levels) in [
         (b"#t [{:process 1 :type :invoke :f :read}".as_slice(), 61),
         (b"[{:process 1 :type :invoke :f :read} ".as_slice(), 62),
     ] {
-        let deepest = nesting(alloc, front, levels, b"\"\\\\\" ", b"]")?;
-        assert_eq!(rt; end_of(&rt, alloc, deepest.as_slice(), 2), Ok(()));
-        tells_the_same(&rt, alloc, false, deepest.as_slice(), 2)?;
-        let too_deep = nesting(alloc, front, levels, b"\"\\\\\" []", b"]")?;
-        assert_eq!(rt;
-            too_deep_at(alloc, too_deep.as_slice()),
-            Some((front.len() + 19 + levels + 5) as u64)
-        );
-        tells_the_same(&rt, alloc, false, too_deep.as_slice(), 0)?;
+        let deepest = nesting(&rt, alloc, front, levels, b"\"\\\\\" ", b"]");
+        ends_with(&rt, alloc, &deepest, 2, Ok(()));
+        tells_the_same(&rt, alloc, false, &deepest, 2);
+        let too_deep = nesting(&rt, alloc, front, levels, b"\"\\\\\" []", b"]");
+        is_too_deep(&rt, alloc, &too_deep, front.len() + 19 + levels + 5);
     }
-    Ok(())
 }

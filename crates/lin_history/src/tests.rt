@@ -5,7 +5,6 @@ use crate::{
 use lin_edn::{EdnCause, EdnFault, Next, next_element};
 use std::alloc::Global;
 use std::process::Abort;
-use std::test::Fail;
 
 const RECORDED: &[u8] = b"; a recorded test
 [#jepsen.history.Op{:index 0, :time 12, :type :invoke, :process 0, :f :write, :value 1}
@@ -15,14 +14,14 @@ const RECORDED: &[u8] = b"; a recorded test
 ";
 
 /// The events that are ready, taken one after the other.
-pub(crate) fn taken(alloc: Global, follow: &mut Follow) -> Result<Vec<Event>, Fail> {
+pub(crate) fn taken(rt: &impl Abort, alloc: Global, follow: &mut Follow) -> Vec<Event> {
     let mut events = Vec::new(alloc);
     for _ in 0..follow.ready() {
         if let Some(event) = follow.take() {
-            events.push(event)?;
+            events.push(event).expect(rt, "memory");
         }
     }
-    Ok(events)
+    events
 }
 
 pub(crate) fn event(process: u64, body: Body) -> Event {
@@ -33,122 +32,120 @@ pub(crate) fn event(process: u64, body: Body) -> Event {
     }
 }
 
-/// The first events of the recorded test, as many as are asked for.
-fn recorded(alloc: Global, count: usize) -> Result<Vec<Event>, Fail> {
-    let mut events = Vec::new(alloc);
-    events.push(event(0, Body::Invoke(Call::Write(Val::Int(1)))))?;
-    events.push(event(0, Body::Ok(Name::Write, Reply::Done)))?;
-    events.push(event(1, Body::Invoke(Call::Read)))?;
-    events.truncate(count);
-    Ok(events)
+/// Asserts how many events are ready once a piece is fed, or what it is refused for.
+fn feeds(rt: &impl Abort, follow: &mut Follow, piece: &[u8], expected: Result<usize, FollowFault>) {
+    assert!(rt; follow.feed(piece) == expected);
+}
+
+/// Asserts how the stream ends if it ends here.
+pub(crate) fn ends(rt: &impl Abort, follow: &Follow, expected: Result<(), FollowFault>) {
+    assert!(rt; follow.finish() == expected);
+}
+
+/// Asserts that so many first events of the recorded test are ready, and takes them.
+fn tells(rt: &impl Abort, alloc: Global, follow: &mut Follow, count: usize) {
+    let recorded = [
+        event(0, Body::Invoke(Call::Write(Val::Int(1)))),
+        event(0, Body::Ok(Name::Write, Reply::Done)),
+        event(1, Body::Invoke(Call::Read)),
+    ];
+    let events = taken(rt, alloc, follow);
+    assert!(rt; events.len() == count && recorded.starts_with(&events));
+}
+
+/// Asserts that the oldest event that is ready is a write of the number by client 0, and takes it.
+fn takes_write(rt: &impl Abort, follow: &mut Follow, number: i64) {
+    let write = event(0, Body::Invoke(Call::Write(Val::Int(number))));
+    assert!(rt; follow.take() == Some(write));
 }
 
 #[test]
-fn a_recorded_test_is_the_same_however_it_is_cut(rt: HostRuntime) -> Result<(), Fail> {
+fn a_recorded_test_is_the_same_however_it_is_cut(rt: HostRuntime) {
     let alloc = rt.alloc();
     let mut whole = Follow::new(alloc, false);
-    assert_eq!(rt; whole.feed(RECORDED), Ok(3));
-    assert_eq!(rt; whole.finish(), Ok(()));
-    assert!(rt; taken(alloc, &mut whole)? == recorded(alloc, 3)?);
+    feeds(&rt, &mut whole, RECORDED, Ok(3));
+    ends(&rt, &whole, Ok(()));
+    tells(&rt, alloc, &mut whole, 3);
 
-    let mut cut = Follow::new(alloc, false);
-    for byte in RECORDED {
-        assert!(rt; cut.feed(&[*byte]).is_ok());
-    }
-    assert_eq!(rt; cut.ready(), 3);
-    assert_eq!(rt; cut.finish(), Ok(()));
-    assert!(rt; taken(alloc, &mut cut)? == recorded(alloc, 3)?);
+    let mut cut = in_pieces(&rt, alloc, RECORDED, 1);
+    ends(&rt, &cut, Ok(()));
+    tells(&rt, alloc, &mut cut, 3);
     assert!(rt; cut.take().is_none());
-    Ok(())
 }
 
 #[test]
-fn a_fault_stands_and_the_events_before_it_are_ready(rt: HostRuntime) -> Result<(), Fail> {
-    let alloc = rt.alloc();
-    let mut follow = Follow::new(alloc, false);
-    assert_eq!(rt;
-        follow.feed(b"{:process 0 :type :invoke :f :write :value 1"),
-        Ok(0)
+fn a_fault_stands_and_the_events_before_it_are_ready(rt: HostRuntime) {
+    let mut follow = Follow::new(rt.alloc(), false);
+    feeds(
+        &rt,
+        &mut follow,
+        b"{:process 0 :type :invoke :f :write :value 1",
+        Ok(0),
     );
-    assert_eq!(rt; follow.finish(), Err(FollowFault::Truncated { at: 0 }));
-    assert_eq!(rt; follow.feed(b"2}"), Ok(1));
+    ends(&rt, &follow, Err(FollowFault::Truncated { at: 0 }));
+    feeds(&rt, &mut follow, b"2}", Ok(1));
     let fault = FollowFault::Edn {
         at: 46,
         cause: EdnCause::Unbalanced,
     };
-    assert_eq!(rt; follow.feed(b"}"), Err(fault));
-    assert_eq!(rt; follow.feed(b"{}"), Err(fault));
-    assert_eq!(rt; follow.finish(), Err(fault));
-    match follow.take() {
-        Some(
-            Event {
-                process: 0,
-                key: 0,
-                body: Body::Invoke(Call::Write(Val::Int(12))),
-            },
-        ) => {}
-        _ => assert!(rt; false, "the write of 12 was ready"),
-    }
-    assert_eq!(rt; follow.ready(), 0);
-    Ok(())
+    feeds(&rt, &mut follow, b"}", Err(fault));
+    feeds(&rt, &mut follow, b"{}", Err(fault));
+    ends(&rt, &follow, Err(fault));
+    takes_write(&rt, &mut follow, 12);
+    assert!(rt; follow.ready() == 0);
 }
 
-pub(crate) fn end_of(
-    rt: &impl Abort,
-    alloc: Global,
-    text: &[u8],
-    events: usize,
-) -> Result<(), FollowFault> {
+/// How a text ends that tells so many events.
+fn end_of(rt: &impl Abort, alloc: Global, text: &[u8], events: usize) -> Result<(), FollowFault> {
     let mut follow = Follow::new(alloc, false);
     let fed = follow.feed(text);
-    assert_eq!(rt; follow.ready(), events);
+    assert!(rt; follow.ready() == events);
     match fed {
-        Ok(count) => assert_eq!(rt; count, events),
-        Err(fault) => assert_eq!(rt; follow.finish(), Err(fault)),
+        Ok(count) => assert!(rt; count == events),
+        Err(fault) => assert!(rt; follow.finish() == Err(fault)),
     }
     follow.finish()
 }
 
+/// Asserts how a text ends that tells so many events.
+pub(crate) fn ends_with(
+    rt: &impl Abort,
+    alloc: Global,
+    text: &[u8],
+    events: usize,
+    expected: Result<(), FollowFault>,
+) {
+    assert!(rt; end_of(rt, alloc, text, events) == expected);
+}
+
 #[test]
-fn a_stream_ends_where_it_has_to(rt: HostRuntime) -> Result<(), Fail> {
+fn a_stream_ends_where_it_has_to(rt: HostRuntime) {
     let alloc = rt.alloc();
-    assert_eq!(rt;
-        end_of(&rt, alloc, b"#_#_a b", 0),
-        Err(FollowFault::Truncated { at: 0 })
-    );
-    assert_eq!(rt;
-        end_of(&rt, alloc, b"#_a b", 0),
-        Err(FollowFault::Truncated { at: 4 })
-    );
-    assert_eq!(rt; end_of(&rt, alloc, b" [] ; no end", 0), Ok(()));
-    assert_eq!(rt;
-        end_of(&rt, alloc, b"5(", 0),
+    let truncated = |at: u64| Err(FollowFault::Truncated { at });
+    let not_a_map = |at: u64| {
         Err(FollowFault::Event {
-            at: 0,
-            cause: EventFault::NotAMap
+            at,
+            cause: EventFault::NotAMap,
         })
-    );
+    };
+    ends_with(&rt, alloc, b"#_#_a b", 0, truncated(0));
+    ends_with(&rt, alloc, b"#_a b", 0, truncated(4));
+    ends_with(&rt, alloc, b" [] ; no end", 0, Ok(()));
+    ends_with(&rt, alloc, b"5(", 0, not_a_map(0));
     // The map before the nested vector counts, and the fault is told at the tag in front of the outer one.
-    assert_eq!(rt;
-        end_of(
-            &rt,
-            alloc,
-            b" #t[{:process 0 :type :fail :f :cas} [{:process 0 :type :fail :f :cas}]]",
-            1
-        ),
-        Err(FollowFault::Event {
-            at: 1,
-            cause: EventFault::NotAMap
-        })
+    let nested = b" #t[{:process 0 :type :fail :f :cas} [{:process 0 :type :fail :f :cas}]]";
+    ends_with(&rt, alloc, nested, 1, not_a_map(1));
+    let unbalanced = FollowFault::Edn {
+        at: 34,
+        cause: EdnCause::Unbalanced,
+    };
+    ends_with(
+        &rt,
+        alloc,
+        b"[{:process 0 :type :fail :f :cas} }",
+        0,
+        Err(unbalanced),
     );
-    assert_eq!(rt;
-        end_of(&rt, alloc, b"[{:process 0 :type :fail :f :cas} }", 0),
-        Err(FollowFault::Edn {
-            at: 34,
-            cause: EdnCause::Unbalanced
-        })
-    );
-    Ok(())
 }
 
 /// A vector and a list with blanks, a discard and a tag between their maps.
@@ -159,22 +156,31 @@ const MIXED: &[u8] = b"[; first
 ";
 
 /// Feeds a text in pieces of so many bytes.
-fn in_pieces(alloc: Global, text: &[u8], size: usize) -> Result<Follow, Fail> {
+fn in_pieces(rt: &impl Abort, alloc: Global, text: &[u8], size: usize) -> Follow {
     let mut follow = Follow::new(alloc, false);
     let mut piece = Vec::new(alloc);
     for byte in text {
-        piece.push(*byte)?;
+        piece.push(*byte).expect(rt, "memory");
         if piece.len() >= size {
             let _fed = follow.feed(piece.as_slice());
             piece.clear();
         }
     }
     let _fed = follow.feed(piece.as_slice());
-    Ok(follow)
+    follow
+}
+
+/// Asserts that a text tells the same fed whole and in pieces of so many bytes.
+fn tells_the_same_in_pieces(rt: &impl Abort, alloc: Global, text: &[u8], size: usize) {
+    let mut whole = in_pieces(rt, alloc, text, text.len());
+    let mut cut = in_pieces(rt, alloc, text, size);
+    assert!(rt; cut.ready() == whole.ready());
+    assert!(rt; cut.finish() == whole.finish());
+    assert!(rt; taken(rt, alloc, &mut cut) == taken(rt, alloc, &mut whole));
 }
 
 #[test]
-fn a_vector_is_the_same_however_it_is_cut(rt: HostRuntime) -> Result<(), Fail> {
+fn a_vector_is_the_same_however_it_is_cut(rt: HostRuntime) {
     let alloc = rt.alloc();
     for text in [
         MIXED,
@@ -183,139 +189,140 @@ fn a_vector_is_the_same_however_it_is_cut(rt: HostRuntime) -> Result<(), Fail> {
         b"[{:process 0 :type :invoke :f :write :value 1} #",
         b"[]()[ ](;\n)[{:process :nemesis}]",
     ] {
-        let mut whole = in_pieces(alloc, text, text.len())?;
-        let ready = whole.ready();
-        let outcome = whole.finish();
-        let events = taken(alloc, &mut whole)?;
         for size in [1, 2, 3, 7, 50] {
-            let mut cut = in_pieces(alloc, text, size)?;
-            assert_eq!(rt; cut.ready(), ready);
-            assert_eq!(rt; cut.finish(), outcome);
-            assert!(rt; taken(alloc, &mut cut)? == events);
+            tells_the_same_in_pieces(&rt, alloc, text, size);
         }
     }
-    Ok(())
 }
 
 #[test]
-fn blanks_discards_and_tags_may_stand_between_maps(rt: HostRuntime) -> Result<(), Fail> {
+fn blanks_discards_and_tags_may_stand_between_maps(rt: HostRuntime) {
     let alloc = rt.alloc();
-    let mut follow = in_pieces(alloc, MIXED, 50)?;
-    assert_eq!(rt; follow.finish(), Ok(()));
-    assert_eq!(rt; follow.ready(), 3);
-    assert!(rt; taken(alloc, &mut follow)? == recorded(alloc, 3)?);
-    Ok(())
+    let mut follow = in_pieces(&rt, alloc, MIXED, 50);
+    ends(&rt, &follow, Ok(()));
+    tells(&rt, alloc, &mut follow, 3);
 }
 
 #[test]
-fn events_of_a_vector_are_ready_once_it_is_closed(rt: HostRuntime) -> Result<(), Fail> {
+fn events_of_a_vector_are_ready_once_it_is_closed(rt: HostRuntime) {
     let alloc = rt.alloc();
     let mut follow = Follow::new(alloc, false);
-    assert_eq!(rt;
-        follow.feed(b"[{:process 0 :type :invoke :f :write :value 1} "),
-        Ok(0)
+    feeds(
+        &rt,
+        &mut follow,
+        b"[{:process 0 :type :invoke :f :write :value 1} ",
+        Ok(0),
     );
-    assert_eq!(rt;
-        follow.feed(b"{:process 0 :type :ok :f :write :value 1} {:proc"),
-        Ok(0)
+    feeds(
+        &rt,
+        &mut follow,
+        b"{:process 0 :type :ok :f :write :value 1} {:proc",
+        Ok(0),
     );
-    assert_eq!(rt; follow.feed(b"ess 1 :type :invoke :f :read} "), Ok(0));
-    assert_eq!(rt; follow.ready(), 0);
-    assert_eq!(rt; follow.finish(), Err(FollowFault::Truncated { at: 0 }));
-    assert_eq!(rt; follow.feed(b"] {"), Ok(3));
-    assert_eq!(rt; follow.finish(), Err(FollowFault::Truncated { at: 127 }));
-    assert!(rt; taken(alloc, &mut follow)? == recorded(alloc, 3)?);
-    Ok(())
+    feeds(&rt, &mut follow, b"ess 1 :type :invoke :f :read} ", Ok(0));
+    assert!(rt; follow.ready() == 0);
+    ends(&rt, &follow, Err(FollowFault::Truncated { at: 0 }));
+    feeds(&rt, &mut follow, b"] {", Ok(3));
+    ends(&rt, &follow, Err(FollowFault::Truncated { at: 127 }));
+    tells(&rt, alloc, &mut follow, 3);
+}
+
+/// Asserts how many events are ready, and takes them all at once.
+fn takes_all(rt: &impl Abort, follow: &mut Follow, count: usize) {
+    assert!(rt; follow.take_all().len() == count);
+    assert!(rt; follow.ready() == 0);
 }
 
 #[test]
-fn all_that_is_ready_is_taken(rt: HostRuntime) -> Result<(), Fail> {
+fn all_that_is_ready_is_taken(rt: HostRuntime) {
     let mut follow = Follow::new(rt.alloc(), false);
-    assert_eq!(rt; follow.take_all().len(), 0);
-    assert_eq!(rt;
-        follow.feed(b"{:process 0 :type :invoke :f :read} {:process 0 :type :ok :f :read} {"),
-        Ok(2)
+    takes_all(&rt, &mut follow, 0);
+    let two = b"{:process 0 :type :invoke :f :read} {:process 0 :type :ok :f :read} {";
+    feeds(&rt, &mut follow, two, Ok(2));
+    takes_all(&rt, &mut follow, 2);
+    feeds(
+        &rt,
+        &mut follow,
+        b":process 1 :type :invoke :f :read}",
+        Ok(1),
     );
-    assert_eq!(rt; follow.take_all().len(), 2);
-    assert_eq!(rt; follow.ready(), 0);
-    assert_eq!(rt; follow.feed(b":process 1 :type :invoke :f :read}"), Ok(1));
-    assert_eq!(rt; follow.take().is_some(), true);
-    Ok(())
+    assert!(rt; follow.take().is_some());
 }
 
 #[test]
-fn a_fault_in_a_vector_is_told_once_it_is_closed(rt: HostRuntime) -> Result<(), Fail> {
+fn a_fault_in_a_vector_is_told_once_it_is_closed(rt: HostRuntime) {
     let alloc = rt.alloc();
     let mut follow = Follow::new(alloc, false);
-    let open = Err(FollowFault::Truncated { at: 1 });
-    assert_eq!(rt;
-        follow.feed(b" [{:process 0 :type :invoke :f :write :value 1} "),
-        Ok(0)
+    feeds(
+        &rt,
+        &mut follow,
+        b" [{:process 0 :type :invoke :f :write :value 1} ",
+        Ok(0),
     );
-    assert_eq!(rt; follow.feed(b"5 {:process 1 :type"), Ok(0));
-    assert_eq!(rt; follow.feed(b" :invoke :f :read} [] "), Ok(0));
-    assert_eq!(rt; follow.ready(), 0);
-    assert_eq!(rt; follow.finish(), open);
+    feeds(&rt, &mut follow, b"5 {:process 1 :type", Ok(0));
+    feeds(&rt, &mut follow, b" :invoke :f :read} [] ", Ok(0));
+    assert!(rt; follow.ready() == 0);
+    ends(&rt, &follow, Err(FollowFault::Truncated { at: 1 }));
     let fault = FollowFault::Event {
         at: 1,
         cause: EventFault::NotAMap,
     };
-    assert_eq!(rt; follow.feed(b"] }"), Err(fault));
-    assert_eq!(rt; follow.finish(), Err(fault));
-    assert_eq!(rt; follow.ready(), 1);
-    assert!(rt; taken(alloc, &mut follow)? == recorded(alloc, 1)?);
-    Ok(())
+    feeds(&rt, &mut follow, b"] }", Err(fault));
+    ends(&rt, &follow, Err(fault));
+    tells(&rt, alloc, &mut follow, 1);
 }
 
 #[test]
-fn a_fault_of_edn_comes_before_that_of_a_map(rt: HostRuntime) -> Result<(), Fail> {
-    let alloc = rt.alloc();
-    let mut follow = Follow::new(alloc, false);
-    assert_eq!(rt;
-        follow.feed(b"[{:process 0 :type :invoke :f :write :value 1} "),
-        Ok(0)
+fn a_fault_of_edn_comes_before_that_of_a_map(rt: HostRuntime) {
+    let mut follow = Follow::new(rt.alloc(), false);
+    feeds(
+        &rt,
+        &mut follow,
+        b"[{:process 0 :type :invoke :f :write :value 1} ",
+        Ok(0),
     );
-    assert_eq!(rt; follow.feed(b"5 "), Ok(0));
+    feeds(&rt, &mut follow, b"5 ", Ok(0));
     let fault = FollowFault::Edn {
         at: 84,
         cause: EdnCause::Unbalanced,
     };
-    assert_eq!(rt;
-        follow.feed(b"{:process 1 :type :invoke :f :read})"),
-        Err(fault)
+    feeds(
+        &rt,
+        &mut follow,
+        b"{:process 1 :type :invoke :f :read})",
+        Err(fault),
     );
-    assert_eq!(rt; follow.ready(), 0);
-    assert_eq!(rt; follow.finish(), Err(fault));
-    Ok(())
+    assert!(rt; follow.ready() == 0);
+    ends(&rt, &follow, Err(fault));
 }
 
 /// What follows from a text that is fed in two pieces.
-fn followed(alloc: Global, keyed: bool, text: &[u8], cut: usize) -> Result<Follow, Fail> {
+fn followed(rt: &impl Abort, alloc: Global, keyed: bool, text: &[u8], cut: usize) -> Follow {
     let mut follow = Follow::new(alloc, keyed);
     let mut first = Vec::new(alloc);
     let mut second = Vec::new(alloc);
     for byte in text {
         if first.len() < cut {
-            first.push(*byte)?;
+            first.push(*byte).expect(rt, "memory");
         } else {
-            second.push(*byte)?;
+            second.push(*byte).expect(rt, "memory");
         }
     }
     let _fed = follow.feed(first.as_slice());
     let _fed = follow.feed(second.as_slice());
-    Ok(follow)
+    follow
 }
 
 /// The text with a discard in each map, so that none is usual.
-fn unusual(alloc: Global, text: &[u8]) -> Result<Vec<u8>, Fail> {
+fn unusual(rt: &impl Abort, alloc: Global, text: &[u8]) -> Vec<u8> {
     let mut longer = Vec::new(alloc);
     for byte in text {
-        longer.push(*byte)?;
+        longer.push(*byte).expect(rt, "memory");
         if *byte == b'{' {
-            longer.extend_from_slice(b"#_0 ")?;
+            longer.extend_from_slice(b"#_0 ").expect(rt, "memory");
         }
     }
-    Ok(longer)
+    longer
 }
 
 /// Whether two outcomes are the same, places set aside.
@@ -332,32 +339,31 @@ fn are_alike(a: Result<(), FollowFault>, b: Result<(), FollowFault>) -> bool {
     }
 }
 
-/// A text tells the same whether its maps are usual or not, and wherever it is cut.
+/// Asserts that a text tells the same, so many events, whether its maps are usual or not, and wherever it is cut.
 pub(crate) fn tells_the_same(
     rt: &impl Abort,
     alloc: Global,
     keyed: bool,
     text: &[u8],
     count: usize,
-) -> Result<(), Fail> {
-    let mut whole = followed(alloc, keyed, text, text.len())?;
+) {
+    let mut whole = followed(rt, alloc, keyed, text, text.len());
     let outcome = whole.finish();
-    let events = taken(alloc, &mut whole)?;
-    assert_eq!(rt; events.len(), count);
-    let longer = unusual(alloc, text)?;
-    let mut other = followed(alloc, keyed, longer.as_slice(), longer.len())?;
+    let events = taken(rt, alloc, &mut whole);
+    assert!(rt; events.len() == count);
+    let longer = unusual(rt, alloc, text);
+    let mut other = followed(rt, alloc, keyed, longer.as_slice(), longer.len());
     assert!(rt; are_alike(other.finish(), outcome));
-    assert!(rt; taken(alloc, &mut other)? == events);
+    assert!(rt; taken(rt, alloc, &mut other) == events);
     for cut in 0..text.len() {
-        let mut cut = followed(alloc, keyed, text, cut)?;
-        assert_eq!(rt; cut.finish(), outcome);
-        assert!(rt; taken(alloc, &mut cut)? == events);
+        let mut cut = followed(rt, alloc, keyed, text, cut);
+        assert!(rt; cut.finish() == outcome);
+        assert!(rt; taken(rt, alloc, &mut cut) == events);
     }
-    Ok(())
 }
 
 #[test]
-fn usual_maps_say_what_other_maps_say(rt: HostRuntime) -> Result<(), Fail> {
+fn usual_maps_say_what_other_maps_say(rt: HostRuntime) {
     let alloc = rt.alloc();
     for (text, count) in [
         (
@@ -431,7 +437,7 @@ fn usual_maps_say_what_other_maps_say(rt: HostRuntime) -> Result<(), Fail> {
             2,
         ),
     ] {
-        tells_the_same(&rt, alloc, false, text, count)?;
+        tells_the_same(&rt, alloc, false, text, count);
     }
     for (text, count) in [
         (
@@ -459,35 +465,48 @@ fn usual_maps_say_what_other_maps_say(rt: HostRuntime) -> Result<(), Fail> {
             1,
         ),
     ] {
-        tells_the_same(&rt, alloc, true, text, count)?;
+        tells_the_same(&rt, alloc, true, text, count);
     }
-    Ok(())
 }
 
 /// A read with an ignored value in so many vectors, behind some bytes and before others.
 pub(crate) fn nesting(
+    rt: &impl Abort,
     alloc: Global,
     front: &[u8],
     levels: usize,
     inner: &[u8],
     last: &[u8],
-) -> Result<Vec<u8>, Fail> {
-    let mut text = Vec::from_slice(alloc, front)?;
-    text.extend_from_slice(b"{:process 0 :extra ")?;
-    for _ in 0..levels {
-        text.push(b'[')?;
+) -> Vec<u8> {
+    let mut text = joined(rt, alloc, &[front, b"{:process 0 :extra "]);
+    add_times(rt, &mut text, b'[', levels);
+    add(rt, &mut text, inner);
+    add_times(rt, &mut text, b']', levels);
+    add(rt, &mut text, b" :type :invoke :f :read}");
+    add(rt, &mut text, last);
+    text
+}
+
+fn add(rt: &impl Abort, text: &mut Vec<u8>, more: &[u8]) {
+    text.extend_from_slice(more).expect(rt, "memory");
+}
+
+fn add_times(rt: &impl Abort, text: &mut Vec<u8>, byte: u8, count: usize) {
+    for _ in 0..count {
+        text.push(byte).expect(rt, "memory");
     }
-    text.extend_from_slice(inner)?;
-    for _ in 0..levels {
-        text.push(b']')?;
+}
+
+pub(crate) fn joined(rt: &impl Abort, alloc: Global, parts: &[&[u8]]) -> Vec<u8> {
+    let mut text = Vec::new(alloc);
+    for part in parts {
+        add(rt, &mut text, part);
     }
-    text.extend_from_slice(b" :type :invoke :f :read}")?;
-    text.extend_from_slice(last)?;
-    Ok(text)
+    text
 }
 
 #[test]
-fn ignored_values_may_be_nested(rt: HostRuntime) -> Result<(), Fail> {
+fn ignored_values_may_be_nested(rt: HostRuntime) {
     let alloc = rt.alloc();
     for (text, count) in [
         (
@@ -515,13 +534,12 @@ fn ignored_values_may_be_nested(rt: HostRuntime) -> Result<(), Fail> {
             0,
         ),
     ] {
-        tells_the_same(&rt, alloc, false, text, count)?;
+        tells_the_same(&rt, alloc, false, text, count);
     }
-    Ok(())
 }
 
 #[test]
-fn tags_in_front_of_lists_and_vectors_are_read_over(rt: HostRuntime) -> Result<(), Fail> {
+fn tags_in_front_of_lists_and_vectors_are_read_over(rt: HostRuntime) {
     let alloc = rt.alloc();
     for (text, count) in [
         (
@@ -561,27 +579,22 @@ fn tags_in_front_of_lists_and_vectors_are_read_over(rt: HostRuntime) -> Result<(
             1,
         ),
     ] {
-        tells_the_same(&rt, alloc, false, text, count)?;
+        tells_the_same(&rt, alloc, false, text, count);
     }
-    Ok(())
 }
 
-/// The place that tells that a text nests too deep, if that is how it ends.
-pub(crate) fn too_deep_at(alloc: Global, text: &[u8]) -> Option<u64> {
-    let mut follow = Follow::new(alloc, false);
-    match follow.feed(text) {
-        Err(
-            FollowFault::Edn {
-                at,
-                cause: EdnCause::TooDeep,
-            },
-        ) => Some(at),
-        _ => None,
-    }
+/// Asserts that a text nests too deep at a place, and nowhere before.
+pub(crate) fn is_too_deep(rt: &impl Abort, alloc: Global, text: &[u8], at: usize) {
+    let fault = FollowFault::Edn {
+        at: at as u64,
+        cause: EdnCause::TooDeep,
+    };
+    feeds(rt, &mut Follow::new(alloc, false), text, Err(fault));
+    tells_the_same(rt, alloc, false, text, 0);
 }
 
 #[test]
-fn ignored_values_nest_up_to_the_limit(rt: HostRuntime) -> Result<(), Fail> {
+fn ignored_values_nest_up_to_the_limit(rt: HostRuntime) {
     let alloc = rt.alloc();
     for (front, last, levels) in [
         (b"".as_slice(), b"".as_slice(), 63),
@@ -590,202 +603,167 @@ fn ignored_values_nest_up_to_the_limit(rt: HostRuntime) -> Result<(), Fail> {
         (b"(#t".as_slice(), b" )".as_slice(), 61),
         (b"#t [".as_slice(), b"]".as_slice(), 61),
     ] {
-        let below = nesting(alloc, front, levels - 1, b"[1 2] [] ", last)?;
-        tells_the_same(&rt, alloc, false, below.as_slice(), 1)?;
-        let deepest = nesting(alloc, front, levels, b"1 \"\" ", last)?;
-        tells_the_same(&rt, alloc, false, deepest.as_slice(), 1)?;
-        let too_deep = nesting(alloc, front, levels, b"1 []", last)?;
-        assert_eq!(rt;
-            too_deep_at(alloc, too_deep.as_slice()),
-            Some((front.len() + 19 + levels + 2) as u64)
-        );
-        tells_the_same(&rt, alloc, false, too_deep.as_slice(), 0)?;
+        let below = nesting(&rt, alloc, front, levels - 1, b"[1 2] [] ", last);
+        tells_the_same(&rt, alloc, false, &below, 1);
+        let deepest = nesting(&rt, alloc, front, levels, b"1 \"\" ", last);
+        tells_the_same(&rt, alloc, false, &deepest, 1);
+        let too_deep = nesting(&rt, alloc, front, levels, b"1 []", last);
+        is_too_deep(&rt, alloc, &too_deep, front.len() + 19 + levels + 2);
     }
-    Ok(())
 }
 
-/// The event of a text that holds one element.
-fn event_in(
+/// Asserts what the one element of a text says.
+fn says(
     rt: &impl Abort,
     alloc: Global,
     text: &[u8],
     keyed: bool,
-) -> Result<Option<Event>, EventFault> {
+    expected: Result<Option<Event>, EventFault>,
+) {
     match next_element(alloc, text) {
-        Ok(Next::Complete { value, .. }) => event_of(alloc, &value, keyed),
-        _ => {
-            assert!(rt; false, "the text is one element");
-            Ok(None)
+        Ok(Next::Complete { value, .. }) => {
+            assert!(rt; event_of(alloc, &value, keyed) == expected);
         }
+        _ => assert!(rt; false, "the text is one element"),
     }
 }
 
-fn fault_in(rt: &impl Abort, alloc: Global, text: &[u8], keyed: bool) -> Option<EventFault> {
-    event_in(rt, alloc, text, keyed).err()
-}
-
-/// What the element in front of a text says, and where it ends.
-fn said_in_front(
+/// Asserts what the element in front of a text says, and where it ends.
+fn says_in_front(
     rt: &impl Abort,
     alloc: Global,
     text: &[u8],
     keyed: bool,
-) -> (Result<Option<Event>, EventFault>, usize) {
+    expected: (Result<Option<Event>, EventFault>, usize),
+) {
     match next_event(alloc, text, keyed) {
-        Ok(NextEvent::Complete { said, used }) => (said, used),
-        _ => {
-            assert!(rt; false, "an element stands in front");
-            (Ok(None), 0)
-        }
+        Ok(NextEvent::Complete { said, used }) => assert!(rt; (said, used) == expected),
+        _ => assert!(rt; false, "an element stands in front"),
     }
 }
 
 #[test]
-fn the_element_in_front_says_its_event(rt: HostRuntime) -> Result<(), Fail> {
+fn the_element_in_front_says_its_event(rt: HostRuntime) {
     let alloc = rt.alloc();
-    let map = b" #op{:process 3, :type :invoke, :f :write, :value [7 5]}";
-    let text = b" #op{:process 3, :type :invoke, :f :write, :value [7 5]} {".as_slice();
-    let (said, used) = said_in_front(&rt, alloc, text, true);
-    assert_eq!(rt; used, map.len());
-    match said {
-        Ok(Some(event)) => {
-            assert_eq!(rt; event.process, 3);
-            assert_eq!(rt; event.key, 7);
-            assert!(rt; event.body == Body::Invoke(Call::Write(Val::Int(5))));
-        }
-        _ => assert!(rt; false, "a write is an event"),
-    }
-    let (said, used) = said_in_front(&rt, alloc, b"{:process :nemesis}", false);
-    assert!(rt; matches!(said, Ok(None)));
-    assert_eq!(rt; used, 19);
-    let (said, used) = said_in_front(&rt, alloc, b"{:process 0 :type :info :f :read #_ 1}", false);
-    assert!(rt; matches!(said, Ok(Some(_))));
-    assert_eq!(rt; used, 38);
-    let (said, _) = said_in_front(&rt, alloc, b"{:process 0 :type :info :f :reads}", false);
-    assert!(rt; said.err() == Some(EventFault::BadFunction));
-    let (said, _) = said_in_front(&rt, alloc, b"[{:process 0 :type :info :f :read}]", false);
-    assert!(rt; said.err() == Some(EventFault::NotAMap));
-    Ok(())
+    let text = b" #op{:process 3, :type :invoke, :f :write, :value [7 5]} {";
+    let write = Event {
+        process: 3,
+        key: 7,
+        body: Body::Invoke(Call::Write(Val::Int(5))),
+    };
+    says_in_front(&rt, alloc, text, true, (Ok(Some(write)), text.len() - 2));
+    says_in_front(&rt, alloc, b"{:process :nemesis}", false, (Ok(None), 19));
+    let text = b"{:process 0 :type :info :f :read #_ 1}";
+    let crashed = event(0, Body::Info(Name::Read));
+    says_in_front(&rt, alloc, text, false, (Ok(Some(crashed)), 38));
+    let text = b"{:process 0 :type :info :f :reads}";
+    says_in_front(&rt, alloc, text, false, (Err(EventFault::BadFunction), 34));
+    let text = b"[{:process 0 :type :info :f :read}]";
+    says_in_front(&rt, alloc, text, false, (Err(EventFault::NotAMap), 35));
 }
 
 #[test]
-fn no_element_in_front_says_none(rt: HostRuntime) -> Result<(), Fail> {
+fn no_element_in_front_says_none(rt: HostRuntime) {
     let alloc = rt.alloc();
-    assert!(rt;
-        matches!(
-            next_event(alloc, b" ; none", false),
-            Ok(NextEvent::Blank { used: 1 })
-        )
-    );
-    assert!(rt;
-        matches!(
-            next_event(alloc, b" {:process 0", false),
-            Ok(NextEvent::Partial { at: 1 })
-        )
-    );
-    assert!(rt;
-        next_event(alloc, b" ]", false).err()
-            == Some(EdnFault {
-                at: 1,
-                cause: EdnCause::Unbalanced
-            })
-    );
-    Ok(())
+    let blank = next_event(alloc, b" ; none", false);
+    assert!(rt; matches!(blank, Ok(NextEvent::Blank { used: 1 })));
+    let partial = next_event(alloc, b" {:process 0", false);
+    assert!(rt; matches!(partial, Ok(NextEvent::Partial { at: 1 })));
+    let fault = EdnFault {
+        at: 1,
+        cause: EdnCause::Unbalanced,
+    };
+    assert!(rt; next_event(alloc, b" ]", false).err() == Some(fault));
 }
 
 #[test]
-fn maps_say_events_by_the_table(rt: HostRuntime) -> Result<(), Fail> {
+fn maps_say_events_by_the_table(rt: HostRuntime) {
     let alloc = rt.alloc();
-    let bad = Some(EventFault::BadValue);
-    for text in [
+    let text = b"{:process 7N :type :invoke :f #t :cas :value #t[1 #u -9223372036854775808]}";
+    let cas = Event {
+        process: 7,
+        key: 0,
+        body: Body::Invoke(Call::Cas(Val::Int(1), Val::Int(i64::MIN))),
+    };
+    says(&rt, alloc, text, false, Ok(Some(cas)));
+    let read = Event {
+        process: 1,
+        key: 3,
+        body: Body::Ok(Name::Read, Reply::Members(set_of(&rt, alloc, &[1, 2]))),
+    };
+    let text = b"{:process 1 :type :ok :f :read :value (3 [2 1 2])}";
+    says(&rt, alloc, text, true, Ok(Some(read)));
+    says(&rt, alloc, b"{:process :nemesis}", true, Ok(None));
+}
+
+#[test]
+fn maps_that_say_no_event_tell_the_first_fault(rt: HostRuntime) {
+    let alloc = rt.alloc();
+    for value in [
         b"9223372036854775808 ".as_slice(),
         b"007 ",
         b"1.5 ",
         b"\"a\" ",
         b":a ",
     ] {
-        let mut map = Vec::from_slice(alloc, b"{:process 0 :type :invoke :f :write :value ")?;
-        map.extend_from_slice(text)?;
-        map.push(b'}')?;
-        assert_eq!(rt; fault_in(&rt, alloc, map.as_slice(), false), bad);
+        let front = b"{:process 0 :type :invoke :f :write :value ".as_slice();
+        let map = joined(&rt, alloc, &[front, value, b"}"]);
+        says(&rt, alloc, &map, false, Err(EventFault::BadValue));
     }
-    match event_in(
-        &rt,
-        alloc,
-        b"{:process 7N :type :invoke :f #t :cas :value #t[1 #u -9223372036854775808]}",
-        false,
-    ) {
-        Ok(
-            Some(
-                Event {
-                    process: 7,
-                    key: 0,
-                    body: Body::Invoke(Call::Cas(Val::Int(1), Val::Int(least))),
-                },
-            ),
-        ) => assert_eq!(rt; least, i64::MIN),
-        _ => assert!(rt; false, "a compare-and-set"),
+    let text = b"{:process 0 :process 1}";
+    says(&rt, alloc, text, false, Err(EventFault::DuplicateKey));
+    let text = b"{#t :process 0 :type :ok :f :read}";
+    says(&rt, alloc, text, false, Err(EventFault::Missing));
+    let text = b"{:process 0 :type :ok :f :read :value [1 2 3]}";
+    says(&rt, alloc, text, true, Err(EventFault::BadKey));
+}
+
+/// Puts numbers into a set, one after the other.
+fn put(rt: &impl Abort, set: &mut IntSet, members: &[i64]) {
+    for member in members {
+        set.insert(*member).expect(rt, "memory");
     }
-    match event_in(
-        &rt,
-        alloc,
-        b"{:process 1 :type :ok :f :read :value (3 [2 1 2])}",
-        true,
-    ) {
-        Ok(
-            Some(
-                Event {
-                    process: 1,
-                    key: 3,
-                    body: Body::Ok(Name::Read, Reply::Members(members)),
-                },
-            ),
-        ) => {
-            assert_eq!(rt; members.as_slice(), [1, 2].as_slice());
-        }
-        _ => assert!(rt; false, "a read of a set"),
-    }
-    assert!(rt; matches!(event_in(&rt, alloc, b"{:process :nemesis}", true), Ok(None)));
-    assert_eq!(rt;
-        fault_in(&rt, alloc, b"{:process 0 :process 1}", false),
-        Some(EventFault::DuplicateKey)
-    );
-    assert_eq!(rt;
-        fault_in(&rt, alloc, b"{#t :process 0 :type :ok :f :read}", false),
-        Some(EventFault::Missing)
-    );
-    assert_eq!(rt;
-        fault_in(
-            &rt,
-            alloc,
-            b"{:process 0 :type :ok :f :read :value [1 2 3]}",
-            true
-        ),
-        Some(EventFault::BadKey)
-    );
-    Ok(())
+}
+
+/// The set of some numbers.
+pub(crate) fn set_of(rt: &impl Abort, alloc: Global, members: &[i64]) -> IntSet {
+    let mut set = IntSet::new(alloc);
+    put(rt, &mut set, members);
+    set
+}
+
+/// Asserts which numbers a set has, rising.
+fn has(rt: &impl Abort, set: &IntSet, members: &[i64]) {
+    assert!(rt; set.as_slice() == members);
 }
 
 #[test]
-fn sets_copies_and_counts(rt: HostRuntime) -> Result<(), Fail> {
+fn a_set_has_each_member_once_and_its_copy_its_own(rt: HostRuntime) {
+    let mut set = set_of(&rt, rt.alloc(), &[3, 1, 2, 3]);
+    has(&rt, &set, &[1, 2, 3]);
+    let mut copy = set.copy().expect(&rt, "memory");
+    put(&rt, &mut copy, &[0]);
+    put(&rt, &mut set, &[9]);
+    has(&rt, &copy, &[0, 1, 2, 3]);
+    has(&rt, &set, &[1, 2, 3, 9]);
+}
+
+#[test]
+fn a_copy_of_an_event_is_equal(rt: HostRuntime) {
     let alloc = rt.alloc();
-    let mut set = IntSet::new(alloc);
-    for member in [3, 1, 2, 3] {
-        set.insert(member)?;
-    }
-    assert_eq!(rt; set.as_slice(), [1, 2, 3].as_slice());
-    // A copy that is changed leaves the set as it is, and the other way round.
-    let mut copy = set.copy()?;
-    copy.insert(0)?;
-    set.insert(9)?;
-    assert_eq!(rt; copy.as_slice(), [0, 1, 2, 3].as_slice());
-    assert_eq!(rt; set.as_slice(), [1, 2, 3, 9].as_slice());
     let event = Event {
         process: 4,
         key: 5,
-        body: Body::Ok(Name::Read, Reply::Members(set)),
+        body: Body::Ok(
+            Name::Read,
+            Reply::Members(set_of(&rt, alloc, &[1, 2, 3, 9])),
+        ),
     };
-    assert!(rt; event.copy(alloc)? == event);
+    assert!(rt; event.copy(alloc).expect(&rt, "memory") == event);
+}
+
+#[test]
+fn a_meter_counts_what_is_ticked(rt: HostRuntime) {
     let mut meter = Meter::new();
     meter.tick_scan();
     meter.tick_step();
@@ -793,6 +771,5 @@ fn sets_copies_and_counts(rt: HostRuntime) -> Result<(), Fail> {
     for _ in 0..3 {
         meter.tick_try();
     }
-    assert_eq!(rt; (meter.scans(), meter.steps(), meter.tries()), (1, 2, 3));
-    Ok(())
+    assert!(rt; (meter.scans(), meter.steps(), meter.tries()) == (1, 2, 3));
 }
