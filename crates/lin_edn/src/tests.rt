@@ -1,6 +1,6 @@
 use crate::{Edn, EdnCause, EdnFault, Inside, Next, Series, Skim, nested_until, next_element};
-use std::alloc::{AllocError, Global};
-use std::test::Fail;
+use std::alloc::Global;
+use std::process::Abort;
 
 // The answers, short: what, its place, and the byte behind it or the number of the cause.
 const COMPLETE: u8 = 0;
@@ -79,19 +79,25 @@ fn integer_at(alloc: Global, input: &[u8]) -> Option<i64> {
 
 /// Some bytes, so many times one byte, and a last byte.
 fn padded(
+    rt: &impl Abort,
     alloc: Global,
     front: &[u8],
     byte: u8,
     count: usize,
     last: &[u8],
-) -> Result<Vec<u8>, AllocError> {
+) -> Vec<u8> {
     let mut bytes = Vec::new(alloc);
-    bytes.extend_from_slice(front)?;
+    bytes.extend_from_slice(front).expect(rt, "memory");
     for _ in 0..count {
-        bytes.push(byte)?;
+        bytes.push(byte).expect(rt, "memory");
     }
-    bytes.extend_from_slice(last)?;
-    Ok(bytes)
+    bytes.extend_from_slice(last).expect(rt, "memory");
+    bytes
+}
+
+/// Asserts the short answer for a text.
+fn is_answered(rt: &impl Abort, alloc: Global, input: &[u8], expected: (u8, usize, usize)) {
+    assert!(rt; answer(alloc, input) == expected);
 }
 
 #[test]
@@ -135,7 +141,7 @@ fn answers(rt: HostRuntime) {
         (b"a\x00b\x0b", (COMPLETE, 0, 3)),
     ];
     for (input, want) in rows {
-        assert_eq!(rt; answer(rt.alloc(), input), want);
+        is_answered(&rt, rt.alloc(), input, want);
     }
 }
 
@@ -168,73 +174,61 @@ fn runs(rt: HostRuntime) {
         (b":a#b ", b'k'),
     ];
     for (input, want) in rows {
-        assert_eq!(rt; letter_at(rt.alloc(), input), want);
+        assert!(rt; letter_at(rt.alloc(), input) == want);
     }
-    assert_eq!(rt;
-        integer_at(rt.alloc(), b"-9223372036854775808 "),
-        Some(i64::MIN)
-    );
-    assert_eq!(rt; integer_at(rt.alloc(), b"-120N "), Some(-120));
+    assert!(rt; integer_at(rt.alloc(), b"-9223372036854775808 ") == Some(i64::MIN));
+    assert!(rt; integer_at(rt.alloc(), b"-120N ") == Some(-120));
 }
 
 #[test]
-fn levels(rt: HostRuntime) -> Result<(), Fail> {
+fn levels(rt: HostRuntime) {
     let alloc = rt.alloc();
-    let deepest = padded(alloc, b"", b'[', 64, b"#")?;
-    assert_eq!(rt; answer(alloc, deepest.as_slice()), (PARTIAL, 0, 0));
-    let too_deep = padded(alloc, b"", b'[', 65, b"")?;
-    assert_eq!(rt; answer(alloc, too_deep.as_slice()), (FAULT, 64, 3));
-    let set = padded(alloc, b"", b'[', 64, b"#{")?;
-    assert_eq!(rt; answer(alloc, set.as_slice()), (FAULT, 64, 3));
-    let tag = padded(alloc, b"", b'[', 64, b"#a")?;
-    assert_eq!(rt; answer(alloc, tag.as_slice()), (FAULT, 64, 3));
-    let atom = padded(alloc, b"", b'(', 64, b"#'a")?;
-    assert_eq!(rt; answer(alloc, atom.as_slice()), (PARTIAL, 0, 0));
-    Ok(())
+    let deepest = padded(&rt, alloc, b"", b'[', 64, b"#");
+    is_answered(&rt, alloc, &deepest, (PARTIAL, 0, 0));
+    let too_deep = padded(&rt, alloc, b"", b'[', 65, b"");
+    is_answered(&rt, alloc, &too_deep, (FAULT, 64, 3));
+    let set = padded(&rt, alloc, b"", b'[', 64, b"#{");
+    is_answered(&rt, alloc, &set, (FAULT, 64, 3));
+    let tag = padded(&rt, alloc, b"", b'[', 64, b"#a");
+    is_answered(&rt, alloc, &tag, (FAULT, 64, 3));
+    let atom = padded(&rt, alloc, b"", b'(', 64, b"#'a");
+    is_answered(&rt, alloc, &atom, (PARTIAL, 0, 0));
 }
 
 #[test]
-fn lengths(rt: HostRuntime) -> Result<(), Fail> {
+fn lengths(rt: HostRuntime) {
     let alloc = rt.alloc();
     let longest = 16_777_216;
-    let text = padded(alloc, b"\"", b'a', longest - 2, b"\"")?;
-    assert_eq!(rt; answer(alloc, text.as_slice()), (COMPLETE, 0, longest));
-    let open_text = padded(alloc, b"\"", b'a', longest - 1, b"")?;
-    assert_eq!(rt; answer(alloc, open_text.as_slice()), (PARTIAL, 0, 0));
-    let long_text = padded(alloc, b"\"", b'a', longest, b"")?;
-    assert_eq!(rt; answer(alloc, long_text.as_slice()), (FAULT, 0, 4));
-    let run = padded(alloc, b" ", b'a', longest, b"}")?;
-    assert_eq!(rt; answer(alloc, run.as_slice()), (COMPLETE, 1, longest + 1));
-    let wrong = padded(alloc, b"(", b'a', longest - 1, b"}")?;
-    assert_eq!(rt; answer(alloc, wrong.as_slice()), (FAULT, 0, 4));
-    let wrong_before = padded(alloc, b"(", b'a', longest - 2, b"}")?;
-    assert_eq!(rt;
-        answer(alloc, wrong_before.as_slice()),
-        (FAULT, longest - 1, 1)
-    );
-    Ok(())
+    let text = padded(&rt, alloc, b"\"", b'a', longest - 2, b"\"");
+    is_answered(&rt, alloc, &text, (COMPLETE, 0, longest));
+    let open_text = padded(&rt, alloc, b"\"", b'a', longest - 1, b"");
+    is_answered(&rt, alloc, &open_text, (PARTIAL, 0, 0));
+    let long_text = padded(&rt, alloc, b"\"", b'a', longest, b"");
+    is_answered(&rt, alloc, &long_text, (FAULT, 0, 4));
+    let run = padded(&rt, alloc, b" ", b'a', longest, b"}");
+    is_answered(&rt, alloc, &run, (COMPLETE, 1, longest + 1));
+    let wrong = padded(&rt, alloc, b"(", b'a', longest - 1, b"}");
+    is_answered(&rt, alloc, &wrong, (FAULT, 0, 4));
+    let wrong_before = padded(&rt, alloc, b"(", b'a', longest - 2, b"}");
+    is_answered(&rt, alloc, &wrong_before, (FAULT, longest - 1, 1));
 }
 
 #[test]
-fn lengths_of_blanks(rt: HostRuntime) -> Result<(), Fail> {
+fn lengths_of_blanks(rt: HostRuntime) {
     let alloc = rt.alloc();
     let longest = 16_777_216;
-    let open_comment = padded(alloc, b";", b'a', longest - 1, b"")?;
-    assert_eq!(rt; answer(alloc, open_comment.as_slice()), (BLANK, 0, 0));
-    let long_comment = padded(alloc, b";", b'a', longest, b"")?;
-    assert_eq!(rt; answer(alloc, long_comment.as_slice()), (FAULT, 0, 4));
-    let comment = padded(alloc, b";", b'a', longest - 2, b"\n")?;
-    assert_eq!(rt; answer(alloc, comment.as_slice()), (BLANK, longest, 0));
-    let over = padded(alloc, b";", b'a', longest - 1, b"\n")?;
-    assert_eq!(rt; answer(alloc, over.as_slice()), (FAULT, 0, 4));
-    let discard = padded(alloc, b"#_", b'a', longest - 2, b" nil ")?;
-    assert_eq!(rt;
-        answer(alloc, discard.as_slice()),
-        (COMPLETE, longest + 1, longest + 4)
-    );
-    let long_discard = padded(alloc, b"#_", b'a', longest - 1, b" nil ")?;
-    assert_eq!(rt; answer(alloc, long_discard.as_slice()), (FAULT, 0, 4));
-    Ok(())
+    let open_comment = padded(&rt, alloc, b";", b'a', longest - 1, b"");
+    is_answered(&rt, alloc, &open_comment, (BLANK, 0, 0));
+    let long_comment = padded(&rt, alloc, b";", b'a', longest, b"");
+    is_answered(&rt, alloc, &long_comment, (FAULT, 0, 4));
+    let comment = padded(&rt, alloc, b";", b'a', longest - 2, b"\n");
+    is_answered(&rt, alloc, &comment, (BLANK, longest, 0));
+    let over = padded(&rt, alloc, b";", b'a', longest - 1, b"\n");
+    is_answered(&rt, alloc, &over, (FAULT, 0, 4));
+    let discard = padded(&rt, alloc, b"#_", b'a', longest - 2, b" nil ");
+    is_answered(&rt, alloc, &discard, (COMPLETE, longest + 1, longest + 4));
+    let long_discard = padded(&rt, alloc, b"#_", b'a', longest - 1, b" nil ");
+    is_answered(&rt, alloc, &long_discard, (FAULT, 0, 4));
 }
 
 /// Whether the reader without values says of each front of a text what the reader says, up to the first that isn't open.
@@ -279,51 +273,57 @@ fn skimmed(rt: HostRuntime) {
     assert!(rt; skim.go_on(b" 3"));
 }
 
+/// Where a list or vector ends, if it ends here, or 0 where that isn't told; nothing at an element.
+fn end_at(inside: &Inside) -> Option<usize> {
+    match inside {
+        Inside::Element(_) => None,
+        Inside::Closed(used) => Some(*used),
+        Inside::Unknown | Inside::OutOfMemory => Some(0),
+    }
+}
+
 /// How many elements are read of the list or vector that an input begins with, and where it ends; 0 where that isn't told.
 fn walked(alloc: Global, input: &[u8]) -> (usize, usize) {
     let Some(mut series) = Series::begin(input) else {
         return (0, 0);
     };
     for elements in 0..100 {
-        match series.next(alloc, input) {
-            Inside::Element(_) => {}
-            Inside::Closed(used) => return (elements, used),
-            Inside::Unknown | Inside::OutOfMemory => return (elements, 0),
+        if let Some(used) = end_at(&series.next(alloc, input)) {
+            return (elements, used);
         }
     }
     (0, 0)
 }
 
+/// Asserts how many elements are read, and where the list or vector ends.
+fn is_walked(rt: &impl Abort, alloc: Global, input: &[u8], expected: (usize, usize)) {
+    assert!(rt; walked(alloc, input) == expected);
+}
+
 #[test]
 fn element_by_element(rt: HostRuntime) {
     let alloc = rt.alloc();
-    assert_eq!(rt; walked(alloc, b"[]"), (0, 2));
-    assert_eq!(rt; walked(alloc, b"(1 :b)"), (2, 6));
-    assert_eq!(rt;
-        walked(alloc, b"[ {:a 1, :b 2} ,{:a [1 {2 3}]}{} ] "),
-        (3, 34)
-    );
-    assert_eq!(rt;
-        walked(alloc, b"[1 \"x\" ; 2 ]\n #_ 3 #t 4 (5) #{6}]"),
-        (5, 33)
-    );
-    assert_eq!(rt; walked(alloc, b"{1 2}"), (0, 0));
+    is_walked(&rt, alloc, b"[]", (0, 2));
+    is_walked(&rt, alloc, b"(1 :b)", (2, 6));
+    is_walked(&rt, alloc, b"[ {:a 1, :b 2} ,{:a [1 {2 3}]}{} ] ", (3, 34));
+    is_walked(&rt, alloc, b"[1 \"x\" ; 2 ]\n #_ 3 #t 4 (5) #{6}]", (5, 33));
+    is_walked(&rt, alloc, b"{1 2}", (0, 0));
     // Behind white, and behind a tag.
-    assert_eq!(rt; walked(alloc, b" ,[1]"), (1, 5));
-    assert_eq!(rt; walked(alloc, b"#t[1 2]"), (2, 7));
-    assert_eq!(rt; walked(alloc, b"\n#a/b ,( {:a 1} [1 #c 2] )"), (2, 26));
-    assert_eq!(rt; walked(alloc, b"#t 1"), (0, 0));
-    assert_eq!(rt; walked(alloc, b"#t"), (0, 0));
-    assert_eq!(rt; walked(alloc, b"#t #u [1]"), (0, 0));
-    assert_eq!(rt; walked(alloc, b"#_ [1]"), (0, 0));
-    assert_eq!(rt; walked(alloc, b"#{1}"), (0, 0));
+    is_walked(&rt, alloc, b" ,[1]", (1, 5));
+    is_walked(&rt, alloc, b"#t[1 2]", (2, 7));
+    is_walked(&rt, alloc, b"\n#a/b ,( {:a 1} [1 #c 2] )", (2, 26));
+    is_walked(&rt, alloc, b"#t 1", (0, 0));
+    is_walked(&rt, alloc, b"#t", (0, 0));
+    is_walked(&rt, alloc, b"#t #u [1]", (0, 0));
+    is_walked(&rt, alloc, b"#_ [1]", (0, 0));
+    is_walked(&rt, alloc, b"#{1}", (0, 0));
     // An atom is finished by the byte behind it.
-    assert_eq!(rt; walked(alloc, b"[1 23"), (1, 0));
-    assert_eq!(rt; walked(alloc, b"[1 23 "), (2, 0));
-    assert_eq!(rt; walked(alloc, b"[1 )"), (1, 0));
-    assert_eq!(rt; walked(alloc, b"[{:a 1} {:a}]"), (1, 0));
+    is_walked(&rt, alloc, b"[1 23", (1, 0));
+    is_walked(&rt, alloc, b"[1 23 ", (2, 0));
+    is_walked(&rt, alloc, b"[1 )", (1, 0));
+    is_walked(&rt, alloc, b"[{:a 1} {:a}]", (1, 0));
     // Blanks before the closing byte, other than white, are for `next_element`.
-    assert_eq!(rt; walked(alloc, b"[1 #_ 2 ]"), (1, 0));
+    is_walked(&rt, alloc, b"[1 #_ 2 ]", (1, 0));
 }
 
 /// Whether what an input begins with is unfinished, told from where its elements are read to.
@@ -332,9 +332,8 @@ fn skims_in(alloc: Global, input: &[u8]) -> bool {
         return false;
     };
     for _ in 0..100 {
-        match series.next(alloc, input) {
-            Inside::Element(_) => {}
-            _ => return Skim::new(alloc).go_on_in(&series, input),
+        if end_at(&series.next(alloc, input)).is_some() {
+            return Skim::new(alloc).go_on_in(&series, input);
         }
     }
     false
@@ -356,42 +355,49 @@ fn skimmed_from_within(rt: HostRuntime) {
 }
 
 #[test]
-fn levels_within(rt: HostRuntime) -> Result<(), Fail> {
+fn levels_within(rt: HostRuntime) {
     let alloc = rt.alloc();
-    let deepest = padded(alloc, b"[", b'(', 63, b"1")?;
-    assert!(rt; skims_in(alloc, deepest.as_slice()));
-    let deeper = padded(alloc, b"[", b'(', 64, b"1")?;
-    assert!(rt; !skims_in(alloc, deeper.as_slice()));
-    let deepest = padded(alloc, b"#t [", b'(', 62, b"1")?;
-    assert!(rt; skims_in(alloc, deepest.as_slice()));
-    let deeper = padded(alloc, b"#t [", b'(', 63, b"1")?;
-    assert!(rt; !skims_in(alloc, deeper.as_slice()));
-    Ok(())
+    let deepest = padded(&rt, alloc, b"[", b'(', 63, b"1");
+    assert!(rt; skims_in(alloc, &deepest));
+    let deeper = padded(&rt, alloc, b"[", b'(', 64, b"1");
+    assert!(rt; !skims_in(alloc, &deeper));
+    let deepest = padded(&rt, alloc, b"#t [", b'(', 62, b"1");
+    assert!(rt; skims_in(alloc, &deepest));
+    let deeper = padded(&rt, alloc, b"#t [", b'(', 63, b"1");
+    assert!(rt; !skims_in(alloc, &deeper));
 }
 
 #[test]
-fn levels_of_elements(rt: HostRuntime) -> Result<(), Fail> {
+fn levels_of_elements(rt: HostRuntime) {
     let alloc = rt.alloc();
     for (front, most, more) in [
         (b"[".as_slice(), 63, 64),
         (b"#t [".as_slice(), 62, 63),
         (b" (".as_slice(), 63, 64),
     ] {
-        let opened = padded(alloc, front, b'[', most, b"")?;
-        let deepest = padded(alloc, opened.as_slice(), b']', most, b" ")?;
-        assert_eq!(rt; walked(alloc, deepest.as_slice()), (1, 0));
-        let opened = padded(alloc, front, b'[', more, b"")?;
-        let deeper = padded(alloc, opened.as_slice(), b']', more, b" ")?;
-        assert_eq!(rt; walked(alloc, deeper.as_slice()), (0, 0));
+        let opened = padded(&rt, alloc, front, b'[', most, b"");
+        let deepest = padded(&rt, alloc, &opened, b']', most, b" ");
+        is_walked(&rt, alloc, &deepest, (1, 0));
+        let opened = padded(&rt, alloc, front, b'[', more, b"");
+        let deeper = padded(&rt, alloc, &opened, b']', more, b" ");
+        is_walked(&rt, alloc, &deeper, (0, 0));
         let series = Series::begin(front);
-        assert_eq!(rt; series.map(|series| series.levels()), Some(most));
-        assert_eq!(rt; series.map(|series| series.place()), Some(front.len()));
+        assert!(rt;
+            series.map(|series| (series.levels(), series.place())) == Some((most, front.len()))
+        );
     }
-    Ok(())
+}
+
+/// Asserts where the value that a text begins with ends, which is nested in so many levels at most; 0 where that isn't told.
+fn is_nested(rt: &impl Abort, alloc: Global, input: &[u8], levels: usize, until: usize) {
+    assert!(rt; nested_until(input, 0, input.len(), levels) == until);
+    if until > 0 {
+        is_answered(rt, alloc, input, (COMPLETE, 0, until));
+    }
 }
 
 #[test]
-fn nested_values(rt: HostRuntime) -> Result<(), Fail> {
+fn nested_values(rt: HostRuntime) {
     let alloc = rt.alloc();
     let rows: [(&[u8], usize, usize); 25] = [
         (b"[] ", 1, 2),
@@ -421,22 +427,17 @@ fn nested_values(rt: HostRuntime) -> Result<(), Fail> {
         (b"", 9, 0),
     ];
     for (input, levels, until) in rows {
-        assert_eq!(rt; nested_until(input, 0, input.len(), levels), until);
-        if until > 0 {
-            assert_eq!(rt; answer(alloc, input), (COMPLETE, 0, until));
-        }
+        is_nested(&rt, alloc, input, levels, until);
     }
-    assert_eq!(rt; nested_until(b"[[1] [2]]", 0, 8, 2), 0);
-    assert_eq!(rt; nested_until(b"[[1] [2]]", 5, 9, 2), 8);
-    Ok(())
+    assert!(rt; nested_until(b"[[1] [2]]", 0, 8, 2) == 0);
+    assert!(rt; nested_until(b"[[1] [2]]", 5, 9, 2) == 8);
 }
 
 #[test]
-fn nested_levels(rt: HostRuntime) -> Result<(), Fail> {
+fn nested_levels(rt: HostRuntime) {
     let alloc = rt.alloc();
-    let deepest = padded(alloc, b"", b'[', 64, b"")?;
-    let deepest = padded(alloc, deepest.as_slice(), b']', 64, b"")?;
-    assert_eq!(rt; nested_until(deepest.as_slice(), 0, deepest.len(), 64), 128);
-    assert_eq!(rt; nested_until(deepest.as_slice(), 0, deepest.len(), 63), 0);
-    Ok(())
+    let deepest = padded(&rt, alloc, b"", b'[', 64, b"");
+    let deepest = padded(&rt, alloc, &deepest, b']', 64, b"");
+    assert!(rt; nested_until(&deepest, 0, deepest.len(), 64) == 128);
+    assert!(rt; nested_until(&deepest, 0, deepest.len(), 63) == 0);
 }
