@@ -1,6 +1,6 @@
 //! How much work a question takes after an edit.
 use crate::sessions::{
-    asked, invoke, judged, judges, make, objects, ok, read, registers, saw, stale_read, told,
+    asked, invoke, judged, judges, make, objects, ok, put, read, registers, saw, stale_read, told,
     write, wrote,
 };
 use lin_history::{Body, Call, Event, IntSet, Name, Reply, Val};
@@ -8,7 +8,6 @@ use lin_objects::Kind;
 use lin_session::{Edit, Scope, Session, Verdict};
 use std::alloc::Global;
 use std::process::Abort;
-use std::test::Fail;
 
 /// So many writes by one client, each with its completion.
 fn writes(rt: &impl Abort, alloc: Global, session: &mut Session, key: i64, count: i64) {
@@ -42,17 +41,16 @@ fn takes(
 }
 
 #[test]
-fn what_is_settled_takes_no_work(rt: HostRuntime) -> Result<(), Fail> {
+fn what_is_settled_takes_no_work(rt: HostRuntime) {
     let alloc = rt.alloc();
     let mut session = registers(&rt, alloc, 65_536, &[]);
     writes(&rt, alloc, &mut session, 0, 100);
     takes(&rt, alloc, &mut session, Scope::Whole, (0, 0));
     takes(&rt, alloc, &mut session, Scope::Object(0), (0, 0));
-    Ok(())
 }
 
 #[test]
-fn an_event_is_replayed_from_the_checkpoint_before(rt: HostRuntime) -> Result<(), Fail> {
+fn an_event_is_replayed_from_the_checkpoint_before(rt: HostRuntime) {
     let alloc = rt.alloc();
     let mut session = registers(&rt, alloc, 65_536, &[]);
     writes(&rt, alloc, &mut session, 0, 100);
@@ -60,11 +58,10 @@ fn an_event_is_replayed_from_the_checkpoint_before(rt: HostRuntime) -> Result<()
     let (steps, scans) = work(&rt, alloc, &mut session, Scope::Whole);
     assert!(rt; 0 < steps && steps <= 72);
     assert!(rt; 0 < scans && scans <= 72);
-    Ok(())
 }
 
 #[test]
-fn an_equal_event_takes_no_work(rt: HostRuntime) -> Result<(), Fail> {
+fn an_equal_event_takes_no_work(rt: HostRuntime) {
     let alloc = rt.alloc();
     let mut session = registers(&rt, alloc, 65_536, &stale_read());
     let no = Verdict::No { prefix: 4 };
@@ -79,11 +76,10 @@ fn an_equal_event_takes_no_work(rt: HostRuntime) -> Result<(), Fail> {
     make(&rt, &mut session, Edit::Replace(2, read(1, 0)));
     takes(&rt, alloc, &mut session, Scope::Object(0), (0, 0));
     told(&rt, alloc, &mut session, Scope::Whole, Verdict::Yes);
-    Ok(())
 }
 
 #[test]
-fn one_more_event_is_one_step(rt: HostRuntime) -> Result<(), Fail> {
+fn one_more_event_is_one_step(rt: HostRuntime) {
     let alloc = rt.alloc();
     let mut session = registers(&rt, alloc, 65_536, &[]);
     writes(&rt, alloc, &mut session, 0, 100);
@@ -93,11 +89,10 @@ fn one_more_event_is_one_step(rt: HostRuntime) -> Result<(), Fail> {
     make(&rt, &mut session, Edit::Truncate(64));
     make(&rt, &mut session, Edit::Append(write(0, 0, 7)));
     assert!(rt; work(&rt, alloc, &mut session, Scope::Whole).0 <= 1);
-    Ok(())
 }
 
 #[test]
-fn an_object_that_is_not_touched_takes_no_step(rt: HostRuntime) -> Result<(), Fail> {
+fn an_object_that_is_not_touched_takes_no_step(rt: HostRuntime) {
     let alloc = rt.alloc();
     let mut session = registers(&rt, alloc, 65_536, &[]);
     writes(&rt, alloc, &mut session, 0, 50);
@@ -105,7 +100,6 @@ fn an_object_that_is_not_touched_takes_no_step(rt: HostRuntime) -> Result<(), Fa
     make(&rt, &mut session, Edit::Replace(70, write(0, 0, 9)));
     assert!(rt; work(&rt, alloc, &mut session, Scope::Object(1)).0 == 0);
     assert!(rt; 0 < work(&rt, alloc, &mut session, Scope::Object(0)).0);
-    Ok(())
 }
 
 /// Three writes are open at one object, and another one reads nil after a write.
@@ -124,7 +118,7 @@ fn open_writes_and_a_stale_read() -> [Event; 9] {
 }
 
 #[test]
-fn an_object_over_the_budget_hides_a_later_failure(rt: HostRuntime) -> Result<(), Fail> {
+fn an_object_over_the_budget_hides_a_later_failure(rt: HostRuntime) {
     let alloc = rt.alloc();
     let mut session = registers(&rt, alloc, 8, &open_writes_and_a_stale_read());
     let undecided = Verdict::Undecided { at: 2 };
@@ -137,11 +131,10 @@ fn an_object_over_the_budget_hides_a_later_failure(rt: HostRuntime) -> Result<()
         Verdict::No { prefix: 9 },
     );
     told(&rt, alloc, &mut session, Scope::Whole, undecided);
-    Ok(())
 }
 
 #[test]
-fn a_larger_budget_goes_on_where_it_was_over(rt: HostRuntime) -> Result<(), Fail> {
+fn a_larger_budget_goes_on_where_it_was_over(rt: HostRuntime) {
     let alloc = rt.alloc();
     let mut session = registers(&rt, alloc, 8, &open_writes_and_a_stale_read());
     let _ = judged(&rt, alloc, &mut session, Scope::Whole);
@@ -155,11 +148,10 @@ fn a_larger_budget_goes_on_where_it_was_over(rt: HostRuntime) -> Result<(), Fail
         Scope::Whole,
         Verdict::No { prefix: 9 },
     );
-    Ok(())
 }
 
 /// So many clients put a number each into an object of the kind, from 0 on, and crash.
-fn crashed(alloc: Global, count: u64, kind: Kind) -> Result<Vec<Event>, Fail> {
+fn crashed(rt: &impl Abort, alloc: Global, count: u64, kind: Kind) -> Vec<Event> {
     let mut events = Vec::new(alloc);
     for process in 0..count {
         let number = process.cast_signed();
@@ -167,23 +159,40 @@ fn crashed(alloc: Global, count: u64, kind: Kind) -> Result<Vec<Event>, Fail> {
             Kind::Fifo => (Name::Enqueue, Call::Enqueue(number)),
             _ => (Name::Add, Call::Add(number)),
         };
-        events.push(invoke(process, 0, call))?;
-        events.push(Event {
-            process,
-            key: 0,
-            body: Body::Info(name),
-        })?;
+        put(rt, &mut events, invoke(process, 0, call));
+        let info = Body::Info(name);
+        put(
+            rt,
+            &mut events,
+            Event {
+                process,
+                key: 0,
+                body: info,
+            },
+        );
     }
-    Ok(events)
+    events
 }
 
 /// The numbers from 0 on, so many of them.
-fn first_numbers(alloc: Global, count: i64) -> Result<Reply, Fail> {
+fn first_numbers(rt: &impl Abort, alloc: Global, count: i64) -> Reply {
     let mut members = IntSet::new(alloc);
     for number in 0..count {
-        members.insert(number)?;
+        members.insert(number).expect(rt, "memory");
     }
-    Ok(Reply::Members(members))
+    Reply::Members(members)
+}
+
+/// Puts a read of a set behind the others, which finds the numbers from 0 on, so many of them.
+fn put_read(rt: &impl Abort, alloc: Global, history: &mut Vec<Event>, process: u64, count: i64) {
+    put(rt, history, read(process, 0));
+    let found = first_numbers(rt, alloc, count);
+    put(rt, history, ok(process, 0, Name::Read, found));
+}
+
+/// Asserts that fewer calls than 20,000 are tried until the object is judged to be linearizable.
+fn is_over_soon(rt: &impl Abort, alloc: Global, kind: Kind, history: &[Event]) {
+    assert!(rt; tries(rt, alloc, kind, history) < 20_000);
 }
 
 /// How many calls are tried until the object is judged to be linearizable.
@@ -194,59 +203,59 @@ fn tries(rt: &impl Abort, alloc: Global, kind: Kind, history: &[Event]) -> u64 {
 }
 
 #[test]
-fn a_set_with_many_crashed_adds_is_over_soon(rt: HostRuntime) -> Result<(), Fail> {
+fn a_set_with_many_crashed_adds_is_over_soon(rt: HostRuntime) {
     let alloc = rt.alloc();
     // Twenty operations that are placed or not: more than a million configurations.
-    let mut history = crashed(alloc, 20, Kind::Set)?;
-    history.push(invoke(20, 0, Call::Read))?;
-    history.push(ok(20, 0, Name::Read, first_numbers(alloc, 20)?))?;
-    assert!(rt; tries(&rt, alloc, Kind::Set, &history) < 20_000);
-    Ok(())
+    let mut history = crashed(&rt, alloc, 20, Kind::Set);
+    put_read(&rt, alloc, &mut history, 20, 20);
+    is_over_soon(&rt, alloc, Kind::Set, &history);
 }
 
 #[test]
-fn a_set_with_adds_beside_reads_is_over_soon(rt: HostRuntime) -> Result<(), Fail> {
+fn a_set_with_adds_beside_reads_is_over_soon(rt: HostRuntime) {
     let alloc = rt.alloc();
     // Eight adds stand ahead of one of four reads, behind all of them, or nowhere: 6 to the power of 8 configurations.
-    let mut history = crashed(alloc, 8, Kind::Set)?;
+    let mut history = crashed(&rt, alloc, 8, Kind::Set);
     for process in 8..12 {
-        history.push(invoke(process, 0, Call::Read))?;
+        put(&rt, &mut history, read(process, 0));
     }
-    history.push(ok(8, 0, Name::Read, first_numbers(alloc, 8)?))?;
-    assert!(rt; tries(&rt, alloc, Kind::Set, &history) < 20_000);
-    Ok(())
+    let found = first_numbers(&rt, alloc, 8);
+    put(&rt, &mut history, ok(8, 0, Name::Read, found));
+    is_over_soon(&rt, alloc, Kind::Set, &history);
 }
 
 #[test]
-fn a_queue_with_many_crashed_enqueues_is_over_soon(rt: HostRuntime) -> Result<(), Fail> {
+fn a_queue_with_many_crashed_enqueues_is_over_soon(rt: HostRuntime) {
     let alloc = rt.alloc();
-    let mut history = crashed(alloc, 20, Kind::Fifo)?;
-    history.push(invoke(20, 0, Call::Dequeue))?;
-    history.push(ok(20, 0, Name::Dequeue, Reply::Value(Val::Int(7))))?;
-    assert!(rt; tries(&rt, alloc, Kind::Fifo, &history) < 20_000);
-    Ok(())
+    let mut history = crashed(&rt, alloc, 20, Kind::Fifo);
+    put(&rt, &mut history, invoke(20, 0, Call::Dequeue));
+    let seven = Reply::Value(Val::Int(7));
+    put(&rt, &mut history, ok(20, 0, Name::Dequeue, seven));
+    is_over_soon(&rt, alloc, Kind::Fifo, &history);
 }
 
 /// Four adds crash, and a read finds three of their numbers.
-fn three_of_four(alloc: Global) -> Result<Vec<Event>, Fail> {
-    let mut history = crashed(alloc, 4, Kind::Set)?;
-    history.push(invoke(4, 0, Call::Read))?;
-    history.push(ok(4, 0, Name::Read, first_numbers(alloc, 3)?))?;
-    Ok(history)
+fn three_of_four(rt: &impl Abort, alloc: Global) -> Vec<Event> {
+    let mut history = crashed(rt, alloc, 4, Kind::Set);
+    put_read(rt, alloc, &mut history, 4, 3);
+    history
 }
 
 /// Ten clients add numbers at once, another one finds nine of them, and then three of the ten return.
-fn open_beside_a_read(alloc: Global) -> Result<Vec<Event>, Fail> {
+fn open_beside_a_read(rt: &impl Abort, alloc: Global) -> Vec<Event> {
     let mut history = Vec::new(alloc);
     for process in 0..10 {
-        history.push(invoke(process, 0, Call::Add(process.cast_signed())))?;
+        put(
+            rt,
+            &mut history,
+            invoke(process, 0, Call::Add(process.cast_signed())),
+        );
     }
-    history.push(invoke(10, 0, Call::Read))?;
-    history.push(ok(10, 0, Name::Read, first_numbers(alloc, 9)?))?;
+    put_read(rt, alloc, &mut history, 10, 9);
     for process in 0..3 {
-        history.push(ok(process, 0, Name::Add, Reply::Done))?;
+        put(rt, &mut history, ok(process, 0, Name::Add, Reply::Done));
     }
-    Ok(history)
+    history
 }
 
 /// Asserts what is decided, without a try.
@@ -270,40 +279,59 @@ fn taken_in(rt: &impl Abort, alloc: Global, session: &mut Session, patience: u64
 }
 
 #[test]
-fn a_set_is_decided_without_its_chain(rt: HostRuntime) -> Result<(), Fail> {
+fn a_set_is_decided_without_its_chain(rt: HostRuntime) {
     let alloc = rt.alloc();
-    let mut history = three_of_four(alloc)?;
-    let mut session = objects(&rt, alloc, Kind::Set, 65_536, &history);
+    let mut session = objects(&rt, alloc, Kind::Set, 65_536, &three_of_four(&rt, alloc));
     decides(&rt, alloc, &mut session, Scope::Whole, Verdict::Yes);
     // The next question costs as much as if that one had not been asked.
     judges(&rt, alloc, &mut session, Scope::Whole, Verdict::Yes);
     assert!(rt; 0 < session.meter().tries());
-    // A later read lost one of them.
-    history.push(invoke(4, 0, Call::Read))?;
-    history.push(ok(4, 0, Name::Read, first_numbers(alloc, 2)?))?;
-    let mut session = objects(&rt, alloc, Kind::Set, 65_536, &history);
-    let no = Verdict::No { prefix: 12 };
-    decides(&rt, alloc, &mut session, Scope::Object(0), no);
-    Ok(())
 }
 
 #[test]
-fn a_set_is_taken_in_within_the_patience(rt: HostRuntime) -> Result<(), Fail> {
+fn a_set_that_loses_a_number_is_decided_without_its_chain(rt: HostRuntime) {
     let alloc = rt.alloc();
-    let history = three_of_four(alloc)?;
+    let mut history = three_of_four(&rt, alloc);
+    put_read(&rt, alloc, &mut history, 4, 2);
     let mut session = objects(&rt, alloc, Kind::Set, 65_536, &history);
-    assert!(rt; taken_in(&rt, alloc, &mut session, 100).0 == 10);
+    let no = Verdict::No { prefix: 12 };
+    decides(&rt, alloc, &mut session, Scope::Object(0), no);
+}
+
+/// Asserts how many events of the whole are taken in when it is decided with so many tries for each.
+fn takes_in(rt: &impl Abort, alloc: Global, session: &mut Session, patience: u64, events: u64) {
+    assert!(rt; taken_in(rt, alloc, session, patience).0 == events);
+}
+
+/// Asserts that the whole is decided, and neither an event taken in nor a call tried.
+fn stays(rt: &impl Abort, alloc: Global, session: &mut Session, patience: u64) {
+    assert!(rt; taken_in(rt, alloc, session, patience) == (0, 0));
+}
+
+#[test]
+fn a_set_is_taken_in_within_the_patience(rt: HostRuntime) {
+    let alloc = rt.alloc();
+    let mut session = objects(&rt, alloc, Kind::Set, 65_536, &three_of_four(&rt, alloc));
+    takes_in(&rt, alloc, &mut session, 100, 10);
     // What was taken in stays so, and what comes is taken in alone.
-    assert!(rt; taken_in(&rt, alloc, &mut session, 100) == (0, 0));
+    stays(&rt, alloc, &mut session, 100);
     make(&rt, &mut session, Edit::Append(invoke(4, 0, Call::Read)));
-    assert!(rt; taken_in(&rt, alloc, &mut session, 100).0 == 1);
-    // Where many operations are open it stays behind, until there is more patience.
-    let history = open_beside_a_read(alloc)?;
-    let mut session = objects(&rt, alloc, Kind::Set, 65_536, &history);
+    takes_in(&rt, alloc, &mut session, 100, 1);
+}
+
+/// Where many operations are open a set stays behind, until there is more patience.
+#[test]
+fn a_set_is_taken_in_with_more_patience(rt: HostRuntime) {
+    let alloc = rt.alloc();
+    let mut session = objects(
+        &rt,
+        alloc,
+        Kind::Set,
+        65_536,
+        &open_beside_a_read(&rt, alloc),
+    );
     let some = taken_in(&rt, alloc, &mut session, 1).0;
     assert!(rt; 0 < some && some < 15);
-    assert!(rt; taken_in(&rt, alloc, &mut session, 1) == (0, 0));
-    let rest = taken_in(&rt, alloc, &mut session, 1_000).0;
-    assert!(rt; some.saturating_add(rest) == 15);
-    Ok(())
+    stays(&rt, alloc, &mut session, 1);
+    takes_in(&rt, alloc, &mut session, 1_000, 15u64.saturating_sub(some));
 }

@@ -81,6 +81,11 @@ pub(crate) fn objects(
     session
 }
 
+/// Puts an event behind the others.
+pub(crate) fn put(rt: &impl Abort, history: &mut Vec<Event>, event: Event) {
+    history.push(event).expect(rt, "memory");
+}
+
 /// Makes an edit that is not refused.
 pub(crate) fn make(rt: &impl Abort, session: &mut Session, edit: Edit) {
     assert!(rt; session.apply(edit).is_ok());
@@ -191,7 +196,7 @@ fn told_order(
 }
 
 #[test]
-fn an_object_is_answered_after_each_edit(rt: HostRuntime) -> Result<(), Fail> {
+fn an_object_is_answered_after_each_edit(rt: HostRuntime) {
     let alloc = rt.alloc();
     let mut session = registers(&rt, alloc, 65_536, &stale_read());
     told(&rt, alloc, &mut session, OBJECT, Verdict::No { prefix: 4 });
@@ -208,11 +213,10 @@ fn an_object_is_answered_after_each_edit(rt: HostRuntime) -> Result<(), Fail> {
     told(&rt, alloc, &mut session, OBJECT, not_of_kind);
     make(&rt, &mut session, Edit::SetKind(0, Kind::Register));
     told_order(&rt, alloc, &mut session, OBJECT, &fresh);
-    Ok(())
 }
 
 #[test]
-fn an_object_is_answered_after_events_go(rt: HostRuntime) -> Result<(), Fail> {
+fn an_object_is_answered_after_events_go(rt: HostRuntime) {
     let alloc = rt.alloc();
     let mut session = registers(&rt, alloc, 65_536, &stale_read());
     make(&rt, &mut session, Edit::Remove(2));
@@ -224,11 +228,10 @@ fn an_object_is_answered_after_events_go(rt: HostRuntime) -> Result<(), Fail> {
     make(&rt, &mut session, Edit::Truncate(2));
     told_order(&rt, alloc, &mut session, OBJECT, &[(0, Reply::Done)]);
     told_order(&rt, alloc, &mut session, Scope::Object(9), &[]);
-    Ok(())
 }
 
 #[test]
-fn a_budget_is_from_one_to_a_million(rt: HostRuntime) -> Result<(), Fail> {
+fn a_budget_is_from_one_to_a_million(rt: HostRuntime) {
     let alloc = rt.alloc();
     for budget in [0, 1_000_001] {
         assert!(rt; Session::new(alloc, Kind::Register, budget).is_err());
@@ -242,7 +245,6 @@ fn a_budget_is_from_one_to_a_million(rt: HostRuntime) -> Result<(), Fail> {
     );
     refuses(&rt, &mut session, Edit::SetBudget(1), None);
     assert!(rt; session.budget() == 1);
-    Ok(())
 }
 
 #[test]
@@ -310,7 +312,7 @@ fn the_keys_rise(rt: HostRuntime) -> Result<(), Fail> {
 }
 
 #[test]
-fn a_removed_write_fails_the_read(rt: HostRuntime) -> Result<(), Fail> {
+fn a_removed_write_fails_the_read(rt: HostRuntime) {
     let alloc = rt.alloc();
     let mut session = registers(&rt, alloc, 65_536, &two_objects());
     told(&rt, alloc, &mut session, Scope::Whole, Verdict::Yes);
@@ -332,7 +334,6 @@ fn a_removed_write_fails_the_read(rt: HostRuntime) -> Result<(), Fail> {
         Scope::Whole,
         Verdict::No { prefix: 4 },
     );
-    Ok(())
 }
 
 #[test]
@@ -350,7 +351,7 @@ fn an_event_of_another_key_touches_both(rt: HostRuntime) -> Result<(), Fail> {
 }
 
 #[test]
-fn a_failed_write_is_not_seen(rt: HostRuntime) -> Result<(), Fail> {
+fn a_failed_write_is_not_seen(rt: HostRuntime) {
     let alloc = rt.alloc();
     let failed = Event {
         process: 0,
@@ -362,22 +363,20 @@ fn a_failed_write_is_not_seen(rt: HostRuntime) -> Result<(), Fail> {
     told(&rt, alloc, &mut session, OBJECT, Verdict::No { prefix: 4 });
     make(&rt, &mut session, Edit::Truncate(3));
     told(&rt, alloc, &mut session, OBJECT, Verdict::Yes);
-    Ok(())
 }
 
 #[test]
-fn another_kind_is_judged_anew(rt: HostRuntime) -> Result<(), Fail> {
+fn another_kind_is_judged_anew(rt: HostRuntime) {
     let alloc = rt.alloc();
     let mut session = registers(&rt, alloc, 65_536, &[read(0, 0), saw(0, 0, Val::Nil)]);
     told(&rt, alloc, &mut session, OBJECT, Verdict::Yes);
     make(&rt, &mut session, Edit::SetKind(0, Kind::Set));
     assert!(rt; session.kind_of(0) == Kind::Set);
     told(&rt, alloc, &mut session, OBJECT, Verdict::No { prefix: 2 });
-    Ok(())
 }
 
 #[test]
-fn an_ill_formed_history_is_mended(rt: HostRuntime) -> Result<(), Fail> {
+fn an_ill_formed_history_is_mended(rt: HostRuntime) {
     let alloc = rt.alloc();
     let mut session = registers(&rt, alloc, 65_536, &stale_read());
     make(&rt, &mut session, Edit::Remove(2));
@@ -389,11 +388,10 @@ fn an_ill_formed_history_is_mended(rt: HostRuntime) -> Result<(), Fail> {
     make(&rt, &mut session, Edit::Remove(2));
     assert!(rt; session.len() == 2);
     told(&rt, alloc, &mut session, Scope::Whole, Verdict::Yes);
-    Ok(())
 }
 
 #[test]
-fn a_kind_allows_its_functions(rt: HostRuntime) -> Result<(), Fail> {
+fn a_kind_allows_its_functions(rt: HostRuntime) {
     let alloc = rt.alloc();
     let swap = invoke(0, 0, Call::Cas(Val::Int(1), Val::Int(2)));
     let history = [swap, ok(0, 0, Name::Cas, Reply::Done)];
@@ -405,11 +403,10 @@ fn a_kind_allows_its_functions(rt: HostRuntime) -> Result<(), Fail> {
     told(&rt, alloc, &mut session, OBJECT, not_of_kind);
     make(&rt, &mut session, Edit::SetKind(0, Kind::CasRegister));
     told(&rt, alloc, &mut session, OBJECT, Verdict::No { prefix: 2 });
-    Ok(())
 }
 
 #[test]
-fn a_larger_budget_decides(rt: HostRuntime) -> Result<(), Fail> {
+fn a_larger_budget_decides(rt: HostRuntime) {
     let alloc = rt.alloc();
     let mut session = registers(&rt, alloc, 1, &[read(0, 0)]);
     told(
@@ -421,11 +418,10 @@ fn a_larger_budget_decides(rt: HostRuntime) -> Result<(), Fail> {
     );
     make(&rt, &mut session, Edit::SetBudget(2));
     told(&rt, alloc, &mut session, OBJECT, Verdict::Yes);
-    Ok(())
 }
 
 #[test]
-fn refused_edits_change_nothing(rt: HostRuntime) -> Result<(), Fail> {
+fn refused_edits_change_nothing(rt: HostRuntime) {
     let alloc = rt.alloc();
     let mut session = registers(&rt, alloc, 65_536, &stale_read());
     refuses(
@@ -450,11 +446,10 @@ fn refused_edits_change_nothing(rt: HostRuntime) -> Result<(), Fail> {
     assert!(rt; session.len() == 4);
     assert!(rt; session.event(3) == Some(&saw(1, 0, Val::Nil)));
     told(&rt, alloc, &mut session, OBJECT, Verdict::No { prefix: 4 });
-    Ok(())
 }
 
 #[test]
-fn a_refused_edit_is_handed_back(rt: HostRuntime) -> Result<(), Fail> {
+fn a_refused_edit_is_handed_back(rt: HostRuntime) {
     let alloc = rt.alloc();
     let mut session = registers(&rt, alloc, 65_536, &stale_read());
     let Err((edit, fault)) = session.apply(Edit::Replace(4, read(7, 7))) else {
@@ -465,7 +460,6 @@ fn a_refused_edit_is_handed_back(rt: HostRuntime) -> Result<(), Fail> {
         Edit::Replace(at, event) => assert!(rt; at == 4 && event == read(7, 7)),
         _ => panic!(rt; "another edit"),
     }
-    Ok(())
 }
 
 /// Two writes are open at one object, and another one answers what nobody wrote.
@@ -479,19 +473,17 @@ fn open_writes_and_a_failure() -> [Event; 4] {
 }
 
 #[test]
-fn an_object_undecided_before_a_failure_hides_it(rt: HostRuntime) -> Result<(), Fail> {
+fn an_object_undecided_before_a_failure_hides_it(rt: HostRuntime) {
     let alloc = rt.alloc();
     let mut session = registers(&rt, alloc, 2, &open_writes_and_a_failure());
     told(&rt, alloc, &mut session, OBJECT, Verdict::No { prefix: 4 });
     let undecided = Verdict::Undecided { at: 1 };
     told(&rt, alloc, &mut session, Scope::Object(1), undecided);
     told(&rt, alloc, &mut session, Scope::Whole, undecided);
-
-    Ok(())
 }
 
 #[test]
-fn a_larger_budget_shows_the_failure(rt: HostRuntime) -> Result<(), Fail> {
+fn a_larger_budget_shows_the_failure(rt: HostRuntime) {
     let alloc = rt.alloc();
     let mut larger = registers(&rt, alloc, 5, &open_writes_and_a_failure());
     told(&rt, alloc, &mut larger, Scope::Object(1), Verdict::Yes);
@@ -502,11 +494,10 @@ fn a_larger_budget_shows_the_failure(rt: HostRuntime) -> Result<(), Fail> {
         Scope::Whole,
         Verdict::No { prefix: 4 },
     );
-    Ok(())
 }
 
 #[test]
-fn a_failure_before_an_undecided_object_is_told(rt: HostRuntime) -> Result<(), Fail> {
+fn a_failure_before_an_undecided_object_is_told(rt: HostRuntime) {
     let alloc = rt.alloc();
     let history = [
         read(3, 0),
@@ -524,5 +515,4 @@ fn a_failure_before_an_undecided_object_is_told(rt: HostRuntime) -> Result<(), F
         Scope::Whole,
         Verdict::No { prefix: 2 },
     );
-    Ok(())
 }
