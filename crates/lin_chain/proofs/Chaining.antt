@@ -4,22 +4,23 @@ use Rattle.std.specs.List.{cons_option}
 use Rattle.std.proofs.lemmas.List.{length-take, length-take-le, take_all}
 use Rattle.std.proofs.lemmas.List.Elements.{All-take, All-tail, All-head}
 use Rattle.std.proofs.lemmas.Option.{slice_get_within, slice_get-get_or, slice_get_read}
-use Rattle.lin_history.specs.declared.events.Event.{Event}
-use Rattle.lin_history.specs.declared.meter.Meter.{Meter}
-use Rattle.lin_history.specs.Operations.{IsEvent}
+use Rattle.lin_events.specs.declared.events.Event.{Event}
+use Rattle.lin_events.specs.declared.meter.Meter.{Meter}
+use Rattle.lin_events.specs.Operations.{IsEvent}
 use Rattle.lin_objects.specs.declared.kinds.Kind.{Kind}
 use Rattle.lin_objects.specs.Steps.{Step, start}
-use Rattle.lin_order.specs.Laws.{EmptyIsLegal}
-use Rattle.lin_order.specs.Configurations.{IsConfiguration}
-use Rattle.lin_order.specs.Parts.{events_at}
+use Rattle.lin_orders.specs.Laws.{EmptyIsLegal}
+use Rattle.lin_orders.specs.Configurations.{IsConfiguration}
+use Rattle.lin_orders.specs.Parts.{events_at}
 use Rattle.lin_frontier.specs.Frontiers.{IsOver}
 use Rattle.lin_chain.specs.declared.chain.Chain.{Chain}
 use Rattle.lin_chain.specs.declared.chain.End.{End}
 use Rattle.lin_chain.specs.declared.chain.End.TheVariants.{Alive, Dead, Over}
 use Rattle.lin_chain.specs.declared.replay.Replay.{Replay}
 use Rattle.lin_chain.specs.Chains.{IsRight, Stands, kind_in, ready_count}
-use Rattle.lin_chain.specs.Ends.{IsDeadAt, IsEndOf, IsFrom, IsOverAt}
-use Rattle.lin_chain.specs.Replays.{IsLinearizableAs, IsReplay}
+use Rattle.lin_chain.specs.Ends.{IsEndOf, IsFrom, IsOverAt}
+use Rattle.lin_orders.specs.Linearizable.{IsDeadAt, IsLinearizableAs}
+use Rattle.lin_chain.specs.Replays.{IsReplay}
 use Rattle.lin_chain.proofs.Replaying.{SpellsOrders, checkpoint_kept, known_same, pairs_take, replay_linearizable, take_alike}
 
 -- what is known of the first events holds of any events that agree on these

@@ -5,19 +5,19 @@ use Rattle.std.specs.Map.{keys_of}
 use Rattle.std.proofs.lemmas.Option.{slice_get-map, slice_get_within}
 use Rattle.std.proofs.lemmas.List.{length-map, length-take-le}
 use Rattle.std.proofs.lemmas.List.Elements.{All-contains}
-use Rattle.lin_history.specs.declared.calls.Name.{Name}
-use Rattle.lin_history.specs.declared.events.Event.{Event}
-use Rattle.lin_history.specs.WellFormed.{IsWellFormed}
+use Rattle.lin_events.specs.declared.calls.Name.{Name}
+use Rattle.lin_events.specs.declared.events.Event.{Event}
+use Rattle.lin_events.specs.WellFormed.{IsWellFormed}
 use Rattle.lin_objects.specs.declared.kinds.Kind.{Kind}
 use Rattle.lin_objects.specs.Steps.{Step, start}
-use Rattle.lin_order.specs.declared.placed.Placed.{Placed}
-use Rattle.lin_order.specs.Configurations.{EndsIn}
+use Rattle.lin_orders.specs.declared.placed.Placed.{Placed}
+use Rattle.lin_orders.specs.Configurations.{EndsIn}
 use Rattle.lin_order.specs.Refutations.{AreConfigurations, Config, IsRefutation, lists_of}
 use Rattle.lin_order.specs.RefutationLaws.{ExactSetsRefute}
 use Rattle.lin_frontier.specs.Frontiers.{IsFrontier}
 use Rattle.lin_frontier.specs.Nodes.{Spells}
-use Rattle.lin_chain.specs.Replays.{IsLinearizableAs}
-use Rattle.lin_history.proofs.Lists.{get_cases}
+use Rattle.lin_orders.specs.Linearizable.{IsLinearizableAs}
+use Rattle.lin_lists.specs.lemmas.Lists.{get_cases}
 use Rattle.lin_chain.proofs.Lists.{contains_from_get, get_from_contains}
 
 -- what an exact frontier holds

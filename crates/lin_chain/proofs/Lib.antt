@@ -5,7 +5,3 @@ pub mod Replaying
 pub mod Budgets
 pub mod Chaining
 pub mod ExactSets
-pub mod Witnesses
-pub mod Conflicting
-pub mod SetConflicting
-pub mod QueueConflicting

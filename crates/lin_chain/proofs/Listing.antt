@@ -4,19 +4,19 @@ use Rattle.std.specs.List.{remove, swap}
 use Rattle.std.proofs.lemmas.Bool.{cases_lt, cases_order}
 use Rattle.std.proofs.lemmas.List.{length-take-le, get_or-take}
 use Rattle.std.proofs.lemmas.Option.{slice_get_within, get_or_from_slice_get}
-use Rattle.lin_history.specs.declared.events.Event.{Event}
-use Rattle.lin_history.specs.declared.events.Body.TheVariants.{Invoke, Ok, Fail, Info}
-use Rattle.lin_history.specs.declared.calls.Call.{Call}
-use Rattle.lin_history.specs.declared.calls.Name.{Name}
-use Rattle.lin_history.specs.declared.calls.Reply.{Reply}
-use Rattle.lin_history.specs.Operations.{IsOperation, IsEnd, IsCrashed, IsOpen}
-use Rattle.lin_history.specs.WellFormed.{Completes}
-use Rattle.lin_history.specs.WellFormedLaws.{EndsAreUnique, WellFormedIsAlternating}
-use Rattle.lin_history.specs.Alternation.{IsAlternating}
-use Rattle.lin_order.specs.ConfigurationLaws.{with_event}
+use Rattle.lin_events.specs.declared.events.Event.{Event}
+use Rattle.lin_events.specs.declared.events.Body.TheVariants.{Invoke, Ok, Fail, Info}
+use Rattle.lin_events.specs.declared.calls.Call.{Call}
+use Rattle.lin_events.specs.declared.calls.Name.{Name}
+use Rattle.lin_events.specs.declared.calls.Reply.{Reply}
+use Rattle.lin_events.specs.Operations.{IsOperation, IsEnd, IsCrashed, IsOpen}
+use Rattle.lin_events.specs.WellFormed.{Completes}
+use Rattle.lin_events.specs.WellFormedLaws.{EndsAreUnique, WellFormedIsAlternating}
+use Rattle.lin_events.specs.Alternation.{IsAlternating}
+use Rattle.lin_orders.specs.ConfigurationLaws.{with_event}
 use Rattle.lin_frontier.specs.declared.pending.Open.{Open}
 use Rattle.lin_frontier.specs.Frontiers.{IsNextEvent, IsPending}
-use Rattle.lin_history.proofs.Lists.{get_left, get_cases, get_last}
+use Rattle.lin_lists.specs.lemmas.Lists.{get_left, get_cases, get_last}
 use Rattle.lin_chain.proofs.Lists.{get_remove_cases, get_removed, get_moved_cases, get_moved, get_moved_new, one_there, contains_from_get, get_from_contains, places_from_pairs, pairs_from_places}
 use Rattle.lin_chain.proofs.Opening.{crashed_kept, open_kept, no_end_of_last, opens, open_back, open_beside, crashed_before, not_crashed, was_open, one_of_process, others_open, others_crashed, open_before}
 

@@ -2,17 +2,17 @@
 use Rattle.std.proofs.Common.{◌≡◌, ◌≢◌, ◌<◌, ℕ, ℤ, Bool, List, length, ◌⊎◌, Some, inl, inr, sym, ap, ◌∙◌, subst, arith, slice_get}
 use Rattle.std.proofs.lemmas.Bool.{cases_order}
 use Rattle.std.proofs.lemmas.Option.{slice_get_within}
-use Rattle.lin_history.specs.declared.events.Event.{Event}
-use Rattle.lin_history.specs.declared.events.Body.TheVariants.{Invoke, Ok, Fail, Info}
-use Rattle.lin_history.specs.declared.calls.Call.{Call}
-use Rattle.lin_history.specs.declared.calls.Name.{Name}
-use Rattle.lin_history.specs.declared.calls.Reply.{Reply}
-use Rattle.lin_history.specs.Operations.{IsOperation, IsEnd, IsOk, IsCrashed, IsOpen}
-use Rattle.lin_history.specs.WellFormed.{Completes}
-use Rattle.lin_history.specs.WellFormedLaws.{EndsAreUnique}
-use Rattle.lin_history.specs.Alternation.{IsAlternating}
-use Rattle.lin_order.specs.ConfigurationLaws.{with_event}
-use Rattle.lin_history.proofs.Lists.{get_left, get_cases, get_last}
+use Rattle.lin_events.specs.declared.events.Event.{Event}
+use Rattle.lin_events.specs.declared.events.Body.TheVariants.{Invoke, Ok, Fail, Info}
+use Rattle.lin_events.specs.declared.calls.Call.{Call}
+use Rattle.lin_events.specs.declared.calls.Name.{Name}
+use Rattle.lin_events.specs.declared.calls.Reply.{Reply}
+use Rattle.lin_events.specs.Operations.{IsOperation, IsEnd, IsOk, IsCrashed, IsOpen}
+use Rattle.lin_events.specs.WellFormed.{Completes}
+use Rattle.lin_events.specs.WellFormedLaws.{EndsAreUnique}
+use Rattle.lin_events.specs.Alternation.{IsAlternating}
+use Rattle.lin_orders.specs.ConfigurationLaws.{with_event}
+use Rattle.lin_lists.specs.lemmas.Lists.{get_left, get_cases, get_last}
 
 module _ (h : List Event) (event : Event) where
   -- ends stay, and a new one is with the event

@@ -4,19 +4,19 @@ use Rattle.std.proofs.lemmas.Bool.{cases_lt, cases_order}
 use Rattle.std.proofs.lemmas.List.{length-take, length-take-le, get_or-take, take_all, take-take, take-append-le, length_push, append-nil}
 use Rattle.std.proofs.lemmas.List.Quantifiers.{all_pairs_push}
 use Rattle.std.proofs.lemmas.Option.{slice_get_within, slice_get-get_or, get_or_from_slice_get}
-use Rattle.lin_history.specs.declared.events.Event.{Event}
-use Rattle.lin_history.specs.declared.calls.Name.{Name}
-use Rattle.lin_history.specs.Operations.{IsEvent}
-use Rattle.lin_history.specs.WellFormed.{IsWellFormed}
-use Rattle.lin_history.specs.WellFormedLaws.{BeginningsAreWellFormed}
+use Rattle.lin_events.specs.declared.events.Event.{Event}
+use Rattle.lin_events.specs.declared.calls.Name.{Name}
+use Rattle.lin_events.specs.Operations.{IsEvent}
+use Rattle.lin_events.specs.WellFormed.{IsWellFormed}
+use Rattle.lin_events.specs.WellFormedLaws.{BeginningsAreWellFormed}
 use Rattle.lin_objects.specs.declared.kinds.Kind.{Kind}
 use Rattle.lin_objects.specs.declared.states.State.{State}
 use Rattle.lin_objects.specs.Observing.{observes}
 use Rattle.lin_objects.specs.Overwriting.{overwrites}
 use Rattle.lin_objects.specs.Steps.{Step, start}
-use Rattle.lin_order.specs.declared.placed.Placed.{Placed}
-use Rattle.lin_order.specs.ConfigurationLaws.{with_event}
-use Rattle.lin_order.specs.Laws.{EmptyIsLegal}
+use Rattle.lin_orders.specs.declared.placed.Placed.{Placed}
+use Rattle.lin_orders.specs.ConfigurationLaws.{with_event}
+use Rattle.lin_orders.specs.Laws.{EmptyIsLegal}
 use Rattle.lin_frontier.specs.declared.members.Path.{Path}
 use Rattle.lin_frontier.specs.declared.pending.Open.{Open}
 use Rattle.lin_frontier.specs.Compressed.{CompressedSpellLegalOrders, IsCompressed}
@@ -27,8 +27,9 @@ use Rattle.lin_frontier.specs.Rounds.{joined, SpellsRounds}
 use Rattle.lin_chain.specs.declared.pending.Pending.{Pending}
 use Rattle.lin_chain.specs.declared.replay.Checkpoint.{Checkpoint}
 use Rattle.lin_chain.specs.declared.replay.Replay.{Replay}
-use Rattle.lin_chain.specs.Replays.{Links, Members, IsCheckpoint, IsCurrent, IsKnown, IsLegalOrderAs, IsLinearizableAs, IsPrepared, IsReplay}
-use Rattle.lin_history.proofs.Lists.{get_cases}
+use Rattle.lin_chain.specs.Replays.{Links, Members, IsCheckpoint, IsCurrent, IsKnown, IsPrepared, IsReplay}
+use Rattle.lin_orders.specs.Linearizable.{IsLegalOrderAs, IsLinearizableAs}
+use Rattle.lin_lists.specs.lemmas.Lists.{get_cases}
 use Rattle.lin_chain.proofs.Lists.{contains_from_get, one_there}
 
 -- what a beginning has at a place, the whole has there

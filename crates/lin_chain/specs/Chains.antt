@@ -1,11 +1,12 @@
 -- What a chain knows of its object's history: its first events, as many as the chain took in.
 use Rattle.std.specs.Prelude.{◌≡◌, ◌+◌, ◌*◌, ◌<◌, ◌≤◌, ℕ, List, length, if◌then◌else◌, nat_lt}
-use Rattle.lin_history.specs.declared.events.Event.{Event}
+use Rattle.lin_events.specs.declared.events.Event.{Event}
 use Rattle.lin_objects.specs.declared.kinds.Kind.{Kind}
 use Rattle.lin_chain.specs.declared.chain.Chain.{Chain}
 use Rattle.lin_chain.specs.declared.chain.End.{End}
 use Rattle.lin_chain.specs.declared.chain.End.TheVariants.{Alive, Dead, Over}
-use Rattle.lin_chain.specs.Ends.{IsDeadAt, IsOverAt}
+use Rattle.lin_chain.specs.Ends.{IsOverAt}
+use Rattle.lin_orders.specs.Linearizable.{IsDeadAt}
 use Rattle.lin_chain.specs.Replays.{IsReplay, held_count}
 
 -- how many events the chain took in

@@ -1,17 +1,12 @@
 -- How the history of one object ends: what is told of its linearizability (Herlihy and Wing 1990, section 3), by the event at which it is lost.
 use Rattle.std.specs.Prelude.{◌+◌, ◌<◌, ◌≤◌, ℕ, List, length, take}
-use Rattle.lin_history.specs.declared.events.Event.{Event}
+use Rattle.lin_events.specs.declared.events.Event.{Event}
 use Rattle.lin_objects.specs.declared.kinds.Kind.{Kind}
 use Rattle.lin_objects.specs.Steps.{Step, start}
 use Rattle.lin_frontier.specs.Frontiers.{IsOver}
 use Rattle.lin_chain.specs.declared.chain.End.{End}
 use Rattle.lin_chain.specs.declared.chain.End.TheVariants.{Alive, Dead, Over}
-use Rattle.lin_chain.specs.Replays.{IsLinearizableAs}
-
--- the shortest beginning without a legal order is the one up to and with this event
-pub record IsDeadAt (kind : Kind) (h : List Event) (at : ℕ) : Type 0 where
-  pub before : IsLinearizableAs kind (take at h)
-  pub failing : IsLinearizableAs kind (take (at + 1) h) → ⊥
+use Rattle.lin_orders.specs.Linearizable.{IsLinearizableAs}
 
 -- the beginning up to and with this event has more configurations than the budget
 pub record IsOverAt (kind : Kind) (budget : ℕ) (h : List Event) (at : ℕ) : Type 0 where

@@ -1,7 +1,7 @@
 -- The sets of a refutation while they are made: cited by the contracts of private functions alone.
 use Rattle.std.specs.Prelude.{◌≡◌, ◌+◌, ℕ, List, Some, length, slice_get, take}
 use Rattle.std.specs.Global.{Vec}
-use Rattle.lin_history.specs.declared.events.Event.{Event}
+use Rattle.lin_events.specs.declared.events.Event.{Event}
 use Rattle.lin_objects.specs.Steps.{Step, start}
 use Rattle.lin_order.specs.Refutations.{AreConfigurations, Config}
 use Rattle.lin_frontier.specs.Frontiers.{IsFrontier, IsPending}

@@ -1,13 +1,12 @@
 -- What is kept of the first events of an object, so that more can be taken in, and so that it can be gone back to fewer.
 use Rattle.std.specs.Prelude.{◌≡◌, ◌+◌, ◌*◌, ◌<◌, ◌≤◌, ◌++◌, ◌⊎◌, ℕ, List, Option, Some, None, AllPairs, length, take, slice_get, is_some, if◌then◌else◌}
-use Rattle.lin_history.specs.declared.events.Event.{Event}
+use Rattle.lin_events.specs.declared.events.Event.{Event}
 use Rattle.lin_objects.specs.declared.kinds.Kind.{Kind}
 use Rattle.lin_objects.specs.declared.states.State.{State}
 use Rattle.lin_objects.specs.Observing.{observes}
 use Rattle.lin_objects.specs.Overwriting.{overwrites}
 use Rattle.lin_objects.specs.Steps.{Step, start}
-use Rattle.lin_order.specs.declared.placed.Placed.{Placed}
-use Rattle.lin_order.specs.Linearizable.{IsLinearizableBy, IsLegalOrderBy}
+use Rattle.lin_orders.specs.declared.placed.Placed.{Placed}
 use Rattle.lin_frontier.specs.declared.members.Path.{Path}
 use Rattle.lin_frontier.specs.declared.pending.Open.{Open}
 use Rattle.lin_frontier.specs.Compressed.{IsCompressed}
@@ -15,14 +14,6 @@ use Rattle.lin_frontier.specs.Frontiers.{IsPending}
 use Rattle.lin_frontier.specs.Members.{Member}
 use Rattle.lin_chain.specs.declared.replay.Checkpoint.{Checkpoint}
 use Rattle.lin_chain.specs.declared.replay.Replay.{Replay}
-
--- the order is a legal one of the history, for an object of the kind
-abbrev pub IsLegalOrderAs : Kind → List Event → List Placed → Type 0
-IsLegalOrderAs kind h order = IsLegalOrderBy (start kind) (Step kind) h order
-
--- an object of the kind has a legal order of the history
-abbrev pub IsLinearizableAs : Kind → List Event → Type 0
-IsLinearizableAs kind h = IsLinearizableBy (start kind) (Step kind) h
 
 -- what a frontier holds
 abbrev pub Members : Type 0

@@ -1,23 +1,24 @@
 //! One object's frontiers over its events, kept right while the events are edited.
 ghost use Rattle.std.specs.Prelude.{◌≡◌, ◌≢◌, ◌≤◌, ◌<◌, ◌+◌, ◌-◌, ◌*◌, ◌/◌, ◌⊎◌, ℕ, ℤ, Bool, List, All, AllPairs, IfOk, OnOk, IsOk, MatchOption, length, take, IsTrue, OnErr, ◌↔◌, Ok, Err, None, min, true};
-ghost use Rattle.lin_history.specs.declared.calls.Name.{Name as NameOf};
-ghost use Rattle.lin_history.specs.declared.events.Event.{Event as EventOf};
-ghost use Rattle.lin_history.specs.Operations.{IsEvent};
-ghost use Rattle.lin_history.specs.WellFormed.{IsWellFormed};
+ghost use Rattle.lin_events.specs.declared.calls.Name.{Name as NameOf};
+ghost use Rattle.lin_events.specs.declared.events.Event.{Event as EventOf};
+ghost use Rattle.lin_events.specs.Operations.{IsEvent};
+ghost use Rattle.lin_events.specs.WellFormed.{IsWellFormed};
 ghost use Rattle.lin_objects.specs.Steps.{Step as StepOf, start as start_of};
-ghost use Rattle.lin_order.specs.Parts.{events_at};
+ghost use Rattle.lin_orders.specs.Parts.{events_at};
 ghost use Rattle.lin_order.specs.Refutations.{IsRefutation, sets_of};
 ghost use Rattle.lin_frontier.specs.Frontiers.{IsOver};
 ghost use Rattle.lin_chain.specs.Chains.{IsRight, end_before, end_in, end_under, kept_count, kind_in, ready_count, ready_under};
 ghost use Rattle.lin_chain.specs.Ends.{IsEndOf, IsFrom};
-ghost use Rattle.lin_chain.specs.Replays.{IsLegalOrderAs};
+ghost use Rattle.lin_orders.specs.Linearizable.{IsLegalOrderAs};
 
 use crate::refuting::refutation_of;
 use crate::replay::{Replay, SPACING, Taken};
+use lin_events::{Event, Meter, OutOfMemory};
 use lin_frontier::{Scratch, members_spell_legal_orders};
-use lin_history::{Event, Meter, OutOfMemory};
 use lin_objects::{Any, Kind};
-use lin_order::{Placed, Refutation, empty_is_legal};
+use lin_order::Refutation;
+use lin_orders::{Placed, empty_is_legal};
 use std::alloc::Global;
 
 /// Whether the events of an object have a legal order (Herlihy and Wing 1990, section 3). Places count its events from 0.

@@ -1,13 +1,13 @@
 //! The open operations of one object, in an order in which a checkpoint has to keep only few of them.
 ghost use Rattle.std.specs.Prelude.{ℕ, ◌≡◌, ◌≤◌, ◌<◌, ◌++◌, [], ℤ, Bool, List, OnOk, OnErr, IfSome, IfNone, IsTrue, All, Some, length, take, drop, slice_get, vec_len, vec_capacity, ◌+◌, true, swap, slice_set};
-ghost use Rattle.lin_history.specs.declared.calls.Name.{Name as NameOf};
-ghost use Rattle.lin_history.specs.declared.events.Event.{Event as EventOf};
+ghost use Rattle.lin_events.specs.declared.calls.Name.{Name as NameOf};
+ghost use Rattle.lin_events.specs.declared.events.Event.{Event as EventOf};
 ghost use Rattle.lin_frontier.specs.declared.pending.Open.{Open as OpenOf};
-ghost use Rattle.lin_order.specs.ConfigurationLaws.{with_event};
+ghost use Rattle.lin_orders.specs.ConfigurationLaws.{with_event};
 ghost use Rattle.lin_frontier.specs.Frontiers.{IsNextEvent, IsPending};
 
+use lin_events::{Body, Event, OutOfMemory, ends_are_unique, well_formed_is_alternating};
 use lin_frontier::{Open, append_operations};
-use lin_history::{Body, Event, OutOfMemory, ends_are_unique, well_formed_is_alternating};
 use std::alloc::Global;
 
 /// The operations that are open after some events: first those that crashed, in the order of their infos, then the others.

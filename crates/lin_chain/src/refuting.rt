@@ -1,25 +1,25 @@
 //! Refutations of histories that have no legal order: all configurations of each beginning.
 ghost use Rattle.std.specs.Prelude.{◌≡◌, ◌+◌, ◌<◌, ℕ, ℤ, Bool, List, All, IfOk, OnOk, Ok, None, Some, length, take};
 ghost use Rattle.std.specs.Map.{keys_of};
-ghost use Rattle.lin_history.specs.declared.calls.Name.{Name as NameOf};
-ghost use Rattle.lin_history.specs.declared.events.Event.{Event as EventOf};
-ghost use Rattle.lin_history.specs.Operations.{IsEvent};
-ghost use Rattle.lin_history.specs.WellFormed.{IsWellFormed};
+ghost use Rattle.lin_events.specs.declared.calls.Name.{Name as NameOf};
+ghost use Rattle.lin_events.specs.declared.events.Event.{Event as EventOf};
+ghost use Rattle.lin_events.specs.Operations.{IsEvent};
+ghost use Rattle.lin_events.specs.WellFormed.{IsWellFormed};
 ghost use Rattle.lin_objects.specs.Steps.{Step as StepOf, start as start_of};
-ghost use Rattle.lin_order.specs.Parts.{events_at};
+ghost use Rattle.lin_orders.specs.Parts.{events_at};
 ghost use Rattle.lin_order.specs.Refutations.{IsRefutation, sets_of};
 ghost use Rattle.lin_frontier.specs.Frontiers.{IsOver};
-ghost use Rattle.lin_chain.specs.Ends.{IsDeadAt};
+ghost use Rattle.lin_orders.specs.Linearizable.{IsDeadAt, IsLinearizableAs};
 ghost use Rattle.lin_chain.specs.Refuting.{AreBuilt};
-ghost use Rattle.lin_chain.specs.Replays.{IsLinearizableAs};
 
 use crate::replay::Taken;
+use lin_events::{Event, Meter, OutOfMemory, Reply, beginnings_are_well_formed};
 use lin_frontier::{
     Config, Frontier, Nodes, Open, Step, nothing_is_open_at_first, take_in as take_in_open,
 };
-use lin_history::{Event, Meter, OutOfMemory, Reply, beginnings_are_well_formed};
 use lin_objects::{Any, Kind, SeqObject, State};
-use lin_order::{RefConfig, Refutation, exact_sets_refute, prefixes_are_linearizable_by};
+use lin_order::{RefConfig, Refutation, exact_sets_refute};
+use lin_orders::prefixes_are_linearizable_by;
 use std::alloc::Global;
 
 /// All configurations of each beginning of some events, so far.

@@ -1,25 +1,26 @@
 //! The frontiers that are kept of an object's events: the present one, and one at each 64th place.
 ghost use Rattle.std.specs.Prelude.{◌≡◌, ◌≢◌, ◌≤◌, ◌<◌, ◌+◌, ◌*◌, [], ℕ, ℤ, Bool, List, None, Some, All, IfOk, IfSome, IfNone, OnOk, OnErr, length, take, min, vec_len, vec_capacity};
-ghost use Rattle.lin_history.specs.declared.calls.Name.{Name as NameOf};
-ghost use Rattle.lin_history.specs.declared.events.Event.{Event as EventOf};
-ghost use Rattle.lin_history.specs.Meters.{ticked};
-ghost use Rattle.lin_history.specs.Operations.{IsEvent};
-ghost use Rattle.lin_history.specs.WellFormed.{IsWellFormed};
+ghost use Rattle.lin_events.specs.declared.calls.Name.{Name as NameOf};
+ghost use Rattle.lin_events.specs.declared.events.Event.{Event as EventOf};
+ghost use Rattle.lin_events.specs.Meters.{ticked};
+ghost use Rattle.lin_events.specs.Operations.{IsEvent};
+ghost use Rattle.lin_events.specs.WellFormed.{IsWellFormed};
 ghost use Rattle.lin_objects.specs.Steps.{Step as StepOf, start as start_of};
-ghost use Rattle.lin_order.specs.declared.placed.Placed.{Placed as PlacedOf};
-ghost use Rattle.lin_order.specs.ConfigurationLaws.{with_event};
+ghost use Rattle.lin_orders.specs.declared.placed.Placed.{Placed as PlacedOf};
+ghost use Rattle.lin_orders.specs.ConfigurationLaws.{with_event};
 ghost use Rattle.lin_frontier.specs.Frontiers.{IsNextEvent, IsOver, IsPending};
 ghost use Rattle.lin_frontier.specs.Rounds.{joined, SpellsRounds};
-ghost use Rattle.lin_chain.specs.Replays.{IsCurrent, IsLegalOrderAs, IsLinearizableAs, IsPrepared, IsReplay, Members, held_count};
+ghost use Rattle.lin_chain.specs.Replays.{IsCurrent, IsPrepared, IsReplay, Members, held_count};
+ghost use Rattle.lin_orders.specs.Linearizable.{IsLegalOrderAs, IsLinearizableAs};
 
 use crate::pending::Pending;
+use lin_events::{Event, Meter, OutOfMemory, beginnings_are_well_formed};
 use lin_frontier::{
     Advance, Compressed, NodeId, Open, RoundNodes, Scratch, append_operations,
     members_spell_legal_orders, nothing_is_open_at_first,
 };
-use lin_history::{Event, Meter, OutOfMemory, beginnings_are_well_formed};
 use lin_objects::{Any, Kind};
-use lin_order::{Placed, empty_is_legal};
+use lin_orders::{Placed, empty_is_legal};
 use std::alloc::Global;
 
 /// How many events are between two checkpoints.

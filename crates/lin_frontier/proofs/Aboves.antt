@@ -1,10 +1,10 @@
 -- Members that are above others: with early updates ahead of their last one they lead to what those lead to, also in another history.
 use Rattle.std.proofs.Common.{ℕ, ◌<◌, ◌≤◌, Bool, List, Contains, ◌⊎◌, inl, inr, sym, subst, arith}
-use Rattle.lin_history.specs.declared.calls.Call.{Call}
-use Rattle.lin_history.specs.declared.calls.Reply.{Reply}
-use Rattle.lin_history.specs.declared.events.Event.{Event}
-use Rattle.lin_order.specs.Configurations.{IsRising}
-use Rattle.lin_order.proofs.Filters.{from_map, in_map}
+use Rattle.lin_events.specs.declared.calls.Call.{Call}
+use Rattle.lin_events.specs.declared.calls.Reply.{Reply}
+use Rattle.lin_events.specs.declared.events.Event.{Event}
+use Rattle.lin_orders.specs.Configurations.{IsRising}
+use Rattle.lin_lists.specs.lemmas.Filters.{from_map, in_map}
 use Rattle.lin_frontier.specs.declared.members.Path.{Path}
 use Rattle.lin_frontier.specs.Covers.{HasCrashed}
 use Rattle.lin_frontier.specs.Members.{DominatesAt, IsOnOffer, LeadsToCover, Meets, Member}

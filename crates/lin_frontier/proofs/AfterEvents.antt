@@ -4,23 +4,23 @@ use Rattle.std.specs.Map.{keys_of}
 use Rattle.std.proofs.lemmas.List.{append-nil}
 use Rattle.std.proofs.lemmas.List.Elements.{All-contains, All-weaker, Contains-append_right}
 use Rattle.std.proofs.lemmas.Bool.{cases_eq}
-use Rattle.lin_history.specs.declared.calls.Call.{Call}
-use Rattle.lin_history.specs.declared.calls.Name.{Name}
-use Rattle.lin_history.specs.declared.calls.Reply.{Reply}
-use Rattle.lin_history.specs.declared.events.Body.TheVariants.{Invoke, Ok, Fail}
-use Rattle.lin_history.specs.declared.events.Event.{Event}
-use Rattle.lin_history.specs.Alternation.{IsAlternating}
-use Rattle.lin_history.specs.Operations.{IsOperation, IsOpen}
-use Rattle.lin_history.specs.WellFormedLaws.{WellFormedIsAlternating}
-use Rattle.lin_order.specs.declared.placed.Placed.{Placed}
-use Rattle.lin_order.specs.Configurations.{EndsIn, IsAdded, IsConfiguration, IsPlacing, IsPlacedOn, none, more as further}
-use Rattle.lin_order.specs.ConfigurationLaws.{with_event, AfterInvocation, InvocationLaw, PlacingIsLegal}
+use Rattle.lin_events.specs.declared.calls.Call.{Call}
+use Rattle.lin_events.specs.declared.calls.Name.{Name}
+use Rattle.lin_events.specs.declared.calls.Reply.{Reply}
+use Rattle.lin_events.specs.declared.events.Body.TheVariants.{Invoke, Ok, Fail}
+use Rattle.lin_events.specs.declared.events.Event.{Event}
+use Rattle.lin_events.specs.Alternation.{IsAlternating}
+use Rattle.lin_events.specs.Operations.{IsOperation, IsOpen}
+use Rattle.lin_events.specs.WellFormedLaws.{WellFormedIsAlternating}
+use Rattle.lin_orders.specs.declared.placed.Placed.{Placed}
+use Rattle.lin_orders.specs.Configurations.{EndsIn, IsAdded, IsConfiguration, IsPlacing, IsPlacedOn, none, more as further}
+use Rattle.lin_orders.specs.ConfigurationLaws.{with_event, AfterInvocation, InvocationLaw, PlacingIsLegal}
 use Rattle.lin_frontier.specs.declared.pending.Open.{Open}
 use Rattle.lin_frontier.specs.Frontiers.{IsFrontier, IsNextEvent, IsOver}
 use Rattle.lin_frontier.specs.Nodes.{Spells}
 use Rattle.lin_frontier.specs.Placing.{IsAbsent, IsKept, IsKeeping, PlacesOne, PlacesNext, insert_pair}
 use Rattle.lin_frontier.specs.Walks.{Walk, here, more, IsBeyond, IsClosure, IsTraced}
-use Rattle.lin_history.proofs.OneMore.{invoked, one_call, one_caller, one_open, open_before, open_kept}
+use Rattle.lin_events.specs.lemmas.OneMore.{invoked, one_call, one_caller, one_open, open_before, open_kept}
 use Rattle.lin_frontier.proofs.Inserting.{absent_from, first_or_rest, insert_added, insert_is, none_from}
 
 -- the node of the entry spells a legal order that ends in its configuration

@@ -2,9 +2,9 @@
 use Rattle.std.proofs.Common.{◌≡◌, ℕ, ◌+◌, ◌<◌, ◌≤◌, List, [], ◌∷◌, ◌++◌, length, map, take, get_or, Contains, inl, inr, sym, ap, subst, ◌∙◌, arith, Bool, Option}
 use Rattle.std.proofs.lemmas.List.{take_all, take_more, get_or-map, length-map}
 use Rattle.std.proofs.lemmas.List.Elements.{Contains-push, Contains-push_cases, Contains-append_left}
-use Rattle.lin_history.specs.declared.calls.Call.{Call}
-use Rattle.lin_history.specs.declared.calls.Reply.{Reply}
-use Rattle.lin_order.specs.declared.placed.Placed.{Placed}
+use Rattle.lin_events.specs.declared.calls.Call.{Call}
+use Rattle.lin_events.specs.declared.calls.Reply.{Reply}
+use Rattle.lin_orders.specs.declared.placed.Placed.{Placed}
 use Rattle.lin_frontier.specs.declared.members.Path.{Path}
 use Rattle.lin_frontier.specs.declared.pending.Open.{Open}
 use Rattle.lin_frontier.specs.Members.{Member}

@@ -2,12 +2,12 @@
 use Rattle.std.proofs.Common.{◌≡◌, ℕ, zero, suc, ◌<◌, ◌≤◌, Bool, List, [], ◌∷◌, ◌++◌, length, Contains, inl, inr, refl, sym, ap, subst, arith, Option, Some, slice_get}
 use Rattle.std.proofs.lemmas.Bool.{cond_above, cond_below}
 use Rattle.std.proofs.lemmas.List.{append-nil}
-use Rattle.lin_history.specs.declared.calls.Call.{Call}
-use Rattle.lin_history.specs.declared.calls.Reply.{Reply}
-use Rattle.lin_history.specs.declared.events.Event.{Event}
-use Rattle.lin_history.proofs.Lists.{get_inside}
-use Rattle.lin_order.specs.declared.placed.Placed.{Placed}
-use Rattle.lin_order.specs.Linearizable.{Runs}
+use Rattle.lin_events.specs.declared.calls.Call.{Call}
+use Rattle.lin_events.specs.declared.calls.Reply.{Reply}
+use Rattle.lin_events.specs.declared.events.Event.{Event}
+use Rattle.lin_lists.specs.lemmas.Lists.{get_inside}
+use Rattle.lin_orders.specs.declared.placed.Placed.{Placed}
+use Rattle.lin_orders.specs.Linearizable.{Runs}
 use Rattle.lin_frontier.specs.Members.{Member}
 use Rattle.lin_frontier.specs.RoundLaws.{IsOfferFrom}
 use Rattle.lin_frontier.specs.Rounds.{ahead, begin_round, place, put, puts, IsTrailOf, RunsBy, SpellsRounds}

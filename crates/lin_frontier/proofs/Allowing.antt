@@ -1,14 +1,14 @@
 -- What rounds allow to be overwritten: after an event, with an observer put in, and with a new round.
 use Rattle.std.proofs.Common.{ℕ, ◌<◌, ◌≤◌, Bool, List, [], ◌∷◌, ◌++◌, length, length-append, inl, inr, refl, sym, subst, ◌∙◌, arith, ap}
 use Rattle.std.proofs.lemmas.List.Elements.{Contains-append_cases}
-use Rattle.lin_history.specs.declared.calls.Call.{Call}
-use Rattle.lin_history.specs.declared.calls.Reply.{Reply}
-use Rattle.lin_history.specs.declared.events.Event.{Event}
-use Rattle.lin_history.specs.Operations.{IsOk}
-use Rattle.lin_history.proofs.OneMore.{end_before, operation_kept}
-use Rattle.lin_order.specs.declared.placed.Placed.{Placed}
-use Rattle.lin_order.specs.ConfigurationLaws.{with_event}
-use Rattle.lin_order.specs.Orders.{IsBefore}
+use Rattle.lin_events.specs.declared.calls.Call.{Call}
+use Rattle.lin_events.specs.declared.calls.Reply.{Reply}
+use Rattle.lin_events.specs.declared.events.Event.{Event}
+use Rattle.lin_events.specs.Operations.{IsOk}
+use Rattle.lin_events.specs.lemmas.OneMore.{end_before, operation_kept}
+use Rattle.lin_orders.specs.declared.placed.Placed.{Placed}
+use Rattle.lin_orders.specs.ConfigurationLaws.{with_event}
+use Rattle.lin_orders.specs.Orders.{IsBefore}
 use Rattle.lin_frontier.specs.Overwritten.{IsOverwrittenBy}
 use Rattle.lin_frontier.specs.OverwrittenLaws.{AllowsBeginsLaw, AllowsOnLaw, AllowsPutLaw}
 use Rattle.lin_frontier.specs.Rounds.{put}

@@ -1,20 +1,20 @@
 -- After an ok the members still lead to all configurations.
 use Rattle.std.proofs.Common.{◌≡◌, ◌⊎◌, ◌≢◌, ℕ, ℤ, Bool, true, false, List, Contains, IsTrue, map, inl, inr, refl, sym, ap, subst, ◌∙◌, Option, true≢false}
 use Rattle.std.proofs.lemmas.List.Elements.{All-contains, Contains-append_left, Contains-append_right}
-use Rattle.lin_history.specs.declared.calls.Call.{Call}
-use Rattle.lin_history.specs.declared.calls.Name.{Name}
-use Rattle.lin_history.specs.declared.calls.Reply.{Reply}
-use Rattle.lin_history.specs.declared.events.Body.TheVariants.{Ok}
-use Rattle.lin_history.specs.declared.events.Event.{Event}
-use Rattle.lin_history.specs.Alternation.{IsAlternating}
-use Rattle.lin_history.specs.Operations.{IsOpen}
-use Rattle.lin_history.specs.WellFormed.{IsWellFormed}
-use Rattle.lin_history.specs.WellFormedLaws.{EndsAreUnique}
-use Rattle.lin_history.proofs.OneMore.{one_open, one_call}
+use Rattle.lin_events.specs.declared.calls.Call.{Call}
+use Rattle.lin_events.specs.declared.calls.Name.{Name}
+use Rattle.lin_events.specs.declared.calls.Reply.{Reply}
+use Rattle.lin_events.specs.declared.events.Body.TheVariants.{Ok}
+use Rattle.lin_events.specs.declared.events.Event.{Event}
+use Rattle.lin_events.specs.Alternation.{IsAlternating}
+use Rattle.lin_events.specs.Operations.{IsOpen}
+use Rattle.lin_events.specs.WellFormed.{IsWellFormed}
+use Rattle.lin_events.specs.WellFormedLaws.{EndsAreUnique}
+use Rattle.lin_events.specs.lemmas.OneMore.{one_open, one_call}
 use Rattle.lin_objects.specs.Commuting.{GoesFirst}
-use Rattle.lin_order.specs.declared.placed.Placed.{Placed}
-use Rattle.lin_order.specs.ConfigurationLaws.{with_event}
-use Rattle.lin_order.specs.Configurations.{IsRising, IsAdded, IsPlacing}
+use Rattle.lin_orders.specs.declared.placed.Placed.{Placed}
+use Rattle.lin_orders.specs.ConfigurationLaws.{with_event}
+use Rattle.lin_orders.specs.Configurations.{IsRising, IsAdded, IsPlacing}
 use Rattle.lin_frontier.specs.declared.members.Path.{Path}
 use Rattle.lin_frontier.specs.declared.pending.Open.{Open}
 use Rattle.lin_frontier.specs.Covers.{HasCrashed}

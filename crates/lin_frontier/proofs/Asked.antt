@@ -1,17 +1,17 @@
 -- After the ok of an observer, of members that stand also for what overwritten updates did: what gives the reply is placed, or one that is like it.
 use Rattle.std.proofs.Common.{◌≡◌, ◌≢◌, ℕ, ℤ, Bool, true, false, List, length, Contains, ◌⊎◌, inl, inr, refl, sym, ap, subst, ◌∙◌, true≢false}
 use Rattle.std.proofs.lemmas.Bool.{cases_eq}
-use Rattle.lin_history.specs.declared.calls.Call.{Call}
-use Rattle.lin_history.specs.declared.calls.Name.{Name}
-use Rattle.lin_history.specs.declared.calls.Reply.{Reply}
-use Rattle.lin_history.specs.declared.events.Body.TheVariants.{Ok}
-use Rattle.lin_history.specs.declared.events.Event.{Event}
-use Rattle.lin_history.specs.Alternation.{IsAlternating}
-use Rattle.lin_history.specs.Operations.{IsOpen}
-use Rattle.lin_history.specs.WellFormedLaws.{EndsAreUnique, WellFormedIsAlternating}
+use Rattle.lin_events.specs.declared.calls.Call.{Call}
+use Rattle.lin_events.specs.declared.calls.Name.{Name}
+use Rattle.lin_events.specs.declared.calls.Reply.{Reply}
+use Rattle.lin_events.specs.declared.events.Body.TheVariants.{Ok}
+use Rattle.lin_events.specs.declared.events.Event.{Event}
+use Rattle.lin_events.specs.Alternation.{IsAlternating}
+use Rattle.lin_events.specs.Operations.{IsOpen}
+use Rattle.lin_events.specs.WellFormedLaws.{EndsAreUnique, WellFormedIsAlternating}
 use Rattle.lin_objects.specs.Overwriting.{IsOverwriting}
-use Rattle.lin_order.specs.Configurations.{IsAdded, IsRising}
-use Rattle.lin_order.specs.ConfigurationLaws.{with_event, AfterOk, OkLaw}
+use Rattle.lin_orders.specs.Configurations.{IsAdded, IsRising}
+use Rattle.lin_orders.specs.ConfigurationLaws.{with_event, AfterOk, OkLaw}
 use Rattle.lin_frontier.specs.declared.members.Path.{Path}
 use Rattle.lin_frontier.specs.Exchanges.{AreAlike, Exchange, IsExchanged}
 use Rattle.lin_frontier.specs.Members.{Meets, Member, IsGiven, IsOffered, IsOnOffer, IsReady, IsUpdate}

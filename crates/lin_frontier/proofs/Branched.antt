@@ -4,17 +4,17 @@ use Rattle.std.proofs.lemmas.Bool.{cases_order}
 use Rattle.std.proofs.lemmas.List.{get_or_append_left, get_or_default, get_or-append_right, get_or-take, length-take-le, take_all}
 use Rattle.std.proofs.lemmas.List.Elements.{All-append, All-cons, All-contains, All-take, All-weaker, Contains-append_left, Contains-get_or, Contains-push}
 use Rattle.std.proofs.lemmas.List.Quantifiers.{all_pairs_push}
-use Rattle.lin_history.specs.declared.calls.Call.{Call}
-use Rattle.lin_history.specs.declared.calls.Call.TheVariants.{Read}
-use Rattle.lin_history.specs.declared.calls.Name.{Name}
-use Rattle.lin_history.specs.declared.calls.Reply.{Reply}
-use Rattle.lin_history.specs.declared.events.Event.{Event}
-use Rattle.lin_history.specs.Alternation.{IsAlternating}
-use Rattle.lin_history.specs.Operations.{IsOpen}
-use Rattle.lin_history.proofs.OneMore.{one_open}
+use Rattle.lin_events.specs.declared.calls.Call.{Call}
+use Rattle.lin_events.specs.declared.calls.Call.TheVariants.{Read}
+use Rattle.lin_events.specs.declared.calls.Name.{Name}
+use Rattle.lin_events.specs.declared.calls.Reply.{Reply}
+use Rattle.lin_events.specs.declared.events.Event.{Event}
+use Rattle.lin_events.specs.Alternation.{IsAlternating}
+use Rattle.lin_events.specs.Operations.{IsOpen}
+use Rattle.lin_events.specs.lemmas.OneMore.{one_open}
 use Rattle.lin_objects.specs.Total.{AreTotal, IsShown}
-use Rattle.lin_order.specs.ConfigurationLaws.{PlacingIsLegal}
-use Rattle.lin_order.specs.Configurations.{IsConfiguration}
+use Rattle.lin_orders.specs.ConfigurationLaws.{PlacingIsLegal}
+use Rattle.lin_orders.specs.Configurations.{IsConfiguration}
 use Rattle.lin_frontier.specs.Branches.{power, ArePicked, IsFree, IsUntold}
 use Rattle.lin_frontier.specs.Frontiers.{IsOver, IsPending}
 use Rattle.lin_frontier.specs.declared.pending.Open.{Open}

@@ -3,15 +3,15 @@ use Rattle.std.proofs.Common.{◌≡◌, ◌≢◌, ◌⊎◌, ℕ, ℤ, zero, s
 use Rattle.std.proofs.lemmas.List.Elements.{All-append, Contains-append_right, All-cons, All-head, All-tail, All-contains, All-weaker}
 use Rattle.std.proofs.lemmas.List.Kept.{AllPairs-cons}
 use Rattle.std.proofs.Math.Nat.{mul_assoc, mul_left_comm, suc-mul}
-use Rattle.lin_history.specs.declared.calls.Call.{Call}
-use Rattle.lin_history.specs.declared.calls.Reply.{Reply}
-use Rattle.lin_history.specs.declared.events.Event.{Event}
-use Rattle.lin_history.specs.Operations.{IsOpen}
+use Rattle.lin_events.specs.declared.calls.Call.{Call}
+use Rattle.lin_events.specs.declared.calls.Reply.{Reply}
+use Rattle.lin_events.specs.declared.events.Event.{Event}
+use Rattle.lin_events.specs.Operations.{IsOpen}
 use Rattle.lin_objects.specs.Total.{AreTotal, Reaches, stays, goes, IsShown}
-use Rattle.lin_order.specs.declared.placed.Placed.{Placed}
-use Rattle.lin_order.specs.ConfigurationLaws.{PlacingIsLegal}
-use Rattle.lin_order.specs.Configurations.{IsAdded, IsConfiguration}
-use Rattle.lin_order.specs.Linearizable.{Runs}
+use Rattle.lin_orders.specs.declared.placed.Placed.{Placed}
+use Rattle.lin_orders.specs.ConfigurationLaws.{PlacingIsLegal}
+use Rattle.lin_orders.specs.Configurations.{IsAdded, IsConfiguration}
+use Rattle.lin_orders.specs.Linearizable.{Runs}
 use Rattle.lin_frontier.specs.Branches.{power}
 use Rattle.lin_frontier.specs.declared.pending.Open.{Open}
 use Rattle.lin_frontier.proofs.Choosing.{can_add}

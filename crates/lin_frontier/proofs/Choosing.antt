@@ -3,8 +3,8 @@ use Rattle.std.proofs.Common.{ℕ, suc, List, [], ◌∷◌, Contains, All, AllP
 use Rattle.std.proofs.lemmas.List.Elements.{Contains-get_or, Contains-append_right}
 use Rattle.std.proofs.lemmas.List.Kept.{AllPairs-cons}
 use Rattle.std.proofs.lemmas.Bool.{cases_eq}
-use Rattle.lin_history.specs.declared.calls.Reply.{Reply}
-use Rattle.lin_order.specs.Configurations.{IsRising, IsAdded}
+use Rattle.lin_events.specs.declared.calls.Reply.{Reply}
+use Rattle.lin_orders.specs.Configurations.{IsRising, IsAdded}
 use Rattle.lin_frontier.specs.Placing.{insert_pair}
 use Rattle.lin_frontier.proofs.Inserting.{first_or_rest, insert_added}
 

@@ -1,17 +1,17 @@
 -- After the ok of an update that commutes with all that is open beside it: it can be placed first on each way.
 use Rattle.std.proofs.Common.{◌≡◌, ◌≢◌, ◌⊎◌, ℕ, ℤ, Bool, false, List, [], Contains, inl, inr, refl, sym, subst, ◌∙◌, arith, true≢false}
-use Rattle.lin_history.specs.declared.calls.Call.{Call}
-use Rattle.lin_history.specs.declared.calls.Name.{Name}
-use Rattle.lin_history.specs.declared.calls.Reply.{Reply}
-use Rattle.lin_history.specs.declared.events.Body.TheVariants.{Ok}
-use Rattle.lin_history.specs.declared.events.Event.{Event}
-use Rattle.lin_history.specs.Alternation.{IsAlternating}
-use Rattle.lin_history.specs.Operations.{IsOpen}
-use Rattle.lin_history.specs.WellFormed.{Completes}
-use Rattle.lin_history.specs.WellFormedLaws.{EndsAreUnique, WellFormedIsAlternating}
+use Rattle.lin_events.specs.declared.calls.Call.{Call}
+use Rattle.lin_events.specs.declared.calls.Name.{Name}
+use Rattle.lin_events.specs.declared.calls.Reply.{Reply}
+use Rattle.lin_events.specs.declared.events.Body.TheVariants.{Ok}
+use Rattle.lin_events.specs.declared.events.Event.{Event}
+use Rattle.lin_events.specs.Alternation.{IsAlternating}
+use Rattle.lin_events.specs.Operations.{IsOpen}
+use Rattle.lin_events.specs.WellFormed.{Completes}
+use Rattle.lin_events.specs.WellFormedLaws.{EndsAreUnique, WellFormedIsAlternating}
 use Rattle.lin_objects.specs.Commuting.{GoesFirst}
-use Rattle.lin_order.specs.Configurations.{IsAdded}
-use Rattle.lin_order.specs.ConfigurationLaws.{with_event, AfterOk, OkLaw}
+use Rattle.lin_orders.specs.Configurations.{IsAdded}
+use Rattle.lin_orders.specs.ConfigurationLaws.{with_event, AfterOk, OkLaw}
 use Rattle.lin_frontier.specs.Covers.{HasCrashed}
 use Rattle.lin_frontier.specs.MemberLaws.{CommutingOkLaw, IsTaken}
 use Rattle.lin_frontier.specs.Members.{Meets, Member, IsComplete, IsCovered, IsGiven, IsOffered, IsOnOffer, IsUpdate, LeadsToMember, DominatesAt, Way, here, more}

@@ -5,17 +5,17 @@ use Rattle.std.specs.List.{IsDistinct}
 use Rattle.std.specs.Cmp.{IsEquivalence, on_equiv, and_equiv, decided}
 use Rattle.std.specs.Cmp.Lexicographic.{pointwise}
 use Rattle.std.proofs.lemmas.List.Elements.{All-contains, All-weaker, Contains-get_or}
-use Rattle.lin_history.specs.declared.calls.Call.{Call}
-use Rattle.lin_history.specs.declared.calls.Name.{Name}
-use Rattle.lin_history.specs.declared.calls.Reply.{Reply}
-use Rattle.lin_history.specs.declared.events.Body.{Body}
-use Rattle.lin_history.specs.declared.events.Body.TheVariants.{Invoke, Ok, Fail, Info}
-use Rattle.lin_history.specs.declared.events.Event.{Event}
-use Rattle.lin_history.specs.WellFormed.{IsWellFormed}
-use Rattle.lin_order.specs.declared.placed.Placed.{Placed}
-use Rattle.lin_order.specs.Linearizable.{IsLinearizableBy}
-use Rattle.lin_order.specs.Configurations.{EndsIn, IsAdded, IsConfiguration}
-use Rattle.lin_order.specs.ConfigurationLaws.{with_event, AfterOk, AtStart, FailLaw, InfoLaw, LegalOrdersEnd, OkLaw}
+use Rattle.lin_events.specs.declared.calls.Call.{Call}
+use Rattle.lin_events.specs.declared.calls.Name.{Name}
+use Rattle.lin_events.specs.declared.calls.Reply.{Reply}
+use Rattle.lin_events.specs.declared.events.Body.{Body}
+use Rattle.lin_events.specs.declared.events.Body.TheVariants.{Invoke, Ok, Fail, Info}
+use Rattle.lin_events.specs.declared.events.Event.{Event}
+use Rattle.lin_events.specs.WellFormed.{IsWellFormed}
+use Rattle.lin_orders.specs.declared.placed.Placed.{Placed}
+use Rattle.lin_orders.specs.Linearizable.{IsLinearizableBy}
+use Rattle.lin_orders.specs.Configurations.{EndsIn, IsAdded, IsConfiguration}
+use Rattle.lin_orders.specs.ConfigurationLaws.{with_event, AfterOk, AtStart, FailLaw, InfoLaw, LegalOrdersEnd, OkLaw}
 use Rattle.lin_frontier.specs.Frontiers.{IsFrontier, IsOver}
 use Rattle.lin_frontier.specs.Nodes.{root}
 use Rattle.lin_frontier.specs.Placing.{IsKeeping, without}

@@ -3,20 +3,20 @@ use Rattle.std.proofs.Common.{◌≡◌, ◌≢◌, ℕ, ℤ, Bool, true, false,
 use Rattle.std.proofs.lemmas.List.{append-nil}
 use Rattle.std.proofs.lemmas.List.Elements.{All-contains}
 use Rattle.std.proofs.lemmas.Option.{slice_get_within}
-use Rattle.lin_history.specs.declared.calls.Call.{Call}
-use Rattle.lin_history.specs.declared.calls.Name.{Name}
-use Rattle.lin_history.specs.declared.calls.Reply.{Reply}
-use Rattle.lin_history.specs.declared.events.Body.{Body}
-use Rattle.lin_history.specs.declared.events.Body.TheVariants.{Invoke, Ok, Fail, Info}
-use Rattle.lin_history.specs.declared.events.Event.{Event}
-use Rattle.lin_history.specs.Alternation.{IsAlternating}
-use Rattle.lin_history.specs.WellFormed.{IsWellFormed, Completes}
-use Rattle.lin_history.specs.WellFormedLaws.{EndsAreUnique, WellFormedIsAlternating}
-use Rattle.lin_history.proofs.OneMore.{alternates_before, completes}
-use Rattle.lin_order.specs.declared.placed.Placed.{Placed}
-use Rattle.lin_order.specs.ConfigurationLaws.{with_event, LegalOrdersEnd}
-use Rattle.lin_order.specs.Linearizable.{IsLinearizableBy}
-use Rattle.lin_order.specs.Configurations.{IsConfiguration, IsRising}
+use Rattle.lin_events.specs.declared.calls.Call.{Call}
+use Rattle.lin_events.specs.declared.calls.Name.{Name}
+use Rattle.lin_events.specs.declared.calls.Reply.{Reply}
+use Rattle.lin_events.specs.declared.events.Body.{Body}
+use Rattle.lin_events.specs.declared.events.Body.TheVariants.{Invoke, Ok, Fail, Info}
+use Rattle.lin_events.specs.declared.events.Event.{Event}
+use Rattle.lin_events.specs.Alternation.{IsAlternating}
+use Rattle.lin_events.specs.WellFormed.{IsWellFormed, Completes}
+use Rattle.lin_events.specs.WellFormedLaws.{EndsAreUnique, WellFormedIsAlternating}
+use Rattle.lin_events.specs.lemmas.OneMore.{alternates_before, completes}
+use Rattle.lin_orders.specs.declared.placed.Placed.{Placed}
+use Rattle.lin_orders.specs.ConfigurationLaws.{with_event, LegalOrdersEnd}
+use Rattle.lin_orders.specs.Linearizable.{IsLinearizableBy}
+use Rattle.lin_orders.specs.Configurations.{IsConfiguration, IsRising}
 use Rattle.lin_frontier.specs.declared.members.Path.{Path}
 use Rattle.lin_frontier.specs.declared.pending.Open.{Open}
 use Rattle.lin_frontier.specs.Compressed.{IsSpelled, IsCovering, IsCompressed, CompressedSpellLegalOrders}

@@ -2,7 +2,7 @@
 use Rattle.std.proofs.Common.{◌≡◌, ℕ, suc, ◌+◌, ◌*◌, ◌≤◌, refl, ap, subst, ◌∙◌, arith}
 use Rattle.std.proofs.Math.Nat.{mul-add, suc-mul}
 use Rattle.std.proofs.lemmas.Nat.{mul-le}
-use Rattle.lin_history.specs.declared.meter.Meter.{Meter}
+use Rattle.lin_events.specs.declared.meter.Meter.{Meter}
 use Rattle.lin_frontier.specs.Walks.{IsTriedAtMost}
 
 pub tried_none : (most : ℕ) (m : Meter) → IsTriedAtMost most m m

@@ -1,19 +1,19 @@
 -- Crashed processes, and what one more event keeps.
 use Rattle.std.proofs.Common.{◌≡◌, ℕ, zero, suc, ℤ, ◌<◌, Bool, List, [], ◌∷◌, length, ◌⊎◌, inl, inr, refl, sym, ap, subst, ◌∙◌, arith, Some}
 use Rattle.std.proofs.lemmas.Bool.{cases_eq}
-use Rattle.lin_history.specs.declared.calls.Name.{Name}
-use Rattle.lin_history.specs.declared.calls.Call.{Call}
-use Rattle.lin_history.specs.declared.calls.Reply.{Reply}
-use Rattle.lin_history.specs.declared.events.Body.{Body}
-use Rattle.lin_history.specs.declared.events.Body.TheVariants.{Invoke, Ok, Fail, Info}
-use Rattle.lin_history.specs.declared.events.Event.{Event}
-use Rattle.lin_history.specs.Alternation.{IsAlternating}
-use Rattle.lin_history.specs.Operations.{IsEvent, IsOperation, IsEnd, IsCrashed, IsOpen}
-use Rattle.lin_history.specs.WellFormed.{Completes}
-use Rattle.lin_history.specs.WellFormedLaws.{EndsAreUnique, WellFormedIsAlternating}
-use Rattle.lin_history.proofs.Lists.{get_last}
-use Rattle.lin_history.proofs.OneMore.{alternates_before, completes, end_cases, end_inside, end_kept, one_caller, one_open, open_before, open_kept, open_other, operation_before, operation_kept}
-use Rattle.lin_order.specs.ConfigurationLaws.{with_event}
+use Rattle.lin_events.specs.declared.calls.Name.{Name}
+use Rattle.lin_events.specs.declared.calls.Call.{Call}
+use Rattle.lin_events.specs.declared.calls.Reply.{Reply}
+use Rattle.lin_events.specs.declared.events.Body.{Body}
+use Rattle.lin_events.specs.declared.events.Body.TheVariants.{Invoke, Ok, Fail, Info}
+use Rattle.lin_events.specs.declared.events.Event.{Event}
+use Rattle.lin_events.specs.Alternation.{IsAlternating}
+use Rattle.lin_events.specs.Operations.{IsEvent, IsOperation, IsEnd, IsCrashed, IsOpen}
+use Rattle.lin_events.specs.WellFormed.{Completes}
+use Rattle.lin_events.specs.WellFormedLaws.{EndsAreUnique, WellFormedIsAlternating}
+use Rattle.lin_lists.specs.lemmas.Lists.{get_last}
+use Rattle.lin_events.specs.lemmas.OneMore.{alternates_before, completes, end_cases, end_inside, end_kept, one_caller, one_open, open_before, open_kept, open_other, operation_before, operation_kept}
+use Rattle.lin_orders.specs.ConfigurationLaws.{with_event}
 use Rattle.lin_frontier.specs.Covers.{HasCrashed}
 use Rattle.lin_frontier.specs.Members.{IsWatching}
 use Rattle.lin_frontier.specs.MemberLaws.{CrashedLaw}

@@ -1,10 +1,10 @@
 -- Domination, and which members can be dropped.
 use Rattle.std.proofs.Common.{ℕ, Bool, List, ◌∷◌, ◌++◌, Contains, inl, inr, refl, sym, subst, ◌∙◌}
 use Rattle.std.proofs.lemmas.List.Elements.{Contains-append_left, Contains-append_right, Contains-append_cases}
-use Rattle.lin_history.specs.declared.calls.Call.{Call}
-use Rattle.lin_history.specs.declared.calls.Reply.{Reply}
-use Rattle.lin_history.specs.declared.events.Event.{Event}
-use Rattle.lin_order.specs.Configurations.{IsRising}
+use Rattle.lin_events.specs.declared.calls.Call.{Call}
+use Rattle.lin_events.specs.declared.calls.Reply.{Reply}
+use Rattle.lin_events.specs.declared.events.Event.{Event}
+use Rattle.lin_orders.specs.Configurations.{IsRising}
 use Rattle.lin_frontier.specs.Covers.{HasCrashed}
 use Rattle.lin_frontier.specs.Members.{Member, IsOnOffer, IsComplete, Leads, LeadsToCover, Dominates}
 use Rattle.lin_frontier.specs.MemberLaws.{DominationLaw, DroppingLaw, DropOneLaw, TransitiveLaw}

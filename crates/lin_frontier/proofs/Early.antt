@@ -2,7 +2,7 @@
 use Rattle.std.proofs.Common.{◌≡◌, ◌&&◌, ℕ, ◌<◌, Bool, true, nat_eq, nat_lt, List, Contains, refl}
 use Rattle.std.proofs.lemmas.Bool.{lt-ltb, ltb-true}
 use Rattle.std.proofs.lemmas.Bool.Decides.{Decides-eqb as Decides-nat_eq}
-use Rattle.lin_history.specs.declared.calls.Call.{Call}
+use Rattle.lin_events.specs.declared.calls.Call.{Call}
 use Rattle.lin_frontier.specs.declared.pending.Open.{Open}
 use Rattle.lin_frontier.specs.Asking.{early_of}
 use Rattle.lin_frontier.specs.Searching.{is_crashed, is_observing, is_watching}

@@ -1,10 +1,10 @@
 -- A member that dominates a point of a way follows the rest of the way, also in another history.
 use Rattle.std.proofs.Common.{◌≡◌, ℕ, ℤ, Bool, false, List, Contains, ◌⊎◌, inl, inr, sym, subst}
-use Rattle.lin_history.specs.declared.calls.Call.{Call}
-use Rattle.lin_history.specs.declared.calls.Reply.{Reply}
-use Rattle.lin_history.specs.declared.events.Event.{Event}
-use Rattle.lin_history.specs.Operations.{IsOpen}
-use Rattle.lin_order.specs.Configurations.{IsRising}
+use Rattle.lin_events.specs.declared.calls.Call.{Call}
+use Rattle.lin_events.specs.declared.calls.Reply.{Reply}
+use Rattle.lin_events.specs.declared.events.Event.{Event}
+use Rattle.lin_events.specs.Operations.{IsOpen}
+use Rattle.lin_orders.specs.Configurations.{IsRising}
 use Rattle.lin_frontier.specs.Covers.{HasCrashed}
 use Rattle.lin_frontier.specs.Members.{Meets, Member, IsWatching, Way, here, more, IsOffered, IsOnOffer, DominatesAt}
 use Rattle.lin_frontier.proofs.Choosing.{can_add, stands}

@@ -1,16 +1,16 @@
 -- What an ok makes of a list of all configurations: nothing is searched.
 use Rattle.std.proofs.Common.{◌≡◌, ℕ, ℤ, Bool, false, true≢false, List, Contains, map, ◌⊎◌, inl, refl, sym, subst, Option}
 use Rattle.std.proofs.lemmas.List.Elements.{All-contains_itself, All-weaker}
-use Rattle.lin_history.specs.declared.calls.Call.{Call}
-use Rattle.lin_history.specs.declared.calls.Name.{Name}
-use Rattle.lin_history.specs.declared.calls.Reply.{Reply}
-use Rattle.lin_history.specs.declared.events.Body.TheVariants.{Ok}
-use Rattle.lin_history.specs.declared.events.Event.{Event}
-use Rattle.lin_history.specs.WellFormed.{IsWellFormed}
-use Rattle.lin_history.specs.WellFormedLaws.{EndsAreUnique, WellFormedIsAlternating}
-use Rattle.lin_order.specs.declared.placed.Placed.{Placed}
-use Rattle.lin_order.specs.ConfigurationLaws.{with_event}
-use Rattle.lin_order.specs.Configurations.{IsAdded, IsRising}
+use Rattle.lin_events.specs.declared.calls.Call.{Call}
+use Rattle.lin_events.specs.declared.calls.Name.{Name}
+use Rattle.lin_events.specs.declared.calls.Reply.{Reply}
+use Rattle.lin_events.specs.declared.events.Body.TheVariants.{Ok}
+use Rattle.lin_events.specs.declared.events.Event.{Event}
+use Rattle.lin_events.specs.WellFormed.{IsWellFormed}
+use Rattle.lin_events.specs.WellFormedLaws.{EndsAreUnique, WellFormedIsAlternating}
+use Rattle.lin_orders.specs.declared.placed.Placed.{Placed}
+use Rattle.lin_orders.specs.ConfigurationLaws.{with_event}
+use Rattle.lin_orders.specs.Configurations.{IsAdded, IsRising}
 use Rattle.lin_frontier.specs.declared.members.Path.{Path}
 use Rattle.lin_frontier.specs.declared.pending.Open.{Open}
 use Rattle.lin_frontier.specs.Compressed.{IsSpelled, IsCovering}

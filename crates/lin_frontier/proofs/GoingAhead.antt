@@ -1,18 +1,18 @@
 -- Rounds with an early update ahead of the last one, which overwrites it.
 use Rattle.std.proofs.Common.{◌≡◌, ◌⊎◌, ℕ, ℤ, suc, ◌<◌, ◌≤◌, Bool, List, [], ◌∷◌, ◌++◌, length, length-append, append_assoc, Contains, inl, inr, refl, sym, ap, subst, ◌∙◌, arith, Some, slice_get}
-use Rattle.lin_history.specs.declared.calls.Call.{Call}
-use Rattle.lin_history.specs.declared.calls.Name.{Name}
-use Rattle.lin_history.specs.declared.calls.Reply.{Reply}
-use Rattle.lin_history.specs.declared.events.Event.{Event}
-use Rattle.lin_history.specs.Alternation.{IsAlternating}
-use Rattle.lin_history.specs.Operations.{IsOk, IsOpen}
-use Rattle.lin_history.specs.WellFormedLaws.{WellFormedIsAlternating}
-use Rattle.lin_history.proofs.Lists.{get_cases, get_inside, get_last, get_left}
-use Rattle.lin_history.proofs.OneMore.{one_call}
-use Rattle.lin_order.specs.declared.placed.Placed.{Placed}
-use Rattle.lin_order.specs.Configurations.{IsAdded, IsPlacedBy}
-use Rattle.lin_order.specs.Linearizable.{Runs}
-use Rattle.lin_order.specs.Orders.{IsBefore, IsOrder}
+use Rattle.lin_events.specs.declared.calls.Call.{Call}
+use Rattle.lin_events.specs.declared.calls.Name.{Name}
+use Rattle.lin_events.specs.declared.calls.Reply.{Reply}
+use Rattle.lin_events.specs.declared.events.Event.{Event}
+use Rattle.lin_events.specs.Alternation.{IsAlternating}
+use Rattle.lin_events.specs.Operations.{IsOk, IsOpen}
+use Rattle.lin_events.specs.WellFormedLaws.{WellFormedIsAlternating}
+use Rattle.lin_lists.specs.lemmas.Lists.{get_cases, get_inside, get_last, get_left}
+use Rattle.lin_events.specs.lemmas.OneMore.{one_call}
+use Rattle.lin_orders.specs.declared.placed.Placed.{Placed}
+use Rattle.lin_orders.specs.Configurations.{IsAdded, IsPlacedBy}
+use Rattle.lin_orders.specs.Linearizable.{Runs}
+use Rattle.lin_orders.specs.Orders.{IsBefore, IsOrder}
 use Rattle.lin_frontier.specs.Members.{IsWatching}
 use Rattle.lin_frontier.specs.Overwritten.{AllowsOverwritten, IsEarlyGiven, IsOverwrittenBy}
 use Rattle.lin_frontier.specs.OverwrittenLaws.{AheadLaw}

@@ -1,6 +1,6 @@
 -- The rounds of a node as what comes of its entries.
 use Rattle.std.proofs.Common.{◌≡◌, ℕ, zero, suc, ◌<◌, List, [], ◌∷◌, ◌++◌, length, refl, sym, ap, ◌∙◌, arith, Option, Some, None, get_or, set}
-use Rattle.lin_order.specs.declared.placed.Placed.{Placed}
+use Rattle.lin_orders.specs.declared.placed.Placed.{Placed}
 use Rattle.lin_frontier.specs.Nodes.{Spells, root, node}
 use Rattle.lin_frontier.specs.Rounds.{begin_round, place, put, SpellsRounds, root as one_round, begins, puts}
 use Rattle.lin_frontier.specs.Searching.{in_rounds}

@@ -3,12 +3,12 @@ use Rattle.std.proofs.Common.{◌≡◌, ℕ, zero, suc, ◌<◌, List, [], ◌�
 use Rattle.std.proofs.lemmas.List.{append_assoc, append-nil}
 use Rattle.std.proofs.lemmas.List.Elements.{Contains-get_or, Contains-append_left, Contains-append_right, Contains-append_cases}
 use Rattle.std.proofs.lemmas.List.Kept.{AllPairs-cons}
-use Rattle.lin_history.specs.declared.calls.Call.{Call}
-use Rattle.lin_history.specs.declared.calls.Reply.{Reply}
-use Rattle.lin_history.specs.declared.events.Event.{Event}
-use Rattle.lin_order.specs.declared.placed.Placed.{Placed}
-use Rattle.lin_order.specs.Linearizable.{Runs}
-use Rattle.lin_order.specs.Orders.{IsCall}
+use Rattle.lin_events.specs.declared.calls.Call.{Call}
+use Rattle.lin_events.specs.declared.calls.Reply.{Reply}
+use Rattle.lin_events.specs.declared.events.Event.{Event}
+use Rattle.lin_orders.specs.declared.placed.Placed.{Placed}
+use Rattle.lin_orders.specs.Linearizable.{Runs}
+use Rattle.lin_orders.specs.Orders.{IsCall}
 use Rattle.lin_frontier.specs.Rounds.{joined, put, RunsBy}
 use Rattle.lin_frontier.proofs.Choosing.{head_pairs, nothing_in, tail_pairs}
 use Rattle.lin_frontier.proofs.Inserting.{first_or_rest}

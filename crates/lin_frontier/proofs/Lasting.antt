@@ -1,17 +1,17 @@
 -- Placing, and the events that keep all members: invocation, info, fail.
 use Rattle.std.proofs.Common.{◌≡◌, ℕ, ℤ, Bool, true, false, List, Contains, inl, inr, refl, sym, ap, subst}
 use Rattle.std.proofs.lemmas.Bool.{cases_Bool}
-use Rattle.lin_history.specs.declared.calls.Call.{Call}
-use Rattle.lin_history.specs.declared.calls.Name.{Name}
-use Rattle.lin_history.specs.declared.calls.Reply.{Reply}
-use Rattle.lin_history.specs.declared.events.Event.{Event}
-use Rattle.lin_history.specs.Alternation.{IsAlternating}
-use Rattle.lin_history.specs.WellFormed.{Completes}
-use Rattle.lin_history.specs.WellFormedLaws.{EndsAreUnique, WellFormedIsAlternating}
+use Rattle.lin_events.specs.declared.calls.Call.{Call}
+use Rattle.lin_events.specs.declared.calls.Name.{Name}
+use Rattle.lin_events.specs.declared.calls.Reply.{Reply}
+use Rattle.lin_events.specs.declared.events.Event.{Event}
+use Rattle.lin_events.specs.Alternation.{IsAlternating}
+use Rattle.lin_events.specs.WellFormed.{Completes}
+use Rattle.lin_events.specs.WellFormedLaws.{EndsAreUnique, WellFormedIsAlternating}
 use Rattle.lin_objects.specs.Observing.{IsObserving}
-use Rattle.lin_order.specs.declared.placed.Placed.{Placed}
-use Rattle.lin_order.specs.Configurations.{IsAdded, IsPlacing, IsPlacedOn, none, more as further}
-use Rattle.lin_order.specs.ConfigurationLaws.{with_event, FailLaw, InfoLaw, InvocationLaw}
+use Rattle.lin_orders.specs.declared.placed.Placed.{Placed}
+use Rattle.lin_orders.specs.Configurations.{IsAdded, IsPlacing, IsPlacedOn, none, more as further}
+use Rattle.lin_orders.specs.ConfigurationLaws.{with_event, FailLaw, InfoLaw, InvocationLaw}
 use Rattle.lin_frontier.specs.Covers.{HasCrashed}
 use Rattle.lin_frontier.specs.Members.{Meets, Member, IsOnOffer, IsReady, IsWatching, more, LeadsToCover}
 use Rattle.lin_frontier.specs.MemberLaws.{LeadsOnLaw, PlaceLaw, InvocationKeepsLaw, InfoKeepsLaw, FailKeepsLaw}

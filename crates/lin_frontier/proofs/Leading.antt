@@ -1,8 +1,8 @@
 -- Members that another one leads to can be dropped.
 use Rattle.std.proofs.Common.{ℕ, Bool, List, Contains, ◌⊎◌, inl, inr, subst}
-use Rattle.lin_history.specs.declared.calls.Call.{Call}
-use Rattle.lin_history.specs.declared.calls.Reply.{Reply}
-use Rattle.lin_history.specs.declared.events.Event.{Event}
+use Rattle.lin_events.specs.declared.calls.Call.{Call}
+use Rattle.lin_events.specs.declared.calls.Reply.{Reply}
+use Rattle.lin_events.specs.declared.events.Event.{Event}
 use Rattle.lin_frontier.specs.Covers.{HasCrashed}
 use Rattle.lin_frontier.specs.Members.{Meets, Member, IsGiven, IsOffered, IsOnOffer, IsWatching, LeadsToMember, Way, here, more}
 use Rattle.lin_frontier.specs.MemberLaws.{LedToLaw}

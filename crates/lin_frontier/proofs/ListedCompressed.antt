@@ -1,8 +1,8 @@
 -- A listing is a covering, in which each member leads to its own configuration.
 use Rattle.std.proofs.Common.{map, Contains, subst, sym, true≢false}
-use Rattle.lin_history.specs.declared.calls.Call.{Call}
-use Rattle.lin_history.specs.declared.calls.Reply.{Reply}
-use Rattle.lin_order.specs.Configurations.{IsRising}
+use Rattle.lin_events.specs.declared.calls.Call.{Call}
+use Rattle.lin_events.specs.declared.calls.Reply.{Reply}
+use Rattle.lin_orders.specs.Configurations.{IsRising}
 use Rattle.lin_frontier.specs.declared.members.Path.{Path}
 use Rattle.lin_frontier.specs.Listed.{ListingCoversLaw}
 use Rattle.lin_frontier.specs.MemberLaws.{ListedLaw}

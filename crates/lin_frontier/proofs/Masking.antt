@@ -7,7 +7,7 @@ use Rattle.std.proofs.lemmas.List.Elements.{filter-append}
 use Rattle.std.proofs.lemmas.Nat.{or_comm}
 use Rattle.std.proofs.lemmas.Nat.Bits.{bit_at_or, same_from_bits}
 use Rattle.std.proofs.lemmas.Bool.Decides.{Decides-eqb as Decides-nat_eq}
-use Rattle.lin_history.specs.declared.calls.Reply.{Reply}
+use Rattle.lin_events.specs.declared.calls.Reply.{Reply}
 use Rattle.lin_frontier.specs.declared.pending.Open.{Open}
 use Rattle.lin_frontier.specs.Masks.{bits_of, mask_of, crashed_bits}
 use Rattle.lin_frontier.specs.Parts.{bits_beside}

@@ -1,17 +1,17 @@
 -- After an ok, of members that stand also for what overwritten updates did: how a way goes on from members that are held, and the ok of an update.
 use Rattle.std.proofs.Common.{◌≡◌, ℕ, ℤ, Bool, false, List, length, Contains, ◌⊎◌, inl, inr, sym, ap, subst, ◌∙◌, true≢false}
 use Rattle.std.proofs.lemmas.Bool.{cases_eq}
-use Rattle.lin_history.specs.declared.calls.Call.{Call}
-use Rattle.lin_history.specs.declared.calls.Name.{Name}
-use Rattle.lin_history.specs.declared.calls.Reply.{Reply}
-use Rattle.lin_history.specs.declared.events.Body.TheVariants.{Ok}
-use Rattle.lin_history.specs.declared.events.Event.{Event}
-use Rattle.lin_history.specs.Alternation.{IsAlternating}
-use Rattle.lin_history.specs.Operations.{IsOpen}
-use Rattle.lin_history.specs.WellFormedLaws.{EndsAreUnique, WellFormedIsAlternating}
+use Rattle.lin_events.specs.declared.calls.Call.{Call}
+use Rattle.lin_events.specs.declared.calls.Name.{Name}
+use Rattle.lin_events.specs.declared.calls.Reply.{Reply}
+use Rattle.lin_events.specs.declared.events.Body.TheVariants.{Ok}
+use Rattle.lin_events.specs.declared.events.Event.{Event}
+use Rattle.lin_events.specs.Alternation.{IsAlternating}
+use Rattle.lin_events.specs.Operations.{IsOpen}
+use Rattle.lin_events.specs.WellFormedLaws.{EndsAreUnique, WellFormedIsAlternating}
 use Rattle.lin_objects.specs.Overwriting.{IsOverwriting}
-use Rattle.lin_order.specs.Configurations.{IsAdded, IsRising}
-use Rattle.lin_order.specs.ConfigurationLaws.{with_event, AfterOk, OkLaw}
+use Rattle.lin_orders.specs.Configurations.{IsAdded, IsRising}
+use Rattle.lin_orders.specs.ConfigurationLaws.{with_event, AfterOk, OkLaw}
 use Rattle.lin_frontier.specs.declared.members.Path.{Path}
 use Rattle.lin_frontier.specs.Exchanges.{Exchange, IsExchanged}
 use Rattle.lin_frontier.specs.Members.{Meets, Member, Way, IsGiven, IsOffered, IsOnOffer}

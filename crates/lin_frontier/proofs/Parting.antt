@@ -7,7 +7,7 @@ use Rattle.std.specs.List.{fold}
 use Rattle.std.specs.Hash as fed
 use Rattle.std.specs.Hash.FoldHasher.{initial, write, finish}
 use Rattle.std.specs.Int.Bits.{bit_and}
-use Rattle.lin_history.specs.declared.calls.Call.{Call}
+use Rattle.lin_events.specs.declared.calls.Call.{Call}
 use Rattle.lin_frontier.specs.declared.members.Path.{Path}
 use Rattle.lin_frontier.specs.declared.pending.Open.{Open}
 use Rattle.lin_frontier.specs.Members.{Member}

@@ -6,23 +6,23 @@ use Rattle.std.proofs.lemmas.List.{get_or-map, get_or_append_left, length-map}
 use Rattle.std.proofs.lemmas.Option.{slice_get_within}
 use Rattle.std.proofs.lemmas.List.Elements.{Contains-append_left, Contains-get_or, Contains-push, Contains-push_cases}
 use Rattle.std.proofs.lemmas.List.Kept.{AllPairs-filter}
-use Rattle.lin_history.specs.declared.calls.Call.{Call}
-use Rattle.lin_history.specs.declared.calls.Name.{Name}
-use Rattle.lin_history.specs.declared.calls.Reply.{Reply}
-use Rattle.lin_history.specs.declared.events.Body.{Body}
-use Rattle.lin_history.specs.declared.events.Body.TheVariants.{Invoke, Ok, Fail, Info}
-use Rattle.lin_history.specs.declared.events.Event.{Event}
-use Rattle.lin_history.specs.Alternation.{IsAlternating}
-use Rattle.lin_history.specs.Operations.{IsCrashed, IsEnd, IsOperation, IsOpen}
-use Rattle.lin_history.specs.WellFormed.{Completes, IsWellFormed}
-use Rattle.lin_history.specs.WellFormedLaws.{BeginningsAreWellFormed, WellFormedIsAlternating}
-use Rattle.lin_order.specs.ConfigurationLaws.{with_event}
+use Rattle.lin_events.specs.declared.calls.Call.{Call}
+use Rattle.lin_events.specs.declared.calls.Name.{Name}
+use Rattle.lin_events.specs.declared.calls.Reply.{Reply}
+use Rattle.lin_events.specs.declared.events.Body.{Body}
+use Rattle.lin_events.specs.declared.events.Body.TheVariants.{Invoke, Ok, Fail, Info}
+use Rattle.lin_events.specs.declared.events.Event.{Event}
+use Rattle.lin_events.specs.Alternation.{IsAlternating}
+use Rattle.lin_events.specs.Operations.{IsCrashed, IsEnd, IsOperation, IsOpen}
+use Rattle.lin_events.specs.WellFormed.{Completes, IsWellFormed}
+use Rattle.lin_events.specs.WellFormedLaws.{BeginningsAreWellFormed, WellFormedIsAlternating}
+use Rattle.lin_orders.specs.ConfigurationLaws.{with_event}
 use Rattle.lin_frontier.specs.declared.pending.Open.{Open}
 use Rattle.lin_frontier.specs.Frontiers.{IsNextEvent, IsPending}
 use Rattle.lin_frontier.specs.Placing.{marked}
-use Rattle.lin_history.proofs.OneMore.{completes, end_cases, end_inside, end_kept, invoked, one_caller, one_open, open_before, open_kept, open_other, operation_kept}
-use Rattle.lin_history.proofs.Lists.{get_last}
-use Rattle.lin_history.proofs.StatusLemmas.{one_event}
+use Rattle.lin_events.specs.lemmas.OneMore.{completes, end_cases, end_inside, end_kept, invoked, one_caller, one_open, open_before, open_kept, open_other, operation_kept}
+use Rattle.lin_lists.specs.lemmas.Lists.{get_last}
+use Rattle.lin_events.specs.lemmas.StatusLemmas.{one_event}
 use Rattle.lin_frontier.proofs.Inserting.{kept_by, passed_by, other_process, differs}
 
 -- with one more whose position is new, no two have one position

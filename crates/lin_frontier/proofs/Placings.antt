@@ -6,11 +6,11 @@ use Rattle.std.proofs.lemmas.Nat.{mul-le}
 use Rattle.std.proofs.lemmas.List.Elements.{filter_more, Contains-push, Contains-push_cases, Contains-append_left}
 use Rattle.std.specs.declared.result.Result.{Result}
 use Rattle.std.specs.declared.result.Result.TheVariants.{Ok, Err}
-use Rattle.lin_history.specs.declared.calls.Call.{Call}
-use Rattle.lin_history.specs.declared.calls.Reply.{Reply}
-use Rattle.lin_history.specs.declared.meter.Meter.{Meter}
+use Rattle.lin_events.specs.declared.calls.Call.{Call}
+use Rattle.lin_events.specs.declared.calls.Reply.{Reply}
+use Rattle.lin_events.specs.declared.meter.Meter.{Meter}
 use Rattle.lin_objects.specs.Overwriting.{IsOverwriting}
-use Rattle.lin_order.specs.declared.placed.Placed.{Placed}
+use Rattle.lin_orders.specs.declared.placed.Placed.{Placed}
 use Rattle.lin_frontier.specs.declared.members.Path.{Path}
 use Rattle.lin_frontier.specs.declared.pending.Open.{Open}
 use Rattle.lin_frontier.specs.Asking.{early_of, AreAsked, AreReturned, IsAheadOf, IsAnsweredStill, IsAskedAhead, IsAskedBehind, IsAskedLikeAhead, IsAskedLikeBehind, IsCompletedWith, IsFindingWith, IsPutIn, IsReturnedAhead, IsReturnedBehind}

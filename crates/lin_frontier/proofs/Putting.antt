@@ -1,17 +1,17 @@
 -- An observer put at the end of a round, and a new round.
 use Rattle.std.proofs.Common.{◌≡◌, ◌≢◌, ℕ, suc, ℤ, Bool, true, List, [], ◌∷◌, ◌++◌, length, length-append, Contains, ◌⊎◌, inl, inr, refl, sym, ap, subst, arith, Some, slice_get}
 use Rattle.std.proofs.lemmas.List.Elements.{All-contains, Contains-append_left, Contains-append_right, Contains-append_cases}
-use Rattle.lin_history.specs.declared.calls.Call.{Call}
-use Rattle.lin_history.specs.declared.calls.Reply.{Reply}
-use Rattle.lin_history.specs.declared.events.Event.{Event}
-use Rattle.lin_history.specs.Operations.{IsFailed, IsOk, IsOpen, IsOperation}
-use Rattle.lin_history.proofs.Lists.{get_left, get_cases, get_inside}
-use Rattle.lin_history.proofs.OneMore.{one_caller}
+use Rattle.lin_events.specs.declared.calls.Call.{Call}
+use Rattle.lin_events.specs.declared.calls.Reply.{Reply}
+use Rattle.lin_events.specs.declared.events.Event.{Event}
+use Rattle.lin_events.specs.Operations.{IsFailed, IsOk, IsOpen, IsOperation}
+use Rattle.lin_lists.specs.lemmas.Lists.{get_left, get_cases, get_inside}
+use Rattle.lin_events.specs.lemmas.OneMore.{one_caller}
 use Rattle.lin_objects.specs.Observing.{IsObserving}
-use Rattle.lin_order.specs.declared.placed.Placed.{Placed}
-use Rattle.lin_order.specs.Orders.{IsBefore, IsCall, IsOrder, Places}
-use Rattle.lin_order.specs.Configurations.{EndsIn, IsAdded, IsPlacedBy, IsPlacing}
-use Rattle.lin_order.specs.ConfigurationLaws.{PlacingIsLegal}
+use Rattle.lin_orders.specs.declared.placed.Placed.{Placed}
+use Rattle.lin_orders.specs.Orders.{IsBefore, IsCall, IsOrder, Places}
+use Rattle.lin_orders.specs.Configurations.{EndsIn, IsAdded, IsPlacedBy, IsPlacing}
+use Rattle.lin_orders.specs.ConfigurationLaws.{PlacingIsLegal}
 use Rattle.lin_frontier.specs.Members.{IsGiven}
 use Rattle.lin_frontier.specs.Rounds.{joined, put, begin_round, IsOfferedIn, IsTrail}
 use Rattle.lin_frontier.proofs.Choosing.{all_from, nothing_in}

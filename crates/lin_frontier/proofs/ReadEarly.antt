@@ -1,26 +1,26 @@
 -- A write and a read at once: the read of the value from before the write.
 use Rattle.std.proofs.Common.{◌≡◌, ℕ, ℤ, zero, suc, ◌<◌, true, List, [], ◌∷◌, pos, Contains, inl, inr, refl, sym, ap, subst, ◌∙◌, arith, Some}
-use Rattle.lin_history.specs.declared.calls.Call.{Call}
-use Rattle.lin_history.specs.declared.calls.Call.TheVariants.{Read, Write}
-use Rattle.lin_history.specs.declared.calls.Name.TheVariants as Named
-use Rattle.lin_history.specs.declared.calls.Reply.{Reply}
-use Rattle.lin_history.specs.declared.calls.Reply.TheVariants as Replied
-use Rattle.lin_history.specs.declared.calls.Val.{Val}
-use Rattle.lin_history.specs.declared.calls.Val.TheVariants.{Nil}
-use Rattle.lin_history.specs.declared.events.Body.TheVariants.{Invoke, Ok, Info}
-use Rattle.lin_history.specs.declared.events.Event.{Event}
-use Rattle.lin_history.specs.Operations.{IsEvent, IsOf, IsOperation, IsEnd, IsOpen}
-use Rattle.lin_history.specs.WellFormed.{IsWellFormed}
-use Rattle.lin_history.specs.WellFormedLaws.{WellFormedIsAlternating}
-use Rattle.lin_history.proofs.OneMore.{alternates_before, one_call, one_caller}
+use Rattle.lin_events.specs.declared.calls.Call.{Call}
+use Rattle.lin_events.specs.declared.calls.Call.TheVariants.{Read, Write}
+use Rattle.lin_events.specs.declared.calls.Name.TheVariants as Named
+use Rattle.lin_events.specs.declared.calls.Reply.{Reply}
+use Rattle.lin_events.specs.declared.calls.Reply.TheVariants as Replied
+use Rattle.lin_events.specs.declared.calls.Val.{Val}
+use Rattle.lin_events.specs.declared.calls.Val.TheVariants.{Nil}
+use Rattle.lin_events.specs.declared.events.Body.TheVariants.{Invoke, Ok, Info}
+use Rattle.lin_events.specs.declared.events.Event.{Event}
+use Rattle.lin_events.specs.Operations.{IsEvent, IsOf, IsOperation, IsEnd, IsOpen}
+use Rattle.lin_events.specs.WellFormed.{IsWellFormed}
+use Rattle.lin_events.specs.WellFormedLaws.{WellFormedIsAlternating}
+use Rattle.lin_events.specs.lemmas.OneMore.{alternates_before, one_call, one_caller}
 use Rattle.lin_objects.specs.declared.kinds.Kind.TheVariants.{Register}
 use Rattle.lin_objects.specs.declared.states.State.{State}
 use Rattle.lin_objects.specs.declared.states.State.TheVariants.{Value}
 use Rattle.lin_objects.specs.Observing.{observes, observers_keep}
 use Rattle.lin_objects.specs.Steps.{Step, start}
-use Rattle.lin_order.specs.Configurations.{IsPlacing, IsRising}
-use Rattle.lin_order.specs.ConfigurationExamples.{of_registers, event}
-use Rattle.lin_order.specs.ConfigurationLaws.{with_event}
+use Rattle.lin_orders.specs.Configurations.{IsPlacing, IsRising}
+use Rattle.lin_orders.specs.ConfigurationExamples.{of_registers, event}
+use Rattle.lin_orders.specs.ConfigurationLaws.{with_event}
 use Rattle.lin_frontier.specs.Covers.{HasCrashed}
 use Rattle.lin_frontier.specs.Members.{Member, IsWatching, IsGiven, Leads, IsComplete, Dominates, here, more}
 use Rattle.lin_frontier.specs.MemberLaws.{first_member, InvocationKeepsLaw, ObserverSearchLaw, StartCompleteLaw}

@@ -1,19 +1,19 @@
 -- A write and a read at once, of which the read returns: the history is well-formed.
 use Rattle.std.proofs.Common.{◌≡◌, ℕ, ℤ, zero, suc, ◌<◌, true, pos, ◌⊎◌, inl, inr, refl, ap, subst, arith}
-use Rattle.lin_history.specs.declared.calls.Call.{Call}
-use Rattle.lin_history.specs.declared.calls.Call.TheVariants.{Read, Write}
-use Rattle.lin_history.specs.declared.calls.Name.{Name}
-use Rattle.lin_history.specs.declared.calls.Name.TheVariants as Named
-use Rattle.lin_history.specs.declared.calls.Reply.TheVariants as Replied
-use Rattle.lin_history.specs.declared.calls.Val.{Val}
-use Rattle.lin_history.specs.declared.calls.Val.TheVariants.{Nil}
-use Rattle.lin_history.specs.declared.events.Body.TheVariants.{Invoke, Ok}
-use Rattle.lin_history.specs.declared.events.Event.{Event}
-use Rattle.lin_history.specs.Alternation.{IsReturn, IsAlternating}
-use Rattle.lin_history.specs.Names.{name_of}
-use Rattle.lin_history.specs.Operations.{IsEvent, IsOperation, IsEnd}
-use Rattle.lin_history.specs.WellFormed.{Completes}
-use Rattle.lin_order.specs.ConfigurationExamples.{of_registers, event}
+use Rattle.lin_events.specs.declared.calls.Call.{Call}
+use Rattle.lin_events.specs.declared.calls.Call.TheVariants.{Read, Write}
+use Rattle.lin_events.specs.declared.calls.Name.{Name}
+use Rattle.lin_events.specs.declared.calls.Name.TheVariants as Named
+use Rattle.lin_events.specs.declared.calls.Reply.TheVariants as Replied
+use Rattle.lin_events.specs.declared.calls.Val.{Val}
+use Rattle.lin_events.specs.declared.calls.Val.TheVariants.{Nil}
+use Rattle.lin_events.specs.declared.events.Body.TheVariants.{Invoke, Ok}
+use Rattle.lin_events.specs.declared.events.Event.{Event}
+use Rattle.lin_events.specs.Alternation.{IsReturn, IsAlternating}
+use Rattle.lin_events.specs.Names.{name_of}
+use Rattle.lin_events.specs.Operations.{IsEvent, IsOperation, IsEnd}
+use Rattle.lin_events.specs.WellFormed.{Completes}
+use Rattle.lin_orders.specs.ConfigurationExamples.{of_registers, event}
 use Rattle.lin_frontier.specs.MemberExamples.{read_returned}
 use Rattle.lin_frontier.proofs.Searching.{one_event}
 

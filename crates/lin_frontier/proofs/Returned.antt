@@ -2,21 +2,21 @@
 use Rattle.std.proofs.Common.{◌≡◌, ◌≢◌, ℕ, ℤ, suc, Bool, true, List, [], ◌∷◌, ◌++◌, length, length-append, Contains, inl, inr, refl, sym, ap, subst, ◌∙◌, arith, Option}
 use Rattle.std.proofs.lemmas.List.Elements.{Contains-append_cases}
 use Rattle.std.proofs.lemmas.Option.{slice_get_within}
-use Rattle.lin_history.specs.declared.calls.Call.{Call}
-use Rattle.lin_history.specs.declared.calls.Name.{Name}
-use Rattle.lin_history.specs.declared.calls.Reply.{Reply}
-use Rattle.lin_history.specs.declared.events.Body.{Body}
-use Rattle.lin_history.specs.declared.events.Body.TheVariants.{Invoke, Ok}
-use Rattle.lin_history.specs.declared.events.Event.{Event}
-use Rattle.lin_history.specs.Alternation.{IsAlternating}
-use Rattle.lin_history.specs.Operations.{IsOpen}
-use Rattle.lin_history.specs.WellFormed.{IsWellFormed}
-use Rattle.lin_history.specs.WellFormedLaws.{EndsAreUnique}
-use Rattle.lin_history.proofs.Lists.{get_cases}
-use Rattle.lin_history.proofs.OneMore.{open_before}
-use Rattle.lin_order.specs.declared.placed.Placed.{Placed}
-use Rattle.lin_order.specs.ConfigurationLaws.{with_event}
-use Rattle.lin_order.specs.Configurations.{IsAdded}
+use Rattle.lin_events.specs.declared.calls.Call.{Call}
+use Rattle.lin_events.specs.declared.calls.Name.{Name}
+use Rattle.lin_events.specs.declared.calls.Reply.{Reply}
+use Rattle.lin_events.specs.declared.events.Body.{Body}
+use Rattle.lin_events.specs.declared.events.Body.TheVariants.{Invoke, Ok}
+use Rattle.lin_events.specs.declared.events.Event.{Event}
+use Rattle.lin_events.specs.Alternation.{IsAlternating}
+use Rattle.lin_events.specs.Operations.{IsOpen}
+use Rattle.lin_events.specs.WellFormed.{IsWellFormed}
+use Rattle.lin_events.specs.WellFormedLaws.{EndsAreUnique}
+use Rattle.lin_lists.specs.lemmas.Lists.{get_cases}
+use Rattle.lin_events.specs.lemmas.OneMore.{open_before}
+use Rattle.lin_orders.specs.declared.placed.Placed.{Placed}
+use Rattle.lin_orders.specs.ConfigurationLaws.{with_event}
+use Rattle.lin_orders.specs.Configurations.{IsAdded}
 use Rattle.lin_frontier.specs.declared.members.Path.{Path}
 use Rattle.lin_frontier.specs.declared.pending.Open.{Open}
 use Rattle.lin_frontier.specs.Compressed.{IsSpelled}

@@ -1,17 +1,17 @@
 -- After an ok: which members lead to all configurations.
 use Rattle.std.proofs.Common.{◌≡◌, ℕ, ℤ, Bool, true, false, List, Contains, inl, inr, refl, sym, subst, ◌∙◌, true≢false}
-use Rattle.lin_history.specs.declared.calls.Name.{Name}
-use Rattle.lin_history.specs.declared.calls.Call.{Call}
-use Rattle.lin_history.specs.declared.calls.Reply.{Reply}
-use Rattle.lin_history.specs.declared.events.Event.{Event}
-use Rattle.lin_history.specs.declared.events.Body.TheVariants.{Ok}
-use Rattle.lin_history.specs.Alternation.{IsAlternating}
-use Rattle.lin_history.specs.Operations.{IsOpen}
-use Rattle.lin_history.specs.WellFormed.{Completes}
-use Rattle.lin_history.specs.WellFormedLaws.{EndsAreUnique}
-use Rattle.lin_history.proofs.OneMore.{alternates_before}
-use Rattle.lin_order.specs.Configurations.{IsAdded, IsRising}
-use Rattle.lin_order.specs.ConfigurationLaws.{with_event, AfterOk}
+use Rattle.lin_events.specs.declared.calls.Name.{Name}
+use Rattle.lin_events.specs.declared.calls.Call.{Call}
+use Rattle.lin_events.specs.declared.calls.Reply.{Reply}
+use Rattle.lin_events.specs.declared.events.Event.{Event}
+use Rattle.lin_events.specs.declared.events.Body.TheVariants.{Ok}
+use Rattle.lin_events.specs.Alternation.{IsAlternating}
+use Rattle.lin_events.specs.Operations.{IsOpen}
+use Rattle.lin_events.specs.WellFormed.{Completes}
+use Rattle.lin_events.specs.WellFormedLaws.{EndsAreUnique}
+use Rattle.lin_events.specs.lemmas.OneMore.{alternates_before}
+use Rattle.lin_orders.specs.Configurations.{IsAdded, IsRising}
+use Rattle.lin_orders.specs.ConfigurationLaws.{with_event, AfterOk}
 use Rattle.lin_frontier.specs.Covers.{HasCrashed}
 use Rattle.lin_frontier.specs.Exchanges.{Exchange, IsExchanged}
 use Rattle.lin_frontier.specs.Members.{Meets, Member, IsUpdate, IsOffered, IsOnOffer, IsReady, WayOf, more, LeadsToCover, IsComplete, IsCovered, DominatesAt}

@@ -1,18 +1,18 @@
 -- After an ok, by members that a search visits.
 use Rattle.std.proofs.Common.{◌≡◌, ◌≢◌, ℕ, ℤ, Bool, true, List, length, Contains, ◌⊎◌, inl, inr, refl, sym, ap, subst, ◌∙◌, Some, slice_get}
-use Rattle.lin_history.specs.declared.calls.Name.{Name}
-use Rattle.lin_history.specs.declared.calls.Call.{Call}
-use Rattle.lin_history.specs.declared.calls.Reply.{Reply}
-use Rattle.lin_history.specs.declared.events.Body.TheVariants.{Ok}
-use Rattle.lin_history.specs.declared.events.Event.{Event}
-use Rattle.lin_history.specs.Alternation.{IsAlternating}
-use Rattle.lin_history.specs.Operations.{IsOpen, IsOperation}
-use Rattle.lin_history.specs.WellFormed.{Completes}
-use Rattle.lin_history.specs.WellFormedLaws.{EndsAreUnique}
-use Rattle.lin_history.proofs.Lists.{get_last}
-use Rattle.lin_history.proofs.OneMore.{completes, open_before}
-use Rattle.lin_order.specs.Configurations.{IsAdded}
-use Rattle.lin_order.specs.ConfigurationLaws.{with_event}
+use Rattle.lin_events.specs.declared.calls.Name.{Name}
+use Rattle.lin_events.specs.declared.calls.Call.{Call}
+use Rattle.lin_events.specs.declared.calls.Reply.{Reply}
+use Rattle.lin_events.specs.declared.events.Body.TheVariants.{Ok}
+use Rattle.lin_events.specs.declared.events.Event.{Event}
+use Rattle.lin_events.specs.Alternation.{IsAlternating}
+use Rattle.lin_events.specs.Operations.{IsOpen, IsOperation}
+use Rattle.lin_events.specs.WellFormed.{Completes}
+use Rattle.lin_events.specs.WellFormedLaws.{EndsAreUnique}
+use Rattle.lin_lists.specs.lemmas.Lists.{get_last}
+use Rattle.lin_events.specs.lemmas.OneMore.{completes, open_before}
+use Rattle.lin_orders.specs.Configurations.{IsAdded}
+use Rattle.lin_orders.specs.ConfigurationLaws.{with_event}
 use Rattle.lin_frontier.specs.Covers.{HasCrashed}
 use Rattle.lin_frontier.specs.Exchanges.{Exchange, IsExchanged}
 use Rattle.lin_frontier.specs.Members.{Member, IsOnOffer, IsWatching, IsGiven, IsUpdate, WayOf, here, more, DominatesAt}

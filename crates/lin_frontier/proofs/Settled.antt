@@ -1,14 +1,14 @@
 -- Members of which crashed operations were put in the place of others: they are exchanged, and so is what dominates them.
 use Rattle.std.proofs.Common.{◌≡◌, ℕ, ℤ, Bool, true, List, map, Contains, IsTrue, ◌⊎◌, inl, inr, sym, ap, subst, ◌∙◌}
 use Rattle.std.proofs.lemmas.List.Elements.{All-contains}
-use Rattle.lin_history.specs.declared.calls.Call.{Call}
-use Rattle.lin_history.specs.declared.calls.Name.{Name}
-use Rattle.lin_history.specs.declared.calls.Reply.{Reply}
-use Rattle.lin_history.specs.declared.events.Event.{Event}
-use Rattle.lin_history.specs.Alternation.{IsAlternating}
-use Rattle.lin_history.specs.Operations.{IsOpen}
-use Rattle.lin_history.specs.WellFormedLaws.{EndsAreUnique}
-use Rattle.lin_order.specs.Configurations.{IsRising}
+use Rattle.lin_events.specs.declared.calls.Call.{Call}
+use Rattle.lin_events.specs.declared.calls.Name.{Name}
+use Rattle.lin_events.specs.declared.calls.Reply.{Reply}
+use Rattle.lin_events.specs.declared.events.Event.{Event}
+use Rattle.lin_events.specs.Alternation.{IsAlternating}
+use Rattle.lin_events.specs.Operations.{IsOpen}
+use Rattle.lin_events.specs.WellFormedLaws.{EndsAreUnique}
+use Rattle.lin_orders.specs.Configurations.{IsRising}
 use Rattle.lin_frontier.specs.declared.pending.Open.{Open}
 use Rattle.lin_frontier.specs.Exchanges.{AreAlike, Exchange}
 use Rattle.lin_frontier.specs.Frontiers.{IsPending}

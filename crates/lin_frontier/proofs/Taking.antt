@@ -1,15 +1,15 @@
 -- After an ok: members that placed the operation, and ways that come to it.
 use Rattle.std.proofs.Common.{◌≡◌, ℕ, ℤ, Bool, false, List, Contains, ◌⊎◌, inl, inr, sym, ap, subst}
 use Rattle.std.proofs.lemmas.Bool.{cases_eq}
-use Rattle.lin_history.specs.declared.calls.Name.{Name}
-use Rattle.lin_history.specs.declared.calls.Call.{Call}
-use Rattle.lin_history.specs.declared.calls.Reply.{Reply}
-use Rattle.lin_history.specs.declared.events.Event.{Event}
-use Rattle.lin_history.specs.declared.events.Body.TheVariants.{Ok}
-use Rattle.lin_history.specs.Alternation.{IsAlternating}
-use Rattle.lin_history.specs.Operations.{IsOpen}
-use Rattle.lin_order.specs.Configurations.{IsAdded}
-use Rattle.lin_order.specs.ConfigurationLaws.{with_event}
+use Rattle.lin_events.specs.declared.calls.Name.{Name}
+use Rattle.lin_events.specs.declared.calls.Call.{Call}
+use Rattle.lin_events.specs.declared.calls.Reply.{Reply}
+use Rattle.lin_events.specs.declared.events.Event.{Event}
+use Rattle.lin_events.specs.declared.events.Body.TheVariants.{Ok}
+use Rattle.lin_events.specs.Alternation.{IsAlternating}
+use Rattle.lin_events.specs.Operations.{IsOpen}
+use Rattle.lin_orders.specs.Configurations.{IsAdded}
+use Rattle.lin_orders.specs.ConfigurationLaws.{with_event}
 use Rattle.lin_frontier.specs.Exchanges.{Exchange, IsExchanged}
 use Rattle.lin_frontier.specs.Placing.{without}
 use Rattle.lin_frontier.specs.Members.{Meets, Member, IsUpdate, Way, here, more, IsOffered, IsOnOffer, WayOf, LeadsToCover, DominatesAt}

@@ -1,8 +1,8 @@
 -- Members that others dominate, once crashed operations that have the same call are exchanged, can be dropped.
 use Rattle.std.proofs.Common.{inl}
-use Rattle.lin_history.specs.declared.calls.Call.{Call}
-use Rattle.lin_history.specs.declared.calls.Reply.{Reply}
-use Rattle.lin_history.specs.WellFormedLaws.{WellFormedIsAlternating}
+use Rattle.lin_events.specs.declared.calls.Call.{Call}
+use Rattle.lin_events.specs.declared.calls.Reply.{Reply}
+use Rattle.lin_events.specs.WellFormedLaws.{WellFormedIsAlternating}
 use Rattle.lin_frontier.specs.MemberLaws.{ThinningLaw}
 use Rattle.lin_frontier.specs.Members.{IsOnOffer}
 use Rattle.lin_frontier.proofs.Dominating.{passes_itself}

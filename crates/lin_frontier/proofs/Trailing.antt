@@ -1,18 +1,18 @@
 -- The rounds of members: within one history, and after one more event.
 use Rattle.std.proofs.Common.{◌≡◌, ℕ, ℤ, Bool, true, List, [], ◌∷◌, ◌++◌, Contains, inl, inr, refl, ap, subst, ◌∙◌, arith}
 use Rattle.std.proofs.lemmas.Option.{slice_get_within}
-use Rattle.lin_history.specs.declared.calls.Call.{Call}
-use Rattle.lin_history.specs.declared.calls.Name.{Name}
-use Rattle.lin_history.specs.declared.calls.Reply.{Reply}
-use Rattle.lin_history.specs.declared.events.Event.{Event}
-use Rattle.lin_history.specs.Alternation.{IsAlternating}
-use Rattle.lin_history.specs.Operations.{IsOpen}
-use Rattle.lin_history.specs.WellFormedLaws.{WellFormedIsAlternating}
-use Rattle.lin_history.proofs.OneMore.{alternates_before, end_before, one_open, open_kept, open_other, operation_kept}
+use Rattle.lin_events.specs.declared.calls.Call.{Call}
+use Rattle.lin_events.specs.declared.calls.Name.{Name}
+use Rattle.lin_events.specs.declared.calls.Reply.{Reply}
+use Rattle.lin_events.specs.declared.events.Event.{Event}
+use Rattle.lin_events.specs.Alternation.{IsAlternating}
+use Rattle.lin_events.specs.Operations.{IsOpen}
+use Rattle.lin_events.specs.WellFormedLaws.{WellFormedIsAlternating}
+use Rattle.lin_events.specs.lemmas.OneMore.{alternates_before, end_before, one_open, open_kept, open_other, operation_kept}
 use Rattle.lin_objects.specs.Observing.{IsObserving}
-use Rattle.lin_order.specs.declared.placed.Placed.{Placed}
-use Rattle.lin_order.specs.Configurations.{EndsIn, IsAdded, IsPlacing}
-use Rattle.lin_order.specs.ConfigurationLaws.{with_event, AtStart, FailLaw, InfoLaw, InvocationLaw, OkLaw, PlacingIsLegal}
+use Rattle.lin_orders.specs.declared.placed.Placed.{Placed}
+use Rattle.lin_orders.specs.Configurations.{EndsIn, IsAdded, IsPlacing}
+use Rattle.lin_orders.specs.ConfigurationLaws.{with_event, AtStart, FailLaw, InfoLaw, InvocationLaw, OkLaw, PlacingIsLegal}
 use Rattle.lin_frontier.specs.Members.{Member}
 use Rattle.lin_frontier.specs.Rounds.{joined, put, begin_round, IsOfferedIn, IsTrail, IsTrailOf}
 use Rattle.lin_frontier.specs.RoundLaws.{IsOfferFrom, OffersFrom, TrailStartLaw, TrailEndsLaw, FewerLaw, TrailPlacesLaw, TrailTakesLaw, TrailInvocationLaw, TrailInfoLaw, TrailFailLaw, TrailOkLaw, TrailObserverLaw, TrailReturnLaw, ExactLaw}

@@ -1,9 +1,9 @@
 -- Open updates that are placed in turn, of crashed ones that have the same call the first alone.
 use Rattle.std.proofs.Common.{◌≡◌, ℕ, ◌+◌, ◌<◌, ◌≤◌, Bool, List, [], ◌∷◌, ◌++◌, length, Contains, IsTrue, inl, inr, refl, sym, ap, subst, ◌∙◌, arith, get_or, take}
 use Rattle.std.proofs.lemmas.List.Elements.{Contains-push, Contains-push_cases, Contains-append_left}
-use Rattle.lin_history.specs.declared.calls.Call.{Call}
-use Rattle.lin_history.specs.declared.calls.Reply.{Reply}
-use Rattle.lin_order.specs.declared.placed.Placed.{Placed}
+use Rattle.lin_events.specs.declared.calls.Call.{Call}
+use Rattle.lin_events.specs.declared.calls.Reply.{Reply}
+use Rattle.lin_orders.specs.declared.placed.Placed.{Placed}
 use Rattle.lin_frontier.specs.declared.pending.Open.{Open}
 use Rattle.lin_frontier.specs.Placing.{IsAbsent, IsTried, insert_pair}
 use Rattle.lin_frontier.specs.Searching.{AreUpdates, IsPlacedLike, PlacesIfUpdate, StandsFor}

@@ -1,11 +1,11 @@
 -- Ways of a member: what they keep, and coverings without a list for the part.
 use Rattle.std.proofs.Common.{◌≡◌, ℕ, ℤ, ◌<◌, Bool, false, List, Contains, ◌⊎◌, inl, inr, refl, subst}
 use Rattle.std.proofs.lemmas.List.Elements.{All-contains}
-use Rattle.lin_history.specs.declared.calls.Call.{Call}
-use Rattle.lin_history.specs.declared.calls.Reply.{Reply}
-use Rattle.lin_history.specs.declared.events.Event.{Event}
-use Rattle.lin_history.specs.Operations.{IsOpen}
-use Rattle.lin_order.specs.Configurations.{IsRising}
+use Rattle.lin_events.specs.declared.calls.Call.{Call}
+use Rattle.lin_events.specs.declared.calls.Reply.{Reply}
+use Rattle.lin_events.specs.declared.events.Event.{Event}
+use Rattle.lin_events.specs.Operations.{IsOpen}
+use Rattle.lin_orders.specs.Configurations.{IsRising}
 use Rattle.lin_frontier.specs.Covers.{Covers, HasCrashed}
 use Rattle.lin_frontier.specs.Members.{Member, Meets, Way, here, more, IsOnOffer, IsReady, LeadsToCover}
 use Rattle.lin_frontier.proofs.Choosing.{Chosen, all_from, choose, stands}

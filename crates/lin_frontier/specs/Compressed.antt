@@ -1,10 +1,10 @@
 -- Compressed frontiers: few members that lead to all configurations of a history that has one object, up to crashed operations.
 use Rattle.std.specs.Prelude.{◌≡◌, ℕ, suc, Bool, true, List, length, AllPairs, Contains, Option}
-use Rattle.lin_history.specs.declared.calls.Call.{Call}
-use Rattle.lin_history.specs.declared.calls.Reply.{Reply}
-use Rattle.lin_history.specs.declared.events.Event.{Event}
-use Rattle.lin_order.specs.declared.placed.Placed.{Placed}
-use Rattle.lin_order.specs.Linearizable.{IsLegalOrderBy}
+use Rattle.lin_events.specs.declared.calls.Call.{Call}
+use Rattle.lin_events.specs.declared.calls.Reply.{Reply}
+use Rattle.lin_events.specs.declared.events.Event.{Event}
+use Rattle.lin_orders.specs.declared.placed.Placed.{Placed}
+use Rattle.lin_orders.specs.Linearizable.{IsLegalOrderBy}
 use Rattle.lin_frontier.specs.declared.members.Path.{Path}
 use Rattle.lin_frontier.specs.Members.{Member}
 use Rattle.lin_frontier.specs.Overwritten.{AllowsOverwritten, IsAbove, IsCompleteFor}

@@ -1,10 +1,10 @@
 -- Covers: fewer configurations that stand in for all of a history that has one object. Whether a crashed operation took effect is
 -- never told, so a configuration that places one more of them allows nothing that the one without it doesn't.
 use Rattle.std.specs.Prelude.{◌≡◌, ◌⊎◌, ℕ, ℤ, List, All, Contains}
-use Rattle.lin_history.specs.declared.events.Event.{Event}
-use Rattle.lin_history.specs.declared.calls.Call.{Call}
-use Rattle.lin_history.specs.declared.calls.Reply.{Reply}
-use Rattle.lin_history.specs.Operations.{IsCrashed, IsOperation}
+use Rattle.lin_events.specs.declared.events.Event.{Event}
+use Rattle.lin_events.specs.declared.calls.Call.{Call}
+use Rattle.lin_events.specs.declared.calls.Reply.{Reply}
+use Rattle.lin_events.specs.Operations.{IsCrashed, IsOperation}
 
 -- an operation of the process crashed
 abbrev pub HasCrashed : List Event → ℕ → Type 0

@@ -1,17 +1,17 @@
 -- Frontiers: all configurations of a history that has one object, and how each was come by.
 use Rattle.std.specs.Prelude.{◌≡◌, ◌≢◌, ◌↔◌, ◌+◌, ◌*◌, ℕ, ℤ, Bool, List, length, All, AllPairs, Contains, IsTrue}
 use Rattle.std.specs.Map.{keys_of}
-use Rattle.lin_history.specs.declared.events.Body.{Body}
-use Rattle.lin_history.specs.declared.events.Body.TheVariants.{Invoke, Ok, Fail, Info}
-use Rattle.lin_history.specs.declared.events.Event.{Event}
-use Rattle.lin_history.specs.declared.calls.Call.{Call}
-use Rattle.lin_history.specs.declared.calls.Name.{Name}
-use Rattle.lin_history.specs.declared.calls.Reply.{Reply}
-use Rattle.lin_history.specs.Operations.{IsCrashed, IsOpen}
-use Rattle.lin_history.specs.WellFormed.{IsWellFormed}
-use Rattle.lin_order.specs.declared.placed.Placed.{Placed}
-use Rattle.lin_order.specs.ConfigurationLaws.{with_event}
-use Rattle.lin_order.specs.Configurations.{EndsIn, IsConfiguration}
+use Rattle.lin_events.specs.declared.events.Body.{Body}
+use Rattle.lin_events.specs.declared.events.Body.TheVariants.{Invoke, Ok, Fail, Info}
+use Rattle.lin_events.specs.declared.events.Event.{Event}
+use Rattle.lin_events.specs.declared.calls.Call.{Call}
+use Rattle.lin_events.specs.declared.calls.Name.{Name}
+use Rattle.lin_events.specs.declared.calls.Reply.{Reply}
+use Rattle.lin_events.specs.Operations.{IsCrashed, IsOpen}
+use Rattle.lin_events.specs.WellFormed.{IsWellFormed}
+use Rattle.lin_orders.specs.declared.placed.Placed.{Placed}
+use Rattle.lin_orders.specs.ConfigurationLaws.{with_event}
+use Rattle.lin_orders.specs.Configurations.{EndsIn, IsConfiguration}
 use Rattle.lin_frontier.specs.declared.pending.Open.{Open}
 use Rattle.lin_frontier.specs.Nodes.{Spells}
 

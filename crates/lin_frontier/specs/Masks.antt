@@ -1,7 +1,7 @@
 -- Bits of processes: words of private contracts.
 use Rattle.std.specs.Prelude.{ℕ, ◌%◌, ◌^◌, List, [], ◌∷◌, filter, map}
 use Rattle.std.specs.Int.Bits.{bit_or}
-use Rattle.lin_history.specs.declared.calls.Reply.{Reply}
+use Rattle.lin_events.specs.declared.calls.Reply.{Reply}
 use Rattle.lin_frontier.specs.declared.pending.Open.{Open}
 
 -- the bits of the processes; every 64th process has the same

@@ -1,21 +1,21 @@
 -- A register's write and read at once, as examples of members and of their rounds.
 use Rattle.std.specs.Prelude.{List, [], ◌∷◌, Some, None}
-use Rattle.lin_history.specs.declared.calls.Call.TheVariants.{Read, Write}
-use Rattle.lin_history.specs.declared.calls.Name.TheVariants as Named
-use Rattle.lin_history.specs.declared.calls.Reply.TheVariants as Replied
-use Rattle.lin_history.specs.declared.calls.Val.{Val}
-use Rattle.lin_history.specs.declared.calls.Val.TheVariants.{Nil}
-use Rattle.lin_history.specs.declared.events.Body.TheVariants.{Invoke, Ok, Info}
-use Rattle.lin_history.specs.declared.events.Event.{Event}
-use Rattle.lin_history.specs.WellFormed.{IsWellFormed}
+use Rattle.lin_events.specs.declared.calls.Call.TheVariants.{Read, Write}
+use Rattle.lin_events.specs.declared.calls.Name.TheVariants as Named
+use Rattle.lin_events.specs.declared.calls.Reply.TheVariants as Replied
+use Rattle.lin_events.specs.declared.calls.Val.{Val}
+use Rattle.lin_events.specs.declared.calls.Val.TheVariants.{Nil}
+use Rattle.lin_events.specs.declared.events.Body.TheVariants.{Invoke, Ok, Info}
+use Rattle.lin_events.specs.declared.events.Event.{Event}
+use Rattle.lin_events.specs.WellFormed.{IsWellFormed}
 use Rattle.lin_objects.specs.declared.kinds.Kind.TheVariants.{Register}
 use Rattle.lin_objects.specs.declared.states.State.{State}
 use Rattle.lin_objects.specs.declared.states.State.TheVariants.{Value}
 use Rattle.lin_objects.specs.Steps.{Step, start}
 use Rattle.lin_objects.specs.Observing.{observes}
-use Rattle.lin_order.specs.declared.placed.Placed.{Placed}
-use Rattle.lin_order.specs.ConfigurationExamples.{of_registers, event}
-use Rattle.lin_order.specs.ConfigurationLaws.{with_event}
+use Rattle.lin_orders.specs.declared.placed.Placed.{Placed}
+use Rattle.lin_orders.specs.ConfigurationExamples.{of_registers, event}
+use Rattle.lin_orders.specs.ConfigurationLaws.{with_event}
 use Rattle.lin_frontier.specs.Covers.{Covers, HasCrashed}
 use Rattle.lin_frontier.specs.Members.{Leads, IsComplete, Dominates}
 use Rattle.lin_frontier.specs.MemberLaws.{first_member}

@@ -1,18 +1,18 @@
 -- What members lead to, and what one more event makes of a complete list of members. Each law holds for any object, given by where it
 -- begins and which steps it takes, and for any calls that are treated as observers.
 use Rattle.std.specs.Prelude.{◌≡◌, ◌≢◌, ◌⊎◌, ◌↔◌, ℕ, ℤ, Bool, true, false, List, [], ◌∷◌, ◌++◌, Contains}
-use Rattle.lin_history.specs.declared.calls.Call.{Call}
-use Rattle.lin_history.specs.declared.calls.Name.{Name}
-use Rattle.lin_history.specs.declared.calls.Reply.{Reply}
-use Rattle.lin_history.specs.declared.events.Body.TheVariants.{Invoke, Ok, Fail, Info}
-use Rattle.lin_history.specs.declared.events.Event.{Event}
-use Rattle.lin_history.specs.Operations.{IsCrashed, IsOpen}
-use Rattle.lin_history.specs.WellFormed.{IsWellFormed, Completes}
+use Rattle.lin_events.specs.declared.calls.Call.{Call}
+use Rattle.lin_events.specs.declared.calls.Name.{Name}
+use Rattle.lin_events.specs.declared.calls.Reply.{Reply}
+use Rattle.lin_events.specs.declared.events.Body.TheVariants.{Invoke, Ok, Fail, Info}
+use Rattle.lin_events.specs.declared.events.Event.{Event}
+use Rattle.lin_events.specs.Operations.{IsCrashed, IsOpen}
+use Rattle.lin_events.specs.WellFormed.{IsWellFormed, Completes}
 use Rattle.lin_objects.specs.Commuting.{GoesFirst}
 use Rattle.lin_objects.specs.Observing.{IsObserving}
-use Rattle.lin_order.specs.declared.placed.Placed.{Placed}
-use Rattle.lin_order.specs.ConfigurationLaws.{with_event}
-use Rattle.lin_order.specs.Configurations.{IsAdded, IsPlacing, IsRising}
+use Rattle.lin_orders.specs.declared.placed.Placed.{Placed}
+use Rattle.lin_orders.specs.ConfigurationLaws.{with_event}
+use Rattle.lin_orders.specs.Configurations.{IsAdded, IsPlacing, IsRising}
 use Rattle.lin_frontier.specs.Covers.{HasCrashed}
 use Rattle.lin_frontier.specs.Exchanges.{Exchange, IsExchanged}
 use Rattle.lin_frontier.specs.Members.{Member, IsOnOffer, IsWatching, IsGiven, IsUpdate, Leads, LeadsToCover, LeadsToMember, IsComplete, IsListed, IsListing, DominatesAt, Dominates, DominatesBut, IsDominated}

@@ -1,12 +1,12 @@
 -- Members of a compressed frontier: each stands for all configurations that it leads to. Laws speak of any object, given by the steps
 -- that it takes, and of any calls that are treated as observers.
 use Rattle.std.specs.Prelude.{◌≡◌, ◌≢◌, ◌⊎◌, ℕ, ℤ, Bool, true, false, List, Contains}
-use Rattle.lin_history.specs.declared.calls.Call.{Call}
-use Rattle.lin_history.specs.declared.calls.Reply.{Reply}
-use Rattle.lin_history.specs.declared.events.Event.{Event}
-use Rattle.lin_history.specs.Operations.{IsOpen}
-use Rattle.lin_order.specs.declared.placed.Placed.{Placed}
-use Rattle.lin_order.specs.Configurations.{IsRising, IsConfiguration, IsPlacing}
+use Rattle.lin_events.specs.declared.calls.Call.{Call}
+use Rattle.lin_events.specs.declared.calls.Reply.{Reply}
+use Rattle.lin_events.specs.declared.events.Event.{Event}
+use Rattle.lin_events.specs.Operations.{IsOpen}
+use Rattle.lin_orders.specs.declared.placed.Placed.{Placed}
+use Rattle.lin_orders.specs.Configurations.{IsRising, IsConfiguration, IsPlacing}
 use Rattle.lin_frontier.specs.Covers.{Covers, HasCrashed}
 use Rattle.lin_frontier.specs.Exchanges.{Exchange, IsExchanged}
 

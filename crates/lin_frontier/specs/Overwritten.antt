@@ -2,13 +2,13 @@
 -- that overwrites it, so the member's state stays as it is, and only observers that were open by then may have seen what it did. So a
 -- member stands for all choices of such updates, and none of them is placed before its completion, or a reply that only it can have given, asks for it.
 use Rattle.std.specs.Prelude.{◌≡◌, ◌⊎◌, ℕ, suc, ◌<◌, ◌≤◌, ℤ, Bool, true, false, List, [], ◌∷◌, ◌++◌, length, map, Contains}
-use Rattle.lin_history.specs.declared.calls.Call.{Call}
-use Rattle.lin_history.specs.declared.calls.Reply.{Reply}
-use Rattle.lin_history.specs.declared.events.Event.{Event}
-use Rattle.lin_history.specs.Operations.{IsOpen}
-use Rattle.lin_order.specs.declared.placed.Placed.{Placed}
-use Rattle.lin_order.specs.Configurations.{IsConfiguration, IsRising}
-use Rattle.lin_order.specs.Orders.{IsBefore, IsCall}
+use Rattle.lin_events.specs.declared.calls.Call.{Call}
+use Rattle.lin_events.specs.declared.calls.Reply.{Reply}
+use Rattle.lin_events.specs.declared.events.Event.{Event}
+use Rattle.lin_events.specs.Operations.{IsOpen}
+use Rattle.lin_orders.specs.declared.placed.Placed.{Placed}
+use Rattle.lin_orders.specs.Configurations.{IsConfiguration, IsRising}
+use Rattle.lin_orders.specs.Orders.{IsBefore, IsCall}
 use Rattle.lin_frontier.specs.declared.members.Path.{Path}
 use Rattle.lin_frontier.specs.Exchanges.{Exchange, IsExchanged}
 use Rattle.lin_frontier.specs.Members.{Member, Dominates, IsComplete, IsGiven, IsOnOffer, Meets}

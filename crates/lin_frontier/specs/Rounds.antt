@@ -2,14 +2,14 @@
 -- observer that returns with a reply that was on offer is put at the end of the round whose state gave it. An update that the last one overwrote
 -- becomes a round ahead of that.
 use Rattle.std.specs.Prelude.{◌≡◌, ℕ, ℤ, zero, suc, ◌<◌, cond, nat_lt, Bool, true, List, [], ◌∷◌, ◌++◌, length, Contains, Option, Some, None, slice_get}
-use Rattle.lin_history.specs.declared.calls.Call.{Call}
-use Rattle.lin_history.specs.declared.calls.Reply.{Reply}
-use Rattle.lin_history.specs.declared.events.Event.{Event}
-use Rattle.lin_history.specs.Operations.{IsOpen}
-use Rattle.lin_order.specs.declared.placed.Placed.{Placed}
-use Rattle.lin_order.specs.Configurations.{IsPlacedBy}
-use Rattle.lin_order.specs.Linearizable.{Runs}
-use Rattle.lin_order.specs.Orders.{IsBefore, IsOrder}
+use Rattle.lin_events.specs.declared.calls.Call.{Call}
+use Rattle.lin_events.specs.declared.calls.Reply.{Reply}
+use Rattle.lin_events.specs.declared.events.Event.{Event}
+use Rattle.lin_events.specs.Operations.{IsOpen}
+use Rattle.lin_orders.specs.declared.placed.Placed.{Placed}
+use Rattle.lin_orders.specs.Configurations.{IsPlacedBy}
+use Rattle.lin_orders.specs.Linearizable.{Runs}
+use Rattle.lin_orders.specs.Orders.{IsBefore, IsOrder}
 use Rattle.lin_frontier.specs.Members.{Member}
 
 -- the order that the rounds spell

@@ -3,9 +3,9 @@ use Rattle.std.specs.Prelude.{◌≡◌, ℕ, Bool, true, false, ◌&&◌, nat_e
 use Rattle.std.proofs.Common.{refl, sym, ap, ◌∙◌, true≢false}
 use Rattle.std.specs.Cmp.Lexicographic.{pointwise}
 use Rattle.std.proofs.lemmas.Bool.Decides.{Decides-eqb as Decides-nat_eq}
-use Rattle.lin_history.specs.declared.calls.Reply.{Reply}
-use Rattle.lin_history.specs.Replies.{reply_Decides}
-use Rattle.lin_history.specs.contracts.calls.ReplyPartialEq.TheImpl as ReplyImpl
+use Rattle.lin_events.specs.declared.calls.Reply.{Reply}
+use Rattle.lin_events.specs.Replies.{reply_Decides}
+use Rattle.lin_events.specs.contracts.calls.ReplyPartialEq.TheImpl as ReplyImpl
 
 -- where tests at the elements decide sameness, so does the test of the lists
 pub lists_same : {A : Type 0} (E : A → A → Bool) → ((a b : A) → Decides (E a b) (a ≡ b)) → (xs ys : List A) → pointwise E xs ys ≡ true → xs ≡ ys

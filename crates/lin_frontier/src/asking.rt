@@ -1,8 +1,8 @@
 //! What a completion makes of members where the object is overwritten: no update is placed before its own completion, or a reply that
 //! only it can have given, asks for it.
 ghost use Rattle.std.specs.Prelude.{◌≡◌, ◌⊎◌, ◌∷◌, ◌++◌, ◌+◌, ◌*◌, ◌<◌, [], ℕ, List, true, false, length, Contains, IsTrue, ◌↔◌, IfOk, IfSome, IfNone, OnOk};
-ghost use Rattle.lin_history.specs.declared.calls.Reply.{Reply as ReplyOf};
-ghost use Rattle.lin_order.specs.declared.placed.Placed.{Placed as PlacedOf};
+ghost use Rattle.lin_events.specs.declared.calls.Reply.{Reply as ReplyOf};
+ghost use Rattle.lin_orders.specs.declared.placed.Placed.{Placed as PlacedOf};
 ghost use Rattle.lin_frontier.specs.declared.pending.Open.{Open as OpenOf};
 ghost use Rattle.lin_frontier.specs.Asking.{early_of, AreAsked, AreFoundWith, AreReturned, IsAnsweredStill, IsAskedAhead, IsAskedBehind, IsAskedLikeAhead, IsAskedLikeBehind, IsFindingWith, IsReturnedAhead, IsReturnedBehind};
 ghost use Rattle.lin_frontier.specs.Members.{Member as MemberOf};
@@ -17,9 +17,9 @@ use crate::members::{Member, answered, in_round, placed_at, put_ahead, put_behin
 use crate::pending::{Open, Pending};
 use crate::rounds::RoundNodes;
 use crate::scratch::Scratch;
-use lin_history::{Meter, OutOfMemory, Reply};
+use lin_events::{Meter, OutOfMemory, Reply};
 use lin_objects::SeqObject;
-use lin_order::Placed;
+use lin_orders::Placed;
 use std::alloc::Global;
 
 /// Whether the operation was called before the event at the position.

@@ -1,9 +1,9 @@
 //! How many configurations there are at least, told without making any: each of some open operations can be placed or not.
 ghost use Rattle.std.specs.Prelude.{◌≡◌, ◌≢◌, ◌<◌, ℕ, ℤ, true, false, AllPairs, All, Contains, IsTrue, ◌↔◌, Bool, List, Option, IfOk, IfSome};
-ghost use Rattle.lin_history.specs.declared.calls.Name.{Name as NameOf};
-ghost use Rattle.lin_history.specs.declared.events.Event.{Event as EventOf};
-ghost use Rattle.lin_history.specs.WellFormed.{IsWellFormed};
-ghost use Rattle.lin_order.specs.declared.placed.Placed.{Placed as PlacedOf};
+ghost use Rattle.lin_events.specs.declared.calls.Name.{Name as NameOf};
+ghost use Rattle.lin_events.specs.declared.events.Event.{Event as EventOf};
+ghost use Rattle.lin_events.specs.WellFormed.{IsWellFormed};
+ghost use Rattle.lin_orders.specs.declared.placed.Placed.{Placed as PlacedOf};
 ghost use Rattle.lin_frontier.specs.Branches.{power, ArePicked, IsFree, IsUntold};
 ghost use Rattle.lin_frontier.specs.Compressed.{IsSpelled};
 ghost use Rattle.lin_frontier.specs.Frontiers.{IsOver, IsPending};
@@ -12,9 +12,9 @@ use crate::configs::is_absent;
 use crate::members::Member;
 use crate::pending::Open;
 use crate::round_laws::rounds_spell_members;
-use lin_history::{Call, OutOfMemory, Reply, well_formed_is_alternating};
+use lin_events::{Call, OutOfMemory, Reply, well_formed_is_alternating};
 use lin_objects::SeqObject;
-use lin_order::placing_is_legal;
+use lin_orders::placing_is_legal;
 use std::alloc::Global;
 
 /// Whether the operation's call is total, and it has no place yet.

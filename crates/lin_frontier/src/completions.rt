@@ -1,6 +1,6 @@
 //! What members lead to when an operation completes: the ways of placing open updates until it can have its reply.
 ghost use Rattle.std.specs.Prelude.{◌≡◌, ◌⊎◌, ◌↔◌, if◌then◌else◌, IsTrue, ◌∷◌, ◌++◌, ◌+◌, ◌*◌, ◌≤◌, [], ℕ, true, false, length, map, Contains, IfOk, IfSome, IfNone, OnOk};
-ghost use Rattle.lin_history.specs.declared.calls.Reply.{Reply as ReplyOf};
+ghost use Rattle.lin_events.specs.declared.calls.Reply.{Reply as ReplyOf};
 ghost use Rattle.lin_frontier.specs.Members.{Member as MemberOf};
 ghost use Rattle.lin_frontier.specs.declared.members.Path.{Path as PathOf};
 ghost use Rattle.lin_frontier.specs.Nodes.{IsGrown};
@@ -19,9 +19,9 @@ use crate::rounds::RoundNodes;
 use crate::scratch::{Scratch, empty, give_up_all};
 use crate::seen::{Seen, is_found};
 use crate::spare::Pool;
-use lin_history::{Meter, OutOfMemory, Reply};
+use lin_events::{Meter, OutOfMemory, Reply};
 use lin_objects::SeqObject;
-use lin_order::Placed;
+use lin_orders::Placed;
 use std::alloc::Global;
 use std::hash::Hash;
 use std::rc::Rc;

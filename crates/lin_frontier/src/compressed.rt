@@ -1,12 +1,12 @@
 //! Compressed frontiers: few members that stand for all configurations of a history that has one object.
 ghost use Rattle.std.specs.Prelude.{◌≡◌, ◌⊎◌, ◌∷◌, ◌++◌, ◌+◌, ◌*◌, ◌<◌, ◌≤◌, [], ℕ, ℤ, true, false, Bool, List, length, map, Contains, IfOk, IfSome, IfNone, OnOk, OnErr, Some, slice_get, IsPermutation};
-ghost use Rattle.lin_history.specs.declared.calls.Name.{Name as NameOf};
-ghost use Rattle.lin_history.specs.declared.calls.Reply.{Reply as ReplyOf};
-ghost use Rattle.lin_history.specs.declared.events.Body.{Body as BodyOf};
-ghost use Rattle.lin_history.specs.declared.events.Event.{Event as EventOf};
-ghost use Rattle.lin_history.specs.Meters.{ticked};
-ghost use Rattle.lin_order.specs.ConfigurationLaws.{with_event};
-ghost use Rattle.lin_order.specs.Linearizable.{IsLinearizableBy};
+ghost use Rattle.lin_events.specs.declared.calls.Name.{Name as NameOf};
+ghost use Rattle.lin_events.specs.declared.calls.Reply.{Reply as ReplyOf};
+ghost use Rattle.lin_events.specs.declared.events.Body.{Body as BodyOf};
+ghost use Rattle.lin_events.specs.declared.events.Event.{Event as EventOf};
+ghost use Rattle.lin_events.specs.Meters.{ticked};
+ghost use Rattle.lin_orders.specs.ConfigurationLaws.{with_event};
+ghost use Rattle.lin_orders.specs.Linearizable.{IsLinearizableBy};
 ghost use Rattle.lin_frontier.specs.declared.members.Path.{Path as PathOf};
 ghost use Rattle.lin_frontier.specs.Asking.{alone_of, AreAlone, AreFoundWith, IsCompletedWith, IsNextWith, IsReturnWith};
 ghost use Rattle.lin_frontier.specs.Compressed.{IsCompressed, IsCovering};
@@ -38,11 +38,11 @@ use crate::rounds::RoundNodes;
 use crate::scratch::Scratch;
 use crate::spare::Pool;
 use crate::thinning::thinned;
-use lin_history::{
+use lin_events::{
     Body, Event, Meter, OutOfMemory, Reply, ends_are_unique, well_formed_is_alternating,
 };
 use lin_objects::SeqObject;
-use lin_order::legal_orders_end;
+use lin_orders::legal_orders_end;
 use std::alloc::Global;
 use std::hash::Hash;
 use std::marker::Model;

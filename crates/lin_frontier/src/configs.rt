@@ -4,13 +4,13 @@ ghost use Rattle.std.specs.Cmp.{on_equiv, and_equiv, partial_equiv_from_equiv, d
 ghost use Rattle.std.specs.Cmp.Lexicographic.{pointwise};
 ghost use Rattle.std.specs.Hash as fed;
 ghost use Rattle.std.specs.Hash.{same_Alike, and-Alike, on_Alike};
-ghost use Rattle.lin_history.specs.declared.calls.Reply.{Reply as ReplyOf};
+ghost use Rattle.lin_events.specs.declared.calls.Reply.{Reply as ReplyOf};
 ghost use Rattle.lin_frontier.specs.Placing.{IsAbsent, insert_pair, without};
 ghost use Rattle.lin_frontier.specs.Sameness.{pair_eq, placed_Decides};
 
 use crate::pairs::{PairList, Pairs};
 use crate::spare::Spare;
-use lin_history::{OutOfMemory, Reply};
+use lin_events::{OutOfMemory, Reply};
 use std::alloc::Global;
 use std::hash::{Hash, Hasher};
 use std::marker::Model;
@@ -26,7 +26,7 @@ pub struct Config<S: Eq + Hash> {
 
 impl<S: Eq + Hash> Model for Config<S> {
     ghost use Rattle.std.specs.Prelude.{ℕ, List};
-    ghost use Rattle.lin_history.specs.declared.calls.Reply.{Reply as ReplyOf};
+    ghost use Rattle.lin_events.specs.declared.calls.Reply.{Reply as ReplyOf};
 
     ghost Value = { S × List (ℕ × ReplyOf) };
 

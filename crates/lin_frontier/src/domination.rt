@@ -1,6 +1,6 @@
 //! When one member leads to all that another leads to.
 ghost use Rattle.std.specs.Prelude.{◌≡◌, ◌⊎◌, ℕ, true, All, Contains, IsPermutation, IsTrue, map, take, drop, vec_len, ◌↔◌, ◌<◌, ◌+◌, ◌++◌};
-ghost use Rattle.lin_history.specs.declared.calls.Reply.{Reply as ReplyOf};
+ghost use Rattle.lin_events.specs.declared.calls.Reply.{Reply as ReplyOf};
 ghost use Rattle.lin_frontier.specs.Members.{Member as MemberOf, IsOnOffer};
 ghost use Rattle.lin_frontier.specs.declared.members.Path.{Path as PathOf};
 ghost use Rattle.lin_frontier.specs.Placing.{IsAbsent};
@@ -10,7 +10,7 @@ use crate::configs::{Config, is_absent, is_placed};
 use crate::members::Member;
 use crate::offers::{Offers, is_watching};
 use crate::pending::Pending;
-use lin_history::Reply;
+use lin_events::Reply;
 use lin_objects::SeqObject;
 use std::hash::Hash;
 

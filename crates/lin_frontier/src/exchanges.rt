@@ -8,7 +8,7 @@ use crate::configs::is_absent;
 use crate::pairs::{PairList, Pairs};
 use crate::pending::Open;
 use crate::spare::Spare;
-use lin_history::{OutOfMemory, Reply};
+use lin_events::{OutOfMemory, Reply};
 use std::alloc::Global;
 use std::rc::Rc;
 

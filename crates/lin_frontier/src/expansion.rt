@@ -1,10 +1,10 @@
 //! All configurations that members lead to, each as a member of its own with nothing on offer.
 ghost use Rattle.std.specs.Prelude.{◌≡◌, ◌≤◌, ◌*◌, ◌+◌, ◌∷◌, ◌++◌, [], ℕ, ℤ, true, All, Bool, Contains, List, length, IfOk, IfSome, IfNone, OnOk};
-ghost use Rattle.lin_history.specs.declared.calls.Name.{Name as NameOf};
-ghost use Rattle.lin_history.specs.declared.calls.Reply.{Reply as ReplyOf};
-ghost use Rattle.lin_history.specs.declared.events.Event.{Event as EventOf};
-ghost use Rattle.lin_history.specs.WellFormed.{IsWellFormed};
-ghost use Rattle.lin_order.specs.declared.placed.Placed.{Placed as PlacedOf};
+ghost use Rattle.lin_events.specs.declared.calls.Name.{Name as NameOf};
+ghost use Rattle.lin_events.specs.declared.calls.Reply.{Reply as ReplyOf};
+ghost use Rattle.lin_events.specs.declared.events.Event.{Event as EventOf};
+ghost use Rattle.lin_events.specs.WellFormed.{IsWellFormed};
+ghost use Rattle.lin_orders.specs.declared.placed.Placed.{Placed as PlacedOf};
 ghost use Rattle.lin_frontier.specs.declared.members.Path.{Path as PathOf};
 ghost use Rattle.lin_frontier.specs.declared.pending.Open.{Open as OpenOf};
 ghost use Rattle.lin_frontier.specs.Compressed.{IsSpelled};
@@ -25,9 +25,9 @@ use crate::placing::place_if_absent;
 use crate::round_laws::{rounds_spell_members, rounds_take_operations};
 use crate::rounds::RoundNodes;
 use crate::spare::Spare;
-use lin_history::{Meter, OutOfMemory, Reply, well_formed_is_alternating};
+use lin_events::{Meter, OutOfMemory, Reply, well_formed_is_alternating};
 use lin_objects::SeqObject;
-use lin_order::Placed;
+use lin_orders::Placed;
 use std::alloc::Global;
 
 /// Going on from members with nothing on offer, by taking these offers and, where wanted, by placing open operations.

@@ -1,11 +1,11 @@
 //! Frontiers: the configurations of a history that has one object.
 ghost use Rattle.std.specs.Prelude.{◌≡◌, ◌<◌, ◌≤◌, ◌∷◌, ◌⊎◌, ◌+◌, [], ℕ, ℤ, Bool, List, OnErr, Some, length, slice_get, IfOk, IfSome, IfNone};
-ghost use Rattle.lin_history.specs.declared.calls.Reply.{Reply as ReplyOf};
-ghost use Rattle.lin_history.specs.declared.calls.Name.{Name as NameOf};
-ghost use Rattle.lin_history.specs.declared.events.Event.{Event as EventOf};
-ghost use Rattle.lin_history.specs.Meters.{ticked};
-ghost use Rattle.lin_order.specs.ConfigurationLaws.{with_event};
-ghost use Rattle.lin_order.specs.Linearizable.{IsLinearizableBy};
+ghost use Rattle.lin_events.specs.declared.calls.Reply.{Reply as ReplyOf};
+ghost use Rattle.lin_events.specs.declared.calls.Name.{Name as NameOf};
+ghost use Rattle.lin_events.specs.declared.events.Event.{Event as EventOf};
+ghost use Rattle.lin_events.specs.Meters.{ticked};
+ghost use Rattle.lin_orders.specs.ConfigurationLaws.{with_event};
+ghost use Rattle.lin_orders.specs.Linearizable.{IsLinearizableBy};
 ghost use Rattle.lin_frontier.specs.Frontiers.{IsFrontier, IsNextEvent, IsOver, tries_within};
 ghost use Rattle.lin_frontier.specs.Nodes.{IsGrown};
 ghost use Rattle.lin_frontier.specs.Walks.{IsTriedAtMost};
@@ -18,9 +18,9 @@ use crate::pending::Open;
 use crate::placing::Placing;
 use crate::search::closure;
 use indexmap::IndexMap;
-use lin_history::{Body, Event, Meter, OutOfMemory, well_formed_is_alternating};
+use lin_events::{Body, Event, Meter, OutOfMemory, well_formed_is_alternating};
 use lin_objects::SeqObject;
-use lin_order::{
+use lin_orders::{
     configurations_after_events, configurations_at_start, legal_orders_end, placing_is_legal,
 };
 use std::alloc::Global;
@@ -34,7 +34,7 @@ pub struct Frontier<O: SeqObject> {
 
 impl<O: SeqObject> Model for Frontier<O> {
     ghost use Rattle.std.specs.Prelude.{ℕ, List};
-    ghost use Rattle.lin_history.specs.declared.calls.Reply.{Reply as ReplyOf};
+    ghost use Rattle.lin_events.specs.declared.calls.Reply.{Reply as ReplyOf};
 
     ghost Value = { List ((O.State × List (ℕ × ReplyOf)) × ℕ) };
 

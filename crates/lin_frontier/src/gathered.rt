@@ -1,6 +1,6 @@
 //! Members in the order in which they were found, each configuration once, with what tells at once which are known.
 ghost use Rattle.std.specs.Prelude.{◌≡◌, ◌<◌, ◌≤◌, ◌∷◌, ◌++◌, [], Bool, Some, Contains, IsTrue, IsFalse, IfSome, IfNone, OnOk, length, map, slice_get};
-ghost use Rattle.lin_history.specs.declared.calls.Call.{Call as CallOf};
+ghost use Rattle.lin_events.specs.declared.calls.Call.{Call as CallOf};
 ghost use Rattle.lin_frontier.specs.declared.members.Path.{Path as PathOf};
 ghost use Rattle.lin_frontier.specs.Listed.{config_of, IsHeld};
 ghost use Rattle.lin_frontier.specs.Members.{Member as MemberOf};
@@ -12,7 +12,7 @@ use crate::members::Member;
 use crate::pending::Pending;
 use crate::places::Places;
 use indexmap::IndexMap;
-use lin_history::OutOfMemory;
+use lin_events::OutOfMemory;
 use lin_objects::SeqObject;
 use std::alloc::Global;
 use std::hash::{FoldHasher, Hash, Hasher};

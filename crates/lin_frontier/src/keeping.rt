@@ -1,14 +1,14 @@
 //! What an event leaves of the configurations before it, ahead of any placing.
 ghost use Rattle.std.specs.Prelude.{◌≡◌, IfOk, MatchOption};
 ghost use Rattle.std.specs.Prelude.{ℕ, List};
-ghost use Rattle.lin_history.specs.declared.calls.Reply.{Reply as ReplyOf};
+ghost use Rattle.lin_events.specs.declared.calls.Reply.{Reply as ReplyOf};
 ghost use Rattle.lin_frontier.specs.Placing.{IsKept, IsKeeping};
 
 use crate::configs::{Config, is_absent, is_placed};
 use crate::nodes::NodeId;
 use crate::spare::Spare;
 use indexmap::IndexMap;
-use lin_history::{Body, Event, OutOfMemory};
+use lin_events::{Body, Event, OutOfMemory};
 use lin_objects::SeqObject;
 use std::alloc::Global;
 

@@ -1,8 +1,8 @@
 //! All configurations that members lead to, each as a member of its own with nothing on offer.
 ghost use Rattle.std.specs.Prelude.{◌≡◌, ◌≤◌, ◌*◌, ◌∷◌, [], ℤ, length, false, All, Bool, Contains, List, IfOk, IfSome, IfNone, OnOk};
-ghost use Rattle.lin_history.specs.declared.calls.Name.{Name as NameOf};
-ghost use Rattle.lin_history.specs.declared.events.Event.{Event as EventOf};
-ghost use Rattle.lin_history.specs.WellFormed.{IsWellFormed};
+ghost use Rattle.lin_events.specs.declared.calls.Name.{Name as NameOf};
+ghost use Rattle.lin_events.specs.declared.events.Event.{Event as EventOf};
+ghost use Rattle.lin_events.specs.WellFormed.{IsWellFormed};
 ghost use Rattle.lin_frontier.specs.declared.members.Path.{Path as PathOf};
 ghost use Rattle.lin_frontier.specs.Compressed.{IsCovering, IsSpelled};
 ghost use Rattle.lin_frontier.specs.Frontiers.{IsOver, IsPending};
@@ -19,7 +19,7 @@ use crate::offers::Offers;
 use crate::pending::Pending;
 use crate::round_laws::rounds_spell_members;
 use crate::rounds::RoundNodes;
-use lin_history::{Meter, OutOfMemory, ends_are_unique, well_formed_is_alternating};
+use lin_events::{Meter, OutOfMemory, ends_are_unique, well_formed_is_alternating};
 use lin_objects::SeqObject;
 use std::alloc::Global;
 

@@ -3,7 +3,7 @@ ghost use Rattle.lin_frontier.specs.MemberExamples.{CoversCrashed, IsPutBefore, 
 
 use crate::member_laws::{members_after_events, members_after_ok, start_is_complete};
 use crate::round_laws::{rounds_after_events, rounds_spell_members, rounds_take_operations};
-use lin_history::well_formed_is_alternating;
+use lin_events::well_formed_is_alternating;
 use lin_objects::{Any, Kind};
 
 /// What members of a register lead to, and the rounds by which they are come to.

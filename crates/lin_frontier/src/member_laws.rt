@@ -1,9 +1,9 @@
 //! Laws of the members of a compressed frontier. The functions do nothing.
 ghost use Rattle.lin_frontier.specs.MemberLaws.{CommutingOkLaw, CrashedLaw, DominationLaw, DroppingLaw, DropOneLaw, FailKeepsLaw, InfoKeepsLaw, InvocationKeepsLaw, LeadsOnLaw, LedToLaw, ListedLaw, ListingLaw, ListingOkLaw, ObserverSearchLaw, OffersGoLaw, PlaceLaw, SkippedLaw, SpreadingLaw, StartCompleteLaw, SuccessorLaw, ThinningLaw, TransitiveLaw, UpdateSearchLaw};
 
-use lin_history::{ends_are_unique, well_formed_is_alternating};
+use lin_events::{ends_are_unique, well_formed_is_alternating};
 use lin_objects::SeqObject;
-use lin_order::{configurations_after_events, configurations_at_start};
+use lin_orders::{configurations_after_events, configurations_at_start};
 
 /// A process has crashed where its open operation has.
 pub(crate) fn processes_crash_with_operations()

@@ -1,13 +1,13 @@
 //! What is on offer: the replies that observers may still be given, each with a round whose state gave it.
 ghost use Rattle.std.specs.Prelude.{◌≡◌, ◌&&◌, nat_eq, not, IsTrue, IsFalse, true, [], ◌∷◌, ◌++◌, ℕ, IfOk, IfSome, IfNone, OnOk, Contains, Some, length};
-ghost use Rattle.lin_history.specs.declared.calls.Reply.{Reply as ReplyOf};
+ghost use Rattle.lin_events.specs.declared.calls.Reply.{Reply as ReplyOf};
 ghost use Rattle.lin_frontier.specs.Searching.{is_observing as is_observing_in, is_watching as is_watching_in, watched as watched_of, AreSteps, GivesOne, GivesAny, IsOffering, Knows, Told};
 ghost use Rattle.lin_frontier.specs.Walks.{IsTriedAtMost};
 
 use crate::configs::{Config, is_absent, is_pair};
 use crate::pending::{Open, Pending};
 use crate::spare::Spare;
-use lin_history::{Call, Meter, OutOfMemory, Reply, Val};
+use lin_events::{Call, Meter, OutOfMemory, Reply, Val};
 use lin_objects::SeqObject;
 use std::alloc::Global;
 use std::marker::Model;
@@ -23,7 +23,7 @@ pub struct OfferList {
 
 impl Model for OfferList {
     ghost use Rattle.std.specs.Prelude.{ℕ, List};
-    ghost use Rattle.lin_history.specs.declared.calls.Reply.{Reply as ReplyOf};
+    ghost use Rattle.lin_events.specs.declared.calls.Reply.{Reply as ReplyOf};
 
     ghost Value = { List (ℕ × (ℕ × ReplyOf)) };
 
@@ -41,7 +41,7 @@ pub struct Offers {
 
 impl Model for Offers {
     ghost use Rattle.std.specs.Prelude.{ℕ, List};
-    ghost use Rattle.lin_history.specs.declared.calls.Reply.{Reply as ReplyOf};
+    ghost use Rattle.lin_events.specs.declared.calls.Reply.{Reply as ReplyOf};
     ghost use Rattle.lin_frontier.specs.Sharing.{shared};
 
     ghost Value = { List (ℕ × (ℕ × ReplyOf)) };

@@ -1,9 +1,9 @@
 //! Laws of members that stand also for what overwritten updates did. The functions do nothing.
 ghost use Rattle.lin_frontier.specs.OverwrittenLaws.{AboveLaw, AheadLaw, AllowsBeginsLaw, AllowsOnLaw, AllowsPutLaw, CompleteAloneLaw, FailWithLaw, InfoWithLaw, InvocationWithLaw, NoneOverwrittenLaw, ObserverWithLaw, UpdateWithLaw};
 
-use lin_history::{ends_are_unique, well_formed_is_alternating};
+use lin_events::{ends_are_unique, well_formed_is_alternating};
 use lin_objects::SeqObject;
-use lin_order::configurations_after_events;
+use lin_orders::configurations_after_events;
 
 /// Members that others are above can be dropped; and where no update is early enough to be overwritten, members lead to all
 /// configurations just where they do so alone.

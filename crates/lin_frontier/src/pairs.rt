@@ -3,7 +3,7 @@ ghost use Rattle.std.specs.Prelude.{◌≡◌, ◌%◌, ◌^◌, ◌∷◌, ◌+
 ghost use Rattle.lin_frontier.specs.Masks.{mask_of};
 
 use crate::spare::Spare;
-use lin_history::{OutOfMemory, Reply};
+use lin_events::{OutOfMemory, Reply};
 use smallvec::SmallVec;
 use std::alloc::Global;
 use std::marker::Model;
@@ -19,7 +19,7 @@ pub struct PairList {
 
 impl Model for PairList {
     ghost use Rattle.std.specs.Prelude.{◌≡◌, ℕ, List};
-    ghost use Rattle.lin_history.specs.declared.calls.Reply.{Reply as ReplyOf};
+    ghost use Rattle.lin_events.specs.declared.calls.Reply.{Reply as ReplyOf};
     ghost use Rattle.lin_frontier.specs.Masks.{mask_of};
 
     ghost Value = { List (ℕ × ReplyOf) };
@@ -41,7 +41,7 @@ pub struct Pairs {
 
 impl Model for Pairs {
     ghost use Rattle.std.specs.Prelude.{◌≡◌, ℕ, List};
-    ghost use Rattle.lin_history.specs.declared.calls.Reply.{Reply as ReplyOf};
+    ghost use Rattle.lin_events.specs.declared.calls.Reply.{Reply as ReplyOf};
     ghost use Rattle.lin_frontier.specs.Masks.{mask_of};
     ghost use Rattle.lin_frontier.specs.Sharing.{shared};
 

@@ -8,7 +8,7 @@ use crate::configs::Config;
 use crate::domination::pruned;
 use crate::members::Member;
 use crate::pending::Pending;
-use lin_history::OutOfMemory;
+use lin_events::OutOfMemory;
 use lin_objects::SeqObject;
 use std::alloc::Global;
 use std::hash::{FoldHasher, Hash, Hasher};

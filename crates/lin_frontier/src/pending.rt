@@ -1,8 +1,8 @@
 //! The operations that are open.
 ghost use Rattle.std.specs.Prelude.{◌≡◌, ◌⊎◌, ◌&&◌, ◌+◌, ◌≤◌, [], ℤ, true, nat_eq, All, Bool, Contains, IsTrue, List, IfNone, IfSome, length, OnOk, OnErr, filter, map, not, take, ◌==◌, ◌++◌};
-ghost use Rattle.lin_history.specs.declared.calls.Name.{Name as NameOf};
-ghost use Rattle.lin_history.specs.declared.events.Event.{Event as EventOf};
-ghost use Rattle.lin_order.specs.ConfigurationLaws.{with_event};
+ghost use Rattle.lin_events.specs.declared.calls.Name.{Name as NameOf};
+ghost use Rattle.lin_events.specs.declared.events.Event.{Event as EventOf};
+ghost use Rattle.lin_orders.specs.ConfigurationLaws.{with_event};
 ghost use Rattle.lin_frontier.specs.Frontiers.{IsNextEvent, IsPending};
 ghost use Rattle.lin_frontier.specs.Masks.{crashed_bits as crashed_bits_of};
 ghost use Rattle.lin_frontier.specs.Parts.{bits_beside as bits_beside_of};
@@ -10,7 +10,7 @@ ghost use Rattle.lin_frontier.specs.Placing.{marked};
 ghost use Rattle.lin_frontier.specs.Searching.{is_crashed as is_crashed_in};
 
 use crate::pairs::{Pairs, bit_of};
-use lin_history::{
+use lin_events::{
     Body, Call, Event, OutOfMemory, beginnings_are_well_formed, well_formed_is_alternating,
 };
 use std::marker::Model;

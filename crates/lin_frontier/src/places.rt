@@ -1,6 +1,6 @@
 //! Where members of each key stand. It only tells where to look first: whatever it says, what is answered is tested.
 use indexmap::IndexMap;
-use lin_history::OutOfMemory;
+use lin_events::OutOfMemory;
 use std::alloc::Global;
 
 /// The places of the first members of a list, by their keys.

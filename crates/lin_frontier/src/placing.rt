@@ -9,9 +9,9 @@ use crate::pairs::PairList;
 use crate::pending::Open;
 use crate::search::Steps;
 use crate::spare::Spare;
-use lin_history::{Meter, OutOfMemory, Reply};
+use lin_events::{Meter, OutOfMemory, Reply};
 use lin_objects::SeqObject;
-use lin_order::Placed;
+use lin_orders::Placed;
 use std::alloc::Global;
 
 /// Places the operation, which has no place in the configuration yet, in each way that the object has. `steps` is only

@@ -1,9 +1,9 @@
 //! Laws of the rounds by which members are come to. The functions do nothing.
 ghost use Rattle.lin_frontier.specs.RoundLaws.{ExactLaw, FewerLaw, SoundLaw, TrailEndsLaw, TrailFailLaw, TrailInfoLaw, TrailInvocationLaw, TrailObserverLaw, TrailOkLaw, TrailPlacesLaw, TrailReturnLaw, TrailStartLaw, TrailTakesLaw};
 
-use lin_history::well_formed_is_alternating;
+use lin_events::well_formed_is_alternating;
 use lin_objects::SeqObject;
-use lin_order::{configurations_after_events, configurations_at_start, placing_is_legal};
+use lin_orders::{configurations_after_events, configurations_at_start, placing_is_legal};
 
 /// The rounds of a member spell a legal order that ends in it, and they do so with fewer offers; before any event there is one round.
 pub(crate) fn rounds_spell_members<O: SeqObject>(object: &O)

@@ -11,7 +11,7 @@ use crate::offers::Offers;
 use crate::parts::key;
 use crate::pending::Pending;
 use crate::places::Places;
-use lin_history::OutOfMemory;
+use lin_events::OutOfMemory;
 use lin_objects::SeqObject;
 use std::alloc::Global;
 use std::hash::Hash;

@@ -10,7 +10,7 @@ use crate::exchanges::{are_some_alike, settle};
 use crate::members::{Member, Path, same};
 use crate::parts::pruned_many;
 use crate::pending::Pending;
-use lin_history::OutOfMemory;
+use lin_events::OutOfMemory;
 use lin_objects::SeqObject;
 use std::alloc::Global;
 

@@ -1,15 +1,15 @@
 //! One more event of a compressed frontier, within a budget of configurations.
 ghost use Rattle.std.specs.Prelude.{◌≡◌, ◌⊎◌, ◌+◌, ◌*◌, ◌<◌, ◌≤◌, ℕ, ℤ, true, false, Bool, List, length, Contains, IsTrue, Option, IfOk, IfSome, IfNone, OnErr};
-ghost use Rattle.lin_history.specs.declared.calls.Call.{Call as CallOf};
-ghost use Rattle.lin_history.specs.declared.calls.Name.{Name as NameOf};
-ghost use Rattle.lin_history.specs.declared.calls.Reply.{Reply as ReplyOf};
-ghost use Rattle.lin_history.specs.declared.events.Body.{Body as BodyOf};
-ghost use Rattle.lin_history.specs.declared.events.Event.{Event as EventOf};
-ghost use Rattle.lin_history.specs.Meters.{ticked};
-ghost use Rattle.lin_history.specs.WellFormed.{IsWellFormed};
-ghost use Rattle.lin_order.specs.ConfigurationLaws.{with_event};
-ghost use Rattle.lin_order.specs.Linearizable.{IsLinearizableBy};
-ghost use Rattle.lin_order.specs.declared.placed.Placed.{Placed as PlacedOf};
+ghost use Rattle.lin_events.specs.declared.calls.Call.{Call as CallOf};
+ghost use Rattle.lin_events.specs.declared.calls.Name.{Name as NameOf};
+ghost use Rattle.lin_events.specs.declared.calls.Reply.{Reply as ReplyOf};
+ghost use Rattle.lin_events.specs.declared.events.Body.{Body as BodyOf};
+ghost use Rattle.lin_events.specs.declared.events.Event.{Event as EventOf};
+ghost use Rattle.lin_events.specs.Meters.{ticked};
+ghost use Rattle.lin_events.specs.WellFormed.{IsWellFormed};
+ghost use Rattle.lin_orders.specs.ConfigurationLaws.{with_event};
+ghost use Rattle.lin_orders.specs.Linearizable.{IsLinearizableBy};
+ghost use Rattle.lin_orders.specs.declared.placed.Placed.{Placed as PlacedOf};
 ghost use Rattle.lin_frontier.specs.declared.members.Path.{Path as PathOf};
 ghost use Rattle.lin_frontier.specs.Asking.{AreAlone};
 ghost use Rattle.lin_frontier.specs.Compressed.{IsCompressed, IsSpelled, CompressedSpellLegalOrders};
@@ -34,9 +34,9 @@ use crate::round_laws::{members_are_exact, rounds_after_events};
 use crate::rounds::RoundNodes;
 use crate::scratch::Scratch;
 use crate::spare::Pool;
-use lin_history::{Body, Event, Meter, OutOfMemory, ends_are_unique, well_formed_is_alternating};
+use lin_events::{Body, Event, Meter, OutOfMemory, ends_are_unique, well_formed_is_alternating};
 use lin_objects::SeqObject;
-use lin_order::legal_orders_end;
+use lin_orders::legal_orders_end;
 use std::alloc::Global;
 use std::hash::Hash;
 

@@ -3,12 +3,12 @@ use Rattle.std.proofs.Common.{◌≡◌, ℕ, ℤ, Bool, Option, Some, Result, O
 use Rattle.lin_edn.specs.Value.{Value}
 use Rattle.lin_history.specs.Table.{event_with, process_of, type_of, function_of, parts_of, body_of, or_fault, IsAnswer}
 use Rattle.lin_history.specs.Fields.{IsBody}
-use Rattle.lin_history.specs.declared.calls.Name.{Name}
-use Rattle.lin_history.specs.declared.calls.Name.TheVariants.{Read}
-use Rattle.lin_history.specs.declared.calls.Reply.TheVariants.{Members}
-use Rattle.lin_history.specs.declared.events.Body.{Body}
-use Rattle.lin_history.specs.declared.events.Body.TheVariants as body
-use Rattle.lin_history.specs.declared.events.Event.{Event}
+use Rattle.lin_events.specs.declared.calls.Name.{Name}
+use Rattle.lin_events.specs.declared.calls.Name.TheVariants.{Read}
+use Rattle.lin_events.specs.declared.calls.Reply.TheVariants.{Members}
+use Rattle.lin_events.specs.declared.events.Body.{Body}
+use Rattle.lin_events.specs.declared.events.Body.TheVariants as body
+use Rattle.lin_events.specs.declared.events.Event.{Event}
 use Rattle.lin_history.specs.declared.table.EventType.{EventType}
 use Rattle.lin_history.specs.declared.table.EventFault.{EventFault}
 use Rattle.lin_history.specs.declared.table.EventFault.TheVariants.{NotAMap, DuplicateKey, Missing, BadProcess, BadType, BadFunction, BadKey, BadValue, OutOfMemory}

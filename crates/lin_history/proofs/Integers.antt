@@ -5,9 +5,9 @@ use Rattle.std.proofs.lemmas.List.{drop_all}
 use Rattle.lin_edn.specs.Value.{Values, values_of}
 use Rattle.lin_edn.specs.View.{view}
 use Rattle.lin_edn.specs.declared.Edn.{Edn}
-use Rattle.lin_history.specs.Sets.{members_of}
+use Rattle.lin_lists.specs.Sets.{members_of}
 use Rattle.lin_history.specs.Table.{ints_of, int_of, bare, members_in}
-use Rattle.lin_history.specs.declared.calls.Reply.TheVariants.{Members}
+use Rattle.lin_events.specs.declared.calls.Reply.TheVariants.{Members}
 
 -- the integers of the elements from a place on
 abbrev pub ints_from : ℕ → List Edn → Option (List ℤ)

@@ -3,15 +3,15 @@ use Rattle.std.proofs.Common.{◌≡◌, ℕ, ℤ, Bool, true, false, ◌||◌, 
 use Rattle.std.proofs.lemmas.List.{map-append}
 use Rattle.lin_edn.specs.Laws.{later, later_values, later_entries}
 use Rattle.lin_edn.specs.Value.{Value, nil, bool, int, atom, keyword, text, list, vector, set, map, tagged, Values, no_values, value, Entries, no_entries, entry}
-use Rattle.lin_history.specs.Sets.{members_of}
+use Rattle.lin_lists.specs.Sets.{members_of}
 use Rattle.lin_history.specs.Stream.{told, told_by, maps_in, before}
 use Rattle.lin_history.specs.Table.{bare, is_word, here, under, look_up, type_words, type_of, function_words, function_of, process_of, int_of, val_of, both_of, pair_of, ints_of, cas_of, call_of, members_in, seen, reply_of, body_of, parts_of, or_fault, event_with, is_several, or_nil, is_named, event_when_there, event_under, event_in, event}
-use Rattle.lin_history.specs.declared.calls.Call.TheVariants as call
-use Rattle.lin_history.specs.declared.calls.Name.{Name}
-use Rattle.lin_history.specs.declared.calls.Name.TheVariants.{Read, Write, Cas, Enqueue, Dequeue, Add, Acquire, Release}
-use Rattle.lin_history.specs.declared.calls.Reply.TheVariants.{Value as Saw, Members}
-use Rattle.lin_history.specs.declared.events.Body.TheVariants as body
-use Rattle.lin_history.specs.declared.events.Event.{Event}
+use Rattle.lin_events.specs.declared.calls.Call.TheVariants as call
+use Rattle.lin_events.specs.declared.calls.Name.{Name}
+use Rattle.lin_events.specs.declared.calls.Name.TheVariants.{Read, Write, Cas, Enqueue, Dequeue, Add, Acquire, Release}
+use Rattle.lin_events.specs.declared.calls.Reply.TheVariants.{Value as Saw, Members}
+use Rattle.lin_events.specs.declared.events.Body.TheVariants as body
+use Rattle.lin_events.specs.declared.events.Event.{Event}
 use Rattle.lin_history.specs.declared.table.EventFault.{EventFault}
 use Rattle.lin_history.specs.declared.table.EventFault.TheVariants.{DuplicateKey, BadProcess, BadType, BadFunction, BadKey, BadValue}
 use Rattle.lin_history.specs.declared.table.EventType.{EventType}

@@ -1,7 +1,7 @@
 -- What maps tell, one after another.
 use Rattle.std.proofs.Common.{List, ◌++◌}
 use Rattle.lin_history.specs.Stream.{Told}
-use Rattle.lin_history.specs.declared.events.Event.{Event}
+use Rattle.lin_events.specs.declared.events.Event.{Event}
 
 -- what is told behind events
 abbrev pub behind_told : List Event → Told → Told

@@ -5,13 +5,13 @@ use Rattle.lin_edn.specs.declared.Edn.{Edn}
 use Rattle.lin_edn.specs.View.{view}
 use Rattle.lin_edn.specs.Value.{Value, Entries, nil, int}
 use Rattle.lin_history.specs.Table.{is_several, here, under}
-use Rattle.lin_history.specs.declared.calls.Val.{Val}
-use Rattle.lin_history.specs.declared.calls.Val.TheVariants as val
-use Rattle.lin_history.specs.declared.events.Body.{Body}
-use Rattle.lin_history.specs.declared.events.Body.TheVariants as body
-use Rattle.lin_history.specs.declared.calls.Reply.{Reply}
-use Rattle.lin_history.specs.declared.calls.Reply.TheVariants.{Members}
-use Rattle.lin_history.specs.declared.calls.Name.TheVariants.{Read}
+use Rattle.lin_events.specs.declared.calls.Val.{Val}
+use Rattle.lin_events.specs.declared.calls.Val.TheVariants as val
+use Rattle.lin_events.specs.declared.events.Body.{Body}
+use Rattle.lin_events.specs.declared.events.Body.TheVariants as body
+use Rattle.lin_events.specs.declared.calls.Reply.{Reply}
+use Rattle.lin_events.specs.declared.calls.Reply.TheVariants.{Members}
+use Rattle.lin_events.specs.declared.calls.Name.TheVariants.{Read}
 use Rattle.lin_history.specs.declared.table.Fields.{Fields}
 use Rattle.lin_history.specs.declared.table.Given.{Given}
 use Rattle.lin_history.specs.declared.table.Given.TheVariants as given

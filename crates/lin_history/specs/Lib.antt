@@ -1,9 +1,3 @@
-pub mod Sets
-pub mod Sameness
-pub mod Replies
-pub mod Operations
-pub mod Names
-pub mod Numbers
 pub mod Table
 pub mod Fields
 pub mod Stream
@@ -12,7 +6,3 @@ pub mod Sees
 pub mod Reads
 pub mod Rests
 pub mod Usual
-pub mod Meters
-pub mod WellFormed
-pub mod Alternation
-pub mod WellFormedLaws

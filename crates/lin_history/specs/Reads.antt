@@ -4,7 +4,7 @@ use Rattle.lin_edn.specs.Value.{Value, values_of}
 use Rattle.lin_edn.specs.Grammar.{Spells}
 use Rattle.lin_history.specs.Stream.{Told, told, told_by, Gives, IsStream}
 use Rattle.lin_history.specs.Sees.{is_fault}
-use Rattle.lin_history.specs.declared.events.Event.{Event}
+use Rattle.lin_events.specs.declared.events.Event.{Event}
 use Rattle.lin_history.specs.declared.table.EventFault.{EventFault}
 use Rattle.lin_history.specs.declared.table.EventFault.TheVariants as cause
 use Rattle.lin_history.specs.declared.follow.FollowFault.{FollowFault}
@@ -12,7 +12,7 @@ use Rattle.lin_history.specs.declared.follow.FollowFault.TheVariants as fault
 use Rattle.lin_history.specs.declared.follow.Read.{Read}
 use Rattle.lin_history.specs.declared.follow.Front.{Front}
 use Rattle.lin_history.specs.declared.follow.Front.TheVariants as front
-use Rattle.lin_history.specs.declared.numbers.OutOfMemory.{OutOfMemory}
+use Rattle.lin_events.specs.declared.numbers.OutOfMemory.{OutOfMemory}
 
 -- what an element tells is put behind what was ready
 abbrev pub IsTold : Told → List Event → List Event → Result (Unit {0}) EventFault → Type 0

@@ -7,10 +7,10 @@ use Rattle.lin_edn.specs.Skimming.{HasSeen}
 use Rattle.lin_edn.specs.Value.{Value, values_of}
 use Rattle.lin_history.specs.Stream.{Told, told, told_by}
 use Rattle.lin_history.specs.Reads.{IsReadTo, IsPutBehind}
-use Rattle.lin_history.specs.declared.events.Event.{Event}
+use Rattle.lin_events.specs.declared.events.Event.{Event}
 use Rattle.lin_history.specs.declared.follow.Read.{Read}
 use Rattle.lin_history.specs.declared.follow.Rest.{Rest}
-use Rattle.lin_history.specs.declared.numbers.OutOfMemory.{OutOfMemory}
+use Rattle.lin_events.specs.declared.numbers.OutOfMemory.{OutOfMemory}
 use Rattle.lin_history.specs.declared.row.Far.{Far}
 use Rattle.lin_history.specs.declared.row.Far.TheVariants as far
 use Rattle.lin_history.specs.declared.row.Row.{Row}

@@ -6,7 +6,7 @@ use Rattle.lin_edn.specs.Reading.{Refuses}
 use Rattle.lin_edn.specs.declared.EdnCause.{EdnCause}
 use Rattle.lin_edn.specs.declared.EdnCause.TheVariants as edn
 use Rattle.lin_history.specs.Table.{event, bare}
-use Rattle.lin_history.specs.declared.events.Event.{Event}
+use Rattle.lin_events.specs.declared.events.Event.{Event}
 use Rattle.lin_history.specs.declared.table.EventFault.{EventFault}
 use Rattle.lin_history.specs.declared.follow.FollowFault.{FollowFault}
 use Rattle.lin_history.specs.declared.follow.FollowFault.TheVariants as fault

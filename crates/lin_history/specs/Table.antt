@@ -3,18 +3,18 @@
 use Rattle.std.specs.Prelude.{◌≡◌, ℕ, ℤ, pos, Bool, true, false, ◌||◌, if◌then◌else◌, List, [], ◌∷◌, ◌++◌, Option, Some, None, option_map, option_and_then, Result, Ok, Err, codes}
 use Rattle.std.specs.Str.{bytes_eq}
 use Rattle.lin_edn.specs.Value.{Value, nil, bool, int, atom, keyword, text, list, vector, set, map, tagged, Values, no_values, value, Entries, no_entries, entry}
-use Rattle.lin_history.specs.Sets.{members_of}
-use Rattle.lin_history.specs.declared.calls.Val.{Val}
-use Rattle.lin_history.specs.declared.calls.Val.TheVariants as val
-use Rattle.lin_history.specs.declared.calls.Name.{Name}
-use Rattle.lin_history.specs.declared.calls.Name.TheVariants.{Read, Write, Cas, Enqueue, Dequeue, Add, Acquire, Release}
-use Rattle.lin_history.specs.declared.calls.Call.{Call}
-use Rattle.lin_history.specs.declared.calls.Call.TheVariants as call
-use Rattle.lin_history.specs.declared.calls.Reply.{Reply}
-use Rattle.lin_history.specs.declared.calls.Reply.TheVariants.{Done, Value as Saw, Members}
-use Rattle.lin_history.specs.declared.events.Body.{Body}
-use Rattle.lin_history.specs.declared.events.Body.TheVariants as body
-use Rattle.lin_history.specs.declared.events.Event.{Event}
+use Rattle.lin_lists.specs.Sets.{members_of}
+use Rattle.lin_events.specs.declared.calls.Val.{Val}
+use Rattle.lin_events.specs.declared.calls.Val.TheVariants as val
+use Rattle.lin_events.specs.declared.calls.Name.{Name}
+use Rattle.lin_events.specs.declared.calls.Name.TheVariants.{Read, Write, Cas, Enqueue, Dequeue, Add, Acquire, Release}
+use Rattle.lin_events.specs.declared.calls.Call.{Call}
+use Rattle.lin_events.specs.declared.calls.Call.TheVariants as call
+use Rattle.lin_events.specs.declared.calls.Reply.{Reply}
+use Rattle.lin_events.specs.declared.calls.Reply.TheVariants.{Done, Value as Saw, Members}
+use Rattle.lin_events.specs.declared.events.Body.{Body}
+use Rattle.lin_events.specs.declared.events.Body.TheVariants as body
+use Rattle.lin_events.specs.declared.events.Event.{Event}
 use Rattle.lin_history.specs.declared.table.EventType.{EventType}
 use Rattle.lin_history.specs.declared.table.EventType.TheVariants as types
 use Rattle.lin_history.specs.declared.table.EventFault.{EventFault}

@@ -6,14 +6,14 @@ use Rattle.lin_edn.specs.Bytes.{Kind, a_set, a_vector}
 use Rattle.lin_edn.specs.Run.{run_value}
 use Rattle.lin_edn.specs.Value.{Value, map, Entries, entries_of}
 use Rattle.lin_history.specs.Table.{bare, is_word, under, process_of, type_of, function_of, parts_of, or_nil, is_several, is_named, event, event_with}
-use Rattle.lin_history.specs.declared.calls.Name.{Name}
+use Rattle.lin_events.specs.declared.calls.Name.{Name}
 use Rattle.lin_history.specs.declared.table.EventType.{EventType}
 use Rattle.lin_history.specs.declared.usual.Place.{Place}
 use Rattle.lin_history.specs.declared.usual.Places.{Places}
 use Rattle.lin_history.specs.declared.usual.Process.{Process}
 use Rattle.lin_history.specs.declared.usual.Process.TheVariants.{Number, Named}
 use Rattle.lin_history.specs.declared.usual.Taken.{Taken}
-use Rattle.lin_history.specs.declared.events.Event.{Event}
+use Rattle.lin_events.specs.declared.events.Event.{Event}
 
 -- a set, or a vector
 abbrev pub kind_of : Bool → Kind

@@ -8,11 +8,9 @@ ghost use Rattle.lin_history.specs.Stream.{told, told_by, StreamsAreUnique};
 ghost use Rattle.lin_history.specs.Sees.{Sees, Takes, TakesAll, Feeds, StaysFaulty, FaultsStay, most};
 ghost use Rattle.lin_history.specs.Reads.{IsTold, IsReadOn, IsReadTo, IsFront, IsStanding, IsRead};
 ghost use Rattle.lin_history.specs.Rests.{IsOpen, IsWhole, IsSeen, Knows, IsUnaware, GoesOn, IsReadHeld};
-ghost use Rattle.lin_history.specs.declared.events.Event.{Event as TheEvent};
+ghost use Rattle.lin_events.specs.declared.events.Event.{Event as TheEvent};
 ghost use Rattle.lin_history.specs.declared.follow.FollowFault.{FollowFault as TheFault};
 
-use crate::events::Event;
-use crate::numbers::OutOfMemory;
 use crate::row::{Far, Row, begin_row, put_all, put_event, read_maps, tell_one, whole_row};
 use crate::table::{EventFault, bare};
 use crate::usual::{LEVELS, next_usual};
@@ -20,6 +18,7 @@ use lin_edn::{
     Edn, EdnCause, Next, Skim, blanks_are_skipped, blanks_in_front, more_bytes, next_element,
     places, readings_are_unique,
 };
+use lin_events::{Event, OutOfMemory};
 use std::alloc::Global;
 use std::collections::VecDeque;
 use std::marker::Model;

@@ -1,10 +1,10 @@
 //! The event of the element in front of a text.
 ghost use Rattle.lin_history.specs.Next.{SaysEvent};
 
-use crate::events::Event;
 use crate::table::{EventFault, event_of};
 use crate::usual::{LEVELS, next_usual};
 use lin_edn::{EdnFault, Next, next_element};
+use lin_events::Event;
 use std::alloc::Global;
 
 /// What stands at the front of a text.

@@ -9,11 +9,10 @@ ghost use Rattle.lin_history.specs.Rests.{told_of, IsOpen, IsWaiting, IsFar, IsW
 ghost use Rattle.lin_history.specs.Table.{event as told_in};
 ghost use Rattle.lin_history.specs.Usual.{IsTaken, events_of};
 
-use crate::events::Event;
-use crate::numbers::OutOfMemory;
 use crate::table::{EventFault, event_of};
 use crate::usual::{Taken, next_usual};
 use lin_edn::{Edn, Inside, Series};
+use lin_events::{Event, OutOfMemory};
 use std::alloc::Global;
 use std::collections::VecDeque;
 

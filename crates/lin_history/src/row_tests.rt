@@ -2,8 +2,9 @@
 use crate::tests::{
     ends, ends_with, event, is_too_deep, joined, nesting, set_of, taken, tells_the_same,
 };
-use crate::{Body, Call, EventFault, Follow, FollowFault, Name, Reply};
+use crate::{EventFault, Follow, FollowFault};
 use lin_edn::EdnCause;
+use lin_events::{Body, Call, Name, Reply};
 use std::alloc::Global;
 use std::process::Abort;
 

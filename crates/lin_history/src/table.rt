@@ -6,14 +6,12 @@ ghost use Rattle.lin_edn.specs.Value.{Value, int, keyword, values_of, entries_of
 ghost use Rattle.lin_edn.specs.View.{view, entry_view};
 ghost use Rattle.lin_history.specs.Table as table;
 ghost use Rattle.lin_history.specs.Table.{bare as bare_value, is_word as says, under, is_several, event, IsAnswer};
-ghost use Rattle.lin_history.specs.declared.calls.Name.TheVariants.{Cas};
-ghost use Rattle.lin_history.specs.declared.calls.Reply.TheVariants.{Members};
+ghost use Rattle.lin_events.specs.declared.calls.Name.TheVariants.{Cas};
+ghost use Rattle.lin_events.specs.declared.calls.Reply.TheVariants.{Members};
 ghost use Rattle.lin_history.specs.Fields.{found, given_view, IsPut, IsKept, IsFields, IsReply, IsBody};
 
-use crate::calls::{Call, Name, Reply, Val};
-use crate::events::{Body, Event};
-use crate::numbers::{IntSet, OutOfMemory};
 use lin_edn::{Edn, Entry};
+use lin_events::{Body, Call, Event, IntSet, Name, OutOfMemory, Reply, Val};
 use std::alloc::Global;
 
 /// Why an element says no event: the first of these that holds.

@@ -1,8 +1,6 @@
-use crate::{
-    Body, Call, Event, EventFault, Follow, FollowFault, IntSet, Meter, Name, NextEvent, Reply, Val,
-    event_of, next_event,
-};
+use crate::{EventFault, Follow, FollowFault, NextEvent, event_of, next_event};
 use lin_edn::{EdnCause, EdnFault, Next, next_element};
+use lin_events::{Body, Call, Event, IntSet, Meter, Name, Reply, Val};
 use std::alloc::Global;
 use std::process::Abort;
 

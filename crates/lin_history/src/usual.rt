@@ -11,8 +11,6 @@ ghost use Rattle.lin_history.specs.Fields.{given_view, value_of};
 ghost use Rattle.lin_history.specs.Table.{event};
 ghost use Rattle.lin_history.specs.Usual.{AreParts, ArePlaced, IsAdded, IsPlaced, IsProcess, IsValueAt, IsUpTo, IsMapAt, IsTaken, TellsWith};
 
-use crate::calls::{Name, Val};
-use crate::events::Event;
 use crate::table::{
     EventType, Given, event_said, function_named, is_keyword, is_same, process_number, type_named,
 };
@@ -21,6 +19,7 @@ use lin_edn::{
     Edn, elements_are_unique, integer, nested_until, run_element, run_until, tag_until,
     white_until, window,
 };
+use lin_events::{Event, Name, Val};
 use std::alloc::Global;
 
 /// The greatest number of levels.

@@ -10,9 +10,9 @@ ghost use Rattle.lin_history.specs.Fields.{value_of};
 ghost use Rattle.lin_history.specs.Table.{bare};
 ghost use Rattle.lin_history.specs.Usual.{kind_of};
 
-use crate::calls::Val;
 use crate::table::is_same;
 use lin_edn::{Edn, integer, run_element, run_until, white_until};
+use lin_events::Val;
 use std::alloc::Global;
 
 /// The pair of an integer and such a value, of one level at most, at a place.

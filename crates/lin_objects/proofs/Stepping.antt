@@ -1,6 +1,6 @@
 -- The laws of steps, by the lines of their table.
 use Rattle.std.proofs.Common.{refl, sym, ◌∙◌, true, false, [], ◌∷◌}
-use Rattle.lin_history.specs.declared.calls.Call.TheVariants.{Read, Write, Cas, Enqueue, Dequeue, Add, Acquire, Release}
+use Rattle.lin_events.specs.declared.calls.Call.TheVariants.{Read, Write, Cas, Enqueue, Dequeue, Add, Acquire, Release}
 use Rattle.lin_objects.specs.declared.kinds.Kind.TheVariants.{Register, CasRegister, Fifo, Set, Mutex}
 use Rattle.lin_objects.specs.declared.states.State.TheVariants.{Value, Queue, Members, Held}
 use Rattle.lin_objects.specs.Laws.{StepsAreAllowed, RepliesDecide}

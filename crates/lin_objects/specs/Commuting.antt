@@ -5,10 +5,10 @@ use Rattle.std.specs.Ordering.{int_cmp, match_ordering}
 use Rattle.std.specs.declared.cmp.Ordering.TheVariants.{Less, Equal, Greater}
 use Rattle.std.proofs.lemmas.Cmp.{int_ranked, by_ranked}
 use Rattle.std.proofs.lemmas.Int.{ints}
-use Rattle.lin_history.specs.declared.calls.Call.{Call}
-use Rattle.lin_history.specs.declared.calls.Call.TheVariants.{Read, Add}
-use Rattle.lin_history.specs.declared.calls.Reply.{Reply}
-use Rattle.lin_history.specs.Sets.{with_member}
+use Rattle.lin_events.specs.declared.calls.Call.{Call}
+use Rattle.lin_events.specs.declared.calls.Call.TheVariants.{Read, Add}
+use Rattle.lin_events.specs.declared.calls.Reply.{Reply}
+use Rattle.lin_lists.specs.Sets.{with_member}
 use Rattle.lin_objects.specs.declared.kinds.Kind.{Kind}
 use Rattle.lin_objects.specs.declared.kinds.Kind.TheVariants.{Set}
 use Rattle.lin_objects.specs.declared.states.State.TheVariants.{Members}

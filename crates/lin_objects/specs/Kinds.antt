@@ -3,7 +3,7 @@ use Rattle.std.specs.Prelude.{◌≡◌, ◌||◌, if◌then◌else◌, ℕ, ℤ
 use Rattle.std.specs.Ordering.{int_cmp, int_eq}
 use Rattle.std.specs.Map.{lookup}
 use Rattle.std.specs.BTreeMap.{insert_entry}
-use Rattle.lin_history.specs.declared.calls.Name.{Name}
+use Rattle.lin_events.specs.declared.calls.Name.{Name}
 use Rattle.lin_objects.specs.declared.kinds.Kind.{Kind}
 use Rattle.lin_objects.specs.declared.kinds.Kinds.{Kinds}
 use Rattle.lin_objects.specs.Steps.{allows}

@@ -1,10 +1,10 @@
 -- Laws of the steps of objects.
 use Rattle.std.specs.Prelude.{◌≡◌, true}
-use Rattle.lin_history.specs.declared.calls.Call.{Call}
-use Rattle.lin_history.specs.declared.calls.Reply.{Reply}
+use Rattle.lin_events.specs.declared.calls.Call.{Call}
+use Rattle.lin_events.specs.declared.calls.Reply.{Reply}
 use Rattle.lin_objects.specs.declared.kinds.Kind.{Kind}
 use Rattle.lin_objects.specs.declared.states.State.{State}
-use Rattle.lin_history.specs.Names.{name_of}
+use Rattle.lin_events.specs.Names.{name_of}
 use Rattle.lin_objects.specs.Steps.{Step, allows}
 
 -- an object takes only calls of functions that its kind has

@@ -1,9 +1,9 @@
 -- Calls that observe: they leave the object's state as it is.
 use Rattle.std.specs.Prelude.{◌≡◌, Bool, true, false}
 use Rattle.std.proofs.Common.{sym, true≢false}
-use Rattle.lin_history.specs.declared.calls.Call.{Call}
-use Rattle.lin_history.specs.declared.calls.Call.TheVariants.{Read}
-use Rattle.lin_history.specs.declared.calls.Reply.{Reply}
+use Rattle.lin_events.specs.declared.calls.Call.{Call}
+use Rattle.lin_events.specs.declared.calls.Call.TheVariants.{Read}
+use Rattle.lin_events.specs.declared.calls.Reply.{Reply}
 use Rattle.lin_objects.specs.declared.kinds.Kind.{Kind}
 use Rattle.lin_objects.specs.declared.kinds.Kind.TheVariants.{Register, CasRegister}
 use Rattle.lin_objects.specs.declared.states.State.TheVariants.{Value}

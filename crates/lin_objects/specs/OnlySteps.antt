@@ -1,7 +1,7 @@
 -- What the private functions that find a step answer.
 use Rattle.std.specs.Prelude.{◌≡◌, Option, Some, None}
-use Rattle.lin_history.specs.declared.calls.Call.{Call}
-use Rattle.lin_history.specs.declared.calls.Reply.{Reply}
+use Rattle.lin_events.specs.declared.calls.Call.{Call}
+use Rattle.lin_events.specs.declared.calls.Reply.{Reply}
 use Rattle.lin_objects.specs.declared.kinds.Kind.{Kind}
 use Rattle.lin_objects.specs.declared.states.State.{State}
 use Rattle.lin_objects.specs.Steps.{Step}

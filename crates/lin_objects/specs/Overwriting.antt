@@ -1,11 +1,11 @@
 -- Objects that are overwritten: each call that isn't treated as an observer does the same wherever the object stands.
 use Rattle.std.specs.Prelude.{◌≡◌, Bool, true, false}
 use Rattle.std.proofs.Common.{refl, sym, ap, subst, true≢false, ◌∙◌}
-use Rattle.lin_history.specs.declared.calls.Call.{Call}
-use Rattle.lin_history.specs.declared.calls.Call.TheVariants.{Read, Write}
-use Rattle.lin_history.specs.declared.calls.Reply.{Reply}
-use Rattle.lin_history.specs.declared.calls.Reply.TheVariants.{Done}
-use Rattle.lin_history.specs.declared.calls.Val.{Val}
+use Rattle.lin_events.specs.declared.calls.Call.{Call}
+use Rattle.lin_events.specs.declared.calls.Call.TheVariants.{Read, Write}
+use Rattle.lin_events.specs.declared.calls.Reply.{Reply}
+use Rattle.lin_events.specs.declared.calls.Reply.TheVariants.{Done}
+use Rattle.lin_events.specs.declared.calls.Val.{Val}
 use Rattle.lin_objects.specs.declared.kinds.Kind.{Kind}
 use Rattle.lin_objects.specs.declared.kinds.Kind.TheVariants.{Register}
 use Rattle.lin_objects.specs.declared.states.State.{State}

@@ -1,8 +1,8 @@
 -- States that compare alike by `==` are the same.
 use Rattle.std.specs.Prelude.{◌≡◌, true, false, Decides}
 use Rattle.std.proofs.Common.{refl, sym, ap, ◌∙◌, true≢false}
-use Rattle.lin_history.specs.Sameness.{numbers_Decides}
-use Rattle.lin_history.specs.Replies.{val_same, val_itself}
+use Rattle.lin_events.specs.Sameness.{numbers_Decides}
+use Rattle.lin_events.specs.Replies.{val_same, val_itself}
 use Rattle.lin_objects.specs.declared.states.State.{State}
 use Rattle.lin_objects.specs.declared.states.State.TheVariants.{Value, Queue, Members, Held}
 use Rattle.lin_objects.specs.contracts.states.StatePartialEq.TheImpl as StateImpl

@@ -5,18 +5,18 @@ use Rattle.std.specs.Ordering.{int_eq}
 use Rattle.std.proofs.Common.{refl, sym, ap, subst, true≢false, ◌∙◌, ⊎_elim}
 use Rattle.std.proofs.lemmas.Bool.Decides.{Decides-int_eq}
 use Rattle.std.proofs.lemmas.List.Folds.{Any-from_list_any, list_any-from_Any}
-use Rattle.lin_history.proofs.Rising.{with_has, with_keeps, with_adds_none}
-use Rattle.lin_history.specs.declared.calls.Call.{Call}
-use Rattle.lin_history.specs.declared.calls.Call.TheVariants.{Read, Enqueue, Dequeue, Add}
-use Rattle.lin_history.specs.declared.calls.Reply.{Reply}
-use Rattle.lin_history.specs.declared.calls.Val.TheVariants.{Nil, Int}
-use Rattle.lin_history.specs.declared.calls.Reply.TheVariants as Replied
+use Rattle.lin_lists.specs.lemmas.Rising.{with_has, with_keeps, with_adds_none}
+use Rattle.lin_events.specs.declared.calls.Call.{Call}
+use Rattle.lin_events.specs.declared.calls.Call.TheVariants.{Read, Enqueue, Dequeue, Add}
+use Rattle.lin_events.specs.declared.calls.Reply.{Reply}
+use Rattle.lin_events.specs.declared.calls.Val.TheVariants.{Nil, Int}
+use Rattle.lin_events.specs.declared.calls.Reply.TheVariants as Replied
 use Rattle.lin_objects.specs.declared.kinds.Kind.{Kind}
 use Rattle.lin_objects.specs.declared.kinds.Kind.TheVariants.{Fifo, Set}
 use Rattle.lin_objects.specs.declared.states.State.{State}
 use Rattle.lin_objects.specs.declared.states.State.TheVariants.{Queue, Members}
 use Rattle.lin_objects.specs.Steps.{Step, start}
-use Rattle.lin_history.specs.Sets.{with_member}
+use Rattle.lin_lists.specs.Sets.{with_member}
 
 -- steps lead from the one state to the other
 pub data Reaches {S : Type 0} (step : S → Call → S → Reply → Type 0) : S → S → Type 0 where

@@ -1,6 +1,6 @@
 //! An object of any kind.
 ghost use Rattle.std.specs.Prelude.{◌≡◌, ◌≢◌, true, IfOk, IfSome, IfNone, OnOk, Contains, AllPairs};
-ghost use Rattle.lin_history.specs.declared.calls.Reply.{Reply as ReplyOf};
+ghost use Rattle.lin_events.specs.declared.calls.Reply.{Reply as ReplyOf};
 ghost use Rattle.lin_objects.specs.Steps.{start as start_of, allows as allows_of, Step};
 ghost use Rattle.lin_objects.specs.Commuting.{commutes as commutes_of, commuting_go_first};
 ghost use Rattle.lin_objects.specs.Observing.{IsObserving, observes as observes_of, observers_keep};
@@ -12,7 +12,7 @@ ghost use Rattle.lin_objects.specs.Total.{has_taken as has_taken_of, reads_show_
 use crate::kinds::Kind;
 use crate::objects::SeqObject;
 use crate::states::{IntQueue, State};
-use lin_history::{Call, IntSet, Name, OutOfMemory, Reply, Val};
+use lin_events::{Call, IntSet, Name, OutOfMemory, Reply, Val};
 use std::alloc::Global;
 
 /// An object of the kind.

@@ -5,7 +5,7 @@ ghost use Rattle.std.specs.BTreeMap.{insert_entry};
 ghost use Rattle.std.specs.Map.{lookup};
 ghost use Rattle.lin_objects.specs.Kinds.{kind_of, is_named, named_count, same_for_all, with_kind};
 
-use lin_history::OutOfMemory;
+use lin_events::OutOfMemory;
 use std::alloc::Global;
 use std::collections::BTreeMap;
 use std::marker::Model;

@@ -1,14 +1,14 @@
 //! What all sequential objects have in common.
 ghost use Rattle.std.specs.Prelude.{◌≡◌, ◌≢◌, Bool, true, IfOk, OnOk, Contains, AllPairs};
-ghost use Rattle.lin_history.specs.declared.calls.Name.{Name as NameOf};
-ghost use Rattle.lin_history.specs.declared.calls.Call.{Call as CallOf};
-ghost use Rattle.lin_history.specs.declared.calls.Reply.{Reply as ReplyOf};
+ghost use Rattle.lin_events.specs.declared.calls.Name.{Name as NameOf};
+ghost use Rattle.lin_events.specs.declared.calls.Call.{Call as CallOf};
+ghost use Rattle.lin_events.specs.declared.calls.Reply.{Reply as ReplyOf};
 ghost use Rattle.lin_objects.specs.Commuting.{IsCommuting};
 ghost use Rattle.lin_objects.specs.Observing.{IsObserving};
 ghost use Rattle.lin_objects.specs.Overwriting.{IsOverwriting};
 ghost use Rattle.lin_objects.specs.Total.{AreTotal, IsShown};
 
-use lin_history::{Call, Name, OutOfMemory, Reply};
+use lin_events::{Call, Name, OutOfMemory, Reply};
 use std::alloc::Global;
 use std::hash::Hash;
 

@@ -4,10 +4,10 @@ ghost use Rattle.std.specs.Cmp.Lexicographic.{pointwise, lists_equiv, lists_per}
 ghost use Rattle.std.specs.Cmp.{int_eq_equiv, partial_equiv_from_equiv};
 ghost use Rattle.std.specs.Ordering.{int_eq};
 ghost use Rattle.std.specs.Hash.{same_Alike};
-ghost use Rattle.lin_history.specs.Numbers.{hashed};
-ghost use Rattle.lin_history.specs.Sameness.{numbers_Decides};
+ghost use Rattle.lin_events.specs.Numbers.{hashed};
+ghost use Rattle.lin_events.specs.Sameness.{numbers_Decides};
 
-use lin_history::{IntSet, Numbers, OutOfMemory, Val};
+use lin_events::{IntSet, Numbers, OutOfMemory, Val};
 use std::alloc::Global;
 use std::hash::{Hash, Hasher};
 use std::marker::Model;

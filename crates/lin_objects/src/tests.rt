@@ -1,5 +1,5 @@
 use crate::{Any, IntQueue, Kind, Kinds, KindsFault, SeqObject, State};
-use lin_history::{Call, IntSet, Name, OutOfMemory, Reply, Val};
+use lin_events::{Call, IntSet, Name, OutOfMemory, Reply, Val};
 use std::alloc::Global;
 use std::test::Fail;
 

@@ -2,22 +2,22 @@
 use Rattle.std.proofs.Common.{◌≡◌, ℕ, Bool, true, cond, List, [], ◌∷◌, ◌++◌, Contains, All, ◌⊎◌, ◌↔◌, IsTrue, Some, inl, inr, refl, sym, ap, subst, ◌∙◌, take}
 use Rattle.std.proofs.lemmas.Bool.{cases_Bool}
 use Rattle.std.proofs.lemmas.List.Elements.{All-contains, Contains-append_left, Contains-push, Contains-push_cases}
-use Rattle.lin_history.specs.declared.calls.Call.{Call}
-use Rattle.lin_history.specs.declared.calls.Name.{Name}
-use Rattle.lin_history.specs.declared.calls.Reply.{Reply}
-use Rattle.lin_history.specs.declared.events.Body.TheVariants.{Invoke, Ok, Fail}
-use Rattle.lin_history.specs.declared.events.Event.{Event}
-use Rattle.lin_history.specs.Operations.{IsEvent}
+use Rattle.lin_events.specs.declared.calls.Call.{Call}
+use Rattle.lin_events.specs.declared.calls.Name.{Name}
+use Rattle.lin_events.specs.declared.calls.Reply.{Reply}
+use Rattle.lin_events.specs.declared.events.Body.TheVariants.{Invoke, Ok, Fail}
+use Rattle.lin_events.specs.declared.events.Event.{Event}
+use Rattle.lin_events.specs.Operations.{IsEvent}
 use Rattle.lin_objects.specs.declared.kinds.Kind.{Kind}
 use Rattle.lin_objects.specs.declared.states.State.{State}
-use Rattle.lin_order.specs.Configurations.{IsAdded}
+use Rattle.lin_orders.specs.Configurations.{IsAdded}
 use Rattle.lin_order.specs.Refutations.{Config, HoldsLeft, IsClosed, IsLeft}
 use Rattle.lin_order.specs.Checking.{AreOpen, AreSame, Follows, HoldsLeftOf, HoldsPlacing, HoldsSteps, HoldsWith}
-use Rattle.lin_order.specs.Sameness.{config_eq, config_Decides}
-use Rattle.lin_order.proofs.Members.{all_of, nothing_in}
-use Rattle.lin_order.proofs.OneEnd.{one_event}
+use Rattle.lin_orders.specs.Sameness.{config_eq, config_Decides}
+use Rattle.lin_lists.specs.lemmas.Elements.{all_of, nothing_in}
+use Rattle.lin_orders.specs.lemmas.OneEnd.{one_event}
 use Rattle.lin_order.proofs.Pairs.{one_added, one_without}
-use Rattle.lin_order.proofs.Prefixes.{get_from_take, get_of_take}
+use Rattle.lin_orders.specs.lemmas.Prefixes.{get_from_take, get_of_take}
 
 -- the members once one more is put in
 pub members_more : (xs old new : List Config) (x : Config) (was is : Config → Bool) → ((c : Config) → IsTrue (was c) ↔ Contains old c) → ((c : Config) → IsTrue (is c) ↔ Contains new c)

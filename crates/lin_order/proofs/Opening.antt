@@ -4,19 +4,19 @@ use Rattle.std.proofs.lemmas.Bool.{cases_eq}
 use Rattle.std.proofs.lemmas.List.{length-take-le}
 use Rattle.std.proofs.lemmas.Option.{slice_get_within, slice_get-get_or, get_or_from_slice_get}
 use Rattle.std.proofs.lemmas.List.Elements.{Contains-append_left, Contains-push, Contains-push_cases}
-use Rattle.lin_history.specs.declared.calls.Call.{Call}
-use Rattle.lin_history.specs.declared.calls.Name.{Name}
-use Rattle.lin_history.specs.declared.calls.Reply.{Reply}
-use Rattle.lin_history.specs.declared.events.Body.{Body}
-use Rattle.lin_history.specs.declared.events.Body.TheVariants.{Invoke, Ok, Fail, Info}
-use Rattle.lin_history.specs.declared.events.Event.{Event}
-use Rattle.lin_history.specs.Operations.{IsEvent, IsEnd, IsOpen, IsOperation}
+use Rattle.lin_events.specs.declared.calls.Call.{Call}
+use Rattle.lin_events.specs.declared.calls.Name.{Name}
+use Rattle.lin_events.specs.declared.calls.Reply.{Reply}
+use Rattle.lin_events.specs.declared.events.Body.{Body}
+use Rattle.lin_events.specs.declared.events.Body.TheVariants.{Invoke, Ok, Fail, Info}
+use Rattle.lin_events.specs.declared.events.Event.{Event}
+use Rattle.lin_events.specs.Operations.{IsEvent, IsEnd, IsOpen, IsOperation}
 use Rattle.lin_order.specs.Checking.{AreOpen, IsOpenAt, IsReturning}
-use Rattle.lin_order.proofs.Lists.{take_more}
-use Rattle.lin_order.proofs.Members.{nothing_in}
-use Rattle.lin_order.proofs.OneEnd.{one_end, one_ending}
-use Rattle.lin_history.proofs.OneMore.{open_before}
-use Rattle.lin_order.proofs.Prefixes.{get_from_take, get_of_take, end_whole}
+use Rattle.lin_orders.specs.lemmas.Lists.{take_more}
+use Rattle.lin_lists.specs.lemmas.Elements.{nothing_in}
+use Rattle.lin_orders.specs.lemmas.OneEnd.{one_end, one_ending}
+use Rattle.lin_events.specs.lemmas.OneMore.{open_before}
+use Rattle.lin_orders.specs.lemmas.Prefixes.{get_from_take, get_of_take, end_whole}
 use Rattle.lin_order.proofs.Refuting.{there_is, one_further}
 
 ok_returns : (body : Body) (name : Name) (reply : Reply) → body ≡ Ok name reply → IsReturning body

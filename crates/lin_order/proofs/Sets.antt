@@ -2,15 +2,15 @@
 use Rattle.std.proofs.Common.{◌≡◌, ℕ, zero, suc, ◌+◌, ◌<◌, ◌≤◌, List, [], ◌∷◌, length, Vec, Global, All, Contains, Bool, IsTrue, ◌↔◌, Some, slice_get, inl, inr, refl, sym, ap, subst, ◌∙◌, arith, get_or, take, add-one, option_map}
 use Rattle.std.proofs.lemmas.Bool.{cases_eq}
 use Rattle.std.proofs.lemmas.Option.{slice_get_within, slice_get-map, slice_get_read, get_or_from_slice_get}
-use Rattle.lin_history.specs.declared.events.Event.{Event}
-use Rattle.lin_history.specs.Operations.{IsEvent}
+use Rattle.lin_events.specs.declared.events.Event.{Event}
+use Rattle.lin_events.specs.Operations.{IsEvent}
 use Rattle.lin_objects.specs.declared.kinds.Kind.{Kind}
 use Rattle.lin_objects.specs.Steps.{start}
 use Rattle.lin_order.specs.Refutations.{AreRising, Config, IsClosed, IsRefutation, IsSet, lists_of}
 use Rattle.lin_order.specs.Checking.{Follows, IsCarried, IsFramed}
 use Rattle.std.proofs.lemmas.List.Elements.{All-contains}
-use Rattle.lin_order.proofs.Members.{all_of}
-use Rattle.lin_order.proofs.OneEnd.{one_event}
+use Rattle.lin_lists.specs.lemmas.Elements.{all_of}
+use Rattle.lin_orders.specs.lemmas.OneEnd.{one_event}
 use Rattle.lin_order.proofs.Refuting.{there_is}
 
 -- the sets follow each other up to the event with this position

@@ -1,14 +1,3 @@
-pub mod Orders
-pub mod Parts
-pub mod Linearizable
-pub mod Tables
-pub mod Laws
-pub mod Configurations
-pub mod ConfigurationLaws
-pub mod ConfigurationExamples
-pub mod PartLaws
-pub mod Merging
-pub mod Sameness
 pub mod Refutations
 pub mod RefutationLaws
 pub mod Checking

@@ -1,11 +1,11 @@
 -- What refutations show.
 use Rattle.std.specs.Prelude.{◌≡◌, ◌+◌, ℕ, ℤ, Bool, List, length, take}
-use Rattle.lin_history.specs.declared.calls.Name.{Name}
-use Rattle.lin_history.specs.declared.events.Event.{Event}
-use Rattle.lin_history.specs.WellFormed.{IsWellFormed}
+use Rattle.lin_events.specs.declared.calls.Name.{Name}
+use Rattle.lin_events.specs.declared.events.Event.{Event}
+use Rattle.lin_events.specs.WellFormed.{IsWellFormed}
 use Rattle.lin_objects.specs.declared.kinds.Kind.{Kind}
 use Rattle.lin_objects.specs.Steps.{Step, start}
-use Rattle.lin_order.specs.Linearizable.{IsLinearizableBy}
+use Rattle.lin_orders.specs.Linearizable.{IsLinearizableBy}
 use Rattle.lin_order.specs.Refutations.{AreConfigurations, Config, IsRefutation, IsSet}
 
 -- a well-formed history that has a refutation is not linearizable

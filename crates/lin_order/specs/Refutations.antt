@@ -2,17 +2,17 @@
 -- The sets may hold more than the configurations, but have to hold what the conditions below ask for.
 use Rattle.std.specs.Prelude.{◌≡◌, ◌↔◌, ◌+◌, ℕ, List, [], Some, All, Contains, length, map, slice_get, take}
 use Rattle.std.specs.Global.{Vec}
-use Rattle.lin_history.specs.declared.events.Body.{Body}
-use Rattle.lin_history.specs.declared.events.Body.TheVariants.{Invoke, Ok, Fail, Info}
-use Rattle.lin_history.specs.declared.events.Event.{Event}
-use Rattle.lin_history.specs.declared.calls.Reply.{Reply}
-use Rattle.lin_history.specs.Operations.{IsEvent}
+use Rattle.lin_events.specs.declared.events.Body.{Body}
+use Rattle.lin_events.specs.declared.events.Body.TheVariants.{Invoke, Ok, Fail, Info}
+use Rattle.lin_events.specs.declared.events.Event.{Event}
+use Rattle.lin_events.specs.declared.calls.Reply.{Reply}
+use Rattle.lin_events.specs.Operations.{IsEvent}
 use Rattle.lin_objects.specs.declared.kinds.Kind.{Kind}
 use Rattle.lin_objects.specs.declared.states.State.{State}
 use Rattle.lin_objects.specs.Steps.{Step, start}
-use Rattle.lin_order.specs.declared.placed.Placed.{Placed}
+use Rattle.lin_orders.specs.declared.placed.Placed.{Placed}
 use Rattle.lin_order.specs.declared.refutations.Refutation.{Refutation}
-use Rattle.lin_order.specs.Configurations.{IsConfiguration, IsRising, IsAdded, IsPlacing}
+use Rattle.lin_orders.specs.Configurations.{IsConfiguration, IsRising, IsAdded, IsPlacing}
 
 -- a state, and open operations that are placed, by process, with their replies
 abbrev pub Config : Type 0

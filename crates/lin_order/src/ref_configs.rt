@@ -4,11 +4,11 @@ ghost use Rattle.std.specs.Cmp.{decided, partial_equiv_from_equiv};
 ghost use Rattle.std.specs.Hash as fed;
 ghost use Rattle.std.specs.List.{fold};
 ghost use Rattle.std.specs.Hash.{same_Alike};
-ghost use Rattle.lin_history.specs.declared.calls.Reply.{Reply as ReplyOf};
-ghost use Rattle.lin_order.specs.Configurations.{IsAdded, IsRising};
-ghost use Rattle.lin_order.specs.Sameness.{config_Decides, config_eq};
+ghost use Rattle.lin_events.specs.declared.calls.Reply.{Reply as ReplyOf};
+ghost use Rattle.lin_orders.specs.Configurations.{IsAdded, IsRising};
+ghost use Rattle.lin_orders.specs.Sameness.{config_Decides, config_eq};
 
-use lin_history::{OutOfMemory, Reply};
+use lin_events::{OutOfMemory, Reply};
 use lin_objects::State;
 use std::alloc::Global;
 use std::hash::{Hash, Hasher};
@@ -24,7 +24,7 @@ pub struct RefConfig {
 
 impl Model for RefConfig {
     ghost use Rattle.std.specs.Prelude.{ℕ, List};
-    ghost use Rattle.lin_history.specs.declared.calls.Reply.{Reply as ReplyOf};
+    ghost use Rattle.lin_events.specs.declared.calls.Reply.{Reply as ReplyOf};
     ghost use Rattle.lin_objects.specs.declared.states.State.{State as StateOf};
 
     ghost Value = { StateOf × List (ℕ × ReplyOf) };

@@ -1,8 +1,8 @@
 mod merging;
 
-use crate::{Placed, check_order};
-use lin_history::{Body, Call, Event, IntSet, Name, OutOfMemory, Reply, Val};
+use lin_events::{Body, Call, Event, IntSet, Name, OutOfMemory, Reply, Val};
 use lin_objects::{Any, Kind, Kinds, SeqObject};
+use lin_orders::{Placed, check_order};
 use std::alloc::Global;
 use std::test::Fail;
 

@@ -4,18 +4,18 @@ use Rattle.std.specs.Ordering.{int_eq}
 use Rattle.std.proofs.lemmas.Bool.{false≢true}
 use Rattle.std.proofs.lemmas.Bool.Decides.{Decides-int_eq}
 use Rattle.std.proofs.lemmas.List.Elements.{Contains-push_cases}
-use Rattle.lin_history.specs.declared.events.Event.{Event}
-use Rattle.lin_history.specs.Operations.{IsEvent}
-use Rattle.lin_history.proofs.Lists.{get_taken}
-use Rattle.lin_order.specs.Linearizable.{IsLinearizable, IsLinearizableFor}
-use Rattle.lin_order.specs.Merging.{AbsentKeysAreLegal, IsLocal}
+use Rattle.lin_events.specs.declared.events.Event.{Event}
+use Rattle.lin_events.specs.Operations.{IsEvent}
+use Rattle.lin_lists.specs.lemmas.Lists.{get_taken}
+use Rattle.lin_orders.specs.Linearizable.{IsLinearizable, IsLinearizableFor}
+use Rattle.lin_orders.specs.Merging.{AbsentKeysAreLegal, IsLocal}
 use Rattle.lin_session.specs.Answers.{IsObjectVerdict, IsOverAt, IsVerdict, IsWholeVerdict, kinds_in}
 use Rattle.lin_session.specs.Edits.{Present}
 use Rattle.lin_session.specs.Sessions.{AreKeys}
 use Rattle.lin_session.specs.declared.answers.Scope.TheVariants.{Object, Whole}
 use Rattle.lin_session.specs.declared.answers.Verdict.{Verdict}
 use Rattle.lin_session.specs.declared.answers.Verdict.TheVariants.{IllFormed, Yes, No, Undecided}
-use Rattle.lin_session.proofs.Lists.{Contains-slice_get}
+use Rattle.lin_lists.specs.lemmas.Taken.{Contains-slice_get}
 
 -- a list of one element
 pub one_listed : (xs : List ℤ) (d : ℤ) → length xs ≡ 1 → xs ≡ slice_index_or xs 0 d ∷ []

@@ -4,17 +4,17 @@ use Rattle.std.specs.Prelude.{if◌then◌else◌}
 use Rattle.std.specs.Io.KnownBytes.{Consumes, IsAtEnd}
 use Rattle.std.proofs.Math.Seq.{take-append_seam}
 use Rattle.std.proofs.lemmas.List.{take_all}
-use Rattle.lin_history.specs.declared.events.Event.{Event}
+use Rattle.lin_events.specs.declared.events.Event.{Event}
 use Rattle.lin_history.specs.declared.follow.FollowFault.{FollowFault}
 use Rattle.lin_history.specs.declared.follow.FollowFault.TheVariants as fault
 use Rattle.lin_history.specs.Sees.{Followed, IsTakenIn, Sees, Takes}
 use Rattle.lin_history.specs.Stream.{IsStream}
 use Rattle.lin_session.specs.Edits.{Present}
-use Rattle.lin_report.specs.Inputs.{limit}
+use Rattle.lin_formats.specs.Inputs.{limit}
 use Rattle.lin_report.specs.Pulls.{Enters, IsAllOrFull, IsStop, StandsAt}
 use Rattle.lin_report.specs.Runs.{GoesOn, IsPull, IsReadOn, RunState, pull_refusal, refusal_in, room_in}
-use Rattle.lin_report.specs.declared.answers.Refusal.{Refusal}
-use Rattle.lin_report.specs.declared.answers.Refusal.TheVariants.{Edn, Event as OfEvent, Truncated, Full, BadPair}
+use Rattle.lin_formats.specs.declared.answers.Refusal.{Refusal}
+use Rattle.lin_formats.specs.declared.answers.Refusal.TheVariants.{Edn, Event as OfEvent, Truncated, Full, BadPair}
 
 -- no event went yet
 pub none_entered : (now : Present) (follow : Followed) → Enters now now follow follow []

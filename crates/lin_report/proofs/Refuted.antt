@@ -1,16 +1,16 @@
 -- From what is found where an object is refuted to what is told of it.
 use Rattle.std.proofs.Common.{◌≡◌, ◌≢◌, ◌≤◌, ◌-◌, ◌+◌, ◌∷◌, ◌++◌, [], ℕ, ℤ, List, length, take, ap, ◌∙◌, add-one}
-use Rattle.lin_history.specs.declared.events.Event.{Event}
-use Rattle.lin_history.specs.Operations.{IsEvent}
-use Rattle.lin_history.specs.WellFormed.{IsWellFormed}
-use Rattle.lin_history.specs.WellFormedLaws.{BeginningsAreWellFormed}
+use Rattle.lin_events.specs.declared.events.Event.{Event}
+use Rattle.lin_events.specs.Operations.{IsEvent}
+use Rattle.lin_events.specs.WellFormed.{IsWellFormed}
+use Rattle.lin_events.specs.WellFormedLaws.{BeginningsAreWellFormed}
 use Rattle.lin_objects.specs.Kinds.{functions_of}
-use Rattle.lin_order.specs.Linearizable.{IsLinearizableFor}
-use Rattle.lin_order.specs.Parts.{part}
-use Rattle.lin_order.specs.PartLaws.{LinearizableByPart, PartsAreWellFormed, PartsGrow}
+use Rattle.lin_orders.specs.Linearizable.{IsLinearizableFor}
+use Rattle.lin_orders.specs.Parts.{part}
+use Rattle.lin_orders.specs.PartLaws.{LinearizableByPart, PartsAreWellFormed, PartsGrow}
 use Rattle.lin_order.specs.RefutationLaws.{RefutationsExcludeOrders}
 use Rattle.lin_order.specs.Refutations.{Config}
-use Rattle.lin_history.proofs.Lists.{take_next}
+use Rattle.lin_lists.specs.lemmas.Lists.{take_next}
 use Rattle.lin_session.specs.Answers.{kinds_in, IsVerdict}
 use Rattle.lin_session.specs.Edits.{Present}
 use Rattle.lin_session.specs.Refuting.{Refutes}

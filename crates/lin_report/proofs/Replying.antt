@@ -6,8 +6,8 @@ use Rattle.lin_session.specs.Edits.{Present}
 use Rattle.lin_report.specs.Commands.{IsCommand, IsRead, longest_line}
 use Rattle.lin_report.specs.Pulls.{StandsAt}
 use Rattle.lin_report.specs.Runs.{IsCommandReply, IsDone, IsReply, RunState}
-use Rattle.lin_report.specs.Texts.{fault_text}
-use Rattle.lin_report.specs.declared.answers.Status.{Status}
+use Rattle.lin_report.specs.Refusals.{fault_text}
+use Rattle.lin_formats.specs.declared.answers.Status.{Status}
 use Rattle.lin_report.specs.declared.commands.Command.{Command}
 use Rattle.lin_report.specs.declared.commands.Command.TheVariants.{Edit, Skipped, Ask, Order, Report, Pull, Refute}
 use Rattle.lin_report.specs.declared.commands.CommandFault.{CommandFault}

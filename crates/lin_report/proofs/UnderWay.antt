@@ -10,16 +10,16 @@ use Rattle.lin_history.specs.Sees.{Sees}
 use Rattle.lin_report.specs.Engines.{Holds, IsCarriedOut, IsCutOff, IsCutShort, IsFinished, IsUnderWay, ReadsPart}
 use Rattle.lin_report.specs.Runs.{AreCarriedOut, AreRead, IsDone, IsReply, IsRun, IsRunOf, IsSaidDone, IsWritten, RunState, lines_of, start_of}
 use Rattle.lin_report.specs.Runs.IsRun.{one_more}
-use Rattle.lin_report.specs.Verdicts.{IsReadTooFar}
-use Rattle.lin_report.specs.declared.answers.Status.{Status}
-use Rattle.lin_report.specs.declared.answers.Status.TheVariants.{Yes}
-use Rattle.lin_report.specs.declared.runs.Settings.{Settings}
+use Rattle.lin_formats.specs.Verdicts.{IsReadTooFar}
+use Rattle.lin_formats.specs.declared.answers.Status.{Status}
+use Rattle.lin_formats.specs.declared.answers.Status.TheVariants.{Yes}
+use Rattle.lin_formats.specs.declared.runs.Settings.{Settings}
 use Rattle.lin_report.specs.declared.commands.Command.{Command}
 use Rattle.lin_report.specs.declared.commands.Command.TheVariants.{Edit, Skipped, Ask, Order, Report, Pull, Refute}
 use Rattle.lin_report.specs.declared.commands.CommandFault.{CommandFault}
 use Rattle.lin_report.specs.declared.engines.Engine.{Engine}
-use Rattle.lin_report.specs.declared.faults.RunFault.{RunFault}
-use Rattle.lin_report.specs.declared.faults.RunFault.TheVariants.{ReadFailed, WriteFailed, OutOfMemory, TooMuch}
+use Rattle.lin_formats.specs.declared.faults.RunFault.{RunFault}
+use Rattle.lin_formats.specs.declared.faults.RunFault.TheVariants.{ReadFailed, WriteFailed, OutOfMemory, TooMuch}
 use Rattle.lin_report.proofs.CommandLines.{last_line, line_ends}
 
 -- what was read of the file at a line

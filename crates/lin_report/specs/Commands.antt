@@ -7,7 +7,7 @@ use Rattle.lin_edn.specs.Value.{Value}
 use Rattle.lin_edn.specs.declared.EdnCause.{EdnCause}
 use Rattle.lin_edn.specs.declared.EdnCause.TheVariants as edn
 use Rattle.lin_history.specs.Table.{event}
-use Rattle.lin_history.specs.declared.events.Event.{Event as EventOf}
+use Rattle.lin_events.specs.declared.events.Event.{Event as EventOf}
 use Rattle.lin_history.specs.declared.table.EventFault.{EventFault}
 use Rattle.lin_objects.specs.declared.kinds.Kind.{Kind}
 use Rattle.lin_objects.specs.declared.kinds.Kind.TheVariants as kind
@@ -15,8 +15,8 @@ use Rattle.lin_session.specs.declared.answers.Scope.{Scope}
 use Rattle.lin_session.specs.declared.answers.Scope.TheVariants as scope
 use Rattle.lin_session.specs.declared.edits.Edit.{Edit as EditOf}
 use Rattle.lin_session.specs.declared.edits.Edit.TheVariants as edit
-use Rattle.lin_report.specs.Integers.{integer_of, number_of}
-use Rattle.lin_report.specs.Parts.{Part, words_from}
+use Rattle.lin_formats.specs.Integers.{integer_of, number_of}
+use Rattle.lin_formats.specs.Parts.{Part, words_from}
 use Rattle.lin_report.specs.declared.commands.Command.{Command}
 use Rattle.lin_report.specs.declared.commands.Command.TheVariants.{Edit, Skipped, Ask, Order, Report, Pull, Refute}
 use Rattle.lin_report.specs.declared.commands.CommandFault.{CommandFault}

@@ -1,12 +1,12 @@
 -- Where a run stands, and what is read of the file for a pull: cited by the contracts of private functions alone.
 use Rattle.std.specs.Prelude.{◌≡◌, ◌<◌, ◌≤◌, ◌-◌, ◌++◌, [], ℕ, Bool, true, false, List, Option, None, Some, length}
-use Rattle.lin_history.specs.declared.events.Event.{Event}
+use Rattle.lin_events.specs.declared.events.Event.{Event}
 use Rattle.lin_history.specs.Sees.{Followed, Sees}
 use Rattle.lin_session.specs.Edits.{Present}
-use Rattle.lin_report.specs.Inputs.{limit}
+use Rattle.lin_formats.specs.Inputs.{limit}
 use Rattle.lin_report.specs.Runs.{RunState, refusal_in}
-use Rattle.lin_report.specs.declared.answers.Refusal.{Refusal}
-use Rattle.lin_report.specs.declared.answers.Refusal.TheVariants.{Full}
+use Rattle.lin_formats.specs.declared.answers.Refusal.{Refusal}
+use Rattle.lin_formats.specs.declared.answers.Refusal.TheVariants.{Full}
 
 -- these events went from the follower, where they were ready, to the end of the history; there was room
 pub record Enters (now new : Present) (follow after : Followed) (entered : List Event) : Type 0 where

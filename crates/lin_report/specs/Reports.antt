@@ -3,7 +3,7 @@ use Rattle.std.specs.Prelude.{◌≡◌, ◌≤◌, ◌^◌, ◌++◌, ◌⊎◌
 use Rattle.std.specs.Fmt.{signed_decimal}
 use Rattle.std.specs.Io.KnownBytes.{Appends, Consumes, IsAtEnd, Keeps}
 use Rattle.std.specs.List.{flat_map}
-use Rattle.lin_history.specs.declared.events.Event.{Event}
+use Rattle.lin_events.specs.declared.events.Event.{Event}
 use Rattle.lin_objects.specs.declared.kinds.Kind.{Kind}
 use Rattle.lin_objects.specs.declared.kinds.Kind.TheVariants as kind
 use Rattle.lin_objects.specs.Kinds.{same_for_all}
@@ -13,16 +13,16 @@ use Rattle.lin_session.specs.Sessions.{AreKeys}
 use Rattle.lin_session.specs.declared.answers.Scope.TheVariants.{Object, Whole}
 use Rattle.lin_session.specs.declared.answers.Verdict.{Verdict}
 use Rattle.lin_session.specs.declared.answers.Verdict.TheVariants.{IllFormed, Yes, No, Undecided}
-use Rattle.lin_report.specs.Answers.{cause_text, refusal_text}
-use Rattle.lin_report.specs.Histories.{StopsFor}
-use Rattle.lin_report.specs.Inputs.{IsRefused, IsWhole}
-use Rattle.lin_report.specs.Verdicts.{IsReadTooFar}
-use Rattle.lin_report.specs.declared.answers.Refusal.{Refusal}
-use Rattle.lin_report.specs.declared.answers.Status.{Status}
-use Rattle.lin_report.specs.declared.answers.Status.TheVariants as ends
-use Rattle.lin_report.specs.declared.faults.RunFault.{RunFault}
-use Rattle.lin_report.specs.declared.faults.RunFault.TheVariants.{ReadFailed, WriteFailed, OutOfMemory, TooMuch}
-use Rattle.lin_report.specs.declared.runs.Settings.{Settings}
+use Rattle.lin_formats.specs.Answers.{cause_text, refusal_text}
+use Rattle.lin_formats.specs.Histories.{StopsFor}
+use Rattle.lin_formats.specs.Inputs.{IsRefused, IsWhole}
+use Rattle.lin_formats.specs.Verdicts.{IsReadTooFar}
+use Rattle.lin_formats.specs.declared.answers.Refusal.{Refusal}
+use Rattle.lin_formats.specs.declared.answers.Status.{Status}
+use Rattle.lin_formats.specs.declared.answers.Status.TheVariants as ends
+use Rattle.lin_formats.specs.declared.faults.RunFault.{RunFault}
+use Rattle.lin_formats.specs.declared.faults.RunFault.TheVariants.{ReadFailed, WriteFailed, OutOfMemory, TooMuch}
+use Rattle.lin_formats.specs.declared.runs.Settings.{Settings}
 
 -- the word for a kind
 abbrev pub kind_text : Kind → List ℕ

@@ -2,7 +2,7 @@
 use Rattle.std.specs.Prelude.{◌≡◌, ◌≢◌, ◌==◌, ◌≤◌, ◌-◌, ◌^◌, ◌++◌, ◌∷◌, [], ◌⊎◌, if◌then◌else◌, nat_lt, ℕ, ℤ, Bool, true, false, List, Option, None, Some, Result, Ok, Err, codes, decimal, length, take, unwrap_or}
 use Rattle.std.specs.Option.{option_or}
 use Rattle.std.specs.Io.KnownBytes.{Appends, Consumes, IsAtEnd}
-use Rattle.lin_history.specs.declared.events.Event.{Event}
+use Rattle.lin_events.specs.declared.events.Event.{Event}
 use Rattle.lin_history.specs.declared.follow.FollowFault.{FollowFault}
 use Rattle.lin_history.specs.declared.follow.FollowFault.TheVariants as fault
 use Rattle.lin_history.specs.Stream.{IsStream}
@@ -17,23 +17,24 @@ use Rattle.lin_session.specs.declared.answers.Verdict.TheVariants as verdict
 use Rattle.lin_session.specs.declared.edits.Edit.{Edit as EditOf}
 use Rattle.lin_session.specs.declared.edits.EditFault.{EditFault}
 use Rattle.lin_session.specs.declared.edits.EditFault.TheVariants as edit_fault
-use Rattle.lin_report.specs.Answers.{refusal_text}
+use Rattle.lin_formats.specs.Answers.{refusal_text}
 use Rattle.lin_report.specs.Commands.{IsCommand}
-use Rattle.lin_report.specs.Inputs.{limit}
+use Rattle.lin_formats.specs.Inputs.{limit}
 use Rattle.lin_report.specs.Reports.{IsReport, answer_status, answer_text, opened}
-use Rattle.lin_report.specs.Texts.{edit_fault_text, fault_text, order_text}
-use Rattle.lin_report.specs.declared.answers.Refusal.{Refusal}
-use Rattle.lin_report.specs.declared.answers.Refusal.TheVariants as refusal
-use Rattle.lin_report.specs.declared.answers.Status.{Status}
-use Rattle.lin_report.specs.declared.answers.Status.TheVariants as status_of
+use Rattle.lin_formats.specs.Texts.{order_text}
+use Rattle.lin_report.specs.Refusals.{edit_fault_text, fault_text}
+use Rattle.lin_formats.specs.declared.answers.Refusal.{Refusal}
+use Rattle.lin_formats.specs.declared.answers.Refusal.TheVariants as refusal
+use Rattle.lin_formats.specs.declared.answers.Status.{Status}
+use Rattle.lin_formats.specs.declared.answers.Status.TheVariants as status_of
 use Rattle.lin_report.specs.declared.commands.Command.{Command}
 use Rattle.lin_report.specs.declared.commands.Command.TheVariants.{Edit, Skipped, Ask, Order, Report, Pull, Refute}
 use Rattle.lin_report.specs.declared.commands.CommandFault.{CommandFault}
-use Rattle.lin_report.specs.declared.faults.RunFault.{RunFault}
-use Rattle.lin_report.specs.declared.faults.RunFault.TheVariants.{ReadFailed, WriteFailed, OutOfMemory, TooMuch}
-use Rattle.lin_report.specs.declared.runs.Settings.{Settings}
-use Rattle.lin_report.specs.Devices.{Counts}
-use Rattle.lin_report.specs.Verdicts.{IsReadTooFar}
+use Rattle.lin_formats.specs.declared.faults.RunFault.{RunFault}
+use Rattle.lin_formats.specs.declared.faults.RunFault.TheVariants.{ReadFailed, WriteFailed, OutOfMemory, TooMuch}
+use Rattle.lin_formats.specs.declared.runs.Settings.{Settings}
+use Rattle.lin_formats.specs.Devices.{Counts}
+use Rattle.lin_formats.specs.Verdicts.{IsReadTooFar}
 
 -- the lines, where a byte stands in front of the first one
 abbrev pub in_front : ℕ → List (List ℕ) → List (List ℕ)

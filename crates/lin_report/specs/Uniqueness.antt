@@ -1,18 +1,10 @@
--- What is right to answer is one: the laws of verdicts.
+-- What is right to answer is one: the laws of answers.
 use Rattle.std.specs.Prelude.{◌≡◌, ℕ, List}
-use Rattle.lin_history.specs.declared.events.Event.{Event}
+use Rattle.lin_events.specs.declared.events.Event.{Event}
 use Rattle.lin_objects.specs.declared.kinds.Kinds.{Kinds}
 use Rattle.lin_session.specs.Answers.{IsVerdict}
 use Rattle.lin_session.specs.declared.answers.Scope.{Scope}
 use Rattle.lin_session.specs.declared.answers.Verdict.TheVariants.{Yes, No}
-use Rattle.lin_report.specs.Verdicts.{IsRightFor}
-use Rattle.lin_report.specs.declared.answers.Verdict.{Verdict}
-use Rattle.lin_report.specs.declared.runs.Settings.{Settings}
-
--- for the bytes of a file and the text of an order one verdict is right
-abbrev pub VerdictsAreUnique : Type 0
-VerdictsAreUnique = (settings : Settings) (bytes order : List ℕ) (verdict other : Verdict)
-    → IsRightFor settings bytes order verdict → IsRightFor settings bytes order other → verdict ≡ other
 
 -- whatever the budgets: where a yes is right, no no is
 abbrev pub YesExcludesNo : Type 0

@@ -1,21 +1,18 @@
 //! Whether the history in a file is linearizable.
 ghost use Rattle.std.specs.Prelude.{◌≡◌, ◌<◌, ◌≤◌, ◌++◌, codes, length, IfOk, IsErrOf};
-ghost use Rattle.lin_report.specs.Answers.{refusal_text};
-ghost use Rattle.lin_report.specs.Devices.{device_of, failures_of, Counts};
-ghost use Rattle.lin_report.specs.Histories.{is_read_failed};
-ghost use Rattle.lin_report.specs.Inputs.{limit};
+ghost use Rattle.lin_formats.specs.Answers.{refusal_text};
+ghost use Rattle.lin_formats.specs.Devices.{device_of, failures_of, Counts};
+ghost use Rattle.lin_formats.specs.Histories.{is_read_failed};
+ghost use Rattle.lin_formats.specs.Inputs.{limit};
 ghost use Rattle.lin_report.specs.Reports.{IsChecked, IsCheckRun, IsReport, opened};
-ghost use Rattle.lin_report.specs.Verdicts.{is_write_failed, IsReadTooFar};
+ghost use Rattle.lin_formats.specs.Verdicts.{is_write_failed, IsReadTooFar};
 
-use crate::answers::{Refusal, Status, refusal_words};
-use crate::counted::Counted;
-use crate::faults::RunFault;
-use crate::inputs::{History, read_history};
 use crate::reports::{Answered, report};
-use crate::runs::Settings;
 use crate::sessions::session_of;
-use crate::writing::write_whole;
-use lin_history::{Event, OutOfMemory};
+use lin_events::{Event, OutOfMemory};
+use lin_formats::{
+    Counted, History, Refusal, RunFault, Settings, Status, read_history, refusal_words, write_whole,
+};
 use std::alloc::{AllocError, Global};
 use std::io::{Read, Write};
 

@@ -1,7 +1,7 @@
 //! The commands of an edit script: a line each.
 ghost use Rattle.std.specs.Prelude.{◌≡◌, ◌⊎◌, ◌+◌, ◌^◌, ◌<◌, ◌≤◌, Option, Result, Err, length, drop};
 ghost use Rattle.lin_history.specs.Table.{IsAnswer};
-ghost use Rattle.lin_history.specs.declared.events.Event.{Event as TheEvent};
+ghost use Rattle.lin_events.specs.declared.events.Event.{Event as TheEvent};
 ghost use Rattle.lin_history.specs.declared.table.EventFault.{EventFault as TheFault};
 ghost use Rattle.lin_report.specs.CommandLaws.{CommandsAreUnique};
 ghost use Rattle.lin_report.specs.Commands as said;
@@ -10,7 +10,8 @@ ghost use Rattle.lin_report.specs.MapCommands.{IsBlankOrNot, IsMade};
 
 use crate::senses::{Sense, Target, sense_of};
 use lin_edn::{EdnCause, EdnFault, Next, next_element, places, readings_are_unique};
-use lin_history::{Event, EventFault, NextEvent, next_event};
+use lin_events::Event;
+use lin_history::{EventFault, NextEvent, next_event};
 use lin_session::{Edit, Scope};
 use std::alloc::Global;
 use thiserror::Error;

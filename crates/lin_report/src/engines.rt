@@ -2,24 +2,22 @@
 ghost use Rattle.std.specs.Prelude.{◌≡◌, ◌+◌, ◌<◌, ◌≤◌, ◌++◌, [], ℕ, Bool, List, Option, IfErr, IfOk, IsErrOf, OnOk, take, unwrap_or};
 ghost use Rattle.std.specs.Io.KnownBytes.{IsAtEnd};
 ghost use Rattle.lin_report.specs.Commands.{longest_line};
-ghost use Rattle.lin_report.specs.Devices.{device_of, failures_of, Counts};
+ghost use Rattle.lin_formats.specs.Devices.{device_of, failures_of, Counts};
 ghost use Rattle.lin_report.specs.Engines.{Holds, IsCarriedOut, IsCutOff, IsCutShort, IsFinished, IsUnderWay, Moves, ReadsPart};
-ghost use Rattle.lin_report.specs.Histories.{is_read_failed};
+ghost use Rattle.lin_formats.specs.Histories.{is_read_failed};
 ghost use Rattle.lin_report.specs.Pulls.{StandsAt};
 ghost use Rattle.lin_report.specs.Runs.{CountsOne, IsDone, IsRunOf, IsReply, RunState, pull_text, start_of};
-ghost use Rattle.lin_report.specs.Verdicts.{is_write_failed};
+ghost use Rattle.lin_formats.specs.Verdicts.{is_write_failed};
 
-use crate::answers::{Refusal, Status, refusal_words};
 use crate::commands::{Command, read_command};
-use crate::counted::Counted;
-use crate::faults::RunFault;
-use crate::parts::end_of_part;
 use crate::pulls::pull;
 use crate::replies::{Reply, ok_line, reply_to, reply_to_fault};
-use crate::runs::Settings;
 use crate::sessions::open;
-use crate::writing::write_whole;
-use lin_history::{Follow, OutOfMemory};
+use lin_events::OutOfMemory;
+use lin_formats::{
+    Counted, Refusal, RunFault, Settings, Status, end_of_part, refusal_words, write_whole,
+};
+use lin_history::Follow;
 use lin_session::Session;
 use std::alloc::Global;
 use std::io::{Read, Write};

@@ -1,19 +1,18 @@
 //! What `pull` does: events of the file go to the end of a history.
 ghost use Rattle.std.specs.Prelude.{◌≡◌, ◌+◌, ◌<◌, ◌^◌, ◌⊎◌, ℕ, Bool, List, IfOk, IfErr, IsErrOf, length};
 ghost use Rattle.std.specs.Io.KnownBytes.{Consumes};
-ghost use Rattle.lin_history.specs.declared.events.Event.{Event as EventOf};
+ghost use Rattle.lin_events.specs.declared.events.Event.{Event as EventOf};
 ghost use Rattle.lin_history.specs.Sees.{IsTakenIn, IsTooMuch, Sees};
-ghost use Rattle.lin_report.specs.Devices.{device_of, failures_of, Counts};
-ghost use Rattle.lin_report.specs.Histories.{is_read_failed};
+ghost use Rattle.lin_formats.specs.Devices.{device_of, failures_of, Counts};
+ghost use Rattle.lin_formats.specs.Histories.{is_read_failed};
 ghost use Rattle.lin_report.specs.Pulls.{Enters, IsAllOrFull, IsStop, StandsAt};
 ghost use Rattle.lin_report.specs.Runs.{IsPull, RunState};
 ghost use Rattle.lin_report.specs.Runs as said;
 
-use crate::answers::Refusal;
-use crate::counted::Counted;
-use crate::faults::RunFault;
 use crate::sessions::append;
-use lin_history::{Follow, FollowFault, OutOfMemory};
+use lin_events::OutOfMemory;
+use lin_formats::{Counted, Refusal, RunFault};
+use lin_history::{Follow, FollowFault};
 use lin_session::Session;
 use std::io::Read;
 

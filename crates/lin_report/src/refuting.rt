@@ -1,23 +1,21 @@
 //! The reply to `refute`: a refutation is made, and told only once it is checked.
 ghost use Rattle.std.specs.Prelude.{◌≡◌, ◌≤◌, ◌-◌, ◌++◌, IfOk, MatchOption, codes, decimal, length, take};
-ghost use Rattle.lin_history.specs.WellFormed.{IsWellFormed};
+ghost use Rattle.lin_events.specs.WellFormed.{IsWellFormed};
 ghost use Rattle.lin_objects.specs.Kinds.{functions_of};
-ghost use Rattle.lin_order.specs.Linearizable.{IsLinearizableFor};
-ghost use Rattle.lin_order.specs.Parts.{part};
+ghost use Rattle.lin_orders.specs.Linearizable.{IsLinearizableFor};
+ghost use Rattle.lin_orders.specs.Parts.{part};
 ghost use Rattle.lin_order.specs.Refutations.{sets_of};
 ghost use Rattle.lin_session.specs.Answers.{kinds_in};
 ghost use Rattle.lin_session.specs.Refuting.{Refutes};
 ghost use Rattle.lin_report.specs.Runs.{IsCommandReply, IsRefuteReply};
 
-use crate::answers::{Status, put_number};
 use crate::commands::Command;
 use crate::replies::{Reply, answered};
 use crate::verdicts::verdict_of;
-use lin_history::{Event, OutOfMemory, beginnings_are_well_formed};
-use lin_order::{
-    Refutation, check_refutation, parts_grow, parts_keep_operations, parts_keep_orders,
-    refutations_exclude_orders,
-};
+use lin_events::{Event, OutOfMemory, beginnings_are_well_formed};
+use lin_formats::{Status, put_number};
+use lin_order::{Refutation, check_refutation, refutations_exclude_orders};
+use lin_orders::{parts_grow, parts_keep_operations, parts_keep_orders};
 use lin_session::{RefuteFault, Refuted, Session, answers_are_verdicts};
 use std::alloc::{AllocError, Global};
 

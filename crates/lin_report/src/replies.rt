@@ -3,15 +3,15 @@ ghost use Rattle.std.specs.Prelude.{◌≡◌, ◌≢◌, ◌++◌, None, Some, 
 ghost use Rattle.lin_report.specs.Reports.{answer_status, answer_text};
 ghost use Rattle.lin_report.specs.Runs.{IsCommandReply, IsEditReply, order_answer_text};
 ghost use Rattle.lin_report.specs.Runs as said;
-ghost use Rattle.lin_report.specs.Texts.{edit_fault_text, fault_text};
+ghost use Rattle.lin_report.specs.Refusals.{edit_fault_text, fault_text};
 
-use crate::answers::{Status, put_number};
 use crate::commands::{Command, CommandFault};
+use crate::refusals::{put_edit_fault, put_fault};
 use crate::refuting::refute;
 use crate::reports::report;
-use crate::texts::{put_edit_fault, put_fault, write_order};
 use crate::verdicts::{status_of, verdict_of, verdict_words};
-use lin_history::OutOfMemory;
+use lin_events::OutOfMemory;
+use lin_formats::{Status, put_number, write_order};
 use lin_session::{Answer, Edit, EditFault, Scope, Session, Verdict};
 use std::alloc::{AllocError, Global};
 

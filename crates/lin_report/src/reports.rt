@@ -7,14 +7,13 @@ ghost use Rattle.lin_session.specs.declared.answers.Scope.TheVariants as scope;
 ghost use Rattle.lin_session.specs.declared.answers.Verdict.{Verdict as VerdictOf};
 ghost use Rattle.lin_report.specs.Reports as said;
 ghost use Rattle.lin_report.specs.Reports.{AreFindings, Finding, IsReport, answer_text, counts_text, kind_text, line_text, name_text};
-ghost use Rattle.lin_report.specs.declared.answers.Status.{Status as StatusOf};
+ghost use Rattle.lin_formats.specs.declared.answers.Status.{Status as StatusOf};
 
-use crate::answers::{Status, put_number};
-use crate::texts::put_integer;
 use crate::verdicts::{is_ill_formed, status_of, verdict_words};
-use lin_history::OutOfMemory;
+use lin_events::OutOfMemory;
+use lin_formats::{Status, put_integer, put_number};
 use lin_objects::Kind;
-use lin_order::{absent_keys_are_legal, linearizability_is_local};
+use lin_orders::{absent_keys_are_legal, linearizability_is_local};
 use lin_session::{Scope, Session, Verdict};
 use std::alloc::{AllocError, Global};
 

@@ -1,13 +1,12 @@
 //! What the words of a command line say.
 ghost use Rattle.std.specs.Prelude.{◌≡◌, ◌≤◌, None, Some, length, drop, MatchOption};
-ghost use Rattle.lin_report.specs.Parts.{words_from};
+ghost use Rattle.lin_formats.specs.Parts.{words_from};
 ghost use Rattle.lin_report.specs.Commands as said;
 ghost use Rattle.lin_report.specs.MapCommands.{IsWithin};
 
 use crate::commands::{Command, CommandFault};
-use crate::integers::{integer, number};
-use crate::parts::{Word, next_word};
-use lin_history::Event;
+use lin_events::Event;
+use lin_formats::{Word, integer, next_word, number};
 use lin_objects::Kind;
 use lin_session::{Edit, Scope};
 

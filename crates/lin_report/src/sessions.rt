@@ -1,10 +1,10 @@
 //! Sessions that are told the events of a file.
 ghost use Rattle.std.specs.Prelude.{◌≡◌, ◌<◌, ◌≤◌, ◌∷◌, ◌++◌, [], IfOk, OnOk, length};
-ghost use Rattle.lin_report.specs.Inputs.{limit};
+ghost use Rattle.lin_formats.specs.Inputs.{limit};
 ghost use Rattle.lin_report.specs.Reports.{opened};
 
-use crate::runs::Settings;
-use lin_history::{Event, OutOfMemory};
+use lin_events::{Event, OutOfMemory};
+use lin_formats::Settings;
 use lin_session::{Edit, EditFault, Session};
 use std::alloc::Global;
 

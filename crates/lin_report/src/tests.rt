@@ -1,6 +1,7 @@
 //! Texts of orders, of reports and of faults, and devices that fail at some call.
-use crate::{Counted, OrderFault, RunFault, Settings, Status, check, read_order, verify};
-use lin_history::{Reply, Val};
+use crate::check;
+use lin_events::{Reply, Val};
+use lin_formats::{Counted, OrderFault, RunFault, Settings, Status, read_order, verify};
 use lin_objects::Kind;
 use std::io;
 use std::io::{ErrorKind, Read, Write};

@@ -1,8 +1,10 @@
 //! Lines of edit scripts, and texts of orders.
-use crate::texts::{put_edit_fault, put_fault, write_order};
-use crate::{Command, CommandFault, read_command, read_order};
+use crate::refusals::{put_edit_fault, put_fault};
+use crate::{Command, CommandFault, read_command};
 use lin_edn::{EdnCause, EdnFault};
-use lin_history::{Body, Call, Event, EventFault, Val};
+use lin_events::{Body, Call, Event, Val};
+use lin_formats::{read_order, write_order};
+use lin_history::EventFault;
 use lin_objects::Kind;
 use lin_session::{Edit, EditFault, Scope};
 use std::test::Fail;

@@ -1,6 +1,6 @@
 //! Scripts that ask for refutations.
 use crate::tests_runs::{REGISTER, STALE, replies};
-use crate::{Settings, Status};
+use lin_formats::{Settings, Status};
 
 #[test]
 fn a_stale_read_is_refuted(rt: HostRuntime) {

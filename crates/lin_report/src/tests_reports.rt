@@ -1,7 +1,8 @@
 //! Reports of files with several objects, and their statuses.
 ghost use Rattle.std.specs.Prelude.{◌≤◌};
 
-use crate::{Counted, Settings, Status, check};
+use crate::check;
+use lin_formats::{Counted, Settings, Status};
 use lin_objects::Kind;
 
 const KEYED: Settings = Settings {

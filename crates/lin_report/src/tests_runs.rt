@@ -1,7 +1,8 @@
 //! Scripts of commands: their replies, and the status of the last answer.
 ghost use Rattle.std.specs.Prelude.{◌≤◌};
 
-use crate::{Counted, Settings, Status, run};
+use crate::run;
+use lin_formats::{Counted, Settings, Status};
 use lin_objects::Kind;
 use std::io;
 use std::io::Read;

@@ -4,8 +4,8 @@ ghost use Rattle.lin_report.specs.Reports.{answer_status, answer_text};
 ghost use Rattle.lin_report.specs.Reports as said;
 ghost use Rattle.lin_session.specs.Answers as asked;
 
-use crate::answers::{Status, cause_words, put_number};
-use lin_history::OutOfMemory;
+use lin_events::OutOfMemory;
+use lin_formats::{Status, cause_words, put_number};
 use lin_session::{Answer, Verdict};
 use std::alloc::{AllocError, Global};
 

@@ -2,13 +2,13 @@
 use Rattle.std.proofs.Common.{◌≡◌, ◌≢◌, ◌<◌, ◌≤◌, ◌+◌, ℕ, zero, suc, min, ℤ, pos, Bool, List, [], ◌∷◌, Some, length, slice_get, get_or, set, inl, inr, refl, sym, ap, subst, ◌∙◌, arith}
 use Rattle.std.proofs.lemmas.List.{length-set}
 use Rattle.std.proofs.lemmas.Option.{slice_get-get_or, slice_get_within, same_Some}
-use Rattle.lin_history.specs.declared.calls.Name.{Name}
-use Rattle.lin_history.specs.declared.events.Event.{Event}
-use Rattle.lin_history.specs.WellFormed.{IsWellFormed}
+use Rattle.lin_events.specs.declared.calls.Name.{Name}
+use Rattle.lin_events.specs.declared.events.Event.{Event}
+use Rattle.lin_events.specs.WellFormed.{IsWellFormed}
 use Rattle.lin_objects.specs.declared.kinds.Kind.{Kind}
 use Rattle.lin_objects.specs.Kinds.{functions_of}
-use Rattle.lin_order.specs.Parts.{events_at, part}
-use Rattle.lin_order.specs.PartLaws.{PartsAreWellFormed, PositionsSpellParts}
+use Rattle.lin_orders.specs.Parts.{events_at, part}
+use Rattle.lin_orders.specs.PartLaws.{PartsAreWellFormed, PositionsSpellParts}
 use Rattle.lin_chain.specs.declared.chain.End.TheVariants.{Over}
 use Rattle.lin_chain.specs.Chains.{end_under, kind_in, ready_under, IsRight}
 use Rattle.lin_session.specs.declared.kept.Object.{Object}
@@ -20,9 +20,9 @@ use Rattle.lin_session.proofs.Asking.{IsObject-settled, length_spelled, picks_in
 use Rattle.lin_session.proofs.Changes.{AreKept-one}
 use Rattle.lin_session.proofs.Found.{object_within}
 use Rattle.lin_session.proofs.Listed.{mark_set_same}
-use Rattle.lin_session.proofs.Lists.{element_at}
+use Rattle.lin_lists.specs.lemmas.Taken.{element_at}
 use Rattle.lin_session.proofs.Marking.{IsMarkRight-kept}
-use Rattle.lin_history.proofs.Lists.{get_set_cases}
+use Rattle.lin_lists.specs.lemmas.Lists.{get_set_cases}
 
 module _ (s : Objects) (i : ℕ) (listed : i < length s.keys.keys) (old : Object) (read : old ≡ get_or s.objects.items i old) where
   -- it stands there

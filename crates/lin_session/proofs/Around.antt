@@ -5,10 +5,10 @@ use Rattle.std.proofs.lemmas.Bool.Decides.{Decides-int_eq}
 use Rattle.std.specs.Prelude.{not}
 use Rattle.std.proofs.lemmas.List.Elements.{filter-append}
 use Rattle.std.proofs.lemmas.List.Filters.{length-filter_both}
-use Rattle.lin_history.specs.declared.events.Event.{Event}
-use Rattle.lin_history.specs.Operations.{IsEvent}
+use Rattle.lin_events.specs.declared.events.Event.{Event}
+use Rattle.lin_events.specs.Operations.{IsEvent}
 use Rattle.lin_objects.specs.declared.kinds.Kind.{Kind}
-use Rattle.lin_order.specs.Parts.{ArePositionsOf, part}
+use Rattle.lin_orders.specs.Parts.{ArePositionsOf, part}
 use Rattle.lin_chain.specs.declared.chain.Chain.{Chain}
 use Rattle.lin_chain.specs.Chains.{kind_in, ready_under, IsRight}
 use Rattle.lin_chain.specs.declared.chain.End.TheVariants.{Over}
@@ -16,7 +16,7 @@ use Rattle.lin_chain.specs.Ends.{IsEndOf}
 use Rattle.lin_session.specs.declared.kept.Object.{Object}
 use Rattle.lin_session.specs.Objects.{IsMarkRight, IsObject, AreKept}
 use Rattle.lin_session.specs.Work.{rounded, touched}
-use Rattle.lin_session.proofs.Lists.{get_ahead, take_ahead}
+use Rattle.lin_lists.specs.lemmas.Taken.{get_ahead, take_ahead}
 use Rattle.lin_session.proofs.Changes.{AreKept-one, AreKept-none}
 use Rattle.lin_session.proofs.Low.{rounded_below}
 use Rattle.lin_session.proofs.Marking.{IsMarkRight-touched, IsTouched, touched_over}

@@ -3,22 +3,21 @@ use Rattle.std.proofs.Common.{◌≡◌, ◌<◌, ◌-◌, ◌+◌, ℕ, ℤ, Li
 use Rattle.std.proofs.lemmas.Bool.{cases_order, cases_lt}
 use Rattle.std.proofs.lemmas.List.{take_all}
 use Rattle.std.proofs.lemmas.Option.{none-some, same_Some, slice_get_within, slice_get-get_or, get_or_from_slice_get}
-use Rattle.lin_history.specs.declared.events.Event.{Event}
-use Rattle.lin_history.specs.WellFormed.{IsWellFormed}
-use Rattle.lin_history.specs.WellFormedLaws.{BeginningsAreWellFormed}
+use Rattle.lin_events.specs.declared.events.Event.{Event}
+use Rattle.lin_events.specs.WellFormed.{IsWellFormed}
+use Rattle.lin_events.specs.WellFormedLaws.{BeginningsAreWellFormed}
 use Rattle.lin_objects.specs.declared.kinds.Kind.{Kind}
 use Rattle.lin_objects.specs.Kinds.{functions_of}
 use Rattle.lin_objects.specs.Steps.{Step, start}
-use Rattle.lin_order.specs.declared.placed.Placed.{Placed}
-use Rattle.lin_order.specs.Linearizable.{IsLegalOrderFor, IsLinearizableFor}
-use Rattle.lin_order.specs.Parts.{ArePositionsOf, IsCut, events_at, part, renamed}
-use Rattle.lin_order.specs.PartLaws.{PositionsSpellParts, PartsOfPrefixes, PartsUpToPositions, PartsAreWellFormed, RenamedOrdersAreLegal, OrdersCanBeRenamed, LinearizableByPart}
+use Rattle.lin_orders.specs.declared.placed.Placed.{Placed}
+use Rattle.lin_orders.specs.Linearizable.{IsLegalOrderFor, IsLinearizableFor, IsLegalOrderAs, IsLinearizableAs}
+use Rattle.lin_orders.specs.Parts.{ArePositionsOf, IsCut, events_at, part, renamed}
+use Rattle.lin_orders.specs.PartLaws.{PositionsSpellParts, PartsOfPrefixes, PartsUpToPositions, PartsAreWellFormed, RenamedOrdersAreLegal, OrdersCanBeRenamed, LinearizableByPart}
 use Rattle.lin_frontier.specs.Frontiers.{IsOver}
 use Rattle.lin_chain.specs.declared.chain.End.{End}
 use Rattle.lin_chain.specs.declared.chain.End.TheVariants.{Alive, Dead, Over}
 use Rattle.lin_chain.specs.Chains.{kind_in, IsRight}
 use Rattle.lin_chain.specs.Ends.{IsEndOf}
-use Rattle.lin_chain.specs.Replays.{IsLegalOrderAs, IsLinearizableAs}
 use Rattle.lin_session.specs.declared.answers.Verdict.{Verdict}
 use Rattle.lin_session.specs.declared.answers.Verdict.TheVariants.{Yes, No}
 use Rattle.lin_session.specs.declared.kept.Object.{Object}

@@ -1,13 +1,13 @@
 -- What is kept of the objects of a history, after a change.
 use Rattle.std.proofs.Common.{◌≡◌, ◌≢◌, ◌<◌, ◌≤◌, ℕ, ℤ, List, [], ◌∷◌, ◌++◌, length, slice_get, set, AllPairs, Contains, Some, inl, inr, sym, ap, subst, ◌∙◌, arith}
 use Rattle.std.proofs.lemmas.Option.{same_Some}
-use Rattle.lin_history.specs.declared.events.Event.{Event}
-use Rattle.lin_history.specs.Operations.{IsEvent}
+use Rattle.lin_events.specs.declared.events.Event.{Event}
+use Rattle.lin_events.specs.Operations.{IsEvent}
 use Rattle.lin_objects.specs.declared.kinds.Kind.{Kind}
 use Rattle.lin_session.specs.declared.kept.Object.{Object}
 use Rattle.lin_session.specs.Objects.{IsObject, AreKept}
-use Rattle.lin_history.proofs.Lists.{get_set_cases}
-use Rattle.lin_session.proofs.Lists.{get_push_cases, one_place, Contains-slice_get}
+use Rattle.lin_lists.specs.lemmas.Lists.{get_set_cases}
+use Rattle.lin_lists.specs.lemmas.Taken.{get_push_cases, one_place, Contains-slice_get}
 
 module _ (kinds other : ℤ → Kind) (budget after : ℕ) (h edited : List Event) (split later : ℕ) (keys : List ℤ) (objects : List Object) (kept : AreKept kinds budget h split keys objects)
     (within : later ≤ length edited) where

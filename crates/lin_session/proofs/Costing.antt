@@ -2,10 +2,10 @@
 use Rattle.std.proofs.Common.{◌≡◌, ◌+◌, ◌-◌, ◌≤◌, ℕ, zero, suc, ℤ, List, [], ◌∷◌, Option, None, Some, length, slice_get, get_or, take, inl, inr, refl, sym, ◌∙◌, arith, ap}
 use Rattle.std.specs.List.{sum_by}
 use Rattle.std.proofs.lemmas.Bool.{cases_lt}
-use Rattle.lin_history.specs.declared.events.Event.{Event}
+use Rattle.lin_events.specs.declared.events.Event.{Event}
 use Rattle.lin_objects.specs.declared.kinds.Kind.{Kind}
-use Rattle.lin_order.specs.PartLaws.{PositionsSpellParts}
-use Rattle.lin_order.specs.Parts.{part}
+use Rattle.lin_orders.specs.PartLaws.{PositionsSpellParts}
+use Rattle.lin_orders.specs.Parts.{part}
 use Rattle.lin_chain.specs.Chains.{ready_under}
 use Rattle.lin_session.specs.declared.answers.Scope.{Scope}
 use Rattle.lin_session.specs.declared.answers.Scope.TheVariants as scope
@@ -16,7 +16,7 @@ use Rattle.lin_session.specs.declared.kept.Objects.{Objects}
 use Rattle.lin_session.specs.Work.{AreSameMarks, anew, cost, cost_in, keys_of, mark_of}
 use Rattle.lin_session.proofs.Asking.{whole_picked}
 use Rattle.lin_session.proofs.Listed.{mark_listed}
-use Rattle.lin_session.proofs.Lists.{element_at, one_place}
+use Rattle.lin_lists.specs.lemmas.Taken.{element_at, one_place}
 use Rattle.std.proofs.lemmas.Option.{slice_get-get_or}
 use Rattle.lin_session.proofs.Marking.{ready_at_most}
 use Rattle.lin_session.proofs.Sums.{in_keys, sum_head, sum_within}

@@ -3,18 +3,18 @@ use Rattle.std.specs.Prelude.{◌≡◌, true}
 use Rattle.std.proofs.Common.{refl, sym, ap, true≢false}
 use Rattle.std.proofs.lemmas.Bool.{and_parts}
 use Rattle.std.proofs.lemmas.Bool.Decides.{Decides-eqb, Decides-int_eq}
-use Rattle.lin_history.specs.declared.calls.Name.{Name}
-use Rattle.lin_history.specs.declared.calls.Name.TheVariants as name
-use Rattle.lin_history.specs.declared.calls.Call.{Call}
-use Rattle.lin_history.specs.declared.calls.Call.TheVariants as call
-use Rattle.lin_history.specs.declared.events.Body.{Body}
-use Rattle.lin_history.specs.declared.events.Body.TheVariants.{Invoke, Ok, Fail, Info}
-use Rattle.lin_history.specs.declared.events.Event.{Event}
-use Rattle.lin_history.specs.Replies.{reply_same, val_same}
-use Rattle.lin_history.specs.contracts.calls.NamePartialEq.TheImpl as NameImpl
-use Rattle.lin_history.specs.contracts.calls.CallPartialEq.TheImpl as CallImpl
-use Rattle.lin_history.specs.contracts.events.BodyPartialEq.TheImpl as BodyImpl
-use Rattle.lin_history.specs.contracts.events.EventPartialEq.TheImpl as EventImpl
+use Rattle.lin_events.specs.declared.calls.Name.{Name}
+use Rattle.lin_events.specs.declared.calls.Name.TheVariants as name
+use Rattle.lin_events.specs.declared.calls.Call.{Call}
+use Rattle.lin_events.specs.declared.calls.Call.TheVariants as call
+use Rattle.lin_events.specs.declared.events.Body.{Body}
+use Rattle.lin_events.specs.declared.events.Body.TheVariants.{Invoke, Ok, Fail, Info}
+use Rattle.lin_events.specs.declared.events.Event.{Event}
+use Rattle.lin_events.specs.Replies.{reply_same, val_same}
+use Rattle.lin_events.specs.contracts.calls.NamePartialEq.TheImpl as NameImpl
+use Rattle.lin_events.specs.contracts.calls.CallPartialEq.TheImpl as CallImpl
+use Rattle.lin_events.specs.contracts.events.BodyPartialEq.TheImpl as BodyImpl
+use Rattle.lin_events.specs.contracts.events.EventPartialEq.TheImpl as EventImpl
 
 name_same : (x y : Name) → NameImpl.ghosts.eq x y ≡ true → x ≡ y
 name_same name.Read name.Read h = refl

@@ -1,6 +1,5 @@
 pub mod Before
 pub mod Keys
-pub mod Lists
 pub mod Changes
 pub mod Picks
 pub mod Around

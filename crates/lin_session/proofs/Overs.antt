@@ -1,15 +1,15 @@
 -- Where an object stands over the budget, under a smaller one, and among events that change behind it.
 use Rattle.std.proofs.Common.{◌<◌, ◌≤◌, ◌+◌, ◌++◌, ℕ, List, length, length-append, take, subst, arith}
 use Rattle.std.proofs.lemmas.List.{get_or-take, length-take-le}
-use Rattle.lin_history.specs.declared.events.Event.{Event}
-use Rattle.lin_history.specs.declared.calls.Call.{Call}
-use Rattle.lin_history.specs.declared.calls.Reply.{Reply}
+use Rattle.lin_events.specs.declared.events.Event.{Event}
+use Rattle.lin_events.specs.declared.calls.Call.{Call}
+use Rattle.lin_events.specs.declared.calls.Reply.{Reply}
 use Rattle.lin_objects.specs.declared.kinds.Kind.{Kind}
 use Rattle.lin_objects.specs.Steps.{Step, start}
 use Rattle.lin_frontier.specs.Frontiers.{IsOver}
 use Rattle.lin_chain.specs.declared.chain.End.TheVariants.{Over}
 use Rattle.lin_chain.specs.Ends.{IsEndOf}
-use Rattle.lin_session.proofs.Lists.{take_ahead}
+use Rattle.lin_lists.specs.lemmas.Taken.{take_ahead}
 
 IsOver-smaller : {S : Type 0} (begin : S) (step : S → Call → S → Reply → Type 0) (h : List Event) (budget smaller : ℕ) → smaller ≤ budget → IsOver begin step h budget → IsOver begin step h smaller
 IsOver-smaller begin step h budget smaller less is =

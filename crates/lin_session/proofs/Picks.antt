@@ -6,13 +6,13 @@ use Rattle.std.proofs.lemmas.Bool.{cases_order}
 use Rattle.std.proofs.lemmas.Bool.Decides.{Decides-int_eq}
 use Rattle.std.proofs.lemmas.List.{take-take, take_all, length-take-le}
 use Rattle.std.proofs.lemmas.Option.{same_Some, slice_get_within, get_or_from_slice_get}
-use Rattle.lin_history.specs.declared.events.Event.{Event}
-use Rattle.lin_history.specs.Operations.{IsEvent}
-use Rattle.lin_order.specs.Orders.{is_of_key}
-use Rattle.lin_order.specs.Parts.{ArePositionsOf, IsNth, IsCut}
-use Rattle.lin_order.specs.PartLaws.{PartsOfPrefixes, PartsGrow}
-use Rattle.lin_history.proofs.Lists.{get_taken, take_next}
-use Rattle.lin_session.proofs.Lists.{get_of_take}
+use Rattle.lin_events.specs.declared.events.Event.{Event}
+use Rattle.lin_events.specs.Operations.{IsEvent}
+use Rattle.lin_orders.specs.Orders.{is_of_key}
+use Rattle.lin_orders.specs.Parts.{ArePositionsOf, IsNth, IsCut}
+use Rattle.lin_orders.specs.PartLaws.{PartsOfPrefixes, PartsGrow}
+use Rattle.lin_lists.specs.lemmas.Lists.{get_taken, take_next}
+use Rattle.lin_lists.specs.lemmas.Taken.{get_of_take}
 
 -- an event of the key stands at the position
 pub event_of_key : (h : List Event) (key : ℤ) (at : ℕ) → IsTrue (is_of_key h key at) → (event : Event) × IsEvent h at event × (event.key ≡ key)

@@ -3,9 +3,9 @@ use Rattle.std.proofs.Common.{◌≡◌, ◌<◌, ℕ, suc, ℤ, Bool, true, fal
 use Rattle.std.specs.Ordering.{int_eq}
 use Rattle.std.proofs.lemmas.Bool.{false≢true}
 use Rattle.std.proofs.lemmas.Bool.Decides.{Decides-int_eq}
-use Rattle.lin_history.specs.declared.events.Event.{Event}
-use Rattle.lin_history.specs.Operations.{IsEvent}
-use Rattle.lin_order.specs.Parts.{part}
+use Rattle.lin_events.specs.declared.events.Event.{Event}
+use Rattle.lin_events.specs.Operations.{IsEvent}
+use Rattle.lin_orders.specs.Parts.{part}
 use Rattle.lin_session.proofs.Around.{part-same}
 
 pub event_there : (h : List Event) (key : ℤ) → 0 < length (part key h) → (at : ℕ) × (event : Event) × IsEvent h at event × (event.key ≡ key)

@@ -1,12 +1,12 @@
 -- Questions that make no order.
 use Rattle.std.proofs.Common.{◌≡◌, ℕ, ℤ, Option, None, Some, Contains, slice_get, length, inl, inr, refl, sym, ap, subst, ◌∙◌, arith}
 use Rattle.std.proofs.lemmas.Option.{slice_get_within}
-use Rattle.lin_order.specs.Linearizable.{IsLinearizableFor}
-use Rattle.lin_order.specs.Merging.{IsLocal}
+use Rattle.lin_orders.specs.Linearizable.{IsLinearizableFor}
+use Rattle.lin_orders.specs.Merging.{IsLocal}
 use Rattle.lin_chain.specs.declared.chain.End.{End}
 use Rattle.lin_chain.specs.declared.chain.End.TheVariants.{Alive, Over}
 use Rattle.lin_chain.specs.Chains.{end_in}
-use Rattle.lin_order.specs.Parts.{part}
+use Rattle.lin_orders.specs.Parts.{part}
 use Rattle.lin_session.proofs.Marking.{over_from}
 use Rattle.lin_session.specs.declared.answers.Scope.{Scope}
 use Rattle.lin_session.specs.declared.answers.Scope.TheVariants.{Object, Whole}
@@ -21,7 +21,7 @@ use Rattle.lin_session.specs.Marks.{IsNothingDue, IsOf, IsWithoutOrder}
 use Rattle.lin_session.specs.Objects.{AreRight, marks_in, split_in}
 use Rattle.lin_session.specs.Work.{AreSameMarks, settled_at}
 use Rattle.lin_session.proofs.Listed.{is_listed, mark_listed}
-use Rattle.lin_session.proofs.Lists.{All-at, element_at, one_place}
+use Rattle.lin_lists.specs.lemmas.Taken.{All-at, element_at, one_place}
 use Rattle.lin_session.proofs.Present.{event_there}
 
 alive_at : (objects : Objects) (scope : Scope) → AreAlive objects scope → (i : ℕ) (key : ℤ) (o : Kept) → IsOf scope key → slice_get objects.keys.keys i ≡ Some key → slice_get objects.objects.items i ≡ Some o → IsAlive o

@@ -4,11 +4,11 @@ use Rattle.std.specs.Prelude.{IfErr}
 use Rattle.std.proofs.lemmas.Bool.{cases_lt}
 use Rattle.std.proofs.lemmas.List.{take_all}
 use Rattle.std.proofs.lemmas.Option.{slice_get-get_or}
-use Rattle.lin_history.specs.declared.events.Event.{Event}
+use Rattle.lin_events.specs.declared.events.Event.{Event}
 use Rattle.lin_objects.specs.declared.kinds.Kind.{Kind}
 use Rattle.lin_objects.specs.Steps.{Step, start}
-use Rattle.lin_order.specs.Parts.{ArePositionsOf, events_at, part}
-use Rattle.lin_order.specs.PartLaws.{PositionsSpellParts, PartsUpToPositions}
+use Rattle.lin_orders.specs.Parts.{ArePositionsOf, events_at, part}
+use Rattle.lin_orders.specs.PartLaws.{PositionsSpellParts, PartsUpToPositions}
 use Rattle.lin_order.specs.Refutations.{Config, IsRefutation}
 use Rattle.lin_frontier.specs.Frontiers.{IsOver}
 use Rattle.lin_chain.specs.declared.chain.End.TheVariants.{Dead}

@@ -1,9 +1,9 @@
 -- While a question is answered what is kept stays up to date: the scan goes on, and the events are told apart.
 use Rattle.std.proofs.Common.{◌≡◌, ◌≤◌, ℕ, List, Option, None, ap, length, subst, ◌∙◌}
-use Rattle.lin_history.specs.declared.shapes.Cause.{Cause}
-use Rattle.lin_history.specs.declared.events.Event.{Event}
-use Rattle.lin_history.specs.declared.shapes.Shape.TheVariants.{Bad}
-use Rattle.lin_history.specs.WellFormed.{IsShape}
+use Rattle.lin_events.specs.declared.shapes.Cause.{Cause}
+use Rattle.lin_events.specs.declared.events.Event.{Event}
+use Rattle.lin_events.specs.declared.shapes.Shape.TheVariants.{Bad}
+use Rattle.lin_events.specs.WellFormed.{IsShape}
 use Rattle.lin_objects.specs.Kinds.{functions_of, kind_of}
 use Rattle.lin_wellformed.specs.declared.scan.Scan.{Scan}
 use Rattle.lin_wellformed.specs.Scans.{IsRight, ready_count}

@@ -1,9 +1,9 @@
 -- From the verdict for one object, or for the whole, to the verdict, and from there to the answer.
 use Rattle.std.proofs.Common.{ℕ, ℤ}
 use Rattle.std.specs.Global.{Vec}
-use Rattle.lin_history.specs.WellFormed.{IsWellFormed}
+use Rattle.lin_events.specs.WellFormed.{IsWellFormed}
 use Rattle.lin_objects.specs.Kinds.{functions_of}
-use Rattle.lin_order.specs.declared.placed.Placed.{Placed}
+use Rattle.lin_orders.specs.declared.placed.Placed.{Placed}
 use Rattle.lin_session.specs.declared.answers.Answer.TheVariants as answer
 use Rattle.lin_session.specs.declared.answers.Verdict.{Verdict}
 use Rattle.lin_session.specs.declared.answers.Verdict.TheVariants.{IllFormed, Yes, No, Undecided}

@@ -3,10 +3,10 @@ use Rattle.std.proofs.Common.{◌≡◌, ◌≢◌, ◌<◌, ◌≤◌, ◌⊎�
 use Rattle.std.proofs.lemmas.Bool.{cases_lt}
 use Rattle.std.proofs.lemmas.Bool.Decides.{Decides-ltb}
 use Rattle.std.proofs.lemmas.Option.{same_Some, slice_get_within}
-use Rattle.lin_history.specs.declared.events.Event.{Event}
+use Rattle.lin_events.specs.declared.events.Event.{Event}
 use Rattle.lin_objects.specs.declared.kinds.Kind.{Kind}
-use Rattle.lin_order.specs.PartLaws.{PositionsSpellParts}
-use Rattle.lin_order.specs.Parts.{part}
+use Rattle.lin_orders.specs.PartLaws.{PositionsSpellParts}
+use Rattle.lin_orders.specs.Parts.{part}
 use Rattle.lin_chain.specs.Chains.{end_in}
 use Rattle.lin_session.specs.declared.answers.Scope.{Scope}
 use Rattle.lin_session.specs.declared.kept.Object.{Object}
@@ -17,13 +17,13 @@ use Rattle.lin_session.specs.Objects.{AreKept, IsObject, listed_marks, settled_o
 use Rattle.lin_session.specs.Work.{AreSameMarks, mark_of, settled_at}
 use Rattle.lin_session.proofs.Asking.{whole_picked}
 use Rattle.lin_session.proofs.Listed.{is_listed, mark_listed, mark_unlisted}
-use Rattle.lin_session.proofs.Lists.{element_at, one_place}
-use Rattle.lin_history.proofs.Lists.{get_set_cases}
+use Rattle.lin_lists.specs.lemmas.Taken.{element_at, one_place}
+use Rattle.lin_lists.specs.lemmas.Lists.{get_set_cases}
 use Rattle.std.proofs.lemmas.List.{length-set}
 use Rattle.std.proofs.lemmas.Option.{slice_get-map}
 use Rattle.std.specs.Option.{option_map}
 use Rattle.lin_session.specs.declared.answers.Scope.TheVariants as scope
-use Rattle.lin_session.proofs.Lists.{there_at}
+use Rattle.lin_lists.specs.lemmas.Taken.{there_at}
 use Rattle.lin_session.proofs.Marking.{IsMarkRight-same, IsMarkRight-settled, same_over, settled_over}
 use Rattle.lin_chain.specs.Ends.{IsEndOf}
 use Rattle.lin_session.proofs.Present.{event_there}

@@ -3,17 +3,17 @@ use Rattle.std.proofs.Common.{◌≡◌, ◌≢◌, ◌<◌, ◌≤◌, ◌+◌,
 use Rattle.std.proofs.lemmas.Bool.{cases_order}
 use Rattle.std.proofs.lemmas.List.Elements.{Contains-push, Contains-append_left}
 use Rattle.std.proofs.lemmas.Option.{same_Some, slice_get_within}
-use Rattle.lin_history.specs.declared.events.Event.{Event}
-use Rattle.lin_history.specs.Operations.{IsEvent}
+use Rattle.lin_events.specs.declared.events.Event.{Event}
+use Rattle.lin_events.specs.Operations.{IsEvent}
 use Rattle.lin_objects.specs.declared.kinds.Kind.{Kind}
-use Rattle.lin_order.specs.Parts.{ArePositionsOf, part}
-use Rattle.lin_order.specs.PartLaws.{PartsOfPrefixes, PartsGrow}
+use Rattle.lin_orders.specs.Parts.{ArePositionsOf, part}
+use Rattle.lin_orders.specs.PartLaws.{PartsOfPrefixes, PartsGrow}
 use Rattle.lin_chain.specs.Chains.{kind_in, IsRight}
 use Rattle.lin_session.specs.declared.kept.Object.{Object}
 use Rattle.lin_session.specs.Objects.{IsObject, AreKept}
 use Rattle.lin_session.specs.Work.{unasked}
 use Rattle.lin_session.proofs.Marking.{IsMarkRight-same, IsMarkRight-unasked, same_over, unasked_over}
-use Rattle.lin_history.proofs.Lists.{get_taken}
+use Rattle.lin_lists.specs.lemmas.Lists.{get_taken}
 use Rattle.lin_session.proofs.Changes.{AreKept-one, AreKept-more}
 use Rattle.lin_session.proofs.Picks.{event_of_key, picks_less, picks_stay, picks_more, picks_same}
 

@@ -7,8 +7,8 @@ use Rattle.std.proofs.lemmas.Bool.{false≢true}
 use Rattle.std.proofs.lemmas.Bool.Decides.{Decides-int_eq}
 use Rattle.std.proofs.lemmas.List.Filters.{sum_by-filter_both}
 use Rattle.std.proofs.lemmas.List.Sums.{sum_by-cons}
-use Rattle.lin_history.specs.declared.events.Event.{Event}
-use Rattle.lin_order.specs.Parts.{part}
+use Rattle.lin_events.specs.declared.events.Event.{Event}
+use Rattle.lin_orders.specs.Parts.{part}
 use Rattle.lin_session.specs.Work.{keys_of}
 use Rattle.lin_session.proofs.Around.{part-same}
 use Rattle.lin_session.proofs.Listed.{IsOnce, once_head, once_rest}

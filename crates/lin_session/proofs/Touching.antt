@@ -7,14 +7,14 @@ use Rattle.std.proofs.lemmas.Bool.{false≢true}
 use Rattle.std.proofs.lemmas.Bool.Decides.{Decides-int_eq, Decides-ltb}
 use Rattle.std.proofs.lemmas.List.{take-take, take_all}
 use Rattle.std.proofs.lemmas.List.Elements.{filter-append}
-use Rattle.lin_history.specs.declared.events.Event.{Event}
-use Rattle.lin_order.specs.Orders.{is_of_key}
-use Rattle.lin_order.specs.Parts.{part}
+use Rattle.lin_events.specs.declared.events.Event.{Event}
+use Rattle.lin_orders.specs.Orders.{is_of_key}
+use Rattle.lin_orders.specs.Parts.{part}
 use Rattle.lin_session.specs.declared.work.Mark.{Mark}
 use Rattle.lin_session.specs.Work.{AreSameMarks, AreTouched, count_before, rounded, touched, touched_at, truncated}
-use Rattle.lin_history.proofs.Lists.{take_next}
+use Rattle.lin_lists.specs.lemmas.Lists.{take_next}
 use Rattle.lin_session.proofs.Around.{part-more, part-same}
-use Rattle.lin_session.proofs.Lists.{get_of_take}
+use Rattle.lin_lists.specs.lemmas.Taken.{get_of_take}
 use Rattle.lin_session.proofs.Marking.{touched_lower}
 
 pub AreTouched-since : (key : ℤ) (place left : ℕ) (old mid new : ℤ → Mark) → AreSameMarks old mid → AreTouched key place left mid new → AreTouched key place left old new

@@ -9,28 +9,28 @@ use Rattle.std.proofs.lemmas.List.{take-take, take_all}
 use Rattle.std.proofs.lemmas.List.Elements.{filter-append, Contains-push_cases}
 use Rattle.std.proofs.lemmas.Map.Views.{list_any-from_Contains, Contains-from_any}
 use Rattle.std.proofs.lemmas.Option.{same_Some, none-some}
-use Rattle.lin_history.specs.declared.events.Event.{Event}
-use Rattle.lin_history.specs.declared.calls.Call.{Call}
-use Rattle.lin_history.specs.declared.calls.Reply.{Reply}
-use Rattle.lin_history.specs.Operations.{IsEvent}
-use Rattle.lin_history.specs.WellFormed.{IsWellFormed}
-use Rattle.lin_history.specs.WellFormedLaws.{BeginningsAreWellFormed}
+use Rattle.lin_events.specs.declared.events.Event.{Event}
+use Rattle.lin_events.specs.declared.calls.Call.{Call}
+use Rattle.lin_events.specs.declared.calls.Reply.{Reply}
+use Rattle.lin_events.specs.Operations.{IsEvent}
+use Rattle.lin_events.specs.WellFormed.{IsWellFormed}
+use Rattle.lin_events.specs.WellFormedLaws.{BeginningsAreWellFormed}
 use Rattle.lin_objects.specs.declared.kinds.Kind.{Kind}
 use Rattle.lin_objects.specs.Kinds.{functions_of}
 use Rattle.lin_objects.specs.Steps.{Step, start}
-use Rattle.lin_order.specs.Laws.{PrefixesAreLinearizableFor}
-use Rattle.lin_order.specs.Linearizable.{IsLinearizable, IsLinearizableFor, IsLinearizableBy}
-use Rattle.lin_order.specs.Merging.{AbsentKeysAreLegal, IsLocal}
-use Rattle.lin_order.specs.Parts.{part}
-use Rattle.lin_order.specs.PartLaws.{LinearizableByPart}
-use Rattle.lin_order.specs.Configurations.{IsConfiguration}
+use Rattle.lin_orders.specs.Laws.{PrefixesAreLinearizableFor}
+use Rattle.lin_orders.specs.Linearizable.{IsLinearizable, IsLinearizableFor, IsLinearizableBy}
+use Rattle.lin_orders.specs.Merging.{AbsentKeysAreLegal, IsLocal}
+use Rattle.lin_orders.specs.Parts.{part}
+use Rattle.lin_orders.specs.PartLaws.{LinearizableByPart}
+use Rattle.lin_orders.specs.Configurations.{IsConfiguration}
 use Rattle.lin_session.specs.declared.answers.Verdict.{Verdict}
 use Rattle.lin_session.specs.declared.answers.Verdict.TheVariants.{Yes, No, Undecided}
 use Rattle.lin_session.specs.Answers.{IsShortestWithout, IsOverAt, IsWholeVerdict}
 use Rattle.lin_session.specs.Judgements.{IsFinding, IsCovered, AreFound, IsTold}
 use Rattle.lin_session.specs.Work.{least}
 use Rattle.lin_session.proofs.Around.{part-same}
-use Rattle.lin_history.proofs.Lists.{get_taken, take_next}
+use Rattle.lin_lists.specs.lemmas.Lists.{get_taken, take_next}
 
 -- what has a configuration is linearizable
 linear_over : {S : Type 0} (start : S) (step : S → Call → S → Reply → Type 0) (h : List Event) (budget : ℕ) (found : List (S × List (ℕ × Reply))) → length found ≡ budget + 1

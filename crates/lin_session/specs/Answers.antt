@@ -1,14 +1,14 @@
 -- What the answers to questions say of the present history.
 use Rattle.std.specs.Prelude.{◌≡◌, ◌+◌, ◌-◌, ◌≤◌, ℕ, ℤ, List, length, take}
-use Rattle.lin_history.specs.declared.events.Event.{Event}
-use Rattle.lin_history.specs.declared.shapes.Shape.TheVariants.{Bad}
-use Rattle.lin_history.specs.Operations.{IsEvent}
-use Rattle.lin_history.specs.WellFormed.{IsShape, IsWellFormed}
+use Rattle.lin_events.specs.declared.events.Event.{Event}
+use Rattle.lin_events.specs.declared.shapes.Shape.TheVariants.{Bad}
+use Rattle.lin_events.specs.Operations.{IsEvent}
+use Rattle.lin_events.specs.WellFormed.{IsShape, IsWellFormed}
 use Rattle.lin_objects.specs.declared.kinds.Kind.{Kind}
 use Rattle.lin_objects.specs.Kinds.{kind_of, functions_of}
 use Rattle.lin_objects.specs.Steps.{Step, start}
-use Rattle.lin_order.specs.Linearizable.{IsLegalOrder, IsLegalOrderFor, IsLinearizable, IsLinearizableFor}
-use Rattle.lin_order.specs.Parts.{part}
+use Rattle.lin_orders.specs.Linearizable.{IsLegalOrder, IsLegalOrderFor, IsLinearizable, IsLinearizableFor}
+use Rattle.lin_orders.specs.Parts.{part}
 use Rattle.lin_frontier.specs.Frontiers.{IsOver}
 use Rattle.lin_session.specs.declared.answers.Answer.{Answer}
 use Rattle.lin_session.specs.declared.answers.Answer.TheVariants.{IllFormed, Yes, No, Undecided}

@@ -1,8 +1,8 @@
 -- What it costs to judge objects whose events are told apart.
 use Rattle.std.specs.Prelude.{◌≡◌, ◌+◌, ◌-◌, ◌≤◌, ℕ, ℤ, List, [], ◌∷◌, All, Some, length, slice_get}
-use Rattle.lin_history.specs.declared.events.Event.{Event}
+use Rattle.lin_events.specs.declared.events.Event.{Event}
 use Rattle.lin_objects.specs.declared.kinds.Kind.{Kind}
-use Rattle.lin_order.specs.Parts.{part}
+use Rattle.lin_orders.specs.Parts.{part}
 use Rattle.lin_chain.specs.Chains.{end_in, end_under, ready_under}
 use Rattle.lin_chain.specs.Ends.{IsEndOf}
 use Rattle.lin_session.specs.declared.answers.Scope.{Scope}

@@ -1,6 +1,6 @@
 -- What a session speaks of: a history, the kinds of its objects and a budget; and how an edit changes them.
 use Rattle.std.specs.Prelude.{◌≡◌, ◌≤◌, ◌<◌, ℕ, false, List, [], ◌∷◌, ◌++◌, length, take, slice_set, remove}
-use Rattle.lin_history.specs.declared.events.Event.{Event}
+use Rattle.lin_events.specs.declared.events.Event.{Event}
 use Rattle.lin_objects.specs.declared.kinds.Kinds.{Kinds}
 use Rattle.lin_objects.specs.Kinds.{is_named, named_count, with_kind}
 use Rattle.lin_session.specs.declared.edits.Edit.{Edit}

@@ -1,9 +1,9 @@
 -- What is found of the objects of a history, one after the other: the shortest failing prefix, and the first place where one is over the budget.
 use Rattle.std.specs.Prelude.{◌≡◌, ◌≤◌, ◌<◌, ◌+◌, ◌⊎◌, ℕ, ℤ, List, Option, None, Some, All, Contains, length, slice_get, slice_index}
-use Rattle.lin_history.specs.declared.events.Event.{Event}
+use Rattle.lin_events.specs.declared.events.Event.{Event}
 use Rattle.lin_objects.specs.declared.kinds.Kind.{Kind}
-use Rattle.lin_order.specs.Linearizable.{IsLegalOrder, IsLegalOrderFor, IsLinearizableFor}
-use Rattle.lin_order.specs.declared.placed.Placed.{Placed}
+use Rattle.lin_orders.specs.Linearizable.{IsLegalOrder, IsLegalOrderFor, IsLinearizableFor}
+use Rattle.lin_orders.specs.declared.placed.Placed.{Placed}
 use Rattle.lin_chain.specs.declared.chain.End.TheVariants.{Alive, Dead}
 use Rattle.lin_chain.specs.Chains.{end_in, ready_count}
 use Rattle.lin_session.specs.declared.answers.Scope.{Scope}

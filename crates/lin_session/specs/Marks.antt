@@ -1,9 +1,9 @@
 -- What questions make of the marks of objects, and which questions need no memory.
 use Rattle.std.specs.Prelude.{◌≡◌, ◌≢◌, ◌<◌, ◌⊎◌, ℕ, ℤ, List, None, length}
-use Rattle.lin_history.specs.declared.events.Event.{Event}
+use Rattle.lin_events.specs.declared.events.Event.{Event}
 use Rattle.lin_objects.specs.declared.kinds.Kind.{Kind}
-use Rattle.lin_order.specs.Linearizable.{IsLinearizableFor}
-use Rattle.lin_order.specs.Parts.{part}
+use Rattle.lin_orders.specs.Linearizable.{IsLinearizableFor}
+use Rattle.lin_orders.specs.Parts.{part}
 use Rattle.lin_chain.specs.declared.chain.End.{End}
 use Rattle.lin_chain.specs.Ends.{IsEndOf}
 use Rattle.lin_session.specs.declared.answers.Scope.{Scope}

@@ -1,14 +1,14 @@
 -- What is kept of the objects of a history.
 use Rattle.std.specs.Prelude.{Option, None, ◌+◌, slice_index, ◌≡◌, ◌≢◌, ◌≤◌, ◌<◌, ◌⊎◌, ℕ, ℤ, List, [], ◌∷◌, Some, AllPairs, Contains, length, min, nat_lt, take, slice_get, if◌then◌else◌}
-use Rattle.lin_history.specs.declared.events.Event.{Event}
-use Rattle.lin_history.specs.Operations.{IsEvent}
+use Rattle.lin_events.specs.declared.events.Event.{Event}
+use Rattle.lin_events.specs.Operations.{IsEvent}
 use Rattle.lin_objects.specs.declared.kinds.Kind.{Kind}
-use Rattle.lin_order.specs.Parts.{ArePositionsOf, part, renamed}
+use Rattle.lin_orders.specs.Parts.{ArePositionsOf, part, renamed}
 use Rattle.lin_chain.specs.Chains.{end_in, end_under, kind_in, ready_under, IsRight}
 use Rattle.lin_chain.specs.Ends.{IsEndOf}
 use Rattle.lin_chain.specs.declared.chain.End.{End}
 use Rattle.lin_chain.specs.declared.chain.End.TheVariants.{Alive, Dead, Over}
-use Rattle.lin_order.specs.declared.placed.Placed.{Placed}
+use Rattle.lin_orders.specs.declared.placed.Placed.{Placed}
 use Rattle.lin_session.specs.declared.kept.Object.{Object}
 use Rattle.lin_session.specs.declared.kept.Objects.{Objects}
 use Rattle.lin_session.specs.declared.work.Mark.{Mark}

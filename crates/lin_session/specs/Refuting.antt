@@ -1,9 +1,9 @@
 -- What comes of refuting an object.
 use Rattle.std.specs.Prelude.{◌≢◌, ℕ, ℤ, List, take}
-use Rattle.lin_history.specs.declared.events.Event.{Event}
+use Rattle.lin_events.specs.declared.events.Event.{Event}
 use Rattle.lin_objects.specs.declared.kinds.Kind.{Kind}
 use Rattle.lin_objects.specs.Steps.{Step, start}
-use Rattle.lin_order.specs.Parts.{part}
+use Rattle.lin_orders.specs.Parts.{part}
 use Rattle.lin_order.specs.Refutations.{Config, IsRefutation, sets_of}
 use Rattle.lin_frontier.specs.Frontiers.{IsOver}
 use Rattle.lin_chain.specs.declared.chain.RefuteFault.{RefuteFault}

@@ -2,9 +2,9 @@
 use Rattle.std.specs.Prelude.{◌≡◌, ◌-◌, ◌*◌, ◌/◌, ◌||◌, ℕ, ℤ, min, not, nat_lt, List, [], ◌∷◌, Option, None, Some, filter, length, take, if◌then◌else◌}
 use Rattle.std.specs.List.{sum_by}
 use Rattle.std.specs.Ordering.{int_eq}
-use Rattle.lin_history.specs.declared.events.Event.{Event}
-use Rattle.lin_order.specs.Orders.{is_of_key}
-use Rattle.lin_order.specs.Parts.{part}
+use Rattle.lin_events.specs.declared.events.Event.{Event}
+use Rattle.lin_orders.specs.Orders.{is_of_key}
+use Rattle.lin_orders.specs.Parts.{part}
 use Rattle.lin_chain.specs.declared.chain.End.{End}
 use Rattle.lin_chain.specs.declared.chain.End.TheVariants.{Alive, Dead, Over}
 use Rattle.lin_session.specs.declared.answers.Scope.{Scope}

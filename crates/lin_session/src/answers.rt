@@ -1,8 +1,9 @@
 //! What is asked of a history, and what is answered.
 ghost use Rattle.lin_session.specs.Answers.{AnswersAreVerdicts};
 
-use lin_history::Cause;
-use lin_order::{Placed, Refutation};
+use lin_events::Cause;
+use lin_order::Refutation;
+use lin_orders::Placed;
 
 /// What a question is about.
 #[derive(Clone, Copy, Debug, PartialEq, Eq)]

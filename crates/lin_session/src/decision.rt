@@ -1,6 +1,6 @@
 //! Verdicts of which orders and conflicts are looked for before chains take all events in.
 ghost use Rattle.std.specs.Prelude.{◌≡◌, ◌≢◌, ◌+◌, ◌<◌, ◌≤◌, ◌⊎◌, ℕ, ℤ, All, IfOk, IfSome, IsOk, OnErr, OnOk, Some, length, slice_get};
-ghost use Rattle.lin_history.specs.WellFormed.{IsWellFormed};
+ghost use Rattle.lin_events.specs.WellFormed.{IsWellFormed};
 ghost use Rattle.lin_objects.specs.declared.kinds.Kind.{Kind as KindOf};
 ghost use Rattle.lin_objects.specs.Kinds.{functions_of, kind_of};
 ghost use Rattle.lin_session.specs.Answers.{IsVerdict};
@@ -13,10 +13,10 @@ ghost use Rattle.lin_session.specs.Work.{AreSameMarks, cost_in};
 use crate::answers::{Scope, Verdict};
 use crate::foresight::is_searched_first;
 use crate::kept::Objects;
+use lin_events::{Event, Meter, OutOfMemory};
 use lin_frontier::is_counted;
-use lin_history::{Event, Meter, OutOfMemory};
 use lin_objects::Kinds;
-use lin_order::{parts_keep_operations, positions_spell_parts};
+use lin_orders::{parts_keep_operations, positions_spell_parts};
 use std::alloc::Global;
 
 /// Each object gets so many tries as if it had that many more events to take in: an event takes fewer with seven operations open.

@@ -1,5 +1,5 @@
 //! Edits of a history, and why one is refused.
-use lin_history::Event;
+use lin_events::Event;
 use lin_objects::Kind;
 
 /// One change to a history, to the kind of an object or to the budget. Positions count from 0.

@@ -1,6 +1,6 @@
 //! Verdicts that are found without chains, where legal orders or operations that conflict are found of all objects.
 ghost use Rattle.std.specs.Prelude.{◌≡◌, ◌<◌, ℤ, IfSome, Some, length, slice_get};
-ghost use Rattle.lin_history.specs.WellFormed.{IsWellFormed};
+ghost use Rattle.lin_events.specs.WellFormed.{IsWellFormed};
 ghost use Rattle.lin_objects.specs.Kinds.{functions_of, kind_of};
 ghost use Rattle.lin_session.specs.Answers.{IsObjectVerdict, IsVerdict, IsWholeVerdict};
 ghost use Rattle.lin_session.specs.Judgements.{AreFound, IsFinding};
@@ -10,9 +10,9 @@ use crate::answers::{Scope, Verdict};
 use crate::kept::Objects;
 use crate::objects::told;
 use crate::work::least_of;
-use lin_history::{Event, beginnings_are_well_formed};
+use lin_events::{Event, beginnings_are_well_formed};
 use lin_objects::{Kind, Kinds};
-use lin_order::{
+use lin_orders::{
     absent_keys_are_legal, linearizability_is_local, parts_keep_orders, prefixes_are_linearizable,
 };
 use std::alloc::Global;

@@ -1,12 +1,12 @@
 //! What is kept of one object: where its events stand, and what is known of their legal orders.
 ghost use Rattle.std.specs.Prelude.{◌≡◌, ◌≢◌, ◌+◌, ◌-◌, ◌<◌, ◌≤◌, ◌∷◌, ◌++◌, [], ℕ, ℤ, List, Bool, All, None, min, IsOk, IsTrue, IfOk, IfSome, OnOk, OnErr, Ok, length, map, take};
-ghost use Rattle.lin_history.specs.declared.calls.Name.{Name as NameOf};
-ghost use Rattle.lin_history.specs.declared.events.Event.{Event as EventOf};
-ghost use Rattle.lin_history.specs.WellFormed.{IsWellFormed};
-ghost use Rattle.lin_order.specs.Parts.{events_at, part, renamed};
+ghost use Rattle.lin_events.specs.declared.calls.Name.{Name as NameOf};
+ghost use Rattle.lin_events.specs.declared.events.Event.{Event as EventOf};
+ghost use Rattle.lin_events.specs.WellFormed.{IsWellFormed};
+ghost use Rattle.lin_orders.specs.Parts.{events_at, part, renamed};
 ghost use Rattle.lin_chain.specs.Chains.{end_in, end_under, kind_in, ready_count, ready_under, IsRight as IsRightChain};
 ghost use Rattle.lin_chain.specs.Ends.{IsEndOf};
-ghost use Rattle.lin_chain.specs.Replays.{IsLegalOrderAs};
+ghost use Rattle.lin_orders.specs.Linearizable.{IsLegalOrderAs};
 ghost use Rattle.lin_session.specs.Objects.{Finds, IsOrderIn, IsPlaceIn, raised_object, settled_object};
 ghost use Rattle.lin_session.specs.Costs.{IsSettled, cost_of};
 ghost use Rattle.lin_session.specs.Judgements.{IsAlive};
@@ -14,10 +14,11 @@ ghost use Rattle.lin_session.specs.Work.{rounded, touched, unasked};
 
 use crate::kept::Object;
 use crate::work::{Mark, round_down};
-use lin_chain::{Chain, End, finds_order};
-use lin_history::{Event, Meter, OutOfMemory};
+use lin_chain::{Chain, End};
+use lin_events::{Event, Meter, OutOfMemory};
 use lin_objects::Kind;
-use lin_order::Placed;
+use lin_orders::Placed;
+use lin_search::finds_order;
 use std::alloc::Global;
 
 impl Object {

@@ -1,12 +1,12 @@
 //! The objects of a history: where the events of each stand in it, and what is known of their legal orders.
 ghost use Rattle.std.specs.Prelude.{◌≡◌, ◌≢◌, ◌+◌, ◌<◌, ◌≤◌, ◌∷◌, ◌++◌, ◌||◌, [], ℕ, ℤ, List, All, Contains, IsOk, IfErr, IfOk, IfSome, IfNone, OnOk, OnErr, None, Ok, Some, remove, slice_set, if◌then◌else◌, length, min, nat_lt, slice_get, take};
 ghost use Rattle.std.specs.Ordering.{int_eq};
-ghost use Rattle.lin_history.specs.declared.events.Event.{Event as EventOf};
-ghost use Rattle.lin_history.specs.WellFormed.{IsWellFormed};
+ghost use Rattle.lin_events.specs.declared.events.Event.{Event as EventOf};
+ghost use Rattle.lin_events.specs.WellFormed.{IsWellFormed};
 ghost use Rattle.lin_objects.specs.declared.kinds.Kind.{Kind as KindOf};
 ghost use Rattle.lin_objects.specs.Kinds.{functions_of, kind_of};
-ghost use Rattle.lin_order.specs.Orders.{is_of_key};
-ghost use Rattle.lin_order.specs.Parts.{part};
+ghost use Rattle.lin_orders.specs.Orders.{is_of_key};
+ghost use Rattle.lin_orders.specs.Parts.{part};
 ghost use Rattle.lin_order.specs.Refutations.{IsRefutation, sets_of};
 ghost use Rattle.lin_session.specs.Answers.{IsAnswer, IsObjectVerdict, IsVerdict, IsWholeVerdict};
 ghost use Rattle.lin_session.specs.declared.kept.Object.{Object as ObjectOf};
@@ -23,10 +23,11 @@ use crate::object::{mark_all, raise_all};
 use crate::work::least_of;
 use indexmap::IndexSet;
 use lin_chain::RefuteFault;
-use lin_history::{Event, Meter, OutOfMemory, beginnings_are_well_formed};
+use lin_events::{Event, Meter, OutOfMemory, beginnings_are_well_formed};
 use lin_objects::{Kind, Kinds};
-use lin_order::{
-    Refutation, absent_keys_are_legal, linearizability_is_local, parts_grow, parts_keep_operations,
+use lin_order::Refutation;
+use lin_orders::{
+    absent_keys_are_legal, linearizability_is_local, parts_grow, parts_keep_operations,
     parts_keep_orders, parts_of_prefixes, positions_spell_parts, prefixes_are_linearizable,
 };
 use std::alloc::Global;

@@ -1,19 +1,19 @@
 //! Legal orders of a history, out of those that its objects have.
 ghost use Rattle.std.specs.Prelude.{◌≡◌, ◌≢◌, ◌<◌, ℕ, ℤ, All, IfOk, IfSome, None, Some, length, slice_get};
 ghost use Rattle.std.specs.List.{AllZip};
-ghost use Rattle.lin_history.specs.WellFormed.{IsWellFormed};
+ghost use Rattle.lin_events.specs.WellFormed.{IsWellFormed};
 ghost use Rattle.lin_objects.specs.Kinds.{functions_of, kind_of};
-ghost use Rattle.lin_order.specs.Linearizable.{IsLegalOrder, IsLegalOrderFor};
-ghost use Rattle.lin_order.specs.Merging.{lists_of};
+ghost use Rattle.lin_orders.specs.Linearizable.{IsLegalOrder, IsLegalOrderFor};
+ghost use Rattle.lin_orders.specs.Merging.{lists_of};
 ghost use Rattle.lin_session.specs.declared.kept.Object.{Object as ObjectOf};
 ghost use Rattle.lin_session.specs.Judgements.{AreAlive, IsAlive, IsOrderFor};
 ghost use Rattle.lin_session.specs.Objects.{AreRight, split_in};
 
 use crate::answers::Scope;
 use crate::kept::Objects;
-use lin_history::{Event, OutOfMemory};
+use lin_events::{Event, OutOfMemory};
 use lin_objects::Kinds;
-use lin_order::{
+use lin_orders::{
     Placed, absent_keys_are_legal, merge, merged_orders_are_legal, parts_keep_orders,
     positions_spell_parts,
 };

@@ -1,13 +1,13 @@
 //! A history that is edited, with what was found of it kept up to date.
 ghost use Rattle.std.specs.Prelude.{◌≡◌, ◌≢◌, ◌↔◌, ◌<◌, ◌≤◌, ◌⊎◌, ◌+◌, ◌-◌, ◌∷◌, ◌++◌, [], ℕ, ℤ, true, false, Contains, Err, None, Some, IfOk, IfErr, IfSome, IfNone, IsOk, OnOk, OnErr, length, slice_get, slice_set, remove, take, if◌then◌else◌};
-ghost use Rattle.lin_history.specs.WellFormed.{IsWellFormed};
+ghost use Rattle.lin_events.specs.WellFormed.{IsWellFormed};
 ghost use Rattle.lin_objects.specs.declared.kinds.Kind.{Kind as KindOf};
 ghost use Rattle.lin_objects.specs.Kinds.{functions_of, is_named, kind_of, named_count, same_for_all, with_kind};
 ghost use Rattle.lin_session.specs.Edits.{IsBudget, IsRefused, edited};
 ghost use Rattle.lin_session.specs.Answers.{IsAnswer, IsVerdict, kinds_in};
 ghost use Rattle.lin_session.specs.Objects.{AreRight, marks_in, split_in};
-ghost use Rattle.lin_order.specs.Orders.{is_of_key};
-ghost use Rattle.lin_order.specs.Parts.{part};
+ghost use Rattle.lin_orders.specs.Orders.{is_of_key};
+ghost use Rattle.lin_orders.specs.Parts.{part};
 ghost use Rattle.lin_chain.specs.Ends.{IsEndOf};
 ghost use Rattle.lin_session.specs.Judgements.{IsOrderFor};
 ghost use Rattle.lin_session.specs.Marks.{AreMarked, IsNothingDue, IsWithoutOrder};
@@ -21,9 +21,9 @@ use crate::kept::Objects;
 use crate::work::{least_of, round_down};
 use indexmap::IndexSet;
 use lin_chain::{End, RefuteFault};
-use lin_history::{Event, Meter, OutOfMemory, Shape};
+use lin_events::{Event, Meter, OutOfMemory, Shape};
 use lin_objects::{Kind, Kinds, KindsFault};
-use lin_order::Placed;
+use lin_orders::Placed;
 use lin_wellformed::Scan;
 use std::alloc::Global;
 use std::marker::Model;

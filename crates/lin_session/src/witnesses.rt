@@ -1,8 +1,8 @@
 //! Legal orders, and operations that conflict, looked for where objects have more configurations than the budget.
 ghost use Rattle.std.specs.Prelude.{◌≡◌, ◌<◌, ℕ, ℤ, IfSome, Some, length, slice_get};
-ghost use Rattle.lin_history.specs.WellFormed.{IsWellFormed};
+ghost use Rattle.lin_events.specs.WellFormed.{IsWellFormed};
 ghost use Rattle.lin_objects.specs.Kinds.{functions_of, kind_of};
-ghost use Rattle.lin_order.specs.Parts.{events_at};
+ghost use Rattle.lin_orders.specs.Parts.{events_at};
 ghost use Rattle.lin_chain.specs.Chains.{end_in, kind_in};
 ghost use Rattle.lin_chain.specs.Ends.{IsEndOf};
 ghost use Rattle.lin_session.specs.Answers.{IsVerdict, IsObjectVerdict, IsWholeVerdict};
@@ -15,14 +15,15 @@ use crate::answers::{Scope, Verdict};
 use crate::kept::{Object, Objects};
 use crate::objects::told;
 use crate::work::least_of;
-use lin_chain::{End, finds_failure, finds_order};
+use lin_chain::End;
+use lin_events::{Event, beginnings_are_well_formed};
 use lin_frontier::is_counted;
-use lin_history::{Event, beginnings_are_well_formed};
 use lin_objects::Kinds;
-use lin_order::{
+use lin_orders::{
     absent_keys_are_legal, linearizability_is_local, parts_keep_operations, parts_keep_orders,
     parts_of_prefixes, positions_spell_parts, prefixes_are_linearizable,
 };
+use lin_search::{finds_failure, finds_order};
 use std::alloc::Global;
 
 impl Object {

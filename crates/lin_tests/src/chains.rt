@@ -1,6 +1,6 @@
 //! A chain that is dead, and what refutes it.
 use lin_chain::{Chain, End};
-use lin_history::{Body, Call, Event, Meter, Name, Reply, Shape, Val};
+use lin_events::{Body, Call, Event, Meter, Name, Reply, Shape, Val};
 use lin_objects::{Kind, Kinds};
 use lin_order::check_refutation;
 use lin_wellformed::Scan;

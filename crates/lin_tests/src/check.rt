@@ -2,8 +2,8 @@
 ghost use Rattle.std.specs.Prelude.{◌≤◌};
 
 use crate::table::{BUDGET, KINDS, prints, recording};
+use lin_formats::Status;
 use lin_objects::Kind;
-use lin_report::Status;
 use lin_report::Status::{No, Undecided, Yes};
 use std::process::Abort;
 

@@ -1,7 +1,7 @@
 //! What `check` prints of histories that aren't well-formed, and of files that it refuses.
 use crate::table::{BUDGET, prints, recording};
+use lin_formats::Status;
 use lin_objects::Kind;
-use lin_report::Status;
 
 #[test]
 fn ill_formed_histories(rt: HostRuntime) {

@@ -3,8 +3,8 @@ use crate::drawn::{Draw, drawn_history, has_legal_order, is_legal_order, registe
 use crate::events::{fail, info, invoke, ok, write};
 use crate::exact_sets::{Came, came_of};
 use crate::table::KINDS;
+use lin_events::{Body, Call, Event, IntSet, Meter, Name, Reply, Val};
 use lin_frontier::{Advance, Compressed, Open, RoundNodes, Scratch, take_in};
-use lin_history::{Body, Call, Event, IntSet, Meter, Name, Reply, Val};
 use lin_objects::{Any, Kind};
 use std::alloc::Global;
 use std::mem;

@@ -1,8 +1,8 @@
 //! Drawn histories of one object; whether they have a legal order, by trying all lists of operations; what is found without frontiers.
-use lin_chain::{finds_failure, finds_order};
-use lin_history::{Body, Call, Event, IntSet, Name, Reply, Val};
+use lin_events::{Body, Call, Event, IntSet, Name, Reply, Val};
 use lin_objects::{Any, Kind, Kinds, SeqObject};
-use lin_order::{Placed, check_order};
+use lin_orders::{Placed, check_order};
+use lin_search::{finds_failure, finds_order};
 use std::alloc::Global;
 use std::process::Abort;
 

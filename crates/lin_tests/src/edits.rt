@@ -2,9 +2,10 @@
 ghost use Rattle.std.specs.Prelude.{◌≤◌};
 
 use crate::table::{BUDGET, KINDS, recording};
+use lin_formats::{Counted, Settings, Status};
 use lin_objects::Kind;
 use lin_report::Status::{IllFormed, No, Undecided, Yes};
-use lin_report::{Counted, Settings, Status, run};
+use lin_report::run;
 use std::process::Abort;
 
 /// One session: the recording, the lines of the script, the lines of the replies, and the status.

@@ -1,5 +1,5 @@
 //! Events of one object, in short forms.
-use lin_history::{Body, Call, Event, Name, Reply, Val};
+use lin_events::{Body, Call, Event, Name, Reply, Val};
 
 pub(crate) fn invoke(process: u64, call: Call) -> Event {
     Event {

@@ -2,8 +2,8 @@
 use crate::drawn::{Draw, drawn_history, has_legal_order, is_legal_order};
 use crate::events::{fail, info, invoke, ok, write};
 use crate::table::KINDS;
+use lin_events::{Call, Event, Meter, Name, Reply, Val};
 use lin_frontier::{Config, Frontier, Nodes, Open, Step, take_in};
-use lin_history::{Call, Event, Meter, Name, Reply, Val};
 use lin_objects::{Any, Kind, SeqObject, State};
 use std::alloc::Global;
 use std::process::Abort;

@@ -2,9 +2,9 @@
 use crate::compressed::told;
 use crate::drawn::{Draw, failing};
 use crate::events::{info, invoke, ok, write};
-use lin_chain::finds_failure;
-use lin_history::{Call, Event, Name, Reply, Val};
+use lin_events::{Call, Event, Name, Reply, Val};
 use lin_objects::Kind;
+use lin_search::finds_failure;
 use std::alloc::Global;
 use std::process::Abort;
 

@@ -1,9 +1,10 @@
 //! Sessions of `edit` whose devices fail at some call, and lines and recordings that don't fit.
 use crate::devices::{Failing, Lines, Taking, Then};
 use crate::table::{BUDGET, READ, recording, repeated};
+use lin_formats::{Counted, RunFault, Settings, Status};
 use lin_objects::Kind;
 use lin_report::Status::{IllFormed, Yes};
-use lin_report::{Counted, RunFault, Settings, Status, run};
+use lin_report::run;
 use std::io::Read;
 use std::process::Abort;
 

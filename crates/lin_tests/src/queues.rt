@@ -2,7 +2,7 @@
 use crate::compressed::told;
 use crate::drawn::{Draw, failing, is_found};
 use crate::events::{fail, info, invoke, ok};
-use lin_history::{Call, Event, Name, Reply, Val};
+use lin_events::{Call, Event, Name, Reply, Val};
 use lin_objects::Kind;
 use std::alloc::Global;
 use std::process::Abort;

@@ -1,9 +1,10 @@
 //! Refutations of histories of one register, in short forms, and what the check says of them.
 use crate::table::recording;
-use lin_history::{Event, Follow, Reply};
+use lin_events::{Event, Reply};
+use lin_formats::read_order;
+use lin_history::Follow;
 use lin_objects::{Kind, State};
 use lin_order::{RefConfig, Refutation, check_refutation};
-use lin_report::read_order;
 use std::process::Abort;
 
 /// What is placed: `PROCESS=REPLY`, with spaces between two, or `empty`.

@@ -1,6 +1,6 @@
 //! Refutations of objects, and what is answered where there is none.
 use crate::sessions::{judged, make, read, registers, saw, told, write, wrote};
-use lin_history::{Body, Event, Name, Val};
+use lin_events::{Body, Event, Name, Val};
 use lin_objects::Kind;
 use lin_order::check_refutation;
 use lin_session::{Answer, Edit, RefuteFault, Refuted, Scope, Session, Verdict};

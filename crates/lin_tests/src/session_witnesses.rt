@@ -2,9 +2,9 @@
 use crate::sessions::{
     answers, asked, invoke, judges, objects, ok, put, read, registers, saw, write, wrote,
 };
-use lin_history::{Call, Event, IntSet, Name, Reply, Val};
+use lin_events::{Call, Event, IntSet, Name, Reply, Val};
 use lin_objects::{Kind, Kinds};
-use lin_order::check_order;
+use lin_orders::check_order;
 use lin_session::{Answer, Scope, Session, Verdict};
 use std::alloc::Global;
 use std::process::Abort;

@@ -3,7 +3,7 @@ use crate::sessions::{
     asked, invoke, judged, judges, make, objects, ok, put, read, registers, saw, stale_read, told,
     write, wrote,
 };
-use lin_history::{Body, Call, Event, IntSet, Name, Reply, Val};
+use lin_events::{Body, Call, Event, IntSet, Name, Reply, Val};
 use lin_objects::Kind;
 use lin_session::{Edit, Scope, Session, Verdict};
 use std::alloc::Global;

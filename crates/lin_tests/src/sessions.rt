@@ -1,7 +1,7 @@
 //! Worked histories, edited and asked about in turn.
-use lin_history::{Body, Call, Cause, Event, Name, OutOfMemory, Reply, Val};
+use lin_events::{Body, Call, Cause, Event, Name, OutOfMemory, Reply, Val};
 use lin_objects::{Kind, Kinds};
-use lin_order::{Placed, check_order};
+use lin_orders::{Placed, check_order};
 use lin_session::{Answer, Edit, EditFault, Scope, Session, Verdict};
 use std::alloc::Global;
 use std::process::Abort;

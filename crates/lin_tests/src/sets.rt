@@ -2,7 +2,7 @@
 use crate::compressed::told;
 use crate::drawn::{Draw, failing, is_found};
 use crate::events::{fail, info, invoke, ok};
-use lin_history::{Call, Event, IntSet, Name, Reply};
+use lin_events::{Call, Event, IntSet, Name, Reply};
 use lin_objects::Kind;
 use std::alloc::Global;
 use std::process::Abort;

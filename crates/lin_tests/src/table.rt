@@ -1,8 +1,9 @@
 //! Tables of examples: a recording, and what `verify` or `check` has to print of it.
 ghost use Rattle.std.specs.Prelude.{◌≤◌};
 
+use lin_formats::{Counted, Settings, Status, verify};
 use lin_objects::Kind;
-use lin_report::{Counted, Settings, Status, check, verify};
+use lin_report::check;
 use std::alloc::AllocError;
 use std::process::Abort;
 

@@ -1,9 +1,9 @@
 //! Legal orders of registers with many clients, found though they have too many configurations to be kept.
 use crate::drawn::{Draw, is_found};
 use crate::events::{fail, info, invoke, ok, write};
-use lin_chain::finds_order;
-use lin_history::{Call, Event, Name, Reply, Val};
+use lin_events::{Call, Event, Name, Reply, Val};
 use lin_objects::Kind;
+use lin_search::finds_order;
 use std::alloc::Global;
 use std::process::Abort;
 

@@ -4,24 +4,24 @@ use Rattle.std.proofs.lemmas.Bool.{cases_lt}
 use Rattle.std.proofs.lemmas.Bool.Decides.{Decides-eqb}
 use Rattle.std.proofs.lemmas.List.{take-take, take_all, length-take, length-take-le}
 use Rattle.std.proofs.lemmas.Option.{slice_get_within}
-use Rattle.lin_history.specs.declared.calls.Name.{Name}
-use Rattle.lin_history.specs.declared.events.Event.{Event}
-use Rattle.lin_history.specs.declared.meter.Meter.{Meter}
-use Rattle.lin_history.specs.Meters.{ticked}
-use Rattle.lin_history.specs.Operations.{IsEvent}
-use Rattle.lin_history.specs.WellFormedLaws.{BadWithinBeginnings, EventsDecideStatuses, NoCauseIsGood, OtherStatusesStay, SameFunctionsSameShape}
+use Rattle.lin_events.specs.declared.calls.Name.{Name}
+use Rattle.lin_events.specs.declared.events.Event.{Event}
+use Rattle.lin_events.specs.declared.meter.Meter.{Meter}
+use Rattle.lin_events.specs.Meters.{ticked}
+use Rattle.lin_events.specs.Operations.{IsEvent}
+use Rattle.lin_events.specs.WellFormedLaws.{BadWithinBeginnings, EventsDecideStatuses, NoCauseIsGood, OtherStatusesStay, SameFunctionsSameShape}
 use Rattle.lin_objects.specs.declared.kinds.Kind.{Kind}
 use Rattle.lin_objects.specs.Kinds.{functions_of}
 use Rattle.lin_objects.specs.Steps.{allows}
 use Rattle.lin_wellformed.specs.declared.scan.Scan.{Scan}
-use Rattle.lin_history.specs.declared.shapes.Cause.{Cause}
-use Rattle.lin_history.specs.declared.shapes.Shape.{Shape}
-use Rattle.lin_history.specs.declared.shapes.Shape.TheVariants.{Good, Bad}
-use Rattle.lin_history.specs.declared.shapes.Status.{Status}
+use Rattle.lin_events.specs.declared.shapes.Cause.{Cause}
+use Rattle.lin_events.specs.declared.shapes.Shape.{Shape}
+use Rattle.lin_events.specs.declared.shapes.Shape.TheVariants.{Good, Bad}
+use Rattle.lin_events.specs.declared.shapes.Status.{Status}
 use Rattle.lin_wellformed.specs.Scans.{ready_count, IsRight, AgreeBefore, looked_at, good_count}
 use Rattle.lin_wellformed.specs.Tables.{Statuses, count_in, status_at}
-use Rattle.lin_history.specs.WellFormed.{left_by, IsStatus, Holds, IsFirstCause, IsBad, IsShape}
-use Rattle.lin_history.proofs.Lists.{get_taken, take_next}
+use Rattle.lin_events.specs.WellFormed.{left_by, IsStatus, Holds, IsFirstCause, IsBad, IsShape}
+use Rattle.lin_lists.specs.lemmas.Lists.{get_taken, take_next}
 
 -- where the loop ends: all events are taken in, or one is bad
 abbrev pub IsOver : List Event → Scan → Type 0

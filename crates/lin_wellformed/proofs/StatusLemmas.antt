@@ -1,10 +1,10 @@
 -- What a look back for the last event of a process finds.
 use Rattle.std.proofs.Common.{◌≡◌, ℕ, ◌<◌, ◌≤◌, List, inl, inr, ap, ◌∙◌, arith, sym, slice_get, Some}
 use Rattle.std.proofs.lemmas.Bool.{cases_lt}
-use Rattle.lin_history.specs.declared.events.Event.{Event}
-use Rattle.lin_history.specs.Operations.{IsEvent, IsOf}
-use Rattle.lin_history.specs.declared.shapes.Status.{Status}
-use Rattle.lin_history.specs.WellFormed.{left_by, IsStatus}
+use Rattle.lin_events.specs.declared.events.Event.{Event}
+use Rattle.lin_events.specs.Operations.{IsEvent, IsOf}
+use Rattle.lin_events.specs.declared.shapes.Status.{Status}
+use Rattle.lin_events.specs.WellFormed.{left_by, IsStatus}
 
 -- what stands at one position is one
 one_event : (h : List Event) (k : ℕ) (a b : Event) → IsEvent h k a → IsEvent h k b → a ≡ b

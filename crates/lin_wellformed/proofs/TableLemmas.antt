@@ -3,8 +3,8 @@ use Rattle.std.proofs.Common.{◌≡◌, ℕ, ◌≤◌, Bool, true, false, List
 use Rattle.std.proofs.lemmas.Bool.Decides.{Decides-eqb}
 use Rattle.std.proofs.lemmas.List.{drop-append-le}
 use Rattle.std.specs.Map.{lookup}
-use Rattle.lin_history.specs.declared.shapes.Status.{Status}
-use Rattle.lin_history.specs.declared.shapes.Status.TheVariants.{Idle}
+use Rattle.lin_events.specs.declared.shapes.Status.{Status}
+use Rattle.lin_events.specs.declared.shapes.Status.TheVariants.{Idle}
 use Rattle.lin_wellformed.specs.declared.tables.Change.{Change}
 use Rattle.lin_wellformed.specs.Tables.{status_in, status_before}
 

@@ -1,14 +1,14 @@
 -- What a scan knows of a history: its first events, as many as the scan took in.
 use Rattle.std.specs.Prelude.{◌≡◌, ◌+◌, ◌<◌, ◌≤◌, ℕ, ℤ, List, length, take}
-use Rattle.lin_history.specs.declared.events.Event.{Event}
-use Rattle.lin_history.specs.Operations.{IsEvent}
+use Rattle.lin_events.specs.declared.events.Event.{Event}
+use Rattle.lin_events.specs.Operations.{IsEvent}
 use Rattle.lin_objects.specs.declared.kinds.Kind.{Kind}
 use Rattle.lin_objects.specs.Kinds.{functions_of}
 use Rattle.lin_wellformed.specs.declared.scan.Scan.{Scan}
-use Rattle.lin_history.specs.declared.shapes.Shape.{Shape}
-use Rattle.lin_history.specs.declared.shapes.Shape.TheVariants.{Good, Bad}
+use Rattle.lin_events.specs.declared.shapes.Shape.{Shape}
+use Rattle.lin_events.specs.declared.shapes.Shape.TheVariants.{Good, Bad}
 use Rattle.lin_wellformed.specs.Tables.{count_in, status_at}
-use Rattle.lin_history.specs.WellFormed.{IsShape, IsStatus}
+use Rattle.lin_events.specs.WellFormed.{IsShape, IsStatus}
 
 -- how many events the scan took in
 abbrev pub ready_count : Scan → ℕ

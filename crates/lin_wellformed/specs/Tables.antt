@@ -1,8 +1,8 @@
 -- What processes are after some events, and what each of these events changed: enough to tell what they were after fewer.
 use Rattle.std.specs.Prelude.{◌≡◌, ℕ, List, [], ◌∷◌, Some, length, drop, unwrap_or, slice_get, nat_eq, if◌then◌else◌, IsSome}
 use Rattle.std.specs.Map.{lookup}
-use Rattle.lin_history.specs.declared.shapes.Status.{Status}
-use Rattle.lin_history.specs.declared.shapes.Status.TheVariants.{Idle}
+use Rattle.lin_events.specs.declared.shapes.Status.{Status}
+use Rattle.lin_events.specs.declared.shapes.Status.TheVariants.{Idle}
 use Rattle.lin_wellformed.specs.declared.tables.Change.{Change}
 
 -- processes with what they are, as pairs; and for each event in turn, its process and what that was before

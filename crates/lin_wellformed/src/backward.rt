@@ -1,9 +1,9 @@
 //! Well-formedness by looking back from each event.
-ghost use Rattle.lin_history.specs.WellFormed.{IsShape};
+ghost use Rattle.lin_events.specs.WellFormed.{IsShape};
 ghost use Rattle.lin_objects.specs.Kinds.{kind_of, functions_of};
 
 use crate::statuses::{first_cause, status_at_end};
-use lin_history::{Event, Shape, bad_positions};
+use lin_events::{Event, Shape, bad_positions};
 use lin_objects::Kinds;
 
 /// Whether the history is well-formed for the kinds of its keys.

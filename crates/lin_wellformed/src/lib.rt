@@ -9,5 +9,5 @@ mod tables;
 mod tests;
 
 pub use backward::look_back;
-pub use lin_history::{Cause, Shape};
+pub use lin_events::{Cause, Shape};
 pub use scan::Scan;

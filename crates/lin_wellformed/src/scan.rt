@@ -1,16 +1,16 @@
 //! Well-formedness, kept up to date with a history that grows and is edited.
 ghost use Rattle.std.specs.Prelude.{◌≡◌, ◌+◌, ◌-◌, ◌/◌, ◌<◌, ◌≤◌, min, ℤ, List, length, IfOk, OnOk, OnErr, IsOk};
-ghost use Rattle.lin_history.specs.declared.events.Event.{Event as EventOf};
-ghost use Rattle.lin_history.specs.Meters.{ticked};
-ghost use Rattle.lin_history.specs.Operations.{IsEvent};
-ghost use Rattle.lin_history.specs.WellFormed.{IsShape};
+ghost use Rattle.lin_events.specs.declared.events.Event.{Event as EventOf};
+ghost use Rattle.lin_events.specs.Meters.{ticked};
+ghost use Rattle.lin_events.specs.Operations.{IsEvent};
+ghost use Rattle.lin_events.specs.WellFormed.{IsShape};
 ghost use Rattle.lin_objects.specs.declared.kinds.Kind.{Kind as KindOf};
 ghost use Rattle.lin_objects.specs.Kinds.{kind_of, functions_of};
 ghost use Rattle.lin_wellformed.specs.Scans.{ready_count, IsRight, AgreeBefore, looked_at};
 
 use crate::statuses::first_cause;
 use crate::tables::Table;
-use lin_history::{Event, Meter, OutOfMemory, Shape, bad_positions, statuses_after_events};
+use lin_events::{Event, Meter, OutOfMemory, Shape, bad_positions, statuses_after_events};
 use lin_objects::Kinds;
 use std::alloc::Global;
 

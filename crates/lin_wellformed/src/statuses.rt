@@ -1,12 +1,12 @@
 //! What processes are between their events, and which events are bad for them.
 ghost use Rattle.std.specs.Prelude.{◌≡◌, ℤ, Bool};
-ghost use Rattle.lin_history.specs.declared.events.Body.TheVariants.{Invoke};
-ghost use Rattle.lin_history.specs.declared.events.Event.{Event as EventOf};
-ghost use Rattle.lin_history.specs.declared.calls.Name.{Name as NameOf};
-ghost use Rattle.lin_history.specs.WellFormed.{left_by, IsStatus, Completes, IsVerdict};
+ghost use Rattle.lin_events.specs.declared.events.Body.TheVariants.{Invoke};
+ghost use Rattle.lin_events.specs.declared.events.Event.{Event as EventOf};
+ghost use Rattle.lin_events.specs.declared.calls.Name.{Name as NameOf};
+ghost use Rattle.lin_events.specs.WellFormed.{left_by, IsStatus, Completes, IsVerdict};
 ghost use Rattle.lin_objects.specs.Kinds.{kind_of, functions_of};
 
-use lin_history::{Body, Call, Cause, Event, Name, Status};
+use lin_events::{Body, Call, Cause, Event, Name, Status};
 use lin_objects::{Any, Kinds, SeqObject};
 
 /// What the event leaves its process as.

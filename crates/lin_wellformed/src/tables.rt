@@ -1,10 +1,10 @@
 //! What each process is, looked up in near-constant time, and taken back event by event.
 ghost use Rattle.std.specs.Prelude.{◌≡◌, ◌+◌, ◌<◌, ◌≤◌, min, ℕ, IfOk, OnOk, OnErr, nat_eq, if◌then◌else◌};
-ghost use Rattle.lin_history.specs.WellFormed.{left_by};
+ghost use Rattle.lin_events.specs.WellFormed.{left_by};
 ghost use Rattle.lin_wellformed.specs.Tables.{count_in, status_at};
 
 use crate::statuses::status_after;
-use lin_history::{Event, OutOfMemory, Status};
+use lin_events::{Event, OutOfMemory, Status};
 use std::alloc::Global;
 use std::collections::HashMap;
 use std::marker::Model;

@@ -3,7 +3,7 @@ ghost use Rattle.lin_objects.specs.Kinds.{kind_of};
 ghost use Rattle.lin_wellformed.specs.Scans.{IsRight};
 
 use crate::{Cause, Scan, Shape, look_back};
-use lin_history::{Body, Call, Event, Meter, Name, Reply, Val};
+use lin_events::{Body, Call, Event, Meter, Name, Reply, Val};
 use lin_objects::{Kind, Kinds};
 use std::alloc::Global;
 use std::process::Abort;

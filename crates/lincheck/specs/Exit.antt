@@ -6,12 +6,12 @@ use Rattle.clap.specs.declared.error.kind.ErrorKind.{ErrorKind}
 use Rattle.clap.specs.declared.error.kind.ErrorKind.TheVariants as kind
 use Rattle.lin_report.specs.Reports.{IsCheckRun}
 use Rattle.lin_report.specs.Runs.{IsRunOf as IsEditRun}
-use Rattle.lin_report.specs.Verdicts.{IsVerifyRun}
-use Rattle.lin_report.specs.declared.answers.Status.{Status}
-use Rattle.lin_report.specs.declared.answers.Status.TheVariants.{Yes, No, Undecided, IllFormed, Refused}
-use Rattle.lin_report.specs.declared.faults.RunFault.{RunFault}
-use Rattle.lin_report.specs.declared.faults.RunFault.TheVariants.{ReadFailed, WriteFailed, OutOfMemory, TooMuch}
-use Rattle.lin_report.specs.declared.runs.Settings.{Settings}
+use Rattle.lin_formats.specs.Verdicts.{IsVerifyRun}
+use Rattle.lin_formats.specs.declared.answers.Status.{Status}
+use Rattle.lin_formats.specs.declared.answers.Status.TheVariants.{Yes, No, Undecided, IllFormed, Refused}
+use Rattle.lin_formats.specs.declared.faults.RunFault.{RunFault}
+use Rattle.lin_formats.specs.declared.faults.RunFault.TheVariants.{ReadFailed, WriteFailed, OutOfMemory, TooMuch}
+use Rattle.lin_formats.specs.declared.runs.Settings.{Settings}
 use Rattle.lincheck.specs.declared.endings.Ending.{Ending}
 use Rattle.lincheck.specs.declared.system.Message.{Message}
 use Rattle.lincheck.specs.declared.system.Message.TheVariants.{NotOpened, Fault, OutOfMemory as NoMemory, NoText}

@@ -10,7 +10,7 @@ use Rattle.clap.specs.declared.error.Error.{Error}
 use Rattle.clap.specs.declared.error.kind.ErrorKind.TheVariants.{OutOfMemory}
 use Rattle.lin_objects.specs.declared.kinds.Kind.{Kind}
 use Rattle.lin_objects.specs.declared.kinds.Kind.TheVariants.{Register, CasRegister, Fifo, Set as SetKind, Mutex}
-use Rattle.lin_report.specs.declared.runs.Settings.{Settings}
+use Rattle.lin_formats.specs.declared.runs.Settings.{Settings}
 use Rattle.lincheck.specs.Exit.{Ends, SystemWords, refusal_status}
 use Rattle.lincheck.specs.declared.system.Message.{Message}
 use Rattle.lincheck.specs.declared.system.Message.TheVariants.{Refusal, OutOfMemory as NoMemory}

@@ -10,8 +10,8 @@ ghost use Rattle.lincheck.specs.Program.{budget_rule, check_app, edit_app, file_
 use crate::words::Line;
 use clap::builder::ValueParser;
 use clap::{Arg, ArgAction, ArgMatches, Command};
+use lin_formats::Settings;
 use lin_objects::Kind;
-use lin_report::Settings;
 use std::alloc::{AllocError, Global};
 
 const KINDS: [&str; 5] = ["register", "cas-register", "fifo", "set", "mutex"];

@@ -1,13 +1,14 @@
 //! Runs of the program on an opened file, and the exit statuses with which they end.
 ghost use Rattle.std.specs.Prelude.{◌≡◌, ◌<◌, if◌then◌else◌};
 ghost use Rattle.clap.specs.Words.{kind_of};
-ghost use Rattle.lin_report.specs.Devices.{device_of, failures_of};
+ghost use Rattle.lin_formats.specs.Devices.{device_of, failures_of};
 ghost use Rattle.lincheck.specs.Exit.{exit_status, refusal_status, IsEndingOf, IsRunnable};
 
 use crate::words::Line;
 use clap::Error;
 use clap::error::ErrorKind;
-use lin_report::{Counted, RunFault, Status, check, run as edit, verify};
+use lin_formats::{Counted, RunFault, Status, verify};
+use lin_report::{check, run as edit};
 use std::alloc::Global;
 use std::io::{Read, Write};
 

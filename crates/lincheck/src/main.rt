@@ -15,7 +15,7 @@ use clap::Error;
 use clap::error::ErrorKind;
 pub use endings::{Ending, exit_of, exit_of_refusal, run};
 use endings::{FAILED, LINE_REFUSED};
-use lin_report::Counted;
+use lin_formats::Counted;
 use std::alloc::{AllocError, Global};
 use std::io::Read;
 use std::process::ExitCode;

@@ -3,7 +3,7 @@ ghost use Rattle.std.specs.Prelude.{IfSome, IfNone};
 ghost use Rattle.lincheck.specs.Exit.{SystemWords};
 
 use clap::Error;
-use lin_report::RunFault;
+use lin_formats::RunFault;
 use std::fs::File;
 use std::io;
 use std::io::{Printer, Read, Stdin, Write};

@@ -2,8 +2,8 @@
 use crate::{
     Ending, Line, Message, System, end_without_words, exit_of_refusal, line, run, run_words,
 };
+use lin_formats::{Counted, Settings};
 use lin_objects::Kind;
-use lin_report::{Counted, Settings};
 use std::alloc::Global;
 use std::io;
 use std::test::Fail;

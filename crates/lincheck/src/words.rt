@@ -2,7 +2,7 @@
 ghost use Rattle.std.specs.Prelude.{◌≡◌, option_map};
 ghost use Rattle.lincheck.specs.Exit.{file_of};
 
-use lin_report::Settings;
+use lin_formats::Settings;
 
 /// A command line that is understood.
 #[derive(Drop)]

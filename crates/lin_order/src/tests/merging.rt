@@ -1,7 +1,7 @@
 use super::{answer, done, int, invoke, ok, value, write};
-use crate::{Placed, merge};
-use lin_history::{Call, Name, OutOfMemory};
+use lin_events::{Call, Name, OutOfMemory};
 use lin_objects::Kind;
+use lin_orders::{Placed, merge};
 use std::alloc::Global;
 use std::test::Fail;
 

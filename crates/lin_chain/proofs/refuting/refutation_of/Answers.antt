@@ -1,12 +1,12 @@
 use Rattle.std.proofs.Common.{◌≡◌, ◌+◌, Option, Result, Ok, Some, arith, refl, sym, subst, take, ap, ◌∙◌}
-use Rattle.lin_history.specs.declared.numbers.OutOfMemory.{OutOfMemory}
-use Rattle.lin_history.specs.Operations.{IsEvent}
+use Rattle.lin_events.specs.declared.numbers.OutOfMemory.{OutOfMemory}
+use Rattle.lin_events.specs.Operations.{IsEvent}
 use Rattle.lin_objects.specs.Steps.{Step, start}
-use Rattle.lin_order.specs.Parts.{events_at}
+use Rattle.lin_orders.specs.Parts.{events_at}
 use Rattle.lin_order.specs.Refutations.{IsRefutation, sets_of}
 use Rattle.lin_order.specs.declared.refutations.Refutation.{Refutation}
 use Rattle.lin_frontier.specs.Frontiers.{IsOver}
-use Rattle.lin_chain.specs.Replays.{IsLinearizableAs}
+use Rattle.lin_orders.specs.Linearizable.{IsLinearizableAs}
 use Rattle.lin_chain.proofs.Chaining.{event_there, length-events_at}
 use Rattle.lin_chain.proofs.ExactSets.{AreAll, sets_refute, take_within}
 use Rattle.lin_chain.proofs.refuting.refutation_of.Goals as goal

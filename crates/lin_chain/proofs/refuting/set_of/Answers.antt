@@ -1,7 +1,7 @@
 use Rattle.std.proofs.Common.{◌≡◌, ℕ, Some, ◌∷◌, ◌++◌, [], option_map, slice_get, take, sym, ap, ◌∙◌, add-one}
 use Rattle.std.specs.Map.{keys_of}
 use Rattle.std.proofs.lemmas.Option.{slice_get-map}
-use Rattle.lin_history.proofs.Lists.{take_next}
+use Rattle.lin_lists.specs.lemmas.Lists.{take_next}
 use Rattle.lin_order.specs.Refutations.{Config}
 use Rattle.lin_chain.proofs.refuting.set_of.Goals as goal
 

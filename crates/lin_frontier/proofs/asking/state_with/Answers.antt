@@ -1,6 +1,6 @@
 use Rattle.std.proofs.Common.{sym, ◌∙◌, true≢false}
 use Rattle.std.proofs.lemmas.List.Elements.{Contains-get_or}
-use Rattle.lin_history.specs.Replies.{reply_Decides}
+use Rattle.lin_events.specs.Replies.{reply_Decides}
 use Rattle.lin_frontier.proofs.Visiting.{sifting_skip, sifting_hit, sifting_end}
 use Rattle.lin_frontier.proofs.asking.state_with.Goals as goal
 

@@ -1,6 +1,6 @@
 use Rattle.std.proofs.Common.{ap, sym, ◌∙◌}
-use Rattle.lin_history.specs.declared.calls.Reply.{Reply}
-use Rattle.lin_history.specs.Replies.{reply_Decides}
+use Rattle.lin_events.specs.declared.calls.Reply.{Reply}
+use Rattle.lin_events.specs.Replies.{reply_Decides}
 use Rattle.std.specs.Prelude.{ℕ}
 use Rattle.lin_frontier.proofs.configs.is_pair.Goals as goal
 

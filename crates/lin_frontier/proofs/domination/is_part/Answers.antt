@@ -1,5 +1,5 @@
 use Rattle.std.proofs.Common.{ℕ, Contains, refl, sym, ◌∙◌, true≢false}
-use Rattle.lin_history.specs.declared.calls.Reply.{Reply}
+use Rattle.lin_events.specs.declared.calls.Reply.{Reply}
 use Rattle.lin_frontier.proofs.Each.{all_more, not_all, all_end}
 use Rattle.lin_frontier.proofs.domination.is_part.Goals as goal
 

@@ -1,5 +1,5 @@
 use Rattle.std.proofs.Common.{ℕ, ◌≡◌, true, sym, ◌∙◌, true≢false}
-use Rattle.lin_history.specs.declared.calls.Reply.{Reply}
+use Rattle.lin_events.specs.declared.calls.Reply.{Reply}
 use Rattle.lin_frontier.specs.Members.{IsOnOffer}
 use Rattle.lin_frontier.specs.Placing.{IsAbsent}
 use Rattle.lin_frontier.specs.Searching.{is_watching}

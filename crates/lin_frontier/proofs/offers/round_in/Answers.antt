@@ -1,6 +1,6 @@
 use Rattle.std.proofs.Common.{◌≡◌, ℕ, refl}
 use Rattle.std.proofs.lemmas.List.Elements.{All-contains}
-use Rattle.lin_history.specs.declared.calls.Reply.{Reply}
+use Rattle.lin_events.specs.declared.calls.Reply.{Reply}
 use Rattle.lin_frontier.proofs.Each.{all_end}
 use Rattle.lin_frontier.proofs.offers.round_in.Goals as goal
 

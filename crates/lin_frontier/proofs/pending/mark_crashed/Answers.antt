@@ -1,5 +1,5 @@
 use Rattle.std.proofs.Common.{length, false, List, get_or, set, ap, ◌∙◌, arith, map}
-use Rattle.lin_history.specs.declared.calls.Call.TheVariants.{Read}
+use Rattle.lin_events.specs.declared.calls.Call.TheVariants.{Read}
 use Rattle.lin_frontier.specs.declared.pending.Open.{Open}
 use Rattle.lin_frontier.specs.Placing.{marked}
 use Rattle.lin_frontier.proofs.Marking.{partly_get, partly_set, partly_all, written_back}

@@ -1,5 +1,5 @@
 use Rattle.std.proofs.Common.{◌++◌, ◌∷◌, [], List, sym, ap, ◌∙◌}
-use Rattle.lin_order.specs.declared.placed.Placed.{Placed}
+use Rattle.lin_orders.specs.declared.placed.Placed.{Placed}
 use Rattle.lin_frontier.specs.Rounds.{ahead}
 use Rattle.lin_frontier.proofs.Aheads.{ahead_last}
 use Rattle.lin_frontier.proofs.rounds.insert.Goals as goal

@@ -1,6 +1,6 @@
 use Rattle.std.proofs.Common.{◌++◌, List, sym, ap, ◌∙◌, take, get_or}
 use Rattle.std.proofs.lemmas.List.{take_more}
-use Rattle.lin_order.specs.declared.placed.Placed.{Placed}
+use Rattle.lin_orders.specs.declared.placed.Placed.{Placed}
 use Rattle.lin_frontier.specs.Rounds.{joined}
 use Rattle.lin_frontier.proofs.Joining.{joined_push}
 use Rattle.lin_frontier.proofs.rounds.joined.Goals as goal

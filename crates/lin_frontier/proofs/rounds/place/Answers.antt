@@ -1,6 +1,6 @@
 use Rattle.std.proofs.Common.{◌≡◌, ◌∙◌, ◌++◌, ◌∷◌, [], List, set, sym, ap}
 use Rattle.std.proofs.lemmas.Result.{on_ok_weaker}
-use Rattle.lin_order.specs.declared.placed.Placed.{Placed}
+use Rattle.lin_orders.specs.declared.placed.Placed.{Placed}
 use Rattle.lin_frontier.proofs.Aheads.{place_put}
 use Rattle.lin_frontier.proofs.InRounds.{put_set}
 use Rattle.lin_frontier.proofs.rounds.place.Goals as goal

@@ -3,7 +3,7 @@ use Rattle.lin_edn.specs.Value.{values_of}
 use Rattle.lin_edn.specs.View.{view}
 use Rattle.lin_history.specs.Stream.{told_by}
 use Rattle.lin_history.proofs.Telling.{behind_told}
-use Rattle.lin_history.specs.declared.events.Event.{Event}
+use Rattle.lin_events.specs.declared.events.Event.{Event}
 use Rattle.lin_history.proofs.follow.tell_all.Given as goal
 
 abbrev pub invariant-loop-item : goal.invariant-loop-item

@@ -1,5 +1,5 @@
 use Rattle.std.proofs.Common.{◌≡◌, take, filter}
-use Rattle.lin_order.proofs.Members.{begins_other}
+use Rattle.lin_lists.specs.lemmas.Elements.{begins_other}
 use Rattle.lin_order.proofs.ref_configs.without_pair.Given as goal
 
 abbrev pub invariant-loop-pair : goal.invariant-loop-pair

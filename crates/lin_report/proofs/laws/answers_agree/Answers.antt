@@ -1,4 +1,4 @@
-use Rattle.lin_report.proofs.Alone.{no_tells_one_prefix, yes_excludes_no}
+use Rattle.lin_report.proofs.Agreeing.{no_tells_one_prefix, yes_excludes_no}
 use Rattle.lin_report.proofs.laws.answers_agree.Goals as goal
 
 pub returns-clause-yes : goal.returns-clause-yes

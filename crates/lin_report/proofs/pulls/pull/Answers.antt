@@ -2,7 +2,7 @@ use Rattle.std.proofs.Common.{◌++◌, [], List, ℕ, Err, None, Some, take, in
 use Rattle.std.proofs.lemmas.List.{length-take-le}
 use Rattle.std.proofs.KnownBytes.{Consumes-nil, Consumes-trans}
 use Rattle.lin_report.proofs.Pulling.{goes_on, not_none, pull_ends, pulled_more, pulled_none, pulled_piece}
-use Rattle.lin_report.proofs.Reading.{consumed_end, longer}
+use Rattle.lin_formats.specs.lemmas.Reading.{consumed_end, longer}
 use Rattle.lin_report.proofs.pulls.pull.Goals as goal
 
 pub pieces-init : goal.pieces-init

@@ -1,7 +1,7 @@
 use Rattle.std.proofs.Common.{◌≡◌, ◌≤◌, Bool, ℕ, List, length}
 use Rattle.std.specs.Io.KnownBytes.{Consumes}
-use Rattle.lin_history.specs.declared.events.Event.{Event}
-use Rattle.lin_report.specs.Devices.{device_of, failures_of}
+use Rattle.lin_events.specs.declared.events.Event.{Event}
+use Rattle.lin_formats.specs.Devices.{device_of, failures_of}
 use Rattle.lin_report.specs.Pulls.{StandsAt}
 use Rattle.lin_report.specs.Runs.{IsReadOn, RunState}
 use Rattle.lin_report.proofs.Pulling.{HasPulled}

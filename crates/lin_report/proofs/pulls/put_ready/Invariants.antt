@@ -1,6 +1,6 @@
 use Rattle.std.proofs.Common.{List, length, ◌-◌}
-use Rattle.lin_history.specs.declared.events.Event.{Event}
-use Rattle.lin_report.specs.Inputs.{limit}
+use Rattle.lin_events.specs.declared.events.Event.{Event}
+use Rattle.lin_formats.specs.Inputs.{limit}
 use Rattle.lin_report.specs.Pulls.{Enters}
 use Rattle.lin_report.proofs.pulls.put_ready.Given as goal
 

@@ -1,7 +1,7 @@
 use Rattle.std.proofs.Common.{◌≡◌, ap, inl, refl, subst, take, ◌∙◌, to_z, of_z, w64}
 use Rattle.std.proofs.lemmas.Int.{to_z-of_z}
 use Rattle.lin_objects.specs.Kinds.{kind_of}
-use Rattle.lin_order.specs.Parts.{part}
+use Rattle.lin_orders.specs.Parts.{part}
 use Rattle.lin_order.specs.Refutations.{IsRefutation, sets_of}
 use Rattle.lin_session.specs.Refuting.{Refutes}
 use Rattle.lin_report.proofs.Refuted.{refuted_no}

@@ -1,13 +1,13 @@
 use Rattle.std.proofs.Common.{◌≡◌, ◌<◌, ◌≤◌, ◌-◌, ◌+◌, List, length, take, sym, ap, subst, ◌∙◌, arith, if◌then◌else◌}
 use Rattle.std.proofs.lemmas.List.{length-take, length-take-le, take-take}
-use Rattle.lin_order.specs.Orders.{is_of_key}
+use Rattle.lin_orders.specs.Orders.{is_of_key}
 use Rattle.lin_session.specs.Objects.{marks_in}
 use Rattle.std.proofs.Common.{inl, inr, nat_lt}
 use Rattle.std.proofs.lemmas.Bool.{cases_lt}
 use Rattle.std.proofs.lemmas.List.{take_all}
-use Rattle.lin_order.specs.Parts.{part}
+use Rattle.lin_orders.specs.Parts.{part}
 use Rattle.lin_session.specs.Work.{rounded, touched, touched_at, truncated}
-use Rattle.lin_session.proofs.Lists.{element_at}
+use Rattle.lin_lists.specs.lemmas.Taken.{element_at}
 use Rattle.lin_session.proofs.Touching.{truncated_next}
 use Rattle.lin_session.proofs.session.cut_back.Goals as goal
 

@@ -4,7 +4,7 @@ use Rattle.std.proofs.lemmas.Int.{to_z-of_z}
 use Rattle.std.proofs.lemmas.List.{take_all, take_more}
 use Rattle.indexmap.specs.IndexSet.{insert_key}
 use Rattle.lin_session.proofs.Keys.{AreKeysIn, AreKeysIn-inserted, AreKeysIn-passed}
-use Rattle.lin_session.proofs.Lists.{Contains-slice_get}
+use Rattle.lin_lists.specs.lemmas.Taken.{Contains-slice_get}
 use Rattle.lin_session.proofs.session.keys_of.Goals as goal
 use Rattle.lin_session.proofs.session.keys_of.Goals.{in-Some, in_default+in_ok-insert-in_default}
 

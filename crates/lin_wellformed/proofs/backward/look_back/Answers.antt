@@ -1,7 +1,7 @@
 use Rattle.std.proofs.Common.{◌≡◌, length, inl, inr, refl, subst, arith}
 use Rattle.std.proofs.lemmas.Bool.{cases_lt}
 use Rattle.std.proofs.lemmas.Option.{slice_get_read, slice_get_within}
-use Rattle.lin_history.specs.WellFormed.{IsBad}
+use Rattle.lin_events.specs.WellFormed.{IsBad}
 use Rattle.lin_objects.specs.Kinds.{kind_of, functions_of}
 use Rattle.lin_wellformed.proofs.backward.look_back.Goals as goal
 

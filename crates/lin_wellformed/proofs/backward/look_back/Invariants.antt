@@ -1,6 +1,6 @@
 use Rattle.std.proofs.Common.{ℕ, ◌<◌}
-use Rattle.lin_history.specs.WellFormed.{IsBad}
-use Rattle.lin_history.specs.declared.shapes.Cause.{Cause}
+use Rattle.lin_events.specs.WellFormed.{IsBad}
+use Rattle.lin_events.specs.declared.shapes.Cause.{Cause}
 use Rattle.lin_objects.specs.Kinds.{kind_of, functions_of}
 use Rattle.lin_wellformed.proofs.backward.look_back.Given as goal
 

@@ -1,5 +1,5 @@
 use Rattle.std.proofs.Common.{ℕ, ◌≤◌}
-use Rattle.lin_history.specs.Operations.{IsOf}
+use Rattle.lin_events.specs.Operations.{IsOf}
 use Rattle.lin_wellformed.proofs.statuses.status_at_end.Given as goal
 
 -- none of the positions that were passed is of the process

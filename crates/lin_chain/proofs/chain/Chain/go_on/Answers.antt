@@ -1,6 +1,6 @@
 use Rattle.std.proofs.Common.{◌≡◌, ◌∙◌, arith}
 use Rattle.lin_chain.specs.declared.chain.End.TheVariants.{Alive}
-use Rattle.lin_order.specs.Parts.{events_at}
+use Rattle.lin_orders.specs.Parts.{events_at}
 use Rattle.lin_chain.specs.Chains.{IsRight, ready_count}
 use Rattle.lin_chain.proofs.Chaining.{event_there, from_fewer, length-events_at, reached_ready}
 use Rattle.lin_chain.proofs.chain.Chain.go_on.Goals as goal

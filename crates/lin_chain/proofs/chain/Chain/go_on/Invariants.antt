@@ -1,5 +1,5 @@
 use Rattle.std.proofs.Common.{◌-◌, length}
-use Rattle.lin_order.specs.Parts.{events_at}
+use Rattle.lin_orders.specs.Parts.{events_at}
 use Rattle.lin_chain.specs.Chains.{ready_count}
 use Rattle.lin_chain.proofs.Chaining.{IsGoing}
 use Rattle.lin_chain.proofs.chain.Chain.go_on.Given as goal

@@ -1,8 +1,8 @@
 use Rattle.std.proofs.Common.{◌≡◌, ◌≤◌, ◌∙◌, ℕ, true, false, Result, Ok, Err, IsOk, List, min, refl, sym, subst, arith, length}
-use Rattle.lin_history.specs.declared.numbers.OutOfMemory.{OutOfMemory}
-use Rattle.lin_history.specs.declared.events.Event.{Event}
+use Rattle.lin_events.specs.declared.numbers.OutOfMemory.{OutOfMemory}
+use Rattle.lin_events.specs.declared.events.Event.{Event}
 use Rattle.lin_objects.specs.declared.kinds.Kind.{Kind}
-use Rattle.lin_order.specs.Parts.{events_at}
+use Rattle.lin_orders.specs.Parts.{events_at}
 use Rattle.lin_chain.specs.declared.chain.Chain.{Chain}
 use Rattle.lin_chain.specs.declared.chain.End.TheVariants.{Alive, Over}
 use Rattle.lin_chain.specs.Chains.{IsRight, kind_in, ready_count, ready_under}

@@ -1,7 +1,7 @@
 use Rattle.std.proofs.Common.{◌≡◌, ◌+◌, ◌∙◌, arith, Result, Ok, sym, ap, subst, take, ◌<◌, ◌*◌, length}
 use Rattle.std.proofs.lemmas.Option.{slice_get_within}
-use Rattle.lin_history.specs.declared.numbers.OutOfMemory.{OutOfMemory}
-use Rattle.lin_history.specs.Operations.{IsEvent}
+use Rattle.lin_events.specs.declared.numbers.OutOfMemory.{OutOfMemory}
+use Rattle.lin_events.specs.Operations.{IsEvent}
 use Rattle.lin_objects.specs.Steps.{Step, start}
 use Rattle.lin_frontier.specs.Frontiers.{IsOver}
 use Rattle.lin_chain.specs.declared.chain.End.TheVariants.{Dead, Over}
@@ -9,7 +9,7 @@ use Rattle.lin_chain.specs.declared.replay.Replay.{Replay}
 use Rattle.lin_chain.specs.declared.replay.Taken.{Taken}
 use Rattle.lin_chain.specs.declared.replay.Taken.TheVariants.{Next, Empty, Over as Exceeds, OverBefore as ExceedsBefore}
 use Rattle.lin_chain.specs.Chains.{IsRight}
-use Rattle.lin_chain.specs.Replays.{IsLinearizableAs}
+use Rattle.lin_orders.specs.Linearizable.{IsLinearizableAs}
 use Rattle.lin_chain.proofs.Chaining.{right_alive, right_dead, right_over}
 use Rattle.lin_chain.proofs.chain.Chain.take_in.Goals as goal
 use Rattle.lin_chain.proofs.chain.Chain.take_in.Goals.{in-Next, in-Empty, in-Over, in-OverBefore}

@@ -1,6 +1,6 @@
 use Rattle.std.proofs.Common.{◌≡◌, Result, Ok, Err, IsOk, length, arith}
-use Rattle.lin_history.specs.declared.numbers.OutOfMemory.{OutOfMemory}
-use Rattle.lin_order.specs.Parts.{events_at}
+use Rattle.lin_events.specs.declared.numbers.OutOfMemory.{OutOfMemory}
+use Rattle.lin_orders.specs.Parts.{events_at}
 use Rattle.lin_chain.proofs.Chaining.{length-events_at}
 use Rattle.lin_chain.proofs.chain.Chain.take_some.Goals as goal
 

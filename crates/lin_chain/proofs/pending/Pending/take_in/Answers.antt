@@ -1,12 +1,12 @@
-use Rattle.lin_order.specs.ConfigurationLaws.{with_event}
+use Rattle.lin_orders.specs.ConfigurationLaws.{with_event}
 use Rattle.lin_frontier.specs.Frontiers.{IsPending}
 use Rattle.std.proofs.Common.{◌≡◌, ◌⊎◌, false, true, refl, sym, ap, ◌∙◌, subst, arith, take, inl, inr}
 use Rattle.std.proofs.lemmas.Option.{slice_get_within}
-use Rattle.lin_history.specs.declared.calls.Name.{Name}
-use Rattle.lin_history.specs.declared.calls.Reply.{Reply}
-use Rattle.lin_history.specs.declared.events.Body.{Body}
-use Rattle.lin_history.specs.declared.events.Body.TheVariants.{Ok, Fail, Info}
-use Rattle.lin_history.specs.WellFormed.{Completes}
+use Rattle.lin_events.specs.declared.calls.Name.{Name}
+use Rattle.lin_events.specs.declared.calls.Reply.{Reply}
+use Rattle.lin_events.specs.declared.events.Body.{Body}
+use Rattle.lin_events.specs.declared.events.Body.TheVariants.{Ok, Fail, Info}
+use Rattle.lin_events.specs.WellFormed.{Completes}
 use Rattle.lin_frontier.specs.declared.pending.Open.{Open}
 use Rattle.lin_chain.proofs.Lists.{swap_front}
 use Rattle.lin_chain.proofs.Listing.{pending_invoked, pending_returned, pending_crashed, completed_listed}

@@ -1,13 +1,13 @@
 use Rattle.std.proofs.Common.{ℤ, Bool, List, ◌+◌, ap, arith, length, length-append, sym, subst, take, ◌∙◌}
-use Rattle.lin_history.specs.declared.calls.Name.{Name}
-use Rattle.lin_history.specs.declared.events.Event.{Event}
-use Rattle.lin_history.specs.Operations.{IsEvent}
-use Rattle.lin_history.specs.WellFormed.{IsWellFormed}
+use Rattle.lin_events.specs.declared.calls.Name.{Name}
+use Rattle.lin_events.specs.declared.events.Event.{Event}
+use Rattle.lin_events.specs.Operations.{IsEvent}
+use Rattle.lin_events.specs.WellFormed.{IsWellFormed}
 use Rattle.lin_objects.specs.Steps.{Step, start}
 use Rattle.lin_order.specs.Refutations.{AreConfigurations}
 use Rattle.lin_frontier.specs.Frontiers.{IsFrontier, IsNextEvent, IsOver, IsPending}
 use Rattle.lin_chain.specs.Refuting.{AreBuilt}
-use Rattle.lin_chain.specs.Replays.{IsLinearizableAs}
+use Rattle.lin_orders.specs.Linearizable.{IsLinearizableAs}
 use Rattle.lin_chain.proofs.ExactSets.{exact_configurations, one_more_set}
 use Rattle.lin_chain.proofs.Replaying.{next_event, event_taken}
 use Rattle.lin_chain.proofs.refuting.Builder.take_in.Goals as goal

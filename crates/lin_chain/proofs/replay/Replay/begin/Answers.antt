@@ -1,5 +1,5 @@
 use Rattle.std.proofs.Common.{◌<◌, ◌*◌, ◌++◌, ◌∷◌, ◌∙◌, List, [], ap, refl, length}
-use Rattle.lin_history.specs.declared.events.Event.{Event}
+use Rattle.lin_events.specs.declared.events.Event.{Event}
 use Rattle.lin_chain.specs.declared.replay.Checkpoint.{Checkpoint}
 use Rattle.lin_chain.specs.Replays.{IsReplay}
 use Rattle.lin_chain.proofs.Replaying.{replay_moved, replay_begun}

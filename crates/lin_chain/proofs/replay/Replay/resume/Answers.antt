@@ -1,6 +1,6 @@
 use Rattle.std.proofs.Common.{◌≡◌, ◌+◌, ◌-◌, ◌++◌, ◌∙◌, true, false, Option, Some, None, Result, Ok, Err, OnOk, is_some, refl, List, ap, sym, arith, length, slice_get, take}
 use Rattle.std.proofs.lemmas.Option.{slice_get_within}
-use Rattle.lin_history.specs.declared.events.Event.{Event}
+use Rattle.lin_events.specs.declared.events.Event.{Event}
 use Rattle.lin_chain.specs.Replays.{Members, IsReplay}
 use Rattle.lin_chain.proofs.Replaying.{replay_listed, prepared_listed, prepared_present}
 use Rattle.lin_chain.proofs.replay.Replay.resume.Goals as goal

@@ -1,12 +1,13 @@
 use Rattle.std.proofs.Common.{ℤ, ◌+◌, ◌∙◌, Bool, List, ap, inl, inr, sym, subst, take}
 use Rattle.lin_chain.specs.declared.replay.Replay.{Replay}
-use Rattle.lin_history.specs.declared.calls.Name.{Name}
-use Rattle.lin_history.specs.declared.events.Event.{Event}
-use Rattle.lin_history.specs.Operations.{IsEvent}
-use Rattle.lin_history.specs.WellFormed.{IsWellFormed}
+use Rattle.lin_events.specs.declared.calls.Name.{Name}
+use Rattle.lin_events.specs.declared.events.Event.{Event}
+use Rattle.lin_events.specs.Operations.{IsEvent}
+use Rattle.lin_events.specs.WellFormed.{IsWellFormed}
 use Rattle.lin_objects.specs.Steps.{Step, start}
 use Rattle.lin_frontier.specs.Frontiers.{IsNextEvent, IsOver}
-use Rattle.lin_chain.specs.Replays.{IsCurrent, IsKnown, IsLinearizableAs, IsPrepared, IsReplay}
+use Rattle.lin_chain.specs.Replays.{IsCurrent, IsKnown, IsPrepared, IsReplay}
+use Rattle.lin_orders.specs.Linearizable.{IsLinearizableAs}
 use Rattle.lin_chain.proofs.Replaying.{next_event, event_taken, replay_advanced, replay_renamed}
 use Rattle.lin_chain.proofs.replay.Replay.take_in.Goals as goal
 use Rattle.lin_chain.proofs.replay.Replay.take_in.Goals.{In_ok-step}

@@ -1,5 +1,5 @@
 use Rattle.std.proofs.Common.{ℕ}
-use Rattle.lin_history.specs.declared.calls.Reply.{Reply}
+use Rattle.lin_events.specs.declared.calls.Reply.{Reply}
 use Rattle.lin_frontier.specs.Searching.{is_watching}
 use Rattle.lin_frontier.proofs.Inserting.{passed_by}
 use Rattle.lin_frontier.proofs.Offering.{offering_empty}

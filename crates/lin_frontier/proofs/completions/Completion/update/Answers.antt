@@ -1,6 +1,6 @@
 use Rattle.std.proofs.Common.{ap, not, sym, ◌∙◌, true≢false}
 use Rattle.std.proofs.lemmas.List.Elements.{Contains-get_or}
-use Rattle.lin_history.specs.Replies.{reply_Decides}
+use Rattle.lin_events.specs.Replies.{reply_Decides}
 use Rattle.lin_frontier.proofs.Masking.{not_false}
 use Rattle.lin_frontier.proofs.Completing.{returning_start, returning_skip, returning_found, returning_made}
 use Rattle.lin_frontier.proofs.Visiting.{begins_from}

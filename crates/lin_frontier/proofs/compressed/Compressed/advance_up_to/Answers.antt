@@ -1,7 +1,7 @@
 use Rattle.std.proofs.Common.{◌≡◌, ◌+◌, ◌*◌, Contains, length, ap, subst, sym, ◌∙◌}
 use Rattle.std.proofs.lemmas.Bool.{eqb-true}
-use Rattle.lin_history.specs.declared.meter.Meter.{Meter}
-use Rattle.lin_order.specs.ConfigurationLaws.{with_event}
+use Rattle.lin_events.specs.declared.meter.Meter.{Meter}
+use Rattle.lin_orders.specs.ConfigurationLaws.{with_event}
 use Rattle.lin_frontier.specs.Compressed.{IsCovering, IsCompressed}
 use Rattle.lin_frontier.proofs.Answered.{from_some}
 use Rattle.lin_frontier.proofs.Compressing.{cut_grown, none_left}

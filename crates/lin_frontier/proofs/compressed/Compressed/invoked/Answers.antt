@@ -1,5 +1,5 @@
 use Rattle.std.proofs.Common.{sym, subst}
-use Rattle.lin_order.specs.ConfigurationLaws.{with_event}
+use Rattle.lin_orders.specs.ConfigurationLaws.{with_event}
 use Rattle.lin_frontier.specs.Compressed.{IsCompressed}
 use Rattle.lin_frontier.proofs.Invoked.{invoked_compressed}
 use Rattle.lin_frontier.proofs.compressed.Compressed.invoked.Goals as goal

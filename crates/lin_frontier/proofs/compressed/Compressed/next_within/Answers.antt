@@ -1,5 +1,5 @@
 use Rattle.std.proofs.Common.{◌≡◌, ◌∙◌, subst, sym}
-use Rattle.lin_order.specs.ConfigurationLaws.{with_event}
+use Rattle.lin_orders.specs.ConfigurationLaws.{with_event}
 use Rattle.lin_frontier.specs.Compressed.{IsCompressed}
 use Rattle.lin_frontier.proofs.compressed.Compressed.next_within.Goals.{else-many-via-then-many+then-at-gt0+in_ok-exceeds_before+else-branch, else-many-via-then-many+else-at-gt0, else-many-via-else-many}
 use Rattle.lin_frontier.proofs.compressed.Compressed.next_within.Goals as goal

@@ -1,6 +1,6 @@
 use Rattle.std.proofs.Common.{◌+◌, ◌*◌, ◌<◌, length, inl, inr, sym, subst, arith}
 use Rattle.std.proofs.lemmas.Nat.{mul-le}
-use Rattle.lin_order.specs.ConfigurationLaws.{with_event}
+use Rattle.lin_orders.specs.ConfigurationLaws.{with_event}
 use Rattle.lin_frontier.specs.Compressed.{IsCompressed}
 use Rattle.lin_frontier.proofs.Answered.{if_ok_weaker}
 use Rattle.lin_frontier.proofs.Compressing.{compressed_stays, well_formed_before}

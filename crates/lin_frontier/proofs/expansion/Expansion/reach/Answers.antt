@@ -1,6 +1,6 @@
 use Rattle.std.proofs.Common.{◌+◌, arith, sym, subst, ◌∙◌, ℕ, List, [], Contains}
 use Rattle.std.proofs.lemmas.Option.{get_or_from_slice_get}
-use Rattle.lin_history.specs.declared.calls.Reply.{Reply}
+use Rattle.lin_events.specs.declared.calls.Reply.{Reply}
 use Rattle.lin_frontier.specs.declared.members.Path.{Path}
 use Rattle.lin_frontier.specs.Listed.{member_at, placing_tries}
 use Rattle.lin_frontier.proofs.Closing.{longer}

@@ -1,6 +1,6 @@
 use Rattle.std.proofs.Common.{◌≡◌, [], take, sym, ap, ◌∙◌, subst}
 use Rattle.std.proofs.lemmas.List.{append-nil}
-use Rattle.lin_order.specs.ConfigurationLaws.{with_event}
+use Rattle.lin_orders.specs.ConfigurationLaws.{with_event}
 use Rattle.lin_frontier.specs.Frontiers.{IsFrontier}
 use Rattle.lin_frontier.proofs.Answered.{from_some, from_none}
 use Rattle.lin_frontier.proofs.Closing.{cut_back}

@@ -1,6 +1,6 @@
 use Rattle.std.proofs.Common.{◌≡◌, List, ℕ, ◌∙◌, subst}
 use Rattle.std.specs.List.{fold}
-use Rattle.lin_history.specs.declared.calls.Reply.{Reply}
+use Rattle.lin_events.specs.declared.calls.Reply.{Reply}
 use Rattle.lin_objects.specs.declared.states.State.{State}
 use Rattle.lin_order.specs.contracts.ref_configs.RefConfigHash.TheImpl as HashImpl
 use Rattle.lin_order.proofs.ref_configs.RefConfigHash.hash.Goals as goal

@@ -1,7 +1,7 @@
 use Rattle.std.proofs.Common.{◌≡◌, ◌++◌, length, ap, arith, to_z, of_z, w64}
 use Rattle.std.proofs.lemmas.Int.{to_z-of_z}
-use Rattle.lin_order.specs.Parts.{part}
-use Rattle.lin_session.proofs.Lists.{take_ahead}
+use Rattle.lin_orders.specs.Parts.{part}
+use Rattle.lin_lists.specs.lemmas.Taken.{take_ahead}
 use Rattle.lin_session.proofs.kept.Object.cut_ahead_of.Goals as goal
 
 pub returns-clause-right : goal.returns-clause-right

@@ -1,6 +1,6 @@
 use Rattle.std.proofs.Common.{◌≡◌, length, get_or, ap, sym, ◌∙◌, arith}
 use Rattle.std.proofs.lemmas.Option.{slice_get_within}
-use Rattle.lin_order.specs.Parts.{events_at, renamed}
+use Rattle.lin_orders.specs.Parts.{events_at, renamed}
 use Rattle.lin_session.proofs.kept.Object.order.Goals as goal
 
 pub rename-requires : goal.rename-requires

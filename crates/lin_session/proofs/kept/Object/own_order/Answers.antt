@@ -3,13 +3,13 @@ use Rattle.std.specs.Global.{Vec}
 use Rattle.std.specs.Prelude.{IfSome, MatchOption}
 use Rattle.std.proofs.lemmas.List.{take_all}
 use Rattle.std.proofs.lemmas.Result.{IfOk-weaker}
-use Rattle.lin_history.specs.declared.events.Event.{Event}
-use Rattle.lin_order.specs.declared.placed.Placed.{Placed}
-use Rattle.lin_order.specs.Parts.{events_at}
+use Rattle.lin_events.specs.declared.events.Event.{Event}
+use Rattle.lin_orders.specs.declared.placed.Placed.{Placed}
+use Rattle.lin_orders.specs.Parts.{events_at}
 use Rattle.lin_chain.specs.declared.chain.Chain.{Chain}
 use Rattle.lin_chain.specs.declared.chain.End.TheVariants.{Alive}
 use Rattle.lin_chain.specs.Chains.{end_in, kind_in, ready_count, IsRight}
-use Rattle.lin_chain.specs.Replays.{IsLegalOrderAs}
+use Rattle.lin_orders.specs.Linearizable.{IsLegalOrderAs}
 use Rattle.lin_session.proofs.kept.Object.own_order.Goals as goal
 
 -- what a chain says of its order

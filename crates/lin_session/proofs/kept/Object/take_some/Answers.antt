@@ -1,7 +1,7 @@
 use Rattle.std.proofs.Common.{subst, sym, ℤ, Bool}
-use Rattle.lin_history.specs.declared.calls.Name.{Name}
-use Rattle.lin_history.specs.WellFormed.{IsWellFormed}
-use Rattle.lin_order.specs.Parts.{events_at}
+use Rattle.lin_events.specs.declared.calls.Name.{Name}
+use Rattle.lin_events.specs.WellFormed.{IsWellFormed}
+use Rattle.lin_orders.specs.Parts.{events_at}
 use Rattle.lin_session.proofs.kept.Object.take_some.Goals as goal
 
 pub take_some-requires-clause-well_formed : goal.take_some-requires-clause-well_formed

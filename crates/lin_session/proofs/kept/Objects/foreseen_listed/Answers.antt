@@ -1,6 +1,6 @@
 use Rattle.std.proofs.Common.{◌≡◌, sym, subst, ◌∙◌}
 use Rattle.std.proofs.lemmas.Option.{same_Some}
-use Rattle.lin_order.specs.Parts.{events_at}
+use Rattle.lin_orders.specs.Parts.{events_at}
 use Rattle.lin_chain.specs.Chains.{kind_in}
 use Rattle.lin_chain.specs.Ends.{IsEndOf}
 use Rattle.lin_session.specs.declared.kept.Object.{Object}

@@ -1,7 +1,7 @@
 use Rattle.std.proofs.Common.{◌≡◌, ◌≤◌, ◌+◌, ℕ, ℤ, Some, Contains, inl, inr, ap, sym, subst, ◌∙◌, arith, to_z, of_z, w64, rules}
 use Rattle.std.proofs.lemmas.Int.{to_z-of_z}
 use Rattle.std.proofs.lemmas.Result.{IfOk-weaker}
-use Rattle.lin_history.specs.WellFormed.{IsWellFormed}
+use Rattle.lin_events.specs.WellFormed.{IsWellFormed}
 use Rattle.lin_objects.specs.declared.kinds.Kind.{Kind}
 use Rattle.lin_objects.specs.Kinds.{functions_of, kind_of}
 use Rattle.lin_session.specs.Answers.{IsObjectVerdict, IsWholeVerdict, IsVerdict}
@@ -18,7 +18,7 @@ use Rattle.lin_session.specs.Work.{cost_in}
 use Rattle.lin_session.proofs.Costing.{scope_cost, scope_settled}
 use Rattle.lin_session.proofs.Found.{not_ok}
 use Rattle.lin_session.proofs.Listed.{is_listed}
-use Rattle.lin_session.proofs.Lists.{element_at}
+use Rattle.lin_lists.specs.lemmas.Taken.{element_at}
 use Rattle.lin_session.proofs.kept.Objects.judge.Goals as goal
 use Rattle.lin_session.proofs.kept.Objects.judge.Goals.{After-judge_object, After-judge_whole, In_ok-split}
 

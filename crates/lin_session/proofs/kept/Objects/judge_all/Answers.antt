@@ -7,7 +7,7 @@ use Rattle.lin_session.specs.declared.kept.Object.{Object}
 use Rattle.lin_session.specs.Costs.{cost_of_all, IsSettled}
 use Rattle.lin_session.proofs.Costing.{cost-next, cost-first}
 use Rattle.lin_session.proofs.Found.{not_ok}
-use Rattle.lin_session.proofs.Lists.{element_at, All-at}
+use Rattle.lin_lists.specs.lemmas.Taken.{element_at, All-at}
 use Rattle.lin_session.proofs.Wholes.{AreFound-next, least_none}
 use Rattle.lin_session.proofs.kept.Objects.judge_all.Goals as goal
 use Rattle.lin_session.proofs.kept.Objects.judge_all.Goals.{In_ok-found, In-loop-i}

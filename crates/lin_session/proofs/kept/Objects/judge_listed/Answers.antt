@@ -1,7 +1,7 @@
 use Rattle.std.specs.Global.{Vec}
 use Rattle.std.proofs.Common.{◌≡◌, ◌<◌, ℕ, ℤ, Some, All, length, slice_get, get_or, inl, inr, refl, sym, ap, subst, ◌∙◌, arith}
 use Rattle.lin_objects.specs.declared.kinds.Kind.{Kind}
-use Rattle.lin_order.specs.Parts.{events_at, part}
+use Rattle.lin_orders.specs.Parts.{events_at, part}
 use Rattle.lin_chain.specs.Chains.{end_in, end_under, kind_in}
 use Rattle.lin_chain.specs.Ends.{IsEndOf}
 use Rattle.lin_session.specs.Objects.{AreRight, IsObject, Finds}
@@ -11,7 +11,7 @@ use Rattle.lin_session.proofs.Advancing.{after, fine_there, inside, marks_stay, 
 use Rattle.lin_session.proofs.Asking.{IsPlaceIn-end, spelled, finding_of, finds_alive}
 use Rattle.lin_session.proofs.Marking.{stays_over}
 use Rattle.lin_session.proofs.Found.{not_ok}
-use Rattle.lin_history.proofs.Lists.{get_set_cases}
+use Rattle.lin_lists.specs.lemmas.Lists.{get_set_cases}
 use Rattle.lin_session.proofs.kept.Objects.judge_listed.Goals as goal
 use Rattle.lin_session.proofs.kept.Objects.judge_listed.Goals.{After-index_mut-object}
 

@@ -3,7 +3,7 @@ use Rattle.std.proofs.lemmas.Int.{to_z-of_z}
 use Rattle.std.proofs.lemmas.Option.{slice_get_within}
 use Rattle.lin_session.specs.declared.answers.Verdict.TheVariants.{Yes, No}
 use Rattle.lin_session.proofs.Asking.{told_failing, verdict_told, untold}
-use Rattle.lin_session.proofs.Lists.{element_at, one_place, there_at}
+use Rattle.lin_lists.specs.lemmas.Taken.{element_at, one_place, there_at}
 use Rattle.lin_session.proofs.Found.{not_ok}
 use Rattle.lin_session.specs.declared.kept.Object.{Object}
 use Rattle.lin_session.proofs.kept.Objects.judge_object.Goals as goal

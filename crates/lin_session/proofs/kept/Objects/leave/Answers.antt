@@ -1,9 +1,9 @@
 use Rattle.std.proofs.Common.{◌≡◌, ◌≤◌, ◌+◌, ◌-◌, ◌++◌, ◌∷◌, List, suc, length, take, drop, subst, sym, ap, ◌∙◌, arith, add-one, to_z, of_z, w64, rules}
 use Rattle.std.proofs.lemmas.List.{length-take-le, take_rest}
 use Rattle.std.proofs.lemmas.Int.{to_z-of_z}
-use Rattle.lin_history.specs.declared.events.Event.{Event}
+use Rattle.lin_events.specs.declared.events.Event.{Event}
 use Rattle.lin_session.specs.Objects.{AreRight, split_in}
-use Rattle.lin_session.proofs.Lists.{split_at}
+use Rattle.lin_lists.specs.lemmas.Taken.{split_at}
 use Rattle.lin_session.specs.Objects.{marks_in}
 use Rattle.std.proofs.Common.{Some, slice_get, refl}
 use Rattle.std.proofs.lemmas.Option.{slice_get_read}

@@ -4,8 +4,8 @@ use Rattle.std.proofs.lemmas.Option.{slice_get_within}
 use Rattle.std.proofs.lemmas.Result.{IfOk-weaker}
 use Rattle.std.proofs.lemmas.Option.{IfSome_then}
 use Rattle.lin_objects.specs.Kinds.{kind_of}
-use Rattle.lin_order.specs.Linearizable.{IsLegalOrderFor}
-use Rattle.lin_session.proofs.Lists.{element_at}
+use Rattle.lin_orders.specs.Linearizable.{IsLegalOrderFor}
+use Rattle.lin_lists.specs.lemmas.Taken.{element_at}
 use Rattle.lin_session.proofs.kept.Objects.order_of.Goals as goal
 use Rattle.lin_session.proofs.kept.Objects.order_of.Goals.{In-Some}
 

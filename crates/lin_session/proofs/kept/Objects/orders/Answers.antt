@@ -3,13 +3,13 @@ use Rattle.std.specs.Global.{Vec}
 use Rattle.std.specs.List.{AllZip}
 use Rattle.std.proofs.lemmas.List.{map_push, take_all}
 use Rattle.std.proofs.lemmas.Option.{slice_get-get_or}
-use Rattle.lin_history.proofs.Lists.{take_next}
+use Rattle.lin_lists.specs.lemmas.Lists.{take_next}
 use Rattle.lin_objects.specs.Kinds.{kind_of}
-use Rattle.lin_order.specs.declared.placed.Placed.{Placed}
-use Rattle.lin_order.specs.Linearizable.{IsLegalOrderFor}
-use Rattle.lin_order.specs.Merging.{lists_of}
+use Rattle.lin_orders.specs.declared.placed.Placed.{Placed}
+use Rattle.lin_orders.specs.Linearizable.{IsLegalOrderFor}
+use Rattle.lin_orders.specs.Merging.{lists_of}
 use Rattle.lin_session.specs.Judgements.{IsAlive}
-use Rattle.lin_session.proofs.Lists.{All-at, element_at, zip_push}
+use Rattle.lin_lists.specs.lemmas.Taken.{All-at, element_at, zip_push}
 use Rattle.lin_session.proofs.kept.Objects.orders.Goals as goal
 
 pub loop-i-preserved : goal.loop-i-preserved

@@ -1,11 +1,11 @@
 use Rattle.std.proofs.Common.{subst, sym, add-one, ℕ, ℤ, List, set, pos}
 use Rattle.std.proofs.lemmas.Option.{slice_get-get_or}
-use Rattle.lin_history.specs.declared.events.Event.{Event}
+use Rattle.lin_events.specs.declared.events.Event.{Event}
 use Rattle.lin_objects.specs.declared.kinds.Kind.{Kind}
 use Rattle.lin_session.specs.Objects.{AreKept}
 use Rattle.lin_session.proofs.Listed.{mark_set_same}
 use Rattle.lin_session.proofs.Found.{object_within, on_err_since}
-use Rattle.lin_session.proofs.Lists.{Contains-slice_get}
+use Rattle.lin_lists.specs.lemmas.Taken.{Contains-slice_get}
 use Rattle.lin_session.proofs.Splits.{AreKept-next, AreKept-refused}
 use Rattle.lin_session.proofs.kept.Objects.pick.Goals as goal
 

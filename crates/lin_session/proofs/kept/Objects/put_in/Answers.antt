@@ -2,8 +2,8 @@ use Rattle.std.proofs.Common.{◌≡◌, ◌<◌, ◌-◌, ◌++◌, length, len
 use Rattle.std.proofs.lemmas.Int.{to_z-of_z}
 use Rattle.std.proofs.lemmas.List.Elements.{filter-append}
 use Rattle.std.specs.Ordering.{int_eq}
-use Rattle.lin_history.specs.declared.events.Event.{Event}
-use Rattle.lin_order.specs.Parts.{part}
+use Rattle.lin_events.specs.declared.events.Event.{Event}
+use Rattle.lin_orders.specs.Parts.{part}
 use Rattle.lin_session.specs.Work.{rounded}
 use Rattle.lin_session.proofs.Listed.{AreTouched-unlisted, marks_touched}
 use Rattle.lin_session.proofs.Around.{StaysAhead, AreKept-with, AreKept-with_unlisted, IsMarkRight-with, part_few}

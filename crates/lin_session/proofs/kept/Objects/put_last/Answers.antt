@@ -1,11 +1,11 @@
 use Rattle.std.proofs.Common.{◌≡◌, ◌<◌, ◌+◌, ◌++◌, [], length, append-nil, to_z, of_z, w64, Some, ◌∙◌, ap, sym, subst, slice_get, Contains, refl, arith}
 use Rattle.std.proofs.lemmas.Int.{to_z-of_z}
-use Rattle.lin_order.specs.Parts.{part}
+use Rattle.lin_orders.specs.Parts.{part}
 use Rattle.lin_session.specs.Objects.{AreRight, IsMarkRight}
 use Rattle.lin_session.proofs.Listed.{AreTouched-unlisted, marks_touched}
 use Rattle.lin_session.proofs.Around.{StaysAhead, AreKept-with, AreKept-with_unlisted, one_with, part_few}
 use Rattle.lin_session.proofs.Found.{object_at}
-use Rattle.lin_session.proofs.Lists.{take_ahead}
+use Rattle.lin_lists.specs.lemmas.Taken.{take_ahead}
 use Rattle.lin_session.proofs.Marking.{IsMarkRight-last, touched_over}
 use Rattle.lin_session.proofs.kept.Objects.put_last.Goals as goal
 use Rattle.lin_session.proofs.kept.Objects.put_last.Goals.{After-cut_at_end, After-index_mut-object}

@@ -3,9 +3,9 @@ use Rattle.std.proofs.lemmas.Int.{to_z-of_z}
 use Rattle.std.proofs.lemmas.Result.{IfOk-weaker}
 use Rattle.lin_objects.specs.Kinds.{functions_of}
 use Rattle.lin_chain.specs.Chains.{IsRight}
-use Rattle.lin_history.specs.declared.calls.Name.{Name}
-use Rattle.lin_history.specs.WellFormed.{IsWellFormed}
-use Rattle.lin_order.specs.Parts.{events_at}
+use Rattle.lin_events.specs.declared.calls.Name.{Name}
+use Rattle.lin_events.specs.WellFormed.{IsWellFormed}
+use Rattle.lin_orders.specs.Parts.{events_at}
 use Rattle.lin_session.specs.Objects.{IsObject}
 use Rattle.lin_session.proofs.Asking.{picks_inside, right_spelled, well_formed_spelled}
 use Rattle.lin_session.proofs.Found.{object_at}

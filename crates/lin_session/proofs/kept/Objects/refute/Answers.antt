@@ -1,7 +1,7 @@
 use Rattle.std.proofs.Common.{◌≡◌, Ok, ap, sym, subst, take, ◌∙◌, to_z, of_z, w64}
 use Rattle.std.proofs.lemmas.Int.{to_z-of_z}
 use Rattle.lin_objects.specs.Kinds.{kind_of}
-use Rattle.lin_order.specs.Parts.{part}
+use Rattle.lin_orders.specs.Parts.{part}
 use Rattle.lin_order.specs.Refutations.{IsRefutation, sets_of}
 use Rattle.lin_session.specs.declared.answers.Answer.TheVariants.{No}
 use Rattle.lin_session.specs.declared.answers.Scope.TheVariants.{Object}

@@ -1,11 +1,11 @@
 use Rattle.std.proofs.Common.{◌≡◌, ◌≤◌, ◌+◌, ◌-◌, ◌++◌, ◌∷◌, List, suc, length, take, drop, subst, sym, ap, ◌∙◌, arith, add-one, w64, rules}
 use Rattle.std.proofs.lemmas.List.{length-drop, length-take-le, take_rest, set_split}
 use Rattle.std.proofs.lemmas.Int.{to_z-of_z}
-use Rattle.lin_history.specs.declared.events.Event.{Event}
+use Rattle.lin_events.specs.declared.events.Event.{Event}
 use Rattle.lin_session.specs.Objects.{AreRight, split_in}
 use Rattle.std.specs.Prelude.{◌||◌, if◌then◌else◌}
 use Rattle.std.specs.Ordering.{int_eq}
-use Rattle.lin_order.specs.Orders.{is_of_key}
+use Rattle.lin_orders.specs.Orders.{is_of_key}
 use Rattle.lin_session.specs.Objects.{marks_in}
 use Rattle.lin_session.specs.Work.{touched_at}
 use Rattle.lin_session.proofs.Touching.{touched_twice}

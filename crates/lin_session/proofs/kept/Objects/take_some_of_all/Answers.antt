@@ -3,7 +3,7 @@ use Rattle.lin_session.specs.declared.kept.Object.{Object}
 use Rattle.lin_session.specs.Costs.{IsSettled}
 use Rattle.lin_session.proofs.Advancing.{cost-within}
 use Rattle.lin_session.proofs.Found.{not_ok}
-use Rattle.lin_session.proofs.Lists.{All-at, element_at}
+use Rattle.lin_lists.specs.lemmas.Taken.{All-at, element_at}
 use Rattle.lin_session.proofs.kept.Objects.take_some_of_all.Goals as goal
 use Rattle.lin_session.proofs.kept.Objects.take_some_of_all.Goals.{In-loop-i}
 

@@ -1,7 +1,7 @@
 use Rattle.std.proofs.Common.{◌≡◌, ℤ, pos, Some, length, slice_get, get_or, subst, arith}
 use Rattle.std.proofs.lemmas.Option.{slice_get-get_or}
 use Rattle.lin_objects.specs.Kinds.{kind_of}
-use Rattle.lin_order.specs.Parts.{events_at, part}
+use Rattle.lin_orders.specs.Parts.{events_at, part}
 use Rattle.lin_chain.specs.Chains.{kind_in}
 use Rattle.lin_chain.specs.Ends.{IsEndOf}
 use Rattle.lin_session.specs.Objects.{IsObject}

@@ -10,7 +10,7 @@ use Rattle.std.proofs.Common.{arith, sym, subst, length, ◌≡◌}
 use Rattle.std.proofs.lemmas.List.{length_push}
 use Rattle.lin_session.proofs.Before.{AgreeBefore-events, take-appended}
 use Rattle.lin_objects.specs.Kinds.{kind_of}
-use Rattle.lin_order.specs.Parts.{part}
+use Rattle.lin_orders.specs.Parts.{part}
 use Rattle.lin_session.specs.declared.edits.Edit.TheVariants.{Append}
 use Rattle.lin_session.specs.Objects.{marks_in}
 use Rattle.lin_session.specs.Sessions.{Standing}

@@ -1,12 +1,12 @@
 use Rattle.std.proofs.Common.{◌≡◌, None, sym, ap, length, subst, ◌∙◌}
-use Rattle.lin_history.specs.WellFormed.{IsShape, IsWellFormed}
+use Rattle.lin_events.specs.WellFormed.{IsShape, IsWellFormed}
 use Rattle.lin_objects.specs.Kinds.{functions_of, kind_of}
 use Rattle.lin_wellformed.specs.Scans.{ready_count}
 use Rattle.lin_session.specs.Answers.{kinds_in}
 use Rattle.lin_session.specs.Sessions.{AreTakenIn, Standing}
 use Rattle.lin_session.proofs.Found.{not_ok}
 use Rattle.std.proofs.Common.{List}
-use Rattle.lin_history.specs.declared.events.Event.{Event}
+use Rattle.lin_events.specs.declared.events.Event.{Event}
 use Rattle.lin_session.specs.Edits.{Present}
 use Rattle.lin_session.specs.Marks.{AreMarked, IsNothingDue, IsWithoutOrder}
 use Rattle.lin_session.specs.Objects.{AreRight, marks_in}

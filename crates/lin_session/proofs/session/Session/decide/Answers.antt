@@ -1,5 +1,5 @@
 use Rattle.std.proofs.Common.{◌≡◌, ◌⊎◌, None, inl, inr, sym, ap, length, subst, ◌∙◌}
-use Rattle.lin_history.specs.WellFormed.{IsShape, IsWellFormed}
+use Rattle.lin_events.specs.WellFormed.{IsShape, IsWellFormed}
 use Rattle.lin_objects.specs.Kinds.{functions_of, kind_of}
 use Rattle.lin_wellformed.specs.Scans.{IsRight, ready_count}
 use Rattle.lin_session.specs.Answers.{kinds_in}

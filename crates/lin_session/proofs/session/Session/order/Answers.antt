@@ -1,5 +1,5 @@
 use Rattle.std.proofs.Common.{subst, sym}
-use Rattle.lin_history.specs.WellFormed.{IsWellFormed}
+use Rattle.lin_events.specs.WellFormed.{IsWellFormed}
 use Rattle.lin_objects.specs.Kinds.{functions_of}
 use Rattle.lin_session.specs.Answers.{IsVerdict, kinds_in}
 use Rattle.lin_session.specs.Edits.{Present}

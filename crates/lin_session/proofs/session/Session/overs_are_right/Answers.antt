@@ -1,6 +1,6 @@
 use Rattle.std.proofs.Common.{◌≡◌, Some, inl, inr, sym, ap, subst, ◌∙◌, arith}
 use Rattle.std.proofs.lemmas.Option.{slice_get_within}
-use Rattle.lin_order.specs.Parts.{part}
+use Rattle.lin_orders.specs.Parts.{part}
 use Rattle.lin_chain.specs.declared.chain.End.TheVariants.{Over}
 use Rattle.lin_chain.specs.Ends.{IsEndOf}
 use Rattle.lin_session.specs.declared.work.Mark.{Mark}
@@ -8,7 +8,7 @@ use Rattle.lin_session.specs.Answers.{kinds_in}
 use Rattle.lin_session.specs.Sessions.{Standing}
 use Rattle.lin_session.specs.Work.{mark_of}
 use Rattle.lin_session.proofs.Listed.{is_listed, mark_listed, mark_unlisted}
-use Rattle.lin_session.proofs.Lists.{element_at, one_place}
+use Rattle.lin_lists.specs.lemmas.Taken.{element_at, one_place}
 use Rattle.lin_session.proofs.Marking.{unasked_over}
 use Rattle.lin_session.proofs.session.Session.overs_are_right.Goals as goal
 

@@ -5,7 +5,7 @@ use Rattle.std.proofs.lemmas.List.{length-set, set-get_or}
 use Rattle.std.proofs.lemmas.Option.{slice_get_read}
 use Rattle.lin_objects.specs.Kinds.{kind_of}
 use Rattle.lin_wellformed.specs.Scans.{ready_count}
-use Rattle.lin_order.specs.Orders.{is_of_key}
+use Rattle.lin_orders.specs.Orders.{is_of_key}
 use Rattle.lin_session.specs.declared.edits.Edit.TheVariants.{Replace}
 use Rattle.lin_session.specs.Objects.{AreRight, marks_in}
 use Rattle.lin_session.specs.Sessions.{AreTakenIn, Standing}

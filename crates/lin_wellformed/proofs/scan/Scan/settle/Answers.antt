@@ -1,7 +1,7 @@
 use Rattle.std.proofs.Common.{◌≡◌, ◌+◌, ◌-◌, ◌<◌, ◌≤◌, length, inl, inr, refl, ap, ◌∙◌, sym, subst, arith, true≢false}
 use Rattle.std.proofs.lemmas.Option.{slice_get_read}
-use Rattle.lin_history.specs.declared.meter.Meter.{Meter}
-use Rattle.lin_history.specs.Meters.{ticked}
+use Rattle.lin_events.specs.declared.meter.Meter.{Meter}
+use Rattle.lin_events.specs.Meters.{ticked}
 use Rattle.lin_objects.specs.Kinds.{kind_of}
 use Rattle.lin_wellformed.specs.declared.scan.Scan.{Scan}
 use Rattle.lin_wellformed.specs.Scans.{ready_count, IsRight}

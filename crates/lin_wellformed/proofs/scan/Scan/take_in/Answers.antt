@@ -2,7 +2,7 @@ use Rattle.std.proofs.Common.{◌∙◌, ◌+◌, sym, subst, arith}
 use Rattle.lin_objects.specs.Kinds.{kind_of, functions_of}
 use Rattle.lin_wellformed.specs.declared.scan.Scan.{Scan}
 use Rattle.lin_wellformed.specs.Scans.{IsRight}
-use Rattle.lin_history.specs.WellFormed.{Holds, IsFirstCause}
+use Rattle.lin_events.specs.WellFormed.{Holds, IsFirstCause}
 use Rattle.lin_wellformed.proofs.ScanLemmas.{right_next, right_bad}
 use Rattle.lin_wellformed.proofs.scan.Scan.take_in.Goals as goal
 use Rattle.lin_wellformed.proofs.scan.Scan.take_in.Goals.{in-Some, in_default}

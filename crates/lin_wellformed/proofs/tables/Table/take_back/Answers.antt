@@ -2,7 +2,7 @@ use Rattle.std.proofs.Common.{◌≡◌, ◌<◌, ◌≤◌, length, arith, ap, 
 use Rattle.std.proofs.lemmas.List.{length_push}
 use Rattle.std.specs.Map.{lookup}
 use Rattle.lin_wellformed.specs.Tables.{Statuses, count_in, status_at}
-use Rattle.lin_history.proofs.Lists.{get_last}
+use Rattle.lin_lists.specs.lemmas.Lists.{get_last}
 use Rattle.lin_wellformed.proofs.TableLemmas.{same_before, status_put}
 use Rattle.lin_wellformed.proofs.tables.Table.take_back.Goals as goal
 use Rattle.lin_wellformed.proofs.tables.Table.take_back.Goals.{In-Some}

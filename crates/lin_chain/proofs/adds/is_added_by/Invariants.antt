@@ -1,9 +1,0 @@
-use Rattle.std.proofs.Common.{ℕ, ◌<◌}
-use Rattle.lin_history.specs.declared.calls.Call.{Call}
-use Rattle.lin_history.specs.Operations.{IsFailed}
-use Rattle.lin_order.specs.Orders.{IsCall}
-use Rattle.lin_chain.specs.Adding.{Adds}
-use Rattle.lin_chain.proofs.adds.is_added_by.Given as goal
-
-abbrev pub invariant-loop-at : goal.invariant-loop-at
-invariant-loop-at l = (k : ℕ) (call : Call) → k < l.at → IsCall l.events k call → Adds call l.number → IsFailed l.events k

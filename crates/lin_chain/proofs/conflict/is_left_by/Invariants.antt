@@ -1,8 +1,0 @@
-use Rattle.std.proofs.Common.{◌≡◌, ℕ, ◌<◌, Some}
-use Rattle.lin_history.specs.declared.calls.Call.{Call}
-use Rattle.lin_order.specs.Orders.{IsCall}
-use Rattle.lin_chain.specs.Conflicts.{Leaves}
-use Rattle.lin_chain.proofs.conflict.is_left_by.Given as goal
-
-abbrev pub invariant-loop-at : goal.invariant-loop-at
-invariant-loop-at l = (k : ℕ) (call : Call) → k < l.at → IsCall l.events k call → Leaves call l.value → l.update ≡ Some k

@@ -1,6 +1,0 @@
-use Rattle.std.proofs.Common.{◌≡◌, take}
-use Rattle.lin_order.specs.Parts.{events_at}
-use Rattle.lin_chain.proofs.witness.picked.Given as goal
-
-abbrev pub invariant-loop-pick : goal.invariant-loop-pick
-invariant-loop-pick l = l.own.items ≡ events_at l.events (take l.pick-index l.picks)

@@ -1,0 +1,10 @@
+pub mod Replies
+pub mod Operations
+pub mod Names
+pub mod Numbers
+pub mod Sameness
+pub mod Meters
+pub mod WellFormed
+pub mod Alternation
+pub mod WellFormedLaws
+pub mod lemmas

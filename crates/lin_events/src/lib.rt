@@ -1,0 +1,19 @@
+//! Events of recorded histories: what clients call, what they are answered, and what a well-formed history is.
+#![tactic(auto)]
+
+mod calls;
+mod events;
+mod laws;
+mod meter;
+mod numbers;
+mod shapes;
+
+pub use calls::{Call, Name, Reply, Val};
+pub use events::{Body, Event};
+pub use laws::{
+    bad_positions, beginnings_are_well_formed, ends_are_unique, shapes_are_unique,
+    statuses_after_events, well_formed_is_alternating,
+};
+pub use meter::Meter;
+pub use numbers::{IntSet, Numbers, OutOfMemory, sets};
+pub use shapes::{Cause, Shape, Status};

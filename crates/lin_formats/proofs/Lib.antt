@@ -1,0 +1,9 @@
+pub mod Judging
+pub mod PartsOfTexts
+pub mod ReadBack
+pub mod Rising
+pub mod TooLarge
+pub mod Written
+pub mod Alone
+pub mod Members
+pub mod Pairs

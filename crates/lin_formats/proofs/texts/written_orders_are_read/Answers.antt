@@ -1,0 +1,5 @@
+use Rattle.lin_formats.proofs.ReadBack.{order_read}
+use Rattle.lin_formats.proofs.texts.written_orders_are_read.Goals as goal
+
+pub returns : goal.returns
+returns c = order_read

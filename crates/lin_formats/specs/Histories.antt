@@ -1,0 +1,35 @@
+-- What reading a file comes to.
+use Rattle.std.specs.Prelude.{ℕ, Bool, true, false, List, Option, Result, Ok, Err}
+use Rattle.std.specs.Io.KnownBytes.{IsAtEnd}
+use Rattle.lin_formats.specs.Inputs.{IsRefused, IsWhole}
+use Rattle.lin_formats.specs.declared.answers.Refusal.{Refusal}
+use Rattle.lin_formats.specs.declared.answers.Refusal.TheVariants as refusal
+use Rattle.lin_formats.specs.declared.inputs.History.{History}
+use Rattle.lin_formats.specs.declared.inputs.History.TheVariants.{Whole, Refused}
+use Rattle.lin_formats.specs.declared.faults.RunFault.{RunFault}
+use Rattle.lin_formats.specs.declared.faults.RunFault.TheVariants.{ReadFailed, WriteFailed, OutOfMemory, TooMuch}
+
+-- the bytes say this
+abbrev pub IsHistory : Bool → List ℕ → History → Type 0
+IsHistory keyed text (Whole events) = IsWhole keyed text events.items
+IsHistory keyed text (Refused refusal) = IsRefused keyed text refusal
+
+-- at a fault of form, and where there are too many events, no more is read; else the reader came to its end
+abbrev pub StopsFor : Refusal → Option (List ℕ) → Type 0
+StopsFor (refusal.Edn at cause) left = Unit {0}
+StopsFor (refusal.Event at cause) left = Unit {0}
+StopsFor refusal.Full left = Unit {0}
+StopsFor (refusal.Truncated at) left = IsAtEnd left
+StopsFor (refusal.BadPair at) left = IsAtEnd left
+
+abbrev pub EndsFor : History → Option (List ℕ) → Type 0
+EndsFor (Whole events) left = IsAtEnd left
+EndsFor (Refused refusal) left = StopsFor refusal left
+
+-- whether the run ended because the reader failed
+abbrev pub is_read_failed : {T : Type 0} → Result T RunFault → Bool
+is_read_failed (Ok x) = false
+is_read_failed (Err ReadFailed) = true
+is_read_failed (Err WriteFailed) = false
+is_read_failed (Err OutOfMemory) = false
+is_read_failed (Err TooMuch) = false

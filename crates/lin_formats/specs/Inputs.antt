@@ -1,0 +1,42 @@
+-- What the bytes of a file say: a history, or why they are refused.
+use Rattle.std.specs.Prelude.{◌<◌, ◌≤◌, ℕ, Bool, List, Result, Ok, Err, length}
+use Rattle.lin_events.specs.declared.events.Event.{Event as EventOf}
+use Rattle.lin_history.specs.declared.follow.FollowFault.{FollowFault}
+use Rattle.lin_history.specs.declared.follow.FollowFault.TheVariants as fault
+use Rattle.lin_history.specs.Stream.{IsStream}
+use Rattle.lin_formats.specs.declared.answers.Refusal.{Refusal}
+use Rattle.lin_formats.specs.declared.answers.Refusal.TheVariants.{Edn, Event, Truncated, Full, BadPair}
+use Rattle.lin_formats.specs.declared.faults.RunFault.{RunFault}
+use Rattle.lin_formats.specs.declared.faults.RunFault.TheVariants.{OutOfMemory, TooMuch}
+
+-- the greatest number of events of a file
+abbrev pub limit : ℕ
+limit = 1000000
+
+-- the bytes are a whole stream of these events, and they are not too many
+abbrev pub IsWhole : Bool → List ℕ → List EventOf → Type 0
+IsWhole keyed text events = IsStream keyed text events (Ok tt) × (length events ≤ limit)
+
+-- the stream ends by a fault, with not too many events before it
+abbrev pub IsFaulty : Bool → List ℕ → FollowFault → Type 0
+IsFaulty keyed text fault = (events : List EventOf) × IsStream keyed text events (Err fault) × (length events ≤ limit)
+
+-- there are too many events, before a fault if there is one
+abbrev pub IsTooMany : Bool → List ℕ → Type 0
+IsTooMany keyed text = (events : List EventOf) × (outcome : Result (Unit {0}) FollowFault) × IsStream keyed text events outcome × (limit < length events)
+
+-- the bytes are refused for this
+abbrev pub IsRefused : Bool → List ℕ → Refusal → Type 0
+IsRefused keyed text (Edn at cause) = IsFaulty keyed text (fault.Edn at cause)
+IsRefused keyed text (Event at cause) = IsFaulty keyed text (fault.Event at cause)
+IsRefused keyed text (Truncated at) = IsFaulty keyed text (fault.Truncated at)
+IsRefused keyed text Full = IsTooMany keyed text
+IsRefused keyed text (BadPair at) = ⊥
+
+-- the refusal, or the end of a run, that a fault of the stream comes to
+abbrev pub refusal_of : FollowFault → Result Refusal RunFault
+refusal_of (fault.Edn at cause) = Ok (Edn at cause)
+refusal_of (fault.Event at cause) = Ok (Event at cause)
+refusal_of (fault.Truncated at) = Ok (Truncated at)
+refusal_of fault.OutOfMemory = Err OutOfMemory
+refusal_of fault.TooMuch = Err TooMuch

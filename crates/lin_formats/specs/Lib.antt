@@ -1,0 +1,14 @@
+pub mod Answers
+pub mod Orders
+pub mod Parts
+pub mod Devices
+pub mod Fronts
+pub mod Histories
+pub mod Inputs
+pub mod Intakes
+pub mod Integers
+pub mod OrderLaws
+pub mod Texts
+pub mod Verdicts
+pub mod VerdictLaws
+pub mod lemmas

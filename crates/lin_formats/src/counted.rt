@@ -1,0 +1,91 @@
+//! Readers and writers that count their failures.
+ghost use Rattle.std.specs.Prelude.{◌≡◌, ◌+◌, min, is_err};
+ghost use Rattle.std.specs.Io.{ReadsAtMost, WritesAtMost};
+ghost use Rattle.std.specs.Io.KnownBytes.{Keeps, ReadConsumes, WriteAppends};
+
+use std::io;
+use std::io::{Read, Write};
+
+/// A reader or a writer that counts its failures: errors of the device, and writes of some bytes that take none.
+#[derive(Drop)]
+pub struct Counted<T> {
+    inner: T,
+    failures: u64,
+}
+
+impl<T> Counted<T> {
+    ghost use Rattle.lin_formats.specs.Devices.{device_of, failures_of};
+
+    /// The device, with no failure so far.
+    pub fn new(inner: T) -> Counted<T>
+        ensures device { device_of result ≡ inner }
+        ensures none { failures_of result ≡ 0 }
+    {
+        Counted { inner, failures: 0 }
+    }
+
+    /// How many calls have failed, up to the greatest number.
+    pub fn failures(&self) -> u64
+        ensures { result ≡ failures_of self.now }
+    {
+        self.failures
+    }
+
+    fn count(&mut self)
+        ensures device { device_of self.new ≡ device_of self.old }
+        ensures counts { failures_of self.new ≡ min (failures_of self.old + 1) u64.MAX }
+    {
+        self.failures = self.failures.saturating_add(1);
+    }
+}
+
+impl<R: Read> Read for Counted<R> {
+    ghost use Rattle.lin_formats.specs.Devices.{device_of, failures_of, Counts};
+
+    ghost remaining = { λ c. R.remaining (device_of c) };
+
+    fn read(&mut self, buf: &mut [u8]) -> io::Result<usize>
+        ensures bound { ReadsAtMost result buf.new }
+        ensures bytes { ReadConsumes (R.remaining (device_of self.old)) (R.remaining (device_of self.new)) result buf.new }
+        ensures counts { Counts (is_err result) (failures_of self.old) (failures_of self.new) }
+    {
+        let outcome = self.inner.read(buf);
+        if outcome.is_err() {
+            self.count();
+        }
+        outcome
+    }
+}
+
+impl<W: Write> Write for Counted<W> {
+    ghost use Rattle.lin_formats.specs.Devices.{device_of, failures_of, takes_nothing, Counts};
+
+    ghost contents = { λ c. W.contents (device_of c) };
+
+    fn write(&mut self, buf: &[u8]) -> io::Result<usize>
+        ensures bound { WritesAtMost result buf.now }
+        ensures bytes { WriteAppends (W.contents (device_of self.old)) (W.contents (device_of self.new)) result buf.now }
+        ensures counts { Counts (takes_nothing buf.now result) (failures_of self.old) (failures_of self.new) }
+    {
+        let outcome = self.inner.write(buf);
+        let failed = match &outcome {
+            Ok(taken) => *taken == 0 && !buf.is_empty(),
+            Err(_) => true,
+        };
+        if failed {
+            self.count();
+        }
+        outcome
+    }
+
+    fn flush(&mut self) -> io::Result<()>
+        ensures bytes { Keeps (W.contents (device_of self.old)) (W.contents (device_of self.new)) }
+        ensures counts { Counts (is_err result) (failures_of self.old) (failures_of self.new) }
+    {
+        let outcome = self.inner.flush();
+        if outcome.is_err() {
+            self.count();
+        }
+        outcome
+    }
+}

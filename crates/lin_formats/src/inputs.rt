@@ -1,0 +1,138 @@
+//! Histories read from a file, piece by piece.
+ghost use Rattle.std.specs.Prelude.{◌≡◌, ◌+◌, ◌^◌, ◌<◌, ◌≤◌, ◌++◌, ◌⊎◌, [], ℕ, List, Err, length, Option, IfErr, IfNone, IfOk, IfSome, false, IsErrOf, MatchBool, MatchOption, MatchResult};
+ghost use Rattle.std.specs.Io.KnownBytes.{Consumes, IsAtEnd};
+ghost use Rattle.lin_events.specs.declared.events.Event.{Event as EventOf};
+ghost use Rattle.lin_history.specs.Sees.{is_fault, Sees};
+ghost use Rattle.lin_formats.specs.Devices.{device_of, failures_of, Counts};
+ghost use Rattle.lin_formats.specs.Intakes.{IsTaken};
+ghost use Rattle.lin_formats.specs.Inputs.{limit, IsRefused, IsTooMany};
+ghost use Rattle.lin_formats.specs.Inputs as inputs_said;
+ghost use Rattle.lin_formats.specs.Verdicts.{IsReadTooFar};
+ghost use Rattle.lin_formats.specs.Histories.{EndsFor, IsHistory, StopsFor, is_read_failed};
+
+use crate::answers::Refusal;
+use crate::counted::Counted;
+use crate::faults::RunFault;
+use lin_events::{Event, OutOfMemory};
+use lin_history::{Follow, FollowFault};
+use std::alloc::Global;
+use std::io::Read;
+
+/// The greatest number of events of a file.
+const LIMIT: usize = 1_000_000;
+
+/// How many bytes are read at once.
+const PIECE: usize = 65_536;
+
+/// What a file says.
+#[derive(Drop)]
+pub enum History {
+    /// A whole stream of these events.
+    Whole(Vec<Event>),
+    Refused(Refusal),
+}
+
+/// What a fault of the stream comes to.
+fn refusal_of(fault: FollowFault) -> Result<Refusal, RunFault>
+    ensures { result ≡ inputs_said.refusal_of fault }
+{
+    match fault {
+        FollowFault::Edn { at, cause } => Ok(Refusal::Edn { at, cause }),
+        FollowFault::Event { at, cause } => Ok(Refusal::Event { at, cause }),
+        FollowFault::Truncated { at } => Ok(Refusal::Truncated { at }),
+        FollowFault::OutOfMemory => Err(RunFault::OutOfMemory),
+        FollowFault::TooMuch => Err(RunFault::TooMuch),
+    }
+}
+
+/// Takes the events that are ready; false where there are too many.
+fn take_ready(follow: &mut Follow, events: &mut Vec<Event>) -> Result<bool, OutOfMemory>
+    requires { length events.old.items ≤ limit }
+    ensures keyed { follow.new.keyed ≡ follow.old.keyed }
+    ensures outcome { follow.new.outcome ≡ follow.old.outcome }
+    ensures all { IfOk result (λ fits. (bytes : List ℕ) → Sees follow.old bytes events.old.items →
+        MatchBool fits (IsTaken follow.new bytes events.new.items) (IsTooMany follow.new.keyed bytes)) }
+{
+    let mut more = follow.take_all();
+    if more.len() > LIMIT - events.len() {
+        return Ok(false);
+    }
+    if events.is_empty() {
+        *events = more;
+    } else {
+        events.append(&mut more)?;
+    }
+    Ok(true)
+}
+
+/// Takes in one more piece of the file, or tells why it is refused.
+fn take_in(
+    follow: &mut Follow,
+    events: &mut Vec<Event>,
+    piece: &[u8],
+) -> Result<Option<Refusal>, RunFault>
+    requires { length events.old.items ≤ limit }
+    ensures keyed { follow.new.keyed ≡ follow.old.keyed }
+    ensures taken { IfOk result (λ refusal. (bytes : List ℕ) → IsTaken follow.old bytes events.old.items → MatchOption refusal
+        (IsTaken follow.new (bytes ++ piece.now) events.new.items)
+        (IsRefused follow.new.keyed (bytes ++ piece.now))) }
+    ensures goes_on { IfOk result (λ refusal. IfNone refusal (is_fault follow.new.outcome ≡ false)) }
+    ensures within { IfOk result (λ _. (bytes : List ℕ) → IsTaken follow.old bytes events.old.items → is_fault follow.old.outcome ≡ false → length bytes + length piece.now ≤ 2 ^ 40) }
+    ensures stops { IfOk result (λ refusal. IfSome refusal (λ r. (left : Option (List ℕ)) → StopsFor r left)) }
+    ensures faults { IfErr result (λ fault. (fault ≡ RunFault.OutOfMemory) ⊎ (fault ≡ RunFault.TooMuch)) }
+    ensures too_much { IsErrOf result RunFault.TooMuch → (bytes : List ℕ) → IsTaken follow.old bytes events.old.items → 2 ^ 40 < length bytes + length piece.now }
+{
+    let refusal = match follow.feed(piece) {
+        Ok(_) => None,
+        Err(fault) => Some(refusal_of(fault)?),
+    };
+    if !take_ready(follow, events)? {
+        return Ok(Some(Refusal::Full));
+    }
+    Ok(refusal)
+}
+
+/// What a file says whose bytes all were taken in.
+fn finish(follow: &Follow, events: Vec<Event>) -> Result<History, RunFault>
+    ensures { (bytes : List ℕ) → IsTaken follow.now bytes events.items → MatchResult result (IsHistory follow.now.keyed bytes) (λ _. ⊥) }
+{
+    match follow.finish() {
+        Ok(()) => Ok(History::Whole(events)),
+        Err(fault) => Ok(History::Refused(refusal_of(fault)?)),
+    }
+}
+
+/// The history in a file, read to its end or to a fault.
+///
+/// Errors: `ReadFailed`; want of memory; `TooMuch` where the file has more than 1,099,511,627,776 bytes.
+pub fn read_history<R: Read>(
+    alloc: Global,
+    keyed: bool,
+    file: &mut Counted<R>,
+) -> Result<History, RunFault>
+    requires { failures_of file.old < u64.MAX }
+    ensures read { IfOk result (λ history. (bytes : List ℕ)
+        × Consumes (R.remaining (device_of file.old)) (R.remaining (device_of file.new)) bytes
+        × (length bytes ≤ 2 ^ 40)
+        × EndsFor history (R.remaining (device_of file.new))
+        × IsHistory keyed bytes history) }
+    ensures too_much { IsErrOf result RunFault.TooMuch → IsReadTooFar (R.remaining (device_of file.old)) (R.remaining (device_of file.new)) }
+    ensures counts { Counts (is_read_failed result) (failures_of file.old) (failures_of file.new) }
+    ensures readers { IsErrOf result RunFault.WriteFailed → ⊥ }
+{
+    let mut follow = Follow::new(alloc, keyed);
+    let mut events = Vec::new(alloc);
+    let mut piece = [0u8; PIECE];
+    'pieces: for _ in 0..u64::MAX {
+        let Ok(count) = file.read(&mut piece) else {
+            return Err(RunFault::ReadFailed);
+        };
+        if count == 0 {
+            return finish(&follow, events);
+        }
+        if let Some(refusal) = take_in(&mut follow, &mut events, &piece[..count])? {
+            return Ok(History::Refused(refusal));
+        }
+    }
+    Err(RunFault::TooMuch)
+}

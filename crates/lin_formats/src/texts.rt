@@ -1,0 +1,108 @@
+//! The texts of orders.
+ghost use Rattle.std.specs.Prelude.{◌≡◌, ◌++◌, codes, decimal, OnErr, OnOk};
+ghost use Rattle.std.specs.Fmt.{signed_decimal};
+ghost use Rattle.std.specs.List.{join_by};
+ghost use Rattle.lin_formats.specs.Fronts.{HasFront};
+ghost use Rattle.lin_formats.specs.OrderLaws.{WrittenOrdersAreRead};
+ghost use Rattle.lin_formats.specs.Texts.{order_text, placed_text, reply_text};
+
+use itoa::Buffer;
+use lin_events::{OutOfMemory, Reply, Val};
+use lin_orders::Placed;
+use std::alloc::AllocError;
+
+/// Puts a number with its sign last.
+pub fn put_integer(line: &mut Vec<u8>, number: i64) -> Result<(), AllocError>
+    ensures put { OnOk result (line.new.items ≡ line.old.items ++ signed_decimal number) }
+    ensures refused { OnErr result (line.new.items ≡ line.old.items) }
+{
+    let mut digits = Buffer::new();
+    line.extend_from_slice(digits.format(number).as_bytes())
+}
+
+/// Puts numbers last, with commas between them.
+fn put_members(line: &mut Vec<u8>, members: &[i64]) -> Result<(), AllocError>
+    ensures put { OnOk result (line.new.items ≡ line.old.items ++ join_by signed_decimal (codes ",") members.now) }
+    ensures refused { OnErr result (HasFront line.old.items line.new.items) }
+{
+    let Some((first, others)) = members.split_first() else {
+        return Ok(());
+    };
+    put_integer(line, *first)?;
+    for member in others {
+        line.push(b',')?;
+        put_integer(line, *member)?;
+    }
+    Ok(())
+}
+
+fn put_reply(line: &mut Vec<u8>, reply: &Reply) -> Result<(), AllocError>
+    ensures put { OnOk result (line.new.items ≡ line.old.items ++ reply_text reply.now) }
+    ensures refused { OnErr result (HasFront line.old.items line.new.items) }
+{
+    match reply {
+        Reply::Done => line.extend_from_slice(b"done"),
+        Reply::Value(Val::Nil) => line.extend_from_slice(b"nil"),
+        Reply::Value(Val::Int(number)) => put_integer(line, *number),
+        Reply::Members(members) => {
+            line.push(b'{')?;
+            put_members(line, members.as_slice())?;
+            line.push(b'}')?;
+            Ok(())
+        }
+    }
+}
+
+/// Puts a position last.
+fn put_position(line: &mut Vec<u8>, position: usize) -> Result<(), AllocError>
+    ensures put { OnOk result (line.new.items ≡ line.old.items ++ decimal position) }
+    ensures refused { OnErr result (line.new.items ≡ line.old.items) }
+{
+    let mut digits = Buffer::new();
+    line.extend_from_slice(digits.format(position).as_bytes())
+}
+
+fn put_pair(line: &mut Vec<u8>, pair: &Placed) -> Result<(), AllocError>
+    ensures put { OnOk result (line.new.items ≡ line.old.items ++ placed_text pair.now) }
+    ensures refused { OnErr result (HasFront line.old.items line.new.items) }
+{
+    put_position(line, pair.at)?;
+    line.push(b'=')?;
+    put_reply(line, &pair.reply)
+}
+
+/// Puts the text of an order last.
+fn put_order(line: &mut Vec<u8>, order: &[Placed]) -> Result<(), AllocError>
+    ensures put { OnOk result (line.new.items ≡ line.old.items ++ order_text order.now) }
+    ensures refused { OnErr result (HasFront line.old.items line.new.items) }
+{
+    let Some((first, others)) = order.split_first() else {
+        return line.extend_from_slice(b"empty");
+    };
+    put_pair(line, first)?;
+    for pair in others {
+        line.push(b' ')?;
+        put_pair(line, pair)?;
+    }
+    Ok(())
+}
+
+/// Puts the text of an order last: `empty`, or its pairs `AT=REPLY` with a space between two. Refused, `out` is as it was.
+pub fn write_order(order: &[Placed], out: &mut Vec<u8>) -> Result<(), OutOfMemory>
+    ensures written { OnOk result (out.new.items ≡ out.old.items ++ order_text order.now) }
+    ensures kept { OnErr result (out.new.items ≡ out.old.items) }
+{
+    let before = out.len();
+    match put_order(out, order) {
+        Ok(()) => Ok(()),
+        Err(_) => {
+            out.truncate(before);
+            Err(OutOfMemory)
+        }
+    }
+}
+
+/// Reading the text of an order gives that order back. The function does nothing.
+pub fn written_orders_are_read()
+    ensures { WrittenOrdersAreRead }
+{}

@@ -1,8 +1,0 @@
-use Rattle.lin_history.proofs.StatusLemmas.{status_of_last, status_kept}
-use Rattle.lin_history.proofs.laws.statuses_after_events.Goals as goal
-
-pub returns-clause-decided : goal.returns-clause-decided
-returns-clause-decided c = status_of_last
-
-pub returns-clause-others : goal.returns-clause-others
-returns-clause-others c = status_kept

@@ -1,5 +1,0 @@
-use Rattle.lin_history.proofs.Alternating.{alternates, well_formed_again}
-use Rattle.lin_history.proofs.laws.well_formed_is_alternating.Goals as goal
-
-pub returns : goal.returns
-returns c = λ functions h. (alternates functions h, well_formed_again functions h)

@@ -1,0 +1,5 @@
+pub mod Lists
+pub mod Rising
+pub mod Filters
+pub mod Elements
+pub mod Taken

@@ -1,0 +1,12 @@
+pub mod Orders
+pub mod Parts
+pub mod Linearizable
+pub mod Tables
+pub mod Configurations
+pub mod ConfigurationLaws
+pub mod ConfigurationExamples
+pub mod Laws
+pub mod PartLaws
+pub mod Merging
+pub mod Sameness
+pub mod lemmas

@@ -1,0 +1,15 @@
+pub mod Lists
+pub mod OneEnd
+pub mod Empty
+pub mod Each
+pub mod Running
+pub mod Assembling
+pub mod Prefixes
+pub mod Adding
+pub mod OneMore
+pub mod Placing
+pub mod Again
+pub mod Quiet
+pub mod Invoking
+pub mod Completing
+pub mod Ending

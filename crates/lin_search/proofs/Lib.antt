@@ -1,0 +1,4 @@
+pub mod Witnesses
+pub mod Conflicting
+pub mod SetConflicting
+pub mod QueueConflicting

@@ -1,0 +1,4 @@
+pub mod Conflicts
+pub mod Adding
+pub mod SetConflicts
+pub mod QueueConflicts
