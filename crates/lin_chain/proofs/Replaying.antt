@@ -17,13 +17,13 @@ use Rattle.lin_objects.specs.Steps.{Step, start}
 use Rattle.lin_orders.specs.declared.placed.Placed.{Placed}
 use Rattle.lin_orders.specs.ConfigurationLaws.{with_event}
 use Rattle.lin_orders.specs.Laws.{EmptyIsLegal}
-use Rattle.lin_frontier.specs.declared.members.Path.{Path}
+use Rattle.lin_members.specs.declared.members.Path.{Path}
 use Rattle.lin_frontier.specs.declared.pending.Open.{Open}
-use Rattle.lin_frontier.specs.Compressed.{CompressedSpellLegalOrders, IsCompressed}
+use Rattle.lin_members.specs.Compressed.{CompressedSpellLegalOrders, IsCompressed}
 use Rattle.lin_frontier.specs.Frontiers.{IsPending, IsNextEvent}
-use Rattle.lin_frontier.specs.Members.{Member}
+use Rattle.lin_members.specs.Members.{Member}
 use Rattle.lin_frontier.specs.Nodes.{IsGrown}
-use Rattle.lin_frontier.specs.Rounds.{joined, SpellsRounds}
+use Rattle.lin_members.specs.Rounds.{joined, SpellsRounds}
 use Rattle.lin_chain.specs.declared.pending.Pending.{Pending}
 use Rattle.lin_chain.specs.declared.replay.Checkpoint.{Checkpoint}
 use Rattle.lin_chain.specs.declared.replay.Replay.{Replay}

@@ -7,11 +7,11 @@ use Rattle.lin_objects.specs.Observing.{observes}
 use Rattle.lin_objects.specs.Overwriting.{overwrites}
 use Rattle.lin_objects.specs.Steps.{Step, start}
 use Rattle.lin_orders.specs.declared.placed.Placed.{Placed}
-use Rattle.lin_frontier.specs.declared.members.Path.{Path}
+use Rattle.lin_members.specs.declared.members.Path.{Path}
 use Rattle.lin_frontier.specs.declared.pending.Open.{Open}
-use Rattle.lin_frontier.specs.Compressed.{IsCompressed}
+use Rattle.lin_members.specs.Compressed.{IsCompressed}
 use Rattle.lin_frontier.specs.Frontiers.{IsPending}
-use Rattle.lin_frontier.specs.Members.{Member}
+use Rattle.lin_members.specs.Members.{Member}
 use Rattle.lin_chain.specs.declared.replay.Checkpoint.{Checkpoint}
 use Rattle.lin_chain.specs.declared.replay.Replay.{Replay}
 

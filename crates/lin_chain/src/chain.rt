@@ -14,8 +14,8 @@ ghost use Rattle.lin_orders.specs.Linearizable.{IsLegalOrderAs};
 
 use crate::refuting::refutation_of;
 use crate::replay::{Replay, SPACING, Taken};
+use lin_compressed::{Scratch, members_spell_legal_orders};
 use lin_events::{Event, Meter, OutOfMemory};
-use lin_frontier::{Scratch, members_spell_legal_orders};
 use lin_objects::{Any, Kind};
 use lin_order::Refutation;
 use lin_orders::{Placed, empty_is_legal};

@@ -9,16 +9,15 @@ ghost use Rattle.lin_objects.specs.Steps.{Step as StepOf, start as start_of};
 ghost use Rattle.lin_orders.specs.declared.placed.Placed.{Placed as PlacedOf};
 ghost use Rattle.lin_orders.specs.ConfigurationLaws.{with_event};
 ghost use Rattle.lin_frontier.specs.Frontiers.{IsNextEvent, IsOver, IsPending};
-ghost use Rattle.lin_frontier.specs.Rounds.{joined, SpellsRounds};
+ghost use Rattle.lin_members.specs.Rounds.{joined, SpellsRounds};
 ghost use Rattle.lin_chain.specs.Replays.{IsCurrent, IsPrepared, IsReplay, Members, held_count};
 ghost use Rattle.lin_orders.specs.Linearizable.{IsLegalOrderAs, IsLinearizableAs};
 
 use crate::pending::Pending;
+use lin_compressed::{Advance, Compressed, Scratch, members_spell_legal_orders};
 use lin_events::{Event, Meter, OutOfMemory, beginnings_are_well_formed};
-use lin_frontier::{
-    Advance, Compressed, NodeId, Open, RoundNodes, Scratch, append_operations,
-    members_spell_legal_orders, nothing_is_open_at_first,
-};
+use lin_frontier::{NodeId, Open, append_operations, nothing_is_open_at_first};
+use lin_members::RoundNodes;
 use lin_objects::{Any, Kind};
 use lin_orders::{Placed, empty_is_legal};
 use std::alloc::Global;

@@ -8,8 +8,8 @@ use Rattle.lin_events.specs.declared.calls.Reply.{Reply}
 use Rattle.lin_events.specs.declared.events.Body.{Body}
 use Rattle.lin_events.specs.declared.events.Body.TheVariants.{Invoke, Ok, Fail, Info}
 use Rattle.lin_frontier.specs.Placing.{IsKept, IsKeeping}
-use Rattle.lin_frontier.proofs.Absorbing.{keys_push}
-use Rattle.lin_frontier.proofs.Inserting.{first_or_rest}
+use Rattle.lin_frontier.specs.lemmas.Absorbing.{keys_push}
+use Rattle.lin_frontier.specs.lemmas.Inserting.{first_or_rest}
 
 module _ {K V : Type 0} (eq : K → K → Bool) (same : (x y : K) → eq x y ≡ true → x ≡ y) (k : K) (v : V) where
   -- what stands in the entries after an insertion

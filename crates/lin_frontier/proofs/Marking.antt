@@ -1,7 +1,7 @@
 -- Operations that are marked one after the other.
 use Rattle.std.proofs.Common.{◌≡◌, ℕ, zero, suc, ◌+◌, ◌<◌, ◌≤◌, List, [], ◌∷◌, ◌++◌, length, map, set, take, drop, get_or, refl, ap, ◌∙◌, arith}
 use Rattle.std.proofs.lemmas.List.{append-nil}
-use Rattle.lin_frontier.proofs.Trying.{take_all}
+use Rattle.lin_frontier.specs.lemmas.Trying.{take_all}
 
 -- the first ones changed
 abbrev pub partly : {A : Type 0} → (A → A) → ℕ → List A → List A

@@ -6,7 +6,7 @@ use Rattle.lin_events.specs.declared.calls.Reply.{Reply}
 use Rattle.lin_orders.specs.declared.placed.Placed.{Placed}
 use Rattle.lin_frontier.specs.declared.pending.Open.{Open}
 use Rattle.lin_frontier.specs.Placing.{IsAbsent, PlacesOne, PlacesNext, IsTried}
-use Rattle.lin_frontier.proofs.Trying.{IsTriedAll}
+use Rattle.lin_frontier.specs.lemmas.Trying.{IsTriedAll}
 
 module _ {S : Type 0} (step : S → Call → S → Reply → Type 0) (pending : List Open) (new : Open) (c : S × List (ℕ × Reply)) (out : List ((S × List (ℕ × Reply)) × Placed)) where
   pub alone_sound : (old : List ((S × List (ℕ × Reply)) × Placed)) → old ≡ [] → IsTried (PlacesOne step new c) old out → All (λ x. PlacesNext step pending new c x.1 x.0) out

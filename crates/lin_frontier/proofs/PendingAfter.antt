@@ -23,7 +23,7 @@ use Rattle.lin_frontier.specs.Placing.{marked}
 use Rattle.lin_events.specs.lemmas.OneMore.{completes, end_cases, end_inside, end_kept, invoked, one_caller, one_open, open_before, open_kept, open_other, operation_kept}
 use Rattle.lin_lists.specs.lemmas.Lists.{get_last}
 use Rattle.lin_events.specs.lemmas.StatusLemmas.{one_event}
-use Rattle.lin_frontier.proofs.Inserting.{kept_by, passed_by, other_process, differs}
+use Rattle.lin_frontier.specs.lemmas.Inserting.{kept_by, passed_by, other_process, differs}
 
 -- with one more whose position is new, no two have one position
 pairs_push : (xs : List Open) (x : Open) → AllPairs (λ o p. o.at ≢ p.at) xs → All (λ o. o.at ≢ x.at) xs → AllPairs (λ o p. o.at ≢ p.at) (xs ++ x ∷ [])

@@ -45,7 +45,7 @@ impl<S: Eq + Hash> Config<S> {
     }
 
     /// The configuration of these.
-    pub(crate) fn of(state: S, placed: Pairs) -> Self
+    pub fn of(state: S, placed: Pairs) -> Self
         ensures { result ≡ (state, placed) }
     {
         Config { state, placed }
@@ -66,7 +66,7 @@ impl<S: Eq + Hash> Config<S> {
     }
 
     /// The same with what tells quickly whether they may be part of others.
-    pub(crate) fn pairs(&self) -> &Pairs
+    pub fn pairs(&self) -> &Pairs
         ensures { result.now ≡ self.now.1 }
     {
         &self.placed
@@ -231,7 +231,7 @@ impl<S: Eq + Hash> Config<S> {
 
     /// Gives the list of what is placed up, to be used again.
     #[inline(always)]
-    pub(crate) fn give_up(self, spare: &mut Spare<PairList>)
+    pub fn give_up(self, spare: &mut Spare<PairList>)
     where
         S: Drop,
     {

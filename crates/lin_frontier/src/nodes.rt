@@ -51,7 +51,7 @@ impl Nodes {
     }
 
     /// One node more: the parent's order and this operation.
-    pub(crate) fn push(&mut self, parent: NodeId, placed: Placed) -> Result<NodeId, OutOfMemory>
+    pub fn push(&mut self, parent: NodeId, placed: Placed) -> Result<NodeId, OutOfMemory>
         ensures ok { OnOk result (self.new ≡ self.old ++ (parent, placed) ∷ []) }
         ensures id { IfOk result (λ id. id ≡ length self.old + 1) }
         ensures err { OnErr result (self.new ≡ self.old) }

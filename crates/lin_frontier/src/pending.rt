@@ -4,10 +4,8 @@ ghost use Rattle.lin_events.specs.declared.calls.Name.{Name as NameOf};
 ghost use Rattle.lin_events.specs.declared.events.Event.{Event as EventOf};
 ghost use Rattle.lin_orders.specs.ConfigurationLaws.{with_event};
 ghost use Rattle.lin_frontier.specs.Frontiers.{IsNextEvent, IsPending};
-ghost use Rattle.lin_frontier.specs.Masks.{crashed_bits as crashed_bits_of};
-ghost use Rattle.lin_frontier.specs.Parts.{bits_beside as bits_beside_of};
+ghost use Rattle.lin_frontier.specs.Masks.{crashed_bits as crashed_bits_of, is_crashed as is_crashed_in, bits_beside as bits_beside_of};
 ghost use Rattle.lin_frontier.specs.Placing.{marked};
-ghost use Rattle.lin_frontier.specs.Searching.{is_crashed as is_crashed_in};
 
 use crate::pairs::{Pairs, bit_of};
 use lin_events::{
@@ -32,7 +30,7 @@ pub fn nothing_is_open_at_first()
 {}
 
 /// The operation of the process, if it has one that is open.
-pub(crate) fn open_of(pending: &[Open], process: u64) -> Option<&Open>
+pub fn open_of(pending: &[Open], process: u64) -> Option<&Open>
     ensures some { IfSome result (λ o. Contains pending.now o.now × (o.now.process ≡ process)) }
     ensures none { IfNone result (All (λ o. o.process ≡ process → ⊥) pending.now) }
 {

@@ -1,6 +1,4 @@
 //! Shared lists that nobody has any more, to be written anew.
-use crate::offers::OfferList;
-use crate::pairs::PairList;
 use std::alloc::Global;
 use std::marker::Model;
 use std::rc::Rc;
@@ -40,23 +38,6 @@ impl<T: Drop> Spare<T> {
         if self.lists.len() < MOST && Rc::strong_count(&list) == 1 {
             // Where memory is refused, the list goes.
             let _ = self.lists.push(list);
-        }
-    }
-}
-
-/// Lists that members had.
-#[derive(Drop)]
-pub struct Pool {
-    pub offers: Spare<OfferList>,
-    pub pairs: Spare<PairList>,
-}
-
-impl Pool {
-    /// No list.
-    pub fn new(alloc: Global) -> Self {
-        Pool {
-            offers: Spare::new(alloc),
-            pairs: Spare::new(alloc),
         }
     }
 }

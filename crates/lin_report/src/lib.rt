@@ -6,7 +6,7 @@ mod commands;
 mod engines;
 mod laws;
 mod pulls;
-mod refusals;
+mod refused;
 mod refuting;
 mod replies;
 mod reports;

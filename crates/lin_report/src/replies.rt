@@ -6,7 +6,7 @@ ghost use Rattle.lin_report.specs.Runs as said;
 ghost use Rattle.lin_report.specs.Refusals.{edit_fault_text, fault_text};
 
 use crate::commands::{Command, CommandFault};
-use crate::refusals::{put_edit_fault, put_fault};
+use crate::refused::{put_edit_fault, put_fault};
 use crate::refuting::refute;
 use crate::reports::report;
 use crate::verdicts::{status_of, verdict_of, verdict_words};

@@ -1,5 +1,5 @@
 //! Lines of edit scripts, and texts of orders.
-use crate::refusals::{put_edit_fault, put_fault};
+use crate::refused::{put_edit_fault, put_fault};
 use crate::{Command, CommandFault, read_command};
 use lin_edn::{EdnCause, EdnFault};
 use lin_events::{Body, Call, Event, Val};

@@ -16,8 +16,8 @@ use crate::kept::{Object, Objects};
 use crate::objects::told;
 use crate::work::least_of;
 use lin_chain::End;
+use lin_compressed::is_counted;
 use lin_events::{Event, beginnings_are_well_formed};
-use lin_frontier::is_counted;
 use lin_objects::Kinds;
 use lin_orders::{
     absent_keys_are_legal, linearizability_is_local, parts_keep_operations, parts_keep_orders,

@@ -1,7 +1,5 @@
 //! Command lines, and the statuses with which they end.
-use crate::{
-    Ending, Line, Message, System, end_without_words, exit_of_refusal, line, run, run_words,
-};
+use crate::{Ending, Line, Message, System, end_without_words, exit_of_refusal, line, run, run_words};
 use lin_formats::{Counted, Settings};
 use lin_objects::Kind;
 use std::alloc::Global;

@@ -1,5 +1,5 @@
 use Rattle.std.proofs.Common.{arith}
-use Rattle.lin_frontier.proofs.Inserting.{place_at}
+use Rattle.lin_frontier.specs.lemmas.Inserting.{place_at}
 use Rattle.lin_frontier.proofs.configs.place_of.Goals as goal
 
 pub returns-clause-place : goal.returns-clause-place

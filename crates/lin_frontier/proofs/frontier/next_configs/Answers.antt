@@ -1,12 +1,12 @@
 use Rattle.std.proofs.Common.{sym, arith, []}
 use Rattle.std.proofs.lemmas.List.{append-nil}
 use Rattle.lin_orders.specs.ConfigurationLaws.{with_event}
-use Rattle.lin_frontier.proofs.Counting.{tried_none}
+use Rattle.lin_frontier.specs.lemmas.Counting.{tried_none}
 use Rattle.lin_frontier.specs.Sameness.{config_same}
-use Rattle.lin_frontier.proofs.AfterEvents.{frontier_invoked, over_invoked}
-use Rattle.lin_frontier.proofs.Closing.{entries_differ}
-use Rattle.lin_frontier.proofs.Completed.{configs_equivalent, frontier_completed, over_from}
-use Rattle.lin_frontier.proofs.Answered.{if_some_weaker, if_none_weaker}
+use Rattle.lin_frontier.specs.lemmas.AfterEvents.{frontier_invoked, over_invoked}
+use Rattle.lin_frontier.specs.lemmas.Closing.{entries_differ}
+use Rattle.lin_frontier.specs.lemmas.Completed.{configs_equivalent, frontier_completed, over_from}
+use Rattle.lin_frontier.specs.lemmas.Answered.{if_some_weaker, if_none_weaker}
 use Rattle.lin_frontier.proofs.frontier.next_configs.Goals as goal
 
 pub returns-in-Invoke-clause-next : goal.returns-in-Invoke-clause-next

@@ -1,8 +1,8 @@
 use Rattle.std.proofs.Common.{refl, sym, ap, subst, arith, ◌∙◌, ◌+◌, take}
 use Rattle.lin_frontier.specs.Placing.{IsKeeping}
 use Rattle.lin_frontier.specs.Sameness.{config_same}
-use Rattle.lin_frontier.proofs.Closing.{ended}
-use Rattle.lin_frontier.proofs.Trying.{take_all}
+use Rattle.lin_frontier.specs.lemmas.Closing.{ended}
+use Rattle.lin_frontier.specs.lemmas.Trying.{take_all}
 use Rattle.lin_frontier.proofs.Entries.{keeping_none, keeping_in, keeping_out, keeping_end, left_some, left_none}
 use Rattle.lin_frontier.proofs.keeping.keep_all.Goals as goal
 use Rattle.lin_frontier.proofs.keeping.keep_all.Goals.{in-Some-2+in-Ok, in_default-2}

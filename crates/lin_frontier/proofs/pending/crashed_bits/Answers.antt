@@ -2,7 +2,7 @@ use Rattle.std.proofs.Common.{ap, sym, take, ◌∙◌}
 use Rattle.std.proofs.lemmas.List.{take_more}
 use Rattle.std.specs.Int.Bits.{bit_or}
 use Rattle.lin_frontier.specs.Masks.{crashed_bits}
-use Rattle.lin_frontier.proofs.Masking.{crashed_push, crashed_pass}
+use Rattle.lin_frontier.specs.lemmas.Masking.{crashed_push, crashed_pass}
 use Rattle.lin_frontier.proofs.pending.crashed_bits.Goals.{then-operation, else-operation}
 use Rattle.lin_frontier.proofs.pending.crashed_bits.Goals as goal
 

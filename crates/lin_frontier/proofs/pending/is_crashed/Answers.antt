@@ -1,7 +1,7 @@
 use Rattle.std.proofs.Common.{◌≡◌, ◌&&◌, false, nat_eq, sym}
 use Rattle.std.proofs.lemmas.List.Folds.{list_any_none}
 use Rattle.lin_frontier.specs.declared.pending.Open.{Open}
-use Rattle.lin_frontier.proofs.Each.{all_end}
+use Rattle.lin_frontier.specs.lemmas.Each.{all_end}
 use Rattle.lin_frontier.proofs.pending.is_crashed.Goals as goal
 
 pub returns : goal.returns

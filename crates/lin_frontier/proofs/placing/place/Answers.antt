@@ -1,8 +1,7 @@
 use Rattle.std.proofs.Common.{◌+◌, ◌++◌, ◌∷◌, [], length, refl, sym, ap, ◌∙◌, arith}
 use Rattle.std.proofs.lemmas.List.Elements.{Contains-get_or}
-use Rattle.lin_frontier.proofs.Placings.{one_step}
-use Rattle.lin_frontier.proofs.Trying.{trying_start, trying_step}
-use Rattle.lin_frontier.proofs.TriedOnce.{counted_step, tried_end}
+use Rattle.lin_frontier.proofs.TriedOnce.{one_step, counted_step, tried_end}
+use Rattle.lin_frontier.specs.lemmas.Trying.{trying_start, trying_step}
 use Rattle.lin_frontier.proofs.placing.place.Goals as goal
 
 pub loop-state-init : goal.loop-state-init

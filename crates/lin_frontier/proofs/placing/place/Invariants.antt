@@ -1,6 +1,6 @@
 use Rattle.std.proofs.Common.{◌≡◌, ◌+◌, length, vec_len}
 use Rattle.lin_frontier.specs.Placing.{insert_pair}
-use Rattle.lin_frontier.proofs.Trying.{IsTrying}
+use Rattle.lin_frontier.specs.lemmas.Trying.{IsTrying}
 use Rattle.lin_frontier.proofs.placing.place.Given as goal
 
 abbrev pub invariant-loop-state : goal.invariant-loop-state

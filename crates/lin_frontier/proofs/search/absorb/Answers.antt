@@ -1,7 +1,7 @@
 use Rattle.std.proofs.Common.{sym, ◌∙◌}
 use Rattle.std.proofs.lemmas.Map.Views.{Contains-keys_from_lookup}
 use Rattle.indexmap.proofs.CallerLemmas.{insert_entry-new}
-use Rattle.lin_frontier.proofs.Absorbing.{absorbing_start, absorbing_skip, absorbing_push, absorbing_end, none_from_not_some, nothing_left}
+use Rattle.lin_frontier.specs.lemmas.Absorbing.{absorbing_start, absorbing_skip, absorbing_push, absorbing_end, none_from_not_some, nothing_left}
 use Rattle.lin_frontier.proofs.search.absorb.Goals as goal
 
 pub loop-state-init : goal.loop-state-init

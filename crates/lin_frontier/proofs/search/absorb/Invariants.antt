@@ -1,5 +1,5 @@
 use Rattle.std.proofs.Common.{vec_len}
-use Rattle.lin_frontier.proofs.Absorbing.{IsAbsorbing}
+use Rattle.lin_frontier.specs.lemmas.Absorbing.{IsAbsorbing}
 use Rattle.lin_frontier.proofs.search.absorb.Given as goal
 
 abbrev pub invariant-loop-state : goal.invariant-loop-state

@@ -1,6 +1,6 @@
 use Rattle.std.proofs.Common.{◌+◌, ◌++◌, sym, ap, ◌∙◌, arith, append_assoc, refl}
-use Rattle.lin_frontier.proofs.Closing.{IsClosing, closing_start, closing_step, closing_end, begins_in, traced_start, beyond_from, entries_differ, ended, longer}
-use Rattle.lin_frontier.proofs.Counting.{tried_none, tried_turn, tried_turns}
+use Rattle.lin_frontier.specs.lemmas.Closing.{IsClosing, closing_start, closing_step, closing_end, begins_in, traced_start, beyond_from, entries_differ, ended, longer}
+use Rattle.lin_frontier.specs.lemmas.Counting.{tried_none, tried_turn, tried_turns}
 use Rattle.lin_frontier.proofs.search.closure.Goals as goal
 use Rattle.lin_frontier.proofs.search.closure.Goals.{In_ok-absorb}
 

@@ -1,7 +1,7 @@
 use Rattle.std.proofs.Common.{◌≤◌, ◌+◌, ◌-◌, ◌*◌}
 use Rattle.indexmap.specs.IndexMap.{index_map_len, IsUnique}
 use Rattle.lin_frontier.specs.Walks.{IsTriedAtMost}
-use Rattle.lin_frontier.proofs.Closing.{IsClosing}
+use Rattle.lin_frontier.specs.lemmas.Closing.{IsClosing}
 use Rattle.lin_frontier.proofs.search.closure.Given as goal
 
 abbrev pub invariant-loop-state : goal.invariant-loop-state

@@ -1,5 +1,5 @@
 use Rattle.std.proofs.Common.{[], ◌∷◌, ◌∙◌, ap, sym, subst, arith, length, take}
-use Rattle.lin_frontier.specs.Rounds.SpellsRounds.{root}
+use Rattle.lin_members.specs.Rounds.SpellsRounds.{root}
 use Rattle.lin_chain.specs.Replays.{IsCurrent}
 use Rattle.lin_chain.proofs.Replaying.{member_order, known_current, nothing_legal}
 use Rattle.lin_chain.proofs.replay.Replay.node.Goals as goal

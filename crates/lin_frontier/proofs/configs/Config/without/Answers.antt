@@ -1,7 +1,7 @@
 use Rattle.std.proofs.Common.{◌∙◌, sym, ap}
 use Rattle.std.specs.Prelude.{◌≡◌, ℕ}
 use Rattle.lin_events.specs.declared.calls.Reply.{Reply}
-use Rattle.lin_frontier.proofs.Inserting.{dropped_pair}
+use Rattle.lin_frontier.specs.lemmas.Inserting.{dropped_pair}
 use Rattle.lin_frontier.proofs.configs.Config.without.Goals as goal
 
 pub loop-pair-preserved-then-pair-process : goal.loop-pair-preserved-then-pair-process

@@ -2,9 +2,9 @@ use Rattle.std.proofs.Common.{◌≡◌, [], take, sym, ap, ◌∙◌, subst}
 use Rattle.std.proofs.lemmas.List.{append-nil}
 use Rattle.lin_orders.specs.ConfigurationLaws.{with_event}
 use Rattle.lin_frontier.specs.Frontiers.{IsFrontier}
-use Rattle.lin_frontier.proofs.Answered.{from_some, from_none}
-use Rattle.lin_frontier.proofs.Closing.{cut_back}
-use Rattle.lin_frontier.proofs.Completed.{none_legal}
+use Rattle.lin_frontier.specs.lemmas.Answered.{from_some, from_none}
+use Rattle.lin_frontier.specs.lemmas.Closing.{cut_back}
+use Rattle.lin_frontier.specs.lemmas.Completed.{none_legal}
 use Rattle.lin_frontier.proofs.frontier.Frontier.advance_all.Goals as goal
 
 pub returns-then-is_empty-clause-empty : goal.returns-then-is_empty-clause-empty

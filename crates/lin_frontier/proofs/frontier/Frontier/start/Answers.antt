@@ -1,5 +1,5 @@
 use Rattle.std.proofs.Common.{◌∷◌, [], ap, ◌∙◌}
-use Rattle.lin_frontier.proofs.Completed.{frontier_first}
+use Rattle.lin_frontier.specs.lemmas.Completed.{frontier_first}
 use Rattle.lin_frontier.proofs.frontier.Frontier.start.Goals as goal
 
 pub returns-in-Ok-clause-exact : goal.returns-in-Ok-clause-exact

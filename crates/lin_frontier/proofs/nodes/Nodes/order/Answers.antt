@@ -1,7 +1,7 @@
 use Rattle.std.proofs.Common.{◌≡◌, ◌++◌, ◌∷◌, [], ◌∙◌, ap, arith, inl, inr, length, length-append}
 use Rattle.std.proofs.lemmas.Bool.{cases_lt}
 use Rattle.lin_events.specs.declared.calls.Reply.{Reply}
-use Rattle.lin_frontier.proofs.Spelling.{reading_start, reading_inside, reading_step, reading_end}
+use Rattle.lin_frontier.specs.lemmas.Spelling.{reading_start, reading_inside, reading_step, reading_end}
 use Rattle.lin_frontier.proofs.nodes.Nodes.order.Goals as goal
 use Rattle.lin_frontier.proofs.nodes.Nodes.order.Goals.{else-loop-test, then-loop-test+in_default}
 

@@ -1,7 +1,7 @@
 use Rattle.std.proofs.Common.{ap, sym, ◌∙◌}
 use Rattle.std.specs.Int.Bits.{bit_or}
 use Rattle.lin_frontier.specs.Masks.{mask_of}
-use Rattle.lin_frontier.proofs.Masking.{mask_push}
+use Rattle.lin_frontier.specs.lemmas.Masking.{mask_push}
 use Rattle.lin_frontier.proofs.pairs.PairList.push.Goals as goal
 
 pub invariant_of-self : goal.invariant_of-self

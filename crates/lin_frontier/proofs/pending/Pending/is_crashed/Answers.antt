@@ -2,9 +2,8 @@ use Rattle.std.proofs.Common.{◌%◌, ◌^◌, ap, sym, ◌∙◌}
 use Rattle.std.specs.Int.Bits.{bit_or}
 use Rattle.std.proofs.lemmas.Bool.Decides.{Decides-eqb}
 use Rattle.std.proofs.lemmas.Nat.{or_comm}
-use Rattle.lin_frontier.specs.Masks.{crashed_bits}
-use Rattle.lin_frontier.specs.Searching.{is_crashed}
-use Rattle.lin_frontier.proofs.Masking.{crashed_has, never_true}
+use Rattle.lin_frontier.specs.Masks.{crashed_bits, is_crashed}
+use Rattle.lin_frontier.specs.lemmas.Masking.{crashed_has, never_true}
 use Rattle.lin_frontier.proofs.pending.Pending.is_crashed.Goals as goal
 
 -- where the bit is missing, none of the process has crashed

@@ -2,7 +2,7 @@ use Rattle.std.proofs.Common.{ap, sym, ◌∙◌}
 use Rattle.std.specs.Int.Bits.{bit_or}
 use Rattle.std.proofs.lemmas.Bool.Decides.{Decides-eqb}
 use Rattle.lin_frontier.specs.Masks.{crashed_bits, mask_of}
-use Rattle.lin_frontier.proofs.Masking.{mask_part, same_bits}
+use Rattle.lin_frontier.specs.lemmas.Masking.{mask_part, same_bits}
 use Rattle.lin_frontier.proofs.pending.Pending.may_cover.Goals as goal
 
 pub returns-then-mask-other : goal.returns-then-mask-other

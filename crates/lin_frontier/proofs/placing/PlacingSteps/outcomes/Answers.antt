@@ -1,8 +1,8 @@
 use Rattle.std.proofs.Common.{sym, ◌∙◌, true≢false, arith, ◌+◌}
 use Rattle.lin_frontier.specs.Placing.{PlacesOne}
-use Rattle.lin_frontier.proofs.Counting.{tried_more as counted_more}
+use Rattle.lin_frontier.specs.lemmas.Counting.{tried_more as counted_more}
 use Rattle.lin_frontier.proofs.Outcomes.{alone_sound, behind_sound, behind_complete}
-use Rattle.lin_frontier.proofs.Trying.{tried_more, tried_full}
+use Rattle.lin_frontier.specs.lemmas.Trying.{tried_more, tried_full}
 use Rattle.lin_frontier.proofs.placing.PlacingSteps.outcomes.Goals as goal
 
 pub returns-then-is_absent-clause-sound : goal.returns-then-is_absent-clause-sound

@@ -1,7 +1,7 @@
 use Rattle.std.proofs.Common.{take}
 use Rattle.lin_frontier.specs.Placing.{PlacesOne}
 use Rattle.lin_frontier.specs.Walks.{IsTriedAtMost}
-use Rattle.lin_frontier.proofs.Trying.{IsTriedAll}
+use Rattle.lin_frontier.specs.lemmas.Trying.{IsTriedAll}
 use Rattle.lin_frontier.proofs.placing.PlacingSteps.outcomes.Given as goal
 
 abbrev pub invariant-loop-operation : goal.invariant-loop-operation

@@ -1,0 +1,19 @@
+use Rattle.std.proofs.Common.{refl}
+use Rattle.indexmap.proofs.MapLemmas.{OnOk-map}
+use Rattle.lin_members.specs.Members.{Member}
+use Rattle.lin_members.specs.declared.members.Path.{Path}
+use Rattle.lin_compressed.proofs.Placings.{is_asked_behind}
+use Rattle.lin_compressed.proofs.completions.Completion.ask_behind.Goals as goal
+
+pub returns-clause-made : goal.returns-clause-made
+returns-clause-made g c =
+    let n : Member g.row.O-State.Denot × Path = (record { state = c.args.config.0; placed = c.args.config.1; offers = c.in_ok-offers.offers }, c.in_ok-path-2.path) in
+    OnOk-map c.push_member.result _ _ (λ pushed. (
+      n,
+      pushed,
+      is_asked_behind _ _ c.args.self.now.operation.now c.args.self.now.reply.now c.args.self.now.pending.now c.args.now c.args.member.now c.put_behind.new.nodes c.args.config c.in_ok-offers.offers c.path.result c.in_ok-path.path c.path.ensures
+          c.in_round.new.nodes c.in_round.ensures.grown c.args.placed c.in_ok-taken.taken c.in_ok-path-2.path c.in_ok-taken.ensures c.in_ok-path-2.ensures.round c.in_ok-path-2.ensures.until c.requires.observer c.requires.gives
+          c.requires.places c.in_ok-offers.ensures.offered c.in_ok-path.ensures.begins c.in_ok-path.ensures.until c.in_ok-path-2.ensures.node,
+      refl,
+      refl,
+    )) c.push_member.ensures

@@ -1,0 +1,566 @@
+//! What members lead to when an operation completes: the ways of placing open updates until it can have its reply.
+ghost use Rattle.std.specs.Prelude.{◌≡◌, ◌⊎◌, ◌↔◌, if◌then◌else◌, IsTrue, ◌∷◌, ◌++◌, ◌+◌, ◌*◌, ◌≤◌, [], ℕ, true, false, length, map, Contains, IfOk, IfSome, IfNone, OnOk};
+ghost use Rattle.lin_events.specs.declared.calls.Reply.{Reply as ReplyOf};
+ghost use Rattle.lin_members.specs.Members.{Member as MemberOf};
+ghost use Rattle.lin_members.specs.declared.members.Path.{Path as PathOf};
+ghost use Rattle.lin_frontier.specs.Nodes.{IsGrown};
+ghost use Rattle.lin_frontier.specs.Placing.{IsTried};
+ghost use Rattle.lin_objects.specs.Commuting.{GoesFirst};
+ghost use Rattle.lin_members.specs.Searching.{AreBehind, AreUpdates, PlacesIfUpdate, CanTake, GoesAhead, IsVisiting, IsFinding, IsFoundFrom, IsDone, IsMadeAtOnce, IsOffering, IsPassed, IsSearchOf, GivesAny, watched};
+ghost use Rattle.lin_frontier.specs.Walks.{IsTriedAtMost};
+
+use crate::scratch::{Scratch, empty, give_up_all};
+use crate::seen::{Seen, is_found};
+use lin_events::{Meter, OutOfMemory, Reply};
+use lin_frontier::{Config, Open, Pending, place_if_absent};
+use lin_members::{
+    Member, OfferList, Offers, Path, Pool, RoundNodes, advanced, answered, may_be_watched,
+    placed_at, push_member, waits_for_like,
+};
+use lin_objects::SeqObject;
+use lin_orders::Placed;
+use std::alloc::Global;
+use std::hash::Hash;
+use std::rc::Rc;
+
+/// An operation that completes with the reply, and the operations that are open beside it.
+#[derive(Drop)]
+pub struct Completion<'a, O: SeqObject> {
+    pub object: &'a O,
+    pub operation: &'a Open,
+    pub reply: &'a Reply,
+    pub pending: &'a Pending<'a>,
+}
+
+/// Puts the value last, if it is wanted.
+#[inline(always)]
+pub fn push_if<S: Drop>(values: &mut Vec<S>, value: S, is_wanted: bool) -> Result<(), OutOfMemory>
+    ensures { OnOk result (values.new.items ≡ (if is_wanted then values.old.items ++ value ∷ [] else values.old.items)) }
+{
+    if is_wanted {
+        match values.push(value) {
+            Ok(()) => {}
+            Err(_) => return Err(OutOfMemory),
+        }
+    }
+    Ok(())
+}
+
+impl<'a, O: SeqObject> Completion<'a, O> {
+    /// What is on offer behind the state of the member.
+    #[inline(always)]
+    pub(crate) fn offers_behind(
+        &self,
+        alloc: Global,
+        member: &Member<O::State>,
+        steps: &mut Vec<(O::State, Reply)>,
+        meter: &mut Meter,
+        pool: &mut Pool,
+    ) -> Result<Offers, OutOfMemory>
+        ensures offered { IfOk result (AreBehind (O.step self.now.object.now) (O.observing self.now.object.now) self.now.pending.now member.now) }
+        ensures tried { IsTriedAtMost (length self.now.pending.now) meter.old meter.new }
+    {
+        if may_be_watched(self.object, self.pending) {
+            return self.offers_to_watchers(alloc, member, steps, meter, pool);
+        }
+        Ok(Offers::none())
+    }
+
+    /// The same where a process may watch.
+    #[inline(never)]
+    fn offers_to_watchers(
+        &self,
+        alloc: Global,
+        member: &Member<O::State>,
+        steps: &mut Vec<(O::State, Reply)>,
+        meter: &mut Meter,
+        pool: &mut Pool,
+    ) -> Result<Offers, OutOfMemory>
+        ensures offered { IfOk result (AreBehind (O.step self.now.object.now) (O.observing self.now.object.now) self.now.pending.now member.now) }
+        ensures tried { IsTriedAtMost (length self.now.pending.now) meter.old meter.new }
+    {
+        self.offers_with(
+            alloc,
+            member,
+            member.config(),
+            self.pending,
+            steps,
+            meter,
+            pool,
+        )
+    }
+
+    /// What is on offer once these operations, of those that are open, may have seen the configuration from the member's last round.
+    #[inline(always)]
+    pub(crate) fn offers_with(
+        &self,
+        alloc: Global,
+        member: &Member<O::State>,
+        config: &Config<O::State>,
+        operations: &Pending,
+        steps: &mut Vec<(O::State, Reply)>,
+        meter: &mut Meter,
+        pool: &mut Pool,
+    ) -> Result<Offers, OutOfMemory>
+        ensures offered { IfOk result (IsOffering (GivesAny (O.step self.now.object.now) (O.observing self.now.object.now) operations.now config.now) member.now.1.round
+            (watched (O.observing self.now.object.now) self.now.pending.now member.now.0.offers)) }
+        ensures tried { IsTriedAtMost (length operations.now) meter.old meter.new }
+    {
+        let mut shared = OfferList::emptied(alloc, &mut pool.offers)?;
+        // It has one owner, so it can be written.
+        let Some(list) = Rc::get_mut(&mut shared) else {
+            return Err(OutOfMemory);
+        };
+        list.push_watched(self.object, alloc, self.pending, member.offers())?;
+        list.offer_all(
+            self.object,
+            alloc,
+            config,
+            operations,
+            member.path().round as usize,
+            steps,
+            meter,
+        )?;
+        Ok(Offers::of(shared, &mut pool.offers))
+    }
+
+    /// Places the operation in each way that the object has, unless it is treated as an observer.
+    fn place_update(
+        &self,
+        alloc: Global,
+        config: &Config<O::State>,
+        operation: &Open,
+        out: &mut Vec<(Config<O::State>, Placed)>,
+        steps: &mut Vec<(O::State, Reply)>,
+        meter: &mut Meter,
+        pool: &mut Pool,
+    ) -> Result<(), OutOfMemory>
+        ensures placed { OnOk result (IsTried (PlacesIfUpdate (O.step self.now.object.now) (O.observing self.now.object.now) operation.now config.now) out.old.items out.new.items) }
+        ensures few { OnOk result (O.overwriting self.now.object.now ≡ true → length out.new.items ≤ length out.old.items + 1) }
+        ensures tried { IsTriedAtMost 1 meter.old meter.new }
+    {
+        if self.object.observes(&operation.call) {
+            return Ok(());
+        }
+        place_if_absent(
+            self.object,
+            alloc,
+            config,
+            operation,
+            out,
+            steps,
+            meter,
+            &mut pool.pairs,
+        )?;
+        Ok(())
+    }
+
+    /// Puts in `out`, which is written over, what placing one open update makes of the configuration. Crashed ones that have
+    /// the same call are placed in the order of their invocations, since nothing that follows tells them apart.
+    pub(crate) fn updates(
+        &self,
+        alloc: Global,
+        config: &Config<O::State>,
+        out: &mut Vec<(Config<O::State>, Placed)>,
+        steps: &mut Vec<(O::State, Reply)>,
+        meter: &mut Meter,
+        pool: &mut Pool,
+    ) -> Result<(), OutOfMemory>
+        ensures placed { OnOk result (AreUpdates (O.step self.now.object.now) (O.observing self.now.object.now) self.now.pending.now config.now out.new.items) }
+        ensures few { OnOk result (O.overwriting self.now.object.now ≡ true → length out.new.items ≤ length self.now.pending.now) }
+        ensures tried { IsTriedAtMost (length self.now.pending.now) meter.old meter.new }
+    {
+        empty(out);
+        let operations = self.pending.as_slice();
+        let mut at = 0;
+        while let Some(operation) = operations.get(at) {
+            if !waits_for_like(&operations[..at], config.placed(), operation) {
+                self.place_update(alloc, config, operation, out, steps, meter, pool)?;
+            }
+            at += 1;
+        }
+        Ok(())
+    }
+
+    /// Takes in what neither a start nor a visited member dominates.
+    fn visit(
+        &self,
+        alloc: Global,
+        path: Path,
+        next: &mut Vec<(Config<O::State>, Placed)>,
+        offers: &Offers,
+        starts: &[&Member<O::State>],
+        seen: &mut Seen,
+        visited: &mut Vec<Member<O::State>>,
+        nodes: &mut RoundNodes,
+        pool: &mut Pool,
+    ) -> Result<(), OutOfMemory>
+        ensures grown { IsGrown nodes.old nodes.new }
+        ensures visited { OnOk result (IsVisiting (O.observing self.now.object.now) self.now.pending.now next.old.items offers.now path nodes.new
+            (map (λ m. m.now) starts.now ++ visited.old.items) (map (λ m. m.now) starts.now ++ visited.new.items)) }
+    {
+        while let Some((config, placed)) = next.pop() {
+            if seen.has_start(self.object, self.pending, starts, &config, offers) {
+                config.give_up(&mut pool.pairs);
+                continue;
+            }
+            if seen.has_visited(self.object, self.pending, visited, &config, offers) {
+                config.give_up(&mut pool.pairs);
+                continue;
+            }
+            let member = advanced(alloc, config, offers, path, placed, nodes)?;
+            push_member(visited, member)?;
+            seen.catch_up(alloc, self.pending, visited)?;
+        }
+        Ok(())
+    }
+
+    /// Whether the operation can give the reply in this state.
+    pub(crate) fn gives(
+        &self,
+        alloc: Global,
+        state: &O::State,
+        steps: &mut Vec<(O::State, Reply)>,
+        meter: &mut Meter,
+    ) -> Result<bool, OutOfMemory>
+        ensures given { IfOk result (λ given. IsTrue given ↔ ((next : O.State) × O.step self.now.object.now state.now self.now.operation.now.call next self.now.reply.now)) }
+        ensures tried { IsTriedAtMost 1 meter.old meter.new }
+    {
+        meter.tick_try();
+        self.object
+            .outcomes(alloc, state, &self.operation.call, steps)?;
+        while let Some((_, reply)) = steps.pop() {
+            if reply == *self.reply {
+                return Ok(true);
+            }
+        }
+        Ok(false)
+    }
+
+    /// A round in which the operation can take the reply, if there is one.
+    pub(crate) fn round_given(
+        &self,
+        alloc: Global,
+        member: &Member<O::State>,
+        steps: &mut Vec<(O::State, Reply)>,
+        meter: &mut Meter,
+    ) -> Result<Option<usize>, OutOfMemory>
+        ensures some { IfOk result (λ found. IfSome found (CanTake (O.step self.now.object.now) self.now.operation.now self.now.reply.now member.now)) }
+        ensures none { IfOk result (λ found. IfNone found ((round : ℕ) → CanTake (O.step self.now.object.now) self.now.operation.now self.now.reply.now member.now round → ⊥)) }
+        ensures tried { IsTriedAtMost 1 meter.old meter.new }
+    {
+        if let Some(round) = member.offers().round_of(self.operation.process, self.reply) {
+            return Ok(Some(round));
+        }
+        if self.gives(alloc, member.state(), steps, meter)? {
+            return Ok(Some(member.path().round as usize));
+        }
+        Ok(None)
+    }
+
+    /// Puts in `out` what the operation, an observer, makes of the member with its reply; or, where it can't take it,
+    /// answers what is on offer behind the member.
+    fn observe(
+        &self,
+        alloc: Global,
+        member: &Member<O::State>,
+        out: &mut Vec<Member<O::State>>,
+        nodes: &mut RoundNodes,
+        steps: &mut Vec<(O::State, Reply)>,
+        meter: &mut Meter,
+        pool: &mut Pool,
+    ) -> Result<Option<Offers>, OutOfMemory>
+        requires { O.observing self.now.object.now self.now.operation.now.call ≡ true }
+        ensures grown { IsGrown nodes.old nodes.new }
+        ensures found { OnOk result (IsFinding (O.step self.now.object.now) (O.observing self.now.object.now) self.now.operation.now self.now.reply.now self.now.pending.now nodes.new member.now out.old.items out.new.items) }
+        ensures done { IfOk result (λ offers. IfNone offers (IsDone (O.observing self.now.object.now) self.now.operation.now self.now.pending.now out.new.items member.now.0)) }
+        ensures passed { IfOk result (λ offers. IfSome offers (λ _. IsPassed (O.step self.now.object.now) (O.observing self.now.object.now) self.now.operation.now self.now.reply.now self.now.pending.now out.new.items member.now)) }
+        ensures offered { IfOk result (λ offers. IfSome offers (AreBehind (O.step self.now.object.now) (O.observing self.now.object.now) self.now.pending.now member.now)) }
+        ensures tried { IsTriedAtMost (length self.now.pending.now + 1) meter.old meter.new }
+    {
+        match self.round_given(alloc, member, steps, meter)? {
+            Some(round) => {
+                let placed = placed_at(alloc, self.operation.at, self.reply)?;
+                let next = answered(
+                    self.object,
+                    alloc,
+                    self.pending,
+                    member,
+                    round,
+                    placed,
+                    nodes,
+                    pool,
+                )?;
+                push_member(out, next)?;
+                Ok(None)
+            }
+            None => {
+                let offers = self.offers_behind(alloc, member, steps, meter, pool)?;
+                Ok(Some(offers))
+            }
+        }
+    }
+
+    /// Puts in `out` what the operation, an update, makes of the member with its reply, and answers what is on offer
+    /// behind the member.
+    fn update(
+        &self,
+        alloc: Global,
+        member: &Member<O::State>,
+        out: &mut Vec<Member<O::State>>,
+        nodes: &mut RoundNodes,
+        steps: &mut Vec<(O::State, Reply)>,
+        meter: &mut Meter,
+        pool: &mut Pool,
+    ) -> Result<Offers, OutOfMemory>
+        requires { O.observing self.now.object.now self.now.operation.now.call ≡ false }
+        ensures grown { IsGrown nodes.old nodes.new }
+        ensures found { OnOk result (IsFinding (O.step self.now.object.now) (O.observing self.now.object.now) self.now.operation.now self.now.reply.now self.now.pending.now nodes.new member.now out.old.items out.new.items) }
+        ensures passed { OnOk result (IsPassed (O.step self.now.object.now) (O.observing self.now.object.now) self.now.operation.now self.now.reply.now self.now.pending.now out.new.items member.now) }
+        ensures offered { IfOk result (AreBehind (O.step self.now.object.now) (O.observing self.now.object.now) self.now.pending.now member.now) }
+        ensures tried { IsTriedAtMost (length self.now.pending.now + 1) meter.old meter.new }
+    {
+        let offers = self.offers_behind(alloc, member, steps, meter, pool)?;
+        meter.tick_try();
+        self.object
+            .outcomes(alloc, member.state(), &self.operation.call, steps)?;
+        while let Some((state, reply)) = steps.pop() {
+            if reply != *self.reply {
+                continue;
+            }
+            let config = member.config().with_state(state)?;
+            if is_found(self.object, self.pending, out, &config, &offers) {
+                continue;
+            }
+            let placed = placed_at(alloc, self.operation.at, self.reply)?;
+            let next = advanced(alloc, config, &offers, member.path(), placed, nodes)?;
+            push_member(out, next)?;
+        }
+        Ok(offers)
+    }
+
+    /// Puts in `out` what the operation makes of the member with its reply. Where more can come of the member, answers
+    /// what is on offer behind it.
+    fn complete(
+        &self,
+        alloc: Global,
+        member: &Member<O::State>,
+        out: &mut Vec<Member<O::State>>,
+        nodes: &mut RoundNodes,
+        steps: &mut Vec<(O::State, Reply)>,
+        meter: &mut Meter,
+        pool: &mut Pool,
+    ) -> Result<Option<Offers>, OutOfMemory>
+        ensures grown { IsGrown nodes.old nodes.new }
+        ensures found { OnOk result (IsFinding (O.step self.now.object.now) (O.observing self.now.object.now) self.now.operation.now self.now.reply.now self.now.pending.now nodes.new member.now out.old.items out.new.items) }
+        ensures done { IfOk result (λ offers. IfNone offers (IsDone (O.observing self.now.object.now) self.now.operation.now self.now.pending.now out.new.items member.now.0)) }
+        ensures passed { IfOk result (λ offers. IfSome offers (λ _. IsPassed (O.step self.now.object.now) (O.observing self.now.object.now) self.now.operation.now self.now.reply.now self.now.pending.now out.new.items member.now)) }
+        ensures offered { IfOk result (λ offers. IfSome offers (AreBehind (O.step self.now.object.now) (O.observing self.now.object.now) self.now.pending.now member.now)) }
+        ensures tried { IsTriedAtMost (length self.now.pending.now + 1) meter.old meter.new }
+    {
+        if self.object.observes(&self.operation.call) {
+            return self.observe(alloc, member, out, nodes, steps, meter, pool);
+        }
+        let offers = self.update(alloc, member, out, nodes, steps, meter, pool)?;
+        Ok(Some(offers))
+    }
+
+    /// Puts in `out` what the operation makes of the member with its reply. Where more can come of the member, puts in `next`,
+    /// which is written over, what placing an update makes of it, and answers what is on offer behind it.
+    fn work_off(
+        &self,
+        alloc: Global,
+        member: &Member<O::State>,
+        out: &mut Vec<Member<O::State>>,
+        next: &mut Vec<(Config<O::State>, Placed)>,
+        nodes: &mut RoundNodes,
+        steps: &mut Vec<(O::State, Reply)>,
+        meter: &mut Meter,
+        pool: &mut Pool,
+    ) -> Result<Option<Offers>, OutOfMemory>
+        ensures grown { IsGrown nodes.old nodes.new }
+        ensures found { OnOk result (IsFinding (O.step self.now.object.now) (O.observing self.now.object.now) self.now.operation.now self.now.reply.now self.now.pending.now nodes.new member.now out.old.items out.new.items) }
+        ensures done { IfOk result (λ found. IfNone found (IsDone (O.observing self.now.object.now) self.now.operation.now self.now.pending.now out.new.items member.now.0)) }
+        ensures passed { IfOk result (λ found. IfSome found (λ _. IsPassed (O.step self.now.object.now) (O.observing self.now.object.now) self.now.operation.now self.now.reply.now self.now.pending.now out.new.items member.now)) }
+        ensures offered { IfOk result (λ found. IfSome found (AreBehind (O.step self.now.object.now) (O.observing self.now.object.now) self.now.pending.now member.now)) }
+        ensures placed { IfOk result (λ found. IfSome found (λ _. AreUpdates (O.step self.now.object.now) (O.observing self.now.object.now) self.now.pending.now (member.now.0.state, member.now.0.placed) next.new.items)) }
+        ensures tried { IsTriedAtMost (2 * length self.now.pending.now + 1) meter.old meter.new }
+    {
+        match self.complete(alloc, member, out, nodes, steps, meter, pool)? {
+            Some(offers) => {
+                self.updates(alloc, member.config(), next, steps, meter, pool)?;
+                Ok(Some(offers))
+            }
+            None => Ok(None),
+        }
+    }
+
+    /// Takes in what was found, if anything was.
+    fn visit_found(
+        &self,
+        alloc: Global,
+        path: Path,
+        found: Option<Offers>,
+        next: &mut Vec<(Config<O::State>, Placed)>,
+        starts: &[&Member<O::State>],
+        seen: &mut Seen,
+        visited: &mut Vec<Member<O::State>>,
+        nodes: &mut RoundNodes,
+        pool: &mut Pool,
+    ) -> Result<(), OutOfMemory>
+        ensures grown { IsGrown nodes.old nodes.new }
+        ensures none { OnOk result (IfNone found ((visited.new.items ≡ visited.old.items) × (nodes.new ≡ nodes.old))) }
+        ensures some { OnOk result (IfSome found (λ offers. IsVisiting (O.observing self.now.object.now) self.now.pending.now next.old.items offers path nodes.new
+            (map (λ m. m.now) starts.now ++ visited.old.items) (map (λ m. m.now) starts.now ++ visited.new.items))) }
+    {
+        if let Some(offers) = found {
+            self.visit(
+                alloc, path, next, &offers, starts, seen, visited, nodes, pool,
+            )?;
+            offers.give_up(&mut pool.offers);
+        }
+        Ok(())
+    }
+
+    /// Whether the operation can be taken ahead of this one: that one is no observer, and they commute.
+    fn goes_ahead_of(&self, other: &Open) -> bool
+        ensures { IsTrue result → (O.observing self.now.object.now other.now.call ≡ false) × GoesFirst (O.step self.now.object.now) self.now.operation.now.call other.now.call }
+    {
+        !self.object.observes(&other.call)
+            && self.object.commutes(&self.operation.call, &other.call)
+    }
+
+    /// Whether the operation can be taken ahead of all that are open beside it.
+    fn goes_ahead(&self) -> bool
+        ensures { IsTrue result → GoesAhead (O.step self.now.object.now) (O.observing self.now.object.now) self.now.operation.now self.now.pending.now }
+    {
+        if self.object.observes(&self.operation.call) {
+            return false;
+        }
+        for other in self.pending.as_slice() {
+            if !self.goes_ahead_of(other) {
+                return false;
+            }
+        }
+        true
+    }
+
+    /// What the operation, an update, makes of the members with its reply, with no other update placed ahead of it.
+    fn at_once(
+        &self,
+        alloc: Global,
+        starts: &[&Member<O::State>],
+        found: Vec<Member<O::State>>,
+        nodes: &mut RoundNodes,
+        steps: &mut Vec<(O::State, Reply)>,
+        meter: &mut Meter,
+        pool: &mut Pool,
+    ) -> Result<Vec<Member<O::State>>, OutOfMemory>
+        requires update { O.observing self.now.object.now self.now.operation.now.call ≡ false }
+        requires empty { found.items ≡ [] }
+        ensures grown { IsGrown nodes.old nodes.new }
+        ensures made { IfOk result (λ out. IsMadeAtOnce (O.step self.now.object.now) (O.observing self.now.object.now) self.now.operation.now self.now.reply.now self.now.pending.now nodes.new (map (λ m. m.now) starts.now) out.items) }
+        ensures tried { IsTriedAtMost (length starts.now * (2 * length self.now.pending.now + 1)) meter.old meter.new }
+    {
+        let mut out = found;
+        for start in starts {
+            self.update(alloc, start, &mut out, nodes, steps, meter, pool)?;
+        }
+        Ok(out)
+    }
+
+    /// What the operation makes of the members with its reply: at once where it goes ahead of all others, else by a search.
+    pub fn found_from(
+        &self,
+        alloc: Global,
+        starts: &[&Member<O::State>],
+        room: usize,
+        limit: usize,
+        nodes: &mut RoundNodes,
+        meter: &mut Meter,
+        scratch: &mut Scratch<O>,
+    ) -> Result<Option<Vec<Member<O::State>>>, OutOfMemory>
+        ensures grown { IsGrown nodes.old nodes.new }
+        ensures found { IfOk result (λ found. IfSome found (λ out. IsFoundFrom (O.step self.now.object.now) (O.observing self.now.object.now) self.now.operation.now self.now.reply.now self.now.pending.now nodes.new (map (λ m. m.now) starts.now) out.items)) }
+        ensures tried { IsTriedAtMost (limit * (2 * length self.now.pending.now + 1)) meter.old meter.new }
+    {
+        if starts.len() > limit {
+            return Ok(None);
+        }
+        let found = scratch.found(room)?;
+        if self.goes_ahead() {
+            let made = self.at_once(
+                alloc,
+                starts,
+                found,
+                nodes,
+                &mut scratch.steps,
+                meter,
+                &mut scratch.pool,
+            )?;
+            return Ok(Some(made));
+        }
+        empty(&mut scratch.visited);
+        self.search(
+            alloc,
+            starts,
+            found,
+            limit,
+            nodes,
+            meter,
+            &mut scratch.visited,
+            &mut scratch.next,
+            &mut scratch.steps,
+            &mut scratch.pool,
+        )
+    }
+
+    /// What the operation makes of the members with its reply, on all ways from them by placing updates, put in the empty list;
+    /// `None` where more members than the limit come up.
+    fn search(
+        &self,
+        alloc: Global,
+        starts: &[&Member<O::State>],
+        found: Vec<Member<O::State>>,
+        limit: usize,
+        nodes: &mut RoundNodes,
+        meter: &mut Meter,
+        visited: &mut Vec<Member<O::State>>,
+        next: &mut Vec<(Config<O::State>, Placed)>,
+        steps: &mut Vec<(O::State, Reply)>,
+        pool: &mut Pool,
+    ) -> Result<Option<Vec<Member<O::State>>>, OutOfMemory>
+        requires within { length starts.now ≤ limit }
+        requires empty { found.items ≡ [] }
+        requires unvisited { visited.old.items ≡ [] }
+        ensures grown { IsGrown nodes.old nodes.new }
+        ensures found { IfOk result (λ found. IfSome found (λ out. IsSearchOf (O.step self.now.object.now) (O.observing self.now.object.now) self.now.operation.now self.now.reply.now self.now.pending.now nodes.new (map (λ m. m.now) starts.now) out.items)) }
+        ensures tried { IsTriedAtMost (limit * (2 * length self.now.pending.now + 1)) meter.old meter.new }
+    {
+        let mut seen = Seen::new(alloc, self.pending, starts)?;
+        let mut out = found;
+        for start in starts {
+            let path = start.path();
+            let found = self.work_off(alloc, start, &mut out, next, nodes, steps, meter, pool)?;
+            self.visit_found(
+                alloc, path, found, next, starts, &mut seen, visited, nodes, pool,
+            )?;
+        }
+        let mut tried = starts.len();
+        let mut at = 0;
+        while let Some(member) = visited.get(at) {
+            if tried >= limit {
+                return Ok(None);
+            }
+            let path = member.path();
+            let found = self.work_off(alloc, member, &mut out, next, nodes, steps, meter, pool)?;
+            self.visit_found(
+                alloc, path, found, next, starts, &mut seen, visited, nodes, pool,
+            )?;
+            tried += 1;
+            at += 1;
+        }
+        give_up_all(visited, pool);
+        Ok(Some(out))
+    }
+}

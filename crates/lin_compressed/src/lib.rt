@@ -1,0 +1,18 @@
+//! Compressed frontiers of one object: members that lead to covers of all configurations, kept up to date event by event.
+#![tactic(auto)]
+
+mod asking;
+mod branches;
+mod completions;
+mod compressed;
+mod expansion;
+mod gathered;
+mod listed;
+mod scratch;
+mod seen;
+mod thinning;
+mod within;
+
+pub use compressed::Compressed;
+pub use scratch::Scratch;
+pub use within::{Advance, is_counted, members_spell_legal_orders};

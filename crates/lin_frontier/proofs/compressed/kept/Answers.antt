@@ -1,8 +1,0 @@
-use Rattle.std.proofs.Common.{subst}
-use Rattle.lin_frontier.specs.Settling.{IsThinned}
-use Rattle.lin_frontier.proofs.Answered.{if_ok_weaker}
-use Rattle.lin_frontier.proofs.compressed.kept.Goals as goal
-
-pub returns-then-alone-clause-alone : goal.returns-then-alone-clause-alone
-returns-then-alone-clause-alone g c =
-    if_ok_weaker _ _ (λ out thinned alone. subst (λ l. IsThinned (g.O.SeqObject.observing c.args.object.now) c.args.pending.now l out.items) c.alone_all.ensures thinned) c.thinned.result c.thinned.ensures

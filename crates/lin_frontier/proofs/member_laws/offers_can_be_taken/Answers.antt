@@ -1,5 +1,0 @@
-use Rattle.lin_frontier.proofs.Spreading.{spreading_law}
-use Rattle.lin_frontier.proofs.member_laws.offers_can_be_taken.Goals as goal
-
-pub returns : goal.returns
-returns g c = spreading_law _ _

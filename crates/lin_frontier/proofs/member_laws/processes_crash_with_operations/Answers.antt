@@ -1,5 +1,0 @@
-use Rattle.lin_frontier.proofs.Crashes.{crashed_law}
-use Rattle.lin_frontier.proofs.member_laws.processes_crash_with_operations.Goals as goal
-
-pub returns : goal.returns
-returns c = crashed_law c.ends_are_unique.ensures c.well_formed_is_alternating.ensures

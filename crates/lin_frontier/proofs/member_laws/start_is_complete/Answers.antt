@@ -1,5 +1,0 @@
-use Rattle.lin_frontier.proofs.Searched.{start_complete_law}
-use Rattle.lin_frontier.proofs.member_laws.start_is_complete.Goals as goal
-
-pub returns : goal.returns
-returns g c = start_complete_law _ _ c.configurations_at_start.ensures

@@ -1,5 +1,0 @@
-use Rattle.lin_frontier.proofs.Overwriting.{update_with_law}
-use Rattle.lin_frontier.proofs.overwritten_laws.overwritten_after_update.Goals as goal
-
-pub returns : goal.returns
-returns g c = update_with_law _ _ c.ends_are_unique.ensures c.well_formed_is_alternating.ensures c.configurations_after_events.ensures.ok

@@ -1,8 +1,0 @@
-use Rattle.std.proofs.Common.{◌≡◌, ℕ, List, Option, length}
-use Rattle.lin_orders.specs.declared.placed.Placed.{Placed}
-use Rattle.lin_frontier.specs.Nodes.{Spells}
-use Rattle.lin_frontier.proofs.Spelling.{IsReading}
-use Rattle.lin_frontier.proofs.rounds.RoundNodes.entries.Given as goal
-
-abbrev pub invariant-loop : goal.invariant-loop
-invariant-loop l = (length l.entries.items ≡ l.counter) × ((entries : List (Placed × Option ℕ)) → Spells l.self l.fn.id entries → IsReading l.self l.fn.id l.at l.entries.items)

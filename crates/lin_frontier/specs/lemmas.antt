@@ -1,0 +1,12 @@
+pub mod Absorbing
+pub mod Closing
+pub mod Counting
+pub mod Inserting
+pub mod Trying
+pub mod AfterEvents
+pub mod Completed
+pub mod Answered
+pub mod Spelling
+pub mod Each
+pub mod Masking
+pub mod Truths

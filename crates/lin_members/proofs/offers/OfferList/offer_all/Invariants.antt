@@ -1,0 +1,12 @@
+use Rattle.std.proofs.Common.{take}
+use Rattle.lin_members.specs.Searching.{GivesOne, IsOffering, Knows}
+use Rattle.lin_frontier.specs.Walks.{IsTriedAtMost}
+use Rattle.lin_members.specs.lemmas.Offering.{IsOver}
+use Rattle.lin_members.proofs.offers.OfferList.offer_all.Given as goal
+
+abbrev pub invariant-loop-operation : goal.invariant-loop-operation
+invariant-loop-operation g l = record {
+  offered : IsOffering (IsOver (GivesOne (g.O.SeqObject.step l.object) (g.O.SeqObject.observing l.object) l.pending l.config) (take l.operation-index l.pending)) l.round l.fn.self l.self;
+  knows : Knows (g.O.SeqObject.step l.object) l.config.0 l.known l.steps.items;
+  tried : IsTriedAtMost l.operation-index l.fn.meter l.meter;
+}

@@ -1,0 +1,16 @@
+pub mod Parts
+pub mod Covers
+pub mod Exchanges
+pub mod Members
+pub mod MemberLaws
+pub mod Rounds
+pub mod RoundLaws
+pub mod MemberExamples
+pub mod Searching
+pub mod Asking
+pub mod Settling
+pub mod Overwritten
+pub mod OverwrittenLaws
+pub mod Compressed
+pub mod Listed
+pub mod lemmas

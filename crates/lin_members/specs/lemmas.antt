@@ -1,0 +1,17 @@
+pub mod Offering
+pub mod Undominated
+pub mod InRounds
+pub mod Aheads
+pub mod Choosing
+pub mod Ways
+pub mod Following
+pub mod Exchanging
+pub mod Dominating
+pub mod Crashes
+pub mod Taking
+pub mod Returning
+pub mod Spreading
+pub mod Joining
+pub mod Putting
+pub mod Awaiting
+pub mod Pruned

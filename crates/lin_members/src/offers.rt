@@ -1,0 +1,450 @@
+//! What is on offer: the replies that observers may still be given, each with a round whose state gave it.
+ghost use Rattle.std.specs.Prelude.{◌≡◌, ◌&&◌, nat_eq, not, IsTrue, IsFalse, true, [], ◌∷◌, ◌++◌, ℕ, IfOk, IfSome, IfNone, OnOk, Contains, Some, length};
+ghost use Rattle.lin_events.specs.declared.calls.Reply.{Reply as ReplyOf};
+ghost use Rattle.lin_members.specs.Searching.{is_observing as is_observing_in, is_watching as is_watching_in, watched as watched_of, AreSteps, GivesOne, GivesAny, IsOffering, Knows, Told};
+ghost use Rattle.lin_frontier.specs.Walks.{IsTriedAtMost};
+
+use lin_events::{Call, Meter, OutOfMemory, Reply, Val};
+use lin_frontier::{Config, Open, Pending, Spare, is_absent, is_pair};
+use lin_objects::SeqObject;
+use std::alloc::Global;
+use std::marker::Model;
+use std::rc::Rc;
+
+/// Offers that are being made, in the order in which they were: each is a round, and a process with the reply that the round's
+/// state gave to its pending call.
+#[derive(Drop)]
+pub struct OfferList {
+    items: Vec<(usize, (u64, Reply))>,
+    bits: u64,
+}
+
+impl Model for OfferList {
+    ghost use Rattle.std.specs.Prelude.{ℕ, List};
+    ghost use Rattle.lin_events.specs.declared.calls.Reply.{Reply as ReplyOf};
+
+    ghost Value = { List (ℕ × (ℕ × ReplyOf)) };
+
+    ghost view = { λ o. o.items.items };
+}
+
+/// Offers that are made. Members that have the same ones share them.
+#[derive(Drop)]
+pub struct Offers {
+    /// None where nothing is on offer.
+    list: Option<Rc<OfferList>>,
+    /// A bit of each. It tells of most offers that they aren't there; nothing is promised of it.
+    bits: u64,
+}
+
+impl Model for Offers {
+    ghost use Rattle.std.specs.Prelude.{ℕ, List};
+    ghost use Rattle.lin_events.specs.declared.calls.Reply.{Reply as ReplyOf};
+    ghost use Rattle.lin_frontier.specs.Sharing.{shared};
+
+    ghost Value = { List (ℕ × (ℕ × ReplyOf)) };
+
+    ghost view = { λ o. shared o.list };
+}
+
+/// A bit for a reply on offer to the process.
+fn offer_bit(process: u64, reply: &Reply) -> u64 {
+    let value = match reply {
+        Reply::Value(Val::Int(value)) => value.unsigned_abs() % 64,
+        Reply::Value(Val::Nil) | Reply::Done | Reply::Members(_) => 63,
+    };
+    1 << ((process % 64 + 7 * value) % 64)
+}
+
+/// Whether the operation is of the process, and observes.
+fn does_observe<O: SeqObject>(object: &O, operation: &Open, process: u64) -> bool
+    ensures { result ≡ (nat_eq operation.now.process process && O.observing object.now operation.now.call) }
+{
+    operation.process == process && object.observes(&operation.call)
+}
+
+/// Whether an operation of the process observes.
+fn is_observing<O: SeqObject>(object: &O, pending: &[Open], process: u64) -> bool
+    ensures { result ≡ is_observing_in (O.observing object.now) pending.now process }
+{
+    for operation in pending {
+        if does_observe(object, operation, process) {
+            return true;
+        }
+    }
+    false
+}
+
+/// Whether the process waits for the reply of an operation that observes, and has not crashed.
+pub fn is_watching<O: SeqObject>(object: &O, pending: &Pending, process: u64) -> bool
+    ensures { result ≡ is_watching_in (O.observing object.now) pending.now process }
+{
+    is_observing(object, pending.as_slice(), process) && !pending.is_crashed(process)
+}
+
+/// Whether the operation observes, and has not crashed.
+fn may_watch<O: SeqObject>(object: &O, operation: &Open) -> bool
+    ensures { result ≡ (O.observing object.now operation.now.call && not operation.now.crashed) }
+{
+    object.observes(&operation.call) && !operation.crashed
+}
+
+/// Whether any operation observes, and has not crashed. Where none does, no process watches.
+pub fn may_be_watched<O: SeqObject>(object: &O, pending: &Pending) -> bool
+    ensures { IsFalse result → (process : ℕ) → is_watching_in (O.observing object.now) pending.now process ≡ true → ⊥ }
+{
+    for operation in pending.as_slice() {
+        if may_watch(object, operation) {
+            return true;
+        }
+    }
+    false
+}
+
+/// Whether all offers may still be taken: whether they are to processes that watch.
+fn are_watched<O: SeqObject>(
+    object: &O,
+    pending: &Pending,
+    offers: &[(usize, (u64, Reply))],
+) -> bool
+    ensures { IsTrue result → watched_of (O.observing object.now) pending.now offers.now ≡ offers.now }
+{
+    for offer in offers {
+        if !is_watching(object, pending, offer.1.0) {
+            return false;
+        }
+    }
+    true
+}
+
+/// Whether that is the call which is known.
+fn is_known(known: Option<Call>, call: &Call) -> bool
+    ensures { IsTrue result → known ≡ Some call.now }
+{
+    match known {
+        Some(other) => other == *call,
+        None => false,
+    }
+}
+
+/// Puts the steps by the call in `steps`, unless they are there: those of the call that is known. Most observers have the
+/// same call, so one try tells what a state gives to all of them.
+fn know<O: SeqObject>(
+    object: &O,
+    alloc: Global,
+    state: &O::State,
+    call: &Call,
+    known: &mut Option<Call>,
+    steps: &mut Vec<(O::State, Reply)>,
+    meter: &mut Meter,
+) -> Result<(), OutOfMemory>
+    requires { Knows (O.step object.now) state.now known.old steps.old.items }
+    ensures steps { OnOk result (AreSteps (O.step object.now) state.now call.now steps.new.items) }
+    ensures knows { OnOk result (Knows (O.step object.now) state.now known.new steps.new.items) }
+    ensures tried { IsTriedAtMost 1 meter.old meter.new }
+{
+    if is_known(*known, call) {
+        return Ok(());
+    }
+    meter.tick_try();
+    object.outcomes(alloc, state, call, steps)?;
+    *known = Some(*call);
+    Ok(())
+}
+
+/// The first round in which the process was offered the reply.
+fn round_in(offers: &[(usize, (u64, Reply))], process: u64, reply: &Reply) -> Option<usize>
+    ensures some { IfSome result (λ round. Contains offers.now (round, (process, reply.now))) }
+    ensures none { IfNone result ((round : ℕ) → Contains offers.now (round, (process, reply.now)) → ⊥) }
+{
+    for offer in offers {
+        if is_pair(&offer.1, process, reply) {
+            return Some(offer.0);
+        }
+    }
+    None
+}
+
+impl Offers {
+    /// Nothing on offer.
+    pub fn none() -> Self
+        ensures { result ≡ [] }
+    {
+        Offers {
+            list: None,
+            bits: 0,
+        }
+    }
+
+    /// The offers of the list, made.
+    #[inline(always)]
+    pub fn of(list: Rc<OfferList>, spare: &mut Spare<OfferList>) -> Offers
+        ensures { result ≡ list.value }
+    {
+        if list.as_ref().as_slice().is_empty() {
+            spare.put(list);
+            return Offers::none();
+        }
+        let bits = list.as_ref().bits;
+        Offers {
+            list: Some(list),
+            bits,
+        }
+    }
+
+    /// Gives the list up, to be used again.
+    #[inline(always)]
+    pub fn give_up(self, spare: &mut Spare<OfferList>) {
+        if let Some(list) = self.list {
+            spare.put(list);
+        }
+    }
+
+    pub fn as_slice(&self) -> &[(usize, (u64, Reply))]
+        ensures { result.now ≡ self.now }
+    {
+        match &self.list {
+            Some(list) => list.as_ref().as_slice(),
+            None => &[],
+        }
+    }
+
+    /// Whether the reply may be on offer to the process, as far as the bits tell.
+    pub fn may_offer(&self, process: u64, reply: &Reply) -> bool {
+        self.bits | offer_bit(process, reply) == self.bits
+    }
+
+    /// Whether each of the others may be among these, as far as the bits tell.
+    pub fn may_hold(&self, others: &Offers) -> bool {
+        self.bits | others.bits == self.bits
+    }
+
+    /// The same offers.
+    #[inline(always)]
+    pub fn copy(&self) -> Result<Offers, OutOfMemory>
+        ensures { IfOk result (λ copy. copy ≡ self.now) }
+    {
+        match &self.list {
+            Some(list) => Ok(Offers {
+                list: Some(list.clone()?),
+                bits: self.bits,
+            }),
+            None => Ok(Offers::none()),
+        }
+    }
+
+    /// The offers that may still be taken: those to processes that watch.
+    #[inline(always)]
+    pub fn watched<O: SeqObject>(
+        &self,
+        object: &O,
+        alloc: Global,
+        pending: &Pending,
+        spare: &mut Spare<OfferList>,
+    ) -> Result<Offers, OutOfMemory>
+        ensures { IfOk result (λ kept. kept ≡ watched_of (O.observing object.now) pending.now self.now) }
+    {
+        if are_watched(object, pending, self.as_slice()) {
+            return self.copy();
+        }
+        let mut kept = OfferList::emptied(alloc, spare)?;
+        // It has one owner, so it can be written.
+        let Some(list) = Rc::get_mut(&mut kept) else {
+            return Err(OutOfMemory);
+        };
+        list.push_watched(object, alloc, pending, self)?;
+        Ok(Offers::of(kept, spare))
+    }
+
+    /// Whether it is at the place that the reply is on offer to the process.
+    pub fn stands_at(&self, at: usize, pair: &(u64, Reply)) -> bool
+        ensures { IsTrue result → (round : ℕ) × Contains self.now (round, pair.now) }
+    {
+        match self.as_slice().get(at) {
+            Some(offer) => is_pair(&offer.1, pair.0, &pair.1),
+            None => false,
+        }
+    }
+
+    /// The first round in which the process was offered the reply.
+    pub fn round_of(&self, process: u64, reply: &Reply) -> Option<usize>
+        ensures some { IfSome result (λ round. Contains self.now (round, (process, reply.now))) }
+        ensures none { IfNone result ((round : ℕ) → Contains self.now (round, (process, reply.now)) → ⊥) }
+    {
+        round_in(self.as_slice(), process, reply)
+    }
+}
+
+impl OfferList {
+    /// Nothing on offer yet.
+    #[inline(always)]
+    pub fn new(alloc: Global) -> Self
+        ensures { result ≡ [] }
+    {
+        OfferList {
+            items: Vec::new(alloc),
+            bits: 0,
+        }
+    }
+
+    /// Nothing on offer any more.
+    #[inline(always)]
+    fn clear(&mut self)
+        ensures { self.new ≡ [] }
+    {
+        self.items.clear();
+        self.bits = 0;
+    }
+
+    /// A list with nothing on offer yet, which has one owner: one that nobody has any more, or a new one.
+    #[inline(always)]
+    pub fn emptied(
+        alloc: Global,
+        spare: &mut Spare<OfferList>,
+    ) -> Result<Rc<OfferList>, OutOfMemory>
+        ensures { IfOk result (λ list. list.value ≡ []) }
+    {
+        if let Some(mut list) = spare.take()
+            && let Some(own) = Rc::get_mut(&mut list)
+        {
+            own.clear();
+            return Ok(list);
+        }
+        let list = Rc::new(alloc, OfferList::new(alloc))?;
+        Ok(list)
+    }
+
+    fn as_slice(&self) -> &[(usize, (u64, Reply))]
+        ensures { result.now ≡ self.now }
+    {
+        self.items.as_slice()
+    }
+
+    /// Whether the reply may be on offer to the process, as far as the bits tell.
+    fn may_offer(&self, process: u64, reply: &Reply) -> bool {
+        self.bits | offer_bit(process, reply) == self.bits
+    }
+
+    /// Puts the offers last that may still be taken.
+    #[inline(always)]
+    pub fn push_watched<O: SeqObject>(
+        &mut self,
+        object: &O,
+        alloc: Global,
+        pending: &Pending,
+        offers: &Offers,
+    ) -> Result<(), OutOfMemory>
+        ensures { OnOk result (self.new ≡ self.old ++ watched_of (O.observing object.now) pending.now offers.now) }
+    {
+        for offer in offers.as_slice() {
+            if is_watching(object, pending, offer.1.0) {
+                self.push(offer.0, offer.1.0, offer.1.1.copy(alloc)?)?;
+            }
+        }
+        Ok(())
+    }
+
+    #[inline(always)]
+    fn push(&mut self, round: usize, process: u64, reply: Reply) -> Result<(), OutOfMemory>
+        ensures { OnOk result (self.new ≡ self.old ++ (round, (process, reply)) ∷ []) }
+    {
+        self.bits |= offer_bit(process, &reply);
+        match self.items.push((round, (process, reply))) {
+            Ok(()) => Ok(()),
+            Err(_) => Err(OutOfMemory),
+        }
+    }
+
+    /// Offers the reply in the round, unless it was offered before.
+    fn offer(&mut self, round: usize, process: u64, reply: Reply) -> Result<(), OutOfMemory>
+        ensures { OnOk result (IsOffering (λ x. x ≡ (process, reply)) round self.old self.new) }
+    {
+        if self.may_offer(process, &reply) && round_in(self.as_slice(), process, &reply).is_some() {
+            return Ok(());
+        }
+        self.push(round, process, reply)
+    }
+
+    /// Offers the replies of the steps in the round to the process.
+    fn offer_steps<S>(
+        &mut self,
+        alloc: Global,
+        process: u64,
+        round: usize,
+        steps: &[(S, Reply)],
+    ) -> Result<(), OutOfMemory>
+        ensures { OnOk result (IsOffering (Told process steps.now) round self.old self.new) }
+    {
+        for step in steps {
+            self.offer(round, process, step.1.copy(alloc)?)?;
+        }
+        Ok(())
+    }
+
+    /// Offers in the round what the configuration's state gives to the operation, if it observes, and its process watches and has no place
+    /// in the configuration.
+    fn offer_one<O: SeqObject>(
+        &mut self,
+        object: &O,
+        alloc: Global,
+        config: &Config<O::State>,
+        pending: &Pending,
+        operation: &Open,
+        round: usize,
+        known: &mut Option<Call>,
+        steps: &mut Vec<(O::State, Reply)>,
+        meter: &mut Meter,
+    ) -> Result<(), OutOfMemory>
+        requires { Knows (O.step object.now) config.now.0 known.old steps.old.items }
+        ensures offered { OnOk result (IsOffering (GivesOne (O.step object.now) (O.observing object.now) pending.now config.now operation.now) round self.old self.new) }
+        ensures knows { OnOk result (Knows (O.step object.now) config.now.0 known.new steps.new.items) }
+        ensures tried { IsTriedAtMost 1 meter.old meter.new }
+    {
+        if !object.observes(&operation.call) {
+            return Ok(());
+        }
+        if !is_watching(object, pending, operation.process) {
+            return Ok(());
+        }
+        if !is_absent(config.placed(), operation.process) {
+            return Ok(());
+        }
+        know(
+            object,
+            alloc,
+            config.state(),
+            &operation.call,
+            known,
+            steps,
+            meter,
+        )?;
+        self.offer_steps(alloc, operation.process, round, steps)?;
+        Ok(())
+    }
+
+    /// Offers in the round what the configuration's state gives to the operations. `steps` is only written over.
+    pub fn offer_all<O: SeqObject>(
+        &mut self,
+        object: &O,
+        alloc: Global,
+        config: &Config<O::State>,
+        pending: &Pending,
+        round: usize,
+        steps: &mut Vec<(O::State, Reply)>,
+        meter: &mut Meter,
+    ) -> Result<(), OutOfMemory>
+        ensures offered { OnOk result (IsOffering (GivesAny (O.step object.now) (O.observing object.now) pending.now config.now) round self.old self.new) }
+        ensures tried { IsTriedAtMost (length pending.now) meter.old meter.new }
+    {
+        let mut known = None;
+        for operation in pending.as_slice() {
+            if operation.crashed {
+                continue;
+            }
+            self.offer_one(
+                object, alloc, config, pending, operation, round, &mut known, steps, meter,
+            )?;
+        }
+        Ok(())
+    }
+}
