@@ -1,10 +1,9 @@
 //! Frontiers that keep what decides: how many members are left after worked histories, and what comes of drawn ones.
-use crate::drawn::{Draw, drawn_history, has_legal_order, is_legal_order, register_history};
+use crate::drawn::{Draw, KINDS, drawn_history, has_legal_order, is_legal_order, register_history};
 use crate::events::{fail, info, invoke, ok, write};
 use crate::exact_sets::{Came, came_of};
-use crate::table::KINDS;
-use lin_events::{Body, Call, Event, IntSet, Meter, Name, Reply, Val};
 use lin_compressed::{Advance, Compressed, Scratch};
+use lin_events::{Body, Call, Event, IntSet, Meter, Name, Reply, Val};
 use lin_frontier::{Open, take_in};
 use lin_members::RoundNodes;
 use lin_objects::{Any, Kind};

@@ -1,7 +1,6 @@
 //! Frontiers that hold all configurations: how many there are after worked histories, and what comes of drawn ones.
-use crate::drawn::{Draw, drawn_history, has_legal_order, is_legal_order};
+use crate::drawn::{Draw, KINDS, drawn_history, has_legal_order, is_legal_order};
 use crate::events::{fail, info, invoke, ok, write};
-use crate::table::KINDS;
 use lin_events::{Call, Event, Meter, Name, Reply, Val};
 use lin_frontier::{Config, Frontier, Nodes, Open, Step, take_in};
 use lin_objects::{Any, Kind, SeqObject, State};

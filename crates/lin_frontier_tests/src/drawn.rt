@@ -6,6 +6,15 @@ use lin_search::{finds_failure, finds_order};
 use std::alloc::Global;
 use std::process::Abort;
 
+/// Every kind of object.
+pub const KINDS: [Kind; 5] = [
+    Kind::Register,
+    Kind::CasRegister,
+    Kind::Fifo,
+    Kind::Set,
+    Kind::Mutex,
+];
+
 /// Numbers drawn by a linear congruential generator, the same in each run.
 #[derive(Drop)]
 pub(crate) struct Draw {
