@@ -12,16 +12,6 @@ mod replies;
 mod reports;
 mod senses;
 mod sessions;
-#[cfg(test)]
-mod tests;
-#[cfg(test)]
-mod tests_commands;
-#[cfg(test)]
-mod tests_refutes;
-#[cfg(test)]
-mod tests_reports;
-#[cfg(test)]
-mod tests_runs;
 mod verdicts;
 
 pub use checks::check;

@@ -1,6 +1,6 @@
 //! Sessions of `edit` whose devices fail at some call, and lines and recordings that don't fit.
 use crate::devices::{Failing, Lines, Taking, Then};
-use crate::table::{BUDGET, READ, recording, repeated};
+use crate::recordings::{BUDGET, READ, recording, repeated};
 use lin_formats::{Counted, RunFault, Settings, Status};
 use lin_objects::Kind;
 use lin_report::Status::{IllFormed, Yes};

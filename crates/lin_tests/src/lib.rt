@@ -1,29 +1,13 @@
-//! Tests over `verify`, `check` and `run`: recordings and devices, what is printed, and how it ends; refutations.
+//! Tests of `verify`, `check` and `run` over devices that fail, and of refutations.
 #![tactic(auto)]
 
 #[cfg(test)]
-mod bad_input;
-#[cfg(test)]
-mod check;
-#[cfg(test)]
-mod check_input;
-#[cfg(test)]
-mod crashes;
-#[cfg(test)]
 mod devices;
 #[cfg(test)]
-mod edits;
+mod failing;
 #[cfg(test)]
 mod faults;
 #[cfg(test)]
-mod keyed;
-#[cfg(test)]
-mod large;
-#[cfg(test)]
-mod objects;
+mod recordings;
 #[cfg(test)]
 mod refutations;
-#[cfg(test)]
-mod register;
-#[cfg(test)]
-mod table;

@@ -1,5 +1,5 @@
 //! Refutations of histories of one register, in short forms, and what the check says of them.
-use crate::table::recording;
+use crate::recordings::recording;
 use lin_events::{Event, Reply};
 use lin_formats::read_order;
 use lin_history::Follow;

@@ -131,6 +131,3 @@ fn main(rt: HostRuntime) -> ExitCode {
     };
     ExitCode::from(run_words(alloc, &mut host, words.as_slice()))
 }
-
-#[cfg(test)]
-mod tests;

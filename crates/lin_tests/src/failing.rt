@@ -1,8 +1,7 @@
-//! Texts of orders, of reports and of faults, and devices that fail at some call.
-use crate::check;
-use lin_events::{Reply, Val};
-use lin_formats::{Counted, OrderFault, RunFault, Settings, Status, read_order, verify};
+//! `verify` and `check` over devices that fail at some call, or take little; and what faults are called.
+use lin_formats::{Counted, OrderFault, RunFault, Settings, Status, verify};
 use lin_objects::Kind;
+use lin_report::check;
 use std::io;
 use std::io::{ErrorKind, Read, Write};
 use std::test::Fail;
@@ -67,63 +66,6 @@ const REGISTER: Settings = Settings {
     keyed: false,
     budget: 65_536,
 };
-
-/// Where a text is refused as an order, or none.
-fn bad_place(rt: HostRuntime, text: &[u8]) -> Option<usize> {
-    match read_order(rt.alloc(), text) {
-        Err(OrderFault::BadPair { at }) => Some(at),
-        _ => None,
-    }
-}
-
-#[test]
-fn orders_are_read(rt: HostRuntime) -> Result<(), Fail> {
-    let text = b"  18446744073709551615=done 007=-9223372036854775808 2=nil 3={} 4={-1,0,2} ";
-    let Ok(order) = read_order(rt.alloc(), text) else {
-        assert!(rt; false, "no order was read");
-        return Ok(());
-    };
-    assert_eq!(rt; order.len(), 5);
-    assert_eq!(rt; order[0].at, usize::MAX);
-    assert!(rt; order[0].reply == Reply::Done);
-    assert_eq!(rt; order[1].at, 7);
-    assert!(rt; order[1].reply == Reply::Value(Val::Int(i64::MIN)));
-    assert!(rt; order[2].reply == Reply::Value(Val::Nil));
-    for (k, count) in [(3, 0), (4, 3)] {
-        match &order[k].reply {
-            Reply::Members(members) => assert_eq!(rt; members.as_slice().len(), count),
-            _ => assert!(rt; false, "no members"),
-        }
-    }
-    match read_order(rt.alloc(), b" empty ") {
-        Ok(order) => assert!(rt; order.is_empty()),
-        Err(_) => assert!(rt; false, "no empty order was read"),
-    }
-    Ok(())
-}
-
-#[test]
-fn words_that_are_no_pairs_are_told(rt: HostRuntime) {
-    let refused: [(&[u8], usize); 14] = [
-        (b"", 0),
-        (b"   ", 0),
-        (b"0=done x", 7),
-        (b"empty 0=done", 0),
-        (b"0=done empty", 7),
-        (b"0=done  2=done 4={2,1}", 15),
-        (b"0={1,1}", 0),
-        (b"0={-0,0}", 0),
-        (b" 0={,}", 1),
-        (b"0={1,2", 0),
-        (b"18446744073709551616=done", 0),
-        (b"0=9223372036854775808", 0),
-        (b"0=+5", 0),
-        (b"1=1 =done", 4),
-    ];
-    for (text, at) in refused {
-        assert_eq!(rt; bad_place(rt, text), Some(at), "at {at}");
-    }
-}
 
 #[test]
 fn a_reader_fails_at_each_call(rt: HostRuntime) -> Result<(), Fail> {
