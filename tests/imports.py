@@ -1,0 +1,71 @@
+#!/usr/bin/env python3
+"""Holds each crate to what it may cite of the others: their specs/ and, in .rt files, the public items of those that crates.txt lists for it.
+
+An offence is an import of another crate's proofs, but for those of ROOMS, whose plain lemmas are for all above; an import from a crate that does not
+stand below by crates.txt; and a path of Rust into one that crates.txt does not list for the crate itself. Each is printed, and last a count of the
+crates without and with offences.
+usage: tests/imports.py
+"""
+import os
+import re
+import sys
+
+HERE = os.path.join(os.path.dirname(os.path.abspath(__file__)), "..")
+ROOMS = {"lin_lists"}
+# Each crate stands on these, which crates.txt doesn't list.
+STANDARD = {"core", "std", "std_alloc", "std_collections", "std_heap", "std_io"}
+
+
+def read_crates():
+    libraries = {}
+    with open(f"{HERE}/crates.txt", encoding="utf-8") as it:
+        for line in it:
+            head, colon, tail = line.partition("#")[0].partition(":")
+            if colon:
+                libraries[head.split()[0]] = tail.split()
+    return libraries
+
+
+def below(libraries, name):
+    found = set()
+    for it in libraries.get(name, []):
+        found |= {it} | below(libraries, it)
+    return found
+
+
+def files_of(name):
+    for part in ("src", "specs", "proofs"):
+        for at, folders, files in os.walk(f"{HERE}/crates/{name}/{part}"):
+            folders.sort()
+            yield from (f"{at}/{it}" for it in sorted(files) if it.endswith((".rt", ".antt")))
+
+
+def offences(libraries, name, line, is_rust):
+    """Yields what the crate may not cite in a line, which may end in a comment."""
+    code = re.sub(r"(--|//).*", "", line)
+    for facade, inner, part in re.findall(r"\bRattle\.(\w+)(?:\.below\.(\w+))?(?:\.(\w+))?", code):
+        for library in {facade, inner or facade} - {name}:
+            if library not in STANDARD | below(libraries, name):
+                yield f"imports from {library}, which does not stand below {name}"
+            elif library in libraries and part == "proofs" and library not in ROOMS:
+                yield f"imports proofs of {library}"
+    for library in re.findall(r"(?<![\w:])(\w+)::", code) if is_rust else []:
+        if library != name and library in libraries and library not in libraries[name]:
+            yield f"uses {library}, which crates.txt does not list for {name}"
+
+
+def main():
+    libraries, failed = read_crates(), set()
+    for name in libraries:
+        for file in files_of(name):
+            with open(file, encoding="utf-8") as it:
+                for number, line in enumerate(it, 1):
+                    for why in offences(libraries, name, line, file.endswith(".rt")):
+                        print(f"{os.path.relpath(file, HERE)}:{number}: {why}")
+                        failed.add(name)
+    print(f"{len(libraries) - len(failed)} passed, {len(failed)} failed")
+    return 1 if failed else 0
+
+
+if __name__ == "__main__":
+    sys.exit(main())
