@@ -22,9 +22,10 @@ with the history, the only one of the folder. A row stands for several where it 
 (the first A bytes of the history, the first A + 1, and so on to B) or at its end `> A..B` (a standard output that takes A bytes of what
 is wanted and then fails, one that takes A + 1, and so on). `> PATH` sends standard output elsewhere. Standard error has to stay empty.
 
-tests/rows/COVERED.txt names tests in Rattle and the groups that show what each shows, as `TOPIC: GROUP GROUP; TOPIC: GROUP`, and last
-`stays: WHY` where a test shows more. A line of another form is a fault, here and in the topics, and so are a group without rows and one
-that is named and isn't there.
+tests/covered/program.txt names what tests in Rattle once showed and the groups that show it, as `TOPIC: GROUP GROUP; TOPIC: GROUP`, and
+last `stays: WHY` where a test in Rattle still shows more. Each other file of tests/covered/ is named for a program crate, whose rows are the
+lines of its stdin: `TEST  ->  COUNT rows under 'LABEL'` or `TEST  ->  stays: WHY`, where LABEL begins a comment line there. A line of another
+form is a fault, here and in the topics, and so are a group without rows, one that is named and isn't there, and another count.
 
 usage: tests/rows.py [TOPIC ..]   (builds what isn't built, unless LINCHECK in the environment names the program)
 The last line counts the rows.
@@ -43,6 +44,7 @@ from concurrent.futures import ThreadPoolExecutor
 
 HERE = os.path.dirname(os.path.abspath(__file__))
 FOLDER = os.path.join(HERE, 'rows')
+COVERED = os.path.join(HERE, 'covered')
 KINDS = [b'register', b'cas-register', b'fifo', b'set', b'mutex']
 SECONDS = 600
 # Becomes a program whose files can't grow beyond a number of bytes. Python ignores the signal for that, and what it becomes does too:
@@ -221,7 +223,7 @@ def rows_of(topic):
 def covered(topics):
     """How many tests the table names that rows show, and how many that show more."""
     tests, stay, file_name = set(), 0, None
-    with open(os.path.join(FOLDER, 'COVERED.txt'), encoding='ascii') as file:
+    with open(os.path.join(COVERED, 'program.txt'), encoding='ascii') as file:
         lines = [line for line in file.read().splitlines() if line and not line.startswith('#')]
     for line in lines:
         if not line.startswith('  '):
@@ -239,8 +241,30 @@ def covered(topics):
             topic, _, names = part.partition(': ')
             for name in names.split(' '):
                 if name not in topics.get(topic, ()):
-                    raise ValueError('COVERED.txt: %s names %s: %s, which is not there' % (test, topic, name))
+                    raise ValueError('program.txt: %s names %s: %s, which is not there' % (test, topic, name))
     return len(tests) - stay, stay
+
+
+def counted(crate):
+    """How many tests the table of a program crate names that its rows show, and how many stay in Rattle."""
+    rows, label = {}, None
+    with open(os.path.join(HERE, '..', 'crates', crate, 'stdin'), encoding='latin-1') as file:
+        for line in file.read().splitlines():
+            if line.startswith(';'):
+                label = line
+                rows[label] = 0
+            elif line and label:
+                rows[label] += 1
+    shown = stay = 0
+    with open(os.path.join(COVERED, crate + '.txt'), encoding='ascii') as file:
+        for line in (line for line in file.read().splitlines() if line and not line.startswith('#')):
+            said = re.fullmatch(r"(\S+)  ->  (?:(\d+) rows under '([^']+)'|stays: .+)", line)
+            if not said:
+                raise ValueError('%s.txt: no such line here: %s' % (crate, line))
+            if said[3] and said[2] not in {str(count) for label, count in rows.items() if label.startswith(said[3])}:
+                raise ValueError('%s.txt: %s: there are not %s rows under %s' % (crate, said[1], said[2], said[3]))
+            shown, stay = shown + bool(said[3]), stay + (not said[3])
+    return shown, stay
 
 
 def built():
@@ -251,12 +275,13 @@ def built():
 
 def main():
     names = sorted(os.path.basename(path)[:-4] for path in glob.glob(os.path.join(FOLDER, '*.txt')))
-    names.remove('COVERED')
     passed, faults, topics = 0, [], {}
     try:
         for name in names:
             topics[name] = rows_of(name)
-        print('%d tests shown by rows, %d stay in Rattle' % covered(topics))
+        tables = [covered(topics)]
+        tables += [counted(name[:-4]) for name in sorted(os.listdir(COVERED)) if name != 'program.txt']
+        print('%d tests shown by rows, %d stay in Rattle' % tuple(map(sum, zip(*tables))))
     except ValueError as fault:
         faults.append(str(fault))
     program = os.path.abspath(os.environ.get('LINCHECK') or built())

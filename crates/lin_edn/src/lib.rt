@@ -18,8 +18,6 @@ mod run;
 mod scan;
 mod series;
 mod skim;
-#[cfg(test)]
-mod tests;
 
 pub use crate::found::{run_until, tag_until, white_until};
 pub use crate::nested::nested_until;

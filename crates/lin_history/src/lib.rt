@@ -14,8 +14,3 @@ pub use lin_events::{
 };
 pub use next::{NextEvent, next_event};
 pub use table::{EventFault, event_of};
-
-#[cfg(test)]
-mod row_tests;
-#[cfg(test)]
-mod tests;

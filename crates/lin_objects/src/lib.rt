@@ -6,8 +6,6 @@ mod kinds;
 mod laws;
 mod objects;
 mod states;
-#[cfg(test)]
-mod tests;
 
 pub use any::Any;
 pub use kinds::{Kind, Kinds, KindsFault};

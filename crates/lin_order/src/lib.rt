@@ -3,8 +3,6 @@
 
 mod ref_configs;
 mod refutations;
-#[cfg(test)]
-mod tests;
 
 pub use lin_orders::{Placed, check_order, merge};
 pub use ref_configs::RefConfig;

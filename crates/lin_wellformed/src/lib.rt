@@ -5,8 +5,6 @@ mod backward;
 mod scan;
 mod statuses;
 mod tables;
-#[cfg(test)]
-mod tests;
 
 pub use backward::look_back;
 pub use lin_events::{Cause, Shape};

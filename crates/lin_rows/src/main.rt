@@ -1,0 +1,147 @@
+//! Rows of calls of the crates below: each line of standard input is one call, and its answer is one line of standard output.
+//!
+//! A line is a command and what it is of; lines that are empty or begin with `;` are repeated. `text` says how odd bytes are
+//! spelled, and `words` how calls, replies and events are.
+#![tactic(auto)]
+
+mod elements;
+mod histories;
+mod objects;
+mod orders;
+mod shown;
+mod streams;
+mod text;
+mod values;
+mod words;
+
+// What is called of the crates below is named here alone.
+use histories::History;
+use lin_edn::{Edn, Inside, Next, Series, Skim, nested_until, next_element};
+use lin_events::{Body, Call, Event, IntSet, Meter, Name, Reply, Shape, Val};
+use lin_history::{EventFault, Follow, FollowFault, NextEvent, event_of, next_event};
+use lin_objects::{Any, IntQueue, Kind, Kinds, SeqObject, State};
+use lin_orders::{Placed, check_order, merge};
+use lin_wellformed::{Scan, look_back};
+use std::alloc::Global;
+use std::io;
+use std::io::{BufRead, BufReader};
+
+/// A row's command that is about what stands in a text alone.
+fn answer_element(alloc: Global, command: &str, rest: &str, out: &mut String) -> Option<()> {
+    match command {
+        "element" => elements::element(alloc, rest, out),
+        "kind" => elements::kind(alloc, rest, out),
+        "nested" => elements::nested(rest, out),
+        "series" => elements::series(alloc, rest, out),
+        "skim" => elements::skim(alloc, rest, out),
+        "skim-pieces" => elements::skim_pieces(alloc, rest, out),
+        "skim-within" => elements::skim_within(alloc, rest, out),
+        _ => answer_value(alloc, command, rest, out),
+    }
+}
+
+/// A row's command that is about events and what they are made of.
+fn answer_value(alloc: Global, command: &str, rest: &str, out: &mut String) -> Option<()> {
+    match command {
+        "copy" => values::copy(alloc, rest, out),
+        "event" => values::event(alloc, rest, out),
+        "map" => values::map(alloc, rest, out),
+        "meter" => values::meter(rest, out),
+        "set" => values::set(alloc, rest, out),
+        "pieces" => streams::pieces(alloc, rest, out),
+        "tells" => streams::tells(alloc, rest, out),
+        _ => answer_object(alloc, command, rest, out),
+    }
+}
+
+/// A row's command that is about sequential objects.
+fn answer_object(alloc: Global, command: &str, rest: &str, out: &mut String) -> Option<()> {
+    match command {
+        "commutes" => objects::commutes(alloc, rest, out),
+        "has-taken" => objects::has_taken(alloc, rest, out),
+        "object" => objects::object(alloc, rest, out),
+        "observes" => objects::observes(alloc, rest, out),
+        "replies" => objects::replies(alloc, rest, out),
+        "shown" => objects::shown(alloc, rest, out),
+        "taken" => objects::taken(alloc, rest, out),
+        "total" => objects::total(alloc, rest, out),
+        _ => answer_list(alloc, command, rest, out),
+    }
+}
+
+/// A row's command that is about queues, kinds and merged orders.
+fn answer_list(alloc: Global, command: &str, rest: &str, out: &mut String) -> Option<()> {
+    match command {
+        "kinds" => objects::kinds(alloc, rest, out),
+        "merge" => orders::merge_parts(alloc, rest, out),
+        "merge-pairs" => orders::merge_pairs(alloc, rest, out),
+        "queue" => objects::queue(alloc, rest, out),
+        _ => None,
+    }
+}
+
+/// A row's command that is about the stream or the history that earlier rows left.
+fn answer_row(
+    alloc: Global,
+    follow: &mut Follow,
+    history: &mut History,
+    row: &str,
+    out: &mut String,
+) -> Option<()> {
+    let (command, rest) = words::first_word(row);
+    match command {
+        "stream" => streams::stream(alloc, follow, rest, out),
+        "feed" => streams::feed(follow, rest, out),
+        "finish" => streams::finish(follow, out),
+        "take" => streams::take(follow, out),
+        "take-all" => streams::take_all(follow, out),
+        _ => answer_history(alloc, history, command, rest, out),
+    }
+}
+
+/// A row's command that is about the history.
+fn answer_history(
+    alloc: Global,
+    history: &mut History,
+    command: &str,
+    rest: &str,
+    out: &mut String,
+) -> Option<()> {
+    match command {
+        "history" => histories::new_history(alloc, history, rest, out),
+        "reads" => histories::reads(alloc, history, rest, out),
+        "edit" => histories::edit(alloc, history, rest, out),
+        "cut" => histories::cut(history, rest, out),
+        "settle" => histories::settle(alloc, history, out),
+        "kept" => histories::kept(history, out),
+        "order" => orders::order(alloc, history.events(), rest, out),
+        "legal-orders" => orders::legal_orders(alloc, history.events(), rest, out),
+        _ => answer_element(alloc, command, rest, out),
+    }
+}
+
+/// The answer to a line; nothing where it isn't understood, or memory ran out.
+fn answer(alloc: Global, follow: &mut Follow, history: &mut History, line: &str) -> Option<String> {
+    let mut out = String::new(alloc);
+    if line.is_empty() || line.starts_with(';') {
+        out.push_str(line).ok()?;
+        return Some(out);
+    }
+    let row = text::spelled(alloc, line)?;
+    answer_row(alloc, follow, history, row.as_str(), &mut out)?;
+    Some(out)
+}
+
+fn main(rt: HostRuntime) -> io::Result<()> {
+    let alloc = rt.alloc();
+    let mut follow = Follow::new(alloc, false);
+    let mut history = History::new(alloc, Vec::new(alloc));
+    for line in BufReader::new(alloc, rt.reader())?.lines(alloc) {
+        let line = line?;
+        match answer(alloc, &mut follow, &mut history, line.as_str()) {
+            Some(out) => rt.println(out.as_str().trim_end())?,
+            None => rt.println("not understood")?,
+        }
+    }
+    Ok(())
+}

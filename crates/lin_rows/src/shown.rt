@@ -1,0 +1,64 @@
+//! How answers are shown.
+use crate::{Body, Event, EventFault, Name, Placed, Reply, Val};
+
+pub fn put_reply(out: &mut String, reply: &Reply) -> Option<()> {
+    match reply {
+        Reply::Done => out.push_str("done").ok(),
+        Reply::Value(Val::Nil) => out.push_str("nil").ok(),
+        Reply::Value(Val::Int(number)) => write!(out, "{number}").ok(),
+        Reply::Members(members) => write!(out, "{:?}", members.as_slice()).ok(),
+    }
+}
+
+fn put_completion(out: &mut String, completion: &str, name: Name) -> Option<()> {
+    write!(out, " {completion} {name:?}").ok()
+}
+
+fn put_body(out: &mut String, body: &Body) -> Option<()> {
+    match body {
+        Body::Invoke(call) => write!(out, " invoke {call:?}").ok(),
+        Body::Fail(name) => put_completion(out, "fail", *name),
+        Body::Info(name) => put_completion(out, "info", *name),
+        Body::Ok(name, reply) => {
+            put_completion(out, "ok", *name)?;
+            out.push(' ').ok()?;
+            put_reply(out, reply)
+        }
+    }
+}
+
+/// The process, the key where it isn't 0, and what the event says.
+pub fn put_event(out: &mut String, event: &Event) -> Option<()> {
+    write!(out, "{}", event.process).ok()?;
+    if event.key != 0 {
+        write!(out, "@{}", event.key).ok()?;
+    }
+    put_body(out, &event.body)
+}
+
+pub fn put_events(out: &mut String, events: &[Event]) -> Option<()> {
+    for (at, event) in events.iter().enumerate() {
+        if at > 0 {
+            out.push_str(", ").ok()?;
+        }
+        put_event(out, event)?;
+    }
+    Some(())
+}
+
+/// What an element says.
+pub fn put_said(out: &mut String, said: &Result<Option<Event>, EventFault>) -> Option<()> {
+    match said {
+        Ok(Some(event)) => put_event(out, event),
+        Ok(None) => out.push_str("no event").ok(),
+        Err(fault) => write!(out, "{fault:?}").ok(),
+    }
+}
+
+pub fn put_order(out: &mut String, order: &[Placed]) -> Option<()> {
+    for placed in order {
+        write!(out, " {}:", placed.at).ok()?;
+        put_reply(out, &placed.reply)?;
+    }
+    Some(())
+}

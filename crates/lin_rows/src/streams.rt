@@ -1,0 +1,141 @@
+//! Rows about streams that are fed in pieces.
+use crate::shown::{put_event, put_events};
+use crate::words::{first_number, keyed};
+use crate::{Event, Follow, FollowFault};
+use std::alloc::Global;
+
+/// A stream to which a text is fed in pieces of so many bytes.
+fn in_pieces(alloc: Global, text: &str, size: usize) -> Option<Follow> {
+    if size == 0 {
+        return None;
+    }
+    let mut follow = Follow::new(alloc, false);
+    for piece in text.as_bytes().chunks(size) {
+        let _fed = follow.feed(piece);
+    }
+    Some(follow)
+}
+
+/// `stream`: a new stream; `stream SIZE TEXT`: one to which the text was fed in pieces of so many bytes. How many events are ready.
+pub fn stream(alloc: Global, follow: &mut Follow, text: &str, out: &mut String) -> Option<()> {
+    let (size, rest) = first_number(text).unwrap_or((1, text));
+    *follow = in_pieces(alloc, rest, size)?;
+    write!(out, "{} ready", follow.ready()).ok()
+}
+
+/// `feed PIECE`: how many events became ready, or the fault.
+pub fn feed(follow: &mut Follow, piece: &str, out: &mut String) -> Option<()> {
+    let fed = follow.feed(piece.as_bytes());
+    write!(out, "{fed:?}").ok()
+}
+
+/// `finish`: how many events are ready, and how the stream ends if it ends here.
+pub fn finish(follow: &Follow, out: &mut String) -> Option<()> {
+    let outcome = follow.finish();
+    write!(out, "{} ready, {outcome:?}", follow.ready()).ok()
+}
+
+/// `take`: the oldest event that is ready.
+pub fn take(follow: &mut Follow, out: &mut String) -> Option<()> {
+    match follow.take() {
+        Some(event) => put_event(out, &event),
+        None => out.push_str("none").ok(),
+    }
+}
+
+/// `take-all`: all events that are ready.
+pub fn take_all(follow: &mut Follow, out: &mut String) -> Option<()> {
+    let events = follow.take_all();
+    write!(out, "{} events: ", events.len()).ok()?;
+    put_events(out, events.as_slice())
+}
+
+/// What a stream told: how it ends, and its events.
+#[derive(Drop)]
+struct Told {
+    outcome: Result<(), FollowFault>,
+    events: Vec<Event>,
+}
+
+impl Told {
+    fn new(mut follow: Follow) -> Told {
+        Told {
+            outcome: follow.finish(),
+            events: follow.take_all(),
+        }
+    }
+
+    /// What a text tells that is fed in two pieces.
+    fn by(alloc: Global, keyed: bool, first: &[u8], second: &[u8]) -> Told {
+        let mut follow = Follow::new(alloc, keyed);
+        let _fed = follow.feed(first);
+        let _fed = follow.feed(second);
+        Told::new(follow)
+    }
+
+    fn has_events_of(&self, other: &Told) -> bool {
+        self.events.as_slice() == other.events.as_slice()
+    }
+
+    fn is_same(&self, other: &Told) -> bool {
+        self.outcome == other.outcome && self.has_events_of(other)
+    }
+
+    /// The outcome with its place set to 0.
+    fn placeless(&self) -> Result<(), FollowFault> {
+        match self.outcome {
+            Err(FollowFault::Edn { at: _, cause }) => Err(FollowFault::Edn { at: 0, cause }),
+            Err(FollowFault::Event { at: _, cause }) => Err(FollowFault::Event { at: 0, cause }),
+            Err(FollowFault::Truncated { at: _ }) => Err(FollowFault::Truncated { at: 0 }),
+            _ => self.outcome,
+        }
+    }
+}
+
+/// `pieces SIZE TEXT`: whether the text tells the same fed whole and in pieces of so many bytes.
+pub fn pieces(alloc: Global, text: &str, out: &mut String) -> Option<()> {
+    let (size, rest) = first_number(text)?;
+    let whole = Told::by(alloc, false, rest.as_bytes(), b"");
+    let cut = Told::new(in_pieces(alloc, rest, size)?);
+    write!(out, "same: {}", cut.is_same(&whole)).ok()
+}
+
+/// Whether a text tells the same wherever it is cut in two.
+fn tells_cut(alloc: Global, keyed: bool, text: &[u8], whole: &Told) -> bool {
+    for cut in 0..text.len() {
+        if !Told::by(alloc, keyed, &text[..cut], &text[cut..]).is_same(whole) {
+            return false;
+        }
+    }
+    true
+}
+
+/// The text with a discard in each map, so that none is usual.
+fn unusual(alloc: Global, text: &str) -> Option<String> {
+    let mut longer = String::new(alloc);
+    for letter in text.chars() {
+        longer.push(letter).ok()?;
+        if letter == '{' {
+            longer.push_str("#_0 ").ok()?;
+        }
+    }
+    Some(longer)
+}
+
+/// Whether a text tells the same, places aside, with a discard in each map.
+fn tells_unusual(alloc: Global, keyed: bool, text: &str, whole: &Told) -> Option<bool> {
+    let longer = unusual(alloc, text)?;
+    let told = Told::by(alloc, keyed, longer.as_str().as_bytes(), b"");
+    Some(told.has_events_of(whole) && told.placeless() == whole.placeless())
+}
+
+/// `tells TEXT`, `tells keyed TEXT`: how many events a text tells, and whether it tells the same wherever it is cut in two, and
+/// where no map is usual.
+pub fn tells(alloc: Global, text: &str, out: &mut String) -> Option<()> {
+    let (keyed, rest) = keyed(text);
+    let whole = Told::by(alloc, keyed, rest.as_bytes(), b"");
+    let cut = tells_cut(alloc, keyed, rest.as_bytes(), &whole);
+    let unusual = tells_unusual(alloc, keyed, rest, &whole)?;
+    let count = whole.events.len();
+    write!(out, "{count} events, cut: {cut}, unusual: {unusual}").ok()
+}
