@@ -6,7 +6,7 @@ use Rattle.lin_objects.specs.Steps.{Step, start}
 use Rattle.lin_frontier.specs.Frontiers.{IsOver}
 use Rattle.lin_chain.specs.declared.chain.End.{End}
 use Rattle.lin_chain.specs.declared.chain.End.TheVariants.{Alive, Dead, Over}
-use Rattle.lin_orders.specs.Linearizable.{IsLinearizableAs}
+use Rattle.lin_orders.specs.Linearizable.{IsDeadAt, IsLinearizableAs}
 
 -- the beginning up to and with this event has more configurations than the budget
 pub record IsOverAt (kind : Kind) (budget : ℕ) (h : List Event) (at : ℕ) : Type 0 where

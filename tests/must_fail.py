@@ -1,0 +1,494 @@
+#!/usr/bin/env python3
+"""Tries the wrong bodies crates/NAME/wrong-bodies/*.edit: the prover has to refuse each one at the function that it changes.
+
+An edit is written as rt's own must-fail edits are: a line `file: src/x.rt`, then pairs of lines `old: TEXT` and `new: TEXT`, where
+each TEXT stands in that file once. What a check takes before it comes to the edited function is most of a try, so several edits go
+into one check, a wave: those of which no edited function calls another, directly or through others. `rattle` lists each function by
+itself, and an edit counts as refused only by a line of its own function.
+
+For each crate:
+1. Each function that no edit changes gets a proof that is one hole, where it can have that. `rattle check --allow-holes` takes it by
+   its contract, which is all that its callers' proofs go by, so nothing is proved a second time but the functions that are edited.
+2. The crate is checked so without any edit, and each function that an edit changes has to be proved. What is refused later is
+   refused for the edit, and not for a hole or for a file that `--only` leaves out. Where one isn't proved so, the holes go.
+3. The waves are checked, each over what that check kept. An edit without a line of its own is tried again alone.
+
+usage: tests/must_fail.py [--jobs N] [CRATE ..]   (all crates with edits; by default a check for each processor, as many as memory
+holds. The checks stand on the libraries that rt ci or rt check left in crates/*/out; rt lib makes those that are missing or older
+than their sources. The last line counts the edits)
+"""
+import argparse
+import collections
+import glob
+import importlib.machinery
+import importlib.util
+import itertools
+import os
+import re
+import resource
+import shutil
+import subprocess
+import sys
+import tempfile
+import threading
+from concurrent.futures import ThreadPoolExecutor
+
+ROOT = os.path.dirname(os.path.dirname(os.path.realpath(__file__)))
+BODY = '{\n    unreachable!()\n}'
+EACH = 4 << 30  # the memory that a check is taken to need
+ITEM = re.compile(r'^( *)(?:pub(?:\([\w: ]+\))? )?(?:(?:const|unsafe|default|ghost) )*(fn|impl|trait|mod)\b(.*)', re.M)
+CALL = re.compile(r'(?:(\w+)\s*(\.|::)\s*|(\.)\s*)?(?<!fn )\b(\w+)\s*(?:::<[^()]*>)?\(')
+# A proof file that names what the edit took away, as rt tells it: that says little of the contract.
+TAKEN_AWAY = re.compile(r'(\./)?proofs/.*(has no field|is not in scope|has no `|was not admitted)')
+
+
+def kit():
+    """rt itself, as a module: so the edits are read, and the prover is called, as rt ci does both."""
+    found = shutil.which('rt')
+    if not found:
+        sys.exit('must_fail.py: there is no rt on the PATH')
+    sys.dont_write_bytecode = True
+    loader = importlib.machinery.SourceFileLoader('rt', os.path.realpath(found))
+    made = importlib.util.module_from_spec(importlib.util.spec_from_loader('rt', loader))
+    loader.exec_module(made)
+    lacks = [it for it in ('edited', 'unread', 'processors', 'free', 'rtlib') if not hasattr(made, it)]
+    if lacks:
+        sys.exit('must_fail.py: this kit\'s rt has no %s' % ', '.join(lacks))
+    return made
+
+
+class Function:
+    def __init__(self, module, owner, name, text, start, end):
+        self.module, self.owner, self.name, self.text, self.start, self.end = module, owner, name, text, start, end
+        self.in_trait = self.in_cycle = self.is_of_cycle = False
+        self.crate = self.path = ''
+
+    @property
+    def key(self):
+        return self.module, self.owner, self.name
+
+    def folder(self):
+        return 'proofs/' + self.path.split('::', 1)[1].replace('::', '/')
+
+    def home(self, sep):
+        """A pattern of where its proof stands: below its own name, or below its cycle's."""
+        *around, name = map(re.escape, self.path.split('::'))
+        ahead = '' if around[:1] == [self.crate] else r'(?:\S+%s)?' % re.escape(sep)
+        around = around[1:] if around[:1] == [self.crate] else around
+        name = r'(?:%s|\+[^\s%s]+)' % (name, sep) if self.in_cycle else name
+        return ahead + re.escape(sep).join([*around, name, ''])
+
+
+def body_of(text, start, indent):
+    """Where the braces of the item that starts there open and where the item ends, by the layout of rt fmt. Without braces both are
+    its end."""
+    at = start
+    while at < len(text):
+        end = text.find('\n', at) % (len(text) + 1)
+        line = text[at:end]
+        if line.endswith(';'):
+            return end, end
+        if line[:len(indent)] == indent and line[len(indent):len(indent) + 1] not in ('', ' '):
+            if '{' in line and line.endswith('}'):
+                return at + line.index('{'), end
+            if line.endswith('{'):
+                closed = re.compile('^%s}' % indent, re.M).search(text, end)
+                return end - 1, (closed.end() if closed else len(text))
+        at = end + 1
+    return len(text), len(text)
+
+
+def heads(words):
+    """The names in a type, without lifetimes and parameters' own arguments: `From<AllocFailed<T>>` is From, AllocFailed."""
+    return re.findall(r"(?<!')\b[A-Za-z_]\w*", re.sub(r"'\w+", '', words))
+
+
+def without_generics(text):
+    """The text behind the generics that it begins with."""
+    depth = 0
+    for at, sign in enumerate(text):
+        depth += (sign == '<') - (sign == '>' and text[at - 1] != '-')
+        if not depth:
+            return text[at + 1:] if sign == '>' else text
+    return text
+
+
+def owner_of(header):
+    """How rattle names an impl: its type, and behind it the trait with the type that the trait takes."""
+    header = re.split(r'\bwhere\b|\{', without_generics(header.strip()))[0].strip()
+    trait, _, of = header.rpartition(' for ')
+    type_ = (heads(of) or ['?'])[0]
+    return type_, type_ + ''.join(heads(trait)[:2]) if trait else None
+
+
+def functions_of(text, module):
+    """The functions of a file that stand in no other function, in order, with the impls and modules that they stand in."""
+    found, around = [], []
+    for item in ITEM.finditer(text):
+        indent, kind, rest = item[1], item[2], item[3]
+        around = [it for it in around if item.start() < it[0]]
+        if any(it[1] == 'fn' for it in around):
+            continue
+        opens, end = body_of(text, item.start(), indent)
+        has_body = opens < end
+        if kind == 'fn':
+            name = re.match(r' *(\w+)', rest)
+            if not name or not has_body:
+                continue
+            modules = '::'.join([it for it in [module, *[it[2] for it in around if it[1] == 'mod']] if it])
+            owner = next((it[2] for it in around if it[1] in ('impl', 'trait')), None)
+            made = Function(modules, owner, name[1], text[item.start():end], item.start(), end)
+            made.opens = opens
+            made.in_trait = any(it[1] == 'trait' for it in around)
+            made.is_of_cycle = '#[cycle' in re.search(r'(?:^ *(?:#\[|//).*\n)*\Z', text[:item.start()], re.M)[0]
+            found.append(made)
+        elif not has_body:
+            continue
+        elif kind == 'mod':
+            name = rest.strip(' {')
+        elif kind == 'impl':
+            name = owner_of(rest + text[item.end():text.find('{', item.start())])
+        else:
+            name = ((heads(rest) or ['?'])[0], None)
+        around.append((end, kind, name))
+    return found
+
+
+class Source:
+    """The functions of a crate, by rattle's paths, and which of them call which, as their names tell."""
+
+    def __init__(self, crate, texts):
+        self.crate, self.texts, self.by_file = crate.name, texts, {}
+        for file, text in texts.items():
+            module = file[len('src/'):-len('.rt')].replace('/', '::')
+            self.by_file[file] = functions_of(text, '' if module in ('lib', 'main') else module)
+        self.all = [it for found in self.by_file.values() for it in found]
+        types = collections.defaultdict(set)
+        for file, text in texts.items():
+            module = file[len('src/'):-len('.rt')].replace('/', '::')
+            for name in re.findall(r'^ *(?:pub(?:\([\w: ]+\))? )?(?:struct|enum|union) (\w+)', text, re.M):
+                types[name].add('' if module in ('lib', 'main') else module)
+        for it in self.all:
+            it.crate = self.crate
+            if it.owner and it.owner[1]:
+                # (the module of an impl isn't always that of its type: the end of the name is enough where it's the only one)
+                it.path = '%s::%s' % (it.owner[1], it.name)
+                continue
+            modules = types.get(it.owner[0], {it.module}) if it.owner else {it.module}
+            words = [*([] if len(modules) > 1 else [self.crate, *modules]), *([it.owner[0]] if it.owner else []), it.name]
+            it.path = '::'.join([word for word in words if word])
+        self.free, self.methods, self.of_type = (collections.defaultdict(list) for _ in range(3))
+        for it in self.all:
+            (self.methods if it.owner else self.free)[it.name].append(it)
+            if it.owner:
+                self.of_type[it.owner[0], it.name].append(it)
+        for it in self.all:
+            it.in_cycle = it.is_of_cycle or it.path in self.reached(it)
+
+    def called(self, function, text):
+        """What the text of a function calls in the crate. A function passed by its name is missed: its edit is then tried alone."""
+        found = []
+        for ahead, sign, dot, name in CALL.findall(text):
+            own = self.of_type.get((function.owner[0] if function.owner else '', name))
+            if ahead in ('self', 'Self') and own:
+                found += own
+            elif sign == '.' or dot:
+                found += self.methods.get(name, [])
+            elif sign == '::' and self.of_type.get((ahead, name)):
+                found += self.of_type[ahead, name]
+            else:
+                found += self.free.get(name, [])
+        return found
+
+    def reached(self, function, text=''):
+        """The paths of all that a function calls, directly or through others, with calls in `text` counted as its own."""
+        found, left = set(), [*self.called(function, function.text), *self.called(function, text)]
+        while left:
+            it = left.pop()
+            if it.path not in found:
+                found.add(it.path)
+                left += self.called(it, it.text)
+        return found
+
+
+class Edit:
+    """A wrong body, with the functions whose text it changes."""
+
+    def __init__(self, crate, file, source):
+        self.name, ending = os.path.splitext('%s/%s' % (crate.name, os.path.basename(file)))
+        self.functions, self.reached, self.is_alone, self.verdict = {}, set(), False, None
+        if ending != '.edit' or not os.path.isfile(file):
+            self.verdict = False, 'BAD EDIT: the name of an edit ends in .edit (or in .md, where it is only to be read)'
+            return
+        with open(file, encoding='utf-8', errors='replace') as it:
+            self.text = it.read()
+        texts, why = rt.edited(self.text, crate.folder)
+        if why:
+            self.verdict = False, 'BAD EDIT: ' + why
+            return
+        for file, text in texts.items():
+            old, before = source.texts.get(file, ''), source.by_file.get(file, [])
+            now = {it.key: it for it in functions_of(text, before[0].module if before else '')} if file in source.texts else {}
+            for it in before:
+                if it.key in now and now[it.key].text != it.text:
+                    self.functions[it.path] = it
+                    self.reached |= source.reached(it, now[it.key].text)
+            rest, new_rest = outside(old, before), outside(text, now.values())
+            if rest != new_rest:
+                # An item that is no function's body: all functions that name it are its own.
+                self.is_alone = True
+                changed = ''.join({*new_rest.split('\n')} ^ {*rest.split('\n')})
+                for name in re.findall(r'\b(?:const|static|struct|enum|type) (\w+)', changed):
+                    self.functions.update((it.path, it) for it in source.all if re.search(r'\b%s\b' % name, it.text))
+        if not self.functions:
+            self.verdict = False, 'BAD EDIT: it changes the body of no function'
+
+    def meets(self, other):
+        """Whether the two can't be told apart in one check."""
+        mine, its = {*self.functions}, {*other.functions}
+        return self.is_alone or other.is_alone or bool(mine & its or mine & other.reached or its & self.reached)
+
+
+def link(old, new):
+    """A kept module by a link, since rattle puts a new file in its place; what rattle writes into, by a copy."""
+    (os.link if old.endswith('.oantt') else shutil.copy2)(old, new)
+
+
+def outside(text, functions):
+    for it in reversed([*functions]):
+        text = text[:it.start] + text[it.end:]
+    return text
+
+
+def waves_of(edits):
+    """Few waves: an edit goes behind those of the functions that its own calls."""
+    waves = []
+    for edit in sorted(edits, key=lambda it: len(it.reached)):
+        fits = (it for it in waves if not any(edit.meets(other) for other in it))
+        wave = next(fits, None)
+        if wave is None:
+            waves.append([edit])
+        else:
+            wave.append(edit)
+    return waves
+
+
+class Run:
+    """What a check said."""
+
+    def __init__(self, status, said):
+        self.status, self.lines = status, said.rstrip('\n').split('\n')
+        self.of = dict(re.findall(r'^fn (\S+): (.*)', said, re.M))
+        self.ended = bool(re.match(r'only=\d+ |logic=not-proved', self.lines[-1]))
+        # What --only names and rattle doesn't know, or knows several times.
+        self.unknown = re.findall(r'`([^`]+)`', ' '.join(it for it in self.lines if it.startswith('rattle: error'))) if status == 2 else []
+
+    def lines_of(self, path):
+        """The verdicts on the function, and on the closures in it."""
+        return [why for name, why in self.of.items() if re.search(r'(^|::)%s(::|$)' % re.escape(path), name)]
+
+    def is_proved(self, path):
+        said = self.lines_of(path)
+        return bool(said) and all(re.match(r'proved|no holes|depends on a hole', it) for it in said)
+
+    def refusals(self, function):
+        """The verdicts that refuse the function itself, and not what it calls."""
+        own = r'it stands on [^;]*`Rattle\.%s\.proofs\.%s' % (function.crate, function.home('.'))
+        refused = re.compile(r'not proved(?:$|; %s)|no proof: (?!it calls)' % own)
+        return [it.split('; it calls')[0] for it in self.lines_of(function.path) if refused.match(it)]
+
+
+class Trial:
+    """The edits of a crate, on copies of it."""
+
+    def __init__(self, crate, room):
+        self.crate, self.room, self.numbers = crate, room, itertools.count(1)
+        self.source = Source(crate, {os.path.relpath(it, crate.folder): open(it, encoding='utf-8').read()
+                                     for it in sorted(rt.rtlib.files_of(crate.folder)) if it.endswith('.rt')})
+        files = sorted(it for it in glob.glob(crate.folder + '/wrong-bodies/*') if not it.endswith('.md'))
+        self.edits = [Edit(crate, it, self.source) for it in files]
+        self.asked = {path: it for edit in self.edits for path, it in edit.functions.items()}
+        self.holes = {}
+        for it in self.source.all:
+            # A function in a cycle of calls has a proof with others, one of a trait's impl may stand under another module's name, and
+            # tests aren't read: all these keep their proofs.
+            is_plain = it.path not in self.asked and it.path.startswith(crate.name + '::') and not it.in_trait
+            is_test = '#[test]' in self.source.texts['src/' + (it.module.replace('::', '/') or 'lib') + '.rt'] if it.module else False
+            if is_plain and not is_test and not it.is_of_cycle:
+                head = 'use Rattle.%s.proofs.%s.Statement.{statement}\n\n' % (crate.name, it.path.split('::', 1)[1].replace('::', '.'))
+                self.holes[it.folder()] = head + 'pub {0}_spec : {{M : Type 1}} → statement M\n{0}_spec = ?\n'.format(it.name)
+
+    def copy(self, edits):
+        """A copy of the crate with its holes and these edits, or None where one of them can't be applied beside another."""
+        at = '%s/%s-%d' % (self.room, self.crate.name, next(self.numbers))
+        for part in rt.rtlib.PARTS:
+            if os.path.isdir('%s/%s' % (self.crate.folder, part)):
+                shutil.copytree('%s/%s' % (self.crate.folder, part), '%s/%s' % (at, part))
+        for folder, text in self.holes.items():
+            os.makedirs('%s/%s' % (at, folder), exist_ok=True)
+            for place in (folder, '%s/+%s' % os.path.split(folder)):
+                for name in ('Answers.antt', 'Invariants.antt'):
+                    if os.path.isfile('%s/%s/%s' % (at, place, name)):
+                        os.remove('%s/%s/%s' % (at, place, name))
+            with open('%s/%s/Proof.antt' % (at, folder), 'w', encoding='utf-8') as it:
+                it.write(text)
+        for file, found in self.source.by_file.items():
+            whole = self.source.texts[file]
+            for it in reversed(found):
+                if self.holes and it.path.startswith(it.crate + '::') and it.folder() in self.holes:
+                    whole = whole[:it.opens] + BODY + whole[it.end:]
+            with open('%s/%s' % (at, file), 'w', encoding='utf-8') as it:
+                it.write(whole)
+        for edit in edits:
+            texts, why = rt.edited(edit.text, at)
+            if why:
+                return None
+            for path, text in texts.items():
+                with open('%s/%s' % (at, path), 'w', encoding='utf-8') as it:
+                    it.write(text)
+        return at
+
+    def check(self, edits, functions):
+        """What rattle says of these functions under these edits, over what the check without any has kept."""
+        with slots:
+            at = self.copy(edits)
+            if at is None:
+                return Run(2, 'these edits cannot be applied together')
+            kept = '%s/%s-kept' % (self.room, self.crate.name)
+            mine = at + '-kept' if edits else kept
+            if edits:
+                shutil.copytree(kept, mine, copy_function=link)
+            flags = ['--jobs', '1', '--incremental', mine, *(['--allow-holes'] if self.holes else [])]
+            for path in functions:
+                flags += ['--only', path]
+            words = [*rt.rtlib.guarded(), rt.rtlib.RATTLE, 'check', *self.crate.words(flags, keeps=False)]
+            how = {'cwd': at, 'stdin': subprocess.DEVNULL, 'stdout': subprocess.PIPE, 'stderr': subprocess.STDOUT, 'errors': 'replace'}
+            ran = subprocess.run(words, **how)
+            if ran.returncode < 0:
+                # Killed, most likely for memory: once more.
+                ran = subprocess.run(words, **how)
+            shutil.rmtree(at)
+            if edits:
+                shutil.rmtree(mine)
+            return Run(ran.returncode, ran.stdout)
+
+    def base(self):
+        """Checks the crate without an edit, and leaves what the waves stand on. An edit of a function that isn't proved so is lost."""
+        while self.asked:
+            run = self.check([], self.asked)
+            lost = {*self.asked} & {*run.unknown}
+            if not lost and not all(run.is_proved(it) for it in self.asked) and self.holes:
+                # (a hole that rattle refuses: without it, or without all where none is to blame)
+                refused = {it for line in run.lines for it in re.findall(r'^(?:\./)?(proofs/\S+)/Proof\.antt:\d+:\d+: error', line)}
+                self.holes = {folder: text for folder, text in self.holes.items() if refused & {*self.holes} and folder not in refused}
+                continue
+            lost = lost or {it for it in self.asked if not run.is_proved(it)}
+            for edit in self.edits:
+                mine = lost & {*edit.functions}
+                if mine and not edit.verdict:
+                    said = [*run.of.values()] and [it for path in mine for it in run.lines_of(path)] or run.lines
+                    edit.verdict = False, 'without the edit %s is not proved: %s' % (', '.join(sorted(mine)), said[0])
+            self.asked = {path: it for edit in self.edits if not edit.verdict for path, it in edit.functions.items()}
+            if run.status != 2:
+                return
+
+    def why(self, edit, run, is_alone):
+        """The first line that refuses the edit for more than a proof that names what the edit took away, if there is one."""
+        own = [it for function in edit.functions.values() for it in run.refusals(function)]
+        told = [it for it in run.lines if re.match(r'(note: )?\S+:\d+:\d+:', it) and (': error' in it or it.startswith('note: '))]
+        if not is_alone:
+            near = '|'.join(it.home('/') for it in edit.functions.values())
+            told = [it for it in told if re.match(r'(?:\./)?proofs/(?:%s)' % near, it)]
+        strong = [it for it in told if not TAKEN_AWAY.match(it)] + [it for it in own if it.startswith('no proof')]
+        return next(iter(strong or (own if is_alone and not told else [])), None)
+
+    def judge(self, edit, run, is_alone):
+        """Gives the edit its verdict, or none where it has to be tried alone."""
+        changed = {*re.findall(r'^file: (\S+)', edit.text, re.M)}
+        unread = next((it for it in run.lines if rt.unread(it, changed)), None)
+        if run.ended and run.status == 1 and not unread:
+            if any(run.refusals(it) for it in edit.functions.values()):
+                why = self.why(edit, run, is_alone)
+                if why:
+                    edit.verdict = True, 'refused: ' + why
+                elif is_alone:
+                    edit.verdict = False, 'refused only because a proof file names what the edit took away: change a value and keep the names'
+                return
+        if not is_alone:
+            return
+        if unread:
+            edit.verdict = False, 'BAD EDIT: the prover cannot read the edited text: ' + unread
+        elif all(run.is_proved(it) for it in edit.functions):
+            edit.verdict = False, 'NOT REFUSED: %s is proved with this edit' % ', '.join(sorted(edit.functions))
+        elif run.status == 3:
+            edit.verdict = False, 'the prover could not tell: ' + run.lines[-1]
+        elif run.ended:
+            said = [it for path in edit.functions for it in run.lines_of(path)] or ['nothing is said of it']
+            edit.verdict = False, 'NOT REFUSED by %s itself: %s' % (', '.join(sorted(edit.functions)), said[0])
+        else:
+            edit.verdict = False, 'BAD EDIT: it did not reach the prover: ' + ' / '.join(run.lines[:6])
+
+    def wave(self, edits):
+        functions = {path: it for edit in edits for path, it in edit.functions.items()}
+        run = self.check(edits, functions)
+        for edit in edits:
+            self.judge(edit, run, len(edits) == 1)
+
+    def run(self):
+        self.base()
+        left = [it for it in self.edits if not it.verdict]
+        for waves in (waves_of(left), None):
+            waves = waves if waves is not None else [[it] for it in left if not it.verdict]
+            with ThreadPoolExecutor(len(waves) or 1) as pool:
+                [*pool.map(self.wave, waves)]
+        with printing:
+            for edit in self.edits:
+                print('%s: %s' % (edit.name, edit.verdict[1])[:len(edit.name) + 2 + 160], flush=True)
+        return self.edits
+
+
+def make_libraries(crates):
+    """Makes the libraries below these crates where they're missing or older than their sources."""
+    for crate in dict.fromkeys(it for crate in crates for it in crate.below()):
+        stamp = rt.rtlib.text_of(os.path.dirname(crate.rlib) + '/stamp')
+        made = crate.rlib + '/format'
+        # (rt ci leaves no stamp: there the times tell)
+        newest = max(os.path.getmtime(it) for it in rt.rtlib.files_of(crate.folder))
+        is_made = os.path.isfile(made) and (stamp == crate.stamp() if stamp else os.path.getmtime(made) >= newest)
+        if not is_made:
+            print('%s: rt lib makes its library first' % crate.name, flush=True)
+            ran = subprocess.run(['rt', 'lib', '--jobs', '1'], cwd=crate.folder, stdout=subprocess.PIPE, stderr=subprocess.STDOUT, errors='replace')
+            if ran.returncode:
+                sys.exit('must_fail.py: the library %s is not proved: rt check in its folder says why' % crate.name)
+
+
+def main():
+    global rt, slots, printing
+    read = argparse.ArgumentParser(description=__doc__.split('\n')[0])
+    read.add_argument('--jobs', type=int, help='how many checks run side by side')
+    read.add_argument('crates', nargs='*', metavar='CRATE')
+    asked = read.parse_args()
+    rt = kit()
+    rt.rtlib.guarded()  # (its first call sets a signal's handler, which only the main thread may)
+    printing = threading.Lock()
+    slots = threading.BoundedSemaphore(asked.jobs or max(1, min(rt.processors(), int(rt.free() // EACH))))
+    crates = [it for it in rt.rtlib.crates_below(ROOT) if os.path.isdir(it.folder + '/wrong-bodies')]
+    unknown = {*asked.crates} - {it.name for it in crates}
+    if unknown:
+        sys.exit('must_fail.py: no crate with a folder wrong-bodies: %s' % ', '.join(sorted(unknown)))
+    crates = [it for it in crates if not asked.crates or it.name in asked.crates]
+    make_libraries(crates)
+    with tempfile.TemporaryDirectory(prefix='must-fail-') as room:
+        # The longest first: a crate's waves wait for its check without edits.
+        trials = sorted((Trial(it, room) for it in crates), key=lambda it: -it.crate.count(rb'\n'))
+        with ThreadPoolExecutor(len(trials) or 1) as pool:
+            edits = [edit for found in pool.map(Trial.run, trials) for edit in found]
+    took = resource.getrusage(resource.RUSAGE_CHILDREN)
+    passed = sum(it.verdict[0] for it in edits)
+    print('processor seconds: %d' % (took.ru_utime + took.ru_stime))
+    print('%d passed, %d failed' % (passed, len(edits) - passed))
+    return 0 if passed and passed == len(edits) else 1
+
+
+if __name__ == '__main__':
+    sys.exit(main())
