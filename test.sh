@@ -1,13 +1,13 @@
 #!/usr/bin/env bash
-# The whole gate: each proof from nothing, each edit that has to be refused, each test and the stored run of the program; then the
-# built program on the README's commands, on generated histories, on random edit scripts and with each growth of memory refused, and a
-# plain text of the rules of refutations beside the tests. The last line counts all of them.
+# The whole gate: each proof from nothing, the tests that are written in Rattle and the stored runs of the programs; then the edits that have
+# to be refused, what crates cite of one another, and the built program on rows of data, on the README's commands, on generated histories, on
+# random edit scripts and with each growth of memory refused, and a plain text of the rules of refutations beside it. The last line counts all.
 set -u
 cd "$(dirname "$0")"
 log=$(mktemp)
 trap 'rm -f "$log"' EXIT
 
-# By itself rt sets far more memory aside for a large crate than its check takes (14 GB for 5), and leaves processors idle meanwhile.
+# By itself rt sets far more memory aside for a large crate than its check takes, and leaves processors idle meanwhile.
 memory=$(($(awk '/^MemAvailable/ { print $2 }' /proc/meminfo) * 1024))
 limit=$(cat /sys/fs/cgroup/memory.max 2> /dev/null)
 [[ $limit =~ ^[0-9]+$ ]] && [ "$limit" -lt "$memory" ] && memory=$limit
@@ -17,7 +17,7 @@ checks=$((memory / 5000000000))
 
 RT_JOBS=${RT_JOBS:-$checks} rt ci | tee "$log"
 [ "${PIPESTATUS[0]}" = 0 ] || exit 1
-for script in tests/readme.sh tests/generated.sh tests/edits.py tests/growths.py tests/refutations.py; do
+for script in tests/imports.py tests/rows.py tests/readme.sh tests/generated.sh tests/edits.py tests/growths.py tests/refutations.py tests/must_fail.py; do
     echo "== $script"
     "$script" | tee -a "$log"
     [ "${PIPESTATUS[0]}" = 0 ] || exit 1
