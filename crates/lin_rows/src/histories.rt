@@ -1,10 +1,9 @@
 //! Rows about a history of registers and the scan of it.
-ghost use Rattle.lin_objects.specs.Kinds.{kind_of};
-ghost use Rattle.lin_wellformed.specs.Scans.{IsRight};
+ghost use Rattle.lin_rows.specs.Histories.{IsScanned};
 
 use crate::words::first_number;
 use crate::{
-    Body, Call, Event, Kind, Kinds, Meter, Name, Reply, Scan, Shape, Val, look_back, words,
+    Body, Call, Event, Kind, Kinds, Meter, Name, Reply, Scan, Shape, Val, look_back, orders, words,
 };
 use std::alloc::Global;
 
@@ -14,12 +13,12 @@ pub struct History {
     kinds: Kinds,
     events: Vec<Event>,
     scan: Scan,
-    // What a scan asks of the history before it goes on.
-    ghost right: { IsRight scan (kind_of kinds) events.items },
 }
 
 impl History {
-    pub fn new(alloc: Global, events: Vec<Event>) -> History {
+    pub fn new(alloc: Global, events: Vec<Event>) -> History
+        ensures { IsScanned result }
+    {
         History {
             kinds: Kinds::new(alloc, Kind::Register),
             events,
@@ -27,12 +26,11 @@ impl History {
         }
     }
 
-    pub fn events(&self) -> &[Event] {
-        self.events.as_slice()
-    }
-
     /// Puts an event at a position, if there is one, and takes the events from there on back.
-    fn put(&mut self, at: usize, event: Event) -> Option<()> {
+    fn put(&mut self, at: usize, event: Event) -> Option<()>
+        requires { IsScanned self.old }
+        ensures { IsScanned self.new }
+    {
         if at >= self.events.len() {
             return None;
         }
@@ -42,12 +40,18 @@ impl History {
     }
 
     /// Takes the events from a position on back.
-    fn cut(&mut self, at: usize) {
+    fn cut(&mut self, at: usize)
+        requires { IsScanned self.old }
+        ensures { IsScanned self.new }
+    {
         self.scan.cut(at);
     }
 
     /// The shape of the history, and how many events were scanned for it.
-    fn settle(&mut self) -> Option<(Shape, u64)> {
+    fn settle(&mut self) -> Option<(Shape, u64)>
+        requires { IsScanned self.old }
+        ensures { IsScanned self.new }
+    {
         let mut meter = Meter::new();
         let shape = self
             .scan
@@ -67,12 +71,10 @@ impl History {
 }
 
 /// `history EVENTS`: a new history, none of which is scanned.
-pub fn new_history(
-    alloc: Global,
-    history: &mut History,
-    text: &str,
-    out: &mut String,
-) -> Option<()> {
+fn new_history(alloc: Global, history: &mut History, text: &str, out: &mut String) -> Option<()>
+    requires { IsScanned history.old }
+    ensures { IsScanned history.new }
+{
     *history = History::new(alloc, words::events(alloc, text)?);
     write!(out, "{} events", history.events.len()).ok()
 }
@@ -95,7 +97,10 @@ fn read_at(at: u64) -> Event {
 }
 
 /// `reads COUNT`: a new history of so many events, in which each process reads once, and every tenth crashes.
-pub fn reads(alloc: Global, history: &mut History, text: &str, out: &mut String) -> Option<()> {
+fn reads(alloc: Global, history: &mut History, text: &str, out: &mut String) -> Option<()>
+    requires { IsScanned history.old }
+    ensures { IsScanned history.new }
+{
     let mut events = Vec::new(alloc);
     for at in 0..text.parse::<u64>().ok()? {
         events.push(read_at(at)).ok()?;
@@ -105,20 +110,29 @@ pub fn reads(alloc: Global, history: &mut History, text: &str, out: &mut String)
 }
 
 /// `edit POSITION EVENT`: how many events are scanned once the event stands there.
-pub fn edit(alloc: Global, history: &mut History, text: &str, out: &mut String) -> Option<()> {
+fn edit(alloc: Global, history: &mut History, text: &str, out: &mut String) -> Option<()>
+    requires { IsScanned history.old }
+    ensures { IsScanned history.new }
+{
     let (at, word) = first_number(text)?;
     history.put(at, words::event(alloc, word)?)?;
     write!(out, "{} scanned", history.scan.ready()).ok()
 }
 
 /// `cut POSITION`: how many events are scanned once those from there on are taken back.
-pub fn cut(history: &mut History, text: &str, out: &mut String) -> Option<()> {
+fn cut(history: &mut History, text: &str, out: &mut String) -> Option<()>
+    requires { IsScanned history.old }
+    ensures { IsScanned history.new }
+{
     history.cut(text.parse::<usize>().ok()?);
     write!(out, "{} scanned", history.scan.ready()).ok()
 }
 
 /// `settle`: how many events were scanned now, how many are, the shape, and whether a new scan and a look back tell the same.
-pub fn settle(alloc: Global, history: &mut History, out: &mut String) -> Option<()> {
+fn settle(alloc: Global, history: &mut History, out: &mut String) -> Option<()>
+    requires { IsScanned history.old }
+    ensures { IsScanned history.new }
+{
     let (shape, scans) = history.settle()?;
     let is_same = history.has(alloc, shape)?;
     let ready = history.scan.ready();
@@ -130,6 +144,38 @@ pub fn settle(alloc: Global, history: &mut History, out: &mut String) -> Option<
 }
 
 /// `kept`: how many tables of processes are held.
-pub fn kept(history: &History, out: &mut String) -> Option<()> {
+fn kept(history: &History, out: &mut String) -> Option<()> {
     write!(out, "{} kept", history.scan.kept()).ok()
+}
+
+/// Whether a command is about the history that earlier rows left.
+pub fn is_known(command: &str) -> bool {
+    matches!(
+        command,
+        "history" | "reads" | "edit" | "cut" | "settle" | "kept" | "order" | "legal-orders"
+    )
+}
+
+/// A row's command that is about the history that earlier rows left.
+pub fn answer(
+    alloc: Global,
+    history: &mut History,
+    command: &str,
+    rest: &str,
+    out: &mut String,
+) -> Option<()>
+    requires { IsScanned history.old }
+    ensures { IsScanned history.new }
+{
+    match command {
+        "history" => new_history(alloc, history, rest, out),
+        "reads" => reads(alloc, history, rest, out),
+        "edit" => edit(alloc, history, rest, out),
+        "cut" => cut(history, rest, out),
+        "settle" => settle(alloc, history, out),
+        "kept" => kept(history, out),
+        "order" => orders::order(alloc, history.events.as_slice(), rest, out),
+        "legal-orders" => orders::legal_orders(alloc, history.events.as_slice(), rest, out),
+        _ => None,
+    }
 }

@@ -4,6 +4,8 @@
 //! spelled, and `words` how calls, replies and events are.
 #![tactic(auto)]
 
+ghost use Rattle.lin_rows.specs.Histories.{IsScanned};
+
 mod elements;
 mod histories;
 mod objects;
@@ -80,55 +82,41 @@ fn answer_list(alloc: Global, command: &str, rest: &str, out: &mut String) -> Op
     }
 }
 
-/// A row's command that is about the stream or the history that earlier rows left.
+/// A row's command that is about the stream that earlier rows left, or about no earlier row.
 fn answer_row(
     alloc: Global,
     follow: &mut Follow,
-    history: &mut History,
-    row: &str,
+    command: &str,
+    rest: &str,
     out: &mut String,
 ) -> Option<()> {
-    let (command, rest) = words::first_word(row);
     match command {
         "stream" => streams::stream(alloc, follow, rest, out),
         "feed" => streams::feed(follow, rest, out),
         "finish" => streams::finish(follow, out),
         "take" => streams::take(follow, out),
         "take-all" => streams::take_all(follow, out),
-        _ => answer_history(alloc, history, command, rest, out),
-    }
-}
-
-/// A row's command that is about the history.
-fn answer_history(
-    alloc: Global,
-    history: &mut History,
-    command: &str,
-    rest: &str,
-    out: &mut String,
-) -> Option<()> {
-    match command {
-        "history" => histories::new_history(alloc, history, rest, out),
-        "reads" => histories::reads(alloc, history, rest, out),
-        "edit" => histories::edit(alloc, history, rest, out),
-        "cut" => histories::cut(history, rest, out),
-        "settle" => histories::settle(alloc, history, out),
-        "kept" => histories::kept(history, out),
-        "order" => orders::order(alloc, history.events(), rest, out),
-        "legal-orders" => orders::legal_orders(alloc, history.events(), rest, out),
         _ => answer_element(alloc, command, rest, out),
     }
 }
 
 /// The answer to a line; nothing where it isn't understood, or memory ran out.
-fn answer(alloc: Global, follow: &mut Follow, history: &mut History, line: &str) -> Option<String> {
+fn answer(alloc: Global, follow: &mut Follow, history: &mut History, line: &str) -> Option<String>
+    requires { IsScanned history.old }
+    ensures { IsScanned history.new }
+{
     let mut out = String::new(alloc);
     if line.is_empty() || line.starts_with(';') {
         out.push_str(line).ok()?;
         return Some(out);
     }
     let row = text::spelled(alloc, line)?;
-    answer_row(alloc, follow, history, row.as_str(), &mut out)?;
+    let (command, rest) = words::first_word(row.as_str());
+    if histories::is_known(command) {
+        histories::answer(alloc, history, command, rest, &mut out)?;
+    } else {
+        answer_row(alloc, follow, command, rest, &mut out)?;
+    }
     Some(out)
 }
 
