@@ -7,8 +7,9 @@ into one check, a wave: those of which no edited function calls another, directl
 itself, and an edit counts as refused only by a line of its own function.
 
 For each crate:
-1. Each function that no edit changes gets a proof that is one hole, where it can have that. `rattle check --allow-holes` takes it by
-   its contract, which is all that its callers' proofs go by, so nothing is proved a second time but the functions that are edited.
+1. Each function that no edit changes gets an empty body and a proof that is one hole, where it can have that. `rattle check
+   --allow-holes` then takes it by its contract, which is all that the proofs of its callers go by: what the edits leave as it is isn't
+   proved a second time.
 2. The crate is checked so without any edit, and each function that an edit changes has to be proved. What is refused later is
    refused for the edit, and not for a hole or for a file that `--only` leaves out. Where one isn't proved so, the holes go.
 3. The waves are checked, each over what that check kept. An edit without a line of its own is tried again alone.
@@ -34,7 +35,7 @@ import threading
 from concurrent.futures import ThreadPoolExecutor
 
 ROOT = os.path.dirname(os.path.dirname(os.path.realpath(__file__)))
-BODY = '{\n    unreachable!()\n}'
+HOLE = 'use Rattle.{0}.proofs.{1}.Statement.{{statement}}\n\npub {2}_spec : {{M : Type 1}} → statement M\n{2}_spec = ?\n'
 EACH = 4 << 30  # the memory that a check is taken to need
 ITEM = re.compile(r'^( *)(?:pub(?:\([\w: ]+\))? )?(?:(?:const|unsafe|default|ghost) )*(fn|impl|trait|mod)\b(.*)', re.M)
 CALL = re.compile(r'(?:(\w+)\s*(\.|::)\s*|(\.)\s*)?(?<!fn )\b(\w+)\s*(?:::<[^()]*>)?\(')
@@ -58,14 +59,28 @@ def kit():
 
 
 class Function:
-    def __init__(self, module, owner, name, text, start, end):
-        self.module, self.owner, self.name, self.text, self.start, self.end = module, owner, name, text, start, end
-        self.in_trait = self.in_cycle = self.is_of_cycle = False
+    """A function with a body, as its file has it."""
+
+    def __init__(self, module, owner, name, text, opens):
+        self.module, self.owner, self.name, self.text, self.opens = module, owner, name, text, opens
+        self.start = self.end = 0
+        # Whether it's a trait's, whether it has the attribute of a cycle of calls, and whether it comes back to itself.
+        self.in_trait = self.is_of_cycle = self.in_cycle = False
         self.crate = self.path = ''
 
     @property
     def key(self):
         return self.module, self.owner, self.name
+
+    def can_be_a_hole(self):
+        """A function in a cycle has a proof with others, one of a trait's impl may stand under another module's name, and a constant's
+        body is run: these keep their proofs."""
+        is_const = re.match(r'[^\n]*\bconst\b.*\bfn\b', self.text)
+        return self.path.startswith(self.crate + '::') and not (self.in_trait or self.is_of_cycle or is_const)
+
+    def hole(self):
+        path = self.path.split('::', 1)[1].replace('::', '.')
+        return HOLE.format(self.crate, path, self.name)
 
     def folder(self):
         return 'proofs/' + self.path.split('::', 1)[1].replace('::', '/')
@@ -137,8 +152,8 @@ def functions_of(text, module):
                 continue
             modules = '::'.join([it for it in [module, *[it[2] for it in around if it[1] == 'mod']] if it])
             owner = next((it[2] for it in around if it[1] in ('impl', 'trait')), None)
-            made = Function(modules, owner, name[1], text[item.start():end], item.start(), end)
-            made.opens = opens
+            made = Function(modules, owner, name[1], text[item.start():end], opens)
+            made.start, made.end = item.start(), end
             made.in_trait = any(it[1] == 'trait' for it in around)
             made.is_of_cycle = '#[cycle' in re.search(r'(?:^ *(?:#\[|//).*\n)*\Z', text[:item.start()], re.M)[0]
             found.append(made)
@@ -278,24 +293,38 @@ class Run:
 
     def __init__(self, status, said):
         self.status, self.lines = status, said.rstrip('\n').split('\n')
-        self.of = dict(re.findall(r'^fn (\S+): (.*)', said, re.M))
+        # The verdict on each function, and the notes on its goals, which stand above it.
+        self.of, self.notes, above = {}, {}, []
+        for line in self.lines:
+            verdict = re.match(r'fn (\S+): (.*)', line)
+            if verdict:
+                self.of[verdict[1]], self.notes[verdict[1]], above = verdict[2], above, []
+            elif re.match(r'note: src/\S+:\d+:\d+: it is not proved', line):
+                above.append(line)
         self.ended = bool(re.match(r'only=\d+ |logic=not-proved', self.lines[-1]))
         # What --only names and rattle doesn't know, or knows several times.
         self.unknown = re.findall(r'`([^`]+)`', ' '.join(it for it in self.lines if it.startswith('rattle: error'))) if status == 2 else []
 
+    def names_of(self, path):
+        """The function with that path, or that end of its path, and the closures in it."""
+        return [name for name in self.of if re.search(r'(^|::)%s(::|$)' % re.escape(path), name)]
+
     def lines_of(self, path):
-        """The verdicts on the function, and on the closures in it."""
-        return [why for name, why in self.of.items() if re.search(r'(^|::)%s(::|$)' % re.escape(path), name)]
+        return [self.of[name] for name in self.names_of(path)]
 
     def is_proved(self, path):
         said = self.lines_of(path)
         return bool(said) and all(re.match(r'proved|no holes|depends on a hole', it) for it in said)
 
     def refusals(self, function):
-        """The verdicts that refuse the function itself, and not what it calls."""
+        """The notes and verdicts that refuse the function itself, and not what it calls."""
         own = r'it stands on [^;]*`Rattle\.%s\.proofs\.%s' % (function.crate, function.home('.'))
         refused = re.compile(r'not proved(?:$|; %s)|no proof: (?!it calls)' % own)
-        return [it.split('; it calls')[0] for it in self.lines_of(function.path) if refused.match(it)]
+        found = []
+        for name in self.names_of(function.path):
+            if refused.match(self.of[name]) or self.of[name].startswith('not proved') and self.notes[name]:
+                found += [*self.notes[name], self.of[name].split('; it calls')[0]]
+        return found
 
 
 class Trial:
@@ -308,15 +337,10 @@ class Trial:
         files = sorted(it for it in glob.glob(crate.folder + '/wrong-bodies/*') if not it.endswith('.md'))
         self.edits = [Edit(crate, it, self.source) for it in files]
         self.asked = {path: it for edit in self.edits for path, it in edit.functions.items()}
-        self.holes = {}
-        for it in self.source.all:
-            # A function in a cycle of calls has a proof with others, one of a trait's impl may stand under another module's name, and
-            # tests aren't read: all these keep their proofs.
-            is_plain = it.path not in self.asked and it.path.startswith(crate.name + '::') and not it.in_trait
-            is_test = '#[test]' in self.source.texts['src/' + (it.module.replace('::', '/') or 'lib') + '.rt'] if it.module else False
-            if is_plain and not is_test and not it.is_of_cycle:
-                head = 'use Rattle.%s.proofs.%s.Statement.{statement}\n\n' % (crate.name, it.path.split('::', 1)[1].replace('::', '.'))
-                self.holes[it.folder()] = head + 'pub {0}_spec : {{M : Type 1}} → statement M\n{0}_spec = ?\n'.format(it.name)
+        # Tests aren't read.
+        tests = {file for file, text in self.source.texts.items() if '#[test]' in text}
+        self.holes = {it.folder(): it.hole() for file, found in self.source.by_file.items() if file not in tests
+                      for it in found if it.path not in self.asked and it.can_be_a_hole()}
 
     def copy(self, edits):
         """A copy of the crate with its holes and these edits, or None where one of them can't be applied beside another."""
@@ -333,12 +357,14 @@ class Trial:
             with open('%s/%s/Proof.antt' % (at, folder), 'w', encoding='utf-8') as it:
                 it.write(text)
         for file, found in self.source.by_file.items():
-            whole = self.source.texts[file]
-            for it in reversed(found):
-                if self.holes and it.path.startswith(it.crate + '::') and it.folder() in self.holes:
-                    whole = whole[:it.opens] + BODY + whole[it.end:]
+            text = self.source.texts[file]
+            for function in reversed(found):
+                if function.can_be_a_hole() and function.folder() in self.holes:
+                    # (with as many lines, so that notes tell the places in the crate's own files)
+                    lines = text[function.opens:function.end].count('\n')
+                    text = text[:function.opens] + '{ unreachable!()%s}' % ('\n' * lines or ' ') + text[function.end:]
             with open('%s/%s' % (at, file), 'w', encoding='utf-8') as it:
-                it.write(whole)
+                it.write(text)
         for edit in edits:
             texts, why = rt.edited(edit.text, at)
             if why:
@@ -399,7 +425,7 @@ class Trial:
         if not is_alone:
             near = '|'.join(it.home('/') for it in edit.functions.values())
             told = [it for it in told if re.match(r'(?:\./)?proofs/(?:%s)' % near, it)]
-        strong = [it for it in told if not TAKEN_AWAY.match(it)] + [it for it in own if it.startswith('no proof')]
+        strong = [it for it in own if it.startswith(('note: ', 'no proof'))] + [it for it in told if not TAKEN_AWAY.match(it)]
         return next(iter(strong or (own if is_alone and not told else [])), None)
 
     def judge(self, edit, run, is_alone):
