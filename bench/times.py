@@ -38,13 +38,13 @@ def check_of(pid):
     try:
         with open(f"/proc/{pid}/cmdline", "rb") as it:
             words = it.read().decode(errors="replace").split("\0")
-        folder = os.path.basename(os.readlink(f"/proc/{pid}/cwd"))
+        folder = os.readlink(f"/proc/{pid}/cwd")
     except OSError:
         return None
     if os.path.basename(words[0]) != "rattle" or "--crate-name" not in words:
         return None
-    # rt tries an edit in a copy of the crate.
-    kind = "edits" if folder.startswith("rt-edit-") else "tests" if "--test" in words else "proof"
+    # Edits are tried in copies of the crate.
+    kind = "edits" if re.search(r"/(rt-edit|must-fail)-", folder) else "tests" if "--test" in words else "proof"
     return words[words.index("--crate-name") + 1], kind
 
 
@@ -86,7 +86,7 @@ def table(checks, said, elapsed, load):
                 scripts[-1] += f"{second - began:.0f} seconds"
             heading, began = line[3:], second
             scripts += [f"- `{heading}`: "] * ("/" in heading)
-        proved, tried = re.match(r"logic=proved functions=(\d+)", line), re.match(r"rt: must-fail (\w+)/", line)
+        proved, tried = re.match(r"logic=proved functions=(\d+)", line), re.match(r"(\w+)/\w+: refused", line)
         if proved and ":" not in heading:
             functions[heading] = int(proved[1])
         if tried:
