@@ -36,7 +36,7 @@ from concurrent.futures import ThreadPoolExecutor
 
 ROOT = os.path.dirname(os.path.dirname(os.path.realpath(__file__)))
 HOLE = 'use Rattle.{0}.proofs.{1}.Statement.{{statement}}\n\npub {2}_spec : {{M : Type 1}} → statement M\n{2}_spec = ?\n'
-EACH = 4 << 30  # the memory that a check is taken to need
+EACH = 6 << 30  # the memory that a check is taken to need: those of the program take 5.4 GB
 ITEM = re.compile(r'^( *)(?:pub(?:\([\w: ]+\))? )?(?:(?:const|unsafe|default|ghost) )*(fn|impl|trait|mod)\b(.*)', re.M)
 CALL = re.compile(r'(?:(\w+)\s*(\.|::)\s*|(\.)\s*)?(?<!fn )\b(\w+)\s*(?:::<[^()]*>)?\(')
 # A proof file that names what the edit took away, as rt tells it: that says little of the contract.
