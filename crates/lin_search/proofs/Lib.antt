@@ -1,4 +1,1 @@
 pub mod Witnesses
-pub mod Conflicting
-pub mod SetConflicting
-pub mod QueueConflicting

@@ -1,20 +1,15 @@
-//! Searches for a legal order, or for a failure, of a register, a queue or a set: what is found has passed a check.
+//! Searches for a legal order of a register, a queue or a set, and for a failure where none is found: what is found has
+//! passed a check.
 #![tactic(auto)]
 
 mod acts;
-mod adds;
 mod attempts;
-mod conflict;
 mod drafts;
 mod elements;
 mod lines;
 mod operations;
-mod queue_conflict;
-mod queue_failures;
 mod queues;
 mod ranks;
-mod set_conflict;
-mod set_failures;
 mod sets;
 mod witness;
 mod zones;

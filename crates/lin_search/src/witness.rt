@@ -5,15 +5,14 @@ ghost use Rattle.lin_orders.specs.Linearizable.{IsDeadAt, IsLegalOrderAs, IsLine
 
 use crate::acts::Acts;
 use crate::attempts::Attempt;
-use crate::conflict::{Conflict, is_refuted};
-use crate::queue_conflict::{QueueConflict, is_queue_refuted};
-use crate::queue_failures::queue_failure;
 use crate::queues::queue_order;
-use crate::set_conflict::{SetConflict, is_set_refuted};
-use crate::set_failures::set_failure;
 use crate::sets::set_order;
 use crate::zones::sought;
 use lin_events::{Event, OutOfMemory};
+use lin_failures::{
+    Conflict, QueueConflict, SetConflict, is_queue_refuted, is_refuted, is_set_refuted,
+    queue_failure, set_failure,
+};
 use lin_objects::{Kind, Kinds};
 use lin_orders::{Placed, check_order};
 use std::alloc::Global;

@@ -1,8 +1,8 @@
 //! A search for operations of a register that conflict, among values that one update leaves. Whatever it finds is checked; that it finds
 //! something isn't promised.
 use crate::acts::{Act, Acts};
-use crate::conflict::{Block, Conflict};
 use lin_events::{Event, OutOfMemory, Val};
+use lin_failures::{Block, Conflict};
 use std::alloc::Global;
 use std::collections::HashMap;
 

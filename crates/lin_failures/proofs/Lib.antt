@@ -1,0 +1,3 @@
+pub mod Conflicting
+pub mod SetConflicting
+pub mod QueueConflicting

@@ -1,0 +1,22 @@
+use Rattle.std.proofs.Common.{◌≡◌, ◌⊎◌, inl, inr, arith, sym, subst}
+use Rattle.std.proofs.lemmas.Bool.{cases_lt}
+use Rattle.std.proofs.lemmas.Option.{slice_get_within}
+use Rattle.lin_events.specs.Operations.{IsFailed}
+use Rattle.lin_orders.specs.Orders.{IsCall}
+use Rattle.lin_failures.specs.Adding.{Adds}
+use Rattle.lin_failures.proofs.SetConflicting.{as_held}
+use Rattle.lin_failures.proofs.adds.is_added_elsewhere.Goals as goal
+
+pub loop-at-preserved : goal.loop-at-preserved
+loop-at-preserved c k call within is adds = elim (cases_lt k c.loop-at.at) [
+  | inl before ↦ c.loop-at.invariant k call before is adds
+  | inr here ↦
+      let h = c.args.events.now in
+      let same : k ≡ c.loop-at.at = omega (arith, here, within) in
+      subst (λ i. (i ≡ c.args.add) ⊎ IsFailed h i) (sym same) (c.is_other_add_at.ensures c.if-is_other_add_at.false call (subst (λ i. IsCall h i call) same is) adds)
+]
+
+pub returns : goal.returns
+returns c none at call is adds =
+    c.loop-at.invariant at call (omega (arith, c.loop-at-test.false, slice_get_within c.args.events.now at _ is.2)) is
+    (subst (Adds call) (sym (as_held c.args.number c.ranges.number)) adds)

@@ -1,0 +1,16 @@
+//! Failures of a register, a queue or a set: operations that conflict, so that no order of them is legal; and where to look
+//! for them in queues and sets.
+#![tactic(auto)]
+
+mod adds;
+mod conflict;
+mod queue_conflict;
+mod queue_failures;
+mod set_conflict;
+mod set_failures;
+
+pub use conflict::{Block, Conflict, is_refuted};
+pub use queue_conflict::{QueueConflict, is_queue_refuted};
+pub use queue_failures::queue_failure;
+pub use set_conflict::{SetConflict, is_set_refuted};
+pub use set_failures::set_failure;
