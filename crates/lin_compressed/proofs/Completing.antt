@@ -1,5 +1,5 @@
 -- Searching the ways of members for the reply of an operation that completes.
-use Rattle.std.proofs.Common.{◌≡◌, ◌⊎◌, ℕ, ◌+◌, ◌<◌, ◌≤◌, List, [], ◌∷◌, ◌++◌, length, length-append, map, ◌-◌, Contains, All, inl, inr, sym, ap, subst, ◌∙◌, arith, get_or, Option, Some, None, Bool, true, false, IfSome, IfNone}
+use Rattle.std.proofs.Common.{◌≡◌, ◌⊎◌, ℕ, ◌+◌, ◌<◌, ◌≤◌, List, [], ◌∷◌, ◌++◌, length, length-append, map, ◌-◌, Contains, All, inl, inr, refl, sym, ap, subst, ◌∙◌, arith, get_or, Option, Some, None, Bool, true, false, IfSome, IfNone}
 use Rattle.std.proofs.lemmas.List.{append-nil, get_or_append_left, get_or-append_right, get_or-map, length-map}
 use Rattle.std.proofs.lemmas.List.Elements.{All-append, All-pop, All-weaker, All-contains, Contains-get_or, Contains-push, Contains-push_cases, Contains-append_left}
 use Rattle.std.proofs.lemmas.Bool.{cases_lt}
@@ -15,6 +15,7 @@ use Rattle.lin_members.specs.Searching.{is_watching, AreBehind, AreUpdates, Begi
 use Rattle.lin_frontier.specs.lemmas.Closing.{any_default}
 use Rattle.lin_frontier.specs.lemmas.Inserting.{kept_by, passed_by}
 use Rattle.lin_members.specs.lemmas.Undominated.{above_itself}
+use Rattle.lin_compressed.specs.Putting.{IsTakenInIf}
 use Rattle.lin_compressed.proofs.Visiting.{grown_grown, not_grown, node_stays, begins_still}
 
 -- one of the first list stands in both joined, and so does one of the second
@@ -177,6 +178,33 @@ module _ {S : Type 0} (step : S → Call → S → Reply → Type 0) (observes :
           (ap (λ (k : Member S). k.state) is ∙ ap (λ (k : S × List (ℕ × Reply)). k.0) config)
           (ap (λ (k : Member S). k.placed) is ∙ ap (λ (k : S × List (ℕ × Reply)). k.1) config ∙ ap (λ (k : S × List (ℕ × Reply)). k.1) same)
           (subst (AreBehind step observes pending m) (sym (ap (λ (k : Member S). k.offers) is)) behind) update pushed h
+
+      -- nodes were added
+      pub returning_grown : (rest : List (S × Reply)) (nodes after : List (ℕ × (Placed × Option ℕ))) (now : List (Member S × Path)) → IsGrown nodes after → IsReturning m first nodes old rest now → IsReturning m first after old rest now
+      returning_grown rest nodes after now grown h = record {
+        nodes_grown = grown_grown first nodes after h.nodes_grown grown;
+        rest_of = h.rest_of;
+        finding = record {
+          kept = h.finding.kept;
+          sound = λ k there. elim (h.finding.sound k there) [
+            | inl in_old ↦ inl in_old
+            | inr made ↦ inr (completed_stays nodes after m k grown made)
+          ];
+        };
+        taken = h.taken;
+      }
+
+      -- a step was taken in, if it has the reply
+      pub returning_turn : (more rest : List (S × Reply)) (nodes after : List (ℕ × (Placed × Option ℕ))) (now then' : List (Member S × Path)) (a : S × Reply) (offers : List (ℕ × (ℕ × Reply))) → more ≡ rest ++ a ∷ [] → IsGrown nodes after
+          → AreBehind step observes pending m offers → observes operation.call ≡ false → IsTakenInIf (a.1 ≡ reply) observes pending (a.0, m.0.placed) (record { at = operation.at; reply = reply }) offers m.1 after now then'
+          → IsReturning m first nodes old more now → IsReturning m first after old rest then'
+      returning_turn more rest nodes after now then' a offers popped grown behind update turn h = elim turn [
+        | inl other ↦ subst (λ l. IsReturning m first after old rest l) (sym other.1) (returning_grown rest nodes after now grown (returning_skip more rest nodes now a popped (λ same. absurd (other.0 same)) h))
+        | inr given ↦ elim given.1 [
+          | inl above ↦ subst (λ l. IsReturning m first after old rest l) (sym above.3) (returning_grown rest nodes after now grown (returning_found more rest nodes now a above.0 (m.0.state, m.0.placed) (a.0, m.0.placed) offers popped above.1 above.2 refl refl behind h))
+          | inr put ↦ returning_made more rest nodes after now then' a put.member (m.0.state, m.0.placed) (a.0, m.0.placed) offers popped given.0 grown put.begins put.same refl refl behind update put.pushed h
+        ]
+      ]
 
     pub done_stays : (m : Member S) (out now : List (Member S × Path)) → ((n : Member S × Path) → Contains out n → Contains now n) → IsDone observes operation pending out m → IsDone observes operation pending now m
     done_stays m out now kept d = (d.0, d.1, kept d.1 d.2, d.3)

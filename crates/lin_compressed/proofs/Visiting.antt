@@ -1,5 +1,5 @@
 -- Steps among which a reply is looked for, and members that are taken in where none that was visited dominates them: both from a list, from the last on.
-use Rattle.std.proofs.Common.{◌≡◌, ◌⊎◌, ℕ, ◌+◌, List, [], ◌∷◌, ◌++◌, length, Contains, All, inl, inr, refl, sym, ap, subst, ◌∙◌, arith, append_assoc, Option, Some, None, Bool, slice_get}
+use Rattle.std.proofs.Common.{◌≡◌, ◌⊎◌, ℕ, ◌+◌, List, [], ◌∷◌, ◌++◌, length, Contains, All, inl, inr, refl, sym, ap, subst, ◌∙◌, arith, append_assoc, Option, Some, None, Bool, Result, Ok, Err, OnOk, slice_get}
 use Rattle.std.proofs.lemmas.List.{append-nil}
 use Rattle.std.proofs.lemmas.List.Elements.{All-pop, All-push, All-weaker, Contains-push, Contains-push_cases, Contains-append_left}
 use Rattle.lin_events.specs.declared.calls.Call.{Call}
@@ -10,6 +10,7 @@ use Rattle.lin_frontier.specs.declared.pending.Open.{Open}
 use Rattle.lin_members.specs.Members.{Member}
 use Rattle.lin_frontier.specs.Nodes.{IsGrown}
 use Rattle.lin_members.specs.Searching.{IsNodeOf, BeginsRound, DominatesIn, IsVisiting}
+use Rattle.lin_compressed.specs.Putting.{IsPutNext, IsTakenIn}
 use Rattle.lin_frontier.specs.lemmas.Absorbing.{get_more}
 use Rattle.lin_members.specs.lemmas.Undominated.{above_itself}
 
@@ -55,6 +56,21 @@ begins_from nodes path from next p q at same round node = record {
   node = subst (λ (r : Placed). IsNodeOf nodes next.node path.node (r, None)) same (subst (λ (k : Path). IsNodeOf nodes next.node k.node (q, None)) at node);
 }
 
+-- what was put last is last behind others too
+pub put_after : {S : Type 0} (c : S × List (ℕ × Reply)) (p : Placed) (offers : List (ℕ × (ℕ × Reply))) (path : Path) (nodes : List (ℕ × (Placed × Option ℕ))) (front old now : List (Member S × Path)) → IsPutNext c p offers path nodes old now
+    → IsPutNext c p offers path nodes (front ++ old) (front ++ now)
+put_after c p offers path nodes front old now put = record {
+  member = put.member;
+  pushed = ap (λ l. front ++ l) put.pushed ∙ sym (append_assoc front old (put.member ∷ []));
+  same = put.same;
+  begins = put.begins;
+}
+
+-- what holds holds where the result is an `Ok`
+pub on_any : {X E : Type 0} (r : Result X E) (P : Type 0) → P → OnOk r P
+on_any (Ok x) P p = p
+on_any (Err e) P p = tt
+
 -- of the outcomes, `rest` are still to be taken in
 pub record IsTakingIn {S : Type 0} (observes : Call → Bool) (pending : List Open) (outcomes rest : List ((S × List (ℕ × Reply)) × Placed)) (offers : List (ℕ × (ℕ × Reply))) (path : Path)
     (first nodes : List (ℕ × (Placed × Option ℕ))) (old now : List (Member S × Path)) : Type 0 where
@@ -75,6 +91,20 @@ module _ {S : Type 0} (observes : Call → Bool) (pending : List Open) (outcomes
     grown = sym (append-nil old);
     new = λ i d inside. absurd (omega arith);
     taken = λ c p there. inl there;
+  }
+
+  -- nodes were added
+  taking_grown : (rest : List ((S × List (ℕ × Reply)) × Placed)) (nodes after : List (ℕ × (Placed × Option ℕ))) (now : List (Member S × Path)) → IsGrown nodes after → IsTakingIn observes pending outcomes rest offers path first nodes old now
+      → IsTakingIn observes pending outcomes rest offers path first after old now
+  taking_grown rest nodes after now more_nodes h = record {
+    nodes_grown = grown_grown first nodes after h.nodes_grown more_nodes;
+    from_rest = h.from_rest;
+    added = h.added;
+    grown = h.grown;
+    new = All-weaker (λ (n : Member S × Path). (p : Placed) × Contains outcomes ((n.0.state, n.0.placed), p) × (n.0.offers ≡ offers) × BeginsRound nodes path n.1 p)
+        (λ (n : Member S × Path). (p : Placed) × Contains outcomes ((n.0.state, n.0.placed), p) × (n.0.offers ≡ offers) × BeginsRound after path n.1 p)
+        (λ n a. (a.0, a.1, a.2, begins_still nodes after path n.1 a.0 more_nodes a.3)) h.added h.new;
+    taken = h.taken;
   }
 
   module _ (more rest : List ((S × List (ℕ × Reply)) × Placed)) (nodes : List (ℕ × (Placed × Option ℕ))) (now : List (Member S × Path)) (x : (S × List (ℕ × Reply)) × Placed) (popped : more ≡ rest ++ x ∷ [])
@@ -133,6 +163,13 @@ module _ {S : Type 0} (observes : Call → Bool) (pending : List Open) (outcomes
     pub taking_made : (after : List (ℕ × (Placed × Option ℕ))) (then' : List (Member S × Path)) (n : Member S × Path) → IsGrown nodes after → BeginsRound after path n.1 x.1
         → n.0 ≡ record { state = x.0.0; placed = x.0.1; offers = offers } → then' ≡ now ++ n ∷ [] → IsTakingIn observes pending outcomes rest offers path first after old then'
     taking_made after then' n more_nodes begins is pushed = taking_push after then' n.1 more_nodes begins (pushed ∙ ap (λ (k : Member S). now ++ (k, n.1) ∷ []) is)
+
+    -- it was taken in
+    pub taking_turn : (after : List (ℕ × (Placed × Option ℕ))) (then' : List (Member S × Path)) → IsGrown nodes after → IsTakenIn observes pending x.0 x.1 offers path after now then' → IsTakingIn observes pending outcomes rest offers path first after old then'
+    taking_turn after then' more_nodes turn = elim turn [
+      | inl above ↦ subst (λ l. IsTakingIn observes pending outcomes rest offers path first after old l) (sym above.3) (taking_grown rest nodes after now more_nodes (taking_skip above.0 above.1 above.2))
+      | inr put ↦ taking_made after then' put.member more_nodes put.begins put.same put.pushed
+    ]
 
   pub taking_end : (rest : List ((S × List (ℕ × Reply)) × Placed)) (nodes : List (ℕ × (Placed × Option ℕ))) (now : List (Member S × Path)) → length rest ≡ 0
       → IsTakingIn observes pending outcomes rest offers path first nodes old now → IsVisiting observes pending outcomes offers path nodes old now

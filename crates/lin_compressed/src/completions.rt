@@ -6,7 +6,8 @@ ghost use Rattle.lin_members.specs.declared.members.Path.{Path as PathOf};
 ghost use Rattle.lin_frontier.specs.Nodes.{IsGrown};
 ghost use Rattle.lin_frontier.specs.Placing.{IsTried};
 ghost use Rattle.lin_objects.specs.Commuting.{GoesFirst};
-ghost use Rattle.lin_members.specs.Searching.{AreBehind, AreUpdates, PlacesIfUpdate, CanTake, GoesAhead, IsVisiting, IsFinding, IsFoundFrom, IsDone, IsMadeAtOnce, IsOffering, IsPassed, IsSearchOf, GivesAny, watched};
+ghost use Rattle.lin_members.specs.Searching.{AreBehind, AreUpdates, PlacesIfUpdate, CanTake, GoesAhead, IsVisiting, IsFinding, IsFoundFrom, IsDone, IsMadeAtOnce, IsOffering, IsPassed, IsSearchOf, GivesAny, DominatesIn, watched};
+ghost use Rattle.lin_compressed.specs.Putting.{IsPutNext, IsTakenIn, IsTakenInIf};
 ghost use Rattle.lin_frontier.specs.Walks.{IsTriedAtMost};
 
 use crate::scratch::{Scratch, empty, give_up_all};
@@ -44,6 +45,24 @@ pub fn push_if<S: Drop>(values: &mut Vec<S>, value: S, is_wanted: bool) -> Resul
         }
     }
     Ok(())
+}
+
+/// Puts last the member of these, whose path goes on from this one by a round, which the operation begins.
+#[inline(always)]
+fn push_next<S: Eq + Hash + Drop>(
+    alloc: Global,
+    config: Config<S>,
+    offers: &Offers,
+    path: Path,
+    placed: Placed,
+    members: &mut Vec<Member<S>>,
+    nodes: &mut RoundNodes,
+) -> Result<(), OutOfMemory>
+    ensures grown { IsGrown nodes.old nodes.new }
+    ensures put { OnOk result (IsPutNext config placed offers.now path nodes.new members.old.items members.new.items) }
+{
+    let member = advanced(alloc, config, offers, path, placed, nodes)?;
+    push_member(members, member)
 }
 
 impl<'a, O: SeqObject> Completion<'a, O> {
@@ -182,6 +201,49 @@ impl<'a, O: SeqObject> Completion<'a, O> {
         Ok(())
     }
 
+    /// Whether a start or a visited member dominates.
+    #[inline(always)]
+    fn is_seen(
+        &self,
+        config: &Config<O::State>,
+        offers: &Offers,
+        starts: &[&Member<O::State>],
+        seen: &Seen,
+        visited: &[Member<O::State>],
+    ) -> bool
+        ensures { IsTrue result → (m : MemberOf O.State × PathOf) × Contains (map (λ m. m.now) starts.now ++ visited.now) m × DominatesIn (O.observing self.now.object.now) self.now.pending.now m.0 config.now.0 config.now.1 offers.now }
+    {
+        seen.has_start(self.object, self.pending, starts, config, offers)
+            || seen.has_visited(self.object, self.pending, visited, config, offers)
+    }
+
+    /// Takes in the member of this configuration, unless a start or a visited member dominates it.
+    #[inline(always)]
+    fn visit_one(
+        &self,
+        alloc: Global,
+        path: Path,
+        config: Config<O::State>,
+        placed: Placed,
+        offers: &Offers,
+        starts: &[&Member<O::State>],
+        seen: &mut Seen,
+        visited: &mut Vec<Member<O::State>>,
+        nodes: &mut RoundNodes,
+        pool: &mut Pool,
+    ) -> Result<(), OutOfMemory>
+        ensures grown { IsGrown nodes.old nodes.new }
+        ensures taken { OnOk result (IsTakenIn (O.observing self.now.object.now) self.now.pending.now config placed offers.now path nodes.new
+            (map (λ m. m.now) starts.now ++ visited.old.items) (map (λ m. m.now) starts.now ++ visited.new.items)) }
+    {
+        if self.is_seen(&config, offers, starts, seen, visited) {
+            config.give_up(&mut pool.pairs);
+            return Ok(());
+        }
+        push_next(alloc, config, offers, path, placed, visited, nodes)?;
+        seen.catch_up(alloc, self.pending, visited)
+    }
+
     /// Takes in what neither a start nor a visited member dominates.
     fn visit(
         &self,
@@ -200,17 +262,9 @@ impl<'a, O: SeqObject> Completion<'a, O> {
             (map (λ m. m.now) starts.now ++ visited.old.items) (map (λ m. m.now) starts.now ++ visited.new.items)) }
     {
         while let Some((config, placed)) = next.pop() {
-            if seen.has_start(self.object, self.pending, starts, &config, offers) {
-                config.give_up(&mut pool.pairs);
-                continue;
-            }
-            if seen.has_visited(self.object, self.pending, visited, &config, offers) {
-                config.give_up(&mut pool.pairs);
-                continue;
-            }
-            let member = advanced(alloc, config, offers, path, placed, nodes)?;
-            push_member(visited, member)?;
-            seen.catch_up(alloc, self.pending, visited)?;
+            self.visit_one(
+                alloc, path, config, placed, offers, starts, seen, visited, nodes, pool,
+            )?;
         }
         Ok(())
     }
@@ -301,6 +355,66 @@ impl<'a, O: SeqObject> Completion<'a, O> {
         }
     }
 
+    /// Puts in `out` the member with the operation, an update, placed behind all, which leads to the configuration.
+    #[inline(always)]
+    fn push_update(
+        &self,
+        alloc: Global,
+        member: &Member<O::State>,
+        config: Config<O::State>,
+        offers: &Offers,
+        out: &mut Vec<Member<O::State>>,
+        nodes: &mut RoundNodes,
+    ) -> Result<(), OutOfMemory>
+        ensures grown { IsGrown nodes.old nodes.new }
+        ensures put { OnOk result (IsPutNext config (record { at = self.now.operation.now.at; reply = self.now.reply.now }) offers.now member.now.1 nodes.new out.old.items out.new.items) }
+    {
+        let placed = placed_at(alloc, self.operation.at, self.reply)?;
+        push_next(alloc, config, offers, member.path(), placed, out, nodes)
+    }
+
+    /// The same from the state that the update leads to, unless one that was found dominates that member.
+    #[inline(always)]
+    fn put_state(
+        &self,
+        alloc: Global,
+        member: &Member<O::State>,
+        state: O::State,
+        offers: &Offers,
+        out: &mut Vec<Member<O::State>>,
+        nodes: &mut RoundNodes,
+    ) -> Result<(), OutOfMemory>
+        ensures grown { IsGrown nodes.old nodes.new }
+        ensures taken { OnOk result (IsTakenIn (O.observing self.now.object.now) self.now.pending.now (state, member.now.0.placed) (record { at = self.now.operation.now.at; reply = self.now.reply.now }) offers.now member.now.1 nodes.new out.old.items out.new.items) }
+    {
+        let config = member.config().with_state(state)?;
+        if is_found(self.object, self.pending, out, &config, offers) {
+            return Ok(());
+        }
+        self.push_update(alloc, member, config, offers, out, nodes)
+    }
+
+    /// The same if the step to the state has the operation's reply.
+    #[inline(always)]
+    fn put_update(
+        &self,
+        alloc: Global,
+        member: &Member<O::State>,
+        state: O::State,
+        reply: Reply,
+        offers: &Offers,
+        out: &mut Vec<Member<O::State>>,
+        nodes: &mut RoundNodes,
+    ) -> Result<(), OutOfMemory>
+        ensures grown { IsGrown nodes.old nodes.new }
+        ensures taken { OnOk result (IsTakenInIf (reply ≡ self.now.reply.now) (O.observing self.now.object.now) self.now.pending.now (state, member.now.0.placed) (record { at = self.now.operation.now.at; reply = self.now.reply.now }) offers.now member.now.1 nodes.new out.old.items out.new.items) }
+    {
+        if reply != *self.reply {
+            return Ok(());
+        }
+        self.put_state(alloc, member, state, offers, out, nodes)
+    }
+
     /// Puts in `out` what the operation, an update, makes of the member with its reply, and answers what is on offer
     /// behind the member.
     fn update(
@@ -325,16 +439,7 @@ impl<'a, O: SeqObject> Completion<'a, O> {
         self.object
             .outcomes(alloc, member.state(), &self.operation.call, steps)?;
         while let Some((state, reply)) = steps.pop() {
-            if reply != *self.reply {
-                continue;
-            }
-            let config = member.config().with_state(state)?;
-            if is_found(self.object, self.pending, out, &config, &offers) {
-                continue;
-            }
-            let placed = placed_at(alloc, self.operation.at, self.reply)?;
-            let next = advanced(alloc, config, &offers, member.path(), placed, nodes)?;
-            push_member(out, next)?;
+            self.put_update(alloc, member, state, reply, &offers, out, nodes)?;
         }
         Ok(offers)
     }
