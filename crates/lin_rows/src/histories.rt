@@ -2,7 +2,9 @@
 ghost use Rattle.lin_rows.specs.Histories.{IsScanned};
 
 use crate::words::first_number;
-use crate::{Body, Call, Event, Kind, Kinds, Meter, Name, Reply, Scan, Shape, Val, look_back, orders, words};
+use crate::{
+    Body, Call, Event, Kind, Kinds, Meter, Name, Reply, Scan, Shape, Val, look_back, orders, words,
+};
 use std::alloc::Global;
 
 /// A history of registers, and a scan of it.
