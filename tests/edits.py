@@ -12,32 +12,34 @@ import random
 import subprocess
 import sys
 
-KINDS = ['register', 'cas-register', 'fifo', 'set', 'mutex']
+KINDS = ['register', 'cas-register', 'fifo', 'set', 'mutex', 'unordered-queue']
 NAMES = {'register': ['read', 'write'], 'cas-register': ['read', 'write', 'cas'], 'fifo': ['enqueue', 'dequeue'],
-         'set': ['read', 'add'], 'mutex': ['acquire', 'release']}
+         'set': ['read', 'add'], 'mutex': ['acquire', 'release'], 'unordered-queue': ['enqueue', 'dequeue']}
 CAUSES = ['RetiredProcess', 'BusyProcess', 'NotOfKind', 'NoInvocation', 'OtherCall', 'OtherKey']
-START = {'register': None, 'cas-register': None, 'fifo': (), 'set': frozenset(), 'mutex': False}
+START = {'register': None, 'cas-register': None, 'fifo': (), 'set': frozenset(), 'mutex': False, 'unordered-queue': ()}
 
 
-def step(kind, state, name, value):
-    """The next state and the reply, or None where the call isn't enabled. Each call has one outcome at most."""
+def steps(kind, state, name, value):
+    """The outcomes of a call, each a next state and a reply. A state of an unordered queue is its members, sorted."""
     if name not in NAMES[kind]:
-        return None
+        return []
     if kind in ('register', 'cas-register'):
         if name == 'read':
-            return state, ('value', state)
+            return [(state, ('value', state))]
         if name == 'write':
-            return value, 'done'
-        return (value[1], 'done') if state == value[0] else None
+            return [(value, 'done')]
+        return [(value[1], 'done')] if state == value[0] else []
+    if kind in ('fifo', 'unordered-queue') and name == 'dequeue' and not state:
+        return [(state, ('value', None))]
     if kind == 'fifo':
+        return [(state + (value,), 'done')] if name == 'enqueue' else [(state[1:], ('value', state[0]))]
+    if kind == 'unordered-queue':
         if name == 'enqueue':
-            return state + (value,), 'done'
-        return (state[1:], ('value', state[0])) if state else (state, ('value', None))
+            return [(tuple(sorted(state + (value,))), 'done')]
+        return [(state[:i] + state[i + 1:], ('value', v)) for i, v in enumerate(state) if v not in state[:i]]
     if kind == 'set':
-        return (state | {value}, 'done') if name == 'add' else (state, ('members', state))
-    if name == 'acquire':
-        return (True, 'done') if not state else None
-    return (False, 'done') if state else None
+        return [(state | {value}, 'done') if name == 'add' else (state, ('members', state))]
+    return [(not state, 'done')] if state == (name == 'release') else []
 
 
 class Event:
@@ -116,15 +118,11 @@ def configurations(kind, events):
             # and it must not stand behind what it ended ahead of
             if o[2] == 'ok' and any(p > o[1] for p in placed):
                 continue
-            outcome = step(kind, state, events[o[0]].name, events[o[0]].value)
-            if outcome is None:
-                continue
-            if o[2] == 'ok':
-                if outcome[1] != events[o[1]].reply():
-                    continue
-                visit(placed | {o[0]}, replies, outcome[0])
-            else:
-                visit(placed | {o[0]}, replies | {(events[o[0]].process, outcome[1])}, outcome[0])
+            for after, reply in steps(kind, state, events[o[0]].name, events[o[0]].value):
+                if o[2] != 'ok':
+                    visit(placed | {o[0]}, replies | {(events[o[0]].process, reply)}, after)
+                elif reply == events[o[1]].reply():
+                    visit(placed | {o[0]}, replies, after)
 
     visit(frozenset(), frozenset(), START[kind])
     return ends
@@ -145,10 +143,11 @@ def is_legal_order(kinds, events, order):
     for at, reply in order:
         event = events[at]
         kind = kinds(event.key)
-        outcome = step(kind, states.get(event.key, START[kind]), event.name, event.value)
-        if outcome is None or outcome[1] != reply:
+        # the state before and the reply leave one state at most
+        after = [s for s, r in steps(kind, states.get(event.key, START[kind]), event.name, event.value) if r == reply]
+        if not after:
             return False
-        states[event.key] = outcome[0]
+        states[event.key] = after[0]
     return True
 
 
