@@ -230,7 +230,8 @@ class Script:
     """Random commands with what the model says of each reply."""
 
     def __init__(self, draw):
-        self.draw = draw
+        # few clients leave few operations open, so longer histories can be enumerated
+        self.draw, (self.clients, self.longest) = draw, draw.choice([(1, 16), (2, 14), (4, 10)])
         self.model = Model(draw.random() < 0.5, draw.choice(KINDS), draw.choice([1, 2, 3, 5, 8, 20, 65536]))
         self.words = ['edit', '--kind', self.model.default, '--budget', str(self.model.budget)] + (['--keyed'] if self.model.keyed else [])
         self.lines, self.checks = [], []
@@ -252,18 +253,23 @@ class Script:
     def event(self):
         """Mostly an event that leaves the history well-formed, at times any."""
         draw, model = self.draw, self.model
-        process = draw.randrange(4)
+        process = draw.randrange(self.clients)
         last = next((e for e in reversed(model.events) if e.process == process), None)
         if last is not None and last.type == 'info' and draw.random() < 0.9:
-            process += 4
+            process += self.clients
             last = next((e for e in reversed(model.events) if e.process == process), None)
         if last is not None and last.type == 'invoke' and draw.random() < 0.95:
-            type_, name, key = draw.choice(['ok', 'ok', 'ok', 'fail', 'info']), last.name, last.key
+            type_, name, key = draw.choice(['ok'] * 8 + ['fail', 'info']), last.name, last.key
         else:
             key = draw.randrange(2) if model.keyed else 0
             type_ = 'invoke' if draw.random() < 0.97 else 'ok'
             name = draw.choice(NAMES[model.kinds(key) if draw.random() < 0.97 else draw.choice(KINDS)])
-        return Event(process, key, type_, name, self.value(model.kinds(key), name, type_))
+        value = self.value(model.kinds(key), name, type_)
+        if type_ == 'ok' and name == 'dequeue' and draw.random() < 0.7:
+            # a reply that some order gives, so that queues go on, and get members
+            given = {reply[1] for _, replies in model.ends_of(key, len(model.events)) for p, reply in replies if p == process and reply != 'done'}
+            value = draw.choice(sorted(given, key=repr) or [value])
+        return Event(process, key, type_, name, value)
 
     def put(self, line, check):
         self.lines.append(line)
@@ -276,8 +282,13 @@ class Script:
     def command(self):
         draw, model = self.draw, self.model
         events, count = model.events, len(model.events)
+        bad = bad_event(events, model.kinds)
         what = draw.random()
-        if what < 0.55 and count < 10:
+        if bad is not None and draw.random() < 0.5:
+            # so that most histories are well-formed
+            del events[bad[0]]
+            self.edit('remove %d' % bad[0])
+        elif what < 0.55 and count < self.longest:
             event = self.event()
             events.append(event)
             self.edit('append ' + event.text(model.keyed))
@@ -340,7 +351,7 @@ class Script:
 
 def main():
     given = sys.argv[1:]
-    scripts, seed = int(given[0]) if given else 300, int(given[1]) if given[1:] else 1
+    scripts, seed = int(given[0]) if given else 600, int(given[1]) if given[1:] else 1
     program = given[2] if given[2:] else os.path.join(os.path.dirname(os.path.abspath(__file__)), '../crates/lincheck/out/lincheck')
     right = wrong = 0
     for number in range(scripts):
