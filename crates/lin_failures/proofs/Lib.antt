@@ -1,3 +1,4 @@
 pub mod Conflicting
 pub mod SetConflicting
 pub mod QueueConflicting
+pub mod Counting

@@ -3,6 +3,7 @@
 #![tactic(auto)]
 
 mod adds;
+mod bag_conflict;
 mod conflict;
 mod queue_conflict;
 mod queue_failures;
