@@ -78,16 +78,24 @@ module _ (P : ℕ → Type 0) where
       (found.0, found.1, found.2, all_of P found.0 (λ at there. (All-contains (λ x. P x × (x < place)) found.0 at found.3 there).0))
 
   pub most_more : (k place : ℕ) → AtMost k (λ at. P at × (at < place)) → AtMost (k + 1) (λ at. P at × (at < place + 1))
-  most_more k place found = (place ∷ found.0, one_longer found.0 place k found.1, λ at is. elim (cases_lt at place) [
-    | inl before ↦ Contains-append_right (place ∷ []) found.0 at (found.2 at (is.0, before))
-    | inr here ↦ (0, omega arith, omega (arith, here, is.1))
-  ])
+  most_more k place found = (
+    place ∷ found.0,
+    one_longer found.0 place k found.1,
+    λ at is. elim (cases_lt at place) [
+      | inl before ↦ Contains-append_right (place ∷ []) found.0 at (found.2 at (is.0, before))
+      | inr here ↦ (0, omega arith, omega (arith, here, is.1))
+    ],
+  )
 
   pub most_same : (k place : ℕ) → AtMost k (λ at. P at × (at < place)) → (P place → ⊥) → AtMost k (λ at. P at × (at < place + 1))
-  most_same k place found none = (found.0, found.1, λ at is. elim (cases_lt at place) [
-    | inl before ↦ found.2 at (is.0, before)
-    | inr here ↦ let same : at ≡ place = omega (arith, here, is.1) in absurd (none (subst P same is.0))
-  ])
+  most_same k place found none = (
+    found.0,
+    found.1,
+    λ at is. elim (cases_lt at place) [
+      | inl before ↦ found.2 at (is.0, before)
+      | inr here ↦ let same : at ≡ place = omega (arith, here, is.1) in absurd (none (subst P same is.0))
+    ],
+  )
 
   pub most_of : (k place : ℕ) → AtMost k (λ at. P at × (at < place)) → ((at : ℕ) → P at → at < place) → AtMost k P
   most_of k place found all = (found.0, found.1, λ at is. found.2 at (is, all at is))
@@ -109,7 +117,7 @@ module _ (P : Placed → Type 0) where
       | inl same ↦ absurd (none (subst P (sym same) is))
       | inr later ↦ rest.all p later is
     ];
-    apart = rest.apart
+    apart = rest.apart;
   }
 
   chosen_one : (q : Placed) (order : List Placed) (ats : List ℕ) → Chosen P order ats → AllPairs (λ x y. x.at ≢ y.at) (q ∷ order) → P q → Chosen P (q ∷ order) (q.at ∷ ats)
@@ -123,7 +131,7 @@ module _ (P : Placed → Type 0) where
       | inr later ↦ Contains-append_right (q.at ∷ []) ats p.at (rest.all p later is)
     ];
     apart = AllPairs-cons ◌≢◌ q.at ats (all_of (λ at. q.at ≢ at) ats (λ at there same.
-    let p = rest.are at there in first_apart (λ x y. x.at ≢ y.at) q order once p.0 p.1 (same ∙ sym p.3))) rest.apart
+        let p = rest.are at there in first_apart (λ x y. x.at ≢ y.at) q order once p.0 p.1 (same ∙ sym p.3))) rest.apart;
   }
 
   -- at most so many are such, if all of them are of those that are at most so many

@@ -11,15 +11,10 @@ use lin_events::{Call, Event, Reply, Val};
 #[derive(Clone, Copy, Debug, PartialEq, Eq)]
 pub enum BagConflict {
     /// The number was taken out more often than it can have been put in.
-    Overtaken {
-        number: i64,
-    },
+    Overtaken { number: i64 },
     /// The dequeue that was invoked there found nothing, and the number was in the bag: it was put in before more often than it can have
     /// been taken out until that returned.
-    Inside {
-        dequeue: usize,
-        number: i64,
-    },
+    Inside { dequeue: usize, number: i64 },
 }
 
 /// Whether the operation at the place is known to be ok, and took the number out.
