@@ -1,9 +1,12 @@
 pub mod Kinds
+pub mod Bags
 pub mod Steps
 pub mod Observing
 pub mod Overwriting
 pub mod Commuting
 pub mod Total
 pub mod OnlySteps
+pub mod Taking
 pub mod States
 pub mod Laws
+pub mod lemmas

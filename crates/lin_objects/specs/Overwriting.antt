@@ -9,7 +9,7 @@ use Rattle.lin_events.specs.declared.calls.Val.{Val}
 use Rattle.lin_objects.specs.declared.kinds.Kind.{Kind}
 use Rattle.lin_objects.specs.declared.kinds.Kind.TheVariants.{Register}
 use Rattle.lin_objects.specs.declared.states.State.{State}
-use Rattle.lin_objects.specs.declared.states.State.TheVariants.{Value, Queue, Members, Held}
+use Rattle.lin_objects.specs.declared.states.State.TheVariants.{Value, Queue, Members, Held, Bag}
 use Rattle.lin_objects.specs.Observing.{observes}
 use Rattle.lin_objects.specs.Steps.{Step}
 
@@ -29,6 +29,7 @@ written (Value w) next (Write v) reply none_observes s = (v, refl, s.0, s.1)
 written (Queue q) next (Write v) reply none_observes s = (v, refl, s.0, s.1)
 written (Members m) next (Write v) reply none_observes s = (v, refl, s.0, s.1)
 written (Held b) next (Write v) reply none_observes s = (v, refl, s.0, s.1)
+written (Bag q) next (Write v) reply none_observes s = (v, refl, s.0, s.1)
 written (Value w) next Read reply none_observes s = absurd (true≢false none_observes)
 written _ next _ reply none_observes s = absurd s
 
@@ -38,6 +39,7 @@ writes (Value w) v = (refl, refl)
 writes (Queue q) v = (refl, refl)
 writes (Members m) v = (refl, refl)
 writes (Held b) v = (refl, refl)
+writes (Bag q) v = (refl, refl)
 
 -- registers are overwritten
 pub registers_overwritten : (kind : Kind) → overwrites kind ≡ true → IsOverwriting (Step kind) (observes kind)

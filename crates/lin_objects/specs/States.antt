@@ -4,7 +4,7 @@ use Rattle.std.proofs.Common.{refl, sym, ap, ◌∙◌, true≢false}
 use Rattle.lin_events.specs.Sameness.{numbers_Decides}
 use Rattle.lin_events.specs.Replies.{val_same, val_itself}
 use Rattle.lin_objects.specs.declared.states.State.{State}
-use Rattle.lin_objects.specs.declared.states.State.TheVariants.{Value, Queue, Members, Held}
+use Rattle.lin_objects.specs.declared.states.State.TheVariants.{Value, Queue, Members, Held, Bag}
 use Rattle.lin_objects.specs.contracts.states.StatePartialEq.TheImpl as StateImpl
 
 -- states that compare alike are one
@@ -12,6 +12,7 @@ pub state_same : (x y : State) → StateImpl.ghosts.eq x y ≡ true → x ≡ y
 state_same (Value a) (Value b) h = ap Value (val_same a b h)
 state_same (Queue a) (Queue b) h = ap Queue ((numbers_Decides a b).0 h)
 state_same (Members a) (Members b) h = ap Members ((numbers_Decides a b).0 h)
+state_same (Bag a) (Bag b) h = ap Bag ((numbers_Decides a b).0 h)
 state_same (Held true) (Held true) h = refl
 state_same (Held false) (Held false) h = refl
 state_same (Held true) (Held false) h = absurd (true≢false (sym h))
@@ -28,11 +29,20 @@ state_same (Members a) (Held b) h = absurd (true≢false (sym h))
 state_same (Held a) (Value b) h = absurd (true≢false (sym h))
 state_same (Held a) (Queue b) h = absurd (true≢false (sym h))
 state_same (Held a) (Members b) h = absurd (true≢false (sym h))
+state_same (Bag a) (Value b) h = absurd (true≢false (sym h))
+state_same (Bag a) (Queue b) h = absurd (true≢false (sym h))
+state_same (Bag a) (Members b) h = absurd (true≢false (sym h))
+state_same (Bag a) (Held b) h = absurd (true≢false (sym h))
+state_same (Value a) (Bag b) h = absurd (true≢false (sym h))
+state_same (Queue a) (Bag b) h = absurd (true≢false (sym h))
+state_same (Members a) (Bag b) h = absurd (true≢false (sym h))
+state_same (Held a) (Bag b) h = absurd (true≢false (sym h))
 
 pub state_itself : (x : State) → StateImpl.ghosts.eq x x ≡ true
 state_itself (Value a) = val_itself a
 state_itself (Queue a) = (numbers_Decides a a).1 refl
 state_itself (Members a) = (numbers_Decides a a).1 refl
+state_itself (Bag a) = (numbers_Decides a a).1 refl
 state_itself (Held true) = refl
 state_itself (Held false) = refl
 

@@ -1,5 +1,5 @@
 -- The sequential objects: where each kind begins, the functions that it has, and the steps that it takes.
-use Rattle.std.specs.Prelude.{◌≡◌, Bool, true, false, [], ◌∷◌, ◌++◌}
+use Rattle.std.specs.Prelude.{◌≡◌, ℤ, Bool, true, false, [], ◌∷◌, ◌++◌, Contains}
 use Rattle.lin_events.specs.declared.calls.Name.{Name}
 use Rattle.lin_events.specs.declared.calls.Name.TheVariants as Named
 use Rattle.lin_events.specs.declared.calls.Val.TheVariants.{Nil, Int}
@@ -9,9 +9,11 @@ use Rattle.lin_events.specs.declared.calls.Reply.{Reply}
 use Rattle.lin_events.specs.declared.calls.Reply.TheVariants as Replied
 use Rattle.lin_lists.specs.Sets.{with_member}
 use Rattle.lin_objects.specs.declared.kinds.Kind.{Kind}
-use Rattle.lin_objects.specs.declared.kinds.Kind.TheVariants.{Register, CasRegister, Fifo, Set, Mutex}
+use Rattle.lin_objects.specs.declared.kinds.Kind.TheVariants.{Register, CasRegister, Fifo, Set, Mutex, Bag}
 use Rattle.lin_objects.specs.declared.states.State.{State}
 use Rattle.lin_objects.specs.declared.states.State.TheVariants.{Value, Queue, Members, Held}
+use Rattle.lin_objects.specs.declared.states.State.TheVariants.{Bag as Bagged}
+use Rattle.lin_objects.specs.Bags.{bag_of, without_one}
 
 -- where an object of the kind begins
 abbrev pub start : Kind → State
@@ -20,6 +22,7 @@ start CasRegister = Value Nil
 start Fifo = Queue []
 start Set = Members []
 start Mutex = Held false
+start Bag = Bagged []
 
 -- the functions that objects of the kind have
 abbrev pub allows : Kind → Name → Bool
@@ -34,6 +37,8 @@ allows Set Named.Add = true
 allows Set Named.Read = true
 allows Mutex Named.Acquire = true
 allows Mutex Named.Release = true
+allows Bag Named.Enqueue = true
+allows Bag Named.Dequeue = true
 allows _ _ = false
 
 -- an object of the kind in the state may take the call, go to the next state and give the reply
@@ -50,4 +55,7 @@ Step Set (Members s) (Add x) next reply = (next ≡ Members (with_member x s)) �
 Step Set (Members s) Read next reply = (next ≡ Members s) × (reply ≡ Replied.Members s)
 Step Mutex (Held false) Acquire next reply = (next ≡ Held true) × (reply ≡ Replied.Done)
 Step Mutex (Held true) Release next reply = (next ≡ Held false) × (reply ≡ Replied.Done)
+Step Bag (Bagged q) (Enqueue x) next reply = (next ≡ Bagged (bag_of (x ∷ q))) × (reply ≡ Replied.Done)
+Step Bag (Bagged []) Dequeue next reply = (next ≡ Bagged []) × (reply ≡ Replied.Value Nil)
+Step Bag (Bagged (x ∷ q)) Dequeue next reply = (y : ℤ) × Contains (x ∷ q) y × (next ≡ Bagged (without_one y (x ∷ q))) × (reply ≡ Replied.Value (Int y))
 Step _ _ _ next reply = ⊥

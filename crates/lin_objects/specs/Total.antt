@@ -5,16 +5,18 @@ use Rattle.std.specs.Ordering.{int_eq}
 use Rattle.std.proofs.Common.{refl, sym, ap, subst, true≢false, ◌∙◌, ⊎_elim}
 use Rattle.std.proofs.lemmas.Bool.Decides.{Decides-int_eq}
 use Rattle.std.proofs.lemmas.List.Folds.{Any-from_list_any, list_any-from_Any}
-use Rattle.lin_lists.specs.lemmas.Rising.{with_has, with_keeps, with_adds_none}
+use Rattle.lin_lists.specs.lemmas.Rising.{contains_first, with_has, with_keeps, with_adds_none}
 use Rattle.lin_events.specs.declared.calls.Call.{Call}
 use Rattle.lin_events.specs.declared.calls.Call.TheVariants.{Read, Enqueue, Dequeue, Add}
 use Rattle.lin_events.specs.declared.calls.Reply.{Reply}
 use Rattle.lin_events.specs.declared.calls.Val.TheVariants.{Nil, Int}
 use Rattle.lin_events.specs.declared.calls.Reply.TheVariants as Replied
 use Rattle.lin_objects.specs.declared.kinds.Kind.{Kind}
-use Rattle.lin_objects.specs.declared.kinds.Kind.TheVariants.{Fifo, Set}
+use Rattle.lin_objects.specs.declared.kinds.Kind.TheVariants.{Fifo, Set, Bag}
 use Rattle.lin_objects.specs.declared.states.State.{State}
 use Rattle.lin_objects.specs.declared.states.State.TheVariants.{Queue, Members}
+use Rattle.lin_objects.specs.declared.states.State.TheVariants.{Bag as Bagged}
+use Rattle.lin_objects.specs.Bags.{bag_of, without_one}
 use Rattle.lin_objects.specs.Steps.{Step, start}
 use Rattle.lin_lists.specs.Sets.{with_member}
 
@@ -27,11 +29,13 @@ pub data Reaches {S : Type 0} (step : S → Call → S → Reply → Type 0) : S
 abbrev pub AreTotal : {S : Type 0} → S → (S → Call → S → Reply → Type 0) → (Call → Bool) → Type 0
 AreTotal {S} start step total = (state : S) → Reaches step start state → (call : Call) → total call ≡ true → (next : S) × (reply : Reply) × step state call next reply
 
--- the calls that are known to be total: those of queues and sets
+-- the calls that are known to be total: those of queues, ordered or not, and sets
 abbrev pub total : Kind → Call → Bool
 total Fifo (Enqueue x) = true
 total Fifo Dequeue = true
 total Set (Add x) = true
+total Bag (Enqueue x) = true
+total Bag Dequeue = true
 total Set Read = true
 total _ _ = false
 
@@ -62,7 +66,7 @@ abbrev pub shown_by : Kind → Call → Call → Bool
 shown_by Set (Add x) Read = true
 shown_by _ _ _ = false
 
--- a queue stays a queue, and a set a set
+-- a queue stays a queue, a set a set, and a bag a bag
 abbrev IsQueue : State → Type 0
 IsQueue (Queue q) = Unit {0}
 IsQueue _ = ⊥
@@ -70,6 +74,10 @@ IsQueue _ = ⊥
 abbrev IsSet : State → Type 0
 IsSet (Members s) = Unit {0}
 IsSet _ = ⊥
+
+abbrev IsBag : State → Type 0
+IsBag (Bagged q) = Unit {0}
+IsBag _ = ⊥
 
 queue_step : (state next : State) (call : Call) (reply : Reply) → Step Fifo state call next reply → IsQueue next
 queue_step (Queue q) next (Enqueue x) reply s = subst IsQueue (sym s.0) tt
@@ -82,6 +90,12 @@ set_step (Members m) next (Add x) reply s = subst IsSet (sym s.0) tt
 set_step (Members m) next Read reply s = subst IsSet (sym s.0) tt
 set_step _ next _ reply s = absurd s
 
+bag_step : (state next : State) (call : Call) (reply : Reply) → Step Bag state call next reply → IsBag next
+bag_step (Bagged q) next (Enqueue x) reply s = subst IsBag (sym s.0) tt
+bag_step (Bagged (x ∷ q)) next Dequeue reply s = subst IsBag (sym s.2) tt
+bag_step (Bagged []) next Dequeue reply s = subst IsBag (sym s.0) tt
+bag_step _ next _ reply s = absurd s
+
 queues_stay : (state last : State) → IsQueue state → Reaches (Step Fifo) state last → IsQueue last
 queues_stay state last is stays = is
 queues_stay state last is (goes {next} {call} {reply} s way) = queues_stay next last (queue_step state next call reply s) way
@@ -89,6 +103,10 @@ queues_stay state last is (goes {next} {call} {reply} s way) = queues_stay next 
 sets_stay : (state last : State) → IsSet state → Reaches (Step Set) state last → IsSet last
 sets_stay state last is stays = is
 sets_stay state last is (goes {next} {call} {reply} s way) = sets_stay next last (set_step state next call reply s) way
+
+bags_stay : (state last : State) → IsBag state → Reaches (Step Bag) state last → IsBag last
+bags_stay state last is stays = is
+bags_stay state last is (goes {next} {call} {reply} s way) = bags_stay next last (bag_step state next call reply s) way
 
 queue_takes : (state : State) → IsQueue state → (call : Call) → total Fifo call ≡ true → (next : State) × (reply : Reply) × Step Fifo state call next reply
 queue_takes (Queue q) is (Enqueue x) t = (Queue (q ++ x ∷ []), Replied.Done, (refl, refl))
@@ -103,9 +121,17 @@ set_takes (Members m) is Read t = (Members m, Replied.Members m, (refl, refl))
 set_takes (Members m) is _ t = absurd (true≢false (sym t))
 set_takes _ is call t = absurd is
 
--- these calls of queues and sets are total
+bag_takes : (state : State) → IsBag state → (call : Call) → total Bag call ≡ true → (next : State) × (reply : Reply) × Step Bag state call next reply
+bag_takes (Bagged q) is (Enqueue x) t = (Bagged (bag_of (x ∷ q)), Replied.Done, (refl, refl))
+bag_takes (Bagged (x ∷ q)) is Dequeue t = (Bagged (without_one x (x ∷ q)), Replied.Value (Int x), (x, contains_first x q, refl, refl))
+bag_takes (Bagged []) is Dequeue t = (Bagged [], Replied.Value Nil, (refl, refl))
+bag_takes (Bagged q) is _ t = absurd (true≢false (sym t))
+bag_takes _ is call t = absurd is
+
+-- these calls of queues, sets and bags are total
 pub totals_are_taken : (kind : Kind) → AreTotal (start kind) (Step kind) (total kind)
 totals_are_taken Fifo state way call t = queue_takes state (queues_stay (Queue []) state tt way) call t
+totals_are_taken Bag state way call t = bag_takes state (bags_stay (Bagged []) state tt way) call t
 totals_are_taken Set state way call t = set_takes state (sets_stay (Members []) state tt way) call t
 totals_are_taken _ state way call t = absurd (true≢false (sym t))
 

@@ -7,17 +7,21 @@ ghost use Rattle.lin_objects.specs.Observing.{IsObserving, observes as observes_
 ghost use Rattle.lin_objects.specs.Overwriting.{IsOverwriting, overwrites as overwrites_of, registers_overwritten};
 ghost use Rattle.lin_objects.specs.States.{state_same};
 ghost use Rattle.lin_objects.specs.OnlySteps.{IsOnlyStep};
+ghost use Rattle.lin_objects.specs.declared.kinds.Kind.TheVariants.{Bag as BagKind};
 ghost use Rattle.lin_objects.specs.Total.{has_taken as has_taken_of, reads_show_adds, shown_by, shows as shows_of, total as total_of, totals_are_taken};
 
+use crate::bags::IntBag;
 use crate::kinds::Kind;
 use crate::objects::SeqObject;
 use crate::states::{IntQueue, State};
+use crate::taking::{bag_next, bag_outcomes};
 use lin_events::{Call, IntSet, Name, OutOfMemory, Reply, Val};
 use std::alloc::Global;
 
 /// An object of the kind.
 ///
-/// Each call has at most one outcome, which takes memory for one state and time linear in the state.
+/// Each call has at most one outcome, which takes memory for one state and time linear in the state; but a dequeue of an unordered queue
+/// has one for each different number inside.
 #[derive(Clone, Copy, Debug, PartialEq, Eq)]
 pub struct Any {
     pub kind: Kind,
@@ -62,6 +66,7 @@ impl SeqObject for Any {
             Kind::Fifo => State::Queue(IntQueue::new(alloc)),
             Kind::Set => State::Members(IntSet::new(alloc)),
             Kind::Mutex => State::Held(false),
+            Kind::Bag => State::Bag(IntBag::new(alloc)),
         }
     }
 
@@ -69,7 +74,7 @@ impl SeqObject for Any {
         match self.kind {
             Kind::Register => matches!(name, Name::Read | Name::Write),
             Kind::CasRegister => matches!(name, Name::Read | Name::Write | Name::Cas),
-            Kind::Fifo => matches!(name, Name::Enqueue | Name::Dequeue),
+            Kind::Fifo | Kind::Bag => matches!(name, Name::Enqueue | Name::Dequeue),
             Kind::Set => matches!(name, Name::Add | Name::Read),
             Kind::Mutex => matches!(name, Name::Acquire | Name::Release),
         }
@@ -80,7 +85,7 @@ impl SeqObject for Any {
     fn observes(&self, call: &Call) -> bool {
         match self.kind {
             Kind::Register | Kind::CasRegister => matches!(call, Call::Read),
-            Kind::Fifo | Kind::Set | Kind::Mutex => false,
+            Kind::Fifo | Kind::Set | Kind::Mutex | Kind::Bag => false,
         }
     }
 
@@ -89,13 +94,14 @@ impl SeqObject for Any {
         matches!(self.kind, Kind::Register)
     }
 
-    /// Two that add to a set, and two that read it.
+    /// Two that add to a set, two that read it, and two that put into an unordered queue.
     fn commutes(&self, call: &Call, other: &Call) -> bool {
         match self.kind {
             Kind::Set => matches!(
                 (call, other),
                 (Call::Add(_), Call::Add(_)) | (Call::Read, Call::Read)
             ),
+            Kind::Bag => matches!((call, other), (Call::Enqueue(_), Call::Enqueue(_))),
             Kind::Register | Kind::CasRegister | Kind::Fifo | Kind::Mutex => false,
         }
     }
@@ -103,7 +109,7 @@ impl SeqObject for Any {
     /// The calls of queues and of sets. Those of registers are total too, but their configurations mostly cover one another.
     fn is_total(&self, call: &Call) -> bool {
         match self.kind {
-            Kind::Fifo => matches!(call, Call::Enqueue(_) | Call::Dequeue),
+            Kind::Fifo | Kind::Bag => matches!(call, Call::Enqueue(_) | Call::Dequeue),
             Kind::Set => matches!(call, Call::Add(_) | Call::Read),
             Kind::Register | Kind::CasRegister | Kind::Mutex => false,
         }
@@ -113,7 +119,7 @@ impl SeqObject for Any {
     fn is_shown_by(&self, call: &Call, reads: &Call) -> bool {
         match self.kind {
             Kind::Set => matches!((call, reads), (Call::Add(_), Call::Read)),
-            Kind::Register | Kind::CasRegister | Kind::Fifo | Kind::Mutex => false,
+            Kind::Register | Kind::CasRegister | Kind::Fifo | Kind::Mutex | Kind::Bag => false,
         }
     }
 
@@ -136,6 +142,9 @@ impl SeqObject for Any {
         out: &mut Vec<(State, Reply)>,
     ) -> Result<(), OutOfMemory> {
         out.clear();
+        if self.kind == Kind::Bag {
+            return bag_outcomes(alloc, state, call, out);
+        }
         if let Some(step) = only_step(alloc, self.kind, state, call)? {
             out.push(step)?;
         }
@@ -158,6 +167,9 @@ impl Any {
         ensures some { IfOk result (λ found. IfSome found (λ next. Step self.now.kind state call.now next reply.now)) }
         ensures none { IfOk result (λ found. IfNone found ((next : State) → Step self.now.kind state call.now next reply.now → ⊥)) }
     {
+        if self.kind == Kind::Bag {
+            return bag_next(alloc, state, call, reply);
+        }
         match (self.kind, state, call, reply) {
             (Kind::Fifo, State::Queue(mut queue), Call::Enqueue(number), Reply::Done) => {
                 queue.push(*number)?;
@@ -180,6 +192,7 @@ fn only_next(
     call: &Call,
     reply: &Reply,
 ) -> Result<Option<State>, OutOfMemory>
+    requires { kind ≢ BagKind }
     ensures some { IfOk result (λ found. IfSome found (λ next. Step kind state.now call.now next reply.now)) }
     ensures none { IfOk result (λ found. IfNone found ((next : State) → Step kind state.now call.now next reply.now → ⊥)) }
 {
@@ -202,6 +215,7 @@ fn only_step(
     state: &State,
     call: &Call,
 ) -> Result<Option<(State, Reply)>, OutOfMemory>
+    requires { kind ≢ BagKind }
     ensures { IfOk result (IsOnlyStep kind state.now call.now) }
 {
     match kind {
@@ -210,6 +224,7 @@ fn only_step(
         Kind::Fifo => fifo_step(alloc, state, call),
         Kind::Set => set_step(state, call),
         Kind::Mutex => Ok(mutex_step(state, call)),
+        Kind::Bag => unreachable!(),
     }
 }
 

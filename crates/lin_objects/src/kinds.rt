@@ -23,6 +23,8 @@ pub enum Kind {
     Set,
     /// A lock.
     Mutex,
+    /// A queue that promises no order: a dequeue takes out any number that is inside.
+    Bag,
 }
 
 /// How many keys may be named.

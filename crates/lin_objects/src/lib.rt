@@ -2,12 +2,15 @@
 #![tactic(auto)]
 
 mod any;
+mod bags;
 mod kinds;
 mod laws;
 mod objects;
 mod states;
+mod taking;
 
 pub use any::Any;
+pub use bags::IntBag;
 pub use kinds::{Kind, Kinds, KindsFault};
 pub use laws::{naming, replies_decide, steps_are_allowed};
 pub use objects::SeqObject;

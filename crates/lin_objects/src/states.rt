@@ -7,6 +7,7 @@ ghost use Rattle.std.specs.Hash.{same_Alike};
 ghost use Rattle.lin_events.specs.Numbers.{hashed};
 ghost use Rattle.lin_events.specs.Sameness.{numbers_Decides};
 
+use crate::bags::IntBag;
 use lin_events::{IntSet, Numbers, OutOfMemory, Val};
 use std::alloc::Global;
 use std::hash::{Hash, Hasher};
@@ -111,10 +112,12 @@ pub enum State {
     Members(IntSet),
     /// Whether a lock is held.
     Held(bool),
+    /// What waits in an unordered queue.
+    Bag(IntBag),
 }
 
 impl State {
-    /// An equal state. Queues and sets share their numbers, so it takes no memory.
+    /// An equal state. Queues and sets, ordered or not, share their numbers, so it takes no memory.
     pub fn copy(&self, _alloc: Global) -> Result<State, OutOfMemory>
         ensures { IfOk result (λ copy. copy ≡ self.now) }
     {
@@ -123,6 +126,7 @@ impl State {
             State::Queue(queue) => Ok(State::Queue(queue.copy()?)),
             State::Members(members) => Ok(State::Members(members.copy()?)),
             State::Held(held) => Ok(State::Held(*held)),
+            State::Bag(bag) => Ok(State::Bag(bag.copy()?)),
         }
     }
 }

@@ -55,7 +55,8 @@ kind_of = look_up (
     (codes "cas-register", kind.CasRegister) ∷
     (codes "fifo", kind.Fifo) ∷
     (codes "set", kind.Set) ∷
-    (codes "mutex", kind.Mutex) ∷ [])
+    (codes "mutex", kind.Mutex) ∷
+    (codes "unordered-queue", kind.Bag) ∷ [])
 
 -- one test after another: what is none has its fault
 abbrev pub or_fault : {A B : Type 0} → CommandFault → Option A → (A → Result B CommandFault) → Result B CommandFault

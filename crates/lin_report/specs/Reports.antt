@@ -31,6 +31,7 @@ kind_text kind.CasRegister = codes "cas-register"
 kind_text kind.Fifo = codes "fifo"
 kind_text kind.Set = codes "set"
 kind_text kind.Mutex = codes "mutex"
+kind_text kind.Bag = codes "unordered-queue"
 
 -- the text of an answer without its order
 abbrev pub answer_text : Verdict → List ℕ

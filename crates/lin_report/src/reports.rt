@@ -33,6 +33,7 @@ fn kind_word(kind: Kind) -> &'static str
         Kind::Fifo => "fifo",
         Kind::Set => "set",
         Kind::Mutex => "mutex",
+        Kind::Bag => "unordered-queue",
     }
 }
 

@@ -114,6 +114,9 @@ fn kind_of(word: &[u8]) -> Option<Kind>
     if word == b"mutex".as_slice() {
         return Some(Kind::Mutex);
     }
+    if word == b"unordered-queue".as_slice() {
+        return Some(Kind::Bag);
+    }
     None
 }
 
