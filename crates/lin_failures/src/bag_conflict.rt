@@ -1,5 +1,7 @@
 //! Operations of a bag that can't stand in one legal order.
 ghost use Rattle.std.specs.Prelude.{◌≡◌, ◌<◌, IfSome, IsTrue, false, length};
+ghost use Rattle.lin_objects.specs.declared.kinds.Kind.TheVariants.{Bag};
+ghost use Rattle.lin_orders.specs.Linearizable.{IsLinearizableAs};
 ghost use Rattle.lin_failures.specs.BagConflicts.{AtLeast, AtMost, FoundNothing, MayPut, MayTakeBy, PutBefore, Took};
 
 use crate::adds::is_add_at;
@@ -115,5 +117,32 @@ fn found_nothing(events: &[Event], at: usize) -> Option<usize>
             Val::Int(_) => None,
         },
         _ => None,
+    }
+}
+
+/// Whether the number was taken out more often than it can have been put in.
+fn is_overtaken(events: &[Event], number: i64) -> bool
+    ensures { IsTrue result → IsLinearizableAs Bag events.now → ⊥ }
+{
+    puts_of(events, number) < takes_of(events, number)
+}
+
+/// Whether the dequeue found nothing, and the number was in the bag.
+fn is_inside(events: &[Event], dequeue: usize, number: i64) -> bool
+    ensures { IsTrue result → IsLinearizableAs Bag events.now → ⊥ }
+{
+    let Some(end) = found_nothing(events, dequeue) else {
+        return false;
+    };
+    takes_by(events, number, end) < puts_before(events, number, dequeue)
+}
+
+/// Whether the events are such, so that no bag has a legal order of them.
+pub fn is_bag_refuted(events: &[Event], conflict: &BagConflict) -> bool
+    ensures { IsTrue result → IsLinearizableAs Bag events.now → ⊥ }
+{
+    match conflict {
+        BagConflict::Overtaken { number } => is_overtaken(events, *number),
+        BagConflict::Inside { dequeue, number } => is_inside(events, *dequeue, *number),
     }
 }

@@ -11,6 +11,7 @@ mod queue_failures;
 mod set_conflict;
 mod set_failures;
 
+pub use bag_conflict::{BagConflict, is_bag_refuted};
 pub use bag_failures::bag_failure;
 pub use conflict::{Block, Conflict, is_refuted};
 pub use queue_conflict::{QueueConflict, is_queue_refuted};

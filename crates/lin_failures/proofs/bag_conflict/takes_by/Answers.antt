@@ -1,4 +1,4 @@
-use Rattle.std.proofs.Common.{◌≡◌, ◌<◌, ◌≤◌, ◌+◌, ℕ, arith, sym, subst, to_z, of_z, w64}
+use Rattle.std.proofs.Common.{◌<◌, ◌≤◌, ◌+◌, arith, sym, subst, to_z, of_z, w64}
 use Rattle.std.proofs.lemmas.Option.{slice_get_within}
 use Rattle.lin_failures.specs.BagConflicts.{AtMost, MayTakeBy}
 use Rattle.lin_failures.proofs.Counting.{most_more, most_of, most_same}
