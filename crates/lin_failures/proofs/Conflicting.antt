@@ -12,7 +12,7 @@ use Rattle.lin_events.specs.declared.events.Event.{Event}
 use Rattle.lin_objects.specs.declared.kinds.Kind.{Kind}
 use Rattle.lin_objects.specs.declared.kinds.Kind.TheVariants.{Register, CasRegister}
 use Rattle.lin_objects.specs.declared.states.State.{State}
-use Rattle.lin_objects.specs.declared.states.State.TheVariants.{Value, Queue, Members, Held}
+use Rattle.lin_objects.specs.declared.states.State.TheVariants.{Value, Queue, Members, Held, Bag}
 use Rattle.lin_objects.specs.Steps.{Step, start}
 use Rattle.lin_orders.specs.declared.placed.Placed.{Placed}
 use Rattle.lin_orders.specs.Linearizable.{IsLegalOrderBy, Runs}
@@ -31,6 +31,7 @@ wrote Register is (Value x) next w reply step = step.0
 wrote Register is (Queue x) next w reply step = step.0
 wrote Register is (Members x) next w reply step = step.0
 wrote Register is (Held x) next w reply step = step.0
+wrote Register is (Bag x) next w reply step = step.0
 wrote CasRegister is (Value x) next w reply step = step.0
 wrote CasRegister is s next w reply step = absurd step
 wrote kind is s next w reply step = absurd is

@@ -1,3 +1,5 @@
 pub mod Conflicting
 pub mod SetConflicting
 pub mod QueueConflicting
+pub mod Counting
+pub mod BagConflicting

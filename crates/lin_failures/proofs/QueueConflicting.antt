@@ -77,7 +77,7 @@ put_step (Queue q) next (Add x) reply n step puts = absurd step
 put_step (Queue q) next call reply n step puts = absurd puts
 put_step s next call reply n step puts = absurd step
 
-takes_call : (call : Call) (reply : Reply) (n : ℤ) → Takes call reply n → call ≡ Dequeue
+pub takes_call : (call : Call) (reply : Reply) (n : ℤ) → Takes call reply n → call ≡ Dequeue
 takes_call Dequeue reply n takes = refl
 takes_call call reply n takes = absurd takes
 

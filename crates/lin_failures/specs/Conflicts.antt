@@ -9,7 +9,7 @@ use Rattle.lin_events.specs.declared.calls.Val.TheVariants.{Nil}
 use Rattle.lin_events.specs.declared.events.Event.{Event}
 use Rattle.lin_events.specs.Operations.{IsOk}
 use Rattle.lin_objects.specs.declared.kinds.Kind.{Kind}
-use Rattle.lin_objects.specs.declared.kinds.Kind.TheVariants.{Register, CasRegister, Fifo, Set, Mutex}
+use Rattle.lin_objects.specs.declared.kinds.Kind.TheVariants.{Register, CasRegister, Fifo, Set, Mutex, Bag}
 use Rattle.lin_orders.specs.Orders.{IsCall}
 
 -- the kind is a register's
@@ -19,6 +19,7 @@ IsRegister CasRegister = Unit {0}
 IsRegister Fifo = ⊥
 IsRegister Set = ⊥
 IsRegister Mutex = ⊥
+IsRegister Bag = ⊥
 
 -- the call leaves the value in the register
 abbrev pub Leaves : Call → Val → Type 0

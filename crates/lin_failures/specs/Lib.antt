@@ -2,3 +2,4 @@ pub mod Conflicts
 pub mod Adding
 pub mod SetConflicts
 pub mod QueueConflicts
+pub mod BagConflicts

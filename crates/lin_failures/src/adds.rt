@@ -48,7 +48,7 @@ fn is_failed(events: &[Event], at: usize) -> bool
 }
 
 /// Whether the event at the place is an invocation that adds the number, of an operation that isn't known to have failed.
-fn is_add_at(events: &[Event], at: usize, number: i64) -> bool
+pub(crate) fn is_add_at(events: &[Event], at: usize, number: i64) -> bool
     requires { at < length events.now }
     ensures { result ≡ false → (call : CallOf) → IsCall events.now at call → Adds call number → IsFailed events.now at }
 {

@@ -61,7 +61,7 @@ fn takes(call: &Call, reply: &Reply, number: i64) -> bool
 }
 
 /// Where the operation at the place is known to be ok, if it put the number in.
-fn put_at(events: &[Event], at: usize, number: i64) -> Option<usize>
+pub(crate) fn put_at(events: &[Event], at: usize, number: i64) -> Option<usize>
     ensures { IfSome result (λ end. PutAt events.now at number end) }
 {
     let (process, call) = invocation_at(events, at)?;
@@ -70,7 +70,7 @@ fn put_at(events: &[Event], at: usize, number: i64) -> Option<usize>
 }
 
 /// Where the operation at the place is known to be ok, if it took the number out.
-fn took_at(events: &[Event], at: usize, number: i64) -> Option<usize>
+pub(crate) fn took_at(events: &[Event], at: usize, number: i64) -> Option<usize>
     ensures { IfSome result (λ end. TookAt events.now at number end) }
 {
     let (process, call) = invocation_at(events, at)?;
@@ -132,7 +132,7 @@ fn may_take(events: &[Event], at: usize, process: u64, number: i64) -> bool
 }
 
 /// Whether the event at the place is the invocation of a dequeue that did not fail, and may take the number out.
-fn is_taking_at(events: &[Event], at: usize, number: i64) -> bool
+pub(crate) fn is_taking_at(events: &[Event], at: usize, number: i64) -> bool
     requires { at < length events.now }
     ensures { result ≡ false → IsCall events.now at Dequeue → IsLeftAt events.now number at }
 {

@@ -1,0 +1,40 @@
+-- Operations of a bag that can't stand in one legal order: no number is taken out more often than it is put in, and a dequeue that
+-- found nothing found each number taken out as often.
+use Rattle.std.specs.Prelude.{◌≡◌, ◌≢◌, ◌<◌, ◌≤◌, ℕ, ℤ, List, All, AllPairs, Contains, length}
+use Rattle.lin_events.specs.declared.calls.Call.{Call}
+use Rattle.lin_events.specs.declared.calls.Call.TheVariants.{Dequeue}
+use Rattle.lin_events.specs.declared.calls.Reply.TheVariants as Replied
+use Rattle.lin_events.specs.declared.calls.Val.TheVariants.{Nil}
+use Rattle.lin_events.specs.declared.events.Event.{Event}
+use Rattle.lin_events.specs.Operations.{IsOk, IsFailed}
+use Rattle.lin_orders.specs.Orders.{IsCall}
+use Rattle.lin_failures.specs.Adding.{Adds}
+use Rattle.lin_failures.specs.QueueConflicts.{IsLeftAt, PutAt, TookAt}
+
+-- at least so many places are such
+abbrev pub AtLeast : ℕ → (ℕ → Type 0) → Type 0
+AtLeast k P = (places : List ℕ) × (length places ≡ k) × AllPairs ◌≢◌ places × All P places
+
+-- at most so many places are such
+abbrev pub AtMost : ℕ → (ℕ → Type 0) → Type 0
+AtMost k P = (places : List ℕ) × (length places ≡ k) × ((at : ℕ) → P at → Contains places at)
+
+-- the operation may put the number in: it isn't known to have failed
+abbrev pub MayPut : List Event → ℤ → ℕ → Type 0
+MayPut h n at = (call : Call) × IsCall h at call × Adds call n × (IsFailed h at → ⊥)
+
+-- the operation is known to be ok, and took the number out
+abbrev pub Took : List Event → ℤ → ℕ → Type 0
+Took h n at = (end : ℕ) × TookAt h at n end
+
+-- the operation put the number in, and was known to be ok before the place
+abbrev pub PutBefore : List Event → ℤ → ℕ → ℕ → Type 0
+PutBefore h n place at = (end : ℕ) × PutAt h at n end × (end < place)
+
+-- the dequeue was invoked up to and with the place, and may take the number out
+abbrev pub MayTakeBy : List Event → ℤ → ℕ → ℕ → Type 0
+MayTakeBy h n place at = (at ≤ place) × IsCall h at Dequeue × (IsLeftAt h n at → ⊥)
+
+-- the dequeue is known to be ok at `end`, and found nothing
+abbrev pub FoundNothing : List Event → ℕ → ℕ → Type 0
+FoundNothing h at end = IsCall h at Dequeue × IsOk h at end (Replied.Value Nil)

@@ -1,0 +1,148 @@
+//! Operations of a bag that can't stand in one legal order.
+ghost use Rattle.std.specs.Prelude.{◌≡◌, ◌<◌, IfSome, IsTrue, false, length};
+ghost use Rattle.lin_objects.specs.declared.kinds.Kind.TheVariants.{Bag};
+ghost use Rattle.lin_orders.specs.Linearizable.{IsLinearizableAs};
+ghost use Rattle.lin_failures.specs.BagConflicts.{AtLeast, AtMost, FoundNothing, MayPut, MayTakeBy, PutBefore, Took};
+
+use crate::adds::is_add_at;
+use crate::conflict::{invocation_at, ok_of};
+use crate::queue_conflict::{is_taking_at, put_at, took_at};
+use lin_events::{Call, Event, Reply, Val};
+
+/// Why a bag has no legal order.
+#[derive(Clone, Copy, Debug, PartialEq, Eq)]
+pub enum BagConflict {
+    /// The number was taken out more often than it can have been put in.
+    Overtaken { number: i64 },
+    /// The dequeue that was invoked there found nothing, and the number was in the bag: it was put in before more often than it can have
+    /// been taken out until that returned.
+    Inside { dequeue: usize, number: i64 },
+}
+
+/// Whether the operation at the place is known to be ok, and took the number out.
+fn took(events: &[Event], at: usize, number: i64) -> bool
+    ensures { IsTrue result → Took events.now number at }
+{
+    match took_at(events, at, number) {
+        Some(_) => true,
+        None => false,
+    }
+}
+
+/// Whether the operation at the place put the number in, and was known to be ok before this one.
+fn is_put_before(events: &[Event], at: usize, number: i64, place: usize) -> bool
+    ensures { IsTrue result → PutBefore events.now number place at }
+{
+    match put_at(events, at, number) {
+        Some(end) => end < place,
+        None => false,
+    }
+}
+
+/// Whether the event at the one place is the invocation of a dequeue that may take the number out, and stands up to the other place.
+fn may_take_by(events: &[Event], at: usize, number: i64, place: usize) -> bool
+    requires { at < length events.now }
+    ensures { result ≡ false → MayTakeBy events.now number place at → ⊥ }
+{
+    if place < at {
+        return false;
+    }
+    is_taking_at(events, at, number)
+}
+
+/// How many operations may put the number in.
+fn puts_of(events: &[Event], number: i64) -> usize
+    ensures { AtMost result (MayPut events.now number) }
+{
+    let mut puts = 0;
+    for at in 0..events.len() {
+        if is_add_at(events, at, number) {
+            puts += 1;
+        }
+    }
+    puts
+}
+
+/// How many operations are known to be ok, and took the number out.
+fn takes_of(events: &[Event], number: i64) -> usize
+    ensures { AtLeast result (Took events.now number) }
+{
+    let mut takes = 0;
+    for at in 0..events.len() {
+        if took(events, at, number) {
+            takes += 1;
+        }
+    }
+    takes
+}
+
+/// How many operations put the number in, and were known to be ok before the place.
+fn puts_before(events: &[Event], number: i64, place: usize) -> usize
+    ensures { AtLeast result (PutBefore events.now number place) }
+{
+    let mut puts = 0;
+    for at in 0..events.len() {
+        if is_put_before(events, at, number, place) {
+            puts += 1;
+        }
+    }
+    puts
+}
+
+/// How many dequeues that were invoked up to and with the place may take the number out.
+fn takes_by(events: &[Event], number: i64, place: usize) -> usize
+    ensures { AtMost result (MayTakeBy events.now number place) }
+{
+    let mut takes = 0;
+    for at in 0..events.len() {
+        if may_take_by(events, at, number, place) {
+            takes += 1;
+        }
+    }
+    takes
+}
+
+/// Where the operation at the place is known to be ok, if it is a dequeue that found nothing.
+fn found_nothing(events: &[Event], at: usize) -> Option<usize>
+    ensures { IfSome result (λ end. FoundNothing events.now at end) }
+{
+    let (process, call) = invocation_at(events, at)?;
+    let Call::Dequeue = call else {
+        return None;
+    };
+    let (end, reply) = ok_of(events, at, process)?;
+    match reply {
+        Reply::Value(value) => match value {
+            Val::Nil => Some(end),
+            Val::Int(_) => None,
+        },
+        _ => None,
+    }
+}
+
+/// Whether the number was taken out more often than it can have been put in.
+fn is_overtaken(events: &[Event], number: i64) -> bool
+    ensures { IsTrue result → IsLinearizableAs Bag events.now → ⊥ }
+{
+    puts_of(events, number) < takes_of(events, number)
+}
+
+/// Whether the dequeue found nothing, and the number was in the bag.
+fn is_inside(events: &[Event], dequeue: usize, number: i64) -> bool
+    ensures { IsTrue result → IsLinearizableAs Bag events.now → ⊥ }
+{
+    let Some(end) = found_nothing(events, dequeue) else {
+        return false;
+    };
+    takes_by(events, number, end) < puts_before(events, number, dequeue)
+}
+
+/// Whether the events are such, so that no bag has a legal order of them.
+pub fn is_bag_refuted(events: &[Event], conflict: &BagConflict) -> bool
+    ensures { IsTrue result → IsLinearizableAs Bag events.now → ⊥ }
+{
+    match conflict {
+        BagConflict::Overtaken { number } => is_overtaken(events, *number),
+        BagConflict::Inside { dequeue, number } => is_inside(events, *dequeue, *number),
+    }
+}
