@@ -1,6 +1,6 @@
 #!/usr/bin/env bash
 # The whole gate: each proof from nothing, the tests that are written in Rattle and the stored runs of the programs; then the edits that have
-# to be refused, what crates cite of one another, and the built program on rows of data, on the README's commands, on generated histories, on
+# to be refused, what crates cite of one another, and the built program on rows of data, on the commands that pages show, on generated histories, on
 # random edit scripts and with each growth of memory refused, and a plain text of the rules of refutations beside it. The last line counts all.
 set -u
 cd "$(dirname "$0")"

@@ -15,8 +15,8 @@ use Rattle.lin_members.specs.Searching.{is_watching, AreBehind, AreUpdates, Begi
 use Rattle.lin_frontier.specs.lemmas.Closing.{any_default}
 use Rattle.lin_frontier.specs.lemmas.Inserting.{kept_by, passed_by}
 use Rattle.lin_members.specs.lemmas.Undominated.{above_itself}
-use Rattle.lin_compressed.specs.Putting.{IsTakenInIf}
-use Rattle.lin_compressed.proofs.Visiting.{grown_grown, not_grown, node_stays, begins_still}
+use Rattle.lin_listing.specs.Putting.{IsTakenInIf}
+use Rattle.lin_listing.specs.lemmas.Visiting.{grown_grown, not_grown, node_stays, begins_still}
 
 -- one of the first list stands in both joined, and so does one of the second
 pub in_front : {A B : Type 0} (f : B → A) (xs : List B) (ys : List A) (i : ℕ) (x : B) → i < length xs → x ≡ get_or xs i x → (i < length (map f xs ++ ys)) × (f x ≡ get_or (map f xs ++ ys) i (f x))

@@ -38,7 +38,7 @@ use Rattle.lin_members.specs.lemmas.Awaiting.{open_pending}
 use Rattle.lin_frontier.specs.lemmas.Closing.{cut_back}
 use Rattle.lin_members.specs.lemmas.InRounds.{one_rounds}
 use Rattle.lin_frontier.specs.lemmas.Inserting.{first_or_rest}
-use Rattle.lin_compressed.proofs.Onward.{invoked, informed, failed, rounds_stay, spelled_rising, spelled_stays}
+use Rattle.lin_listing.specs.lemmas.Onward.{invoked, informed, failed, rounds_stay, spelled_rising, spelled_stays}
 use Rattle.lin_lists.specs.lemmas.Filters.{from_map, in_map}
 use Rattle.lin_members.specs.lemmas.Putting.{trail_ends}
 use Rattle.lin_members.specs.lemmas.Pruned.{dominates_to, dominates_from, watching_to}

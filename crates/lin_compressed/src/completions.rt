@@ -7,7 +7,7 @@ ghost use Rattle.lin_frontier.specs.Nodes.{IsGrown};
 ghost use Rattle.lin_frontier.specs.Placing.{IsTried};
 ghost use Rattle.lin_objects.specs.Commuting.{GoesFirst};
 ghost use Rattle.lin_members.specs.Searching.{AreBehind, AreUpdates, PlacesIfUpdate, CanTake, GoesAhead, IsVisiting, IsFinding, IsFoundFrom, IsDone, IsMadeAtOnce, IsOffering, IsPassed, IsSearchOf, GivesAny, DominatesIn, watched};
-ghost use Rattle.lin_compressed.specs.Putting.{IsPutNext, IsTakenIn, IsTakenInIf};
+ghost use Rattle.lin_listing.specs.Putting.{IsPutNext, IsTakenIn, IsTakenInIf};
 ghost use Rattle.lin_frontier.specs.Walks.{IsTriedAtMost};
 
 use crate::scratch::{Scratch, empty, give_up_all};

@@ -5,13 +5,14 @@ ghost use Rattle.lin_orders.specs.Linearizable.{IsDeadAt, IsLegalOrderAs, IsLine
 
 use crate::acts::Acts;
 use crate::attempts::Attempt;
+use crate::bags::bag_order;
 use crate::queues::queue_order;
 use crate::sets::set_order;
 use crate::zones::sought;
 use lin_events::{Event, OutOfMemory};
 use lin_failures::{
-    Conflict, QueueConflict, SetConflict, is_queue_refuted, is_refuted, is_set_refuted,
-    queue_failure, set_failure,
+    BagConflict, Conflict, QueueConflict, SetConflict, bag_failure, is_bag_refuted,
+    is_queue_refuted, is_refuted, is_set_refuted, queue_failure, set_failure,
 };
 use lin_objects::{Kind, Kinds};
 use lin_orders::{Placed, check_order};
@@ -76,6 +77,7 @@ fn attempted(
     match kind {
         Kind::Register | Kind::CasRegister => register_order(alloc, events),
         Kind::Fifo => queue_order(alloc, events),
+        Kind::Bag => bag_order(alloc, events),
         Kind::Set => set_order(alloc, events),
         Kind::Mutex => Ok(None),
     }
@@ -126,7 +128,7 @@ fn shown_of(
 
 /// A legal order of the events at the places, which all are of one key, if one is found. Of events of several keys none is.
 ///
-/// Orders of registers, of sets, and of queues in which no number is put twice, are looked for. Takes time and memory linear in the events,
+/// Orders of registers, of sets, of bags, and of queues in which no number is put twice, are looked for. Takes time and memory linear in the events,
 /// apart from how many operations are open at a time, from the time to sort them, and from what reads of sets found. Where memory is
 /// refused none is found. The order names operations by their places among these events.
 pub fn finds_order(
@@ -138,7 +140,7 @@ pub fn finds_order(
     ensures { IfSome result (λ order. IsLegalOrderAs kind (events_at events.now picks.now) order.items) }
 {
     match kind {
-        Kind::Register | Kind::CasRegister | Kind::Fifo | Kind::Set => {
+        Kind::Register | Kind::CasRegister | Kind::Fifo | Kind::Bag | Kind::Set => {
             shown_of(alloc, kind, events, picks).unwrap_or(None)
         }
         Kind::Mutex => None,
@@ -150,6 +152,7 @@ pub fn finds_order(
 enum Reason {
     Register(Conflict),
     Queue(QueueConflict),
+    Bag(BagConflict),
     Set(SetConflict),
 }
 
@@ -169,6 +172,9 @@ fn sought_as(
         Kind::Fifo => {
             Ok(queue_failure(alloc, events)?.map(|(at, conflict)| (at, Reason::Queue(conflict))))
         }
+        Kind::Bag => {
+            Ok(bag_failure(alloc, events)?.map(|(at, conflict)| (at, Reason::Bag(conflict))))
+        }
         Kind::Mutex => Ok(None),
     }
 }
@@ -181,15 +187,19 @@ fn is_refuted_as(kind: Kind, events: &[Event], reason: &Reason) -> bool
         Reason::Register(conflict) => match kind {
             Kind::Register => is_refuted(events, conflict),
             Kind::CasRegister => is_refuted(events, conflict),
-            Kind::Fifo | Kind::Set | Kind::Mutex => false,
+            Kind::Fifo | Kind::Bag | Kind::Set | Kind::Mutex => false,
         },
         Reason::Queue(conflict) => match kind {
             Kind::Fifo => is_queue_refuted(events, conflict),
-            Kind::Register | Kind::CasRegister | Kind::Set | Kind::Mutex => false,
+            Kind::Register | Kind::CasRegister | Kind::Bag | Kind::Set | Kind::Mutex => false,
+        },
+        Reason::Bag(conflict) => match kind {
+            Kind::Bag => is_bag_refuted(events, conflict),
+            Kind::Register | Kind::CasRegister | Kind::Fifo | Kind::Set | Kind::Mutex => false,
         },
         Reason::Set(conflict) => match kind {
             Kind::Set => is_set_refuted(events, conflict),
-            Kind::Register | Kind::CasRegister | Kind::Fifo | Kind::Mutex => false,
+            Kind::Register | Kind::CasRegister | Kind::Fifo | Kind::Bag | Kind::Mutex => false,
         },
     }
 }
@@ -229,13 +239,13 @@ fn failing_of(
 
 /// Which of the events at the places is the one at which the shortest beginning without a legal order ends, if one is found.
 ///
-/// Looked at are registers, where values are left by one update each, queues, where numbers are put in once each, and sets. Takes time and memory linear in the events, apart
+/// Looked at are registers, where values are left by one update each, queues, where numbers are put in once each, bags, and sets. Takes time and memory linear in the events, apart
 /// from how many operations are open at a time and from what reads of sets found. Where memory is refused none is found.
 pub fn finds_failure(alloc: Global, kind: Kind, events: &[Event], picks: &[usize]) -> Option<usize>
     ensures { IfSome result (λ at. IsDeadAt kind (events_at events.now picks.now) at) }
 {
     match kind {
-        Kind::Register | Kind::CasRegister | Kind::Fifo | Kind::Set => {
+        Kind::Register | Kind::CasRegister | Kind::Fifo | Kind::Bag | Kind::Set => {
             failing_of(alloc, kind, events, picks).unwrap_or(None)
         }
         Kind::Mutex => None,

@@ -2,7 +2,7 @@ use Rattle.std.proofs.Common.{◌+◌, ◌*◌, ◌∙◌, arith, length, subst,
 use Rattle.lin_frontier.specs.Walks.{IsTriedAtMost}
 use Rattle.lin_frontier.specs.lemmas.Counting.{tried_none, tried_turn, tried_turns}
 use Rattle.lin_compressed.proofs.ReturningAll.{returning_all, returning_next, returning_skip}
-use Rattle.lin_compressed.proofs.Visiting.{grown_grown}
+use Rattle.lin_listing.specs.lemmas.Visiting.{grown_grown}
 use Rattle.lin_compressed.proofs.compressed.return_all.Goals.{then-is_absent+in_ok-return_from, else-is_absent}
 use Rattle.lin_compressed.proofs.compressed.return_all.Goals as goal
 

@@ -4,7 +4,7 @@ use Rattle.lin_members.specs.Asking.{early_of}
 use Rattle.lin_members.specs.Searching.{AreUpdates}
 use Rattle.lin_frontier.specs.lemmas.Counting.{tried_more}
 use Rattle.lin_compressed.proofs.Placings.{ahead_end, ahead_push, ahead_skip, ahead_start, counting_end, counting_start, counting_turn, early_fewer, early_tried}
-use Rattle.lin_compressed.proofs.Visiting.{grown_grown}
+use Rattle.lin_listing.specs.lemmas.Visiting.{grown_grown}
 use Rattle.lin_compressed.proofs.completions.Completion.ask_all_ahead.Goals as goal
 
 pub returns-in_err-updates-clause-tried : goal.returns-in_err-updates-clause-tried

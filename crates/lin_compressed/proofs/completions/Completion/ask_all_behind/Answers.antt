@@ -2,7 +2,7 @@ use Rattle.std.proofs.Common.{◌+◌, length, Contains, subst, sym, ◌∙◌, 
 use Rattle.std.proofs.lemmas.List.Elements.{Contains-push}
 use Rattle.lin_frontier.specs.lemmas.Counting.{tried_more}
 use Rattle.lin_compressed.proofs.Placings.{behind_end, behind_push, behind_skip, behind_start, counting_end, counting_start, counting_turn}
-use Rattle.lin_compressed.proofs.Visiting.{grown_grown}
+use Rattle.lin_listing.specs.lemmas.Visiting.{grown_grown}
 use Rattle.lin_compressed.proofs.completions.Completion.ask_all_behind.Goals as goal
 
 pub loop-config-init : goal.loop-config-init
