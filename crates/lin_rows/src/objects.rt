@@ -1,6 +1,6 @@
 //! Rows about sequential objects and their kinds.
-use crate::shown::put_reply;
-use crate::{Any, Call, IntQueue, Kind, Kinds, Name, Reply, SeqObject, State, words};
+use crate::shown::{put_reply, put_state};
+use crate::{Any, Call, IntBag, IntQueue, Kind, Kinds, Name, Reply, SeqObject, State, words};
 use std::alloc::Global;
 
 const NAMES: [Name; 8] = [
@@ -28,7 +28,7 @@ pub fn object(alloc: Global, word: &str, out: &mut String) -> Option<()> {
     write!(out, "copied: {}", copy == start).ok()
 }
 
-/// Takes a step on a call, and tells the reply; nothing where there is none.
+/// Takes a step on a call, the one that is listed last, and tells the reply; nothing where there is none.
 fn take_step(alloc: Global, object: Any, state: &mut State, call: &Call) -> Option<Reply> {
     let mut outcomes = Vec::new(alloc);
     object.outcomes(alloc, state, call, &mut outcomes).ok()?;
@@ -78,6 +78,30 @@ fn next_state(
     let call = words::call(alloc, call)?;
     let reply = words::reply(alloc, reply)?;
     Any { kind }.next(alloc, state?, &call, &reply).ok()
+}
+
+/// `outcomes KIND CALL CALL:REPLY ..`: what the first call may come to behind the others, each reply with the state that it leaves.
+pub fn outcomes(alloc: Global, text: &str, out: &mut String) -> Option<()> {
+    let (word, rest) = words::first_word(text);
+    let kind = words::kind(word)?;
+    let (word, rest) = words::first_word(rest);
+    let call = words::call(alloc, word)?;
+    let mut state = Any { kind }.start(alloc);
+    for word in rest.split_whitespace() {
+        state = next_state(alloc, kind, Some(state), word)??;
+    }
+    let mut outcomes = Vec::new(alloc);
+    Any { kind }
+        .outcomes(alloc, &state, &call, &mut outcomes)
+        .ok()?;
+    write!(out, "{}:", outcomes.len()).ok()?;
+    for (next, reply) in outcomes.iter() {
+        out.push(' ').ok()?;
+        put_reply(out, reply)?;
+        out.push_str(" leaves ").ok()?;
+        put_state(out, next)?;
+    }
+    Some(())
 }
 
 /// `observes KIND CALLS`: of each call whether it observes.
@@ -134,6 +158,14 @@ pub fn queue(alloc: Global, text: &str, out: &mut String) -> Option<()> {
     let numbers = words::numbers(alloc, text)?;
     let queue = IntQueue::from_vec(alloc, numbers).ok()?;
     let copy = queue.copy().ok()?;
+    write!(out, "{:?}", copy.as_slice()).ok()
+}
+
+/// `bag NUMBERS`: a copy of the bag of the numbers.
+pub fn bag(alloc: Global, text: &str, out: &mut String) -> Option<()> {
+    let numbers = words::numbers(alloc, text)?;
+    let bag = IntBag::from_vec(alloc, numbers).ok()?;
+    let copy = bag.copy().ok()?;
     write!(out, "{:?}", copy.as_slice()).ok()
 }
 
