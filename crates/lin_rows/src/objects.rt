@@ -80,22 +80,33 @@ fn next_state(
     Any { kind }.next(alloc, state?, &call, &reply).ok()
 }
 
+/// The state behind calls with their replies, if there is one.
+fn state_behind(alloc: Global, kind: Kind, words: &str) -> Option<State> {
+    let mut state = Some(Any { kind }.start(alloc));
+    for word in words.split_whitespace() {
+        state = next_state(alloc, kind, state, word)?;
+    }
+    state
+}
+
 /// `outcomes KIND CALL CALL:REPLY ..`: what the first call may come to behind the others, each reply with the state that it leaves.
 pub fn outcomes(alloc: Global, text: &str, out: &mut String) -> Option<()> {
     let (word, rest) = words::first_word(text);
-    let kind = words::kind(word)?;
+    let object = Any {
+        kind: words::kind(word)?,
+    };
     let (word, rest) = words::first_word(rest);
     let call = words::call(alloc, word)?;
-    let mut state = Any { kind }.start(alloc);
-    for word in rest.split_whitespace() {
-        state = next_state(alloc, kind, Some(state), word)??;
-    }
+    let state = state_behind(alloc, object.kind, rest)?;
     let mut outcomes = Vec::new(alloc);
-    Any { kind }
-        .outcomes(alloc, &state, &call, &mut outcomes)
-        .ok()?;
+    object.outcomes(alloc, &state, &call, &mut outcomes).ok()?;
+    put_outcomes(outcomes.as_slice(), out)
+}
+
+/// How many there are, and each reply with the state that it leaves.
+fn put_outcomes(outcomes: &[(State, Reply)], out: &mut String) -> Option<()> {
     write!(out, "{}:", outcomes.len()).ok()?;
-    for (next, reply) in outcomes.iter() {
+    for (next, reply) in outcomes {
         out.push(' ').ok()?;
         put_reply(out, reply)?;
         out.push_str(" leaves ").ok()?;
