@@ -83,6 +83,20 @@ module _ {S : Type 0} (step : S → Call → S → Reply → Type 0) (observes :
       | inr r ↦ inr (record { update = r.update; steps = r.steps; placed = r.placed; offers = r.offers; begins = begins_still nodes now m.1 n.1 (record { at = operation.at; reply = reply }) grown r.begins })
     ]
 
+    -- nothing was added, and one member was
+    pub finding_none : (nodes : List (ℕ × (Placed × Option ℕ))) (m : Member S × Path) (out : List (Member S × Path)) → IsFinding step observes operation reply pending nodes m out out
+    finding_none nodes m out = record { kept = λ n there. there; sound = λ n there. inl there }
+
+    pub finding_push : (nodes : List (ℕ × (Placed × Option ℕ))) (m : Member S × Path) (old out : List (Member S × Path)) (n : Member S × Path) → out ≡ old ++ n ∷ [] → IsCompleted step observes operation reply pending nodes m n
+        → IsFinding step observes operation reply pending nodes m old out
+    finding_push nodes m old out n pushed made = record {
+      kept = λ k there. subst (λ l. Contains l k) (sym pushed) (Contains-append_left old (n ∷ []) k there);
+      sound = λ k there. elim (Contains-push_cases old n k (subst (λ l. Contains l k) pushed there)) [
+        | inl before ↦ inl before
+        | inr same ↦ inr (subst (IsCompleted step observes operation reply pending nodes m) same made)
+      ];
+    }
+
     -- the steps of the update, of which `rest` are still to be looked at
     pub record IsReturning (m : Member S × Path) (first nodes : List (ℕ × (Placed × Option ℕ))) (old : List (Member S × Path)) (rest : List (S × Reply)) (now : List (Member S × Path)) : Type 0 where
       pub nodes_grown : IsGrown first nodes

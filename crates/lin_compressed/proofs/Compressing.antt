@@ -261,8 +261,11 @@ none_left {S} start step observes overwriting functions h nodes members exact en
     by true complete some = let found = complete some.0 some.1 in (found.member, found.among)
 
 -- nodes of which those that were added were cut off again
+pub cut_same : {A : Type 0} (nodes now cut : List A) (n : ℕ) → cut ≡ take n now → n ≡ length nodes → IsGrown nodes now → cut ≡ nodes
+cut_same nodes now cut n is many grown = is ∙ ap (λ k. take k now) many ∙ cut_back nodes now grown
+
 pub cut_grown : {A : Type 0} (nodes now cut : List A) (n : ℕ) → cut ≡ take n now → n ≡ length nodes → IsGrown nodes now → IsGrown nodes cut
-cut_grown nodes now cut n is many grown = ([], is ∙ ap (λ k. take k now) many ∙ cut_back nodes now grown ∙ sym (append-nil nodes))
+cut_grown nodes now cut n is many grown = ([], cut_same nodes now cut n is many grown ∙ sym (append-nil nodes))
 
 -- the start, with the path that all others go on from
 abbrev pub start_of : {S : Type 0} → S → Member S × Path

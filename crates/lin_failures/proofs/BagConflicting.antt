@@ -1,7 +1,8 @@
 -- Bags have no legal order of operations that conflict.
-use Rattle.std.proofs.Common.{◌≡◌, ◌+◌, ◌<◌, ℕ, ℤ, Bool, true, false, cond, List, [], ◌∷◌, Contains, Ordering, Less, Equal, Greater, inl, inr, refl, sym, ap, subst, ◌∙◌, arith}
+use Rattle.std.proofs.Common.{◌≡◌, ◌+◌, ◌<◌, ◌⊎◌, ℕ, ℤ, Bool, true, false, cond, List, [], ◌∷◌, Contains, Ordering, Less, Equal, Greater, inl, inr, refl, sym, ap, subst, ◌∙◌, arith}
 use Rattle.std.specs.Ordering.{int_cmp, int_eq, match_ordering}
-use Rattle.std.proofs.lemmas.Bool.{cases_Bool, true≢false}
+use Rattle.std.proofs.lemmas.Bool.{true≢false}
+use Rattle.std.proofs.lemmas.List.Elements.{Contains-append_right}
 use Rattle.std.proofs.lemmas.Bool.Decides.{Decides-int_eq}
 use Rattle.lin_lists.specs.lemmas.Elements.{first_or_rest, nothing_in}
 use Rattle.lin_events.specs.declared.calls.Call.{Call}
@@ -17,93 +18,125 @@ use Rattle.lin_objects.specs.declared.states.State.TheVariants.{Bag as Bagged}
 use Rattle.lin_objects.specs.Steps.{Step}
 use Rattle.lin_orders.specs.declared.placed.Placed.{Placed}
 use Rattle.lin_orders.specs.Linearizable.{IsLegalOrderAs}
-use Rattle.lin_failures.specs.BagConflicts.{AtLeast, AtMost, FoundNothing, MayPut, MayTakeBy, PutBefore, Took}
+use Rattle.lin_failures.specs.Adding.{Adds}
+use Rattle.lin_failures.specs.BagConflicts.{AtLeast, AtMost, FoundNothing, MayPut, MayTakeBy, OfOne, PutBefore, Took}
 use Rattle.lin_failures.specs.QueueConflicts.{Takes}
 use Rattle.lin_failures.proofs.Counting.{Changes, left_inside, overtaken}
 
--- one, if the numbers are the same
-one : ℤ → ℤ → ℕ
-one n x = cond (int_eq x n) 1 0
+-- whether the number is one of these
+is_in : List ℤ → ℤ → Bool
+is_in [] x = false
+is_in (n ∷ ns) x = cond (int_eq n x) true (is_in ns x)
 
--- how often the number stands in the list
-abbrev times : ℤ → List ℤ → ℕ
-times n [] = 0
-times n (x ∷ xs) = one n x + times n xs
-
--- how often it is in the bag
-abbrev inside : State → ℤ → ℕ
-inside (Bagged q) n = times n q
-inside _ n = 0
-
-one_same : (n x : ℤ) → int_eq x n ≡ true → one n x ≡ 1
-unfolding one
-one_same n x same = ap (λ b. cond b 1 0) same
-
-one_other : (n x : ℤ) → int_eq x n ≡ false → one n x ≡ 0
-unfolding one
-one_other n x other = ap (λ b. cond b 1 0) other
-
-times_with : (n x : ℤ) (q : List ℤ) → times n (with_one x q) ≡ one n x + times n q
-times_with n x [] = refl
-times_with n x (y ∷ ys) = by (int_cmp y x) (times_with n x ys)
+in_decides : (ns : List ℤ) (x : ℤ) → ((is_in ns x ≡ true) × Contains ns x) ⊎ ((is_in ns x ≡ false) × (Contains ns x → ⊥))
+unfolding is_in
+in_decides [] x = inr (refl, nothing_in x)
+in_decides (n ∷ ns) x = by (int_eq n x) refl (in_decides ns x)
   where
-    by : (o : Ordering) → times n (with_one x ys) ≡ one n x + times n ys → times n (match_ordering o (y ∷ with_one x ys) (x ∷ y ∷ ys) (x ∷ y ∷ ys)) ≡ one n x + (one n y + times n ys)
+    by : (b : Bool) → int_eq n x ≡ b → ((is_in ns x ≡ true) × Contains ns x) ⊎ ((is_in ns x ≡ false) × (Contains ns x → ⊥))
+        → ((cond (int_eq n x) true (is_in ns x) ≡ true) × Contains (n ∷ ns) x) ⊎ ((cond (int_eq n x) true (is_in ns x) ≡ false) × (Contains (n ∷ ns) x → ⊥))
+    by true is rest = inl (ap (λ b. cond b true (is_in ns x)) is, (0, omega arith, (Decides-int_eq n x).0 is))
+    by false is rest = elim rest [
+      | inl there ↦ inl (ap (λ b. cond b true (is_in ns x)) is ∙ there.0, Contains-append_right (n ∷ []) ns x there.1)
+      | inr none ↦ inr (
+        ap (λ b. cond b true (is_in ns x)) is ∙ none.0,
+        λ there. elim (first_or_rest n ns x there) [
+          | inl same ↦ true≢false (sym ((Decides-int_eq n x).1 same) ∙ is)
+          | inr later ↦ none.1 later
+        ],
+      )
+    ]
+
+-- one, if the number is one of these
+one : List ℤ → ℤ → ℕ
+one ns x = cond (is_in ns x) 1 0
+
+one_in : (ns : List ℤ) (x : ℤ) → is_in ns x ≡ true → one ns x ≡ 1
+unfolding one
+one_in ns x there = ap (λ b. cond b 1 0) there
+
+one_out : (ns : List ℤ) (x : ℤ) → is_in ns x ≡ false → one ns x ≡ 0
+unfolding one
+one_out ns x none = ap (λ b. cond b 1 0) none
+
+-- how many of these the list has
+abbrev times : List ℤ → List ℤ → ℕ
+times ns [] = 0
+times ns (x ∷ xs) = one ns x + times ns xs
+
+-- how many of them are in the bag
+abbrev inside : State → List ℤ → ℕ
+inside (Bagged q) ns = times ns q
+inside _ ns = 0
+
+times_with : (ns : List ℤ) (x : ℤ) (q : List ℤ) → times ns (with_one x q) ≡ one ns x + times ns q
+times_with ns x [] = refl
+times_with ns x (y ∷ ys) = by (int_cmp y x) (times_with ns x ys)
+  where
+    by : (o : Ordering) → times ns (with_one x ys) ≡ one ns x + times ns ys → times ns (match_ordering o (y ∷ with_one x ys) (x ∷ y ∷ ys) (x ∷ y ∷ ys)) ≡ one ns x + (one ns y + times ns ys)
     by Less rest = omega (arith, rest)
     by Equal rest = refl
     by Greater rest = refl
 
-times_bag : (n : ℤ) (q : List ℤ) → times n (bag_of q) ≡ times n q
-times_bag n [] = refl
-times_bag n (x ∷ q) = times_with n x (bag_of q) ∙ ap (λ k. one n x + k) (times_bag n q)
+times_bag : (ns q : List ℤ) → times ns (bag_of q) ≡ times ns q
+times_bag ns [] = refl
+times_bag ns (x ∷ q) = times_with ns x (bag_of q) ∙ ap (λ k. one ns x + k) (times_bag ns q)
 
-times_without : (n y : ℤ) (q : List ℤ) → Contains q y → times n q ≡ one n y + times n (without_one y q)
-times_without n y [] there = absurd (nothing_in y there)
-times_without n y (x ∷ q) there = by (int_eq x y) refl (λ rest. times_without n y q rest)
+times_without : (ns : List ℤ) (y : ℤ) (q : List ℤ) → Contains q y → times ns q ≡ one ns y + times ns (without_one y q)
+times_without ns y [] there = absurd (nothing_in y there)
+times_without ns y (x ∷ q) there = by (int_eq x y) refl (λ rest. times_without ns y q rest)
   where
-    by : (b : Bool) → int_eq x y ≡ b → (Contains q y → times n q ≡ one n y + times n (without_one y q)) → one n x + times n q ≡ one n y + times n (cond b q (x ∷ without_one y q))
-    by true same more = ap (λ z. one n z + times n q) ((Decides-int_eq x y).0 same)
+    by : (b : Bool) → int_eq x y ≡ b → (Contains q y → times ns q ≡ one ns y + times ns (without_one y q)) → one ns x + times ns q ≡ one ns y + times ns (cond b q (x ∷ without_one y q))
+    by true same more = ap (λ z. one ns z + times ns q) ((Decides-int_eq x y).0 same)
     by false other more = elim (first_or_rest x q y there) [
       | inl same ↦ absurd (true≢false (sym ((Decides-int_eq x y).1 same) ∙ other))
       | inr rest ↦ let fewer = more rest in omega (arith, fewer)
     ]
 
-differ : (x n : ℤ) → int_eq x n ≡ false → x ≡ n → ⊥
-differ x n other same = true≢false (sym ((Decides-int_eq x n).1 same) ∙ other)
+-- an enqueue takes none out, a dequeue puts none in, and takes none out if it finds nothing
+no_take : (x : ℤ) (ns : List ℤ) (reply : Reply) → OfOne ns (Takes (Enqueue x) reply) → ⊥
+no_take x ns reply takes = takes.2
 
-no_number : (n : ℤ) (reply : Reply) → reply ≡ Replied.Value Nil → Takes Dequeue reply n → ⊥
-no_number n reply is takes = subst (λ r. Takes Dequeue r n) is takes
+no_put : (ns : List ℤ) → OfOne ns (Adds Dequeue) → ⊥
+no_put ns adds = adds.2
 
--- how a step changes how often a number is inside
-changes : (s next : State) (call : Call) (reply : Reply) (n : ℤ) → Step Bag s call next reply → Changes (inside s n) (inside next n) call reply n
-changes (Bagged q) next (Enqueue x) reply n step =
-    let many : inside next n ≡ one n x + times n q = ap (λ s. inside s n) step.0 ∙ times_bag n (x ∷ q) in
-    elim (cases_Bool (int_eq x n)) [
-      | inl same ↦ let one_more = one_same n x same in inl ((Decides-int_eq x n).0 same, (λ takes. takes), omega (arith, many, one_more))
-      | inr other ↦ let none = one_other n x other in inr (inr (differ x n other, (λ takes. takes), omega (arith, many, none)))
+no_number : (ns : List ℤ) (reply : Reply) → reply ≡ Replied.Value Nil → OfOne ns (Takes Dequeue reply) → ⊥
+no_number ns reply is takes = subst (λ r. Takes Dequeue r takes.0) is takes.2
+
+-- how a step changes how many of the numbers are inside
+changes : (s next : State) (call : Call) (reply : Reply) (ns : List ℤ) → Step Bag s call next reply → Changes (inside s ns) (inside next ns) call reply ns
+changes (Bagged q) next (Enqueue x) reply ns step =
+    let many : inside next ns ≡ one ns x + times ns q = ap (λ s. inside s ns) step.0 ∙ times_bag ns (x ∷ q) in
+    elim (in_decides ns x) [
+      | inl there ↦ let one_more = one_in ns x there.0 in inl ((x, there.1, refl), no_take x ns reply, omega (arith, many, one_more))
+      | inr none ↦ let no_more = one_out ns x none.0 in inr (inr ((λ adds. none.1 (subst (Contains ns) (sym adds.2) adds.1)), no_take x ns reply, omega (arith, many, no_more)))
     ]
-changes (Bagged (x ∷ q)) next Dequeue reply n step =
+changes (Bagged (x ∷ q)) next Dequeue reply ns step =
     let y = step.0 in
-    let many : inside next n ≡ times n (without_one y (x ∷ q)) = ap (λ s. inside s n) step.2 in
-    let were = times_without n y (x ∷ q) step.1 in
-    elim (cases_Bool (int_eq y n)) [
-      | inl same ↦ let one_less = one_same n y same in inr (inl (subst (λ r. Takes Dequeue r n) (sym step.3) ((Decides-int_eq y n).0 same), (λ adds. adds), omega (arith, many, were, one_less)))
-      | inr other ↦ let none = one_other n y other in inr (inr ((λ adds. adds), (λ takes. differ y n other (subst (λ r. Takes Dequeue r n) step.3 takes)), omega (arith, many, were, none)))
+    let many : inside next ns ≡ times ns (without_one y (x ∷ q)) = ap (λ s. inside s ns) step.2 in
+    let were = times_without ns y (x ∷ q) step.1 in
+    elim (in_decides ns y) [
+      | inl there ↦ let one_less = one_in ns y there.0 in inr (inl ((y, there.1, subst (λ r. Takes Dequeue r y) (sym step.3) refl), no_put ns, omega (arith, many, were, one_less)))
+      | inr none ↦
+          let no_less = one_out ns y none.0 in
+          inr (inr (no_put ns, (λ takes. none.1 (subst (Contains ns) (sym (subst (λ r. Takes Dequeue r takes.0) step.3 takes.2)) takes.1)), omega (arith, many, were, no_less)))
     ]
-changes (Bagged []) next Dequeue reply n step = inr (inr ((λ adds. adds), no_number n reply step.1, ap (λ s. inside s n) step.0))
-changes (Bagged q) next call reply n step = absurd step
-changes s next call reply n step = absurd step
+changes (Bagged []) next Dequeue reply ns step = inr (inr (no_put ns, no_number ns reply step.1, ap (λ s. inside s ns) step.0))
+changes (Bagged q) next call reply ns step = absurd step
+changes s next call reply ns step = absurd step
 
-empties : (s next : State) (n : ℤ) → Step Bag s Dequeue next (Replied.Value Nil) → inside s n ≡ 0
-empties (Bagged []) next n step = refl
-empties (Bagged (x ∷ q)) next n step = absurd (apart step.0 step.3)
+empties : (s next : State) (ns : List ℤ) → Step Bag s Dequeue next (Replied.Value Nil) → inside s ns ≡ 0
+empties (Bagged []) next ns step = refl
+empties (Bagged (x ∷ q)) next ns step = absurd (apart step.0 step.3)
   where
     apart : (y : ℤ) → Replied.Value Nil ≡ Replied.Value (Int y) → ⊥
     apart y e = cc
-empties s next n step = absurd step
+empties s next ns step = absurd step
 
 module _ (h : List Event) (order : List Placed) (legal : IsLegalOrderAs Bag h order) where
   pub bag_overtaken : (n : ℤ) (puts takes : ℕ) → AtMost puts (MayPut h n) → AtLeast takes (Took h n) → puts < takes → ⊥
-  bag_overtaken = overtaken Bag inside changes h (λ n. refl) order legal
+  bag_overtaken = overtaken Bag inside changes h (λ ns. refl) order legal
 
-  pub bag_inside : (n : ℤ) (at end puts takes : ℕ) → FoundNothing h at end → AtMost takes (MayTakeBy h n end) → AtLeast puts (PutBefore h n at) → takes < puts → ⊥
-  bag_inside = left_inside Bag inside changes h (λ n. refl) order legal empties
+  pub bag_inside : (ns : List ℤ) (at end puts takes : ℕ)
+      → FoundNothing h at end → AtMost takes (λ x. OfOne ns (λ n. MayTakeBy h n end x)) → AtLeast puts (λ x. OfOne ns (λ n. PutBefore h n at x)) → takes < puts → ⊥
+  bag_inside = left_inside Bag inside changes h (λ ns. refl) order legal empties

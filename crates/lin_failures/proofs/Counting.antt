@@ -1,4 +1,4 @@
--- How often a number is put in and taken out, in an order that an object runs through.
+-- How often numbers are put in and taken out, in an order that an object runs through.
 use Rattle.std.proofs.Common.{◌≡◌, ◌≢◌, ◌<◌, ◌≤◌, ◌+◌, ℕ, ℤ, suc, List, [], ◌∷◌, ◌++◌, ◌⊎◌, AllPairs, Contains, length, inl, inr, refl, sym, ap, subst, ◌∙◌, arith, length-append, append_assoc}
 use Rattle.std.proofs.lemmas.Bool.{cases_lt}
 use Rattle.std.proofs.lemmas.List.Elements.{All-contains, Contains-append_cases, Contains-append_left, Contains-append_right}
@@ -21,10 +21,10 @@ use Rattle.lin_orders.specs.lemmas.Assembling.{one_reply}
 use Rattle.lin_orders.specs.lemmas.OneEnd.{one_call}
 use Rattle.lin_orders.specs.lemmas.Running.{runs_split}
 use Rattle.lin_failures.specs.Adding.{Adds}
-use Rattle.lin_failures.specs.BagConflicts.{AtLeast, AtMost, FoundNothing, MayPut, MayTakeBy, PutBefore, Took}
+use Rattle.lin_failures.specs.BagConflicts.{AtLeast, AtMost, FoundNothing, MayPut, MayTakeBy, OfOne, PutBefore, Took}
 use Rattle.lin_failures.specs.QueueConflicts.{Takes}
 use Rattle.lin_failures.proofs.Conflicting.{across, parted}
-use Rattle.lin_failures.proofs.QueueConflicting.{takes_call}
+use Rattle.lin_failures.proofs.QueueConflicting.{one_alone, takes_call}
 
 pairs_rest : {A : Type 0} (R : A → A → Type 0) (x : A) (xs : List A) → AllPairs R (x ∷ xs) → AllPairs R xs
 pairs_rest R x xs all i j d before within = all (suc i) (suc j) d (omega (arith, before)) (omega (arith, within))
@@ -148,59 +148,61 @@ module _ (P : Placed → Type 0) where
       let many = least.1 in
       omega (arith, fits, many)
 
--- the operation puts the number in, and takes it out
-abbrev pub Puts : List Event → ℤ → Placed → Type 0
-Puts h n p = (call : Call) × IsCall h p.at call × Adds call n
+-- the operation puts one of the numbers in, and takes one of them out
+abbrev pub Puts : List Event → List ℤ → Placed → Type 0
+Puts h numbers p = (call : Call) × IsCall h p.at call × OfOne numbers (Adds call)
 
-abbrev pub TakesOut : List Event → ℤ → Placed → Type 0
-TakesOut h n p = (call : Call) × IsCall h p.at call × Takes call p.reply n
+abbrev pub TakesOut : List Event → List ℤ → Placed → Type 0
+TakesOut h numbers p = (call : Call) × IsCall h p.at call × OfOne numbers (Takes call p.reply)
 
--- how a step changes how many of the number there are: it puts one in, takes one out, or does neither
-abbrev pub Changes : ℕ → ℕ → Call → Reply → ℤ → Type 0
-Changes before after call reply n = (Adds call n × (Takes call reply n → ⊥) × (after ≡ before + 1))
-    ⊎ ((Takes call reply n × (Adds call n → ⊥) × (before ≡ after + 1)) ⊎ ((Adds call n → ⊥) × (Takes call reply n → ⊥) × (after ≡ before)))
+-- how a step changes how many of the numbers there are: it puts one in, takes one out, or does neither
+abbrev pub Changes : ℕ → ℕ → Call → Reply → List ℤ → Type 0
+Changes before after call reply numbers = (OfOne numbers (Adds call) × (OfOne numbers (Takes call reply) → ⊥) × (after ≡ before + 1))
+    ⊎ ((OfOne numbers (Takes call reply) × (OfOne numbers (Adds call) → ⊥) × (before ≡ after + 1)) ⊎ ((OfOne numbers (Adds call) → ⊥) × (OfOne numbers (Takes call reply) → ⊥) × (after ≡ before)))
 
-module _ (kind : Kind) (inside : State → ℤ → ℕ) (each : (s next : State) (call : Call) (reply : Reply) (n : ℤ) → Step kind s call next reply → Changes (inside s n) (inside next n) call reply n) (h : List Event) where
+module _ (kind : Kind) (inside : State → List ℤ → ℕ) (each : (s next : State) (call : Call) (reply : Reply) (numbers : List ℤ) → Step kind s call next reply → Changes (inside s numbers) (inside next numbers) call reply numbers) (h : List Event) where
   -- what is put in, and was there, is taken out, or still there
-  pub counted : (s t : State) (n : ℤ) (order : List Placed) → AllPairs (λ x y. x.at ≢ y.at) order → Runs (Step kind) h s order t
-      → (puts : List ℕ) × (takes : List ℕ) × Chosen (Puts h n) order puts × Chosen (TakesOut h n) order takes × (inside s n + length puts ≡ inside t n + length takes)
-  counted s t n [] once run = ([], [], chosen_empty (Puts h n), chosen_empty (TakesOut h n), ap (λ u. inside u n + 0) run)
-  counted s t n (q ∷ order) once run =
-      let rest = counted run.1 t n order (pairs_rest (λ x y. x.at ≢ y.at) q order once) run.4 in
+  pub counted : (s t : State) (ns : List ℤ) (order : List Placed) → AllPairs (λ x y. x.at ≢ y.at) order → Runs (Step kind) h s order t
+      → (puts : List ℕ) × (takes : List ℕ) × Chosen (Puts h ns) order puts × Chosen (TakesOut h ns) order takes × (inside s ns + length puts ≡ inside t ns + length takes)
+  counted s t ns [] once run = ([], [], chosen_empty (Puts h ns), chosen_empty (TakesOut h ns), ap (λ u. inside u ns + 0) run)
+  counted s t ns (q ∷ order) once run =
+      let rest = counted run.1 t ns order (pairs_rest (λ x y. x.at ≢ y.at) q order once) run.4 in
       let sum = rest.4 in
-      let no_put = λ (none : Adds run.0 n → ⊥) (is : Puts h n q). none (subst (λ c. Adds c n) (one_call h q.at is.0 run.0 is.1 run.2) is.2) in
-      let no_take = λ (none : Takes run.0 q.reply n → ⊥) (is : TakesOut h n q). none (subst (λ c. Takes c q.reply n) (one_call h q.at is.0 run.0 is.1 run.2) is.2) in
-      elim (each s run.1 run.0 q.reply n run.3) [
+      let no_put = λ (none : OfOne ns (Adds run.0) → ⊥) (is : Puts h ns q). none (subst (λ c. OfOne ns (Adds c)) (one_call h q.at is.0 run.0 is.1 run.2) is.2) in
+      let no_take = λ (none : OfOne ns (Takes run.0 q.reply) → ⊥) (is : TakesOut h ns q). none (subst (λ c. OfOne ns (Takes c q.reply)) (one_call h q.at is.0 run.0 is.1 run.2) is.2) in
+      elim (each s run.1 run.0 q.reply ns run.3) [
         | inl put ↦
             let more = put.2 in
-            (q.at ∷ rest.0, rest.1, chosen_one (Puts h n) q order rest.0 rest.2 once (run.0, run.2, put.0), chosen_other (TakesOut h n) q order rest.1 rest.3 (no_take put.1), omega (arith, more, sum))
+            (q.at ∷ rest.0, rest.1, chosen_one (Puts h ns) q order rest.0 rest.2 once (run.0, run.2, put.0), chosen_other (TakesOut h ns) q order rest.1 rest.3 (no_take put.1), omega (arith, more, sum))
         | inr other ↦ elim other [
           | inl taken ↦
               let fewer = taken.2 in
-              (rest.0, q.at ∷ rest.1, chosen_other (Puts h n) q order rest.0 rest.2 (no_put taken.1), chosen_one (TakesOut h n) q order rest.1 rest.3 once (run.0, run.2, taken.0), omega (arith, fewer, sum))
+              (rest.0, q.at ∷ rest.1, chosen_other (Puts h ns) q order rest.0 rest.2 (no_put taken.1), chosen_one (TakesOut h ns) q order rest.1 rest.3 once (run.0, run.2, taken.0), omega (arith, fewer, sum))
           | inr neither ↦
               let same = neither.2 in
-              (rest.0, rest.1, chosen_other (Puts h n) q order rest.0 rest.2 (no_put neither.0), chosen_other (TakesOut h n) q order rest.1 rest.3 (no_take neither.1), omega (arith, same, sum))
+              (rest.0, rest.1, chosen_other (Puts h ns) q order rest.0 rest.2 (no_put neither.0), chosen_other (TakesOut h ns) q order rest.1 rest.3 (no_take neither.1), omega (arith, same, sum))
         ]
       ]
 
-  module _ (begins : (n : ℤ) → inside (start kind) n ≡ 0) (order : List Placed) (legal : IsLegalOrderBy (start kind) (Step kind) h order) where
+  module _ (begins : (numbers : List ℤ) → inside (start kind) numbers ≡ 0) (order : List Placed) (legal : IsLegalOrderBy (start kind) (Step kind) h order) where
     none_failed : (p : Placed) → Contains order p → IsFailed h p.at → ⊥
     none_failed p there = All-contains (λ (x : Placed). IsFailed h x.at → ⊥) order p legal.order_of.none_failed there
 
     -- no number is taken out more often than it is put in
     pub overtaken : (n : ℤ) (puts takes : ℕ) → AtMost puts (MayPut h n) → AtLeast takes (Took h n) → puts < takes → ⊥
     overtaken n puts takes most least fewer =
-        let all = counted (start kind) legal.legal.0 n order legal.order_of.once legal.legal.1 in
-        let none = begins n in
+        let ns = n ∷ [] in
+        let all = counted (start kind) legal.legal.0 ns order legal.order_of.once legal.legal.1 in
+        let none = begins ns in
         let sum = all.4 in
-        let few = chosen_most (Puts h n) order all.0 all.2 (MayPut h n) (λ p there is. (is.0, is.1, is.2, none_failed p there)) puts most in
-        let many = chosen_least (TakesOut h n) order all.1 all.3 (Took h n)
-        (λ at took. (record { at = at; reply = took.1.1 }, legal.order_of.each_ok at took.0 took.1.1 tt took.1.3, (took.1.0, took.1.2, took.1.4), refl)) takes least in
+        let few = chosen_most (Puts h ns) order all.0 all.2 (MayPut h n)
+        (λ p there is. (is.0, is.1, subst (Adds is.0) (sym (one_alone n is.2.0 is.2.1)) is.2.2, none_failed p there)) puts most in
+        let many = chosen_least (TakesOut h ns) order all.1 all.3 (Took h n)
+        (λ at took. (record { at = at; reply = took.1.1 }, legal.order_of.each_ok at took.0 took.1.1 tt took.1.3, (took.1.0, took.1.2, (n, (0, omega arith, refl), took.1.4)), refl)) takes least in
         omega (arith, none, sum, few, many, fewer)
 
     -- round a dequeue that found nothing
-    module _ (n : ℤ) (before after : List Placed) (d : Placed) (split : order ≡ before ++ d ∷ after) (end : ℕ) (found : FoundNothing h d.at end) where
+    module _ (ns : List ℤ) (before after : List Placed) (d : Placed) (split : order ≡ before ++ d ∷ after) (end : ℕ) (found : FoundNothing h d.at end) where
       real_time : AllPairs (λ x y. IsBefore h y.at x.at → ⊥) (before ++ d ∷ after)
       real_time = subst (AllPairs (λ x y. IsBefore h y.at x.at → ⊥)) split legal.order_of.real_time
 
@@ -208,8 +210,10 @@ module _ (kind : Kind) (inside : State → ℤ → ℕ) (each : (s next : State)
       early p there = subst (λ l. Contains l p) (sym split) (Contains-append_left before (d ∷ after) p there)
 
       -- what is put in before it was invoked is put in ahead of it
-      put_ahead : (at : ℕ) → PutBefore h n d.at at → (p : Placed) × Contains before p × Puts h n p × (p.at ≡ at)
-      put_ahead at put =
+      put_ahead : (at : ℕ) → OfOne ns (λ n. PutBefore h n d.at at) → (p : Placed) × Contains before p × Puts h ns p × (p.at ≡ at)
+      put_ahead at one =
+          let n = one.0 in
+          let put = one.2 in
           let p : Placed = record { at = at; reply = put.1.1 } in
           let there = subst (λ l. Contains l p) split (legal.order_of.each_ok at put.0 put.1.1 tt put.1.3) in (
             p,
@@ -222,40 +226,45 @@ module _ (kind : Kind) (inside : State → ℤ → ℕ) (each : (s next : State)
                     absurd (across (λ x y. IsBefore h y.at x.at → ⊥) (before ++ d ∷ []) after d p apart (Contains-append_right before (d ∷ []) d (0, omega arith, refl)) later (put.0, put.1.1, put.1.3, put.2))
               ]
             ],
-            (put.1.0, put.1.2, put.1.4),
+            (put.1.0, put.1.2, (n, one.1, put.1.4)),
             refl,
           )
 
       -- what is taken out ahead of it was invoked before it returned
-      taken_ahead : (p : Placed) → Contains before p → TakesOut h n p → MayTakeBy h n end p.at
+      taken_ahead : (p : Placed) → Contains before p → TakesOut h ns p → OfOne ns (λ n. MayTakeBy h n end p.at)
       taken_ahead p there is =
-          let call = takes_call is.0 p.reply n is.2 in (
-            elim (cases_lt end p.at) [
-              | inl later ↦ absurd (across (λ x y. IsBefore h y.at x.at → ⊥) before (d ∷ after) p d real_time there (0, omega arith, refl) (end, Replied.Value Nil, found.1, later))
-              | inr sooner ↦ sooner
-            ],
-            subst (IsCall h p.at) call is.1,
-            λ left. elim left [
-              | inl failed ↦ none_failed p (early p there) failed
-              | inr known ↦
-                  let same = one_reply order legal.order_of.once p (record { at = p.at; reply = known.1 }) (early p there) (legal.order_of.each_ok p.at known.0 known.1 tt known.2) refl in
-                  known.3 (subst (λ r. Takes Dequeue r n) same (subst (λ c. Takes c p.reply n) call is.2))
-            ],
+          let n = is.2.0 in
+          let call = takes_call is.0 p.reply n is.2.2 in (
+            n,
+            is.2.1,
+            (
+              elim (cases_lt end p.at) [
+                | inl later ↦ absurd (across (λ x y. IsBefore h y.at x.at → ⊥) before (d ∷ after) p d real_time there (0, omega arith, refl) (end, Replied.Value Nil, found.1, later))
+                | inr sooner ↦ sooner
+              ],
+              subst (IsCall h p.at) call is.1,
+              λ left. elim left [
+                | inl failed ↦ none_failed p (early p there) failed
+                | inr known ↦
+                    let same = one_reply order legal.order_of.once p (record { at = p.at; reply = known.1 }) (early p there) (legal.order_of.each_ok p.at known.0 known.1 tt known.2) refl in
+                    known.3 (subst (λ r. Takes Dequeue r n) same (subst (λ c. Takes c p.reply n) call is.2.2))
+              ],
+            ),
           )
 
-    -- a dequeue that found nothing found each number taken out as often as it was put in
-    pub left_inside : (empties : (s next : State) (n : ℤ) → Step kind s Dequeue next (Replied.Value Nil) → inside s n ≡ 0) (n : ℤ) (at end puts takes : ℕ)
-        → FoundNothing h at end → AtMost takes (MayTakeBy h n end) → AtLeast puts (PutBefore h n at) → takes < puts → ⊥
-    left_inside empties n at end puts takes found most least fewer =
+    -- ahead of a dequeue that found nothing, as many of the numbers were taken out as put in
+    pub left_inside : (empties : (s next : State) (numbers : List ℤ) → Step kind s Dequeue next (Replied.Value Nil) → inside s numbers ≡ 0) (ns : List ℤ) (at end puts takes : ℕ)
+        → FoundNothing h at end → AtMost takes (λ x. OfOne ns (λ n. MayTakeBy h n end x)) → AtLeast puts (λ x. OfOne ns (λ n. PutBefore h n at x)) → takes < puts → ⊥
+    left_inside empties ns at end puts takes found most least fewer =
         let d : Placed = record { at = at; reply = Replied.Value Nil } in
         let parts = parted order d (legal.order_of.each_ok at end (Replied.Value Nil) tt found.1) in
         let run = runs_split (Step kind) h (start kind) legal.legal.0 parts.0 (d ∷ parts.1) (subst (λ l. Runs (Step kind) h (start kind) l legal.legal.0) parts.2 legal.legal.1) in
         let step = subst (λ c. Step kind run.0 c run.2.1 (Replied.Value Nil)) (one_call h at run.2.0 Dequeue run.2.2 found.0) run.2.3 in
-        let empty = empties run.0 run.2.1 n step in
+        let empty = empties run.0 run.2.1 ns step in
         let once = pairs_left (λ (x y : Placed). x.at ≢ y.at) parts.0 (d ∷ parts.1) (subst (AllPairs (λ x y. x.at ≢ y.at)) parts.2 legal.order_of.once) in
-        let all = counted (start kind) run.0 n parts.0 once run.1 in
-        let none = begins n in
+        let all = counted (start kind) run.0 ns parts.0 once run.1 in
+        let none = begins ns in
         let sum = all.4 in
-        let many = chosen_least (Puts h n) parts.0 all.0 all.2 (PutBefore h n at) (put_ahead n parts.0 parts.1 d parts.2 end found) puts least in
-        let few = chosen_most (TakesOut h n) parts.0 all.1 all.3 (MayTakeBy h n end) (taken_ahead n parts.0 parts.1 d parts.2 end found) takes most in
+        let many = chosen_least (Puts h ns) parts.0 all.0 all.2 (λ x. OfOne ns (λ n. PutBefore h n at x)) (put_ahead ns parts.0 parts.1 d parts.2 end found) puts least in
+        let few = chosen_most (TakesOut h ns) parts.0 all.1 all.3 (λ x. OfOne ns (λ n. MayTakeBy h n end x)) (taken_ahead ns parts.0 parts.1 d parts.2 end found) takes most in
         omega (arith, none, empty, sum, few, many, fewer)

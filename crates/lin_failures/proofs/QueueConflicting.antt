@@ -30,7 +30,7 @@ abbrev InQueue : State → ℤ → Type 0
 InQueue (Queue q) n = Contains q n
 InQueue state n = ⊥
 
-one_alone : (x n : ℤ) → Contains (x ∷ []) n → x ≡ n
+pub one_alone : (x n : ℤ) → Contains (x ∷ []) n → x ≡ n
 one_alone x n there = elim (first_or_rest x [] n there) [
   | inl same ↦ same
   | inr none ↦ absurd (nothing_in n none)

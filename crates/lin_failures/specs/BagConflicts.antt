@@ -1,5 +1,5 @@
--- Operations of a bag that can't stand in one legal order: no number is taken out more often than it is put in, and a dequeue that
--- found nothing found each number taken out as often.
+-- Operations of a bag that can't stand in one legal order: no number is taken out more often than it is put in, and ahead of a dequeue
+-- that found nothing all that was put in was taken out.
 use Rattle.std.specs.Prelude.{◌≡◌, ◌≢◌, ◌<◌, ◌≤◌, ℕ, ℤ, List, All, AllPairs, Contains, length}
 use Rattle.lin_events.specs.declared.calls.Call.{Call}
 use Rattle.lin_events.specs.declared.calls.Call.TheVariants.{Dequeue}
@@ -18,6 +18,10 @@ AtLeast k P = (places : List ℕ) × (length places ≡ k) × AllPairs ◌≢◌
 -- at most so many places are such
 abbrev pub AtMost : ℕ → (ℕ → Type 0) → Type 0
 AtMost k P = (places : List ℕ) × (length places ≡ k) × ((at : ℕ) → P at → Contains places at)
+
+-- one of the numbers is such
+abbrev pub OfOne : List ℤ → (ℤ → Type 0) → Type 0
+OfOne numbers P = (n : ℤ) × Contains numbers n × P n
 
 -- the operation may put the number in: it isn't known to have failed
 abbrev pub MayPut : List Event → ℤ → ℕ → Type 0

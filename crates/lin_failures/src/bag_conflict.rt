@@ -2,7 +2,7 @@
 ghost use Rattle.std.specs.Prelude.{◌≡◌, ◌<◌, IfSome, IsTrue, false, length};
 ghost use Rattle.lin_objects.specs.declared.kinds.Kind.TheVariants.{Bag};
 ghost use Rattle.lin_orders.specs.Linearizable.{IsLinearizableAs};
-ghost use Rattle.lin_failures.specs.BagConflicts.{AtLeast, AtMost, FoundNothing, MayPut, MayTakeBy, PutBefore, Took};
+ghost use Rattle.lin_failures.specs.BagConflicts.{AtLeast, AtMost, FoundNothing, MayPut, MayTakeBy, OfOne, PutBefore, Took};
 
 use crate::adds::is_add_at;
 use crate::conflict::{invocation_at, ok_of};
@@ -10,13 +10,13 @@ use crate::queue_conflict::{is_taking_at, put_at, took_at};
 use lin_events::{Call, Event, Reply, Val};
 
 /// Why a bag has no legal order.
-#[derive(Clone, Copy, Debug, PartialEq, Eq)]
+#[derive(Drop)]
 pub enum BagConflict {
     /// The number was taken out more often than it can have been put in.
     Overtaken { number: i64 },
-    /// The dequeue that was invoked there found nothing, and the number was in the bag: it was put in before more often than it can have
-    /// been taken out until that returned.
-    Inside { dequeue: usize, number: i64 },
+    /// The dequeue that was invoked there found nothing, and some of these numbers were in the bag: they were put in before more often than
+    /// they can have been taken out until that returned.
+    Inside { dequeue: usize, numbers: Vec<i64> },
 }
 
 /// Whether the operation at the place is known to be ok, and took the number out.
@@ -50,6 +50,31 @@ fn may_take_by(events: &[Event], at: usize, number: i64, place: usize) -> bool
     is_taking_at(events, at, number)
 }
 
+/// Whether the operation at the place put one of the numbers in, and was known to be ok before this one.
+fn is_one_put_before(events: &[Event], at: usize, numbers: &[i64], place: usize) -> bool
+    ensures { IsTrue result → OfOne numbers.now (λ n. PutBefore events.now n place at) }
+{
+    for i in 0..numbers.len() {
+        if is_put_before(events, at, numbers[i], place) {
+            return true;
+        }
+    }
+    false
+}
+
+/// Whether the event at the one place is the invocation of a dequeue that may take one of the numbers out, and stands up to the other place.
+fn may_take_one_by(events: &[Event], at: usize, numbers: &[i64], place: usize) -> bool
+    requires { at < length events.now }
+    ensures { result ≡ false → OfOne numbers.now (λ n. MayTakeBy events.now n place at) → ⊥ }
+{
+    for i in 0..numbers.len() {
+        if may_take_by(events, at, numbers[i], place) {
+            return true;
+        }
+    }
+    false
+}
+
 /// How many operations may put the number in.
 fn puts_of(events: &[Event], number: i64) -> usize
     ensures { AtMost result (MayPut events.now number) }
@@ -76,26 +101,26 @@ fn takes_of(events: &[Event], number: i64) -> usize
     takes
 }
 
-/// How many operations put the number in, and were known to be ok before the place.
-fn puts_before(events: &[Event], number: i64, place: usize) -> usize
-    ensures { AtLeast result (PutBefore events.now number place) }
+/// How many operations put one of the numbers in, and were known to be ok before the place.
+fn puts_before(events: &[Event], numbers: &[i64], place: usize) -> usize
+    ensures { AtLeast result (λ at. OfOne numbers.now (λ n. PutBefore events.now n place at)) }
 {
     let mut puts = 0;
     for at in 0..events.len() {
-        if is_put_before(events, at, number, place) {
+        if is_one_put_before(events, at, numbers, place) {
             puts += 1;
         }
     }
     puts
 }
 
-/// How many dequeues that were invoked up to and with the place may take the number out.
-fn takes_by(events: &[Event], number: i64, place: usize) -> usize
-    ensures { AtMost result (MayTakeBy events.now number place) }
+/// How many dequeues that were invoked up to and with the place may take one of the numbers out.
+fn takes_by(events: &[Event], numbers: &[i64], place: usize) -> usize
+    ensures { AtMost result (λ at. OfOne numbers.now (λ n. MayTakeBy events.now n place at)) }
 {
     let mut takes = 0;
     for at in 0..events.len() {
-        if may_take_by(events, at, number, place) {
+        if may_take_one_by(events, at, numbers, place) {
             takes += 1;
         }
     }
@@ -127,14 +152,14 @@ fn is_overtaken(events: &[Event], number: i64) -> bool
     puts_of(events, number) < takes_of(events, number)
 }
 
-/// Whether the dequeue found nothing, and the number was in the bag.
-fn is_inside(events: &[Event], dequeue: usize, number: i64) -> bool
+/// Whether the dequeue found nothing, and some of the numbers were in the bag.
+fn is_inside(events: &[Event], dequeue: usize, numbers: &[i64]) -> bool
     ensures { IsTrue result → IsLinearizableAs Bag events.now → ⊥ }
 {
     let Some(end) = found_nothing(events, dequeue) else {
         return false;
     };
-    takes_by(events, number, end) < puts_before(events, number, dequeue)
+    takes_by(events, numbers, end) < puts_before(events, numbers, dequeue)
 }
 
 /// Whether the events are such, so that no bag has a legal order of them.
@@ -143,6 +168,8 @@ pub fn is_bag_refuted(events: &[Event], conflict: &BagConflict) -> bool
 {
     match conflict {
         BagConflict::Overtaken { number } => is_overtaken(events, *number),
-        BagConflict::Inside { dequeue, number } => is_inside(events, *dequeue, *number),
+        BagConflict::Inside { dequeue, numbers } => {
+            is_inside(events, *dequeue, numbers.as_slice())
+        }
     }
 }

@@ -42,18 +42,22 @@ impl Vain {
         }
     }
 
-    /// A number that is left more often than open dequeues can have taken it out.
-    fn conflict(&self) -> Option<BagConflict> {
-        for number in &self.left {
-            let times = self.left.iter().filter(|other| **other == *number).count();
-            if times > self.open {
-                return Some(BagConflict::Inside {
-                    dequeue: self.dequeue,
-                    number: *number,
-                });
-            }
+    /// Numbers that are left more often than open dequeues can have taken them out.
+    fn conflict(&self, alloc: Global) -> Result<Option<BagConflict>, OutOfMemory> {
+        if self.left.len() <= self.open {
+            return Ok(None);
         }
-        None
+        let mut numbers = Vec::new(alloc);
+        for number in &self.left {
+            if numbers.len() > self.open {
+                break;
+            }
+            numbers.push(*number)?;
+        }
+        Ok(Some(BagConflict::Inside {
+            dequeue: self.dequeue,
+            numbers,
+        }))
     }
 }
 
@@ -69,8 +73,6 @@ struct Search {
     open: usize,
     /// The latest operation of each process.
     latest: HashMap<u64, (usize, Call)>,
-    /// Whether there is no legal order, even if no conflict shows it.
-    is_over: bool,
 }
 
 impl Search {
@@ -81,7 +83,6 @@ impl Search {
             vain: Vec::new(alloc),
             open: 0,
             latest: HashMap::new(alloc),
-            is_over: false,
         }
     }
 
@@ -153,7 +154,12 @@ impl Search {
     }
 
     /// The dequeue is no longer open, and took out this number, or none.
-    fn settle(&mut self, dequeue: usize, taken: Option<i64>) -> Option<BagConflict> {
+    fn settle(
+        &mut self,
+        alloc: Global,
+        dequeue: usize,
+        taken: Option<i64>,
+    ) -> Result<Option<BagConflict>, OutOfMemory> {
         self.open = self.open.saturating_sub(1);
         let from = self
             .vain
@@ -161,13 +167,11 @@ impl Search {
             .min(self.vain.len());
         for vain in &mut self.vain[from..] {
             vain.settle(taken);
-            let conflict = vain.conflict();
-            if conflict.is_some() {
-                return conflict;
+            if let Some(conflict) = vain.conflict(alloc)? {
+                return Ok(Some(conflict));
             }
-            self.is_over |= vain.left.len() > vain.open;
         }
-        None
+        Ok(None)
     }
 
     /// The dequeue returned at the place and found nothing.
@@ -189,8 +193,7 @@ impl Search {
             }
             vain.left.push(*number)?;
         }
-        let conflict = vain.conflict();
-        self.is_over |= vain.left.len() > vain.open;
+        let conflict = vain.conflict(alloc)?;
         self.vain.push(vain)?;
         Ok(conflict)
     }
@@ -204,14 +207,14 @@ impl Search {
         at: usize,
     ) -> Result<Option<BagConflict>, OutOfMemory> {
         let Val::Int(number) = found else {
-            return match self.settle(dequeue, None) {
+            return match self.settle(alloc, dequeue, None)? {
                 Some(conflict) => Ok(Some(conflict)),
                 None => self.find_nothing(alloc, dequeue, at),
             };
         };
         match self.take_out(number) {
             Some(conflict) => Ok(Some(conflict)),
-            None => Ok(self.settle(dequeue, Some(number))),
+            None => self.settle(alloc, dequeue, Some(number)),
         }
     }
 
@@ -236,7 +239,7 @@ impl Search {
                 Ok(None)
             }
             (Body::Fail(_), Call::Enqueue(number)) => Ok(self.not_put(number)),
-            (Body::Fail(_), _) => Ok(self.settle(operation, None)),
+            (Body::Fail(_), _) => self.settle(alloc, operation, None),
             _ => Ok(None),
         }
     }
@@ -251,9 +254,6 @@ pub fn bag_failure(
     for (at, event) in events.iter().enumerate() {
         if let Some(conflict) = search.take_in(alloc, at, event)? {
             return Ok(Some((at, conflict)));
-        }
-        if search.is_over {
-            return Ok(None);
         }
     }
     Ok(None)

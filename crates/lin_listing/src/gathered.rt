@@ -140,6 +140,26 @@ impl<O: SeqObject> Gathered<O> {
         self.is_known(config) || self.is_covered(pending, config)
     }
 
+    /// The member put last, and its configuration, which is known from then on.
+    fn put(&mut self, member: Member<O::State>, config: Config<O::State>) -> Result<(), OutOfMemory>
+        requires of { config ≡ config_of member }
+        requires new { Contains (map config_of self.old) (config_of member) → ⊥ }
+        ensures { OnOk result (self.new ≡ self.old ++ member ∷ []) }
+    {
+        match self.members.push(member) {
+            Ok(()) => {}
+            Err(_) => return Err(OutOfMemory),
+        }
+        match self.configs.insert(config, ()) {
+            Ok(_) => {}
+            Err(_) => {
+                self.members.pop();
+                return Err(OutOfMemory);
+            }
+        }
+        Ok(())
+    }
+
     /// One more member, put last.
     pub fn push(
         &mut self,
@@ -153,17 +173,7 @@ impl<O: SeqObject> Gathered<O> {
     {
         let config = copy_config(object, alloc, member.config())?;
         let place = place_key(pending, member.config());
-        match self.members.push(member) {
-            Ok(()) => {}
-            Err(_) => return Err(OutOfMemory),
-        }
-        match self.configs.insert(config, ()) {
-            Ok(_) => {}
-            Err(_) => {
-                self.members.pop();
-                return Err(OutOfMemory);
-            }
-        }
+        self.put(member, config)?;
         self.places.note(alloc, place)
     }
 }

@@ -21,6 +21,20 @@ use lin_members::{
 use lin_objects::SeqObject;
 use std::alloc::Global;
 
+/// The member alone, with nothing on offer.
+fn alone<O: SeqObject>(
+    object: &O,
+    alloc: Global,
+    pending: &Pending,
+    member: &Member<O::State>,
+) -> Result<Gathered<O>, OutOfMemory>
+    ensures { IfOk result (λ one. one ≡ with_offers [] member.now ∷ []) }
+{
+    let mut one = Gathered::new(alloc);
+    one.push(object, alloc, pending, bare(object, alloc, member)?)?;
+    Ok(one)
+}
+
 /// The member with each choice among what is on offer to it, or `None` where these are more than the budget.
 fn spread<O: SeqObject>(
     object: &O,
@@ -38,8 +52,7 @@ fn spread<O: SeqObject>(
         → IsSpelled (O.starts object.now) (O.step object.now) (O.observing object.now) h nodes.old member.now → IsOver (O.starts object.now) (O.step object.now) h budget)) }
     ensures tried { IsTriedAtMost 0 meter.old meter.new }
 {
-    let mut starts = Gathered::new(alloc);
-    starts.push(object, alloc, pending, bare(object, alloc, member)?)?;
+    let starts = alone(object, alloc, pending, member)?;
     let choices = Expansion {
         object,
         pending,

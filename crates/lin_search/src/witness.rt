@@ -148,7 +148,7 @@ pub fn finds_order(
 }
 
 /// Why an object has no legal order.
-#[derive(Clone, Copy)]
+#[derive(Drop)]
 enum Reason {
     Register(Conflict),
     Queue(QueueConflict),

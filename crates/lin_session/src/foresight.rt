@@ -20,7 +20,7 @@ use std::alloc::Global;
 /// Whether searches are asked before the chain of an object of the kind: of the others, frontiers have fewer members, or a search
 /// seldom tells more.
 pub(crate) fn is_searched_first(kind: Kind) -> bool {
-    matches!(kind, Kind::Fifo | Kind::Set)
+    matches!(kind, Kind::Fifo | Kind::Bag | Kind::Set)
 }
 
 impl Objects {

@@ -1,4 +1,5 @@
-use Rattle.std.proofs.Common.{◌≢◌, AllPairs, subst, sym, ap, ◌∙◌}
+use Rattle.std.proofs.Common.{◌≢◌, AllPairs, subst, sym, ap, ◌∙◌, arith}
+use Rattle.std.proofs.lemmas.Grind.{common_steps}
 use Rattle.lin_frontier.specs.declared.pending.Open.{Open}
 use Rattle.lin_listing.specs.Branches.{IsUntold}
 use Rattle.lin_listing.proofs.Branched.{differ_push, picked_in, picked_out}
@@ -20,3 +21,6 @@ loop-operation-preserved g c =
         differ = subst (AllPairs (λ (o p : Open). o.call ≢ p.call)) (sym (ap (λ l. l.items) w.out-is)) c.loop-operation.invariant.differ;
       }
     ]
+
+pub returns-clause-picked : goal.returns-clause-picked
+returns-clause-picked g c = grind (arith, common_steps)

@@ -1,4 +1,4 @@
-use Rattle.std.proofs.Common.{◌≡◌, [], ◌∷◌, ◌++◌, subst, sym, ◌∙◌, ap}
+use Rattle.std.proofs.Common.{[], subst, sym}
 use Rattle.lin_members.specs.Listed.{with_offers, AreDifferent}
 use Rattle.lin_listing.proofs.Merging.{none_maps, alone_different, alone_spelled}
 use Rattle.lin_listing.proofs.listing.spread.Goals as goal
@@ -8,8 +8,7 @@ returns-clause-worked_off g c = rw c.offers.ensures at c.in_ok-found.ensures.wor
 
 pub returns-clause-over : goal.returns-clause-over
 returns-clause-over g c =
-    let one : c.push.new.self ≡ with_offers [] c.args.member.now ∷ [] =
-    c.in_ok-push.ensures ∙ ap (λ l. l ++ c.in_ok-bare.field-0 ∷ []) c.new-starts.ensures ∙ ap (λ m. m ∷ []) c.in_ok-bare.ensures in
+    let one = c.in_ok-starts.ensures in
     none_maps c.in_ok-found.found (λ over functions h well_formed opened spelled. over functions h well_formed opened
-    (alone_spelled _ _ _ h c.args.nodes.now c.args.member.now c.push.new.self one spelled) (subst AreDifferent (sym one) (alone_different (with_offers [] c.args.member.now))))
+    (alone_spelled _ _ _ h c.args.nodes.now c.args.member.now c.in_ok-starts.starts one spelled) (subst AreDifferent (sym one) (alone_different (with_offers [] c.args.member.now))))
     (rw c.offers.ensures at c.in_ok-found.ensures.over)

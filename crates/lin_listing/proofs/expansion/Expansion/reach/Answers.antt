@@ -1,4 +1,5 @@
 use Rattle.std.proofs.Common.{◌+◌, arith, sym, subst, ◌∙◌, ℕ, List, [], Contains}
+use Rattle.std.proofs.lemmas.Result.{IfOk-from_err}
 use Rattle.std.proofs.lemmas.Option.{get_or_from_slice_get}
 use Rattle.lin_events.specs.declared.calls.Reply.{Reply}
 use Rattle.lin_members.specs.declared.members.Path.{Path}
@@ -88,3 +89,27 @@ returns-clause-worked_off g c =
 
 pub returns-clause-tried : goal.returns-clause-tried
 returns-clause-tried g c = tried_turns c.loop-member.at c.args.budget (placing_tries c.args.self.now.places c.args.self.now.pending.now) _ _ (omega (arith, c.loop-member.invariant.within, c.loop-member.invariant.small)) c.loop-member.invariant.tried
+
+pub returns-in_err-config-clause-extended : goal.returns-in_err-config-clause-extended
+returns-in_err-config-clause-extended g c = IfOk-from_err _ _ c.from_residual.ensures.0
+
+pub returns-in_err-config-clause-over : goal.returns-in_err-config-clause-over
+returns-in_err-config-clause-over g c = IfOk-from_err _ _ c.from_residual.ensures.0
+
+pub returns-in_err-config-clause-small : goal.returns-in_err-config-clause-small
+returns-in_err-config-clause-small g c = IfOk-from_err _ _ c.from_residual.ensures.0
+
+pub returns-in_err-config-clause-worked_off : goal.returns-in_err-config-clause-worked_off
+returns-in_err-config-clause-worked_off g c = IfOk-from_err _ _ c.from_residual.ensures.0
+
+pub returns-in_err-work_off-clause-extended : goal.returns-in_err-work_off-clause-extended
+returns-in_err-work_off-clause-extended g c = IfOk-from_err _ _ c.from_residual-in_err-work_off.ensures.0
+
+pub returns-in_err-work_off-clause-over : goal.returns-in_err-work_off-clause-over
+returns-in_err-work_off-clause-over g c = IfOk-from_err _ _ c.from_residual-in_err-work_off.ensures.0
+
+pub returns-in_err-work_off-clause-small : goal.returns-in_err-work_off-clause-small
+returns-in_err-work_off-clause-small g c = IfOk-from_err _ _ c.from_residual-in_err-work_off.ensures.0
+
+pub returns-in_err-work_off-clause-worked_off : goal.returns-in_err-work_off-clause-worked_off
+returns-in_err-work_off-clause-worked_off g c = IfOk-from_err _ _ c.from_residual-in_err-work_off.ensures.0

@@ -1,4 +1,5 @@
-use Rattle.std.proofs.Common.{get_or}
+use Rattle.std.proofs.Common.{get_or, arith}
+use Rattle.std.proofs.lemmas.Grind.{common_steps}
 use Rattle.lin_listing.proofs.Expanding.{extended_both, taken_still, tried_where}
 use Rattle.lin_listing.proofs.expansion.Expansion.work_off.Goals as goal
 
@@ -11,3 +12,9 @@ returns-in_ok-place_all-clause-taken g c k d inside =
 
 pub returns-in_ok-place_all-clause-tried : goal.returns-in_ok-place_all-clause-tried
 returns-in_ok-place_all-clause-tried g c = tried_where c.args.self.now.places c.args.self.now.pending.now _ _ c.if-self.true c.place_all.ensures.tried
+
+pub returns-in_err-place_all-clause-grown : goal.returns-in_err-place_all-clause-grown
+returns-in_err-place_all-clause-grown g c = grind (arith, common_steps)
+
+pub returns-in_ok-place_all-clause-grown : goal.returns-in_ok-place_all-clause-grown
+returns-in_ok-place_all-clause-grown g c = grind (arith, common_steps)

@@ -1,6 +1,6 @@
 use Rattle.std.proofs.Common.{ℕ, length, vec_len}
 use Rattle.lin_compressed.proofs.Placings.{AskedAhead, IsAsking, IsCounting}
-use Rattle.lin_compressed.proofs.completions.Completion.ask_all_ahead.Given as goal
+use Rattle.lin_compressed.proofs.completions.Completion.ask_all_beside.Given as goal
 
 abbrev pub invariant-loop-config : goal.invariant-loop-config
 invariant-loop-config g l = record {
