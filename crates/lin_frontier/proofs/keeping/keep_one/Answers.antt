@@ -1,5 +1,3 @@
-use Rattle.std.proofs.Common.{◌≡◌, sym}
-use Rattle.std.proofs.lemmas.Result.{on_ok_weaker}
 use Rattle.lin_frontier.specs.Sameness.{config_same}
 use Rattle.lin_frontier.proofs.Entries.{keeping_in, keeping_out, left_some, left_none}
 use Rattle.lin_frontier.proofs.keeping.keep_one.Goals as goal

@@ -32,16 +32,16 @@ pub returns-else-is_empty-clause-some : goal.returns-else-is_empty-clause-some
 returns-else-is_empty-clause-some g c = grind (arith, common_steps)
 
 pub returns-in-Err-clause-grown : goal.returns-in-Err-clause-grown
-returns-in-Err-clause-grown g c = grind (arith, common_steps)
+returns-in-Err-clause-grown g c = ([], (c.cut-in-Err.ensures ∙ ap (λ n. take n c.next_configs.new.nodes) c.len-count.ensures) ∙ cut_back c.args.nodes.now c.next_configs.new.nodes c.next_configs.ensures.grown ∙ sym (append-nil c.args.nodes.now))
 
 pub returns-in-Err-clause-refused : goal.returns-in-Err-clause-refused
-returns-in-Err-clause-refused g c = grind (arith, common_steps)
+returns-in-Err-clause-refused g c = (c.cut-in-Err.ensures ∙ ap (λ n. take n c.next_configs.new.nodes) c.len-count.ensures) ∙ cut_back c.args.nodes.now c.next_configs.new.nodes c.next_configs.ensures.grown
 
 pub returns-in-Ok-None-clause-grown : goal.returns-in-Ok-None-clause-grown
-returns-in-Ok-None-clause-grown g c = grind (arith, common_steps)
+returns-in-Ok-None-clause-grown g c = ([], (c.cut-in-Ok-None.ensures ∙ ap (λ n. take n c.next_configs.new.nodes) c.len-count.ensures) ∙ cut_back c.args.nodes.now c.next_configs.new.nodes c.next_configs.ensures.grown ∙ sym (append-nil c.args.nodes.now))
 
 pub returns-in-Ok-None-clause-kept : goal.returns-in-Ok-None-clause-kept
-returns-in-Ok-None-clause-kept g c = grind (arith, common_steps)
+returns-in-Ok-None-clause-kept g c _ = (c.cut-in-Ok-None.ensures ∙ ap (λ n. take n c.next_configs.new.nodes) c.len-count.ensures) ∙ cut_back c.args.nodes.now c.next_configs.new.nodes c.next_configs.ensures.grown
 
 pub returns-then-is_empty-clause-kept : goal.returns-then-is_empty-clause-kept
-returns-then-is_empty-clause-kept g c = grind (arith, common_steps)
+returns-then-is_empty-clause-kept g c _ = (c.cut.ensures ∙ ap (λ n. take n c.next_configs.new.nodes) c.len-count.ensures) ∙ cut_back c.args.nodes.now c.next_configs.new.nodes c.next_configs.ensures.grown
