@@ -1,11 +1,13 @@
 #!/usr/bin/env bash
-# The whole gate: each proof from nothing, the tests that are written in Rattle and the stored runs of the programs; then the edits that have
-# to be refused, what crates cite of one another, and the built program on rows of data, on the README's commands, on generated histories, on
-# random edit scripts and with each growth of memory refused, and a plain text of the rules of refutations beside it. The last line counts all.
+# The whole gate: each proof from nothing, the tests that are written in Rattle and the stored runs of the programs, and beside these the edits
+# that have to be refused; then what crates cite of one another, and the built program on rows of data, on the commands that pages show, on generated
+# histories, on random edit scripts and with each growth of memory refused, and a plain text of the rules of refutations beside it. The last
+# line counts all.
 set -u
 cd "$(dirname "$0")"
-log=$(mktemp)
-trap 'rm -f "$log"' EXIT
+room=$(mktemp -d)
+log=$room/log
+: > "$log"
 
 # By itself rt sets far more memory aside for a large crate than its check takes, and leaves processors idle meanwhile.
 memory=$(($(awk '/^MemAvailable/ { print $2 }' /proc/meminfo) * 1024))
@@ -15,11 +17,19 @@ checks=$((memory / 5000000000))
 [ "$checks" -gt "$(nproc)" ] && checks=$(nproc)
 [ "$checks" -lt 1 ] && checks=1
 
+# The edits are tried on what the proofs leave idle of the processors.
+TMPDIR=$room tests/must_fail.py --follow "$log" > "$room/tried" 2>&1 &
+edits=$!
+trap 'kill "$edits" 2> /dev/null; wait; rm -rf "$room"' EXIT
+
 RT_JOBS=${RT_JOBS:-$checks} rt ci | tee "$log"
 [ "${PIPESTATUS[0]}" = 0 ] || exit 1
-for script in tests/imports.py tests/rows.py tests/readme.sh tests/generated.sh tests/edits.py tests/growths.py tests/refutations.py tests/must_fail.py; do
+for script in tests/imports.py tests/rows.py tests/readme.sh tests/generated.sh tests/edits.py tests/growths.py tests/refutations.py; do
     echo "== $script"
     "$script" | tee -a "$log"
     [ "${PIPESTATUS[0]}" = 0 ] || exit 1
 done
+echo "== tests/must_fail.py"
+tail -n +1 -f --pid="$edits" "$room/tried" | tee -a "$log"
+wait "$edits" || exit 1
 awk '/^[0-9]+ passed, [0-9]+ failed$/ { passed += $1; failed += $3 } END { printf "%d passed, %d failed\n", passed, failed }' "$log"

@@ -12,32 +12,34 @@ import random
 import subprocess
 import sys
 
-KINDS = ['register', 'cas-register', 'fifo', 'set', 'mutex']
+KINDS = ['register', 'cas-register', 'fifo', 'set', 'mutex', 'unordered-queue']
 NAMES = {'register': ['read', 'write'], 'cas-register': ['read', 'write', 'cas'], 'fifo': ['enqueue', 'dequeue'],
-         'set': ['read', 'add'], 'mutex': ['acquire', 'release']}
+         'set': ['read', 'add'], 'mutex': ['acquire', 'release'], 'unordered-queue': ['enqueue', 'dequeue']}
 CAUSES = ['RetiredProcess', 'BusyProcess', 'NotOfKind', 'NoInvocation', 'OtherCall', 'OtherKey']
-START = {'register': None, 'cas-register': None, 'fifo': (), 'set': frozenset(), 'mutex': False}
+START = {'register': None, 'cas-register': None, 'fifo': (), 'set': frozenset(), 'mutex': False, 'unordered-queue': ()}
 
 
-def step(kind, state, name, value):
-    """The next state and the reply, or None where the call isn't enabled. Each call has one outcome at most."""
+def steps(kind, state, name, value):
+    """The outcomes of a call, each a next state and a reply. A state of an unordered queue is its members, sorted."""
     if name not in NAMES[kind]:
-        return None
+        return []
     if kind in ('register', 'cas-register'):
         if name == 'read':
-            return state, ('value', state)
+            return [(state, ('value', state))]
         if name == 'write':
-            return value, 'done'
-        return (value[1], 'done') if state == value[0] else None
+            return [(value, 'done')]
+        return [(value[1], 'done')] if state == value[0] else []
+    if kind in ('fifo', 'unordered-queue') and name == 'dequeue' and not state:
+        return [(state, ('value', None))]
     if kind == 'fifo':
+        return [(state + (value,), 'done')] if name == 'enqueue' else [(state[1:], ('value', state[0]))]
+    if kind == 'unordered-queue':
         if name == 'enqueue':
-            return state + (value,), 'done'
-        return (state[1:], ('value', state[0])) if state else (state, ('value', None))
+            return [(tuple(sorted(state + (value,))), 'done')]
+        return [(state[:i] + state[i + 1:], ('value', v)) for i, v in enumerate(state) if v not in state[:i]]
     if kind == 'set':
-        return (state | {value}, 'done') if name == 'add' else (state, ('members', state))
-    if name == 'acquire':
-        return (True, 'done') if not state else None
-    return (False, 'done') if state else None
+        return [(state | {value}, 'done') if name == 'add' else (state, ('members', state))]
+    return [(not state, 'done')] if state == (name == 'release') else []
 
 
 class Event:
@@ -116,15 +118,11 @@ def configurations(kind, events):
             # and it must not stand behind what it ended ahead of
             if o[2] == 'ok' and any(p > o[1] for p in placed):
                 continue
-            outcome = step(kind, state, events[o[0]].name, events[o[0]].value)
-            if outcome is None:
-                continue
-            if o[2] == 'ok':
-                if outcome[1] != events[o[1]].reply():
-                    continue
-                visit(placed | {o[0]}, replies, outcome[0])
-            else:
-                visit(placed | {o[0]}, replies | {(events[o[0]].process, outcome[1])}, outcome[0])
+            for after, reply in steps(kind, state, events[o[0]].name, events[o[0]].value):
+                if o[2] != 'ok':
+                    visit(placed | {o[0]}, replies | {(events[o[0]].process, reply)}, after)
+                elif reply == events[o[1]].reply():
+                    visit(placed | {o[0]}, replies, after)
 
     visit(frozenset(), frozenset(), START[kind])
     return ends
@@ -145,10 +143,11 @@ def is_legal_order(kinds, events, order):
     for at, reply in order:
         event = events[at]
         kind = kinds(event.key)
-        outcome = step(kind, states.get(event.key, START[kind]), event.name, event.value)
-        if outcome is None or outcome[1] != reply:
+        # the state before and the reply leave one state at most
+        after = [s for s, r in steps(kind, states.get(event.key, START[kind]), event.name, event.value) if r == reply]
+        if not after:
             return False
-        states[event.key] = outcome[0]
+        states[event.key] = after[0]
     return True
 
 
@@ -231,7 +230,8 @@ class Script:
     """Random commands with what the model says of each reply."""
 
     def __init__(self, draw):
-        self.draw = draw
+        # few clients leave few operations open, so longer histories can be enumerated
+        self.draw, (self.clients, self.longest) = draw, draw.choice([(1, 16), (2, 14), (4, 10)])
         self.model = Model(draw.random() < 0.5, draw.choice(KINDS), draw.choice([1, 2, 3, 5, 8, 20, 65536]))
         self.words = ['edit', '--kind', self.model.default, '--budget', str(self.model.budget)] + (['--keyed'] if self.model.keyed else [])
         self.lines, self.checks = [], []
@@ -253,18 +253,23 @@ class Script:
     def event(self):
         """Mostly an event that leaves the history well-formed, at times any."""
         draw, model = self.draw, self.model
-        process = draw.randrange(4)
+        process = draw.randrange(self.clients)
         last = next((e for e in reversed(model.events) if e.process == process), None)
         if last is not None and last.type == 'info' and draw.random() < 0.9:
-            process += 4
+            process += self.clients
             last = next((e for e in reversed(model.events) if e.process == process), None)
         if last is not None and last.type == 'invoke' and draw.random() < 0.95:
-            type_, name, key = draw.choice(['ok', 'ok', 'ok', 'fail', 'info']), last.name, last.key
+            type_, name, key = draw.choice(['ok'] * 8 + ['fail', 'info']), last.name, last.key
         else:
             key = draw.randrange(2) if model.keyed else 0
             type_ = 'invoke' if draw.random() < 0.97 else 'ok'
             name = draw.choice(NAMES[model.kinds(key) if draw.random() < 0.97 else draw.choice(KINDS)])
-        return Event(process, key, type_, name, self.value(model.kinds(key), name, type_))
+        value = self.value(model.kinds(key), name, type_)
+        if type_ == 'ok' and name == 'dequeue' and draw.random() < 0.7:
+            # a reply that some order gives, so that queues go on, and get members
+            given = {reply[1] for _, replies in model.ends_of(key, len(model.events)) for p, reply in replies if p == process and reply != 'done'}
+            value = draw.choice(sorted(given, key=repr) or [value])
+        return Event(process, key, type_, name, value)
 
     def put(self, line, check):
         self.lines.append(line)
@@ -277,8 +282,13 @@ class Script:
     def command(self):
         draw, model = self.draw, self.model
         events, count = model.events, len(model.events)
+        bad = bad_event(events, model.kinds)
         what = draw.random()
-        if what < 0.55 and count < 10:
+        if bad is not None and draw.random() < 0.5:
+            # so that most histories are well-formed
+            del events[bad[0]]
+            self.edit('remove %d' % bad[0])
+        elif what < 0.55 and count < self.longest:
             event = self.event()
             events.append(event)
             self.edit('append ' + event.text(model.keyed))
@@ -341,7 +351,7 @@ class Script:
 
 def main():
     given = sys.argv[1:]
-    scripts, seed = int(given[0]) if given else 300, int(given[1]) if given[1:] else 1
+    scripts, seed = int(given[0]) if given else 600, int(given[1]) if given[1:] else 1
     program = given[2] if given[2:] else os.path.join(os.path.dirname(os.path.abspath(__file__)), '../crates/lincheck/out/lincheck')
     right = wrong = 0
     for number in range(scripts):

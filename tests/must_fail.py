@@ -14,12 +14,14 @@ For each crate:
    refused for the edit, and not for a hole or for a file that `--only` leaves out. Where one isn't proved so, the holes go.
 3. The waves are checked, each over what that check kept. An edit without a line of its own is tried again alone.
 
-usage: tests/must_fail.py [--jobs N] [CRATE ..]   (all crates with edits; by default a check for each processor, as many as memory
-holds. The checks stand on the libraries that rt ci or rt check left in crates/*/out; rt lib makes those that are missing or older
-than their sources. The last line counts the edits)
+usage: tests/must_fail.py [--jobs N] [--follow LOG] [CRATE ..]   (all crates with edits; by default a check for each processor, as many
+as memory holds. The checks stand on the libraries that rt ci or rt check left in crates/*/out; rt lib makes those that are missing or
+older than their sources. With --follow an rt ci is under way, whose output goes into LOG: a crate is tried once it and all below it are
+proved, over the libraries that rt ci made, and one check at a time until rt ci ends. The last line counts the edits)
 """
 import argparse
 import collections
+import contextlib
 import glob
 import importlib.machinery
 import importlib.util
@@ -32,11 +34,13 @@ import subprocess
 import sys
 import tempfile
 import threading
+import time
 from concurrent.futures import ThreadPoolExecutor
 
 ROOT = os.path.dirname(os.path.dirname(os.path.realpath(__file__)))
 HOLE = 'use Rattle.{0}.proofs.{1}.Statement.{{statement}}\n\npub {2}_spec : {{M : Type 1}} → statement M\n{2}_spec = ?\n'
-EACH = 6 << 30  # the memory that a check is taken to need: those of the program take 5.4 GB
+EACH = 6 << 30  # the memory that a check is taken to need
+BESIDE = 7 << 30  # the free memory below which none begins beside rt ci, whose own checks still grow
 ITEM = re.compile(r'^( *)(?:pub(?:\([\w: ]+\))? )?(?:(?:const|unsafe|default|ghost) )*(fn|impl|trait|mod)\b(.*)', re.M)
 CALL = re.compile(r'(?:(\w+)\s*(\.|::)\s*|(\.)\s*)?(?<!fn )\b(\w+)\s*(?:::<[^()]*>)?\(')
 # A proof file that names what the edit took away, as rt tells it: that says little of the contract.
@@ -52,7 +56,7 @@ def kit():
     loader = importlib.machinery.SourceFileLoader('rt', os.path.realpath(found))
     made = importlib.util.module_from_spec(importlib.util.spec_from_loader('rt', loader))
     loader.exec_module(made)
-    lacks = [it for it in ('edited', 'unread', 'processors', 'free', 'rtlib') if not hasattr(made, it)]
+    lacks = [it for it in ('edited', 'unread', 'processors', 'free', 'link_or_copy', 'rtlib') if not hasattr(made, it)]
     if lacks:
         sys.exit('must_fail.py: this kit\'s rt has no %s' % ', '.join(lacks))
     return made
@@ -376,6 +380,11 @@ class Trial:
 
     def check(self, edits, functions):
         """What rattle says of these functions under these edits, over what the check without any has kept."""
+        run = self.ran(edits, functions)
+        # Killed, most likely for memory: once more.
+        return run if run.status >= 0 else self.ran(edits, functions)
+
+    def ran(self, edits, functions):
         with slots:
             at = self.copy(edits)
             if at is None:
@@ -390,9 +399,6 @@ class Trial:
             words = [*rt.rtlib.guarded(), rt.rtlib.RATTLE, 'check', *self.crate.words(flags, keeps=False)]
             how = {'cwd': at, 'stdin': subprocess.DEVNULL, 'stdout': subprocess.PIPE, 'stderr': subprocess.STDOUT, 'errors': 'replace'}
             ran = subprocess.run(words, **how)
-            if ran.returncode < 0:
-                # Killed, most likely for memory: once more.
-                ran = subprocess.run(words, **how)
             shutil.rmtree(at)
             if edits:
                 shutil.rmtree(mine)
@@ -461,6 +467,8 @@ class Trial:
             self.judge(edit, run, len(edits) == 1)
 
     def run(self):
+        if following:
+            following.wait_for(self.crate)
         self.base()
         left = [it for it in self.edits if not it.verdict]
         for waves in (waves_of(left), None):
@@ -471,6 +479,71 @@ class Trial:
             for edit in self.edits:
                 print('%s: %s' % (edit.name, edit.verdict[1])[:len(edit.name) + 2 + 160], flush=True)
         return self.edits
+
+
+class Following:
+    """Slots for checks beside an rt ci whose output goes into a file, and what that says to be proved."""
+
+    def __init__(self, log, crates, room, jobs):
+        self.log, self.left, self.room, self.jobs = log, crates, room, jobs
+        self.running, self.most, self.has_ended, self.turn = 0, 1, False, threading.Condition()
+        os.nice(19)
+        # Where memory runs out all the same, one of these checks is killed, and none of rt ci.
+        with contextlib.suppress(OSError), open('/proc/self/oom_score_adj', 'w') as it:
+            it.write('900')
+        threading.Thread(target=self.read, daemon=True).start()
+
+    def read(self):
+        """Reads on until rt ci has ended. What then isn't proved ends this run, as does the end of whoever started it."""
+        parent, why = os.getppid(), None
+        while not self.has_ended and not why:
+            time.sleep(0.2)
+            try:
+                with open(self.log, errors='replace') as it:
+                    said = it.read()
+                self.take({*re.findall(r'^rt: (\w+) (?:proved$|is kept: )', said, re.M)})
+                if re.search(r'^\d+ passed, \d+ failed', said, re.M):
+                    why = self.left and 'rt ci has ended and did not prove %s' % ' '.join(it.name for it in self.left)
+                    with self.turn:
+                        self.has_ended, self.most = True, most_at_once(self.jobs, self.running)
+                if os.getppid() != parent:
+                    why = 'whoever started this has ended'
+            except OSError as error:
+                why = str(error)
+        if why:
+            print('must_fail.py: ' + why, flush=True)
+            os._exit(1)
+
+    def take(self, proved):
+        """Gives the libraries of these crates a second name, since rt ci puts at its end what stood in their place before."""
+        for crate in [it for it in self.left if it.name in proved]:
+            if crate.makes_rlib():
+                mine = '%s/rlibs/%s.rlib' % (self.room, crate.name)
+                shutil.copytree(crate.rlib, mine, copy_function=rt.link_or_copy)
+                crate.rlib = mine
+            with self.turn:
+                self.left.remove(crate)
+                self.turn.notify_all()
+
+    def wait_for(self, crate):
+        """Waits until the crate and all below it are proved."""
+        with self.turn:
+            self.turn.wait_for(lambda: not {crate, *crate.below()} & {*self.left})
+
+    def __enter__(self):
+        with self.turn:
+            while self.running >= self.most or not self.has_ended and rt.free() < BESIDE:
+                self.turn.wait(1)
+            self.running += 1
+
+    def __exit__(self, *_):
+        with self.turn:
+            self.running -= 1
+            self.turn.notify_all()
+
+
+def most_at_once(jobs, running=0):
+    return jobs or max(1, min(rt.processors(), running + int(rt.free() // EACH)))
 
 
 def make_libraries(crates):
@@ -489,22 +562,27 @@ def make_libraries(crates):
 
 
 def main():
-    global rt, slots, printing
+    global rt, slots, printing, following
     read = argparse.ArgumentParser(description=__doc__.split('\n')[0])
     read.add_argument('--jobs', type=int, help='how many checks run side by side')
+    read.add_argument('--follow', metavar='LOG', help='the output of an rt ci that is under way')
     read.add_argument('crates', nargs='*', metavar='CRATE')
     asked = read.parse_args()
     rt = kit()
     rt.rtlib.guarded()  # (its first call sets a signal's handler, which only the main thread may)
     printing = threading.Lock()
-    slots = threading.BoundedSemaphore(asked.jobs or max(1, min(rt.processors(), int(rt.free() // EACH))))
     crates = [it for it in rt.rtlib.crates_below(ROOT) if os.path.isdir(it.folder + '/wrong-bodies')]
     unknown = {*asked.crates} - {it.name for it in crates}
     if unknown:
         sys.exit('must_fail.py: no crate with a folder wrong-bodies: %s' % ', '.join(sorted(unknown)))
     crates = [it for it in crates if not asked.crates or it.name in asked.crates]
-    make_libraries(crates)
     with tempfile.TemporaryDirectory(prefix='must-fail-') as room:
+        if asked.follow:
+            needed = {*crates, *(below for it in crates for below in it.below())}
+            slots = following = Following(asked.follow, [*needed], room, asked.jobs)
+        else:
+            slots, following = threading.BoundedSemaphore(most_at_once(asked.jobs)), None
+            make_libraries(crates)
         # The longest first: a crate's waves wait for its check without edits.
         trials = sorted((Trial(it, room) for it in crates), key=lambda it: -it.crate.count(rb'\n'))
         with ThreadPoolExecutor(len(trials) or 1) as pool:

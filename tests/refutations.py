@@ -15,7 +15,7 @@ import re
 import sys
 
 sys.dont_write_bytecode = True
-from edits import KINDS, NAMES, START, Event, bad_event, configurations, operations, step
+from edits import KINDS, NAMES, START, Event, bad_event, configurations, operations, steps
 
 EXAMPLES = os.path.join(os.path.dirname(os.path.abspath(__file__)), '../crates/lin_tests/src/refutations.rt')
 
@@ -25,13 +25,13 @@ def with_pair(placed, process, reply):
 
 
 def comes_of(kind, events, i, member):
-    """What the rules ask for in set i, if this member is in it: each open operation placed, where it isn't."""
+    """What the rules ask for in set i, if this member is in it: each open operation placed, where it isn't, with each outcome."""
     state, placed = member
     for at, _, end in operations(events[:i]):
         process, call = events[at].process, events[at]
-        outcome = step(kind, state, call.name, call.value)
-        if end in ('open', 'info') and process not in dict(placed) and outcome is not None:
-            yield outcome[0], with_pair(placed, process, outcome[1])
+        if end in ('open', 'info') and process not in dict(placed):
+            for after, reply in steps(kind, state, call.name, call.value):
+                yield after, with_pair(placed, process, reply)
 
 
 def left_of(event, member):

@@ -45,7 +45,7 @@ from concurrent.futures import ThreadPoolExecutor
 HERE = os.path.dirname(os.path.abspath(__file__))
 FOLDER = os.path.join(HERE, 'rows')
 COVERED = os.path.join(HERE, 'covered')
-KINDS = [b'register', b'cas-register', b'fifo', b'set', b'mutex']
+KINDS = [b'register', b'cas-register', b'fifo', b'set', b'mutex', b'unordered-queue']
 SECONDS = 600
 # Becomes a program whose files can't grow beyond a number of bytes. Python ignores the signal for that, and what it becomes does too:
 # the write that doesn't fit is cut short, and the next one fails.

@@ -19,8 +19,8 @@ IsEndOf kind budget h Alive = IsLinearizableAs kind h
 IsEndOf kind budget h (Dead at) = IsDeadAt kind h at
 IsEndOf kind budget h (Over at) = IsOverAt kind budget h at
 
--- the place that is told, if one is, isn't below the number less one
+-- a place that is told isn't below the number; but one that is over may be just below it, where that is found with the next event
 abbrev pub IsFrom : ℕ → End → Type 0
 IsFrom count Alive = Unit {0}
-IsFrom count (Dead at) = count ≤ at + 1
+IsFrom count (Dead at) = count ≤ at
 IsFrom count (Over at) = count ≤ at + 1

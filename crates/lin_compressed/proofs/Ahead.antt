@@ -11,7 +11,7 @@ use Rattle.lin_members.specs.Members.{Member}
 use Rattle.lin_frontier.specs.Nodes.{IsGrown}
 use Rattle.lin_members.specs.Searching.{IsCompleted, IsFinding, IsFoundFrom, IsMadeAtOnce, IsPassed, IsReached, start}
 use Rattle.lin_compressed.proofs.Completing.{completed_stays, passed_stays}
-use Rattle.lin_compressed.proofs.Visiting.{grown_grown, not_grown}
+use Rattle.lin_listing.specs.lemmas.Visiting.{grown_grown, not_grown}
 
 module _ {S : Type 0} (step : S → Call → S → Reply → Type 0) (observes : Call → Bool) (operation : Open) (reply : Reply) (pending : List Open) where
   pub at_once_none : (nodes : List (ℕ × (Placed × Option ℕ))) (out : List (Member S × Path)) → out ≡ [] → IsMadeAtOnce step observes operation reply pending nodes [] out

@@ -15,8 +15,8 @@ use Rattle.lin_members.specs.Searching.{is_watching, AreBehind, AreUpdates, Begi
 use Rattle.lin_frontier.specs.lemmas.Closing.{any_default}
 use Rattle.lin_frontier.specs.lemmas.Inserting.{kept_by, passed_by}
 use Rattle.lin_members.specs.lemmas.Undominated.{above_itself}
-use Rattle.lin_compressed.specs.Putting.{IsTakenInIf}
-use Rattle.lin_compressed.proofs.Visiting.{grown_grown, not_grown, node_stays, begins_still}
+use Rattle.lin_listing.specs.Putting.{IsTakenInIf}
+use Rattle.lin_listing.specs.lemmas.Visiting.{grown_grown, not_grown, node_stays, begins_still}
 
 -- one of the first list stands in both joined, and so does one of the second
 pub in_front : {A B : Type 0} (f : B → A) (xs : List B) (ys : List A) (i : ℕ) (x : B) → i < length xs → x ≡ get_or xs i x → (i < length (map f xs ++ ys)) × (f x ≡ get_or (map f xs ++ ys) i (f x))
@@ -82,6 +82,20 @@ module _ {S : Type 0} (step : S → Call → S → Reply → Type 0) (observes :
       | inl a ↦ inl (record { observer = a.observer; round = a.round; takes = a.takes; same = a.same; last = a.last; node = node_stays nodes now n.1.node m.1.node (record { at = operation.at; reply = reply }, Some a.round) grown a.node })
       | inr r ↦ inr (record { update = r.update; steps = r.steps; placed = r.placed; offers = r.offers; begins = begins_still nodes now m.1 n.1 (record { at = operation.at; reply = reply }) grown r.begins })
     ]
+
+    -- nothing was added, and one member was
+    pub finding_none : (nodes : List (ℕ × (Placed × Option ℕ))) (m : Member S × Path) (out : List (Member S × Path)) → IsFinding step observes operation reply pending nodes m out out
+    finding_none nodes m out = record { kept = λ n there. there; sound = λ n there. inl there }
+
+    pub finding_push : (nodes : List (ℕ × (Placed × Option ℕ))) (m : Member S × Path) (old out : List (Member S × Path)) (n : Member S × Path) → out ≡ old ++ n ∷ [] → IsCompleted step observes operation reply pending nodes m n
+        → IsFinding step observes operation reply pending nodes m old out
+    finding_push nodes m old out n pushed made = record {
+      kept = λ k there. subst (λ l. Contains l k) (sym pushed) (Contains-append_left old (n ∷ []) k there);
+      sound = λ k there. elim (Contains-push_cases old n k (subst (λ l. Contains l k) pushed there)) [
+        | inl before ↦ inl before
+        | inr same ↦ inr (subst (IsCompleted step observes operation reply pending nodes m) same made)
+      ];
+    }
 
     -- the steps of the update, of which `rest` are still to be looked at
     pub record IsReturning (m : Member S × Path) (first nodes : List (ℕ × (Placed × Option ℕ))) (old : List (Member S × Path)) (rest : List (S × Reply)) (now : List (Member S × Path)) : Type 0 where

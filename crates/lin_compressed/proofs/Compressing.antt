@@ -38,7 +38,7 @@ use Rattle.lin_members.specs.lemmas.Awaiting.{open_pending}
 use Rattle.lin_frontier.specs.lemmas.Closing.{cut_back}
 use Rattle.lin_members.specs.lemmas.InRounds.{one_rounds}
 use Rattle.lin_frontier.specs.lemmas.Inserting.{first_or_rest}
-use Rattle.lin_compressed.proofs.Onward.{invoked, informed, failed, rounds_stay, spelled_rising, spelled_stays}
+use Rattle.lin_listing.specs.lemmas.Onward.{invoked, informed, failed, rounds_stay, spelled_rising, spelled_stays}
 use Rattle.lin_lists.specs.lemmas.Filters.{from_map, in_map}
 use Rattle.lin_members.specs.lemmas.Putting.{trail_ends}
 use Rattle.lin_members.specs.lemmas.Pruned.{dominates_to, dominates_from, watching_to}
@@ -261,8 +261,11 @@ none_left {S} start step observes overwriting functions h nodes members exact en
     by true complete some = let found = complete some.0 some.1 in (found.member, found.among)
 
 -- nodes of which those that were added were cut off again
+pub cut_same : {A : Type 0} (nodes now cut : List A) (n : ℕ) → cut ≡ take n now → n ≡ length nodes → IsGrown nodes now → cut ≡ nodes
+cut_same nodes now cut n is many grown = is ∙ ap (λ k. take k now) many ∙ cut_back nodes now grown
+
 pub cut_grown : {A : Type 0} (nodes now cut : List A) (n : ℕ) → cut ≡ take n now → n ≡ length nodes → IsGrown nodes now → IsGrown nodes cut
-cut_grown nodes now cut n is many grown = ([], is ∙ ap (λ k. take k now) many ∙ cut_back nodes now grown ∙ sym (append-nil nodes))
+cut_grown nodes now cut n is many grown = ([], cut_same nodes now cut n is many grown ∙ sym (append-nil nodes))
 
 -- the start, with the path that all others go on from
 abbrev pub start_of : {S : Type 0} → S → Member S × Path

@@ -22,7 +22,7 @@ use Rattle.lin_members.specs.Members.{Member, IsListed}
 use Rattle.lin_members.specs.RoundLaws.{TrailOkLaw}
 use Rattle.lin_members.specs.Searching.{rest_of, IsMade}
 use Rattle.lin_frontier.specs.lemmas.Inserting.{without_is}
-use Rattle.lin_compressed.proofs.Onward.{spelled_rising}
+use Rattle.lin_listing.specs.lemmas.Onward.{spelled_rising}
 use Rattle.lin_lists.specs.lemmas.Filters.{from_map, in_map}
 use Rattle.lin_compressed.proofs.Returned.{spelled_taken}
 

@@ -20,7 +20,7 @@ use Rattle.lin_frontier.specs.Placing.{insert_pair}
 use Rattle.lin_members.specs.Searching.{watched, AreBehind, AreUpdates, BeginsRound, CanTake, GivesAny, IsNodeOf, IsOffering, PlacesIfUpdate, PlacesUpdate}
 use Rattle.lin_frontier.specs.Walks.{IsTriedAtMost}
 use Rattle.lin_frontier.specs.lemmas.Counting.{tried_more, tried_none, tried_up}
-use Rattle.lin_compressed.proofs.Visiting.{begins_from, begins_still, grown_grown, node_stays, not_grown}
+use Rattle.lin_listing.specs.lemmas.Visiting.{begins_from, begins_still, grown_grown, node_stays, not_grown}
 
 -- of the early operations up to a place, one more
 module _ (until : ℕ) (pending : List Open) (i : ℕ) (d : Open) (inside : i < length pending) (old : List Open) (is : old ≡ early_of until (take i pending)) where

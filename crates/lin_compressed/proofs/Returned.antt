@@ -31,7 +31,7 @@ use Rattle.lin_members.specs.lemmas.Crashes.{crash_kept, passes_ok}
 use Rattle.lin_members.specs.lemmas.Following.{Passes}
 use Rattle.lin_frontier.specs.lemmas.Inserting.{absent_from, none_from, passed_by, insert_added, taken_out}
 use Rattle.lin_members.specs.lemmas.Joining.{put_many}
-use Rattle.lin_compressed.proofs.Onward.{spelled_rising}
+use Rattle.lin_listing.specs.lemmas.Onward.{spelled_rising}
 use Rattle.lin_members.specs.lemmas.Pruned.{watching_to}
 use Rattle.lin_objects.specs.Observing.{IsObserving}
 use Rattle.lin_compressed.proofs.Ahead.{found_sound}

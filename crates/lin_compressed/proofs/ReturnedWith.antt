@@ -36,7 +36,7 @@ use Rattle.lin_compressed.proofs.Early.{early_from}
 use Rattle.lin_frontier.specs.lemmas.Inserting.{first_or_rest, insert_added, none_from, passed_by}
 use Rattle.lin_members.specs.lemmas.InRounds.{one_rounds}
 use Rattle.lin_members.specs.lemmas.Joining.{put_many}
-use Rattle.lin_compressed.proofs.Onward.{spelled_rising}
+use Rattle.lin_listing.specs.lemmas.Onward.{spelled_rising}
 use Rattle.lin_members.specs.lemmas.Pruned.{crashed_waits_not}
 use Rattle.lin_compressed.proofs.Returned.{answered_offers, answered_spells, no_offer, nobody, offers_from, other_process, spelled_answered, spelled_taken, spelled_update, was_open, watching_before}
 use Rattle.lin_members.specs.lemmas.Returning.{not_crashed}

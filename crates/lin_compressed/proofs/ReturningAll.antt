@@ -13,7 +13,7 @@ use Rattle.lin_frontier.specs.Placing.{IsAbsent}
 use Rattle.lin_members.specs.Searching.{rest_of, IsMade}
 use Rattle.lin_compressed.proofs.Placings.{answered_stays, asked_behind_stays, asked_like_ahead_stays, completed_with_stays, returned_ahead_stays, returned_behind_stays}
 use Rattle.lin_frontier.specs.lemmas.Trying.{take_all, take_next}
-use Rattle.lin_compressed.proofs.Visiting.{grown_grown, not_grown}
+use Rattle.lin_listing.specs.lemmas.Visiting.{grown_grown, not_grown}
 
 module _ {S : Type 0} (step : S → Call → S → Reply → Type 0) (observes : Call → Bool) (operation : Open) (reply : Reply) (pending : List Open) (now : ℕ) where
   -- what was found stays found, with more nodes and more members

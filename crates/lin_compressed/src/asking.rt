@@ -1,14 +1,14 @@
 //! What a completion makes of members where the object is overwritten: no update is placed before its own completion, or a reply that
 //! only it can have given, asks for it.
-ghost use Rattle.std.specs.Prelude.{◌≡◌, ◌⊎◌, ◌∷◌, ◌++◌, ◌+◌, ◌*◌, ◌<◌, [], ℕ, List, true, false, length, Contains, IsTrue, ◌↔◌, IfOk, IfSome, IfNone, OnOk};
+ghost use Rattle.std.specs.Prelude.{◌≡◌, ◌⊎◌, ◌∷◌, ◌++◌, ◌+◌, ◌*◌, ◌<◌, [], ℕ, List, true, false, Some, length, Contains, IsTrue, ◌↔◌, IfOk, IfSome, IfNone, OnOk};
 ghost use Rattle.lin_events.specs.declared.calls.Reply.{Reply as ReplyOf};
 ghost use Rattle.lin_orders.specs.declared.placed.Placed.{Placed as PlacedOf};
 ghost use Rattle.lin_frontier.specs.declared.pending.Open.{Open as OpenOf};
-ghost use Rattle.lin_members.specs.Asking.{early_of, AreAsked, AreFoundWith, AreReturned, IsAnsweredStill, IsAskedAhead, IsAskedBehind, IsAskedLikeAhead, IsAskedLikeBehind, IsFindingWith, IsReturnedAhead, IsReturnedBehind};
+ghost use Rattle.lin_members.specs.Asking.{early_of, AreAsked, AreFoundWith, AreReturned, IsAheadOf, IsAnsweredStill, IsAskedAhead, IsAskedBehind, IsAskedLikeAhead, IsAskedLikeBehind, IsFindingWith, IsReturnedAhead, IsReturnedBehind};
 ghost use Rattle.lin_members.specs.Members.{Member as MemberOf};
 ghost use Rattle.lin_members.specs.declared.members.Path.{Path as PathOf};
 ghost use Rattle.lin_frontier.specs.Nodes.{IsGrown};
-ghost use Rattle.lin_members.specs.Searching.{PlacesIfUpdate, PlacesUpdate};
+ghost use Rattle.lin_members.specs.Searching.{BeginsRound, IsNodeOf, PlacesIfUpdate, PlacesUpdate};
 ghost use Rattle.lin_frontier.specs.Walks.{IsTriedAtMost};
 
 use crate::completions::Completion;
@@ -16,7 +16,7 @@ use crate::scratch::Scratch;
 use lin_events::{Meter, OutOfMemory, Reply};
 use lin_frontier::{Config, Open, Pending};
 use lin_members::{
-    Member, RoundNodes, answered, in_round, placed_at, push_member, put_ahead, put_behind,
+    Member, Path, RoundNodes, in_round, placed_at, push_member, put_ahead, put_behind,
 };
 use lin_objects::SeqObject;
 use lin_orders::Placed;
@@ -57,6 +57,70 @@ fn state_with<S: Drop>(steps: &mut Vec<(S, Reply)>, reply: &Reply) -> Option<S>
 }
 
 impl<'a, O: SeqObject> Completion<'a, O> {
+    /// The path with the operation behind all.
+    #[inline(always)]
+    fn path_behind(
+        &self,
+        alloc: Global,
+        path: Path,
+        now: u32,
+        nodes: &mut RoundNodes,
+    ) -> Result<Path, OutOfMemory>
+        ensures grown { IsGrown nodes.old nodes.new }
+        ensures begins { IfOk result (λ next. BeginsRound nodes.new path next (record { at = self.now.operation.now.at; reply = self.now.reply.now })) }
+        ensures until { IfOk result (λ next. next.until ≡ now) }
+    {
+        let placed = placed_at(alloc, self.operation.at, self.reply)?;
+        put_behind(path, placed, now, nodes)
+    }
+
+    /// The path with the operation as a round of its own ahead of the last one.
+    #[inline(always)]
+    fn path_ahead(
+        &self,
+        alloc: Global,
+        path: Path,
+        nodes: &mut RoundNodes,
+    ) -> Result<Path, OutOfMemory>
+        ensures grown { IsGrown nodes.old nodes.new }
+        ensures ahead { IfOk result (λ next. IsAheadOf nodes.new path next (record { at = self.now.operation.now.at; reply = self.now.reply.now })) }
+    {
+        let placed = placed_at(alloc, self.operation.at, self.reply)?;
+        put_ahead(path, placed, nodes)
+    }
+
+    /// The path with the operation put in the round.
+    #[inline(always)]
+    fn path_in(
+        &self,
+        alloc: Global,
+        path: Path,
+        round: usize,
+        nodes: &mut RoundNodes,
+    ) -> Result<Path, OutOfMemory>
+        ensures grown { IsGrown nodes.old nodes.new }
+        ensures round { IfOk result (λ next. next.round ≡ path.round) }
+        ensures until { IfOk result (λ next. next.until ≡ path.until) }
+        ensures node { IfOk result (λ next. IsNodeOf nodes.new next.node path.node ((record { at = self.now.operation.now.at; reply = self.now.reply.now }), Some round)) }
+    {
+        let placed = placed_at(alloc, self.operation.at, self.reply)?;
+        in_round(path, placed, round, nodes)
+    }
+
+    /// What is placed in the configuration, with the member's state.
+    #[inline(always)]
+    fn with_state_of(
+        &self,
+        alloc: Global,
+        member: &Member<O::State>,
+        config: &Config<O::State>,
+    ) -> Result<Config<O::State>, OutOfMemory>
+        ensures { IfOk result (λ made. made ≡ (member.now.0.state, config.now.1)) }
+    {
+        let state = self.object.copy_state(alloc, member.state())?;
+        config.with_state(state)
+    }
+
     /// Puts in `out` the member with the update placed behind all, which leads to the configuration.
     fn return_behind(
         &self,
@@ -76,6 +140,7 @@ impl<'a, O: SeqObject> Completion<'a, O> {
             → IsReturnedBehind (O.step self.now.object.now) (O.observing self.now.object.now) self.now.operation.now self.now.reply.now self.now.pending.now nodes.new now member.now n)) }
         ensures tried { IsTriedAtMost (length self.now.pending.now) meter.old meter.new }
     {
+        let path = self.path_behind(alloc, member.path(), now, nodes)?;
         let offers = self.offers_behind(
             alloc,
             member,
@@ -83,8 +148,6 @@ impl<'a, O: SeqObject> Completion<'a, O> {
             meter,
             &mut scratch.pool,
         )?;
-        let placed = placed_at(alloc, self.operation.at, self.reply)?;
-        let path = put_behind(member.path(), placed, now, nodes)?;
         push_member(
             out,
             Member {
@@ -120,19 +183,43 @@ impl<'a, O: SeqObject> Completion<'a, O> {
             scratch.early(),
         )?;
         let before = Pending::of(&operations);
+        self.return_beside(alloc, member, &before, config, out, nodes, meter, scratch)?;
+        scratch.keep_early(operations);
+        Ok(())
+    }
+
+    /// The same, given the early operations.
+    fn return_beside(
+        &self,
+        alloc: Global,
+        member: &Member<O::State>,
+        before: &Pending,
+        config: &Config<O::State>,
+        out: &mut Vec<Member<O::State>>,
+        nodes: &mut RoundNodes,
+        meter: &mut Meter,
+        scratch: &mut Scratch<O>,
+    ) -> Result<(), OutOfMemory>
+        requires before { before.now ≡ early_of member.now.1.until self.now.pending.now }
+        requires placed { config.now.1 ≡ member.now.0.placed }
+        requires early { self.now.operation.now.at < member.now.1.until }
+        ensures grown { IsGrown nodes.old nodes.new }
+        ensures made { OnOk result ((n : MemberOf O.State × PathOf) × (out.new.items ≡ out.old.items ++ n ∷ [])
+            × (O.observing self.now.object.now self.now.operation.now.call ≡ false → O.step self.now.object.now member.now.0.state self.now.operation.now.call config.now.0 self.now.reply.now
+            → (now : ℕ) → IsReturnedAhead (O.step self.now.object.now) (O.observing self.now.object.now) self.now.operation.now self.now.reply.now self.now.pending.now nodes.new now member.now config.now.0 n)) }
+        ensures tried { IsTriedAtMost (length self.now.pending.now) meter.old meter.new }
+    {
+        let path = self.path_ahead(alloc, member.path(), nodes)?;
         let offers = self.offers_with(
             alloc,
             member,
             config,
-            &before,
+            before,
             &mut scratch.steps,
             meter,
             &mut scratch.pool,
         )?;
-        let state = self.object.copy_state(alloc, member.state())?;
-        let config = member.config().with_state(state)?;
-        let placed = placed_at(alloc, self.operation.at, self.reply)?;
-        let path = put_ahead(member.path(), placed, nodes)?;
+        let config = self.with_state_of(alloc, member, member.config())?;
         push_member(
             out,
             Member {
@@ -140,9 +227,7 @@ impl<'a, O: SeqObject> Completion<'a, O> {
                 offers,
                 path,
             },
-        )?;
-        scratch.keep_early(operations);
-        Ok(())
+        )
     }
 
     /// Puts in `out` what the update makes of the member with its reply.
@@ -201,6 +286,8 @@ impl<'a, O: SeqObject> Completion<'a, O> {
         ensures made { OnOk result ((n : MemberOf O.State × PathOf) × (out.new.items ≡ out.old.items ++ n ∷ []) × IsAskedBehind (O.step self.now.object.now) (O.observing self.now.object.now) self.now.operation.now self.now.reply.now self.now.pending.now nodes.new now member.now placed n × (n.0.state ≡ config.0) × (n.0.placed ≡ config.1)) }
         ensures tried { IsTriedAtMost (length self.now.pending.now) meter.old meter.new }
     {
+        let path = put_behind(member.path(), placed, now, nodes)?;
+        let path = self.path_in(alloc, path, path.round as usize, nodes)?;
         let offers = self.offers_behind(
             alloc,
             member,
@@ -208,9 +295,6 @@ impl<'a, O: SeqObject> Completion<'a, O> {
             meter,
             &mut scratch.pool,
         )?;
-        let path = put_behind(member.path(), placed, now, nodes)?;
-        let taken = placed_at(alloc, self.operation.at, self.reply)?;
-        let path = in_round(path, taken, path.round as usize, nodes)?;
         push_member(
             out,
             Member {
@@ -228,7 +312,7 @@ impl<'a, O: SeqObject> Completion<'a, O> {
         alloc: Global,
         member: &Member<O::State>,
         before: &Pending,
-        config: Config<O::State>,
+        config: &Config<O::State>,
         placed: Placed,
         out: &mut Vec<Member<O::State>>,
         nodes: &mut RoundNodes,
@@ -238,33 +322,61 @@ impl<'a, O: SeqObject> Completion<'a, O> {
         requires before { before.now ≡ early_of member.now.1.until self.now.pending.now }
         requires observer { O.observing self.now.object.now self.now.operation.now.call ≡ true }
         requires early { self.now.operation.now.at < member.now.1.until }
-        requires places { PlacesUpdate (O.step self.now.object.now) (O.observing self.now.object.now) before.now (member.now.0.state, member.now.0.placed) placed config }
-        requires gives { (last : O.State) × O.step self.now.object.now config.0 self.now.operation.now.call last self.now.reply.now }
+        requires places { PlacesUpdate (O.step self.now.object.now) (O.observing self.now.object.now) before.now (member.now.0.state, member.now.0.placed) placed config.now }
+        requires gives { (last : O.State) × O.step self.now.object.now config.now.0 self.now.operation.now.call last self.now.reply.now }
         ensures grown { IsGrown nodes.old nodes.new }
-        ensures made { OnOk result ((n : MemberOf O.State × PathOf) × (out.new.items ≡ out.old.items ++ n ∷ []) × ((now : ℕ) → IsAskedAhead (O.step self.now.object.now) (O.observing self.now.object.now) self.now.operation.now self.now.reply.now self.now.pending.now nodes.new now member.now placed config.0 n) × (n.0.placed ≡ config.1)) }
+        ensures made { OnOk result ((n : MemberOf O.State × PathOf) × (out.new.items ≡ out.old.items ++ n ∷ []) × ((now : ℕ) → IsAskedAhead (O.step self.now.object.now) (O.observing self.now.object.now) self.now.operation.now self.now.reply.now self.now.pending.now nodes.new now member.now placed config.now.0 n) × (n.0.placed ≡ config.now.1)) }
         ensures tried { IsTriedAtMost (length self.now.pending.now) meter.old meter.new }
     {
+        let from = member.path();
+        let path = put_ahead(from, placed, nodes)?;
+        let path = self.path_in(alloc, path, from.round as usize, nodes)?;
         let offers = self.offers_with(
             alloc,
             member,
-            &config,
+            config,
             before,
             &mut scratch.steps,
             meter,
             &mut scratch.pool,
         )?;
-        let round = member.path().round as usize;
-        let path = put_ahead(member.path(), placed, nodes)?;
-        let taken = placed_at(alloc, self.operation.at, self.reply)?;
-        let path = in_round(path, taken, round, nodes)?;
-        let state = self.object.copy_state(alloc, member.state())?;
+        let config = self.with_state_of(alloc, member, config)?;
         push_member(
             out,
             Member {
-                config: config.with_state(state)?,
+                config,
                 offers,
                 path,
             },
+        )
+    }
+
+    /// The same for an update behind all, if it gives the observer its reply.
+    fn ask_one_behind(
+        &self,
+        alloc: Global,
+        member: &Member<O::State>,
+        config: Config<O::State>,
+        placed: Placed,
+        now: u32,
+        out: &mut Vec<Member<O::State>>,
+        nodes: &mut RoundNodes,
+        meter: &mut Meter,
+        scratch: &mut Scratch<O>,
+    ) -> Result<(), OutOfMemory>
+        requires observer { O.observing self.now.object.now self.now.operation.now.call ≡ true }
+        requires places { PlacesUpdate (O.step self.now.object.now) (O.observing self.now.object.now) self.now.pending.now (member.now.0.state, member.now.0.placed) placed config }
+        ensures grown { IsGrown nodes.old nodes.new }
+        ensures asked { OnOk result (((n : MemberOf O.State × PathOf) × (out.new.items ≡ out.old.items ++ n ∷ []) × IsAskedBehind (O.step self.now.object.now) (O.observing self.now.object.now) self.now.operation.now self.now.reply.now self.now.pending.now nodes.new now member.now placed n × (n.0.state ≡ config.0) × (n.0.placed ≡ config.1))
+            ⊎ ((((last : O.State) × O.step self.now.object.now config.0 self.now.operation.now.call last self.now.reply.now) → ⊥) × (out.new.items ≡ out.old.items) × (nodes.new ≡ nodes.old))) }
+        ensures tried { IsTriedAtMost (length self.now.pending.now + 1) meter.old meter.new }
+    {
+        let gives = self.gives(alloc, config.state(), &mut scratch.steps, meter)?;
+        if !gives {
+            return Ok(());
+        }
+        self.ask_behind(
+            alloc, member, config, placed, now, out, nodes, meter, scratch,
         )
     }
 
@@ -290,6 +402,7 @@ impl<'a, O: SeqObject> Completion<'a, O> {
         let mut next = scratch.next();
         self.updates(
             alloc,
+            self.pending,
             member.config(),
             &mut next,
             &mut scratch.steps,
@@ -297,14 +410,43 @@ impl<'a, O: SeqObject> Completion<'a, O> {
             &mut scratch.pool,
         )?;
         while let Some((config, placed)) = next.pop() {
-            if self.gives(alloc, config.state(), &mut scratch.steps, meter)? {
-                self.ask_behind(
-                    alloc, member, config, placed, now, out, nodes, meter, scratch,
-                )?;
-            }
+            self.ask_one_behind(
+                alloc, member, config, placed, now, out, nodes, meter, scratch,
+            )?;
         }
         scratch.keep_next(next);
         Ok(())
+    }
+
+    /// The same for an early update ahead of the last one, if it gives the observer its reply.
+    fn ask_one_ahead(
+        &self,
+        alloc: Global,
+        member: &Member<O::State>,
+        before: &Pending,
+        config: Config<O::State>,
+        placed: Placed,
+        out: &mut Vec<Member<O::State>>,
+        nodes: &mut RoundNodes,
+        meter: &mut Meter,
+        scratch: &mut Scratch<O>,
+    ) -> Result<(), OutOfMemory>
+        requires before { before.now ≡ early_of member.now.1.until self.now.pending.now }
+        requires observer { O.observing self.now.object.now self.now.operation.now.call ≡ true }
+        requires early { self.now.operation.now.at < member.now.1.until }
+        requires places { PlacesUpdate (O.step self.now.object.now) (O.observing self.now.object.now) before.now (member.now.0.state, member.now.0.placed) placed config }
+        ensures grown { IsGrown nodes.old nodes.new }
+        ensures asked { OnOk result (((n : MemberOf O.State × PathOf) × (out.new.items ≡ out.old.items ++ n ∷ []) × ((now : ℕ) → IsAskedAhead (O.step self.now.object.now) (O.observing self.now.object.now) self.now.operation.now self.now.reply.now self.now.pending.now nodes.new now member.now placed config.0 n) × (n.0.placed ≡ config.1))
+            ⊎ ((((last : O.State) × O.step self.now.object.now config.0 self.now.operation.now.call last self.now.reply.now) → ⊥) × (out.new.items ≡ out.old.items) × (nodes.new ≡ nodes.old))) }
+        ensures tried { IsTriedAtMost (length self.now.pending.now + 1) meter.old meter.new }
+    {
+        let gives = self.gives(alloc, config.state(), &mut scratch.steps, meter)?;
+        if !gives {
+            return Ok(());
+        }
+        self.ask_ahead(
+            alloc, member, before, &config, placed, out, nodes, meter, scratch,
+        )
     }
 
     /// And for each early one ahead.
@@ -332,15 +474,36 @@ impl<'a, O: SeqObject> Completion<'a, O> {
             scratch.early(),
         )?;
         let before = Pending::of(&operations);
-        let beside = Completion {
-            object: self.object,
-            operation: self.operation,
-            reply: self.reply,
-            pending: &before,
-        };
+        self.ask_all_beside(alloc, member, &before, out, nodes, meter, scratch)?;
+        scratch.keep_early(operations);
+        Ok(())
+    }
+
+    /// The same, given the early operations.
+    fn ask_all_beside(
+        &self,
+        alloc: Global,
+        member: &Member<O::State>,
+        before: &Pending,
+        out: &mut Vec<Member<O::State>>,
+        nodes: &mut RoundNodes,
+        meter: &mut Meter,
+        scratch: &mut Scratch<O>,
+    ) -> Result<(), OutOfMemory>
+        requires before { before.now ≡ early_of member.now.1.until self.now.pending.now }
+        requires observer { O.observing self.now.object.now self.now.operation.now.call ≡ true }
+        requires overwriting { O.overwriting self.now.object.now ≡ true }
+        requires early { self.now.operation.now.at < member.now.1.until }
+        ensures grown { IsGrown nodes.old nodes.new }
+        ensures found { (now : ℕ) → OnOk result (IsFindingWith (O.step self.now.object.now) (O.observing self.now.object.now) self.now.operation.now self.now.reply.now self.now.pending.now nodes.new now member.now out.old.items out.new.items) }
+        ensures asked { (now : ℕ) → OnOk result ((o : OpenOf) (p : PlacedOf) (d : O.State × List (ℕ × ReplyOf)) → Contains (early_of member.now.1.until self.now.pending.now) o → PlacesIfUpdate (O.step self.now.object.now) (O.observing self.now.object.now) o (member.now.0.state, member.now.0.placed) p d
+            → ((last : O.State) × O.step self.now.object.now d.0 self.now.operation.now.call last self.now.reply.now) → IsAskedLikeAhead (O.step self.now.object.now) (O.observing self.now.object.now) self.now.operation.now self.now.reply.now self.now.pending.now nodes.new now member.now out.new.items o p.reply d.0) }
+        ensures tried { IsTriedAtMost (length self.now.pending.now * (length self.now.pending.now + 2)) meter.old meter.new }
+    {
         let mut next = scratch.next();
-        beside.updates(
+        self.updates(
             alloc,
+            before,
             member.config(),
             &mut next,
             &mut scratch.steps,
@@ -348,14 +511,11 @@ impl<'a, O: SeqObject> Completion<'a, O> {
             &mut scratch.pool,
         )?;
         while let Some((config, placed)) = next.pop() {
-            if self.gives(alloc, config.state(), &mut scratch.steps, meter)? {
-                self.ask_ahead(
-                    alloc, member, &before, config, placed, out, nodes, meter, scratch,
-                )?;
-            }
+            self.ask_one_ahead(
+                alloc, member, before, config, placed, out, nodes, meter, scratch,
+            )?;
         }
         scratch.keep_next(next);
-        scratch.keep_early(operations);
         Ok(())
     }
 
@@ -378,18 +538,7 @@ impl<'a, O: SeqObject> Completion<'a, O> {
         ensures tried { IsTriedAtMost (2 * (length self.now.pending.now * (length self.now.pending.now + 2)) + 1) meter.old meter.new }
     {
         if let Some(round) = self.round_given(alloc, member, &mut scratch.steps, meter)? {
-            let placed = placed_at(alloc, self.operation.at, self.reply)?;
-            let next = answered(
-                self.object,
-                alloc,
-                self.pending,
-                member,
-                round,
-                placed,
-                nodes,
-                &mut scratch.pool,
-            )?;
-            return push_member(out, next);
+            return self.push_answered(alloc, member, round, out, nodes, &mut scratch.pool);
         }
         if is_early(self.operation, member.path().until) {
             self.ask_all_ahead(alloc, member, out, nodes, meter, scratch)?;

@@ -6,8 +6,8 @@ ghost use Rattle.lin_members.specs.declared.members.Path.{Path as PathOf};
 ghost use Rattle.lin_frontier.specs.Nodes.{IsGrown};
 ghost use Rattle.lin_frontier.specs.Placing.{IsTried};
 ghost use Rattle.lin_objects.specs.Commuting.{GoesFirst};
-ghost use Rattle.lin_members.specs.Searching.{AreBehind, AreUpdates, PlacesIfUpdate, CanTake, GoesAhead, IsVisiting, IsFinding, IsFoundFrom, IsDone, IsMadeAtOnce, IsOffering, IsPassed, IsSearchOf, GivesAny, DominatesIn, watched};
-ghost use Rattle.lin_compressed.specs.Putting.{IsPutNext, IsTakenIn, IsTakenInIf};
+ghost use Rattle.lin_members.specs.Searching.{AreBehind, AreUpdates, PlacesIfUpdate, CanTake, GoesAhead, IsAnswered, IsVisiting, IsFinding, IsFoundFrom, IsDone, IsMadeAtOnce, IsOffering, IsPassed, IsSearchOf, GivesAny, DominatesIn, watched};
+ghost use Rattle.lin_listing.specs.Putting.{IsPutNext, IsTakenIn, IsTakenInIf};
 ghost use Rattle.lin_frontier.specs.Walks.{IsTriedAtMost};
 
 use crate::scratch::{Scratch, empty, give_up_all};
@@ -174,23 +174,24 @@ impl<'a, O: SeqObject> Completion<'a, O> {
         Ok(())
     }
 
-    /// Puts in `out`, which is written over, what placing one open update makes of the configuration. Crashed ones that have
+    /// Puts in `out`, which is written over, what placing one of these open updates makes of the configuration. Crashed ones that have
     /// the same call are placed in the order of their invocations, since nothing that follows tells them apart.
     pub(crate) fn updates(
         &self,
         alloc: Global,
+        pending: &Pending,
         config: &Config<O::State>,
         out: &mut Vec<(Config<O::State>, Placed)>,
         steps: &mut Vec<(O::State, Reply)>,
         meter: &mut Meter,
         pool: &mut Pool,
     ) -> Result<(), OutOfMemory>
-        ensures placed { OnOk result (AreUpdates (O.step self.now.object.now) (O.observing self.now.object.now) self.now.pending.now config.now out.new.items) }
-        ensures few { OnOk result (O.overwriting self.now.object.now ≡ true → length out.new.items ≤ length self.now.pending.now) }
-        ensures tried { IsTriedAtMost (length self.now.pending.now) meter.old meter.new }
+        ensures placed { OnOk result (AreUpdates (O.step self.now.object.now) (O.observing self.now.object.now) pending.now config.now out.new.items) }
+        ensures few { OnOk result (O.overwriting self.now.object.now ≡ true → length out.new.items ≤ length pending.now) }
+        ensures tried { IsTriedAtMost (length pending.now) meter.old meter.new }
     {
         empty(out);
-        let operations = self.pending.as_slice();
+        let operations = pending.as_slice();
         let mut at = 0;
         while let Some(operation) = operations.get(at) {
             if !waits_for_like(&operations[..at], config.placed(), operation) {
@@ -312,6 +313,36 @@ impl<'a, O: SeqObject> Completion<'a, O> {
         Ok(None)
     }
 
+    /// Puts in `out` what the operation, an observer, makes of the member where it takes the reply in the round.
+    #[inline(always)]
+    pub(crate) fn push_answered(
+        &self,
+        alloc: Global,
+        member: &Member<O::State>,
+        round: usize,
+        out: &mut Vec<Member<O::State>>,
+        nodes: &mut RoundNodes,
+        pool: &mut Pool,
+    ) -> Result<(), OutOfMemory>
+        requires observer { O.observing self.now.object.now self.now.operation.now.call ≡ true }
+        requires takes { CanTake (O.step self.now.object.now) self.now.operation.now self.now.reply.now member.now round }
+        ensures grown { IsGrown nodes.old nodes.new }
+        ensures made { OnOk result ((n : MemberOf O.State × PathOf) × (out.new.items ≡ out.old.items ++ n ∷ []) × IsAnswered (O.step self.now.object.now) (O.observing self.now.object.now) self.now.operation.now self.now.reply.now self.now.pending.now nodes.new member.now n × (n.1.until ≡ member.now.1.until)) }
+    {
+        let placed = placed_at(alloc, self.operation.at, self.reply)?;
+        let next = answered(
+            self.object,
+            alloc,
+            self.pending,
+            member,
+            round,
+            placed,
+            nodes,
+            pool,
+        )?;
+        push_member(out, next)
+    }
+
     /// Puts in `out` what the operation, an observer, makes of the member with its reply; or, where it can't take it,
     /// answers what is on offer behind the member.
     fn observe(
@@ -332,27 +363,12 @@ impl<'a, O: SeqObject> Completion<'a, O> {
         ensures offered { IfOk result (λ offers. IfSome offers (AreBehind (O.step self.now.object.now) (O.observing self.now.object.now) self.now.pending.now member.now)) }
         ensures tried { IsTriedAtMost (length self.now.pending.now + 1) meter.old meter.new }
     {
-        match self.round_given(alloc, member, steps, meter)? {
-            Some(round) => {
-                let placed = placed_at(alloc, self.operation.at, self.reply)?;
-                let next = answered(
-                    self.object,
-                    alloc,
-                    self.pending,
-                    member,
-                    round,
-                    placed,
-                    nodes,
-                    pool,
-                )?;
-                push_member(out, next)?;
-                Ok(None)
-            }
-            None => {
-                let offers = self.offers_behind(alloc, member, steps, meter, pool)?;
-                Ok(Some(offers))
-            }
+        if let Some(round) = self.round_given(alloc, member, steps, meter)? {
+            self.push_answered(alloc, member, round, out, nodes, pool)?;
+            return Ok(None);
         }
+        let offers = self.offers_behind(alloc, member, steps, meter, pool)?;
+        Ok(Some(offers))
     }
 
     /// Puts in `out` the member with the operation, an update, placed behind all, which leads to the configuration.
@@ -493,7 +509,15 @@ impl<'a, O: SeqObject> Completion<'a, O> {
     {
         match self.complete(alloc, member, out, nodes, steps, meter, pool)? {
             Some(offers) => {
-                self.updates(alloc, member.config(), next, steps, meter, pool)?;
+                self.updates(
+                    alloc,
+                    self.pending,
+                    member.config(),
+                    next,
+                    steps,
+                    meter,
+                    pool,
+                )?;
                 Ok(Some(offers))
             }
             None => Ok(None),

@@ -2,12 +2,8 @@
 #![tactic(auto)]
 
 mod asking;
-mod branches;
 mod completions;
 mod compressed;
-mod expansion;
-mod gathered;
-mod listed;
 mod scratch;
 mod seen;
 mod thinning;

@@ -19,12 +19,11 @@ ghost use Rattle.lin_members.specs.Members.{Member as MemberOf};
 ghost use Rattle.lin_frontier.specs.Nodes.{IsGrown};
 ghost use Rattle.lin_frontier.specs.Walks.{IsTriedAtMost};
 
-use crate::branches::are_surely_more;
 use crate::compressed::{Compressed, Found, alone_all, open_after, push_all_taken_out};
-use crate::listed::listed;
 use crate::scratch::Scratch;
 use lin_events::{Body, Event, Meter, OutOfMemory, ends_are_unique, well_formed_is_alternating};
 use lin_frontier::{Open, Pending};
+use lin_listing::{are_surely_more, listed};
 use lin_members::{
     Member, Pool, RoundNodes, dominated_can_go, members_after_events, members_are_exact,
     members_cover_configurations, overwritten_after_events, overwritten_can_go, pruned_many,

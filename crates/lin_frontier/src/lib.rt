@@ -13,7 +13,7 @@ mod spare;
 
 pub use configs::{Config, is_absent, is_pair, is_placed};
 pub use frontier::{Frontier, Step};
-pub use keeping::copy_config;
+pub use keeping::{copy_config, copy_without};
 pub use nodes::{NodeId, Nodes};
 pub use pairs::{PairList, Pairs};
 pub use pending::{Open, Pending, append_operations, nothing_is_open_at_first, open_of, take_in};

@@ -1,6 +1,6 @@
 //! Placing open operations in configurations.
 ghost use Rattle.std.specs.Prelude.{◌≡◌, ◌≤◌, ◌∷◌, ◌++◌, ◌+◌, [], true, false, length, OnOk};
-ghost use Rattle.lin_frontier.specs.Placing.{IsAbsent, IsTried, PlacesNext, PlacesOne};
+ghost use Rattle.lin_frontier.specs.Placing.{insert_pair, IsAbsent, IsTried, PlacesNext, PlacesOne};
 ghost use Rattle.lin_frontier.specs.Sameness.{config_same};
 ghost use Rattle.lin_frontier.specs.Walks.{IsTriedAtMost};
 
@@ -13,6 +13,31 @@ use lin_events::{Meter, OutOfMemory, Reply};
 use lin_objects::SeqObject;
 use lin_orders::Placed;
 use std::alloc::Global;
+use std::hash::Hash;
+
+/// Puts last what placing the operation with the reply makes of the configuration, where it leads to the state.
+#[inline(always)]
+fn put_step<S: Eq + Hash + Drop>(
+    alloc: Global,
+    config: &Config<S>,
+    operation: &Open,
+    state: S,
+    reply: Reply,
+    out: &mut Vec<(Config<S>, Placed)>,
+    spare: &mut Spare<PairList>,
+) -> Result<(), OutOfMemory>
+    ensures { OnOk result (out.new.items ≡ out.old.items ++ ((state, insert_pair operation.now.process reply config.now.1), record { at = operation.now.at; reply = reply }) ∷ []) }
+{
+    let placed = Placed {
+        at: operation.at,
+        reply: reply.copy(alloc)?,
+    };
+    let next = config.with_placed(alloc, state, operation.process, reply, spare)?;
+    match out.push((next, placed)) {
+        Ok(()) => Ok(()),
+        Err(_) => Err(OutOfMemory),
+    }
+}
 
 /// Places the operation, which has no place in the configuration yet, in each way that the object has. `steps` is only
 /// written over.
@@ -35,15 +60,7 @@ fn place<O: SeqObject>(
     meter.tick_try();
     object.outcomes(alloc, config.state(), &operation.call, steps)?;
     while let Some((state, reply)) = steps.pop() {
-        let placed = Placed {
-            at: operation.at,
-            reply: reply.copy(alloc)?,
-        };
-        let next = config.with_placed(alloc, state, operation.process, reply, spare)?;
-        match out.push((next, placed)) {
-            Ok(()) => {}
-            Err(_) => return Err(OutOfMemory),
-        }
+        put_step(alloc, config, operation, state, reply, out, spare)?;
     }
     Ok(())
 }

@@ -1,5 +1,6 @@
 //! Crashed operations that have the same call. Nothing that follows tells them apart, so one may stand in for another.
-ghost use Rattle.std.specs.Prelude.{◌≡◌, ◌∷◌, ◌++◌, [], Contains, IsTrue, IfOk, IfSome, OnOk, map};
+ghost use Rattle.std.specs.Prelude.{◌≡◌, ◌∷◌, ◌++◌, [], ℕ, List, Contains, IsTrue, IfOk, IfSome, OnOk, map};
+ghost use Rattle.lin_events.specs.declared.calls.Reply.{Reply as ReplyOf};
 ghost use Rattle.lin_frontier.specs.declared.pending.Open.{Open as OpenOf};
 ghost use Rattle.lin_frontier.specs.Placing.{IsAbsent};
 ghost use Rattle.lin_members.specs.Settling.{renamed_pair, IsRenamed};
@@ -89,6 +90,24 @@ fn append_renamed(
     pairs.push(of, reply)
 }
 
+/// Puts copies of the pairs in the empty list, with the other process in place of this one.
+fn put_renamed(
+    alloc: Global,
+    list: &mut PairList,
+    pairs: &[(u64, Reply)],
+    process: u64,
+    other: u64,
+) -> Result<(), OutOfMemory>
+    requires { list.old ≡ [] }
+    ensures { OnOk result (list.new ≡ map (renamed_pair process other) pairs.now) }
+{
+    list.reserve(pairs.len())?;
+    for pair in pairs {
+        append_renamed(alloc, list, pair, process, other)?;
+    }
+    Ok(())
+}
+
 /// The pairs with the other process in place of this one.
 fn renamed(
     alloc: Global,
@@ -104,11 +123,24 @@ fn renamed(
     let Some(list) = Rc::get_mut(&mut shared) else {
         return Err(OutOfMemory);
     };
-    list.reserve(pairs.len())?;
-    for pair in pairs {
-        append_renamed(alloc, list, pair, process, other)?;
-    }
+    put_renamed(alloc, list, pairs, process, other)?;
     Ok(Pairs::of(shared, &mut spare))
+}
+
+/// The pairs with the operation, if it crashed, in the place of the first like it that isn't placed.
+fn settle_one(
+    alloc: Global,
+    pending: &[Open],
+    placed: Pairs,
+    operation: &Open,
+) -> Result<Pairs, OutOfMemory>
+    requires { Contains pending.now operation.now }
+    ensures { IfOk result (λ out. (first : List (ℕ × ReplyOf)) → IsRenamed pending.now first placed → IsRenamed pending.now first out) }
+{
+    match stand_in(pending, placed.as_slice(), operation) {
+        Some(other) => renamed(alloc, placed.as_slice(), operation.process, other.process),
+        None => Ok(placed),
+    }
 }
 
 /// The pairs with each crashed operation in the place of the first like it that isn't placed.
@@ -117,9 +149,7 @@ pub fn settle(alloc: Global, pending: &[Open], placed: &Pairs) -> Result<Pairs, 
 {
     let mut now = placed.copy()?;
     for operation in pending {
-        if let Some(other) = stand_in(pending, now.as_slice(), operation) {
-            now = renamed(alloc, now.as_slice(), operation.process, other.process)?;
-        }
+        now = settle_one(alloc, pending, now, operation)?;
     }
     Ok(now)
 }

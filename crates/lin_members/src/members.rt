@@ -12,7 +12,7 @@ use crate::offers::Offers;
 use crate::pool::Pool;
 use crate::rounds::RoundNodes;
 use lin_events::{OutOfMemory, Reply};
-use lin_frontier::{Config, Pending};
+use lin_frontier::{Config, Pending, copy_config, copy_without};
 use lin_objects::SeqObject;
 use lin_orders::Placed;
 use std::alloc::Global;
@@ -137,12 +137,12 @@ pub fn copied<O: SeqObject>(
       member.now.1,
     )) }
 {
-    let state = object.copy_state(alloc, member.config.state())?;
+    let offers = member
+        .offers
+        .watched(object, alloc, pending, &mut pool.offers)?;
     Ok(Member {
-        config: member.config.with_state(state)?,
-        offers: member
-            .offers
-            .watched(object, alloc, pending, &mut pool.offers)?,
+        config: copy_config(object, alloc, &member.config)?,
+        offers,
         path: member.path,
     })
 }
@@ -166,14 +166,12 @@ pub fn taken_out<O: SeqObject>(
       member.now.1,
     )) }
 {
-    let state = object.copy_state(alloc, member.config.state())?;
+    let offers = member
+        .offers
+        .watched(object, alloc, pending, &mut pool.offers)?;
     Ok(Member {
-        config: member
-            .config
-            .without(alloc, state, process, &mut pool.pairs)?,
-        offers: member
-            .offers
-            .watched(object, alloc, pending, &mut pool.offers)?,
+        config: copy_without(object, alloc, &member.config, process, &mut pool.pairs)?,
+        offers,
         path: member.path,
     })
 }
@@ -200,17 +198,9 @@ pub fn answered<O: SeqObject>(
     ensures until { IfOk result (λ next. next.1.until ≡ member.now.1.until) }
     ensures node { IfOk result (λ next. IsNodeOf nodes.new next.1.node member.now.1.node (placed, Some round)) }
 {
-    let state = object.copy_state(alloc, member.config.state())?;
-    let config = member.config.with_state(state)?;
-    let offers = member
-        .offers
-        .watched(object, alloc, pending, &mut pool.offers)?;
     let path = in_round(member.path, placed, round, nodes)?;
-    Ok(Member {
-        config,
-        offers,
-        path,
-    })
+    let same = copied(object, alloc, pending, member, pool)?;
+    Ok(Member { path, ..same })
 }
 
 /// A node more under the parent.
@@ -315,8 +305,8 @@ pub fn advanced<S: Eq + Hash + Drop>(
     ensures round { IfOk result (λ next. next.1.round ≡ path.round + 1) }
     ensures node { IfOk result (λ next. IsNodeOf nodes.new next.1.node path.node (placed, None)) }
 {
-    let offers = offers.copy()?;
     let path = in_next_round(path, placed, nodes)?;
+    let offers = offers.copy()?;
     Ok(Member {
         config,
         offers,
@@ -332,10 +322,10 @@ pub fn same<O: SeqObject>(
 ) -> Result<Member<O::State>, OutOfMemory>
     ensures { IfOk result (λ copy. copy ≡ member.now) }
 {
-    let state = object.copy_state(alloc, member.config.state())?;
+    let offers = member.offers.copy()?;
     Ok(Member {
-        config: member.config.with_state(state)?,
-        offers: member.offers.copy()?,
+        config: copy_config(object, alloc, &member.config)?,
+        offers,
         path: member.path,
     })
 }
@@ -348,9 +338,8 @@ pub fn bare<O: SeqObject>(
 ) -> Result<Member<O::State>, OutOfMemory>
     ensures { IfOk result (λ copy. copy ≡ with_offers [] member.now) }
 {
-    let state = object.copy_state(alloc, member.config.state())?;
     Ok(Member {
-        config: member.config.with_state(state)?,
+        config: copy_config(object, alloc, &member.config)?,
         offers: Offers::none(),
         path: member.path,
     })

@@ -1,7 +1,8 @@
 //! What is on offer: the replies that observers may still be given, each with a round whose state gave it.
-ghost use Rattle.std.specs.Prelude.{◌≡◌, ◌&&◌, nat_eq, not, IsTrue, IsFalse, true, [], ◌∷◌, ◌++◌, ℕ, IfOk, IfSome, IfNone, OnOk, Contains, Some, length};
+ghost use Rattle.std.specs.Prelude.{◌≡◌, ◌&&◌, ◌↔◌, nat_eq, not, IsTrue, IsFalse, true, [], ◌∷◌, ◌++◌, ℕ, IfOk, IfSome, IfNone, OnOk, Contains, Some, length};
 ghost use Rattle.lin_events.specs.declared.calls.Reply.{Reply as ReplyOf};
 ghost use Rattle.lin_members.specs.Searching.{is_observing as is_observing_in, is_watching as is_watching_in, watched as watched_of, AreSteps, GivesOne, GivesAny, IsOffering, Knows, Told};
+ghost use Rattle.lin_frontier.specs.Placing.{IsAbsent};
 ghost use Rattle.lin_frontier.specs.Walks.{IsTriedAtMost};
 
 use lin_events::{Call, Meter, OutOfMemory, Reply, Val};
@@ -150,6 +151,24 @@ fn know<O: SeqObject>(
     object.outcomes(alloc, state, call, steps)?;
     *known = Some(*call);
     Ok(())
+}
+
+/// Whether the operation observes, and its process watches and has no place in the configuration.
+fn may_be_told<O: SeqObject>(
+    object: &O,
+    config: &Config<O::State>,
+    pending: &Pending,
+    operation: &Open,
+) -> bool
+    ensures { IsTrue result ↔ ((O.observing object.now operation.now.call ≡ true) × (is_watching_in (O.observing object.now) pending.now operation.now.process ≡ true) × IsAbsent operation.now.process config.now.1) }
+{
+    if !object.observes(&operation.call) {
+        return false;
+    }
+    if !is_watching(object, pending, operation.process) {
+        return false;
+    }
+    is_absent(config.placed(), operation.process)
 }
 
 /// The first round in which the process was offered the reply.
@@ -400,13 +419,7 @@ impl OfferList {
         ensures knows { OnOk result (Knows (O.step object.now) config.now.0 known.new steps.new.items) }
         ensures tried { IsTriedAtMost 1 meter.old meter.new }
     {
-        if !object.observes(&operation.call) {
-            return Ok(());
-        }
-        if !is_watching(object, pending, operation.process) {
-            return Ok(());
-        }
-        if !is_absent(config.placed(), operation.process) {
+        if !may_be_told(object, config, pending, operation) {
             return Ok(());
         }
         know(
@@ -418,8 +431,7 @@ impl OfferList {
             steps,
             meter,
         )?;
-        self.offer_steps(alloc, operation.process, round, steps)?;
-        Ok(())
+        self.offer_steps(alloc, operation.process, round, steps)
     }
 
     /// Offers in the round what the configuration's state gives to the operations. `steps` is only written over.

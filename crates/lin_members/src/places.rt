@@ -11,6 +11,27 @@ pub struct Places {
     count: usize,
 }
 
+/// Puts the place last of those that have the key.
+fn put_place(
+    by_key: &mut IndexMap<u64, Vec<usize>>,
+    alloc: Global,
+    key: u64,
+    at: usize,
+) -> Result<(), OutOfMemory> {
+    if let Some(places) = by_key.get_mut(&key) {
+        return match places.push(at) {
+            Ok(()) => Ok(()),
+            Err(_) => Err(OutOfMemory),
+        };
+    }
+    let mut places = Vec::new(alloc);
+    places.push(at)?;
+    match by_key.insert(key, places) {
+        Ok(_) => Ok(()),
+        Err(_) => Err(OutOfMemory),
+    }
+}
+
 impl Places {
     /// Of no member.
     pub fn new() -> Self {
@@ -43,20 +64,9 @@ impl Places {
         if self.by_key.is_none() {
             self.by_key = Some(Box::new(alloc, IndexMap::new(alloc))?);
         }
-        let Some(by_key) = &mut self.by_key else {
-            return Err(OutOfMemory);
-        };
-        if let Some(places) = by_key.get_mut(&key) {
-            return match places.push(at) {
-                Ok(()) => Ok(()),
-                Err(_) => Err(OutOfMemory),
-            };
-        }
-        let mut places = Vec::new(alloc);
-        places.push(at)?;
-        match by_key.insert(key, places) {
-            Ok(_) => Ok(()),
-            Err(_) => Err(OutOfMemory),
+        match &mut self.by_key {
+            Some(by_key) => put_place(by_key, alloc, key, at),
+            None => Err(OutOfMemory),
         }
     }
 }

@@ -21,7 +21,7 @@ use histories::History;
 use lin_edn::{Edn, Inside, Next, Series, Skim, nested_until, next_element};
 use lin_events::{Body, Call, Event, IntSet, Meter, Name, Reply, Shape, Val};
 use lin_history::{EventFault, Follow, FollowFault, NextEvent, event_of, next_event};
-use lin_objects::{Any, IntQueue, Kind, Kinds, SeqObject, State};
+use lin_objects::{Any, IntBag, IntQueue, Kind, Kinds, SeqObject, State};
 use lin_orders::{Placed, check_order, merge};
 use lin_wellformed::{Scan, look_back};
 use std::alloc::Global;
@@ -63,6 +63,7 @@ fn answer_object(alloc: Global, command: &str, rest: &str, out: &mut String) -> 
         "has-taken" => objects::has_taken(alloc, rest, out),
         "object" => objects::object(alloc, rest, out),
         "observes" => objects::observes(alloc, rest, out),
+        "outcomes" => objects::outcomes(alloc, rest, out),
         "replies" => objects::replies(alloc, rest, out),
         "shown" => objects::shown(alloc, rest, out),
         "taken" => objects::taken(alloc, rest, out),
@@ -71,9 +72,10 @@ fn answer_object(alloc: Global, command: &str, rest: &str, out: &mut String) -> 
     }
 }
 
-/// A row's command that is about queues, kinds and merged orders.
+/// A row's command that is about queues, ordered or not, kinds and merged orders.
 fn answer_list(alloc: Global, command: &str, rest: &str, out: &mut String) -> Option<()> {
     match command {
+        "bag" => objects::bag(alloc, rest, out),
         "kinds" => objects::kinds(alloc, rest, out),
         "merge" => orders::merge_parts(alloc, rest, out),
         "merge-pairs" => orders::merge_pairs(alloc, rest, out),

@@ -1,6 +1,6 @@
 //! Rows about sequential objects and their kinds.
-use crate::shown::put_reply;
-use crate::{Any, Call, IntQueue, Kind, Kinds, Name, Reply, SeqObject, State, words};
+use crate::shown::{put_reply, put_state};
+use crate::{Any, Call, IntBag, IntQueue, Kind, Kinds, Name, Reply, SeqObject, State, words};
 use std::alloc::Global;
 
 const NAMES: [Name; 8] = [
@@ -28,7 +28,7 @@ pub fn object(alloc: Global, word: &str, out: &mut String) -> Option<()> {
     write!(out, "copied: {}", copy == start).ok()
 }
 
-/// Takes a step on a call, and tells the reply; nothing where there is none.
+/// Takes a step on a call, the one that is listed last, and tells the reply; nothing where there is none.
 fn take_step(alloc: Global, object: Any, state: &mut State, call: &Call) -> Option<Reply> {
     let mut outcomes = Vec::new(alloc);
     object.outcomes(alloc, state, call, &mut outcomes).ok()?;
@@ -78,6 +78,41 @@ fn next_state(
     let call = words::call(alloc, call)?;
     let reply = words::reply(alloc, reply)?;
     Any { kind }.next(alloc, state?, &call, &reply).ok()
+}
+
+/// The state behind calls with their replies, if there is one.
+fn state_behind(alloc: Global, kind: Kind, words: &str) -> Option<State> {
+    let mut state = Some(Any { kind }.start(alloc));
+    for word in words.split_whitespace() {
+        state = next_state(alloc, kind, state, word)?;
+    }
+    state
+}
+
+/// `outcomes KIND CALL CALL:REPLY ..`: what the first call may come to behind the others, each reply with the state that it leaves.
+pub fn outcomes(alloc: Global, text: &str, out: &mut String) -> Option<()> {
+    let (word, rest) = words::first_word(text);
+    let object = Any {
+        kind: words::kind(word)?,
+    };
+    let (word, rest) = words::first_word(rest);
+    let call = words::call(alloc, word)?;
+    let state = state_behind(alloc, object.kind, rest)?;
+    let mut outcomes = Vec::new(alloc);
+    object.outcomes(alloc, &state, &call, &mut outcomes).ok()?;
+    put_outcomes(outcomes.as_slice(), out)
+}
+
+/// How many there are, and each reply with the state that it leaves.
+fn put_outcomes(outcomes: &[(State, Reply)], out: &mut String) -> Option<()> {
+    write!(out, "{}:", outcomes.len()).ok()?;
+    for (next, reply) in outcomes {
+        out.push(' ').ok()?;
+        put_reply(out, reply)?;
+        out.push_str(" leaves ").ok()?;
+        put_state(out, next)?;
+    }
+    Some(())
 }
 
 /// `observes KIND CALLS`: of each call whether it observes.
@@ -134,6 +169,14 @@ pub fn queue(alloc: Global, text: &str, out: &mut String) -> Option<()> {
     let numbers = words::numbers(alloc, text)?;
     let queue = IntQueue::from_vec(alloc, numbers).ok()?;
     let copy = queue.copy().ok()?;
+    write!(out, "{:?}", copy.as_slice()).ok()
+}
+
+/// `bag NUMBERS`: a copy of the bag of the numbers.
+pub fn bag(alloc: Global, text: &str, out: &mut String) -> Option<()> {
+    let numbers = words::numbers(alloc, text)?;
+    let bag = IntBag::from_vec(alloc, numbers).ok()?;
+    let copy = bag.copy().ok()?;
     write!(out, "{:?}", copy.as_slice()).ok()
 }
 

@@ -1,12 +1,29 @@
 //! How answers are shown.
-use crate::{Body, Event, EventFault, Name, Placed, Reply, Val};
+use crate::{Body, Event, EventFault, Name, Placed, Reply, State, Val};
+
+fn put_value(out: &mut String, value: Val) -> Option<()> {
+    match value {
+        Val::Nil => out.push_str("nil").ok(),
+        Val::Int(number) => write!(out, "{number}").ok(),
+    }
+}
 
 pub fn put_reply(out: &mut String, reply: &Reply) -> Option<()> {
     match reply {
         Reply::Done => out.push_str("done").ok(),
-        Reply::Value(Val::Nil) => out.push_str("nil").ok(),
-        Reply::Value(Val::Int(number)) => write!(out, "{number}").ok(),
+        Reply::Value(value) => put_value(out, *value),
         Reply::Members(members) => write!(out, "{:?}", members.as_slice()).ok(),
+    }
+}
+
+/// What the state's object holds, or for a lock whether it is held.
+pub fn put_state(out: &mut String, state: &State) -> Option<()> {
+    match state {
+        State::Value(value) => put_value(out, *value),
+        State::Queue(queue) => write!(out, "{:?}", queue.as_slice()).ok(),
+        State::Members(members) => write!(out, "{:?}", members.as_slice()).ok(),
+        State::Held(held) => write!(out, "{held}").ok(),
+        State::Bag(bag) => write!(out, "{:?}", bag.as_slice()).ok(),
     }
 }
 

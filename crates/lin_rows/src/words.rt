@@ -40,6 +40,7 @@ pub fn kind(word: &str) -> Option<Kind> {
         "fifo" => Some(Kind::Fifo),
         "set" => Some(Kind::Set),
         "mutex" => Some(Kind::Mutex),
+        "unordered-queue" => Some(Kind::Bag),
         _ => None,
     }
 }

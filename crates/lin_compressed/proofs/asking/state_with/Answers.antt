@@ -1,7 +1,7 @@
 use Rattle.std.proofs.Common.{sym, ◌∙◌, true≢false}
 use Rattle.std.proofs.lemmas.List.Elements.{Contains-get_or}
 use Rattle.lin_events.specs.Replies.{reply_Decides}
-use Rattle.lin_compressed.proofs.Visiting.{sifting_skip, sifting_hit, sifting_end}
+use Rattle.lin_listing.specs.lemmas.Visiting.{sifting_skip, sifting_hit, sifting_end}
 use Rattle.lin_compressed.proofs.asking.state_with.Goals as goal
 
 pub loop-state-init : goal.loop-state-init

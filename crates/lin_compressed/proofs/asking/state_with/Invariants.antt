@@ -1,5 +1,5 @@
 use Rattle.std.proofs.Common.{Contains, vec_len}
-use Rattle.lin_compressed.proofs.Visiting.{IsSifting}
+use Rattle.lin_listing.specs.lemmas.Visiting.{IsSifting}
 use Rattle.lin_compressed.proofs.asking.state_with.Given as goal
 
 abbrev pub invariant-loop-state : goal.invariant-loop-state

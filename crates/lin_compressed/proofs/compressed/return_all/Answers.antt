@@ -1,8 +1,10 @@
 use Rattle.std.proofs.Common.{◌+◌, ◌*◌, ◌∙◌, arith, length, subst, sym, true≢false}
+use Rattle.std.proofs.lemmas.Grind.{common_steps}
+use Rattle.std.proofs.lemmas.Result.{IfOk-from_err}
 use Rattle.lin_frontier.specs.Walks.{IsTriedAtMost}
 use Rattle.lin_frontier.specs.lemmas.Counting.{tried_none, tried_turn, tried_turns}
 use Rattle.lin_compressed.proofs.ReturningAll.{returning_all, returning_next, returning_skip}
-use Rattle.lin_compressed.proofs.Visiting.{grown_grown}
+use Rattle.lin_listing.specs.lemmas.Visiting.{grown_grown}
 use Rattle.lin_compressed.proofs.compressed.return_all.Goals.{then-is_absent+in_ok-return_from, else-is_absent}
 use Rattle.lin_compressed.proofs.compressed.return_all.Goals as goal
 
@@ -49,3 +51,17 @@ pub returns-clause-sound : goal.returns-clause-sound
 returns-clause-sound g c =
     (returning_all (g.O.SeqObject.step c.args.completion.now.object.now) (g.O.SeqObject.observing c.args.completion.now.object.now) c.args.completion.now.operation.now c.args.completion.now.reply.now
     c.args.completion.now.pending.now c.args.now c.args.members.now c.loop-member.member-index c.args.nodes.now c.loop-member.nodes c.loop-member.found.items c.loop-member-test.false c.loop-member.invariant.returning).sound
+
+pub returns-clause-all : goal.returns-clause-all
+returns-clause-all g c =
+    (returning_all (g.O.SeqObject.step c.args.completion.now.object.now) (g.O.SeqObject.observing c.args.completion.now.object.now) c.args.completion.now.operation.now c.args.completion.now.reply.now
+    c.args.completion.now.pending.now c.args.now c.args.members.now c.loop-member.member-index c.args.nodes.now c.loop-member.nodes c.loop-member.found.items c.loop-member-test.false c.loop-member.invariant.returning).all
+
+pub returns-in_err-return_from-clause-all : goal.returns-in_err-return_from-clause-all
+returns-in_err-return_from-clause-all g c = IfOk-from_err _ _ c.from_residual.ensures.0
+
+pub returns-in_err-return_from-clause-sound : goal.returns-in_err-return_from-clause-sound
+returns-in_err-return_from-clause-sound g c = IfOk-from_err _ _ c.from_residual.ensures.0
+
+pub returns-clause-tried : goal.returns-clause-tried
+returns-clause-tried g c = grind (arith, common_steps)

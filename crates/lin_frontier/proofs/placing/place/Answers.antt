@@ -1,4 +1,4 @@
-use Rattle.std.proofs.Common.{◌+◌, ◌++◌, ◌∷◌, [], length, refl, sym, ap, ◌∙◌, arith}
+use Rattle.std.proofs.Common.{◌+◌, length, refl, sym, ◌∙◌, arith}
 use Rattle.std.proofs.lemmas.List.Elements.{Contains-get_or}
 use Rattle.lin_frontier.proofs.TriedOnce.{one_step, counted_step, tried_end}
 use Rattle.lin_frontier.specs.lemmas.Trying.{trying_start, trying_step}
@@ -15,12 +15,10 @@ loop-state-init g c =
 
 pub loop-state-preserved : goal.loop-state-preserved
 loop-state-preserved g c =
-    let made = c.in_ok-next.ensures in
-    let label = c.in_ok-copy.ensures in
-    let pushed = c.in-Ok.ensures.items ∙ ap (λ e. c.loop-state.out.items ++ e ∷ []) (λ i. (made i, (record { at = c.args.operation.now.at; reply = label i }))) in
+    let pushed = c.in_ok-put_step.ensures in
     record {
       trying = trying_step _ _ c.args.out.now.items c.loop-state.steps.items c.pop.new.self.items c.loop-state.out.items _ (c.in-Some.state, c.in-Some.reply) c.in-Some.ensures.items pushed c.loop-state.invariant.trying;
-      counted = counted_step c.loop-state.steps.items c.pop.new.self.items _ c.loop-state.out.items _ _ (length c.args.out.now.items + length c.outcomes.new.out.items) c.in-Some.ensures.items c.in-Ok.ensures.items c.loop-state.invariant.counted;
+      counted = counted_step c.loop-state.steps.items c.pop.new.self.items _ c.loop-state.out.items _ _ (length c.args.out.now.items + length c.outcomes.new.out.items) c.in-Some.ensures.items pushed c.loop-state.invariant.counted;
     }
 
 pub returns-clause-placed : goal.returns-clause-placed

@@ -1,4 +1,5 @@
-use Rattle.std.proofs.Common.{sym, ◌∙◌}
+use Rattle.std.proofs.Common.{sym, ◌∙◌, arith}
+use Rattle.std.proofs.lemmas.Grind.{common_steps}
 use Rattle.std.proofs.lemmas.Map.Views.{Contains-keys_from_lookup}
 use Rattle.indexmap.proofs.CallerLemmas.{insert_entry-new}
 use Rattle.lin_frontier.specs.lemmas.Absorbing.{absorbing_start, absorbing_skip, absorbing_push, absorbing_end, none_from_not_some, nothing_left}
@@ -20,3 +21,6 @@ loop-state-preserved-in-Ok g c =
 pub returns-clause-taken : goal.returns-clause-taken
 returns-clause-taken g c =
     absorbing_end _ _ _ _ _ _ _ (nothing_left _ (sym c.loop-state.rest.ok.0 ∙ c.in_default.ensures.cases.0)) c.loop-state.invariant
+
+pub returns-in-Err-clause-grown : goal.returns-in-Err-clause-grown
+returns-in-Err-clause-grown g c = grind (arith, common_steps)

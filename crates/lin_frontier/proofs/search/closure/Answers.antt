@@ -66,3 +66,14 @@ pub returns-then-len-budget-2-clause-tried : goal.returns-then-len-budget-2-clau
 returns-then-len-budget-2-clause-tried g c =
     let inside = c.in-Some.ensures.found.0 refl in
     tried_turns (c.loop-state.at + 1) c.args.budget _ _ _ (omega (arith, c.loop-state.invariant.small)) (tried_turn c.loop-state.at _ _ _ _ c.loop-state.invariant.tried c.outcomes.ensures.tried)
+
+-- the outcomes were tried, whatever became of them
+pub returns-in_err-out-clause-tried : goal.returns-in_err-out-clause-tried
+returns-in_err-out-clause-tried g c =
+    let inside = c.in-Some.ensures.found.0 refl in
+    tried_turns (c.loop-state.at + 1) c.args.budget _ _ _ (omega (arith, c.loop-state.invariant.small)) (tried_turn c.loop-state.at _ _ _ _ c.loop-state.invariant.tried c.outcomes.ensures.tried)
+
+pub returns-in_err-absorb-clause-tried : goal.returns-in_err-absorb-clause-tried
+returns-in_err-absorb-clause-tried g c =
+    let inside = c.in-Some.ensures.found.0 refl in
+    tried_turns (c.loop-state.at + 1) c.args.budget _ _ _ (omega (arith, c.loop-state.invariant.small)) (tried_turn c.loop-state.at _ _ _ _ c.loop-state.invariant.tried c.outcomes.ensures.tried)

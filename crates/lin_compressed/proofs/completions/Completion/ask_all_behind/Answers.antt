@@ -1,8 +1,7 @@
-use Rattle.std.proofs.Common.{◌+◌, length, Contains, subst, sym, ◌∙◌, arith, true≢false}
+use Rattle.std.proofs.Common.{◌+◌, length, Contains, subst, sym, ◌∙◌, arith, inl, inr}
 use Rattle.std.proofs.lemmas.List.Elements.{Contains-push}
-use Rattle.lin_frontier.specs.lemmas.Counting.{tried_more}
 use Rattle.lin_compressed.proofs.Placings.{behind_end, behind_push, behind_skip, behind_start, counting_end, counting_start, counting_turn}
-use Rattle.lin_compressed.proofs.Visiting.{grown_grown}
+use Rattle.lin_listing.specs.lemmas.Visiting.{grown_grown}
 use Rattle.lin_compressed.proofs.completions.Completion.ask_all_behind.Goals as goal
 
 pub loop-config-init : goal.loop-config-init
@@ -11,53 +10,28 @@ loop-config-init g c = record {
   counting = counting_start (length c.args.self.now.pending.now) (length c.updates.new.out.items) _ _ (c.in_ok-updates.ensures.few c.requires.overwriting) c.updates.ensures.tried;
 }
 
-pub returns-in_err-gives-clause-grown : goal.returns-in_err-gives-clause-grown
-returns-in_err-gives-clause-grown g c = c.loop-config.invariant.asking.nodes_grown
-
-pub returns-in_err-gives-clause-tried : goal.returns-in_err-gives-clause-tried
-returns-in_err-gives-clause-tried g c =
-    counting_end (length c.args.self.now.pending.now) (length c.pop.new.self.items) _ _ (counting_turn (length c.args.self.now.pending.now) c.loop-config.next.items c.pop.new.self.items (c.in-Some.config, c.in-Some.placed) 1 _ _ _ c.in-Some.ensures.items (omega arith) c.loop-config.invariant.counting c.gives.ensures.tried)
-
-pub ask_behind-requires-clause-places : goal.ask_behind-requires-clause-places
-ask_behind-requires-clause-places g c =
+pub ask_one_behind-requires-clause-places : goal.ask_one_behind-requires-clause-places
+ask_one_behind-requires-clause-places g c =
     let updates = rw c.config.ensures at c.in_ok-updates.ensures.placed in
     updates.sound c.in-Some.config c.in-Some.placed (c.loop-config.invariant.asking.from_rest (c.in-Some.config, c.in-Some.placed) (subst (λ l. Contains l (c.in-Some.config, c.in-Some.placed)) (sym c.in-Some.ensures.items) (Contains-push c.pop.new.self.items (c.in-Some.config, c.in-Some.placed))))
 
-pub loop-config-preserved-in-Continue-branch-3 : goal.loop-config-preserved-in-Continue-branch-3
-loop-config-preserved-in-Continue-branch-3 g c =
-    let made = c.in_ok-ask_behind.ensures.made in
-    record {
-      asking = behind_push _ _ c.args.self.now.operation.now c.args.self.now.reply.now c.args.self.now.pending.now c.args.now c.args.member.now c.updates.new.out.items c.args.nodes.now c.args.out.now.items c.loop-config.next.items c.pop.new.self.items c.loop-config.nodes c.loop-config.out.items (c.in-Some.config, c.in-Some.placed) c.in-Some.ensures.items
-          c.ask_behind.new.nodes c.ask_behind.new.out.items made.0 c.ask_behind.ensures.grown made.1 (made.2, made.3, made.4) c.loop-config.invariant.asking;
-      counting = counting_turn (length c.args.self.now.pending.now) c.loop-config.next.items c.pop.new.self.items (c.in-Some.config, c.in-Some.placed) ((length c.args.self.now.pending.now) + 1) _ _ _ c.in-Some.ensures.items (omega arith) c.loop-config.invariant.counting
-          (tried_more 1 (length c.args.self.now.pending.now) ((length c.args.self.now.pending.now) + 1) _ _ _ (omega arith) c.gives.ensures.tried c.ask_behind.ensures.tried);
-    }
-
-pub returns-in_err-ask_behind-clause-grown : goal.returns-in_err-ask_behind-clause-grown
-returns-in_err-ask_behind-clause-grown g c = grown_grown c.args.nodes.now c.loop-config.nodes c.ask_behind.new.nodes c.loop-config.invariant.asking.nodes_grown c.ask_behind.ensures.grown
-
-pub returns-in_err-ask_behind-clause-tried : goal.returns-in_err-ask_behind-clause-tried
-returns-in_err-ask_behind-clause-tried g c =
-    counting_end (length c.args.self.now.pending.now) (length c.pop.new.self.items) _ _ (counting_turn (length c.args.self.now.pending.now) c.loop-config.next.items c.pop.new.self.items (c.in-Some.config, c.in-Some.placed) ((length c.args.self.now.pending.now) + 1) _ _ _ c.in-Some.ensures.items (omega arith) c.loop-config.invariant.counting
-    (tried_more 1 (length c.args.self.now.pending.now) ((length c.args.self.now.pending.now) + 1) _ _ _ (omega arith) c.gives.ensures.tried c.ask_behind.ensures.tried))
-
-pub loop-config-preserved-else-branch : goal.loop-config-preserved-else-branch
-loop-config-preserved-else-branch g c =
-    let given = rw c.state.ensures at c.in_ok-gives.ensures.given in
-    record {
-      asking = behind_skip _ _ c.args.self.now.operation.now c.args.self.now.reply.now c.args.self.now.pending.now c.args.now c.args.member.now c.updates.new.out.items c.args.nodes.now c.args.out.now.items c.loop-config.next.items c.pop.new.self.items c.loop-config.nodes c.loop-config.out.items (c.in-Some.config, c.in-Some.placed) c.in-Some.ensures.items
-          (λ gives. true≢false (sym (given.1 gives) ∙ c.if-branch.false)) c.loop-config.invariant.asking;
-      counting = counting_turn (length c.args.self.now.pending.now) c.loop-config.next.items c.pop.new.self.items (c.in-Some.config, c.in-Some.placed) 1 _ _ _ c.in-Some.ensures.items (omega arith) c.loop-config.invariant.counting c.gives.ensures.tried;
-    }
-
 pub loop-config-preserved : goal.loop-config-preserved
-loop-config-preserved g c =
-    let given = rw c.state.ensures at c.in_ok-gives.ensures.given in
-    record {
-      asking = behind_skip _ _ c.args.self.now.operation.now c.args.self.now.reply.now c.args.self.now.pending.now c.args.now c.args.member.now c.updates.new.out.items c.args.nodes.now c.args.out.now.items c.loop-config.next.items c.pop.new.self.items c.loop-config.nodes c.loop-config.out.items (c.in-Some.config, c.in-Some.placed) c.in-Some.ensures.items
-          (λ gives. true≢false (sym (given.1 gives) ∙ c.if-branch.false)) c.loop-config.invariant.asking;
-      counting = counting_turn (length c.args.self.now.pending.now) c.loop-config.next.items c.pop.new.self.items (c.in-Some.config, c.in-Some.placed) 1 _ _ _ c.in-Some.ensures.items (omega arith) c.loop-config.invariant.counting c.gives.ensures.tried;
-    }
+loop-config-preserved g c = record {
+  asking = elim c.in_ok-ask_one_behind.ensures.asked [
+    | inl made ↦
+        behind_push _ _ c.args.self.now.operation.now c.args.self.now.reply.now c.args.self.now.pending.now c.args.now c.args.member.now c.updates.new.out.items c.args.nodes.now c.args.out.now.items c.loop-config.next.items c.pop.new.self.items c.loop-config.nodes c.loop-config.out.items (c.in-Some.config, c.in-Some.placed) c.in-Some.ensures.items
+        c.ask_one_behind.new.nodes c.ask_one_behind.new.out.items made.0 c.ask_one_behind.ensures.grown made.1 (made.2, made.3, made.4) c.loop-config.invariant.asking
+    | inr none ↦ rw (none.2, none.1) (behind_skip _ _ c.args.self.now.operation.now c.args.self.now.reply.now c.args.self.now.pending.now c.args.now c.args.member.now c.updates.new.out.items c.args.nodes.now c.args.out.now.items c.loop-config.next.items c.pop.new.self.items c.loop-config.nodes c.loop-config.out.items (c.in-Some.config, c.in-Some.placed) c.in-Some.ensures.items none.0 c.loop-config.invariant.asking)
+  ];
+  counting = counting_turn (length c.args.self.now.pending.now) c.loop-config.next.items c.pop.new.self.items (c.in-Some.config, c.in-Some.placed) ((length c.args.self.now.pending.now) + 1) _ _ _ c.in-Some.ensures.items (omega arith) c.loop-config.invariant.counting c.ask_one_behind.ensures.tried;
+}
+
+pub returns-in_err-ask_one_behind-clause-grown : goal.returns-in_err-ask_one_behind-clause-grown
+returns-in_err-ask_one_behind-clause-grown g c = grown_grown c.args.nodes.now c.loop-config.nodes c.ask_one_behind.new.nodes c.loop-config.invariant.asking.nodes_grown c.ask_one_behind.ensures.grown
+
+pub returns-in_err-ask_one_behind-clause-tried : goal.returns-in_err-ask_one_behind-clause-tried
+returns-in_err-ask_one_behind-clause-tried g c =
+    counting_end (length c.args.self.now.pending.now) (length c.pop.new.self.items) _ _ (counting_turn (length c.args.self.now.pending.now) c.loop-config.next.items c.pop.new.self.items (c.in-Some.config, c.in-Some.placed) ((length c.args.self.now.pending.now) + 1) _ _ _ c.in-Some.ensures.items (omega arith) c.loop-config.invariant.counting c.ask_one_behind.ensures.tried)
 
 pub returns-clause-grown : goal.returns-clause-grown
 returns-clause-grown g c = c.loop-config.invariant.asking.nodes_grown

@@ -3,6 +3,7 @@ use Rattle.indexmap.proofs.MapLemmas.{OnOk-map}
 use Rattle.lin_members.specs.Members.{Member}
 use Rattle.lin_members.specs.declared.members.Path.{Path}
 use Rattle.lin_compressed.proofs.Placings.{is_asked_behind}
+use Rattle.lin_listing.specs.lemmas.Visiting.{grown_grown}
 use Rattle.lin_compressed.proofs.completions.Completion.ask_behind.Goals as goal
 
 pub returns-clause-made : goal.returns-clause-made
@@ -12,8 +13,17 @@ returns-clause-made g c =
       n,
       pushed,
       is_asked_behind _ _ c.args.self.now.operation.now c.args.self.now.reply.now c.args.self.now.pending.now c.args.now c.args.member.now c.put_behind.new.nodes c.args.config c.in_ok-offers.offers c.path.result c.in_ok-path.path c.path.ensures
-          c.in_round.new.nodes c.in_round.ensures.grown c.args.placed c.in_ok-taken.taken c.in_ok-path-2.path c.in_ok-taken.ensures c.in_ok-path-2.ensures.round c.in_ok-path-2.ensures.until c.requires.observer c.requires.gives
+          c.path_in.new.nodes c.path_in.ensures.grown c.args.placed (record { at = c.args.self.now.operation.now.at; reply = c.args.self.now.reply.now }) c.in_ok-path-2.path refl c.in_ok-path-2.ensures.round c.in_ok-path-2.ensures.until c.requires.observer c.requires.gives
           c.requires.places c.in_ok-offers.ensures.offered c.in_ok-path.ensures.begins c.in_ok-path.ensures.until c.in_ok-path-2.ensures.node,
       refl,
       refl,
     )) c.push_member.ensures
+
+pub returns-in_err-path-2-clause-grown : goal.returns-in_err-path-2-clause-grown
+returns-in_err-path-2-clause-grown g c = grown_grown c.args.nodes.now c.put_behind.new.nodes c.path_in.new.nodes c.put_behind.ensures.grown c.path_in.ensures.grown
+
+pub returns-in_err-offers-clause-grown : goal.returns-in_err-offers-clause-grown
+returns-in_err-offers-clause-grown g c = grown_grown c.args.nodes.now c.put_behind.new.nodes c.path_in.new.nodes c.put_behind.ensures.grown c.path_in.ensures.grown
+
+pub returns-clause-grown : goal.returns-clause-grown
+returns-clause-grown g c = grown_grown c.args.nodes.now c.put_behind.new.nodes c.path_in.new.nodes c.put_behind.ensures.grown c.path_in.ensures.grown

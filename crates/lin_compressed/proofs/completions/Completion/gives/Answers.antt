@@ -1,7 +1,7 @@
 use Rattle.std.proofs.Common.{refl, sym, ◌∙◌, true≢false}
 use Rattle.std.proofs.lemmas.List.Elements.{Contains-get_or}
 use Rattle.lin_events.specs.Replies.{reply_Decides}
-use Rattle.lin_compressed.proofs.Visiting.{sifting_skip, sifting_hit, sifting_end}
+use Rattle.lin_listing.specs.lemmas.Visiting.{sifting_skip, sifting_hit, sifting_end}
 use Rattle.lin_compressed.proofs.completions.Completion.gives.Goals as goal
 
 pub loop-reply-init : goal.loop-reply-init

@@ -1,5 +1,5 @@
 use Rattle.std.proofs.Common.{vec_len}
-use Rattle.lin_compressed.proofs.Visiting.{IsSifting}
+use Rattle.lin_listing.specs.lemmas.Visiting.{IsSifting}
 use Rattle.lin_compressed.proofs.completions.Completion.gives.Given as goal
 
 abbrev pub invariant-loop-reply : goal.invariant-loop-reply

@@ -1,6 +1,6 @@
 use Rattle.std.proofs.Common.{subst}
 use Rattle.indexmap.proofs.MapLemmas.{OnOk-map}
-use Rattle.lin_compressed.specs.Putting.{IsPutNext}
+use Rattle.lin_listing.specs.Putting.{IsPutNext}
 use Rattle.lin_members.specs.declared.members.Path.{Path}
 use Rattle.lin_orders.specs.declared.placed.Placed.{Placed}
 use Rattle.lin_compressed.proofs.completions.Completion.push_update.Goals as goal

@@ -2,7 +2,7 @@ use Rattle.std.proofs.Common.{◌≡◌, ◌∙◌, List, ap, inl, inr, refl, su
 use Rattle.indexmap.proofs.MapLemmas.{OnOk-map}
 use Rattle.lin_events.specs.declared.calls.Reply.{Reply}
 use Rattle.lin_members.specs.Searching.{DominatesIn}
-use Rattle.lin_compressed.specs.Putting.{IsPutNext}
+use Rattle.lin_listing.specs.Putting.{IsPutNext}
 use Rattle.lin_compressed.proofs.completions.Completion.put_state.Goals as goal
 
 pub returns-then-is_found-clause-taken : goal.returns-then-is_found-clause-taken

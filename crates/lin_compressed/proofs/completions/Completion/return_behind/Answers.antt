@@ -13,6 +13,6 @@ returns-clause-made g c =
       pushed,
       refl,
       λ update steps.
-          is_returned_behind _ _ c.args.self.now.operation.now c.args.self.now.reply.now c.args.self.now.pending.now c.args.now c.args.member.now c.put_behind.new.nodes c.args.config c.in_ok-offers.offers c.path.result c.in_ok-path.path c.path.ensures
-          c.in_ok-placed.placed c.requires c.in_ok-offers.ensures.offered c.in_ok-placed.ensures c.in_ok-path.ensures.begins c.in_ok-path.ensures.until update steps,
+          is_returned_behind _ _ c.args.self.now.operation.now c.args.self.now.reply.now c.args.self.now.pending.now c.args.now c.args.member.now c.path_behind.new.nodes c.args.config c.in_ok-offers.offers c.path.result c.in_ok-path.path c.path.ensures
+          (record { at = c.args.self.now.operation.now.at; reply = c.args.self.now.reply.now }) c.requires c.in_ok-offers.ensures.offered refl c.in_ok-path.ensures.begins c.in_ok-path.ensures.until update steps,
     )) c.push_member.ensures

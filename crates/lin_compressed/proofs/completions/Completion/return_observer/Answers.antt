@@ -1,29 +1,26 @@
-use Rattle.std.proofs.Common.{◌<◌, inl, inr, sym, ap, subst, ◌∙◌, true≢false, Contains}
+use Rattle.std.proofs.Common.{◌<◌, inl, inr, sym, ap, subst, ◌∙◌, true≢false, Contains, arith}
+use Rattle.std.proofs.lemmas.Grind.{common_steps}
 use Rattle.indexmap.proofs.MapLemmas.{OnOk-map}
 use Rattle.std.proofs.lemmas.List.Elements.{Contains-push}
-use Rattle.lin_members.specs.Asking.{IsAnsweredStill, IsFindingWith}
+use Rattle.lin_members.specs.Asking.{IsFindingWith}
 use Rattle.lin_members.specs.declared.members.Path.{Path}
-use Rattle.lin_compressed.proofs.Placings.{AreAskedAhead, IsAskedEarly, finding_push, is_answered, observed_all, observed_found, ok_both}
+use Rattle.lin_compressed.proofs.Placings.{AreAskedAhead, IsAskedEarly, finding_push, observed_all, observed_found, ok_both}
 use Rattle.lin_compressed.proofs.completions.Completion.return_observer.Given.{Over}
 use Rattle.lin_compressed.proofs.completions.Completion.return_observer.Goals.{then-is_early+in_ok-ask_all_ahead, else-is_early}
 use Rattle.lin_compressed.proofs.completions.Completion.return_observer.Goals as goal
 
--- the observer takes the reply
-still : (g : Over) (c : goal.After-push_member g) → IsAnsweredStill (g.O.SeqObject.step c.args.self.now.object.now) (g.O.SeqObject.observing c.args.self.now.object.now) c.args.self.now.operation.now c.args.self.now.reply.now c.args.self.now.pending.now
-    c.answered.new.nodes c.args.now c.args.member.now c.in_ok-next.next
-still g c =
-    is_answered _ _ c.args.self.now.operation.now c.args.self.now.reply.now c.args.self.now.pending.now c.args.now c.args.member.now c.answered.new.nodes c.in_ok-next.next c.in-Some.round c.in_ok-placed.placed c.requires.observer
-    (rw c.in-Some.is at c.in_ok-round.ensures.some) c.in_ok-next.ensures.same c.in_ok-next.ensures.round c.in_ok-next.ensures.until c.in_ok-placed.ensures c.in_ok-next.ensures.node
+pub push_answered-requires-clause-takes : goal.push_answered-requires-clause-takes
+push_answered-requires-clause-takes g c = rw c.in-Some.is at c.in_ok-round.ensures.some
 
 pub returns-in-Some-clause-found : goal.returns-in-Some-clause-found
 returns-in-Some-clause-found g c =
-    OnOk-map c.push_member.result _ _ (λ pushed.
-    finding_push _ _ c.args.self.now.operation.now c.args.self.now.reply.now c.args.self.now.pending.now c.args.now c.args.member.now c.answered.new.nodes c.args.out.now.items c.push_member.new.members.items c.in_ok-next.next pushed
-    (inr (inr (inl (still g c))))) c.push_member.ensures
+    OnOk-map c.push_answered.result _ _ (λ made.
+    finding_push _ _ c.args.self.now.operation.now c.args.self.now.reply.now c.args.self.now.pending.now c.args.now c.args.member.now c.push_answered.new.nodes c.args.out.now.items c.push_answered.new.out.items made.0 made.1
+    (inr (inr (inl (record { answered = made.2; until = made.3 }))))) c.push_answered.ensures.made
 
 pub returns-in-Some-clause-asked : goal.returns-in-Some-clause-asked
 returns-in-Some-clause-asked g c =
-    OnOk-map c.push_member.result _ _ (λ pushed. inl (c.in_ok-next.next, subst (λ l. Contains l c.in_ok-next.next) (sym pushed) (Contains-push c.args.out.now.items c.in_ok-next.next), still g c)) c.push_member.ensures
+    OnOk-map c.push_answered.result _ _ (λ made. inl (made.0, subst (λ l. Contains l made.0) (sym made.1) (Contains-push c.args.out.now.items made.0), record { answered = made.2; until = made.3 })) c.push_answered.ensures.made
 
 -- what was asked ahead before the rest
 early : (g : Over) (c : goal.After-ask_all_behind g) → IsAskedEarly (g.O.SeqObject.step c.args.self.now.object.now) (g.O.SeqObject.observing c.args.self.now.object.now) c.args.self.now.operation.now c.args.self.now.reply.now c.args.self.now.pending.now
@@ -60,3 +57,6 @@ returns-clause-asked g c =
     ok_both c.ask_all_behind.result _ _ _ (λ finding behind. inr (
     observed_all _ _ _ _ _ c.args.now c.args.member.now c.if-is_early.nodes c.ask_all_behind.new.nodes c.args.out.now.items c.if-is_early.out.items c.ask_all_behind.new.out.items c.ask_all_behind.ensures.grown (early g c) finding
     (rw c.in_default.is at c.in_ok-round.ensures.none) behind)) c.ask_all_behind.ensures.found c.ask_all_behind.ensures.asked
+
+pub returns-clause-grown : goal.returns-clause-grown
+returns-clause-grown g c = grind (arith, common_steps)

@@ -1,4 +1,5 @@
-use Rattle.std.proofs.Common.{◌<◌, inl, inr, sym, ap, subst, ◌∙◌, true≢false}
+use Rattle.std.proofs.Common.{◌<◌, inl, inr, sym, ap, subst, ◌∙◌, true≢false, arith}
+use Rattle.std.proofs.lemmas.Grind.{common_steps}
 use Rattle.indexmap.proofs.MapLemmas.{OnOk-map}
 use Rattle.lin_members.specs.Asking.{IsReturnedAhead}
 use Rattle.lin_members.specs.declared.members.Path.{Path}
@@ -48,3 +49,6 @@ returns-clause-returned g c =
     OnOk-map c.return_behind.result _ _ (λ made other steps.
     returned_all _ _ _ _ _ c.args.now c.args.member.now c.if-is_early.nodes c.return_behind.new.nodes c.args.out.now.items c.if-is_early.out.items c.return_behind.new.out.items c.in_ok-config.config.0 made.0 c.return_behind.ensures.grown
     (put g c) made.1 (made.3 c.requires.update (taken g c)) (g.O.SeqObject.overwritten c.args.self.now.object.now c.requires.overwriting) made.2 other steps) c.return_behind.ensures.made
+
+pub returns-clause-grown : goal.returns-clause-grown
+returns-clause-grown g c = grind (arith, common_steps)

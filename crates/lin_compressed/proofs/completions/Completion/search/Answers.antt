@@ -3,7 +3,7 @@ use Rattle.std.proofs.lemmas.List.{length-map}
 use Rattle.lin_frontier.specs.Walks.{IsTriedAtMost}
 use Rattle.lin_compressed.proofs.Completing.{IsWorking, none_behind, in_front, in_rest, working_alone, working_next, working_end}
 use Rattle.lin_frontier.specs.lemmas.Counting.{tried_none, tried_turn, tried_turns}
-use Rattle.lin_compressed.proofs.Visiting.{grown_grown}
+use Rattle.lin_listing.specs.lemmas.Visiting.{grown_grown}
 use Rattle.lin_compressed.proofs.completions.Completion.search.Goals as goal
 
 pub loop-start-init : goal.loop-start-init

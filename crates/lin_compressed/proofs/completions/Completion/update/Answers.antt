@@ -1,6 +1,6 @@
 use Rattle.std.proofs.lemmas.List.Elements.{Contains-get_or}
 use Rattle.lin_compressed.proofs.Completing.{returning_start, returning_turn}
-use Rattle.lin_compressed.proofs.Visiting.{grown_grown}
+use Rattle.lin_listing.specs.lemmas.Visiting.{grown_grown}
 use Rattle.lin_compressed.proofs.completions.Completion.update.Goals as goal
 
 pub loop-state-init : goal.loop-state-init

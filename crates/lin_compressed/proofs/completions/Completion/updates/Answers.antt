@@ -14,7 +14,7 @@ loop-operation-preserved g c =
     let step = g.O.SeqObject.step c.args.self.now.object.now in
     let observes = g.O.SeqObject.observing c.args.self.now.object.now in
     let all = c.loop-operation.invariant.placed in
-    let xs = c.args.self.now.pending.now in
+    let xs = c.args.pending.now in
     let at = c.loop-operation.at in
     elim c.if-not-waits_for_like.branch [
       | then-not-waits_for_like+in_ok-place_update w ↦ record {
@@ -35,7 +35,7 @@ loop-operation-preserved g c =
 
 pub returns-clause-placed : goal.returns-clause-placed
 returns-clause-placed g c =
-    updates_full _ _ _ c.args.self.now.pending.now c.loop-operation.at c.loop-operation.out.items (rw c.as_slice-operations.ensures at c.in_default.ensures.lookup).3 c.loop-operation.invariant.placed
+    updates_full _ _ _ c.args.pending.now c.loop-operation.at c.loop-operation.out.items (rw c.as_slice-operations.ensures at c.in_default.ensures.lookup).3 c.loop-operation.invariant.placed
 
 pub returns-clause-few : goal.returns-clause-few
 returns-clause-few g c overwriting = omega (arith, c.loop-operation.invariant.few overwriting, c.loop-operation.invariant.within)

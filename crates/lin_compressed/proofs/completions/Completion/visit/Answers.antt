@@ -1,5 +1,5 @@
 use Rattle.std.proofs.Common.{sym, ◌∙◌}
-use Rattle.lin_compressed.proofs.Visiting.{taking_start, taking_turn, taking_end, grown_grown}
+use Rattle.lin_listing.specs.lemmas.Visiting.{taking_start, taking_turn, taking_end, grown_grown}
 use Rattle.lin_compressed.proofs.completions.Completion.visit.Goals as goal
 
 pub loop-config-init : goal.loop-config-init

@@ -1,5 +1,5 @@
 use Rattle.std.proofs.Common.{◌++◌, map, vec_len}
-use Rattle.lin_compressed.proofs.Visiting.{IsTakingIn}
+use Rattle.lin_listing.specs.lemmas.Visiting.{IsTakingIn}
 use Rattle.lin_compressed.proofs.completions.Completion.visit.Given as goal
 
 abbrev pub invariant-loop-config : goal.invariant-loop-config

@@ -1,5 +1,5 @@
 use Rattle.std.proofs.Common.{inl, inr, map, refl}
-use Rattle.lin_compressed.proofs.Visiting.{on_any, put_after}
+use Rattle.lin_listing.specs.lemmas.Visiting.{on_any, put_after}
 use Rattle.lin_compressed.proofs.completions.Completion.visit_one.Goals as goal
 
 pub returns-then-is_seen-clause-taken : goal.returns-then-is_seen-clause-taken

@@ -4,7 +4,7 @@ use Rattle.lin_events.specs.declared.meter.Meter.{Meter}
 use Rattle.lin_orders.specs.ConfigurationLaws.{with_event}
 use Rattle.lin_members.specs.Compressed.{IsCovering, IsCompressed}
 use Rattle.lin_frontier.specs.lemmas.Answered.{from_some}
-use Rattle.lin_compressed.proofs.Compressing.{cut_grown, none_left}
+use Rattle.lin_compressed.proofs.Compressing.{cut_grown, cut_same, none_left}
 use Rattle.lin_frontier.specs.lemmas.Counting.{tried_since}
 use Rattle.lin_compressed.proofs.compressed.Compressed.advance_up_to.Goals as goal
 
@@ -59,3 +59,12 @@ returns-in-Err-clause-tries g c =
     let len = length c.args.pending.now in
     tried_since c.args.meter.now c.tick_step.new.self c.advanced.new.meter (c.args.limit * (2 * len + 3)) (length c.deref.result.now) (length c.args.self.now) (2 * ((len + 2) * (len + 2))) (ap (λ (m : Meter). m.tries) c.tick_step.ensures)
     (ap length (c.deref.ensures.value ∙ c.self.view_is)) c.advanced.ensures.tried
+
+pub returns-then-is_empty-clause-kept : goal.returns-then-is_empty-clause-kept
+returns-then-is_empty-clause-kept g c _ = cut_same c.args.nodes.now c.advanced.new.nodes c.cut.new.self c.len-count.result c.cut.ensures c.len-count.ensures c.advanced.ensures.grown
+
+pub returns-in-Ok-None-clause-kept : goal.returns-in-Ok-None-clause-kept
+returns-in-Ok-None-clause-kept g c _ = cut_same c.args.nodes.now c.advanced.new.nodes c.cut-in-Ok-None.new.self c.len-count.result c.cut-in-Ok-None.ensures c.len-count.ensures c.advanced.ensures.grown
+
+pub returns-in-Err-clause-refused : goal.returns-in-Err-clause-refused
+returns-in-Err-clause-refused g c = cut_same c.args.nodes.now c.advanced.new.nodes c.cut-in-Err.new.self c.len-count.result c.cut-in-Err.ensures c.len-count.ensures c.advanced.ensures.grown

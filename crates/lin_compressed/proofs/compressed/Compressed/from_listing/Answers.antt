@@ -1,4 +1,6 @@
-use Rattle.std.proofs.Common.{◌≡◌, ◌∙◌, false, sym, subst}
+use Rattle.std.proofs.Common.{◌≡◌, ◌∙◌, false, sym, subst, arith}
+use Rattle.std.proofs.lemmas.Grind.{common_steps}
+use Rattle.std.proofs.lemmas.Result.{IfOk-from_err}
 use Rattle.std.proofs.lemmas.Bool.{eqb-true}
 use Rattle.lin_orders.specs.ConfigurationLaws.{with_event}
 use Rattle.lin_members.specs.Compressed.{IsCompressed, IsCovering}
@@ -45,3 +47,51 @@ returns-clause-next g c next is functions h nx frontier =
     let same : c.in_ok-members.members.items ≡ next = cc in
     subst (λ l. IsCompressed begin step observes (g.O.SeqObject.overwriting c.args.object.now) (with_event h c.args.event.now) l c.listed.new.nodes) same
     (c.in_ok-members.ensures functions h nx (subst (λ l. IsListingOf begin step observes h l c.listed.new.nodes) (sym c.as_slice.ensures) listing))
+
+pub returns-in_err-is_surely_over-clause-before : goal.returns-in_err-is_surely_over-clause-before
+returns-in_err-is_surely_over-clause-before g c = IfOk-from_err _ _ c.from_residual.ensures.0
+
+pub returns-in_err-is_surely_over-clause-empty : goal.returns-in_err-is_surely_over-clause-empty
+returns-in_err-is_surely_over-clause-empty g c = IfOk-from_err _ _ c.from_residual.ensures.0
+
+pub returns-in_err-is_surely_over-clause-never : goal.returns-in_err-is_surely_over-clause-never
+returns-in_err-is_surely_over-clause-never g c = IfOk-from_err _ _ c.from_residual.ensures.0
+
+pub returns-in_err-is_surely_over-clause-next : goal.returns-in_err-is_surely_over-clause-next
+returns-in_err-is_surely_over-clause-next g c = IfOk-from_err _ _ c.from_residual.ensures.0
+
+pub returns-in_err-is_surely_over-clause-some : goal.returns-in_err-is_surely_over-clause-some
+returns-in_err-is_surely_over-clause-some g c = IfOk-from_err _ _ c.from_residual.ensures.0
+
+pub returns-in_err-list-clause-before : goal.returns-in_err-list-clause-before
+returns-in_err-list-clause-before g c = IfOk-from_err _ _ c.from_residual-in_err-list.ensures.0
+
+pub returns-in_err-list-clause-empty : goal.returns-in_err-list-clause-empty
+returns-in_err-list-clause-empty g c = IfOk-from_err _ _ c.from_residual-in_err-list.ensures.0
+
+pub returns-in_err-list-clause-never : goal.returns-in_err-list-clause-never
+returns-in_err-list-clause-never g c = IfOk-from_err _ _ c.from_residual-in_err-list.ensures.0
+
+pub returns-in_err-list-clause-next : goal.returns-in_err-list-clause-next
+returns-in_err-list-clause-next g c = IfOk-from_err _ _ c.from_residual-in_err-list.ensures.0
+
+pub returns-in_err-list-clause-some : goal.returns-in_err-list-clause-some
+returns-in_err-list-clause-some g c = IfOk-from_err _ _ c.from_residual-in_err-list.ensures.0
+
+pub returns-in_err-members-clause-before : goal.returns-in_err-members-clause-before
+returns-in_err-members-clause-before g c = IfOk-from_err _ _ c.from_residual-in_err-members.ensures.0
+
+pub returns-in_err-members-clause-empty : goal.returns-in_err-members-clause-empty
+returns-in_err-members-clause-empty g c = IfOk-from_err _ _ c.from_residual-in_err-members.ensures.0
+
+pub returns-in_err-members-clause-never : goal.returns-in_err-members-clause-never
+returns-in_err-members-clause-never g c = IfOk-from_err _ _ c.from_residual-in_err-members.ensures.0
+
+pub returns-in_err-members-clause-next : goal.returns-in_err-members-clause-next
+returns-in_err-members-clause-next g c = IfOk-from_err _ _ c.from_residual-in_err-members.ensures.0
+
+pub returns-in_err-members-clause-some : goal.returns-in_err-members-clause-some
+returns-in_err-members-clause-some g c = IfOk-from_err _ _ c.from_residual-in_err-members.ensures.0
+
+pub returns-clause-some : goal.returns-clause-some
+returns-clause-some g c = grind (arith, common_steps)

@@ -1,4 +1,5 @@
-use Rattle.std.proofs.Common.{◌≡◌, [], take, sym, ap, ◌∙◌, subst}
+use Rattle.std.proofs.Common.{◌≡◌, [], take, sym, ap, ◌∙◌, subst, arith}
+use Rattle.std.proofs.lemmas.Grind.{common_steps}
 use Rattle.std.proofs.lemmas.List.{append-nil}
 use Rattle.lin_orders.specs.ConfigurationLaws.{with_event}
 use Rattle.lin_frontier.specs.Frontiers.{IsFrontier}
@@ -26,3 +27,21 @@ pub returns-in-Ok-None-clause-over : goal.returns-in-Ok-None-clause-over
 returns-in-Ok-None-clause-over g c is functions h next frontier =
     let known = subst (λ es. IsFrontier (g.O.SeqObject.starts c.args.object.now) (g.O.SeqObject.step c.args.object.now) h es c.args.nodes.now) (sym c.self.view_is) frontier in
     from_none _ c.in-Ok-None.field-0-is c.in-Ok-None.ensures.over functions h next known
+
+pub returns-else-is_empty-clause-some : goal.returns-else-is_empty-clause-some
+returns-else-is_empty-clause-some g c = grind (arith, common_steps)
+
+pub returns-in-Err-clause-grown : goal.returns-in-Err-clause-grown
+returns-in-Err-clause-grown g c = ([], (c.cut-in-Err.ensures ∙ ap (λ n. take n c.next_configs.new.nodes) c.len-count.ensures) ∙ cut_back c.args.nodes.now c.next_configs.new.nodes c.next_configs.ensures.grown ∙ sym (append-nil c.args.nodes.now))
+
+pub returns-in-Err-clause-refused : goal.returns-in-Err-clause-refused
+returns-in-Err-clause-refused g c = (c.cut-in-Err.ensures ∙ ap (λ n. take n c.next_configs.new.nodes) c.len-count.ensures) ∙ cut_back c.args.nodes.now c.next_configs.new.nodes c.next_configs.ensures.grown
+
+pub returns-in-Ok-None-clause-grown : goal.returns-in-Ok-None-clause-grown
+returns-in-Ok-None-clause-grown g c = ([], (c.cut-in-Ok-None.ensures ∙ ap (λ n. take n c.next_configs.new.nodes) c.len-count.ensures) ∙ cut_back c.args.nodes.now c.next_configs.new.nodes c.next_configs.ensures.grown ∙ sym (append-nil c.args.nodes.now))
+
+pub returns-in-Ok-None-clause-kept : goal.returns-in-Ok-None-clause-kept
+returns-in-Ok-None-clause-kept g c _ = (c.cut-in-Ok-None.ensures ∙ ap (λ n. take n c.next_configs.new.nodes) c.len-count.ensures) ∙ cut_back c.args.nodes.now c.next_configs.new.nodes c.next_configs.ensures.grown
+
+pub returns-then-is_empty-clause-kept : goal.returns-then-is_empty-clause-kept
+returns-then-is_empty-clause-kept g c _ = (c.cut.ensures ∙ ap (λ n. take n c.next_configs.new.nodes) c.len-count.ensures) ∙ cut_back c.args.nodes.now c.next_configs.new.nodes c.next_configs.ensures.grown

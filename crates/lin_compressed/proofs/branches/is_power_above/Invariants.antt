@@ -1,6 +1,0 @@
-use Rattle.std.proofs.Common.{◌≤◌}
-use Rattle.lin_compressed.specs.Branches.{power}
-use Rattle.lin_compressed.proofs.branches.is_power_above.Given as goal
-
-abbrev pub invariant-loop : goal.invariant-loop
-invariant-loop l = l.most ≤ power l.base l.counter

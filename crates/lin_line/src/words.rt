@@ -1,0 +1,28 @@
+//! What a command line says.
+ghost use Rattle.std.specs.Prelude.{◌≡◌, option_map};
+ghost use Rattle.lin_line.specs.CommandLine.{file_of};
+
+use lin_formats::Settings;
+
+/// A command line that is understood.
+#[derive(Drop)]
+pub enum Line<'a> {
+    /// Decide whether an order is a legal order of a file's history: the file's name, then the order's text.
+    Verify(Settings, &'a str, &'a str),
+    /// Decide whether a file's history is linearizable: the file's name.
+    Check(Settings, &'a str),
+    /// Carry out commands on a history: the name of the file that is pulled from, if there is one.
+    Edit(Settings, Option<&'a str>),
+}
+
+impl<'a> Line<'a> {
+    /// The file's name, if there is one.
+    pub fn path(&self) -> Option<&'a str>
+        ensures { option_map (λ name. name.now) result ≡ file_of self.now }
+    {
+        match self {
+            Line::Verify(_, path, _) | Line::Check(_, path) => Some(*path),
+            Line::Edit(_, path) => *path,
+        }
+    }
+}

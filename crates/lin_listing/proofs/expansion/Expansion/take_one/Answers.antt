@@ -1,0 +1,30 @@
+use Rattle.std.proofs.Common.{◌≡◌, subst, ◌∙◌}
+use Rattle.lin_members.specs.Listed.{IsHeld}
+use Rattle.lin_frontier.specs.Placing.{insert_pair}
+use Rattle.lin_listing.proofs.Expanding.{extended_not, taken_extends}
+use Rattle.lin_listing.proofs.expansion.Expansion.take_one.Goals as goal
+use Rattle.lin_listing.proofs.expansion.Expansion.take_one.Goals.{In_ok-visit}
+
+pub returns-then-not-is_absent-clause-extended : goal.returns-then-not-is_absent-clause-extended
+returns-then-not-is_absent-clause-extended g c = extended_not _ _ _ _ _ _ _
+
+pub returns-in_default-clause-extended : goal.returns-in_default-clause-extended
+returns-in_default-clause-extended g c = extended_not _ _ _ _ _ _ _
+
+-- the configuration with the offer taken
+with_it : (g : _) (c : In_ok-visit g) → c.in_ok-next.next ≡ (c.args.config.now.0, insert_pair c.args.offer.now.1.0 c.args.offer.now.1.1 c.args.config.now.1)
+with_it g c =
+    let state = c.in_ok-state.ensures ∙ c.state.ensures in
+    let reply = c.in_ok-reply.ensures in
+    c.in_ok-next.ensures ∙ (λ i. (state i, insert_pair c.args.offer.now.1.0 (reply i) c.args.config.now.1))
+
+pub returns-clause-extended : goal.returns-clause-extended
+returns-clause-extended g c =
+    taken_extends (g.O.SeqObject.starts c.args.self.now.object.now) (g.O.SeqObject.step c.args.self.now.object.now) (g.O.SeqObject.observing c.args.self.now.object.now) c.args.self.now.pending.now c.args.self.now.offers.now
+    c.args.config.now c.in_ok-next.next c.in_ok-placed.placed c.args.path c.args.nodes.now c.visit.new.nodes c.args.found.now c.visit.new.found c.requires.there
+    c.well_formed_is_alternating.ensures c.rounds_take_operations.ensures.takes (g.O.SeqObject.unchanged c.args.self.now.object.now) c.in-Some.operation.now (rw c.as_slice.ensures at c.in-Some.ensures.some).0 c.args.offer.now c.requires.offered
+    (rw c.as_slice.ensures at c.in-Some.ensures.some).1 (rw c.placed.ensures at (c.is_absent.ensures.0 c.if-not-is_absent.false)) c.in_ok-placed.ensures (with_it g c) c.visit.ensures.grown c.in_ok-visit.ensures.taken
+
+pub returns-clause-taken : goal.returns-clause-taken
+returns-clause-taken g c o there same absent =
+    subst (IsHeld (g.O.SeqObject.observing c.args.self.now.object.now) c.args.self.now.pending.now c.visit.new.found) (with_it g c) c.in_ok-visit.ensures.taken.held
