@@ -9,7 +9,7 @@ use std::alloc::Global;
 #[derive(Drop)]
 struct Making {
     copies: Vec<Copies>,
-    /// Copies of which some are in the bag, and maybe others.
+    /// Copies of which some are in the bag, and maybe others, each once.
     held: Vec<usize>,
     /// Dequeues that never return, and aren't placed.
     open: Vec<usize>,
@@ -22,8 +22,9 @@ impl Making {
     /// The enqueue that was invoked there puts one in.
     fn put_in(&mut self, place: usize, enqueue: usize) -> Result<(), OutOfMemory> {
         if let Some(copies) = self.copies.get_mut(place) {
-            if copies.inside == 0 {
+            if !copies.is_listed {
                 self.held.push(place)?;
+                copies.is_listed = true;
             }
             copies.inside = copies.inside.saturating_add(1);
             self.order.push(Placed {
@@ -88,16 +89,47 @@ impl Making {
         Ok(true)
     }
 
+    /// Takes the copies at this place of the list from it, if none of them is in the bag; else how many no open dequeue is known to take out.
+    fn unlist(&mut self, at: usize) -> Option<usize> {
+        let copies = self.copies.get_mut(*self.held.get(at)?)?;
+        if copies.inside > 0 {
+            return Some(copies.lacking());
+        }
+        copies.is_listed = false;
+        if at < self.held.len() {
+            self.held.swap_remove(at);
+        }
+        None
+    }
+
+    /// Whether open dequeues are enough to take all out that is in the bag.
+    fn can_empty(&mut self) -> bool {
+        let mut at: usize = 0;
+        let mut lacking: usize = 0;
+        for _ in 0..self.held.len() {
+            if let Some(more) = self.unlist(at) {
+                lacking = lacking.saturating_add(more);
+                at = at.saturating_add(1);
+            }
+            if lacking > self.open.len() {
+                return false;
+            }
+        }
+        true
+    }
+
     /// Takes all out that is in the bag, if it can.
     fn empty(&mut self) -> Result<bool, OutOfMemory> {
-        for _ in 0..self.held.len() {
-            let Some(place) = self.held.last().copied() else {
+        if !self.can_empty() {
+            return Ok(false);
+        }
+        for place in 0..self.held.len() {
+            let Some(copies) = self.held.get(place).copied() else {
                 break;
             };
-            if !self.clear(place)? {
+            if !self.clear(copies)? {
                 return Ok(false);
             }
-            self.held.pop();
         }
         Ok(true)
     }

@@ -19,6 +19,8 @@ pub struct Copies {
     pub number: i64,
     /// How many copies are in the bag.
     pub inside: usize,
+    /// Whether it is listed with those that have some there.
+    pub is_listed: bool,
     /// The dequeues that took it out, in the order of their returns.
     exits: Vec<Exit>,
     /// How many of these returned.
@@ -38,6 +40,7 @@ impl Copies {
         Copies {
             number,
             inside: 0,
+            is_listed: false,
             exits: Vec::new(alloc),
             gone: 0,
             leaving: Vec::new(alloc),
@@ -86,6 +89,11 @@ impl Copies {
     pub fn spares_one(&mut self) -> bool {
         let count = self.exits.len();
         self.spares(count)
+    }
+
+    /// How many of those in the bag open dequeues aren't known to take out.
+    pub fn lacking(&self) -> usize {
+        self.inside.saturating_sub(self.leaving.len())
     }
 
     /// An enqueue is invoked.
