@@ -7,12 +7,13 @@ use std::alloc::Global;
 use std::process::Abort;
 
 /// Every kind of object.
-pub const KINDS: [Kind; 5] = [
+pub const KINDS: [Kind; 6] = [
     Kind::Register,
     Kind::CasRegister,
     Kind::Fifo,
     Kind::Set,
     Kind::Mutex,
+    Kind::Bag,
 ];
 
 /// Numbers drawn by a linear congruential generator, the same in each run.
@@ -51,8 +52,8 @@ impl Draw {
             (Kind::CasRegister, 0) => Call::Read,
             (Kind::CasRegister, 1) => Call::Write(self.value()),
             (Kind::CasRegister, _) => Call::Cas(self.value(), self.value()),
-            (Kind::Fifo, 0) => Call::Dequeue,
-            (Kind::Fifo, _) => Call::Enqueue(self.number()),
+            (Kind::Fifo | Kind::Bag, 0) => Call::Dequeue,
+            (Kind::Fifo | Kind::Bag, _) => Call::Enqueue(self.number()),
             (Kind::Set, 0) => Call::Read,
             (Kind::Set, _) => Call::Add(self.number()),
             (Kind::Mutex, 0) => Call::Release,
@@ -197,8 +198,13 @@ fn operations_of(rt: &impl Abort, alloc: Global, events: &[Event]) -> Vec<usize>
     operations
 }
 
+/// How many outcomes a call may have, where it has numbers of drawn histories alone.
+fn choices(kind: Kind) -> usize {
+    if kind == Kind::Bag { 2 } else { 1 }
+}
+
 /// The operations in the order that the digits of the code name, as far as the object takes their calls: digit 0 ends
-/// it, digit `d` is the operation `d - 1`.
+/// it, the digits behind it are the first operation with each of its outcomes, then the second one, and so on.
 fn coded_order(
     rt: &impl Abort,
     alloc: Global,
@@ -212,14 +218,17 @@ fn coded_order(
     let mut order = Vec::new(alloc);
     let mut out = Vec::new(alloc);
     let mut rest = code;
-    let base = operations.len().saturating_add(1);
+    let choices = choices(kind);
+    let base = operations.len().saturating_mul(choices).saturating_add(1);
     for _ in 0..operations.len() {
         let digit = rest.checked_rem(base).unwrap_or(0);
         rest = rest.checked_div(base).unwrap_or(0);
         if digit == 0 {
             return order;
         }
-        let Some(at) = operations.get(digit - 1) else {
+        let place = (digit - 1).checked_div(choices).unwrap_or(0);
+        let choice = (digit - 1).checked_rem(choices).unwrap_or(0);
+        let Some(at) = operations.get(place) else {
             return order;
         };
         if let Some(
@@ -232,7 +241,8 @@ fn coded_order(
             object
                 .outcomes(alloc, &state, call, &mut out)
                 .expect(rt, "memory");
-            if let Some((next, reply)) = out.pop() {
+            if choice < out.len() {
+                let (next, reply) = out.swap_remove(choice);
                 state = next;
                 order.push(Placed { at: *at, reply }).expect(rt, "memory");
             }
@@ -262,7 +272,12 @@ pub(crate) fn has_legal_order(
     let operations = operations_of(rt, alloc, events);
     let mut codes = 1usize;
     for _ in 0..operations.len() {
-        codes = codes.saturating_mul(operations.len().saturating_add(1));
+        codes = codes.saturating_mul(
+            operations
+                .len()
+                .saturating_mul(choices(kind))
+                .saturating_add(1),
+        );
     }
     for code in 0..codes {
         let order = coded_order(rt, alloc, kind, events, &operations, code);

@@ -311,5 +311,5 @@ fn drawn_histories_have_a_configuration_where_they_have_a_legal_order(rt: HostRu
         }
     }
     // Both answers come up.
-    assert!(rt; without > 10 && without < 50);
+    assert!(rt; without > 10 && without < 60);
 }
