@@ -38,6 +38,7 @@ import time
 from concurrent.futures import ThreadPoolExecutor
 
 ROOT = os.path.dirname(os.path.dirname(os.path.realpath(__file__)))
+COUNTED = re.compile(r'^\d+ passed, \d+ failed', re.M)
 HOLE = 'use Rattle.{0}.proofs.{1}.Statement.{{statement}}\n\npub {2}_spec : {{M : Type 1}} → statement M\n{2}_spec = ?\n'
 EACH = 6 << 30  # the memory that a check is taken to need
 BESIDE = 7 << 30  # the free memory below which none begins beside rt ci, whose own checks still grow
@@ -484,46 +485,63 @@ class Trial:
 class Following:
     """Slots for checks beside an rt ci whose output goes into a file, and what that says to be proved."""
 
-    def __init__(self, log, crates, room, jobs):
-        self.log, self.left, self.room, self.jobs = log, crates, room, jobs
+    def __init__(self, asked, crates, room):
+        self.asked, self.room = asked, room
+        self.below = {below for it in crates for below in it.below()}
+        self.left = [*self.below | {*crates}]
         self.running, self.most, self.has_ended, self.turn = 0, 1, False, threading.Condition()
+        threading.Thread(target=self.read, daemon=True).start()
+        # (of this thread and those that it starts, so the other one is as quick as rt ci)
         os.nice(19)
         # Where memory runs out all the same, one of these checks is killed, and none of rt ci.
         with contextlib.suppress(OSError), open('/proc/self/oom_score_adj', 'w') as it:
             it.write('900')
-        threading.Thread(target=self.read, daemon=True).start()
+
+    def said(self):
+        with open(self.asked.follow, errors='replace') as it:
+            return it.read()
 
     def read(self):
-        """Reads on until rt ci has ended. What then isn't proved ends this run, as does the end of whoever started it."""
-        parent, why = os.getppid(), None
-        while not self.has_ended and not why:
+        """Takes libraries as they are made, until rt ci has counted what passed. This run ends with whoever started it."""
+        parent, said = os.getppid(), ''
+        while not COUNTED.search(said):
             time.sleep(0.2)
-            try:
-                with open(self.log, errors='replace') as it:
-                    said = it.read()
-                self.take({*re.findall(r'^rt: (\w+) (?:proved$|is kept: )', said, re.M)})
-                if re.search(r'^\d+ passed, \d+ failed', said, re.M):
-                    why = self.left and 'rt ci has ended and did not prove %s' % ' '.join(it.name for it in self.left)
-                    with self.turn:
-                        self.has_ended, self.most = True, most_at_once(self.jobs, self.running)
-                if os.getppid() != parent:
-                    why = 'whoever started this has ended'
-            except OSError as error:
-                why = str(error)
-        if why:
-            print('must_fail.py: ' + why, flush=True)
-            os._exit(1)
+            said = self.said() if os.path.isfile(self.asked.follow) and os.getppid() == parent else stop('rt ci was stopped')
+            proved = {*re.findall(r'^rt: (\w+) (?:proved$|is kept: )', said, re.M)}
+            for crate in [it for it in self.left if it.name in proved]:
+                self.take(crate)
+        lacks = [it.name for it in self.left if it.name not in proved]
+        if lacks:
+            stop('rt ci has ended and did not prove ' + ' '.join(lacks))
+        if self.left:
+            self.begin_anew()
+        with self.turn:
+            self.has_ended, self.most = True, most_at_once(self.asked.jobs, self.running)
+            self.turn.notify_all()
 
-    def take(self, proved):
-        """Gives the libraries of these crates a second name, since rt ci puts at its end what stood in their place before."""
-        for crate in [it for it in self.left if it.name in proved]:
-            if crate.makes_rlib():
-                mine = '%s/rlibs/%s.rlib' % (self.room, crate.name)
+    def take(self, crate):
+        """Gives a library a second name. Once rt ci has counted, it puts in its place what stood there before."""
+        if crate in self.below:
+            mine = '%s/rlibs/%s.rlib' % (self.room, crate.name)
+            try:
                 shutil.copytree(crate.rlib, mine, copy_function=rt.link_or_copy)
-                crate.rlib = mine
-            with self.turn:
-                self.left.remove(crate)
-                self.turn.notify_all()
+                is_whole = not COUNTED.search(self.said())
+            except OSError:
+                is_whole = False
+            if not is_whole:
+                shutil.rmtree(mine, ignore_errors=True)
+                return
+            crate.rlib = mine
+        with self.turn:
+            self.left.remove(crate)
+            self.turn.notify_all()
+
+    def begin_anew(self):
+        """Goes on without --follow once rt ci has ended, since it was too quick for its libraries to be taken: all of them were kept."""
+        rt.rtlib.lock(self.left)
+        shutil.rmtree(self.room, ignore_errors=True)
+        jobs = ['--jobs', str(self.asked.jobs)] if self.asked.jobs else []
+        os.execv(sys.executable, [sys.executable, os.path.realpath(__file__), *jobs, *self.asked.crates])
 
     def wait_for(self, crate):
         """Waits until the crate and all below it are proved."""
@@ -540,6 +558,12 @@ class Following:
         with self.turn:
             self.running -= 1
             self.turn.notify_all()
+
+
+def stop(why):
+    """Ends the run whatever its threads are at."""
+    print('must_fail.py: ' + why, flush=True)
+    os._exit(1)
 
 
 def most_at_once(jobs, running=0):
@@ -578,8 +602,7 @@ def main():
     crates = [it for it in crates if not asked.crates or it.name in asked.crates]
     with tempfile.TemporaryDirectory(prefix='must-fail-') as room:
         if asked.follow:
-            needed = {*crates, *(below for it in crates for below in it.below())}
-            slots = following = Following(asked.follow, [*needed], room, asked.jobs)
+            slots = following = Following(asked, crates, room)
         else:
             slots, following = threading.BoundedSemaphore(most_at_once(asked.jobs)), None
             make_libraries(crates)
