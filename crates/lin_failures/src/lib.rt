@@ -1,5 +1,5 @@
-//! Failures of a register, a queue or a set: operations that conflict, so that no order of them is legal; and where to look
-//! for them in queues and sets.
+//! Failures of a register, a queue, a bag or a set: operations that conflict, so that no order of them is legal; and where to
+//! look for them in queues, bags and sets.
 #![tactic(auto)]
 
 mod adds;

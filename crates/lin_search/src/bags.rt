@@ -19,6 +19,16 @@ struct Making {
 }
 
 impl Making {
+    fn new(alloc: Global, copies: Vec<Copies>) -> Making {
+        Making {
+            copies,
+            held: Vec::new(alloc),
+            open: Vec::new(alloc),
+            vain: Vec::new(alloc),
+            order: Vec::new(alloc),
+        }
+    }
+
     /// The enqueue that was invoked there puts one in.
     fn put_in(&mut self, place: usize, enqueue: usize) -> Result<(), OutOfMemory> {
         if let Some(copies) = self.copies.get_mut(place) {
@@ -191,13 +201,7 @@ pub fn bag_order(alloc: Global, events: &[Event]) -> Result<Option<Vec<Placed>>,
     let Some(bag) = Bag::of(alloc, events)? else {
         return Ok(None);
     };
-    let mut making = Making {
-        copies: bag.copies,
-        held: Vec::new(alloc),
-        open: Vec::new(alloc),
-        vain: Vec::new(alloc),
-        order: Vec::new(alloc),
-    };
+    let mut making = Making::new(alloc, bag.copies);
     for (at, moment) in bag.moments.iter().enumerate() {
         if let Some(moment) = moment {
             if !making.reach(at, *moment)? {

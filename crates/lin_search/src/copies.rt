@@ -183,18 +183,24 @@ pub struct Bag {
 }
 
 impl Bag {
+    /// Of so many events, of which nothing is known.
+    fn new(alloc: Global, count: usize) -> Result<Bag, OutOfMemory> {
+        let mut moments = Vec::with_capacity(alloc, count)?;
+        for _ in 0..count {
+            moments.push(None)?;
+        }
+        Ok(Bag {
+            copies: Vec::new(alloc),
+            moments,
+            places: HashMap::new(alloc),
+        })
+    }
+
     /// That of the events, if no number is taken out more often than it can be put in before.
     pub fn of(alloc: Global, events: &[Event]) -> Result<Option<Bag>, OutOfMemory> {
         let mut operations = gathered(alloc, events)?;
         operations.sort_unstable_by_key(|operation| operation.span.end);
-        let mut bag = Bag {
-            copies: Vec::new(alloc),
-            moments: Vec::with_capacity(alloc, events.len())?,
-            places: HashMap::new(alloc),
-        };
-        for _ in 0..events.len() {
-            bag.moments.push(None)?;
-        }
+        let mut bag = Bag::new(alloc, events.len())?;
         for operation in &operations {
             bag.add(alloc, operation, events)?;
         }

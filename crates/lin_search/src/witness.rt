@@ -128,9 +128,9 @@ fn shown_of(
 
 /// A legal order of the events at the places, which all are of one key, if one is found. Of events of several keys none is.
 ///
-/// Orders of registers, of sets, of bags, and of queues in which no number is put twice, are looked for. Takes time and memory linear in the events,
-/// apart from how many operations are open at a time, from the time to sort them, and from what reads of sets found. Where memory is
-/// refused none is found. The order names operations by their places among these events.
+/// Orders of registers, of sets, of bags, and of queues in which no number is put twice, are looked for. Takes time and memory linear in
+/// the events, apart from how many operations are open at a time, from the time to sort them, and from what reads of sets found. Where
+/// memory is refused none is found. The order names operations by their places among these events.
 pub fn finds_order(
     alloc: Global,
     kind: Kind,
@@ -239,8 +239,9 @@ fn failing_of(
 
 /// Which of the events at the places is the one at which the shortest beginning without a legal order ends, if one is found.
 ///
-/// Looked at are registers, where values are left by one update each, queues, where numbers are put in once each, bags, and sets. Takes time and memory linear in the events, apart
-/// from how many operations are open at a time and from what reads of sets found. Where memory is refused none is found.
+/// Looked at are registers, where values are left by one update each, queues, where numbers are put in once each, bags, and sets. Takes
+/// time and memory linear in the events, apart from how many operations are open at a time, and from what reads of sets found. Where
+/// memory is refused none is found.
 pub fn finds_failure(alloc: Global, kind: Kind, events: &[Event], picks: &[usize]) -> Option<usize>
     ensures { IfSome result (λ at. IsDeadAt kind (events_at events.now picks.now) at) }
 {
