@@ -7,7 +7,7 @@ usage: bench/functions.py [-n COUNT] DIR       after, in crates/NAME, a check fr
 A module is written into DIR as soon as it is checked, so the time from the file before it to its own is what it took: wall seconds, which are
 processor seconds where nothing else waits for the processor. Of each function come the seconds of all its modules, of the borrow checker's
 part (Lts), of the goals that no answer covers (Proof), of its answers (Answers), and of the rest (Tie, Code, layouts ..). The last lines sum
-up the crate: what functions have, what lemmas have, and what all else has. With -n only so many functions are printed (40).
+up the crate: what all functions take, and what its lemmas, its specs and all else do. With -n so many functions are printed (40).
 """
 import argparse
 import collections
@@ -56,8 +56,9 @@ def main():
         print("%8.1f %8.1f %8.1f %8.1f %8.1f  %s" % (*(of[part] for part in ("all", *PARTS, "rest")), name))
     whole = sum(functions.values(), collections.Counter())
     print("%8.1f %8.1f %8.1f %8.1f %8.1f  all %d functions" % (*(whole[part] for part in ("all", *PARTS, "rest")), len(functions)))
-    for name, seconds in others.most_common(8):
-        print("%8.1f  %s" % (seconds, name))
+    for name, seconds in others.most_common():
+        if seconds >= 0.05:
+            print("%8.1f  %s" % (seconds, name))
 
 
 main()
