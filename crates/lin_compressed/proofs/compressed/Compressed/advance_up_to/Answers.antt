@@ -1,4 +1,5 @@
-use Rattle.std.proofs.Common.{◌≡◌, ◌+◌, ◌*◌, Contains, length, ap, subst, sym, ◌∙◌}
+use Rattle.std.proofs.Common.{◌≡◌, ◌+◌, ◌*◌, Contains, length, ap, subst, sym, ◌∙◌, arith}
+use Rattle.std.proofs.lemmas.Grind.{common_steps}
 use Rattle.std.proofs.lemmas.Bool.{eqb-true}
 use Rattle.lin_events.specs.declared.meter.Meter.{Meter}
 use Rattle.lin_orders.specs.ConfigurationLaws.{with_event}
@@ -68,3 +69,90 @@ returns-in-Ok-None-clause-kept g c _ = cut_same c.args.nodes.now c.advanced.new.
 
 pub returns-in-Err-clause-refused : goal.returns-in-Err-clause-refused
 returns-in-Err-clause-refused g c = cut_same c.args.nodes.now c.advanced.new.nodes c.cut-in-Err.new.self c.len-count.result c.cut-in-Err.ensures c.len-count.ensures c.advanced.ensures.grown
+
+pub advanced-requires-clause-goes : goal.advanced-requires-clause-goes
+advanced-requires-clause-goes g c = grind (arith, common_steps)
+
+pub returns-else-is_empty-clause-empty : goal.returns-else-is_empty-clause-empty
+returns-else-is_empty-clause-empty g c = grind (arith, common_steps)
+
+pub returns-else-is_empty-clause-grown : goal.returns-else-is_empty-clause-grown
+returns-else-is_empty-clause-grown g c = grind (arith, common_steps)
+
+pub returns-else-is_empty-clause-kept : goal.returns-else-is_empty-clause-kept
+returns-else-is_empty-clause-kept g c = grind (arith, common_steps)
+
+pub returns-else-is_empty-clause-oks : goal.returns-else-is_empty-clause-oks
+returns-else-is_empty-clause-oks g c = grind (arith, common_steps)
+
+pub returns-else-is_empty-clause-refused : goal.returns-else-is_empty-clause-refused
+returns-else-is_empty-clause-refused g c = grind (arith, common_steps)
+
+pub returns-else-is_empty-clause-scans : goal.returns-else-is_empty-clause-scans
+returns-else-is_empty-clause-scans g c = grind (arith, common_steps)
+
+pub returns-else-is_empty-clause-some : goal.returns-else-is_empty-clause-some
+returns-else-is_empty-clause-some g c = grind (arith, common_steps)
+
+pub returns-else-is_empty-clause-steps : goal.returns-else-is_empty-clause-steps
+returns-else-is_empty-clause-steps g c = grind (arith, common_steps)
+
+pub returns-in-Err-clause-empty : goal.returns-in-Err-clause-empty
+returns-in-Err-clause-empty g c = grind (arith, common_steps)
+
+pub returns-in-Err-clause-kept : goal.returns-in-Err-clause-kept
+returns-in-Err-clause-kept g c = grind (arith, common_steps)
+
+pub returns-in-Err-clause-next : goal.returns-in-Err-clause-next
+returns-in-Err-clause-next g c = grind (arith, common_steps)
+
+pub returns-in-Err-clause-oks : goal.returns-in-Err-clause-oks
+returns-in-Err-clause-oks g c = grind (arith, common_steps)
+
+pub returns-in-Err-clause-scans : goal.returns-in-Err-clause-scans
+returns-in-Err-clause-scans g c = grind (arith, common_steps)
+
+pub returns-in-Err-clause-some : goal.returns-in-Err-clause-some
+returns-in-Err-clause-some g c = grind (arith, common_steps)
+
+pub returns-in-Err-clause-steps : goal.returns-in-Err-clause-steps
+returns-in-Err-clause-steps g c = grind (arith, common_steps)
+
+pub returns-in-Ok-None-clause-empty : goal.returns-in-Ok-None-clause-empty
+returns-in-Ok-None-clause-empty g c = grind (arith, common_steps)
+
+pub returns-in-Ok-None-clause-next : goal.returns-in-Ok-None-clause-next
+returns-in-Ok-None-clause-next g c = grind (arith, common_steps)
+
+pub returns-in-Ok-None-clause-oks : goal.returns-in-Ok-None-clause-oks
+returns-in-Ok-None-clause-oks g c = grind (arith, common_steps)
+
+pub returns-in-Ok-None-clause-refused : goal.returns-in-Ok-None-clause-refused
+returns-in-Ok-None-clause-refused g c = grind (arith, common_steps)
+
+pub returns-in-Ok-None-clause-scans : goal.returns-in-Ok-None-clause-scans
+returns-in-Ok-None-clause-scans g c = grind (arith, common_steps)
+
+pub returns-in-Ok-None-clause-some : goal.returns-in-Ok-None-clause-some
+returns-in-Ok-None-clause-some g c = grind (arith, common_steps)
+
+pub returns-in-Ok-None-clause-steps : goal.returns-in-Ok-None-clause-steps
+returns-in-Ok-None-clause-steps g c = grind (arith, common_steps)
+
+pub returns-then-is_empty-clause-next : goal.returns-then-is_empty-clause-next
+returns-then-is_empty-clause-next g c = grind (arith, common_steps)
+
+pub returns-then-is_empty-clause-oks : goal.returns-then-is_empty-clause-oks
+returns-then-is_empty-clause-oks g c = grind (arith, common_steps)
+
+pub returns-then-is_empty-clause-refused : goal.returns-then-is_empty-clause-refused
+returns-then-is_empty-clause-refused g c = grind (arith, common_steps)
+
+pub returns-then-is_empty-clause-scans : goal.returns-then-is_empty-clause-scans
+returns-then-is_empty-clause-scans g c = grind (arith, common_steps)
+
+pub returns-then-is_empty-clause-some : goal.returns-then-is_empty-clause-some
+returns-then-is_empty-clause-some g c = grind (arith, common_steps)
+
+pub returns-then-is_empty-clause-steps : goal.returns-then-is_empty-clause-steps
+returns-then-is_empty-clause-steps g c = grind (arith, common_steps)

@@ -95,3 +95,90 @@ returns-in_err-members-clause-some g c = IfOk-from_err _ _ c.from_residual-in_er
 
 pub returns-clause-some : goal.returns-clause-some
 returns-clause-some g c = grind (arith, common_steps)
+
+pub returns-clause-before : goal.returns-clause-before
+returns-clause-before g c = grind (arith, common_steps)
+
+pub returns-clause-empty : goal.returns-clause-empty
+returns-clause-empty g c = grind (arith, common_steps)
+
+pub returns-clause-grown : goal.returns-clause-grown
+returns-clause-grown g c = grind (arith, common_steps)
+
+pub returns-clause-never : goal.returns-clause-never
+returns-clause-never g c = grind (arith, common_steps)
+
+pub returns-clause-tried : goal.returns-clause-tried
+returns-clause-tried g c = grind (arith, common_steps)
+
+pub returns-in_default-clause-empty : goal.returns-in_default-clause-empty
+returns-in_default-clause-empty g c = grind (arith, common_steps)
+
+pub returns-in_default-clause-grown : goal.returns-in_default-clause-grown
+returns-in_default-clause-grown g c = grind (arith, common_steps)
+
+pub returns-in_default-clause-never : goal.returns-in_default-clause-never
+returns-in_default-clause-never g c = grind (arith, common_steps)
+
+pub returns-in_default-clause-next : goal.returns-in_default-clause-next
+returns-in_default-clause-next g c = grind (arith, common_steps)
+
+pub returns-in_default-clause-some : goal.returns-in_default-clause-some
+returns-in_default-clause-some g c = grind (arith, common_steps)
+
+pub returns-in_default-clause-tried : goal.returns-in_default-clause-tried
+returns-in_default-clause-tried g c = grind (arith, common_steps)
+
+pub returns-in_err-is_surely_over-clause-grown : goal.returns-in_err-is_surely_over-clause-grown
+returns-in_err-is_surely_over-clause-grown g c = grind (arith, common_steps)
+
+pub returns-in_err-is_surely_over-clause-tried : goal.returns-in_err-is_surely_over-clause-tried
+returns-in_err-is_surely_over-clause-tried g c = grind (arith, common_steps)
+
+pub returns-in_err-list-clause-grown : goal.returns-in_err-list-clause-grown
+returns-in_err-list-clause-grown g c = grind (arith, common_steps)
+
+pub returns-in_err-list-clause-tried : goal.returns-in_err-list-clause-tried
+returns-in_err-list-clause-tried g c = grind (arith, common_steps)
+
+pub returns-in_err-members-clause-grown : goal.returns-in_err-members-clause-grown
+returns-in_err-members-clause-grown g c = grind (arith, common_steps)
+
+pub returns-in_err-members-clause-tried : goal.returns-in_err-members-clause-tried
+returns-in_err-members-clause-tried g c = grind (arith, common_steps)
+
+pub returns-then-branch-clause-empty : goal.returns-then-branch-clause-empty
+returns-then-branch-clause-empty g c = grind (arith, common_steps)
+
+pub returns-then-branch-clause-grown : goal.returns-then-branch-clause-grown
+returns-then-branch-clause-grown g c = grind (arith, common_steps)
+
+pub returns-then-branch-clause-never : goal.returns-then-branch-clause-never
+returns-then-branch-clause-never g c = grind (arith, common_steps)
+
+pub returns-then-branch-clause-next : goal.returns-then-branch-clause-next
+returns-then-branch-clause-next g c = grind (arith, common_steps)
+
+pub returns-then-branch-clause-some : goal.returns-then-branch-clause-some
+returns-then-branch-clause-some g c = grind (arith, common_steps)
+
+pub returns-then-branch-clause-tried : goal.returns-then-branch-clause-tried
+returns-then-branch-clause-tried g c = grind (arith, common_steps)
+
+pub returns-then-is_empty-clause-before : goal.returns-then-is_empty-clause-before
+returns-then-is_empty-clause-before g c = grind (arith, common_steps)
+
+pub returns-then-is_empty-clause-grown : goal.returns-then-is_empty-clause-grown
+returns-then-is_empty-clause-grown g c = grind (arith, common_steps)
+
+pub returns-then-is_empty-clause-never : goal.returns-then-is_empty-clause-never
+returns-then-is_empty-clause-never g c = grind (arith, common_steps)
+
+pub returns-then-is_empty-clause-next : goal.returns-then-is_empty-clause-next
+returns-then-is_empty-clause-next g c = grind (arith, common_steps)
+
+pub returns-then-is_empty-clause-some : goal.returns-then-is_empty-clause-some
+returns-then-is_empty-clause-some g c = grind (arith, common_steps)
+
+pub returns-then-is_empty-clause-tried : goal.returns-then-is_empty-clause-tried
+returns-then-is_empty-clause-tried g c = grind (arith, common_steps)

@@ -1,4 +1,5 @@
-use Rattle.std.proofs.Common.{◌≡◌, subst, ◌∙◌}
+use Rattle.std.proofs.Common.{◌≡◌, subst, ◌∙◌, arith}
+use Rattle.std.proofs.lemmas.Grind.{common_steps}
 use Rattle.lin_members.specs.Listed.{IsHeld}
 use Rattle.lin_frontier.specs.Placing.{insert_pair}
 use Rattle.lin_listing.proofs.Expanding.{extended_not, taken_extends}
@@ -28,3 +29,63 @@ returns-clause-extended g c =
 pub returns-clause-taken : goal.returns-clause-taken
 returns-clause-taken g c o there same absent =
     subst (IsHeld (g.O.SeqObject.observing c.args.self.now.object.now) c.args.self.now.pending.now c.visit.new.found) (with_it g c) c.in_ok-visit.ensures.taken.held
+
+pub returns-clause-grown : goal.returns-clause-grown
+returns-clause-grown g c = grind (arith, common_steps)
+
+pub returns-in_default-clause-grown : goal.returns-in_default-clause-grown
+returns-in_default-clause-grown g c = grind (arith, common_steps)
+
+pub returns-in_default-clause-taken : goal.returns-in_default-clause-taken
+returns-in_default-clause-taken g c = grind (arith, common_steps)
+
+pub returns-in_err-next-clause-extended : goal.returns-in_err-next-clause-extended
+returns-in_err-next-clause-extended g c = grind (arith, common_steps)
+
+pub returns-in_err-next-clause-grown : goal.returns-in_err-next-clause-grown
+returns-in_err-next-clause-grown g c = grind (arith, common_steps)
+
+pub returns-in_err-next-clause-taken : goal.returns-in_err-next-clause-taken
+returns-in_err-next-clause-taken g c = grind (arith, common_steps)
+
+pub returns-in_err-placed-clause-extended : goal.returns-in_err-placed-clause-extended
+returns-in_err-placed-clause-extended g c = grind (arith, common_steps)
+
+pub returns-in_err-placed-clause-grown : goal.returns-in_err-placed-clause-grown
+returns-in_err-placed-clause-grown g c = grind (arith, common_steps)
+
+pub returns-in_err-placed-clause-taken : goal.returns-in_err-placed-clause-taken
+returns-in_err-placed-clause-taken g c = grind (arith, common_steps)
+
+pub returns-in_err-reply-clause-extended : goal.returns-in_err-reply-clause-extended
+returns-in_err-reply-clause-extended g c = grind (arith, common_steps)
+
+pub returns-in_err-reply-clause-grown : goal.returns-in_err-reply-clause-grown
+returns-in_err-reply-clause-grown g c = grind (arith, common_steps)
+
+pub returns-in_err-reply-clause-taken : goal.returns-in_err-reply-clause-taken
+returns-in_err-reply-clause-taken g c = grind (arith, common_steps)
+
+pub returns-in_err-state-clause-extended : goal.returns-in_err-state-clause-extended
+returns-in_err-state-clause-extended g c = grind (arith, common_steps)
+
+pub returns-in_err-state-clause-grown : goal.returns-in_err-state-clause-grown
+returns-in_err-state-clause-grown g c = grind (arith, common_steps)
+
+pub returns-in_err-state-clause-taken : goal.returns-in_err-state-clause-taken
+returns-in_err-state-clause-taken g c = grind (arith, common_steps)
+
+pub returns-in_err-visit-clause-extended : goal.returns-in_err-visit-clause-extended
+returns-in_err-visit-clause-extended g c = grind (arith, common_steps)
+
+pub returns-in_err-visit-clause-grown : goal.returns-in_err-visit-clause-grown
+returns-in_err-visit-clause-grown g c = grind (arith, common_steps)
+
+pub returns-in_err-visit-clause-taken : goal.returns-in_err-visit-clause-taken
+returns-in_err-visit-clause-taken g c = grind (arith, common_steps)
+
+pub returns-then-not-is_absent-clause-grown : goal.returns-then-not-is_absent-clause-grown
+returns-then-not-is_absent-clause-grown g c = grind (arith, common_steps)
+
+pub returns-then-not-is_absent-clause-taken : goal.returns-then-not-is_absent-clause-taken
+returns-then-not-is_absent-clause-taken g c = grind (arith, common_steps)
