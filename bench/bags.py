@@ -19,7 +19,8 @@ class Recording:
     def __init__(self, operations, how, fault, clients):
         self.operations, self.how, self.fault, self.clients = operations, how, fault, clients
         self.draw, self.time, self.count, self.invoked, self.crashed = random.Random(20261128), 3291485317, 0, 0, 0
-        self.members, self.lines, self.order = [], [], []
+        # (the member that is taken twice; who takes it doesn't crash, else nobody could tell)
+        self.members, self.lines, self.order, self.doubled = [], [], [], None
 
     def put(self, process, type_, function, value):
         self.time += self.draw.randrange(1000, 900000)
@@ -45,7 +46,7 @@ class Recording:
         at = self.draw.randrange(len(self.members))
         found, self.members[at] = self.members[at], self.members[-1]
         if self.fault == 'twice' and self.is_late():
-            self.fault, self.members[at] = 'sound', found
+            self.fault, self.members[at], self.doubled = 'sound', found, found
         else:
             self.members.pop()
         return found
@@ -65,7 +66,7 @@ class Recording:
         if not is_done:
             return process, (at, function, self.take_effect(at, function, number), True)
         wanted = CRASHES * self.invoked // self.operations
-        if self.how == 'crashed' and self.crashed < wanted and function == 'dequeue' and number is not None:
+        if self.how == 'crashed' and self.crashed < wanted and function == 'dequeue' and number not in (None, self.doubled):
             self.crashed += 1
             self.put(process, 'info', function, None)
             return process + self.clients, None
