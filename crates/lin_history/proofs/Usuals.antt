@@ -1,15 +1,18 @@
 -- Usual maps: the events that they say.
-use Rattle.std.proofs.Common.{◌≡◌, ℕ, ℤ, pos, ◌<◌, ◌≤◌, Bool, true, false, List, [], ◌∷◌, Option, Some, None, Ok, drop, codes, refl, sym, ap, subst, ◌∙◌, arith}
+use Rattle.std.proofs.Common.{◌≡◌, ℕ, ℤ, pos, ◌<◌, ◌≤◌, Bool, true, false, List, [], ◌∷◌, Option, Some, None, Ok, drop, option_map, Result, codes, refl, sym, ap, subst, ◌∙◌, arith}
 use Rattle.std.proofs.lemmas.Option.{none-some}
 use Rattle.std.specs.List.{slice_range}
 use Rattle.lin_edn.specs.Grammar.{Element}
 use Rattle.lin_edn.specs.Laws.{ElementsAreUnique}
 use Rattle.lin_edn.specs.Run.{run_value}
 use Rattle.lin_edn.specs.Value.{Value, nil, bool, int, atom, keyword, text, list, vector, set, map, tagged, values_of, Entries}
-use Rattle.lin_history.specs.Table.{bare, under, is_several, is_named, or_nil, event, event_under, event_with, parts_of, process_of, type_of, function_of}
+use Rattle.lin_history.specs.Table.{bare, under, body_of, or_fault, is_several, is_named, or_nil, event, event_under, event_with, parts_of, process_of, type_of, function_of}
 use Rattle.lin_history.specs.Usual.{IsPlaced, ArePlaced, AreParts, TellsWith}
 use Rattle.lin_events.specs.declared.calls.Name.{Name}
+use Rattle.lin_events.specs.declared.events.Body.{Body}
 use Rattle.lin_events.specs.declared.events.Event.{Event}
+use Rattle.lin_history.specs.declared.table.EventFault.{EventFault}
+use Rattle.lin_history.specs.declared.table.EventFault.TheVariants.{BadValue}
 use Rattle.lin_history.specs.declared.table.EventType.{EventType}
 use Rattle.lin_history.specs.declared.usual.Place.{Place}
 use Rattle.lin_history.specs.declared.usual.Places.{Places}
@@ -86,3 +89,41 @@ usual_named keyed s levels es ps v are first named =
     rw first (named_under keyed v (under (codes ":type") es) (under (codes ":f") es) (under (codes ":value") es) named
     (few s levels (under (codes ":type") es) ps.event_type are.types) (few s levels (under (codes ":f") es) ps.function are.function)
     (few s levels (under (codes ":value") es) ps.value are.values))
+
+-- the parts of a value at which nothing but a pair's key is looked
+pub key_parts : ElementsAreUnique → (s : List ℕ) (levels : ℕ) (vs : List Value) (p : Place) (key : ℤ) (v : Value) (used : ℕ) → levels ≤ 64 → IsPlaced s levels vs (Some p) →
+    Element 63 p.at (drop p.at s) (vector (values_of (int key ∷ v ∷ []))) used (drop used s) → AreParts true vs key (bare v)
+key_parts unique s levels vs p key v used few there here =
+    let pair = vector (values_of (int key ∷ v ∷ [])) in
+    let same : there.0 ≡ pair = (unique levels 63 p.at there.1 used (drop p.at s) (drop there.1 s) (drop used s) there.0 pair few (omega arith) there.3.0 here).0 in
+    parts_alone true vs pair key (bare v) (there.2 ∙ ap (λ w. bare w ∷ []) same) refl
+
+pub whole_parts : (s : List ℕ) (levels : ℕ) (vs : List Value) (p : Place) → IsPlaced s levels vs (Some p) → AreParts false vs (pos 0) (or_nil vs)
+whole_parts s levels vs p there = (few s levels vs (Some p) there, refl)
+
+-- what is told hangs on a value by the body alone
+abbrev said : ℕ → ℤ → Option Body → Result (Option Event) EventFault
+said n key b = or_fault BadValue b (λ b. Ok (Some (record { process = n; key = key; body = b })))
+
+event_is : (keyed : Bool) (a b d w v : Value) (n : ℕ) (t : EventType) (f : Name) (key : ℤ) → process_of a ≡ Some n → type_of b ≡ Some t → function_of d ≡ Some f →
+    parts_of keyed w ≡ Some (key, v) → event_with keyed a b d w ≡ said n key (body_of t f v)
+event_is keyed a b d w v n t f key process type function parts = rw (process, type, function, parts) refl
+
+-- values with a key and nil
+abbrev pub valueless : Bool → ℤ → List Value
+valueless true key = vector (values_of (int key ∷ nil ∷ [])) ∷ []
+valueless false key = []
+
+pub valueless_parts : (keyed : Bool) (vs : List Value) (key : ℤ) (v : Value) → AreParts keyed vs key v → AreParts keyed (valueless keyed key) key nil
+valueless_parts true vs key v parts = (refl, refl)
+valueless_parts false vs key v parts = (refl, ap (option_map (λ (p : ℤ × Value). (p.0, nil))) parts.1)
+
+-- where the body hangs on no value, any value tells what nil does
+pub tells_same : (keyed : Bool) (n : ℕ) (t : EventType) (f : Name) (vs : List Value) (key : ℤ) (v : Value) (told : Option Event) →
+    ((v w : Value) → body_of t f v ≡ body_of t f w) → AreParts keyed vs key v → TellsWith keyed n t f (valueless keyed key) told → TellsWith keyed n t f vs told
+tells_same keyed n t f vs key v told same parts tells = (
+  parts.0,
+  λ a b d process type function. event_is keyed a b d (or_nil vs) v n t f key process type function parts.1 ∙ ap (said n key) (same v nil)
+      ∙ sym (event_is keyed a b d (or_nil (valueless keyed key)) nil n t f key process type function (valueless_parts keyed vs key v parts).1)
+      ∙ tells.1 a b d process type function,
+)

@@ -1,5 +1,5 @@
 //! Events from the maps that recorders write.
-ghost use Rattle.std.specs.Prelude.{◌≡◌, ℕ, Bool, ◌||◌, ◌++◌, [], ◌∷◌, true, Some, None, map, option_map, IsTrue, IsSome, is_some, IfOk};
+ghost use Rattle.std.specs.Prelude.{◌≡◌, false, ℕ, Bool, ◌||◌, ◌++◌, [], ◌∷◌, true, Some, None, map, option_map, IsTrue, IsSome, is_some, IfOk};
 ghost use Rattle.std.specs.Str.{bytes_eq};
 ghost use Rattle.lin_edn.specs.Run.{run_value};
 ghost use Rattle.lin_edn.specs.Value.{Value, int, keyword, values_of, entries_of};
@@ -419,6 +419,24 @@ fn body_of(
         EventType::Ok => Ok(Body::Ok(name, reply_of(alloc, name, value)?)),
         EventType::Fail => Ok(Body::Fail(name)),
         EventType::Info => Ok(Body::Info(name)),
+    }
+}
+
+/// Whether an event of this type and function hangs on the value.
+pub(crate) fn is_value_told(event_type: EventType, name: Name) -> bool
+    ensures { result ≡ false → (v : Value) (w : Value) → table.body_of event_type name v ≡ table.body_of event_type name w }
+{
+    match event_type {
+        EventType::Invoke => match name {
+            Name::Read | Name::Dequeue | Name::Acquire | Name::Release => false,
+            Name::Write | Name::Cas | Name::Enqueue | Name::Add => true,
+        },
+        EventType::Ok => match name {
+            Name::Read | Name::Dequeue => true,
+            _ => false,
+        },
+        EventType::Fail => false,
+        EventType::Info => false,
     }
 }
 

@@ -8,13 +8,14 @@ ghost use Rattle.lin_edn.specs.Value as value;
 ghost use Rattle.lin_edn.specs.Value.{Value, Entries};
 ghost use Rattle.lin_edn.specs.View.{view};
 ghost use Rattle.lin_history.specs.Fields.{given_view, value_of};
-ghost use Rattle.lin_history.specs.Table.{event};
+ghost use Rattle.lin_history.specs.Table.{body_of, event};
 ghost use Rattle.lin_history.specs.Usual.{AreParts, ArePlaced, IsAdded, IsPlaced, IsProcess, IsValueAt, IsUpTo, IsMapAt, IsTaken, TellsWith};
 
 use crate::table::{
-    EventType, Given, event_said, function_named, is_keyword, is_same, process_number, type_named,
+    EventType, Given, event_said, function_named, is_keyword, is_same, is_value_told,
+    process_number, type_named,
 };
-use crate::values::{pair_at, plain_pair, val_in, value_at};
+use crate::values::{pair_at, pair_key, plain_pair, val_in, value_at};
 use lin_edn::{
     Edn, elements_are_unique, integer, nested_until, run_element, run_until, tag_until,
     white_until, window,
@@ -186,16 +187,10 @@ fn process_in(at: usize, word: &[u8]) -> Option<Process>
 
 /// The object's key and the value that a map says whose `:value` stands at a place.
 #[inline(always)]
-fn parts_at<'a>(
-    alloc: Global,
-    keyed: bool,
-    text: &'a [u8],
-    place: Option<Place>,
-) -> Option<(i64, Edn<'a>)>
-    ensures { IfSome result (λ r. (levels : ℕ) (vs : List Value) → levels ≤ 64 → IsPlaced text.entry.now levels vs place → AreParts keyed vs r.0 (view r.1)) }
+fn parts_at<'a>(alloc: Global, keyed: bool, text: &'a [u8], place: Place) -> Option<(i64, Edn<'a>)>
+    ensures { IfSome result (λ r. (levels : ℕ) (vs : List Value) → levels ≤ 64 → IsPlaced text.entry.now levels vs (Some place) → AreParts keyed vs r.0 (view r.1)) }
 {
     elements_are_unique();
-    let place = place?;
     if keyed {
         let (key, value, _) = pair_at(alloc, text, place.at)?;
         return Some((key, value));
@@ -246,8 +241,38 @@ fn event_given(
     }
 }
 
-/// The event of a usual map with this process, type and function, whose `:value` is built as an element. It stands apart, so that other
-/// maps set nothing up for it.
+/// The object's key that a map says whose `:value` stands at a place: 0 without keys, else that of a pair. The value is passed over.
+fn key_alone(keyed: bool, text: &[u8], place: Place) -> Option<i64>
+    ensures { IfSome result (λ key. (levels : ℕ) (vs : List Value) → levels ≤ 64 → IsPlaced text.now levels vs (Some place) → (v : Value) × AreParts keyed vs key v) }
+{
+    elements_are_unique();
+    if !keyed {
+        return Some(0);
+    }
+    let (key, _) = pair_key(text, place.at)?;
+    Some(key)
+}
+
+/// The event of a usual map with this process, type and function, which doesn't hang on its `:value`, however long that is.
+fn valueless_event(
+    alloc: Global,
+    keyed: bool,
+    text: &[u8],
+    process: u64,
+    event_type: EventType,
+    name: Name,
+    place: Place,
+) -> Option<Option<Event>>
+    requires { (v : Value) (w : Value) → body_of event_type name v ≡ body_of event_type name w }
+    ensures { IfSome result (λ told. (levels : ℕ) (vs : List Value) → levels ≤ 64 → IsPlaced text.now levels vs (Some place) → TellsWith keyed process event_type name vs told) }
+{
+    let key = key_alone(keyed, text, place)?;
+    let told = event_given(alloc, process, event_type, name, key, Given::Val(Val::Nil))?;
+    Some(told)
+}
+
+/// The event of a usual map with this process, type and function, whose `:value` is built as an element if the event hangs on it. It
+/// stands apart, so that other maps set nothing up for it.
 #[inline(never)]
 fn element_event(
     alloc: Global,
@@ -260,6 +285,10 @@ fn element_event(
 ) -> Option<Option<Event>>
     ensures { IfSome result (λ told. (levels : ℕ) (vs : List Value) → levels ≤ 64 → IsPlaced text.now levels vs place → TellsWith keyed process event_type name vs told) }
 {
+    let place = place?;
+    if !is_value_told(event_type, name) {
+        return valueless_event(alloc, keyed, text, process, event_type, name, place);
+    }
     let (key, value) = parts_at(alloc, keyed, text, place)?;
     let told = event_given(
         alloc,

@@ -4,14 +4,14 @@ ghost use Rattle.lin_edn.specs.Bytes as bytes;
 ghost use Rattle.lin_edn.specs.Bytes.{a_vector};
 ghost use Rattle.lin_edn.specs.Grammar.{Element, Opens, Row};
 ghost use Rattle.lin_edn.specs.Run.{run_value};
-ghost use Rattle.lin_edn.specs.Value.{made, int, vector, values_of};
+ghost use Rattle.lin_edn.specs.Value.{Value, made, int, vector, values_of};
 ghost use Rattle.lin_edn.specs.View.{view};
 ghost use Rattle.lin_history.specs.Fields.{value_of};
 ghost use Rattle.lin_history.specs.Table.{bare};
 ghost use Rattle.lin_history.specs.Usual.{kind_of};
 
 use crate::table::is_same;
-use lin_edn::{Edn, integer, run_element, run_until, white_until};
+use lin_edn::{Edn, integer, nested_until, run_element, run_until, white_until};
 use lin_events::Val;
 use std::alloc::Global;
 
@@ -71,12 +71,32 @@ pub(crate) fn plain_pair(text: &[u8], from: usize) -> Option<(i64, Val, usize)>
     Some((key, val, last + 1))
 }
 
+/// The integer that the pair at a place begins with, and where the pair ends. Its value is passed over in place.
+pub(crate) fn pair_key(text: &[u8], from: usize) -> Option<(i64, usize)>
+    ensures { IfSome result (λ r. (v : Value) × Element 63 from (drop from text.now) (vector (values_of (int r.0 ∷ v ∷ []))) r.1 (drop r.1 text.now)) }
+{
+    let (key, until) = key_at(text, from)?;
+    let at = white_until(text, until, text.len());
+    let used = nested_until(text, at, text.len(), 62);
+    if used == at {
+        return None;
+    }
+    let last = white_until(text, used, text.len());
+    if last >= text.len() {
+        return None;
+    }
+    if text[last] != b']' {
+        return None;
+    }
+    Some((key, last + 1))
+}
+
 /// The integer that the vector at a place begins with, and where it ends.
 #[inline(always)]
 fn key_at(text: &[u8], from: usize) -> Option<(i64, usize)>
     ensures within { IfSome result (λ r. (from < r.1) × (r.1 ≤ length text.now)) }
     ensures opens { IfSome result (λ r. Opens a_vector from (drop from text.now) (from + 1) (drop (from + 1) text.now)) }
-    ensures key { IfSome result (λ r. Row 1 (from + 1) (drop (from + 1) text.now) (int r.0 ∷ []) r.1 (drop r.1 text.now)) }
+    ensures key { IfSome result (λ r. (n : ℕ) → Row n (from + 1) (drop (from + 1) text.now) (int r.0 ∷ []) r.1 (drop r.1 text.now)) }
 {
     if from >= text.len() {
         return None;

@@ -6,6 +6,6 @@ use Rattle.lin_history.proofs.usual.parts_at.Goals as goal
 
 pub returns-in-Some : goal.returns-in-Some
 returns-in-Some c = λ levels vs low there.
-    let one = c.in-Some.ensures levels vs (subst (IsPlaced c.args.text.now levels vs) c.in_ok-place.was there) in
+    let one = c.in-Some.ensures levels vs there in
     let value = view c.run_element.result in
     subst (λ k. AreParts k vs (pos 0) value) (sym c.if-keyed.false) (word_parts vs value (one ∙ ap (λ v. v ∷ []) (sym c.run_element.ensures)))

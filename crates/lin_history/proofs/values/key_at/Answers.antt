@@ -10,7 +10,7 @@ pub returns-clause-opens : goal.returns-clause-opens
 returns-clause-opens c = vector_opens c.args.text.now c.args.from (let h = c.if-from-text.false in omega arith) c.if-text-from-ne91.false
 
 pub returns-clause-key : goal.returns-clause-key
-returns-clause-key c =
+returns-clause-key c = λ n.
     let s = c.args.text.now in
     let inner = c.args.from + 1 in
     let at = c.white_until-at.result in
@@ -19,6 +19,6 @@ returns-clause-key c =
     let b = c.if-until-at.false in
     let word = slice_range s at until in
     let fits : SFits w64 c.in_ok-key.key = search rules in
-    subst (λ z. Row 1 inner (drop inner s) (int z ∷ []) until (drop until s)) (sym (to_z-of_z w64 c.in_ok-key.key fits))
-    (subst (λ v. Row 1 inner (drop inner s) (v ∷ []) until (drop until s)) (integer_value at word c.in_ok-key.key (sym c.in_ok-key.ensures))
-    (element (c.white_until-at.ensures.row 1 inner (drop inner s) [] empty) (c.run_until-until.ensures.run (omega arith) 1)))
+    subst (λ z. Row n inner (drop inner s) (int z ∷ []) until (drop until s)) (sym (to_z-of_z w64 c.in_ok-key.key fits))
+    (subst (λ v. Row n inner (drop inner s) (v ∷ []) until (drop until s)) (integer_value at word c.in_ok-key.key (sym c.in_ok-key.ensures))
+    (element (c.white_until-at.ensures.row n inner (drop inner s) [] empty) (c.run_until-until.ensures.run (omega arith) n)))

@@ -13,7 +13,7 @@ returns-clause-pair c =
     let inner = from + 1 in
     let key = int c.in_ok-key.key in
     let value = view c.in_ok-value.value in
-    let row = c.white_until-at.ensures.row 1 inner (drop inner s) (key ∷ []) c.in_ok-key.ensures.key in
+    let row = c.white_until-at.ensures.row 1 inner (drop inner s) (key ∷ []) (c.in_ok-key.ensures.key 1) in
     let fits : SFits w64 c.in_ok-key.key = search rules in
     subst (λ z. Element 2 from (drop from s) (vector (values_of (int z ∷ value ∷ []))) (c.white_until-last.result + 1) (drop (c.white_until-last.result + 1) s))
     (sym (to_z-of_z w64 c.in_ok-key.key fits))

@@ -17,7 +17,7 @@ returns c =
     let used = c.run_until-used.result in
     let a = c.run_until-used.ensures.within.0 in
     let b = c.if-used-at.false in
-    let row = c.white_until-at.ensures.row 1 inner (drop inner s) (key ∷ []) c.in_ok-key.ensures.key in
+    let row = c.white_until-at.ensures.row 1 inner (drop inner s) (key ∷ []) (c.in_ok-key.ensures.key 1) in
     let fits : SFits w64 c.in_ok-key.key = search rules in
     let run = subst (λ v. Element 1 at (drop at s) v used (drop used s)) (c.in_ok-val.ensures at) (c.run_until-used.ensures.run (omega arith) 1) in
     subst (λ z. Element 2 from (drop from s) (vector (values_of (int z ∷ value ∷ []))) (c.white_until-last.result + 1) (drop (c.white_until-last.result + 1) s))
