@@ -5,6 +5,7 @@ pub mod Chains
 pub mod Clear
 pub mod Digits
 pub mod Faults
+pub mod Filling
 pub mod Flat
 pub mod Forth
 pub mod Inner
@@ -18,6 +19,7 @@ pub mod Order
 pub mod Rising
 pub mod Rows
 pub mod Runs
+pub mod Simple
 pub mod Sizes
 pub mod Skims
 pub mod Sound

@@ -8,6 +8,7 @@ pub mod Reading
 pub mod Rows
 pub mod Run
 pub mod Scans
+pub mod Simple
 pub mod Skimming
 pub mod Turns
 pub mod Value

@@ -1,10 +1,13 @@
 //! White, runs, texts and tags of an input, found in place.
 
-ghost use Rattle.std.specs.Prelude.{◌≡◌, ℕ, ◌+◌, ◌<◌, ◌≤◌, List, length, drop};
+ghost use Rattle.std.specs.Prelude.{◌≡◌, ℕ, ◌+◌, ◌<◌, ◌≤◌, List, length, drop, slice_index};
 ghost use Rattle.std.specs.List.{slice_range};
 ghost use Rattle.lin_edn.specs.Grammar.{ShortBlanks, Blanks, Row, Element, IsTagAt};
 ghost use Rattle.lin_edn.specs.Run.{run_value};
+ghost use Rattle.lin_edn.specs.Scans.{IsStopAt, is_dark};
+ghost use Rattle.lin_edn.specs.Simple.{FindsBegun, FindsSimple};
 ghost use Rattle.lin_edn.specs.Value.{Value, text as text_value};
+ghost use Rattle.lin_edn.specs.Bytes.{class, inside, quote};
 
 use crate::reader::{Behind, behind_hash};
 use crate::scan::{is_plain, plain_end, run_end, white_end};
@@ -19,6 +22,7 @@ pub fn white_until(input: &[u8], from: usize, end: usize) -> usize
     ensures row { (n : ℕ) (p : ℕ) (s : List ℕ) (vs : List Value) →
         Row n p s vs from (drop from input.now) → Row n p s vs result (drop result input.now) }
     ensures blanks { (n : ℕ) → Blanks n from (drop from input.now) result (drop result input.now) }
+    ensures all { IsStopAt is_dark input.now from end result }
 {
     white_end(input, from, end)
 }
@@ -31,6 +35,7 @@ pub fn run_until(input: &[u8], from: usize, end: usize) -> usize
     ensures within { (from ≤ result) × (result ≤ end) }
     ensures run { from < result → (n : ℕ) →
         Element n from (drop from input.now) (run_value from (slice_range input.now from result)) result (drop result input.now) }
+    ensures found { FindsBegun inside input.now from end result }
 {
     if from == end {
         return from;
@@ -49,6 +54,7 @@ pub(crate) fn text_until(input: &[u8], from: usize, end: usize) -> usize
     ensures within { (from ≤ result) × (result ≤ end) }
     ensures text { from < result → (n : ℕ) →
         Element n from (drop from input.now) (text_value from (slice_range input.now from result)) result (drop result input.now) }
+    ensures found { class (slice_index input.now from) ≡ quote → (levels : ℕ) → FindsSimple input.now from end levels result }
 {
     if from == end {
         return from;
@@ -73,6 +79,7 @@ pub fn tag_until(input: &[u8], from: usize, end: usize) -> usize
     requires inside { end ≤ length input.now }
     ensures within { (from ≤ result) × (result ≤ end) }
     ensures tag { from < result → IsTagAt input.now from result }
+    ensures found { (until : ℕ) → IsTagAt input.now from until → until < end → result ≡ until }
 {
     if end - from < 2 {
         return from;

@@ -1,9 +1,10 @@
 //! Values of an input, with what is nested in them, found in place.
 
-ghost use Rattle.std.specs.Prelude.{◌≡◌, ℕ, ◌+◌, ◌<◌, ◌≤◌, Bool, true, IfSome, length, drop, slice_index};
+ghost use Rattle.std.specs.Prelude.{◌≡◌, ℕ, ◌+◌, ◌<◌, ◌≤◌, Bool, List, true, IfSome, IfNone, length, drop, slice_index};
 ghost use Rattle.lin_edn.specs.Bytes.{Kind};
 ghost use Rattle.lin_edn.specs.Grammar.{Element, Opens};
 ghost use Rattle.lin_edn.specs.Skimming.{brackets, grown, level_view};
+ghost use Rattle.lin_edn.specs.Simple.{FindsSimple};
 ghost use Rattle.lin_edn.specs.Value.{Value};
 
 use crate::found::{run_until, tag_until, text_until, white_until};
@@ -11,13 +12,14 @@ use crate::skim::{Level, can_close};
 
 /// Where the value at a place ends; that place where none stands there that ends before `end`, and that is a run, a text
 /// without a backslash, a collection of such values with white between them, or such a value behind a tag, with so many levels
-/// at most.
+/// at most. So it finds each value without comments, discards and backslashes.
 #[cycle(nested)]
 pub fn nested_until(input: &[u8], from: usize, end: usize, levels: usize) -> usize
     requires begun { from ≤ end }
     requires inside { end ≤ length input.now }
     ensures within { (from ≤ result) × (result ≤ end) }
     ensures value { from < result → (v : Value) × Element levels from (drop from input.now) v result (drop result input.now) }
+    ensures found { FindsSimple input.now from end levels result }
 {
     let run = run_until(input, from, end);
     if run > from {
@@ -50,6 +52,7 @@ fn collection_until(input: &[u8], from: usize, end: usize, levels: usize) -> usi
     requires room { 0 < levels }
     ensures within { (from ≤ result) × (result ≤ end) }
     ensures value { from < result → (v : Value) × Element levels from (drop from input.now) v result (drop result input.now) }
+    ensures found { (k : Kind) (inner : ℕ) (t : List ℕ) → Opens k from (drop from input.now) inner t → FindsSimple input.now from end levels result }
 {
     let Some((opened, inner)) = opened_at(input, from, end) else {
         return from;
@@ -76,17 +79,24 @@ fn opened_at(input: &[u8], from: usize, end: usize) -> Option<(Level, usize)>
     requires inside { end ≤ length input.now }
     ensures within { IfSome result (λ r. (from < r.1) × (r.1 ≤ end)) }
     ensures opens { IfSome result (λ r. (k : Kind) × Opens k from (drop from input.now) r.1 (drop r.1 input.now) × (level_view r.0 ≡ brackets k true)) }
+    ensures none { IfNone result ((k : Kind) (inner : ℕ) (t : List ℕ) → Opens k from (drop from input.now) inner t → inner ≤ end → ⊥) }
 {
     if from == end {
         return None;
     }
-    match input[from] {
-        b'[' => Some((Level::Vector, from + 1)),
-        b'(' => Some((Level::List, from + 1)),
-        b'{' => Some((Level::EvenMap, from + 1)),
-        b'#' => set_at(input, from, end),
-        _ => None,
+    if input[from] == b'[' {
+        return Some((Level::Vector, from + 1));
     }
+    if input[from] == b'(' {
+        return Some((Level::List, from + 1));
+    }
+    if input[from] == b'{' {
+        return Some((Level::EvenMap, from + 1));
+    }
+    if input[from] != b'#' {
+        return None;
+    }
+    set_at(input, from, end)
 }
 
 /// A set, if it is opened at a place where a `#` stands, and where its opening bytes end.
@@ -96,6 +106,7 @@ fn set_at(input: &[u8], from: usize, end: usize) -> Option<(Level, usize)>
     requires hash { slice_index input.now from ≡ 35 }
     ensures within { IfSome result (λ r. (from < r.1) × (r.1 ≤ end)) }
     ensures opens { IfSome result (λ r. (k : Kind) × Opens k from (drop from input.now) r.1 (drop r.1 input.now) × (level_view r.0 ≡ brackets k true)) }
+    ensures none { IfNone result ((k : Kind) (inner : ℕ) (t : List ℕ) → Opens k from (drop from input.now) inner t → inner ≤ end → ⊥) }
 {
     if end - from < 2 {
         return None;
