@@ -1,13 +1,13 @@
 -- Collections of simple bytes, whose elements are found one by one.
-use Rattle.std.proofs.Common.{inl, inr, ◌≡◌, ℕ, suc, ◌+◌, ◌-◌, ◌<◌, ◌≤◌, Bool, true, false, not, ◌&&◌, ◌==◌, List, [], ◌∷◌, ◌++◌, length, drop, get_or, append-nil, append_assoc, Option, Some, None, refl, sym, ap, subst, arith, rules, tests, ◌∙◌, true≢false}
+use Rattle.std.proofs.Common.{inl, inr, ◌≡◌, ℕ, suc, ◌+◌, ◌<◌, ◌≤◌, Bool, true, false, ◌==◌, List, [], ◌∷◌, ◌++◌, drop, get_or, append-nil, append_assoc, refl, sym, ap, subst, arith, rules, tests, ◌∙◌, true≢false}
 use Rattle.std.proofs.lemmas.Bool.{cases_lt}
 use Rattle.std.proofs.lemmas.List.{drop-drop}
 use Rattle.std.specs.Option.{is_some}
-use Rattle.lin_edn.specs.Bytes.{Kind, a_list, a_vector, a_set, a_map, Class, class, white, closer, quote, inside, is_white, closing}
+use Rattle.lin_edn.specs.Bytes.{Kind, a_list, a_vector, a_set, a_map, class, white, closer, quote, inside, is_white, closing}
 use Rattle.lin_edn.specs.Grammar.{one, Tag, IsTagAt, Opens, bracket, set_bracket, Blank, Blanks, no_blank, one_more, Element, Row, empty, blank, element}
 use Rattle.lin_edn.specs.Scans.{IsStopAt, is_dark}
 use Rattle.lin_edn.specs.Simple.{IsSimple, FindsSimple}
-use Rattle.lin_edn.specs.Skimming.{Shape, brackets, closes, grown}
+use Rattle.lin_edn.specs.Skimming.{brackets, closes}
 use Rattle.lin_edn.specs.Value.{Value, made}
 use Rattle.lin_edn.proofs.Ahead.{along_to, lit, white_class}
 use Rattle.lin_edn.proofs.Rising.{tail_rises, blank_past, blanks_tail, element_past, tag_past}

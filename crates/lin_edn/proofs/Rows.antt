@@ -1,8 +1,8 @@
 -- A list or vector that is read element by element.
-use Rattle.std.proofs.Common.{◌≡◌, ℕ, ◌+◌, ◌≤◌, ◌<◌, Bool, true, false, List, [], ◌∷◌, ◌++◌, length, drop, get_or, inl, inr, Option, Some, None, IfNone, MatchOption, Ok, refl, sym, ap, ◌∙◌, subst, arith, true≢false, append_assoc, append-nil, length-append, length-drop}
+use Rattle.std.proofs.Common.{◌≡◌, ℕ, ◌+◌, ◌≤◌, ◌<◌, Bool, true, false, not, List, [], ◌∷◌, ◌++◌, length, drop, get_or, inl, inr, Option, Some, None, IfNone, MatchOption, Ok, refl, sym, ap, ◌∙◌, subst, arith, true≢false, append_assoc, append-nil, length-append, length-drop}
 use Rattle.std.proofs.lemmas.List.{drop-append-le}
 use Rattle.std.proofs.lemmas.Bool.{cases_lt}
-use Rattle.lin_edn.specs.Bytes.{Kind, closing}
+use Rattle.lin_edn.specs.Bytes.{Kind, closing, is_white}
 use Rattle.lin_edn.specs.Grammar.{Opens, Blanks, no_blank, Row, empty, blank, element, longest, ShortBlanks, Spells, IsTagAt, Frame, frame, tagging, Open, none_open, awaits, within}
 use Rattle.lin_edn.specs.Machine.{run, between, complete, put}
 use Rattle.lin_edn.specs.Rows.{IsRow, IsRound, IsBehind, IsClosed, IsElementAt, IsAtNothing, bracket_of, value_in, IsBracketless, row_levels}
@@ -13,7 +13,6 @@ use Rattle.lin_edn.specs.declared.Edn.{Edn}
 use Rattle.lin_edn.specs.declared.series.Series.{Series}
 use Rattle.lin_edn.proofs.Ahead.{at_byte}
 use Rattle.lin_edn.proofs.Back.{AfterTurn, closed_holds}
-use Rattle.lin_edn.proofs.Fronts.{positive}
 use Rattle.lin_edn.proofs.Longer.{open_longer}
 use Rattle.lin_edn.proofs.Rising.{blanks_tail, element_past, tail_rises, then, tail_size}
 use Rattle.lin_edn.proofs.Standing.{with_blanks, white_blanks}
@@ -42,14 +41,23 @@ if_none (Some x) h = tt
 light : (c k : ℕ) → is_dark k ≡ true → is_dark c ≡ false → c ≡ k → ⊥
 light c k dark h e = cc
 
+white_not : (b : Bool) → not b ≡ true → b ≡ false
+white_not true h = absurd (true≢false (sym h))
+white_not false h = refl
+
+white_dark : (c : ℕ) → is_white c ≡ true → is_dark c ≡ true → ⊥
+white_dark c white dark = true≢false (sym dark ∙ ap not white)
+
 pub bracketless : (o : Option Series) (s : List ℕ) (begun end : ℕ) → ((i : ℕ) → i < 0 + longest → i < length s → i < end) → IsStopAt is_dark s 0 end begun →
     (begun < end → (get_or s begun 0 ≡ 91 → ⊥) × (get_or s begun 0 ≡ 40 → ⊥)) → IfNone o (IsBracketless s)
-bracketless o s begun end whole stop none = if_none o (λ lt.
-    let z : 0 < longest = positive in
-    let first : 0 < end = whole 0 (omega arith) lt in
-    elim (cases_lt 0 begun) [
-      | inl later ↦ (let dark = stop.2 0 (omega arith) later in (λ e. light (get_or s 0 0) 91 refl dark e, λ e. light (get_or s 0 0) 40 refl dark e))
-      | inr here ↦ (let same : begun ≡ 0 = omega arith in subst (λ i. (get_or s i 0 ≡ 91 → ⊥) × (get_or s i 0 ≡ 40 → ⊥)) same (none (omega arith)))
+bracketless o s begun end whole stop none = if_none o (λ at lt short before.
+    let inside : at < end = whole at (omega arith) lt in
+    elim (cases_lt at begun) [
+      | inl earlier ↦ (let dark = stop.2 at (omega arith) earlier in (λ e. light (get_or s at 0) 91 refl dark e, λ e. light (get_or s at 0) 40 refl dark e))
+      | inr le ↦ elim (cases_lt begun at) [
+        | inl later ↦ absurd (white_dark (get_or s begun 0) (before begun later) (stop.3 (omega arith)))
+        | inr ge ↦ (let same : begun ≡ at = omega arith in subst (λ i. (get_or s i 0 ≡ 91 → ⊥) × (get_or s i 0 ≡ 40 → ⊥)) same (none (omega arith)))
+      ]
     ])
 
 -- a tag and the opening byte
@@ -165,4 +173,9 @@ nothing_past r s end whole le = (
       let short : used ≤ longest = e.4 in
       let h : r.at < end = whole r.at (omega arith) (omega arith) in omega arith,
   λ lt short e. (let h : r.at < end = whole r.at (omega arith) lt in omega arith),
+  λ lt short. (let h : r.at < end = whole r.at (omega arith) lt in absurd (omega arith)),
 )
+
+-- no white stands where it ends
+pub none_white : (s : List ℕ) (from end at : ℕ) → IsStopAt is_dark s from end at → at < end → is_white (get_or s at 0) ≡ false
+none_white s from end at h lt = white_not (is_white (get_or s at 0)) (h.3 lt)

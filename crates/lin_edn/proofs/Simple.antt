@@ -1,18 +1,17 @@
 -- Elements that are found in place: those that are made of simple bytes.
-use Rattle.std.proofs.Common.{rules, inl, inr, ◌≡◌, ℕ, suc, ◌+◌, ◌-◌, ◌<◌, ◌≤◌, Bool, true, false, not, ◌||◌, ◌==◌, if◌then◌else◌, List, [], ◌∷◌, ◌++◌, length, drop, get_or, get_or-drop, append-nil, append_assoc, add-zero, Option, Some, None, refl, sym, ap, subst, arith, ◌∙◌, true≢false}
+use Rattle.std.proofs.Common.{rules, inl, inr, ◌≡◌, ℕ, suc, ◌+◌, ◌-◌, ◌<◌, ◌≤◌, Bool, true, false, not, ◌==◌, if◌then◌else◌, List, ◌∷◌, drop, get_or, get_or-drop, add-zero, Some, refl, sym, ap, subst, arith, ◌∙◌, true≢false}
 use Rattle.std.proofs.lemmas.Bool.{cases_lt}
 use Rattle.std.proofs.lemmas.List.{drop-drop}
-use Rattle.std.specs.Option.{is_some}
-use Rattle.lin_edn.specs.Bytes.{Kind, a_list, a_vector, a_set, a_map, Class, class, white, semicolon, opener, closer, quote, backslash, hash, inside, is_white, is_stop, stops, closing, Behind, behind, opens_set, opens_text, discards as discards_next, joins, stands_apart, names_tag, Quoted, quoted, ends, escapes, stays}
-use Rattle.lin_edn.specs.Grammar.{One, one, Inside, first, joined, character, next, Tag, first_of_tag, next_of_tag, IsTagAt, Text, Escape, opened, opened_by_hash, plain, pair, escape, Comment, starts, goes, Opens, bracket, set_bracket, discards, Blank, white_byte, comment, discarded, Blanks, no_blank, one_more, Element, run, hash_alone, whole_text, tagged_element, collection, Row, empty, blank, element}
+use Rattle.lin_edn.specs.Bytes.{Kind, a_list, a_vector, a_map, Class, class, white, semicolon, opener, closer, quote, backslash, hash, inside, is_white, is_stop, closing, Behind, behind, opens_set, opens_text, discards as discards_next, joins, stands_apart, names_tag, quoted, ends}
+use Rattle.lin_edn.specs.Grammar.{one, Inside, first, joined, character, next, Tag, first_of_tag, next_of_tag, IsTagAt, Text, Escape, opened, opened_by_hash, plain, pair, escape, Comment, starts, goes, Opens, bracket, set_bracket, discards, Blank, white_byte, comment, discarded, Blanks, Element, run, hash_alone, whole_text, tagged_element, collection, Row}
 use Rattle.lin_edn.specs.Scans.{IsStopAt, is_dark, is_quoting}
 use Rattle.lin_edn.specs.Simple.{is_simple, is_simple_behind, IsSimple}
 use Rattle.lin_edn.specs.Turns.{behind_of}
 use Rattle.lin_edn.specs.Value.{Value, made}
 use Rattle.lin_edn.specs.declared.reader.Behind.{Behind as CodeBehind}
 use Rattle.lin_edn.specs.declared.reader.Behind.TheVariants as code
-use Rattle.lin_edn.proofs.Ahead.{along_to, lit, stays_of, white_class}
-use Rattle.lin_edn.proofs.Rising.{Tail, all, last, then, tail_rises, inside_past, tag_past, text_past, opens_past, blank_past, blanks_tail, element_past}
+use Rattle.lin_edn.proofs.Ahead.{stays_of}
+use Rattle.lin_edn.proofs.Rising.{Tail, tail_rises, tag_past, text_past, element_past}
 use Rattle.lin_edn.proofs.Sizes.{tail_drop}
 use Rattle.lin_edn.proofs.Standing.{hashes}
 

@@ -1,12 +1,12 @@
 -- The reader without values goes with the machine.
-use Rattle.std.proofs.Common.{◌≡◌, ℕ, zero, suc, ◌+◌, ◌<◌, Bool, true, false, ◌&&◌, ◌==◌, nat_le, if◌then◌else◌, List, [], ◌∷◌, ◌++◌, length, ◌≤◌, drop, length-drop, map as each, refl, sym, ap, ◌∙◌, arith, Option, Some, None, is_some, subst, rules, tests, append_assoc, append-nil, length-append}
+use Rattle.std.proofs.Common.{◌≡◌, ℕ, zero, suc, ◌+◌, ◌<◌, Bool, true, false, ◌&&◌, ◌==◌, nat_le, if◌then◌else◌, List, [], ◌∷◌, ◌++◌, length, get_or, subst, take, length-take-le, ◌≤◌, drop, length-drop, map as each, refl, sym, ap, ◌∙◌, arith, Option, Some, None, is_some, rules, tests, append_assoc, append-nil, length-append}
 use Rattle.std.proofs.lemmas.List.{length-map}
 use Rattle.lin_edn.specs.Bytes.{a_set, Class, class, white, semicolon, opener, closer, quote, backslash, hash, inside, is_stop, is_newline, closing, Behind, behind, opens_set, opens_text, discards, joins, stands_apart, names_tag, Quoted, quoted, ends, escapes, stays}
 use Rattle.lin_edn.specs.Grammar.{no_blank_yet, Open, none_open, Frame, frame, discarding, tagging, longest, IsUnfinished, IsBlankText, outermost}
 use Rattle.lin_edn.specs.Machine.{Mode, between, in_run, after_hash, after_backslash, in_tag, in_text, in_escape, in_comment, partial, blank, fault, too_long, Turn, go, stop, run, step, limited, ended, taken, begun, put, deeper, begins, goes_on, quotes, apart, close, closed, at_end}
 use Rattle.lin_edn.specs.Run.{run_value}
 use Rattle.lin_edn.specs.Rows.{IsRow, IsRound, bracket_of, row_levels}
-use Rattle.lin_edn.specs.Skimming.{Shape, brackets, a_discard, a_tag, shape_of, still, put_shape, with_part, apart_shape, ended_shape, deeper_shape, close_shape, begins_shape, goes_on_shape, quotes_shape, taken_shape, IsIn, LeavesOpen, HasSeen, HasGone, shapes_of, row_shapes, IsOpenText}
+use Rattle.lin_edn.specs.Skimming.{Shape, brackets, a_discard, a_tag, shape_of, still, put_shape, with_part, apart_shape, ended_shape, deeper_shape, close_shape, begins_shape, goes_on_shape, quotes_shape, taken_shape, IsIn, LeavesOpen, HasSeen, HasGone, IsMoreOf, is_more_of, shapes_of, row_shapes, IsOpenText}
 use Rattle.lin_edn.specs.Value.{Value, atom, text as a_text, tagged, made}
 use Rattle.lin_edn.specs.declared.EdnCause.TheVariants.{Unbalanced, TooDeep}
 use Rattle.lin_edn.specs.declared.series.Series.{Series}
@@ -312,3 +312,14 @@ seen_in r text vs old new size shapes is_between first g row =
       (let e = length-drop r.at text in let i : r.at ≤ length text = row.0 in let j : new.length ≡ old.length + length rest = g.0 in omega arith),
       g.1 text [] (rw (size, shapes, is_between, append-nil rest) begins),
     )
+
+-- bytes that leave open what is open
+pub still_more : (old now : Skim) (bytes : List ℕ) (at : ℕ) → at < length bytes → now.part ≡ old.part → IsMoreOf old bytes → is_more_of now.part (get_or bytes at 0) ≡ true
+still_more old now bytes at lt same m = subst (λ p. is_more_of p (get_or bytes at 0) ≡ true) (sym same) (m.0 at lt)
+
+pub still_short : (old now : Skim) (bytes : List ℕ) (at : ℕ) → at < length bytes → HasGone old now (take at bytes) → IsMoreOf old bytes → now.length < longest
+still_short old now bytes at lt gone m =
+    let size : now.length ≡ old.length + length (take at bytes) = gone.0 in
+    let taken : length (take at bytes) ≡ at = length-take-le at bytes (omega arith) in
+    let most : old.length + length bytes ≤ longest = m.1 in
+    omega arith

@@ -1,6 +1,6 @@
 -- A list or vector that is read element by element, in words of the grammar.
 use Rattle.std.specs.Prelude.{◌≡◌, ℕ, ◌<◌, ◌≤◌, Bool, true, false, List, [], ◌∷◌, ◌++◌, length, drop, slice_index}
-use Rattle.lin_edn.specs.Bytes.{Kind, a_list, a_vector, closing}
+use Rattle.lin_edn.specs.Bytes.{Kind, a_list, a_vector, closing, is_white}
 use Rattle.lin_edn.specs.Grammar.{longest, Blanks, Element, Spells, Frame, frame, tagging, Open}
 use Rattle.lin_edn.specs.Value.{Value, list, vector, tagged, values_of}
 use Rattle.lin_edn.specs.View.{view}
@@ -58,10 +58,11 @@ IsElementAt levels s from v used = (p : ℕ) × (t : List ℕ) × Blanks levels 
 abbrev pub IsNoElementAt : ℕ → List ℕ → ℕ → Type 0
 IsNoElementAt levels s from = (v : Value) (used : ℕ) → IsElementAt levels s from v used → ⊥
 
--- neither a whole element nor the closing byte stands where a text is read to
+-- neither a whole element nor white nor the closing byte stands where a text is read to
 abbrev pub IsAtNothing : Series → List ℕ → Type 0
 IsAtNothing r s = IsNoElementAt (row_levels r) s r.at
     × (r.at < length s → r.at < longest → slice_index s r.at ≡ closing (bracket_of r.is_vector) → ⊥)
+    × (r.at < length s → r.at < longest → is_white (slice_index s r.at) ≡ false)
 
 -- the list or vector of these elements, whole and with its tag if it has one, ends before a place
 abbrev pub IsClosed : Series → List ℕ → List Value → ℕ → Type 0
@@ -74,6 +75,7 @@ IsNext old new s vs (inside.Closed used) = IsClosed new s vs used
 IsNext old new s vs inside.Unknown = IsRow new s vs × IsAtNothing new s
 IsNext old new s vs inside.OutOfMemory = IsRow new s vs
 
--- a text begins with neither bracket
+-- a text begins with neither bracket, be it behind white
 abbrev pub IsBracketless : List ℕ → Type 0
-IsBracketless s = 0 < length s → (slice_index s 0 ≡ 91 → ⊥) × (slice_index s 0 ≡ 40 → ⊥)
+IsBracketless s = (at : ℕ) → at < length s → at < longest → ((i : ℕ) → i < at → is_white (slice_index s i) ≡ true) →
+    (slice_index s at ≡ 91 → ⊥) × (slice_index s at ≡ 40 → ⊥)

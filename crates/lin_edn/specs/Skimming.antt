@@ -1,9 +1,10 @@
 -- What a reader that keeps no values knows of the text so far, in words of the grammar: public contracts cite `HasSeen` and
 -- `IsOpenText`; what stands behind these is cited by the contracts of private functions alone.
-use Rattle.std.specs.Prelude.{◌≡◌, ℕ, ◌+◌, ◌<◌, ◌≤◌, Bool, true, false, ◌&&◌, ◌==◌, nat_le, if◌then◌else◌, List, [], ◌∷◌, ◌++◌, length, map, reverse, Option, Some, None, option_map, is_some, not}
+use Rattle.std.specs.Prelude.{◌≡◌, ℕ, ◌+◌, ◌<◌, ◌≤◌, Bool, true, false, ◌&&◌, ◌==◌, nat_le, if◌then◌else◌, List, [], ◌∷◌, ◌++◌, length, slice_index, map, reverse, Option, Some, None, option_map, is_some, not}
 use Rattle.lin_edn.specs.Bytes.{Kind, a_list, a_vector, a_set, a_map, Class, class, white, semicolon, opener, closer, quote, backslash, hash, inside, is_stop, is_newline, closing, Behind, behind, opens_set, opens_text, discards, joins, stands_apart, names_tag, Quoted, quoted, ends, escapes, stays}
 use Rattle.lin_edn.specs.Grammar.{One, Inside, Tag, Text, Escape, Comment, Frame, frame, discarding, tagging, outermost, Open, longest, IsUnfinished, IsBlankText}
 use Rattle.lin_edn.specs.Rows.{bracket_of}
+use Rattle.lin_edn.specs.Scans.{is_quoting}
 use Rattle.lin_edn.specs.Value.{made}
 use Rattle.lin_edn.specs.declared.skim.Level.{Level}
 use Rattle.lin_edn.specs.declared.skim.Level.TheVariants as level
@@ -70,6 +71,21 @@ IsOpenText false text = IsUnfinished text 0
 abbrev pub HasGone : Skim → Skim → List ℕ → Type 0
 HasGone old new bytes = (new.length ≡ old.length + length bytes) × ((text rest : List ℕ) →
     LeavesOpen text old.length (bytes ++ rest) (shapes_of old.levels.items) old.part → LeavesOpen text new.length rest (shapes_of new.levels.items) new.part)
+
+-- a byte of a run, of a tag's name, of a text or of a comment that leaves it open
+abbrev pub is_more_of : Part → ℕ → Bool
+is_more_of part.Between c = false
+is_more_of part.Run c = not (is_stop c)
+is_more_of part.Hash c = false
+is_more_of part.Backslash c = false
+is_more_of part.Tag c = not (is_stop c)
+is_more_of part.Text c = not (is_quoting c)
+is_more_of part.Escape c = false
+is_more_of part.Comment c = not (is_newline c)
+
+-- these are all such bytes, and not too many
+abbrev pub IsMoreOf : Skim → List ℕ → Type 0
+IsMoreOf skim bytes = ((i : ℕ) → i < length bytes → is_more_of skim.part (slice_index bytes i) ≡ true) × (skim.length + length bytes ≤ longest)
 
 -- whether a level can be closed after one more element
 abbrev pub grown : Kind → Bool → Bool

@@ -36,7 +36,8 @@ pub enum Inside<'a> {
     Element(Edn<'a>),
     /// The list or vector is whole, and ends before this place.
     Closed(usize),
-    /// Neither a whole element nor the end: the text is unfinished or faulty there, or other blanks than white stand before its end.
+    /// Behind white neither a whole element nor the end: the text is unfinished or faulty there, or other blanks than white stand
+    /// before its end.
     Unknown,
     /// Memory ran out.
     OutOfMemory,

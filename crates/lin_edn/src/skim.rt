@@ -1,10 +1,12 @@
 //! A reader that keeps no values, and goes on where it stopped.
 
-ghost use Rattle.std.specs.Prelude.{◌≡◌, ℕ, ◌<◌, List, [], ◌∷◌, ◌++◌, length, ◌==◌, true, Some, IfSome};
+ghost use Rattle.std.specs.Prelude.{◌≡◌, ℕ, ◌<◌, List, [], ◌∷◌, ◌++◌, length, ◌==◌, true, false, Some, IfSome};
 ghost use Rattle.lin_edn.specs.Bytes as bytes;
+ghost use Rattle.lin_edn.specs.Grammar.{longest};
 ghost use Rattle.lin_edn.specs.Rows.{IsRow, bracket_of};
+ghost use Rattle.lin_edn.specs.Scans.{is_quoting};
 ghost use Rattle.lin_edn.specs.Skimming as skimming;
-ghost use Rattle.lin_edn.specs.Skimming.{HasSeen, HasGone, IsOpenText, shapes_of, level_view, row_shapes};
+ghost use Rattle.lin_edn.specs.Skimming.{HasSeen, HasGone, IsMoreOf, is_more_of, IsOpenText, shapes_of, level_view, row_shapes};
 ghost use Rattle.lin_edn.specs.Value.{Value};
 ghost use Rattle.lin_edn.specs.declared.skim.Part.TheVariants as part;
 
@@ -75,7 +77,9 @@ impl Skim {
     /// True where what the text begins with is still unfinished. False where it may be whole, too long or faulty, or where
     /// memory ran out: then `next_element` tells, and this has to be cleared.
     pub fn go_on(&mut self, piece: &[u8]) -> bool
-        ensures { result ≡ true → (text : List ℕ) → HasSeen self.old text → HasSeen self.new (text ++ piece.now) }
+        ensures seen { result ≡ true → (text : List ℕ) → HasSeen self.old text → HasSeen self.new (text ++ piece.now) }
+        // In a run, a text or a comment it goes on as long as nothing ends.
+        ensures more { IsMoreOf self.old piece.now → result ≡ true }
     {
         self.pass(piece)
     }
@@ -114,7 +118,8 @@ impl Skim {
 
     /// Goes on over bytes.
     fn pass(&mut self, bytes: &[u8]) -> bool
-        ensures { result ≡ true → HasGone self.old self.new bytes.now }
+        ensures gone { result ≡ true → HasGone self.old self.new bytes.now }
+        ensures more { IsMoreOf self.old bytes.now → result ≡ true }
     {
         for at in 0..bytes.len() {
             if !self.take(bytes[at]) {
@@ -126,7 +131,8 @@ impl Skim {
 
     /// Takes one byte.
     fn take(&mut self, c: u8) -> bool
-        ensures { result ≡ true → HasGone self.old self.new (c ∷ []) }
+        ensures gone { result ≡ true → HasGone self.old self.new (c ∷ []) }
+        ensures more { is_more_of self.old.part c ≡ true → self.old.length < longest → (result ≡ true) × (self.new.part ≡ self.old.part) }
     {
         let Some(part) = end_before(&mut self.levels, self.part, c) else {
             return false;
@@ -259,7 +265,8 @@ fn end_tag(levels: &mut Vec<Level>) -> Option<Part>
 
 /// What is open once a byte has ended what it ends before itself.
 fn end_before(levels: &mut Vec<Level>, part: Part, c: u8) -> Option<Part>
-    ensures { IfSome result (λ p. skimming.ended_shape part (shapes_of levels.old.items) c ≡ Some (shapes_of levels.new.items, p)) }
+    ensures ended { IfSome result (λ p. skimming.ended_shape part (shapes_of levels.old.items) c ≡ Some (shapes_of levels.new.items, p)) }
+    ensures more { is_more_of part c ≡ true → result ≡ Some part }
 {
     match part {
         Part::Run if is_stop(c) => settle(levels),
@@ -361,7 +368,8 @@ fn go_on(levels: &mut Vec<Level>, c: u8) -> Option<Part>
 
 /// Takes a byte of a text.
 fn in_text(levels: &mut Vec<Level>, c: u8) -> Option<Part>
-    ensures { IfSome result (λ p. skimming.quotes_shape (bytes.quoted c) (shapes_of levels.old.items) ≡ Some (shapes_of levels.new.items, p)) }
+    ensures quotes { IfSome result (λ p. skimming.quotes_shape (bytes.quoted c) (shapes_of levels.old.items) ≡ Some (shapes_of levels.new.items, p)) }
+    ensures more { is_quoting c ≡ false → result ≡ Some part.Text }
 {
     match c {
         b'"' => settle(levels),
@@ -372,7 +380,8 @@ fn in_text(levels: &mut Vec<Level>, c: u8) -> Option<Part>
 
 /// Takes a byte that ends nothing before itself.
 fn take_byte(levels: &mut Vec<Level>, part: Part, c: u8) -> Option<Part>
-    ensures { IfSome result (λ p. skimming.taken_shape part (shapes_of levels.old.items) c ≡ Some (shapes_of levels.new.items, p)) }
+    ensures taken { IfSome result (λ p. skimming.taken_shape part (shapes_of levels.old.items) c ≡ Some (shapes_of levels.new.items, p)) }
+    ensures more { is_more_of part c ≡ true → result ≡ Some part }
 {
     match part {
         Part::Between => begin(levels, c),

@@ -1,4 +1,4 @@
-use Rattle.std.proofs.Common.{◌+◌, ◌≤◌, ◌<◌, arith, sym, ◌∙◌}
+use Rattle.std.proofs.Common.{◌+◌, ◌≤◌, arith, sym, ◌∙◌}
 use Rattle.lin_edn.proofs.Simple.{hash_begins, only_tag, tag_begins, tag_ends, tag_named, tag_room}
 use Rattle.lin_edn.proofs.Standing.{tag_stands}
 use Rattle.lin_edn.proofs.found.tag_until.Goals as goal

@@ -2,7 +2,7 @@ use Rattle.std.proofs.Common.{◌≤◌, ◌<◌, length, arith, ◌∙◌, sym}
 use Rattle.lin_edn.specs.Grammar.{longest}
 use Rattle.lin_edn.specs.declared.series.Series.{Series}
 use Rattle.lin_edn.proofs.Inner.{inner, none_there}
-use Rattle.lin_edn.proofs.Rows.{row_white, row_closed, row_element, element_inside, nothing_past}
+use Rattle.lin_edn.proofs.Rows.{row_white, row_closed, row_element, element_inside, nothing_past, none_white}
 use Rattle.lin_edn.proofs.series.Series.next.Goals as goal
 
 pub returns-then-self-end : goal.returns-then-self-end
@@ -51,7 +51,12 @@ returns-in-Ok-None c = λ vs row.
     let none = rw c.in-Ok-None.field-0-is at c.in-Ok-None.ensures in (
       row_white c.args.self.now c.args.text.now vs c.white_end-self.result c.window-end.result row c.white_end-self.ensures c.window-end.ensures.within
           (let e = c.window-end.ensures.short in omega arith),
-      (none_there c.args.self.now.is_tagged c.args.text.now c.white_end-self.result none, λ lt short e. c.if-text-self.false (e ∙ sym c.closing.ensures)),
+      (
+        none_there c.args.self.now.is_tagged c.args.text.now c.white_end-self.result none,
+        λ lt short e. c.if-text-self.false (e ∙ sym c.closing.ensures),
+        λ lt short. none_white c.args.text.now c.args.self.now.at c.window-end.result c.white_end-self.result c.white_end-self.ensures
+            (let le = c.white_end-self.ensures.1 in let ne = c.if-self-end-2.false in omega arith),
+      ),
     )
 
 pub returns-in-OutOfMemory : goal.returns-in-OutOfMemory
@@ -63,5 +68,10 @@ pub returns-in_default : goal.returns-in_default
 returns-in_default c = λ vs row. (
   row_white c.args.self.now c.args.text.now vs c.white_end-self.result c.window-end.result row c.white_end-self.ensures c.window-end.ensures.within
       (let e = c.window-end.ensures.short in omega arith),
-  (none_there c.args.self.now.is_tagged c.args.text.now c.white_end-self.result (c.in-Err.ensures c.in_default.not-OutOfMemory), λ lt short e. c.if-text-self.false (e ∙ sym c.closing.ensures)),
+  (
+    none_there c.args.self.now.is_tagged c.args.text.now c.white_end-self.result (c.in-Err.ensures c.in_default.not-OutOfMemory),
+    λ lt short e. c.if-text-self.false (e ∙ sym c.closing.ensures),
+    λ lt short. none_white c.args.text.now c.args.self.now.at c.window-end.result c.white_end-self.result c.white_end-self.ensures
+        (let le = c.white_end-self.ensures.1 in let ne = c.if-self-end-2.false in omega arith),
+  ),
 )

@@ -13,6 +13,6 @@ returns c = λ e vs row.
     let at = c.place-at.result in
     let old : Skim = record { levels = c.open_in.new.levels; part = part.Between; length = at } in
     let rest = take_all (length text - at) (drop at text) (let n = length-drop at text in omega arith) ∙ ap (λ n. drop n text) c.place-at.ensures in
-    let gone : HasGone old c.pass.new.self (drop r.at text) = subst (HasGone old c.pass.new.self) rest (c.pass.ensures e) in
+    let gone : HasGone old c.pass.new.self (drop r.at text) = subst (HasGone old c.pass.new.self) rest (c.pass.ensures.gone e) in
     let first : r.begun ≡ 0 = (let h = c.if-begun-gt0.false in let b = c.begun.ensures in omega arith) in
     seen_in r text vs old c.pass.new.self c.place-at.ensures (c.open_in.ensures c.if-not-open_in.false) refl first gone row

@@ -5,11 +5,14 @@ use Rattle.lin_edn.specs.Grammar.{longest}
 use Rattle.lin_edn.specs.Skimming.{shapes_of}
 use Rattle.lin_edn.proofs.skim.Skim.take.Goals as goal
 
-pub returns : goal.returns
-returns c = λ e.
+pub returns-clause-gone : goal.returns-clause-gone
+returns-clause-gone c = λ e.
     let short : c.args.self.now.length < longest = omega (arith, longest_is) in (
       omega arith,
       one_more_open c.args.self.now.length c.args.c
           (shapes_of c.args.self.now.levels.items) (shapes_of c.end_before.new.levels.items) (shapes_of c.take_byte.new.levels.items)
-          c.args.self.now.part c.in-Some.part c.in-Some-take_byte.next c.in-Some.ensures short c.in-Some-take_byte.ensures,
+          c.args.self.now.part c.in-Some.part c.in-Some-take_byte.next c.in-Some.ensures.ended short c.in-Some-take_byte.ensures.taken,
     )
+
+pub returns-then-self-ge-LONGEST-clause-more : goal.returns-then-self-ge-LONGEST-clause-more
+returns-then-self-ge-LONGEST-clause-more c = λ more short. absurd (omega (arith, longest_is))
