@@ -46,7 +46,9 @@ fn emptied<T: Drop>(alloc: Global, list: &mut Vec<T>) -> Vec<T>
 }
 
 /// Gives the lists of all the members up, to be used again.
-pub(crate) fn give_up_all<S: Eq + Hash + Drop>(members: &mut Vec<Member<S>>, pool: &mut Pool) {
+pub(crate) fn give_up_all<S: Eq + Hash + Drop>(members: &mut Vec<Member<S>>, pool: &mut Pool)
+    ensures { members.new.items ≡ [] }
+{
     while let Some(member) = members.pop() {
         member.give_up(pool);
     }
@@ -54,7 +56,11 @@ pub(crate) fn give_up_all<S: Eq + Hash + Drop>(members: &mut Vec<Member<S>>, poo
 
 impl<O: SeqObject> Scratch<O> {
     /// No memory yet.
-    pub fn new(alloc: Global) -> Self {
+    pub fn new(alloc: Global) -> Self
+        ensures members { (result.found.items ≡ []) × (result.visited.items ≡ []) }
+        ensures open { (result.open.items ≡ []) × (result.early.items ≡ []) }
+        ensures next { (result.next.items ≡ []) × (result.steps.items ≡ []) }
+    {
         Scratch {
             alloc,
             found: Vec::new(alloc),
@@ -68,7 +74,10 @@ impl<O: SeqObject> Scratch<O> {
     }
 
     /// Takes the memory of a frontier that is done with.
-    pub fn take_back(&mut self, frontier: Compressed<O>) {
+    pub fn take_back(&mut self, frontier: Compressed<O>)
+        ensures found { self.new.found.items ≡ [] }
+        ensures others { self.new ≡ record self.old { found = self.new.found; pool = self.new.pool } }
+    {
         let mut members = frontier.into_members();
         give_up_all(&mut members, &mut self.pool);
         self.found = members;

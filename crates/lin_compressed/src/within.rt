@@ -1,5 +1,5 @@
 //! One more event of a compressed frontier, within a budget of configurations.
-ghost use Rattle.std.specs.Prelude.{◌≡◌, ◌⊎◌, ◌+◌, ◌*◌, ◌<◌, ◌≤◌, ℕ, ℤ, true, false, Bool, List, length, Contains, IsTrue, Option, IfOk, IfSome, IfNone, OnErr};
+ghost use Rattle.std.specs.Prelude.{◌≡◌, ◌⊎◌, ◌+◌, ◌*◌, ◌<◌, ◌≤◌, ℕ, ℤ, true, false, Bool, nat_lt, List, length, Contains, IsTrue, Option, IfOk, IfSome, IfNone, OnErr};
 ghost use Rattle.lin_events.specs.declared.calls.Call.{Call as CallOf};
 ghost use Rattle.lin_events.specs.declared.calls.Name.{Name as NameOf};
 ghost use Rattle.lin_events.specs.declared.calls.Reply.{Reply as ReplyOf};
@@ -47,7 +47,9 @@ const SHORT_SEARCH: usize = 256;
 const FEWEST_OPEN: usize = 8;
 
 /// Whether the budget is so small that all configurations are counted after each event.
-pub fn is_counted(budget: usize) -> bool {
+pub fn is_counted(budget: usize) -> bool
+    ensures { result ≡ nat_lt budget 1024 }
+{
     budget < COUNTED
 }
 

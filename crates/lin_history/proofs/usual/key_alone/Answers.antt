@@ -1,6 +1,5 @@
-use Rattle.std.proofs.Common.{◌≡◌, true, pos, Some, rules, SFits, w64, subst, sym}
+use Rattle.std.proofs.Common.{pos, rules, SFits, w64, subst, sym}
 use Rattle.std.proofs.lemmas.Int.{to_z-of_z}
-use Rattle.lin_edn.specs.Value.{Value}
 use Rattle.lin_history.specs.Table.{bare, or_nil}
 use Rattle.lin_history.specs.Usual.{AreParts}
 use Rattle.lin_history.proofs.Usuals.{key_parts, whole_parts}

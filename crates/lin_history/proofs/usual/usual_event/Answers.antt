@@ -1,4 +1,4 @@
-use Rattle.std.proofs.Common.{◌≡◌, codes, sym, subst, rules, SFits, w64}
+use Rattle.std.proofs.Common.{codes, sym, subst, rules, SFits, w64}
 use Rattle.std.proofs.lemmas.Int.{to_z-of_z}
 use Rattle.lin_edn.specs.Run.{run_value}
 use Rattle.lin_history.specs.Table.{under}
