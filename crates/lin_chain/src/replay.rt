@@ -354,8 +354,8 @@ impl Replay {
         let Some(frontier) = current(&self.present, &self.checkpoints) else {
             return 0;
         };
-        match frontier.node(0) {
-            Some(node) => node,
+        match frontier.get(&self.object, 0) {
+            Some(member) => member.path().node as usize,
             None => 0,
         }
     }

@@ -53,7 +53,7 @@ module _ {S : Type 0} (start : S) (step : S → Call → S → Reply → Type 0)
       (reset start step observes (with_event h event) found nodes (map alone_of found) (made_map alone_of found)
       (next_covering start step observes laws functions h before at event next pending opened observing nodes members found made (without_overwritten start step observes overwriting h members nodes laws.none alone c))))
 
-  pub advances_with : (overwriting : Bool) → overwriting ≡ true → IsOverwriting step observes → IsNextWith step observes event.process event.body before pending nodes at members found → IsPruned observes pending found out
+  pub advances_with : (overwriting : Bool) → overwriting ≡ true → IsOverwriting start step observes → IsNextWith step observes event.process event.body before pending nodes at members found → IsPruned observes pending found out
       → IsCovering start step observes overwriting h members nodes → IsCompressed start step observes overwriting (with_event h event) out nodes
   advances_with overwriting is over made pruned c =
       subst (λ b. IsCompressed start step observes b (with_event h event) out nodes) (sym is)

@@ -21,7 +21,7 @@ use Rattle.lin_members.specs.Exchanges.{AreAlike}
 use Rattle.lin_frontier.specs.Frontiers.{IsPending}
 use Rattle.lin_members.specs.Members.{Member, DominatesAt, IsGiven, IsOnOffer, IsWatching}
 use Rattle.lin_members.specs.Overwritten.{IsCompleteWith, IsEarlyGiven, IsEarlyUpdate}
-use Rattle.lin_members.specs.OverwrittenLaws.{IsAskedFor, IsHeldUntil, IsHeldWith, IsLike, IsTakenWith, ObserverWithLaw, UpdateWithLaw}
+use Rattle.lin_members.specs.OverwrittenLaws.{AreReached, IsAskedFor, IsHeldUntil, IsHeldWith, IsLike, IsTakenWith, ObserverWithLaw, UpdateWithLaw}
 use Rattle.lin_frontier.specs.Placing.{IsAbsent, insert_pair}
 use Rattle.lin_members.specs.Searching.{is_watching, rest_of, AreBehind, GivesAny, PlacesIfUpdate, StandsFor}
 use Rattle.lin_compressed.proofs.Answering.{gives, never_given, never_offered, other_open, pending_alike, rest_dominates, same_call, watches}
@@ -32,7 +32,7 @@ use Rattle.lin_compressed.proofs.Returned.{passes, was_open}
 
 module _ (observes : Call → Bool) (functions : ℤ → Name → Bool) (h : List Event) (event : Event) (name : Name) (reply : Reply) (body : event.body ≡ Ok name reply)
     (unique : EndsAreUnique) (alternates : IsAlternating functions (with_event h event)) (pending : List Open) (opened : IsPending (with_event h event) pending)
-    {S : Type 0} (step : S → Call → S → Reply → Type 0) (over : IsOverwriting step observes) (before : List Open) (was : IsPending h before) (alternates_before : IsAlternating functions h)
+    {S : Type 0} (start : S) (step : S → Call → S → Reply → Type 0) (over : IsOverwriting start step observes) (before : List Open) (was : IsPending h before) (alternates_before : IsAlternating functions h)
     (o : Open) (o_there : Contains before o) (o_of : o.process ≡ event.process) where
   abbrev g : List Event
   g = with_event h event
@@ -103,7 +103,7 @@ module _ (observes : Call → Bool) (functions : ℤ → Name → Bool) (h : Lis
   ]
 
   module _ (nodes : List (ℕ × (Placed × Option ℕ))) (members out : List (Member S × Path)) (r : IsReturnWith step observes o reply pending nodes (length h) members out)
-      (rising : (m : Member S × Path) → Contains members m → IsRising m.0.placed) where
+      (rising : (m : Member S × Path) → Contains members m → IsRising m.0.placed) (reached : AreReached start step members) where
     taken_with : (m : Member S × Path) → Contains members m → IsTakenWith observes g event.process reply out m
     taken_with m there rest added = (
       rest_of observes pending event.process m,
@@ -136,7 +136,7 @@ module _ (observes : Call → Bool) (functions : ℤ → Name → Bool) (h : Lis
     returned_ahead : observes o.call ≡ false → (m : Member S × Path) → Contains members m → ((other : Reply) → Contains m.0.placed (event.process, other) → ⊥) → (next : S)
         → IsEarlyUpdate step observes h m.1.until (event.process, reply) next → IsHeldUntil observes g out m.0.state m.0.placed (λ x. IsOnOffer m.0 x ⊎ IsEarlyGiven step h m.1.until next x) m.1.until
     returned_ahead update m there absent next e =
-        let steps = (over e.call e.update e.from m.0.state next reply e.steps).0 in
+        let steps = (over e.call e.update e.from m.0.state next reply e.steps).0 (reached m there) in
         let n = ((found_with m there absent).returns update next (subst (λ a. step m.0.state a next reply) (own_call e.at e.key e.call e.is_open) steps)).ahead (subst (λ k. k < m.1.until) (own_place e.at e.key e.call e.is_open) e.early) in (
           n.0,
           n.1,
@@ -150,7 +150,7 @@ module _ (observes : Call → Bool) (functions : ℤ → Name → Bool) (h : Lis
           omega (arith, n.2.ahead.until),
         )
 
-    module _ (observer : observes o.call ≡ true) (m : Member S × Path) (asked : AreAsked step observes o reply pending nodes (length h) m out) where
+    module _ (observer : observes o.call ≡ true) (m : Member S × Path) (inside : Contains members m) (asked : AreAsked step observes o reply pending nodes (length h) m out) where
       other : (at : ℕ) (q : ℕ) (key : ℤ) (call : Call) → IsOpen h at q key call → observes call ≡ false → q ≢ event.process
       other at q key call is update same = true≢false (sym observer ∙ ap observes (sym (own_call at key call (subst (λ p. IsOpen h at p key call) same is))) ∙ update)
 
@@ -202,7 +202,7 @@ module _ (observes : Call → Bool) (functions : ℤ → Name → Bool) (h : Lis
       }
         where
           steps : step m.0.state e.call next x.1
-          steps = (over e.call e.update e.from m.0.state next x.1 e.steps).0
+          steps = (over e.call e.update e.from m.0.state next x.1 e.steps).0 (reached m inside)
 
           t : (t : Open) × Contains pending t × (t.at ≡ e.at) × (t.process ≡ x.0) × (t.call ≡ e.call)
           t = still_open e.at x.0 e.key e.call (other e.at x.0 e.key e.call e.is_open e.update) e.is_open
@@ -261,16 +261,16 @@ module _ (observes : Call → Bool) (functions : ℤ → Name → Bool) (h : Lis
       | inr asked ↦ inr (
         never_offered observes functions h event name reply body unique alternates pending opened step before was alternates_before o o_there o_of m asked.never,
         never_given observes functions h event name reply body unique alternates pending opened step before was alternates_before o o_there o_of m asked.never,
-        record { before = asked_ahead observer m asked; behind = asked_behind observer m asked },
+        record { before = asked_ahead observer m there asked; behind = asked_behind observer m there asked },
       )
     ]
 
-    pub returned_complete_with : (start : S) → IsWellFormed functions (with_event h event) → UpdateWithLaw start step → ObserverWithLaw start step → IsCompleteWith start step observes h members
+    pub returned_complete_with : IsWellFormed functions (with_event h event) → UpdateWithLaw start step → ObserverWithLaw start step → IsCompleteWith start step observes h members
         → IsCompleteWith start step observes (with_event h event) out
-    returned_complete_with start well_formed by_update by_observer complete = by (observes o.call) refl
+    returned_complete_with well_formed by_update by_observer complete = by (observes o.call) refl
       where
         by : (b : Bool) → observes o.call ≡ b → IsCompleteWith start step observes (with_event h event) out
         by true e =
-            by_observer observes over functions h event name reply body well_formed (λ at key call is. ap observes (own_call at key call is) ∙ e) members out taken_with (answered e) complete
+            by_observer observes over functions h event name reply body well_formed (λ at key call is. ap observes (own_call at key call is) ∙ e) members out reached taken_with (answered e) complete
         by false e =
-            by_update observes over functions h event name reply body well_formed (λ at key call is. ap observes (own_call at key call is) ∙ e) members out taken_with (returned_ahead e) (returned_behind e) complete
+            by_update observes over functions h event name reply body well_formed (λ at key call is. ap observes (own_call at key call is) ∙ e) members out reached taken_with (returned_ahead e) (returned_behind e) complete

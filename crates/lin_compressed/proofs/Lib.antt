@@ -16,3 +16,4 @@ pub mod FromListing
 pub mod Invoked
 pub mod Advancing
 pub mod ReturningAll
+pub mod Shown

@@ -241,7 +241,7 @@ module _ {S : Type 0} (step : S → Call → S → Reply → Type 0) (observes :
       }
 
       -- it leads to no other state
-      pub returned_all : IsOverwriting step observes → n.0.state ≡ next → (other : S) → step m.0.state operation.call other reply → AreReturned step observes operation reply pending after now m out other
+      pub returned_all : {start : S} → IsOverwriting start step observes → n.0.state ≡ next → (other : S) → step m.0.state operation.call other reply → AreReturned step observes operation reply pending after now m out other
       returned_all overwritten same other steps =
           let only = (overwritten operation.call behind.update m.0.state m.0.state n.0.state reply behind.steps).1 other reply steps in
           subst (AreReturned step observes operation reply pending after now m out) (sym (only.0 ∙ same)) (all_returned same)

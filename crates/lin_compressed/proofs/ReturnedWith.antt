@@ -36,7 +36,7 @@ use Rattle.lin_compressed.proofs.Early.{early_from}
 use Rattle.lin_frontier.specs.lemmas.Inserting.{first_or_rest, insert_added, none_from, passed_by}
 use Rattle.lin_members.specs.lemmas.InRounds.{one_rounds}
 use Rattle.lin_members.specs.lemmas.Joining.{put_many}
-use Rattle.lin_listing.specs.lemmas.Onward.{spelled_rising}
+use Rattle.lin_listing.specs.lemmas.Onward.{spelled_reached, spelled_rising}
 use Rattle.lin_members.specs.lemmas.Pruned.{crashed_waits_not}
 use Rattle.lin_compressed.proofs.Returned.{answered_offers, answered_spells, no_offer, nobody, offers_from, other_process, spelled_answered, spelled_taken, spelled_update, was_open, watching_before}
 use Rattle.lin_members.specs.lemmas.Returning.{not_crashed}
@@ -53,7 +53,7 @@ module _ (nodes : List (ℕ × (Placed × Option ℕ))) (path next : Path) (p : 
   ahead_spells last b =
       subst (λ id. SpellsRounds nodes id (ahead p rounds)) (sym b.node.1) (subst (SpellsRounds nodes (suc b.node.0)) (place_ahead (path.round + 1) p rounds (omega (arith, last))) (puts b.node.2 spelled))
 
-module _ {S : Type 0} (start : S) (step : S → Call → S → Reply → Type 0) (observes : Call → Bool) (over : IsOverwriting step observes) (functions : ℤ → Name → Bool) (h : List Event) (event : Event)
+module _ {S : Type 0} (start : S) (step : S → Call → S → Reply → Type 0) (observes : Call → Bool) (over : IsOverwriting start step observes) (functions : ℤ → Name → Bool) (h : List Event) (event : Event)
     (name : Name) (reply : Reply) (body : event.body ≡ Ok name reply) (well_formed : IsWellFormed functions (with_event h event)) (alternating : WellFormedIsAlternating) (unique : EndsAreUnique)
     (before : List Open) (was : IsPending h before) (pending : List Open) (opened : IsPending (with_event h event) pending) (o : Open) (o_there : Contains before o) (o_of : o.process ≡ event.process) where
   abbrev g : List Event
@@ -329,8 +329,8 @@ module _ {S : Type 0} (start : S) (step : S → Call → S → Reply → Type 0)
     pub returned_with : (nodes : List (ℕ × (Placed × Option ℕ))) (members out : List (Member S × Path)) → IsReturnWith step observes o reply pending nodes (length h) members out
         → IsCovering start step observes true h members nodes → IsCovering start step observes true (with_event h event) out nodes
     returned_with nodes members out r c = record {
-      complete = returned_complete_with observes functions h event name reply body unique alternates pending opened step over before was alternates_then o o_there o_of nodes members out r
-          (λ m there. spelled_rising start step observes h nodes m (c.spelled m there)) start well_formed update_law observer_law c.complete;
+      complete = returned_complete_with observes functions h event name reply body unique alternates pending opened start step over before was alternates_then o o_there o_of nodes members out r
+          (λ m there. spelled_rising start step observes h nodes m (c.spelled m there)) (λ m there. spelled_reached start step observes h nodes m (c.spelled m there)) well_formed update_law observer_law c.complete;
       spelled = λ n there. (each n there).0;
       overwritten = λ yes' n there rounds spells. let e = each n there in subst (AllowsOverwritten observes g n) (one_rounds nodes n.1.node e.1 rounds e.2 spells) e.3;
     }

@@ -1,5 +1,5 @@
 //! Compressed frontiers: few members that stand for all configurations of a history that has one object.
-ghost use Rattle.std.specs.Prelude.{◌≡◌, ◌⊎◌, ◌∷◌, ◌++◌, ◌+◌, ◌*◌, ◌<◌, ◌≤◌, [], ℕ, ℤ, true, false, Bool, List, length, map, Contains, IfOk, IfSome, IfNone, OnOk, OnErr, Some, slice_get, IsPermutation};
+ghost use Rattle.std.specs.Prelude.{◌≡◌, ◌⊎◌, ◌∷◌, ◌++◌, ◌+◌, ◌*◌, ◌<◌, ◌≤◌, [], ℕ, ℤ, true, false, Bool, List, length, map, Contains, IfOk, IfSome, IfNone, OnOk, OnErr, IsPermutation};
 ghost use Rattle.lin_events.specs.declared.calls.Name.{Name as NameOf};
 ghost use Rattle.lin_events.specs.declared.calls.Reply.{Reply as ReplyOf};
 ghost use Rattle.lin_events.specs.declared.events.Body.{Body as BodyOf};
@@ -25,7 +25,7 @@ use lin_events::{
     Body, Event, Meter, OutOfMemory, Reply, ends_are_unique, well_formed_is_alternating,
 };
 use lin_frontier::{
-    NodeId, Open, Pending, append_operations, is_absent, is_placed, open_of, take_in,
+    Open, Pending, append_operations, is_absent, is_placed, open_of, take_in,
 };
 use lin_members::{
     Member, Pool, RoundNodes, copied, dominated_can_go, members_after_events, members_after_ok,
@@ -467,17 +467,6 @@ impl<O: SeqObject> Compressed<O> {
     /// Its members.
     pub(crate) fn into_members(self) -> Vec<Member<O::State>> {
         self.members
-    }
-
-    /// The node of the member at the place.
-    pub fn node(&self, i: usize) -> Option<NodeId>
-        ensures found { IfSome result (λ id. (m : MemberOf O.State × PathOf) × (slice_get self.now i ≡ Some m) × (m.1.node ≡ id)) }
-        ensures past { IfNone result (length self.now ≤ i) }
-    {
-        match self.members.get(i) {
-            Some(member) => Some(member.path().node as usize),
-            None => None,
-        }
     }
 
     /// The frontier before any event: the start, with nothing placed.

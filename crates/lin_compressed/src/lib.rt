@@ -6,6 +6,7 @@ mod completions;
 mod compressed;
 mod scratch;
 mod seen;
+mod showing;
 mod thinning;
 mod within;
 

@@ -28,10 +28,7 @@ value_is v w e = cc
 -- the steps that registers take
 wrote : (kind : Kind) → IsRegister kind → (s next : State) (w : Val) (reply : Reply) → Step kind s (Write w) next reply → next ≡ Value w
 wrote Register is (Value x) next w reply step = step.0
-wrote Register is (Queue x) next w reply step = step.0
-wrote Register is (Members x) next w reply step = step.0
-wrote Register is (Held x) next w reply step = step.0
-wrote Register is (Bag x) next w reply step = step.0
+wrote Register is s next w reply step = absurd step
 wrote CasRegister is (Value x) next w reply step = step.0
 wrote CasRegister is s next w reply step = absurd step
 wrote kind is s next w reply step = absurd is

@@ -33,7 +33,7 @@ only_one (x ∷ []) once same = omega arith
 only_one (x ∷ y ∷ ys) once same = absurd (once 0 1 x (omega arith) (omega arith) (same x y (0, omega arith, refl) (1, omega arith, refl)))
 
 -- where the object is overwritten, a call that isn't treated as an observer has one step at most
-pub one_step : {S : Type 0} (step : S → Call → S → Reply → Type 0) (observes : Call → Bool) (state : S) (call : Call) (steps : List (S × Reply)) → IsOverwriting step observes → observes call ≡ false
+pub one_step : {S : Type 0} {start : S} (step : S → Call → S → Reply → Type 0) (observes : Call → Bool) (state : S) (call : Call) (steps : List (S × Reply)) → IsOverwriting start step observes → observes call ≡ false
     → ((next : S) (reply : Reply) → Contains steps (next, reply) → step state call next reply) → AllPairs (λ x y. x ≢ y) steps → length steps ≤ 1
 one_step step observes state call steps overwritten update sound once = only_one steps once (λ x y in_x in_y.
     let only = (overwritten call update state state x.0 x.1 (sound x.0 x.1 in_x)).1 y.0 y.1 (sound y.0 y.1 in_y) in

@@ -93,7 +93,8 @@ impl Walk {
     /// Whether each member's node spells a legal order of the events.
     fn is_sound(&self, rt: &impl Abort, alloc: Global, events: &[Event]) -> bool {
         for i in 0..self.frontier.len() {
-            if let Some(node) = self.frontier.node(i) {
+            if let Some(member) = self.frontier.get(&self.object, i) {
+                let node = member.path().node as usize;
                 let order = self.nodes.order(alloc, node).expect(rt, "memory");
                 if !is_legal_order(rt, alloc, self.object.kind, events, &order) {
                     return false;

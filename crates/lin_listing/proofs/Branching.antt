@@ -8,10 +8,9 @@ use Rattle.lin_events.specs.declared.calls.Reply.{Reply}
 use Rattle.lin_events.specs.declared.events.Event.{Event}
 use Rattle.lin_events.specs.Operations.{IsOpen}
 use Rattle.lin_objects.specs.Total.{AreTotal, Reaches, stays, goes, IsShown}
-use Rattle.lin_orders.specs.declared.placed.Placed.{Placed}
 use Rattle.lin_orders.specs.ConfigurationLaws.{PlacingIsLegal}
 use Rattle.lin_orders.specs.Configurations.{IsAdded, IsConfiguration}
-use Rattle.lin_orders.specs.Linearizable.{Runs}
+use Rattle.lin_orders.specs.lemmas.Running.{runs_reach}
 use Rattle.lin_listing.specs.Branches.{power}
 use Rattle.lin_frontier.specs.declared.pending.Open.{Open}
 use Rattle.lin_members.specs.lemmas.Choosing.{can_add}
@@ -80,10 +79,6 @@ module _ {S : Type 0} (start : S) (step : S → Call → S → Reply → Type 0)
   flipped : (o p : Open) → Differs o p → Differs p o
   flipped o p d = record { processes = λ e. d.processes (sym e); calls = λ t e. d.calls t (sym e) }
 
-  run_reaches : (order : List Placed) (from to : S) → Runs step h from order to → Reaches step from to
-  run_reaches [] from to same = subst (Reaches step from) same stays
-  run_reaches (p ∷ order) from to r = goes r.3 (run_reaches order r.1 to r.4)
-
   -- what placing an operation makes of a configuration
   record IsNext (c : S × List (ℕ × Reply)) (o : Open) (d : S × List (ℕ × Reply)) : Type 0 where
     reply : Reply
@@ -93,7 +88,7 @@ module _ {S : Type 0} (start : S) (step : S → Call → S → Reply → Type 0)
 
   place : (c : S × List (ℕ × Reply)) → IsConfiguration start step h c → (o : Open) → Waits c o → (d : S × List (ℕ × Reply)) × IsNext c o d
   place c config o w =
-      let t = always c.0 (run_reaches config.0 start c.0 config.1.runs) o.call w.takes in
+      let t = always c.0 (runs_reach step h config.0 start c.0 config.1.runs) o.call w.takes in
       let wider = can_add o.process t.1 c.1 config.1.placed.rising w.absent in (
         (t.0, wider.0),
         record {
@@ -129,7 +124,7 @@ module _ {S : Type 0} (start : S) (step : S → Call → S → Reply → Type 0)
   -- and what no read shows none shows then, if the call is another one
   hidden_on : (c d : S × List (ℕ × Reply)) → IsConfiguration start step h c → (o : Open) (e : Call) → IsNext c o d → total reads ≡ true → IsShown step (shows e) (λ state. has state e) reads e → o.call ≢ e → Hidden c.0 e → Hidden d.0 e
   hidden_on c d config o e next takes shown differ hidden end told reading =
-      let r = always c.0 (run_reaches config.0 start c.0 config.1.runs) reads takes in
+      let r = always c.0 (runs_reach step h config.0 start c.0 config.1.runs) reads takes in
       shown.other c.0 r.0 d.0 end r.1 next.reply told o.call differ r.2 (hidden r.0 r.1 r.2) next.steps reading
 
   adding_on : (c d : S × List (ℕ × Reply)) → IsConfiguration start step h c → (o p : Open) → IsNext c o d → o.process ≢ p.process → (tells → o.call ≢ p.call) → IsAdding c p → IsAdding d p

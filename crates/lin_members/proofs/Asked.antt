@@ -16,7 +16,7 @@ use Rattle.lin_members.specs.declared.members.Path.{Path}
 use Rattle.lin_members.specs.Exchanges.{AreAlike, Exchange, IsExchanged}
 use Rattle.lin_members.specs.Members.{Meets, Member, IsGiven, IsOffered, IsOnOffer, IsReady, IsUpdate}
 use Rattle.lin_members.specs.Overwritten.{IsCompleteWith, IsCoveredWith, IsEarlyGiven, IsEarlyUpdate, IsOfferedWith}
-use Rattle.lin_members.specs.OverwrittenLaws.{IsAskedFor, IsHeldUntil, IsHeldWith, IsLike, IsTakenWith, ObserverWithLaw}
+use Rattle.lin_members.specs.OverwrittenLaws.{AreReached, IsAskedFor, IsHeldUntil, IsHeldWith, IsLike, IsTakenWith, ObserverWithLaw}
 use Rattle.lin_members.specs.lemmas.Choosing.{can_add, stands}
 use Rattle.lin_members.specs.lemmas.Exchanging.{change, change_first, change_other, change_second, exchange_all, exchanged_itself, exchanged_meets, fixed_from, no_exchange, open_call}
 use Rattle.lin_frontier.specs.lemmas.Inserting.{rising_once}
@@ -36,7 +36,7 @@ pub record HasLike (h : List Event) (old : List (ℕ × Reply)) (x y : ℕ × Re
   pub others_from : (v : ℕ × Reply) → Contains placed v → v.0 ≢ y.0 → Contains old v
 
 -- an update that is placed, and one like it that isn't among these
-module _ {S : Type 0} (step : S → Call → S → Reply → Type 0) (observes : Call → Bool) (over : IsOverwriting step observes) (functions : ℤ → Name → Bool) (h : List Event) (alternates : IsAlternating functions h)
+module _ {S : Type 0} {start : S} (step : S → Call → S → Reply → Type 0) (observes : Call → Bool) (over : IsOverwriting start step observes) (functions : ℤ → Name → Bool) (h : List Event) (alternates : IsAlternating functions h)
     (until : ℕ) (x y : ℕ × Reply) (next : S) (early : IsEarlyUpdate step observes h until x next) (like : IsLike h x y) where
   -- updates of its process come to the same
   pub like_outcome : (v : ℕ × Reply) (last : S) → IsEarlyUpdate step observes h until v last → v.0 ≡ y.0 → (last ≡ next) × (v.1 ≡ x.1)
@@ -95,7 +95,7 @@ module _ {S : Type 0} (step : S → Call → S → Reply → Type 0) (observes :
 
 module _ {S : Type 0} (start : S) (step : S → Call → S → Reply → Type 0) (observes : Call → Bool) (unique : EndsAreUnique) (functions : ℤ → Name → Bool) (h : List Event) (event : Event)
     (name : Name) (reply : Reply) (body : event.body ≡ Ok name reply) (alternates : IsAlternating functions (with_event h event)) (members others : List (Member S × Path))
-    (over : IsOverwriting step observes) (observer : (at : ℕ) (key : ℤ) (call : Call) → IsOpen h at event.process key call → observes call ≡ true) where
+    (over : IsOverwriting start step observes) (reached : AreReached start step members) (observer : (at : ℕ) (key : ℤ) (call : Call) → IsOpen h at event.process key call → observes call ≡ true) where
   abbrev g : List Event
   g = with_event h event
 
@@ -226,7 +226,7 @@ module _ {S : Type 0} (start : S) (step : S → Call → S → Reply → Type 0)
             (λ v is_in. way_kept step observes h (found.member.0.state, found.wider) split.mid split.first v (found.more.part v is_in)) (length h)
             (point_each step observes h found.member found.wider found.more split.mid split.first) (u.1.process, u.0.reply) u.1.added.has absent split.mid.0 (placed_early step observes h b split.mid u)
             (λ y. Unit {0}) (λ z. IsOnOffer found.member.0 z ⊎ IsGiven step h found.member.0.state z)
-            (asks.behind (u.1.process, u.0.reply) u.0.at u.1.key u.1.call split.mid.0 u.1.is_open u.2 (over u.1.call u.2 b.0 found.member.0.state split.mid.0 u.0.reply u.1.steps).0 absent split.has.1)
+            (asks.behind (u.1.process, u.0.reply) u.0.at u.1.key u.1.call split.mid.0 u.1.is_open u.2 ((over u.1.call u.2 b.0 found.member.0.state split.mid.0 u.0.reply u.1.steps).0 (reached found.member found.among)) absent split.has.1)
             (point_offers step observes h found.member found.wider found.more split.mid split.first)
             (λ z given. inr given.0)
           where
@@ -288,6 +288,6 @@ module _ {S : Type 0} (start : S) (step : S → Call → S → Reply → Type 0)
       ]
 
 pub observer_with_law : {S : Type 0} (start : S) (step : S → Call → S → Reply → Type 0) → EndsAreUnique → WellFormedIsAlternating → OkLaw start step → ObserverWithLaw start step
-observer_with_law start step unique alternating law observes over functions h event name reply body well_formed observer members others taken each complete =
-    ok_observer_with start step observes unique functions h event name reply body ((alternating functions (with_event h event)).0 well_formed) members others over observer
+observer_with_law start step unique alternating law observes over functions h event name reply body well_formed observer members others reached taken each complete =
+    ok_observer_with start step observes unique functions h event name reply body ((alternating functions (with_event h event)).0 well_formed) members others over reached observer
     (law functions h event name reply body well_formed) taken each complete

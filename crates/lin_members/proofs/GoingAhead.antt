@@ -7,22 +7,65 @@ use Rattle.lin_events.specs.declared.events.Event.{Event}
 use Rattle.lin_events.specs.Alternation.{IsAlternating}
 use Rattle.lin_events.specs.Operations.{IsOk, IsOpen}
 use Rattle.lin_events.specs.WellFormedLaws.{WellFormedIsAlternating}
+use Rattle.lin_objects.specs.Overwriting.{IsOverwriting}
+use Rattle.lin_objects.specs.Total.{Reaches}
 use Rattle.lin_lists.specs.lemmas.Lists.{get_cases, get_inside, get_last, get_left}
 use Rattle.lin_events.specs.lemmas.OneMore.{one_call}
 use Rattle.lin_orders.specs.declared.placed.Placed.{Placed}
 use Rattle.lin_orders.specs.Configurations.{IsAdded, IsPlacedBy}
 use Rattle.lin_orders.specs.Linearizable.{Runs}
 use Rattle.lin_orders.specs.Orders.{IsBefore, IsOrder}
+use Rattle.lin_orders.specs.lemmas.Running.{runs_push, runs_reach}
 use Rattle.lin_members.specs.Members.{IsWatching}
-use Rattle.lin_members.specs.Overwritten.{AllowsOverwritten, IsEarlyGiven, IsOverwrittenBy}
+use Rattle.lin_members.specs.Overwritten.{AllowsOverwritten, IsEarlyGiven, IsEarlyUpdate, IsOverwrittenBy}
 use Rattle.lin_members.specs.OverwrittenLaws.{AheadLaw}
 use Rattle.lin_members.specs.Rounds.{ahead, begin_round, joined, IsOfferedIn, IsTrail, IsTrailOf, RunsBy}
 use Rattle.lin_members.specs.lemmas.Aheads.{ahead_last, runs_many, runs_over, RunsOver}
 use Rattle.lin_members.specs.lemmas.Choosing.{nothing_in}
 use Rattle.lin_members.specs.lemmas.Exchanging.{open_call}
 use Rattle.lin_frontier.specs.lemmas.Inserting.{first_or_rest}
-use Rattle.lin_members.specs.lemmas.Joining.{joined_push, last_state, runs_by_push}
+use Rattle.lin_members.specs.lemmas.Joining.{joined_push, last_state, runs_by_push, runs_joined}
 use Rattle.lin_members.specs.lemmas.Putting.{insert_order, insert_placed}
+
+-- an object that ran through rounds, with a step of the call ahead of the last one
+pub record StepsAhead {S : Type 0} (start : S) (step : S → Call → S → Reply → Type 0) (h : List Event) (states : List S) (front : List (List Placed)) (last : List Placed) (call : Call) (reply : Reply) (next to : S) : Type 0 where
+  pub heads : List S
+  pub middle : S
+  pub is : states ≡ heads ++ to ∷ []
+  pub before : RunsBy step h start heads front middle
+  pub steps : step middle call next reply
+  pub over : Runs step h next last to
+
+-- the call leads to the same state there, and the last round goes on from that as before
+pub steps_ahead : {S : Type 0} (start : S) (step : S → Call → S → Reply → Type 0) (observes : Call → Bool) → IsOverwriting start step observes → (h : List Event) (until : ℕ) (rounds : List (List Placed)) (by : IsOverwrittenBy observes h until rounds)
+    → (p : Placed) (process : ℕ) (next : S) (u : IsEarlyUpdate step observes h until (process, p.reply) next) → u.at ≡ p.at → (states : List S) (to : S) → RunsBy step h start states rounds to
+    → StepsAhead start step h states by.front (by.first ∷ by.rest) u.call p.reply next to
+steps_ahead start step observes overwriting h until rounds by p process next u same_at states to runs = record {
+  heads = k.heads;
+  middle = k.middle;
+  is = k.is;
+  before = k.before;
+  steps = steps;
+  over =
+      let same = one_call h by.first.at k.over.2.0 by.begins.0 k.over.2.1 by.begins.1 k.over.0 by.call k.over.2.2 by.begins.2 in
+      (k.over.0, k.over.1, k.over.2, (overwriting k.over.0 (ap observes same ∙ by.update) k.middle next k.over.1 by.first.reply k.over.3).0 reached, k.over.4);
+}
+  where
+    k : RunsOver step h states by.front (by.first ∷ by.rest) start to
+    k = runs_over step h states by.front (by.first ∷ by.rest) start to (subst (λ r. RunsBy step h start states r to) by.is runs)
+
+    middle_run : Runs step h start (joined by.front) k.middle
+    middle_run = runs_joined step h k.heads by.front start k.middle k.before
+
+    steps : step k.middle u.call next p.reply
+    steps = (overwriting u.call u.update u.from k.middle next p.reply u.steps).0 (runs_reach step h (joined by.front) start k.middle middle_run)
+
+    is_open : IsOpen h p.at process u.key u.call
+    is_open = subst (λ at. IsOpen h at process u.key u.call) same_at u.is_open
+
+    -- the object comes to the state behind the call
+    reached : Reaches step start next
+    reached = runs_reach step h (joined by.front ++ p ∷ []) start next (runs_push step h start k.middle next (joined by.front) p u.call middle_run (process, u.key, is_open.begins) steps)
 
 module _ {S : Type 0} (start : S) (step : S → Call → S → Reply → Type 0) (observes : Call → Bool) (functions : ℤ → Name → Bool) (h : List Event) (until : ℕ) (rounds : List (List Placed)) (by : IsOverwrittenBy observes h until rounds)
     (p : Placed) (process : ℕ) (key : ℤ) (call : Call) (is_open : IsOpen h p.at process key call) (early : p.at < until) where
@@ -64,7 +107,7 @@ module _ {S : Type 0} (start : S) (step : S → Call → S → Reply → Type 0)
     runs_begun : RunsBy step h start (heads ++ next ∷ []) (begin_round p by.front) next
     runs_begun = runs_by_push step h heads by.front (p ∷ []) start middle next before (call, next, (process, key, is_open.begins), steps, refl)
 
-    ahead_trail : (placed wider : List (ℕ × Reply)) → IsAdded process p.reply placed wider → IsOrder h (joined old) → IsPlacedBy h (joined old) placed → IsTrail start step h ((heads ++ next ∷ []) ++ to ∷ []) new (to, wider)
+    pub ahead_trail : (placed wider : List (ℕ × Reply)) → IsAdded process p.reply placed wider → IsOrder h (joined old) → IsPlacedBy h (joined old) placed → IsTrail start step h ((heads ++ next ∷ []) ++ to ∷ []) new (to, wider)
     ahead_trail placed wider added order placed_by = record {
       begun = let many = length-append (begin_round p by.front) (last ∷ []) in omega arith;
       order_of = subst (IsOrder h) (sym joined_new) (insert_order h (joined by.front) last p process key call is_open (subst (IsOrder h) joined_old order)
@@ -78,7 +121,7 @@ module _ {S : Type 0} (start : S) (step : S → Call → S → Reply → Type 0)
         is_placed = subst (λ o. IsPlacedBy h o placed) joined_old placed_by
 
     -- an offer that was made below the last round stays one
-    ahead_offer : (round at : ℕ) (x : ℕ × Reply) → suc round < length old → IsOfferedIn step observes h (heads ++ to ∷ []) old round at x → IsOfferedIn step observes h ((heads ++ next ∷ []) ++ to ∷ []) new round at x
+    pub ahead_offer : (round at : ℕ) (x : ℕ × Reply) → suc round < length old → IsOfferedIn step observes h (heads ++ to ∷ []) old round at x → IsOfferedIn step observes h ((heads ++ next ∷ []) ++ to ∷ []) new round at x
     ahead_offer round at x below o = record {
       key = o.key;
       call = o.call;
@@ -104,7 +147,7 @@ module _ {S : Type 0} (start : S) (step : S → Call → S → Reply → Type 0)
         inside = let many = length-append by.front (last ∷ []) in omega arith
 
     -- what the update leads to is on offer from its round
-    ahead_given : IsAlternating functions h → (round : ℕ) (x : ℕ × Reply) → suc round ≡ length old → IsWatching observes h x.0 → (given : IsEarlyGiven step h until next x)
+    pub ahead_given : IsAlternating functions h → (round : ℕ) (x : ℕ × Reply) → suc round ≡ length old → IsWatching observes h x.0 → (given : IsEarlyGiven step h until next x)
         → IsOfferedIn step observes h ((heads ++ next ∷ []) ++ to ∷ []) new round given.0.at x
     ahead_given alternates round x end watching given = record {
       key = given.0.key;
@@ -126,7 +169,7 @@ module _ {S : Type 0} (start : S) (step : S → Call → S → Reply → Type 0)
     }
 
   -- the last round is the same
-  ahead_overwritten : IsOverwrittenBy observes h until new
+  pub ahead_overwritten : IsOverwrittenBy observes h until new
   ahead_overwritten = record {
     front = begin_round p by.front;
     first = by.first;
@@ -153,35 +196,27 @@ ahead_law {S} start step alternating observes overwriting functions h well_forme
     early : p.at < m.1.until
     early = subst (λ at. at < m.1.until) same_at u.early
 
-    k : RunsOver step h states by.front (by.first ∷ by.rest) start n.0.state
-    k = runs_over step h states by.front (by.first ∷ by.rest) start n.0.state (subst (λ r. RunsBy step h start states r n.0.state) by.is (subst (RunsBy step h start states rounds) same_state is.trail.runs))
-
-    steps : step k.middle u.call next p.reply
-    steps = (overwriting u.call u.update u.from k.middle next p.reply u.steps).0
-
-    over : Runs step h next (by.first ∷ by.rest) n.0.state
-    over =
-        let same = one_call h by.first.at k.over.2.0 by.begins.0 k.over.2.1 by.begins.1 k.over.0 by.call k.over.2.2 by.begins.2 in
-        (k.over.0, k.over.1, k.over.2, (overwriting k.over.0 (ap observes same ∙ by.update) k.middle next k.over.1 by.first.reply k.over.3).0, k.over.4)
+    k : StepsAhead start step h states by.front (by.first ∷ by.rest) u.call p.reply next n.0.state
+    k = steps_ahead start step observes overwriting h m.1.until rounds by p process next u same_at states n.0.state (subst (RunsBy step h start states rounds) same_state is.trail.runs)
 
     many : length rounds ≡ length (by.front ++ (by.first ∷ by.rest) ∷ [])
     many = ap length by.is
 
     trail : IsTrailOf start step observes h ((k.heads ++ next ∷ []) ++ n.0.state ∷ []) (begin_round p by.front ++ (by.first ∷ by.rest) ∷ []) n.0
     trail = record {
-      trail = ahead_trail start step observes functions h m.1.until rounds by p process u.key u.call is_open early k.heads k.middle next n.0.state k.before steps over m.0.placed n.0.placed added
+      trail = ahead_trail start step observes functions h m.1.until rounds by p process u.key u.call is_open early k.heads k.middle next n.0.state k.before k.steps k.over m.0.placed n.0.placed added
           (subst (λ r. IsOrder h (joined r)) by.is is.trail.order_of) (subst (λ r. IsPlacedBy h (joined r) m.0.placed) by.is is.trail.placed);
       offered = λ round x there. elim (from round x there) [
         | inl before ↦
             let o = is.offered round x before in (
               o.0,
-              ahead_offer start step observes functions h m.1.until rounds by p process u.key u.call is_open early k.heads k.middle next n.0.state k.before steps over round o.0 x
+              ahead_offer start step observes functions h m.1.until rounds by p process u.key u.call is_open early k.heads k.middle next n.0.state k.before k.steps k.over round o.0 x
                   (subst (λ l. suc round < l) many (allows.earlier (omega (arith, u.early)) round x before))
                   (subst (λ (s : List S). IsOfferedIn step observes h s (by.front ++ (by.first ∷ by.rest) ∷ []) round o.0 x) k.is (subst (λ r. IsOfferedIn step observes h states r round o.0 x) by.is o.1)),
             )
         | inr now ↦ (
           now.2.0.at,
-          ahead_given start step observes functions h m.1.until rounds by p process u.key u.call is_open early k.heads k.middle next n.0.state k.before steps over ((alternating functions h).0 well_formed) round x (now.0 ∙ many) now.1 now.2,
+          ahead_given start step observes functions h m.1.until rounds by p process u.key u.call is_open early k.heads k.middle next n.0.state k.before k.steps k.over ((alternating functions h).0 well_formed) round x (now.0 ∙ many) now.1 now.2,
         )
       ];
     }

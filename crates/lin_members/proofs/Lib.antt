@@ -17,3 +17,4 @@ pub mod Commuting
 pub mod Parting
 pub mod Aboves
 pub mod LastingWith
+pub mod SoundingWith

@@ -16,7 +16,7 @@ use Rattle.lin_members.specs.declared.members.Path.{Path}
 use Rattle.lin_members.specs.Exchanges.{Exchange, IsExchanged}
 use Rattle.lin_members.specs.Members.{Meets, Member, Way, IsGiven, IsOffered, IsOnOffer}
 use Rattle.lin_members.specs.Overwritten.{IsCompleteWith, IsCoveredWith, IsEarlyGiven, IsEarlyUpdate, IsOfferedWith}
-use Rattle.lin_members.specs.OverwrittenLaws.{IsHeldUntil, IsTakenWith, UpdateWithLaw}
+use Rattle.lin_members.specs.OverwrittenLaws.{AreReached, IsHeldUntil, IsTakenWith, UpdateWithLaw}
 use Rattle.lin_frontier.specs.Placing.{without}
 use Rattle.lin_members.specs.lemmas.Choosing.{stands}
 use Rattle.lin_members.specs.lemmas.Crashes.{passes_ok}
@@ -141,7 +141,7 @@ module _ {S : Type 0} (start : S) (step : S → Call → S → Reply → Type 0)
             }) found.meets (λ at key call is_open no' absent. absent reply there)
 
   -- of members that didn't place the operation
-  module _ (over : IsOverwriting step observes) (update : (at : ℕ) (key : ℤ) (call : Call) → IsOpen h at event.process key call → observes call ≡ false)
+  module _ (over : IsOverwriting start step observes) (reached : AreReached start step members) (update : (at : ℕ) (key : ℤ) (call : Call) → IsOpen h at event.process key call → observes call ≡ false)
       (taken : (m : Member S × Path) → Contains members m → IsTakenWith observes g event.process reply others m)
       (ahead : (m : Member S × Path) → Contains members m → ((other : Reply) → Contains m.0.placed (event.process, other) → ⊥) → (next : S) → IsEarlyUpdate step observes h m.1.until (event.process, reply) next
       → IsHeldUntil observes g others m.0.state m.0.placed (λ x. IsOnOffer m.0 x ⊎ IsEarlyGiven step h m.1.until next x) m.1.until)
@@ -188,7 +188,7 @@ module _ {S : Type 0} (start : S) (step : S → Call → S → Reply → Type 0)
           go_on_so found was split.mid.0 split.mid.1 b.1 found.member.0.placed (IsOffered step observes h offers (found.member.0.state, found.wider) split.mid split.first)
           (λ x. IsOnOffer found.member.0 x ⊎ IsGiven step h found.member.0.state x) (length h)
           (last found.member found.among absent u.0.at u.1.key u.1.call split.mid.0 (subst (λ q. IsOpen h u.0.at q u.1.key u.1.call) split.has.1 u.1.is_open)
-          (over u.1.call u.2 b.0 found.member.0.state split.mid.0 reply (subst (step b.0 u.1.call split.mid.0) split.has.2 u.1.steps)).0)
+          ((over u.1.call u.2 b.0 found.member.0.state split.mid.0 reply (subst (step b.0 u.1.call split.mid.0) split.has.2 u.1.steps)).0 (reached found.member found.among)))
           (record {
             sorted = own.before;
             within = own.kept;
@@ -247,6 +247,6 @@ module _ {S : Type 0} (start : S) (step : S → Call → S → Reply → Type 0)
         ]
 
 pub update_with_law : {S : Type 0} (start : S) (step : S → Call → S → Reply → Type 0) → EndsAreUnique → WellFormedIsAlternating → OkLaw start step → UpdateWithLaw start step
-update_with_law start step unique alternating law observes over functions h event name reply body well_formed update members others taken ahead last complete =
-    ok_update_with start step observes unique functions h event name reply body ((alternating functions (with_event h event)).0 well_formed) members others over update taken ahead last
+update_with_law start step unique alternating law observes over functions h event name reply body well_formed update members others reached taken ahead last complete =
+    ok_update_with start step observes unique functions h event name reply body ((alternating functions (with_event h event)).0 well_formed) members others over reached update taken ahead last
     (law functions h event name reply body well_formed) complete

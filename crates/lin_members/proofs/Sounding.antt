@@ -22,11 +22,11 @@ use Rattle.lin_members.specs.lemmas.Putting.{offer_longer, offer_put, trail_ends
 module _ {S : Type 0} (start : S) (step : S → Call → S → Reply → Type 0) (legal : PlacingIsLegal start step) (observes : Call → Bool) (functions : ℤ → Name → Bool) (h : List Event)
     (alternates : IsAlternating functions h) where
   -- some rounds come to the configuration, and each of the offers was made in one of them
-  record IsBacked (c : S × List (ℕ × Reply)) (offers : ℕ × Reply → Type 0) : Type 0 where
-    states : List S
-    rounds : List (List Placed)
-    trail : IsTrail start step h states rounds c
-    offered : (x : ℕ × Reply) → offers x → (round : ℕ) × (at : ℕ) × IsOfferedIn step observes h states rounds round at x
+  pub record IsBacked (c : S × List (ℕ × Reply)) (offers : ℕ × Reply → Type 0) : Type 0 where
+    pub states : List S
+    pub rounds : List (List Placed)
+    pub trail : IsTrail start step h states rounds c
+    pub offered : (x : ℕ × Reply) → offers x → (round : ℕ) × (at : ℕ) × IsOfferedIn step observes h states rounds round at x
 
   -- an open observer's given reply is of an observer
   given_observes : (s : S) (x : ℕ × Reply) → IsWatching observes h x.0 → (given : IsGiven step h s x) → observes given.call ≡ true
@@ -44,9 +44,9 @@ module _ {S : Type 0} (start : S) (step : S → Call → S → Reply → Type 0)
       one_less (suc k) below = (k, refl)
 
   -- the rounds go on along a way
-  way_backed : (b : S × List (ℕ × Reply)) (offers : ℕ × Reply → Type 0) → IsBacked b offers → (c : S × List (ℕ × Reply)) (way : Way step observes h b c)
+  way_backed : (b : S × List (ℕ × Reply)) (offers : ℕ × Reply → Type 0) → IsBacked b (λ x. IsWatching observes h x.0 × offers x) → (c : S × List (ℕ × Reply)) (way : Way step observes h b c)
       → IsBacked c (λ x. IsWatching observes h x.0 × IsOffered step observes h offers b c way x)
-  way_backed b offers is c here = record { states = is.states; rounds = is.rounds; trail = is.trail; offered = λ x there. is.offered x there.1 }
+  way_backed b offers is c here = is
   way_backed b offers is c (more {c = d} way u) =
       let r = way_backed b offers is d way in
       record {
@@ -134,33 +134,31 @@ module _ {S : Type 0} (start : S) (step : S → Call → S → Reply → Type 0)
         ]
       ]
 
-  pub leads_configuration : IsObserving step observes → (states : List S) (rounds : List (List Placed)) (m : Member S) → IsTrailOf start step observes h states rounds m → (c : S × List (ℕ × Reply)) → Leads step observes h m c
-      → IsConfiguration start step h c
-  leads_configuration observing states rounds m is c leads = (
+  -- where rounds come to the beginning of a way, what it comes to with observers that are ready is a configuration
+  pub backed_configuration : IsObserving step observes → (b : S × List (ℕ × Reply)) (offers : ℕ × Reply → Type 0) → IsBacked b (λ x. IsWatching observes h x.0 × offers x) → (c : S × List (ℕ × Reply)) (placed : List (ℕ × Reply))
+      → (way : Way step observes h b (c.0, placed)) → IsRising c.1 → ((x : ℕ × Reply) → Contains placed x → Contains c.1 x)
+      → ((x : ℕ × Reply) → Contains c.1 x → Contains placed x ⊎ IsReady step observes h offers b (c.0, placed) way x) → IsConfiguration start step h c
+  backed_configuration observing b offers is c placed way rising part each = (
     joined f.backed.rounds,
     record {
       order_of = ends.order_of;
       runs = ends.runs;
       placed = record {
-        rising = leads.rising;
+        rising = rising;
         sound = λ p r there. ends.placed.sound p r (f.has (p, r) there);
         complete = λ at p key call r is_open there. f.part (p, r) (ends.placed.complete at p key call r is_open there);
       };
     },
   )
     where
-      first : IsBacked (m.state, m.placed) (IsOnOffer m)
-      first = record { states = states; rounds = rounds; trail = is.trail; offered = λ x there. let o = is.offered there.0 x there.1 in (there.0, o.0, o.1) }
-
-      backed : IsBacked (c.0, leads.placed) (IsReady step observes h (IsOnOffer m) (m.state, m.placed) (c.0, leads.placed) leads.way)
-      backed = end_backed (m.state, m.placed) (c.0, leads.placed) (IsOnOffer m) leads.way (way_backed (m.state, m.placed) (IsOnOffer m) first (c.0, leads.placed) leads.way)
-
-      f : Filled c.0 leads.placed (IsReady step observes h (IsOnOffer m) (m.state, m.placed) (c.0, leads.placed) leads.way) c.1 c.1
-      f = fill observing c.0 leads.placed (IsReady step observes h (IsOnOffer m) (m.state, m.placed) (c.0, leads.placed) leads.way) backed c.1 leads.rising leads.part c.1 (λ x there. there) leads.each
+      f : Filled c.0 placed (IsReady step observes h offers b (c.0, placed) way) c.1 c.1
+      f = fill observing c.0 placed (IsReady step observes h offers b (c.0, placed) way) (end_backed b (c.0, placed) offers way (way_backed b offers is (c.0, placed) way)) c.1 rising part c.1 (λ x there. there) each
 
       ends : EndsIn start step h (joined f.backed.rounds) (c.0, f.wider)
       ends = trail_ends start step observes h f.backed.states f.backed.rounds (c.0, f.wider) f.backed.trail
 
 pub sound_law : {S : Type 0} (start : S) (step : S → Call → S → Reply → Type 0) → PlacingIsLegal start step → WellFormedIsAlternating → SoundLaw start step
 sound_law start step legal alternating observes observing functions h well_formed states rounds m is c leads =
-    leads_configuration start step legal observes functions h ((alternating functions h).0 well_formed) observing states rounds m is c leads
+    backed_configuration start step legal observes functions h ((alternating functions h).0 well_formed) observing (m.state, m.placed) (IsOnOffer m)
+    (record { states = states; rounds = rounds; trail = is.trail; offered = λ x there. let o = is.offered there.1.0 x there.1.1 in (there.1.0, o.0, o.1) })
+    c leads.placed leads.way leads.rising leads.part leads.each

@@ -34,7 +34,7 @@ pub record EndsWith {S : Type 0} (step : S → Call → S → Reply → Type 0) 
   pub way : Way step observes h b before
   pub last : IsUpdate step observes h before d
 
-module _ {S : Type 0} (step : S → Call → S → Reply → Type 0) (observes : Call → Bool) (over : IsOverwriting step observes) (functions : ℤ → Name → Bool) (h : List Event) (alternates : IsAlternating functions h)
+module _ {S : Type 0} {start : S} (step : S → Call → S → Reply → Type 0) (observes : Call → Bool) (over : IsOverwriting start step observes) (functions : ℤ → Name → Bool) (h : List Event) (alternates : IsAlternating functions h)
     (i j : ℕ) (x y : ℕ × Reply) (next last : S) (u : IsEarlyUpdate step observes h i x next) (v : IsEarlyUpdate step observes h j y last) where
   -- updates of the same call come to the same
   pub same_outcome : u.call ≡ v.call → (last ≡ next) × (y.1 ≡ x.1)

@@ -4,10 +4,11 @@ use Rattle.lin_events.specs.declared.calls.Call.{Call}
 use Rattle.lin_events.specs.declared.calls.Reply.{Reply}
 use Rattle.lin_events.specs.declared.events.Event.{Event}
 use Rattle.lin_orders.specs.declared.placed.Placed.{Placed}
+use Rattle.lin_orders.specs.Configurations.{IsConfiguration}
 use Rattle.lin_orders.specs.Linearizable.{IsLegalOrderBy}
 use Rattle.lin_members.specs.declared.members.Path.{Path}
 use Rattle.lin_members.specs.Members.{Member}
-use Rattle.lin_members.specs.Overwritten.{AllowsOverwritten, IsAbove, IsCompleteFor}
+use Rattle.lin_members.specs.Overwritten.{AllowsOverwritten, IsAbove, IsCompleteFor, LeadsFor}
 use Rattle.lin_members.specs.Rounds.{joined, SpellsRounds, IsTrailOf}
 
 -- the path's node spells rounds that lead to the member, and the path's round is the last one
@@ -29,6 +30,10 @@ pub record IsCovering {S : Type 0} (start : S) (step : S → Call → S → Repl
 pub record IsCompressed {S : Type 0} (start : S) (step : S → Call → S → Reply → Type 0) (observes : Call → Bool) (overwriting : Bool) (h : List Event) (members : List (Member S × Path)) (nodes : List (ℕ × (Placed × Option ℕ))) : Type 0 where
   pub covering : IsCovering start step observes overwriting h members nodes
   pub apart : AllPairs (λ m n. (IsAbove observes h m n → ⊥) × (IsAbove observes h n m → ⊥)) members
+
+-- each configuration that the member leads to is one of the history
+abbrev pub LeadsWithin : {S : Type 0} → S → (S → Call → S → Reply → Type 0) → (Call → Bool) → Bool → List Event → Member S × Path → Type 0
+LeadsWithin {S} start step observes overwriting h m = (c : S × List (ℕ × Reply)) → LeadsFor step observes overwriting h m c → IsConfiguration start step h c
 
 -- each member's node spells rounds that are a legal order
 abbrev pub CompressedSpellLegalOrders : {S : Type 0} → S → (S → Call → S → Reply → Type 0) → (Call → Bool) → Bool → Type 0

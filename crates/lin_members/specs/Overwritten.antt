@@ -11,7 +11,7 @@ use Rattle.lin_orders.specs.Configurations.{IsConfiguration, IsRising}
 use Rattle.lin_orders.specs.Orders.{IsBefore, IsCall}
 use Rattle.lin_members.specs.declared.members.Path.{Path}
 use Rattle.lin_members.specs.Exchanges.{Exchange, IsExchanged}
-use Rattle.lin_members.specs.Members.{Member, Dominates, IsComplete, IsGiven, IsOnOffer, Meets}
+use Rattle.lin_members.specs.Members.{Member, Dominates, IsComplete, IsGiven, IsOnOffer, IsReady, Leads, Meets, Way}
 
 -- an open update that was called before the event at this position, with a reply that it gives, and the state that it leads to with it
 pub record IsEarlyUpdate {S : Type 0} (step : S → Call → S → Reply → Type 0) (observes : Call → Bool) (h : List Event) (until : ℕ) (x : ℕ × Reply) (next : S) : Type 0 where
@@ -51,6 +51,23 @@ pub record IsCoveredWith {S : Type 0} (step : S → Call → S → Reply → Typ
   pub wider : List (ℕ × Reply)
   pub more : HasOverwritten step observes h member.1.until member.0.placed wider
   pub meets : Meets step observes h (member.0.state, wider) (IsOfferedWith step observes h member wider) c.0 placed
+
+-- from the member, with early updates placed ahead of its last update, a way comes to a state and placed operations that, with observers that are
+-- ready, are the configuration
+pub record LeadsWith {S : Type 0} (step : S → Call → S → Reply → Type 0) (observes : Call → Bool) (h : List Event) (m : Member S × Path) (c : S × List (ℕ × Reply)) : Type 0 where
+  pub wider : List (ℕ × Reply)
+  pub more : HasOverwritten step observes h m.1.until m.0.placed wider
+  pub placed : List (ℕ × Reply)
+  pub way : Way step observes h (m.0.state, wider) (c.0, placed)
+  pub before : IsRising placed
+  pub rising : IsRising c.1
+  pub part : (x : ℕ × Reply) → Contains placed x → Contains c.1 x
+  pub each : (x : ℕ × Reply) → Contains c.1 x → Contains placed x ⊎ IsReady step observes h (IsOfferedWith step observes h m wider) (m.0.state, wider) (c.0, placed) way x
+
+-- what the member leads to; where the object is overwritten, with overwritten updates
+abbrev pub LeadsFor : {S : Type 0} → (S → Call → S → Reply → Type 0) → (Call → Bool) → Bool → List Event → Member S × Path → S × List (ℕ × Reply) → Type 0
+LeadsFor step observes false h m c = Leads step observes h m.0 c
+LeadsFor step observes true h m c = LeadsWith step observes h m c
 
 -- each configuration of the history is
 abbrev pub IsCompleteWith : {S : Type 0} → S → (S → Call → S → Reply → Type 0) → (Call → Bool) → List Event → List (Member S × Path) → Type 0

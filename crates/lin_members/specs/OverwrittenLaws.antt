@@ -10,13 +10,14 @@ use Rattle.lin_events.specs.Operations.{IsOpen}
 use Rattle.lin_events.specs.WellFormed.{IsWellFormed}
 use Rattle.lin_objects.specs.Observing.{IsObserving}
 use Rattle.lin_objects.specs.Overwriting.{IsOverwriting}
+use Rattle.lin_objects.specs.Total.{Reaches}
 use Rattle.lin_orders.specs.declared.placed.Placed.{Placed}
 use Rattle.lin_orders.specs.ConfigurationLaws.{with_event}
-use Rattle.lin_orders.specs.Configurations.{IsAdded}
+use Rattle.lin_orders.specs.Configurations.{IsAdded, IsConfiguration}
 use Rattle.lin_members.specs.declared.members.Path.{Path}
 use Rattle.lin_members.specs.Exchanges.{AreAlike}
 use Rattle.lin_members.specs.Members.{Member, DominatesAt, IsComplete, IsGiven, IsOnOffer, IsWatching}
-use Rattle.lin_members.specs.Overwritten.{AllowsOverwritten, IsAbove, IsCompleteWith, IsEarlyGiven, IsEarlyUpdate}
+use Rattle.lin_members.specs.Overwritten.{AllowsOverwritten, IsAbove, IsCompleteWith, IsEarlyGiven, IsEarlyUpdate, LeadsWith}
 use Rattle.lin_members.specs.Rounds.{ahead, begin_round, put, IsTrailOf}
 
 -- where others are above all members, they are complete as well
@@ -62,11 +63,15 @@ IsHeldUntil {S} observes h members state placed offers until = (n : Member S × 
 abbrev pub IsTakenWith : {S : Type 0} → (Call → Bool) → List Event → ℕ → Reply → List (Member S × Path) → Member S × Path → Type 0
 IsTakenWith observes h process reply others m = (without : List (ℕ × Reply)) → IsAdded process reply without m.0.placed → IsHeldUntil observes h others m.0.state without (IsOnOffer m.0) m.1.until
 
+-- the object comes to the state of each member
+abbrev pub AreReached : {S : Type 0} → S → (S → Call → S → Reply → Type 0) → List (Member S × Path) → Type 0
+AreReached {S} start step members = (m : Member S × Path) → Contains members m → Reaches step start m.0.state
+
 -- after the ok of an update. Members that placed it with this reply: without it. Of each other one: what it leads to placed last; and, where it was called
 -- early enough, the same state with what the update gives to observers on offer, for where it is overwritten. No other update is placed
 abbrev pub UpdateWithLaw : {S : Type 0} → S → (S → Call → S → Reply → Type 0) → Type 0
-UpdateWithLaw {S} start step = (observes : Call → Bool) → IsOverwriting step observes → (functions : ℤ → Name → Bool) (h : List Event) (event : Event) (name : Name) (reply : Reply) → event.body ≡ Ok name reply
-    → IsWellFormed functions (with_event h event) → ((at : ℕ) (key : ℤ) (call : Call) → IsOpen h at event.process key call → observes call ≡ false) → (members others : List (Member S × Path))
+UpdateWithLaw {S} start step = (observes : Call → Bool) → IsOverwriting start step observes → (functions : ℤ → Name → Bool) (h : List Event) (event : Event) (name : Name) (reply : Reply) → event.body ≡ Ok name reply
+    → IsWellFormed functions (with_event h event) → ((at : ℕ) (key : ℤ) (call : Call) → IsOpen h at event.process key call → observes call ≡ false) → (members others : List (Member S × Path)) → AreReached start step members
     → ((m : Member S × Path) → Contains members m → IsTakenWith observes (with_event h event) event.process reply others m)
     → ((m : Member S × Path) → Contains members m → ((other : Reply) → Contains m.0.placed (event.process, other) → ⊥) → (next : S) → IsEarlyUpdate step observes h m.1.until (event.process, reply) next
     → IsHeldUntil observes (with_event h event) others m.0.state m.0.placed (λ x. IsOnOffer m.0 x ⊎ IsEarlyGiven step h m.1.until next x) m.1.until)
@@ -96,17 +101,23 @@ pub record IsAskedFor {S : Type 0} (step : S → Call → S → Reply → Type 0
 -- after the ok of an observer. Members that placed it with this reply: without it. Each other one that may have the reply, since it is on offer or its state gives
 -- it, is held. For each that may not, what gives it is placed
 abbrev pub ObserverWithLaw : {S : Type 0} → S → (S → Call → S → Reply → Type 0) → Type 0
-ObserverWithLaw {S} start step = (observes : Call → Bool) → IsOverwriting step observes → (functions : ℤ → Name → Bool) (h : List Event) (event : Event) (name : Name) (reply : Reply) → event.body ≡ Ok name reply
-    → IsWellFormed functions (with_event h event) → ((at : ℕ) (key : ℤ) (call : Call) → IsOpen h at event.process key call → observes call ≡ true) → (members others : List (Member S × Path))
+ObserverWithLaw {S} start step = (observes : Call → Bool) → IsOverwriting start step observes → (functions : ℤ → Name → Bool) (h : List Event) (event : Event) (name : Name) (reply : Reply) → event.body ≡ Ok name reply
+    → IsWellFormed functions (with_event h event) → ((at : ℕ) (key : ℤ) (call : Call) → IsOpen h at event.process key call → observes call ≡ true) → (members others : List (Member S × Path)) → AreReached start step members
     → ((m : Member S × Path) → Contains members m → IsTakenWith observes (with_event h event) event.process reply others m)
     → ((m : Member S × Path) → Contains members m → ((other : Reply) → Contains m.0.placed (event.process, other) → ⊥)
     → IsHeldUntil observes (with_event h event) others m.0.state m.0.placed (IsOnOffer m.0) m.1.until
     ⊎ ((IsOnOffer m.0 (event.process, reply) → ⊥) × (IsGiven step h m.0.state (event.process, reply) → ⊥) × IsAskedFor step observes h (with_event h event) event.process reply others m))
     → IsCompleteWith start step observes h members → IsCompleteWith start step observes (with_event h event) others
 
+-- all that a member with rounds leads to with early updates is true
+abbrev pub SoundWithLaw : {S : Type 0} → S → (S → Call → S → Reply → Type 0) → Type 0
+SoundWithLaw {S} start step = (observes : Call → Bool) → IsObserving step observes → IsOverwriting start step observes → (functions : ℤ → Name → Bool) (h : List Event) → IsWellFormed functions h
+    → (states : List S) (rounds : List (List Placed)) (m : Member S × Path) → IsTrailOf start step observes h states rounds m.0 → AllowsOverwritten observes h m rounds
+    → (c : S × List (ℕ × Reply)) → LeadsWith step observes h m c → IsConfiguration start step h c
+
 -- rounds of a member with an early update, which the last one overwrites: it is a round of its own ahead of that one, from which what it leads to may be on offer
 abbrev pub AheadLaw : {S : Type 0} → S → (S → Call → S → Reply → Type 0) → Type 0
-AheadLaw {S} start step = (observes : Call → Bool) → IsOverwriting step observes → (functions : ℤ → Name → Bool) (h : List Event) → IsWellFormed functions h
+AheadLaw {S} start step = (observes : Call → Bool) → IsOverwriting start step observes → (functions : ℤ → Name → Bool) (h : List Event) → IsWellFormed functions h
     → (states : List S) (rounds : List (List Placed)) (m n : Member S × Path) → IsTrailOf start step observes h states rounds m.0 → AllowsOverwritten observes h m rounds
     → (p : Placed) (process : ℕ) (next : S) (u : IsEarlyUpdate step observes h m.1.until (process, p.reply) next) → u.at ≡ p.at → m.0.state ≡ n.0.state → IsAdded process p.reply m.0.placed n.0.placed → m.1.until ≡ n.1.until
     → ((round : ℕ) (x : ℕ × Reply) → Contains n.0.offers (round, x) → Contains m.0.offers (round, x) ⊎ ((suc round ≡ length rounds) × IsWatching observes h x.0 × IsEarlyGiven step h m.1.until next x))

@@ -29,7 +29,7 @@ pub use members::{
 pub use offers::{OfferList, Offers, may_be_watched};
 pub use overwritten_laws::{
     overwritten_after_events, overwritten_after_observer, overwritten_after_update,
-    overwritten_can_go, rounds_allow_overwritten, rounds_go_ahead,
+    overwritten_are_sound, overwritten_can_go, rounds_allow_overwritten, rounds_go_ahead,
 };
 pub use parts::{key, pruned_many};
 pub use places::Places;

@@ -1,9 +1,9 @@
 //! Laws of members that stand also for what overwritten updates did. The functions do nothing.
-ghost use Rattle.lin_members.specs.OverwrittenLaws.{AboveLaw, AheadLaw, AllowsBeginsLaw, AllowsOnLaw, AllowsPutLaw, CompleteAloneLaw, FailWithLaw, InfoWithLaw, InvocationWithLaw, NoneOverwrittenLaw, ObserverWithLaw, UpdateWithLaw};
+ghost use Rattle.lin_members.specs.OverwrittenLaws.{AboveLaw, AheadLaw, AllowsBeginsLaw, AllowsOnLaw, AllowsPutLaw, CompleteAloneLaw, FailWithLaw, InfoWithLaw, InvocationWithLaw, NoneOverwrittenLaw, ObserverWithLaw, SoundWithLaw, UpdateWithLaw};
 
 use lin_events::{ends_are_unique, well_formed_is_alternating};
 use lin_objects::SeqObject;
-use lin_orders::configurations_after_events;
+use lin_orders::{configurations_after_events, placing_is_legal};
 
 /// Members that others are above can be dropped; and where no update is early enough to be overwritten, members lead to all
 /// configurations just where they do so alone.
@@ -46,6 +46,14 @@ pub fn overwritten_after_observer<O: SeqObject>(object: &O)
 pub fn rounds_go_ahead<O: SeqObject>(object: &O)
     ensures { AheadLaw (O.starts object.now) (O.step object.now) }
 {
+    well_formed_is_alternating();
+}
+
+/// All that a member with rounds leads to with early updates is true.
+pub fn overwritten_are_sound<O: SeqObject>(object: &O)
+    ensures { SoundWithLaw (O.starts object.now) (O.step object.now) }
+{
+    placing_is_legal(object);
     well_formed_is_alternating();
 }
 

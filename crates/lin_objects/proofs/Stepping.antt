@@ -12,10 +12,6 @@ use Rattle.lin_objects.specs.Laws.{StepsAreAllowed, RepliesDecide}
 pub steps_are_allowed : StepsAreAllowed
 steps_are_allowed Register (Value v) Read next reply h = refl
 steps_are_allowed Register (Value v) (Write w) next reply h = refl
-steps_are_allowed Register (Queue q) (Write w) next reply h = refl
-steps_are_allowed Register (Members s) (Write w) next reply h = refl
-steps_are_allowed Register (Held b) (Write w) next reply h = refl
-steps_are_allowed Register (Bagged q) (Write w) next reply h = refl
 steps_are_allowed CasRegister (Value v) Read next reply h = refl
 steps_are_allowed CasRegister (Value v) (Write w) next reply h = refl
 steps_are_allowed CasRegister (Value v) (Cas from to) next reply h = refl
@@ -36,10 +32,6 @@ same_number e = cc
 pub replies_decide : RepliesDecide
 replies_decide Register (Value v) Read next other reply h k = h.0 ∙ sym k.0
 replies_decide Register (Value v) (Write w) next other reply h k = h.0 ∙ sym k.0
-replies_decide Register (Queue q) (Write w) next other reply h k = h.0 ∙ sym k.0
-replies_decide Register (Members s) (Write w) next other reply h k = h.0 ∙ sym k.0
-replies_decide Register (Held b) (Write w) next other reply h k = h.0 ∙ sym k.0
-replies_decide Register (Bagged q) (Write w) next other reply h k = h.0 ∙ sym k.0
 replies_decide CasRegister (Value v) Read next other reply h k = h.0 ∙ sym k.0
 replies_decide CasRegister (Value v) (Write w) next other reply h k = h.0 ∙ sym k.0
 replies_decide CasRegister (Value v) (Cas from to) next other reply h k = h.1 ∙ sym k.1

@@ -44,7 +44,7 @@ allows _ _ = false
 -- an object of the kind in the state may take the call, go to the next state and give the reply
 abbrev pub Step : Kind → State → Call → State → Reply → Type 0
 Step Register (Value v) Read next reply = (next ≡ Value v) × (reply ≡ Replied.Value v)
-Step Register _ (Write w) next reply = (next ≡ Value w) × (reply ≡ Replied.Done)
+Step Register (Value v) (Write w) next reply = (next ≡ Value w) × (reply ≡ Replied.Done)
 Step CasRegister (Value v) Read next reply = (next ≡ Value v) × (reply ≡ Replied.Value v)
 Step CasRegister (Value v) (Write w) next reply = (next ≡ Value w) × (reply ≡ Replied.Done)
 Step CasRegister (Value v) (Cas from to) next reply = (v ≡ from) × (next ≡ Value to) × (reply ≡ Replied.Done)

@@ -234,7 +234,7 @@ fn register_step(state: &State, call: &Call) -> Option<(State, Reply)>
 {
     match (state, call) {
         (State::Value(value), Call::Read) => Some((State::Value(*value), Reply::Value(*value))),
-        (_, Call::Write(value)) => Some((State::Value(*value), Reply::Done)),
+        (State::Value(_), Call::Write(value)) => Some((State::Value(*value), Reply::Done)),
         _ => None,
     }
 }

@@ -34,11 +34,12 @@ pub trait SeqObject {
     /// A call that observes leaves the state as it is.
     ghost unchanged: { (object : Self) → IsObserving (step object) (observing object) };
 
-    /// Whether the object is overwritten: whether each call that isn't treated as an observer does the same in all states.
+    /// Whether the object is overwritten: whether each call that isn't treated as an observer does the same in all states that the object
+    /// comes to.
     ghost overwriting: { Self → Bool };
 
     /// Where it is, they do.
-    ghost overwritten: { (object : Self) → overwriting object ≡ true → IsOverwriting (step object) (observing object) };
+    ghost overwritten: { (object : Self) → overwriting object ≡ true → IsOverwriting (starts object) (step object) (observing object) };
 
     /// Whether the two calls are known to commute.
     ghost commuting: { Self → CallOf → CallOf → Bool };
@@ -78,7 +79,7 @@ pub trait SeqObject {
         ensures { result ≡ observing self.now call.now };
 
     /// Whether the object is overwritten: each call that isn't treated as an observer and has an outcome in some state has the
-    /// same one in all states, and no other.
+    /// same one in each state that the object comes to, and no other in any.
     fn overwrites(&self) -> bool
         ensures { result ≡ overwriting self.now };
 

@@ -22,12 +22,15 @@ use Rattle.lin_frontier.specs.Placing.{IsAbsent}
 use Rattle.lin_members.specs.RoundLaws.{FewerLaw, TrailInvocationLaw, TrailInfoLaw, TrailFailLaw}
 use Rattle.lin_members.specs.Overwritten.{AllowsOverwritten, IsAbove, IsCompleteFor}
 use Rattle.lin_members.specs.OverwrittenLaws.{AboveLaw, AllowsOnLaw, FailWithLaw, InfoWithLaw, InvocationWithLaw}
-use Rattle.lin_members.specs.Rounds.{SpellsRounds, root, begins, puts}
+use Rattle.lin_members.specs.Rounds.{joined, SpellsRounds, root, begins, puts}
 use Rattle.lin_members.specs.Searching.{is_watching, copy_of, IsMade}
 use Rattle.lin_frontier.specs.lemmas.Absorbing.{get_more}
 use Rattle.lin_frontier.specs.lemmas.Inserting.{passed_by, absent_from, none_from}
+use Rattle.lin_members.specs.lemmas.Joining.{runs_joined}
 use Rattle.lin_members.specs.lemmas.Pruned.{copy_dominates}
 use Rattle.lin_objects.specs.Observing.{IsObserving}
+use Rattle.lin_objects.specs.Total.{Reaches}
+use Rattle.lin_orders.specs.lemmas.Running.{runs_reach}
 use Rattle.lin_lists.specs.lemmas.Filters.{in_map, from_map}
 
 pub rounds_stay : (nodes now : List (ℕ × (Placed × Option ℕ))) (id : ℕ) (rounds : List (List Placed)) → IsGrown nodes now → SpellsRounds nodes id rounds → SpellsRounds now id rounds
@@ -44,6 +47,10 @@ module _ {S : Type 0} (start : S) (step : S → Call → S → Reply → Type 0)
 
   pub spelled_rising : (h : List Event) (nodes : List (ℕ × (Placed × Option ℕ))) (m : Member S × Path) → IsSpelled start step observes h nodes m → IsRising m.0.placed
   spelled_rising h nodes m s = s.trail.trail.placed.rising
+
+  -- the object comes to its state
+  pub spelled_reached : (h : List Event) (nodes : List (ℕ × (Placed × Option ℕ))) (m : Member S × Path) → IsSpelled start step observes h nodes m → Reaches step start m.0.state
+  spelled_reached h nodes m s = runs_reach step h (joined s.rounds) start m.0.state (runs_joined step h s.states s.rounds start m.0.state s.trail.trail.runs)
 
   -- with fewer offers
   pub spelled_copy : FewerLaw start step → (h : List Event) (nodes : List (ℕ × (Placed × Option ℕ))) (pending : List Open) (m : Member S × Path) → IsSpelled start step observes h nodes m

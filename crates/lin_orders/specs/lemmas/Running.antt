@@ -13,6 +13,7 @@ use Rattle.lin_objects.specs.declared.kinds.Kind.{Kind}
 use Rattle.lin_objects.specs.declared.states.State.{State}
 use Rattle.lin_objects.specs.Steps.{Step, start}
 use Rattle.lin_objects.specs.Laws.{RepliesDecide}
+use Rattle.lin_objects.specs.Total.{Reaches, stays, goes}
 use Rattle.lin_orders.specs.declared.placed.Placed.{Placed}
 use Rattle.lin_orders.specs.Orders.{IsCall, is_of_key, part_of}
 use Rattle.lin_orders.specs.Linearizable.{Runs, IsLegal}
@@ -32,6 +33,11 @@ module _ {S : Type 0} (step : S → Call → S → Reply → Type 0) (h : List E
   runs_split s u (p ∷ xs) ys run =
       let rest = runs_split run.1 u xs ys run.4 in
       (rest.0, (run.0, run.1, run.2, run.3, rest.1), rest.2)
+
+  -- steps lead to where a run ends
+  pub runs_reach : (order : List Placed) (s t : S) → Runs step h s order t → Reaches step s t
+  runs_reach [] s t same = subst (Reaches step s) same stays
+  runs_reach (p ∷ order) s t run = goes run.3 (runs_reach order run.1 t run.4)
 
   -- where replies decide, a run ends in one state
   pub runs_one : ((state : S) (call : Call) (next other : S) (reply : Reply) → step state call next reply → step state call other reply → next ≡ other)
