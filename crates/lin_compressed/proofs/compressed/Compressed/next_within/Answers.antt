@@ -15,4 +15,4 @@ returns-then-branch-2-clause-over g c is functions h next frontier =
       | else-many-via-else-many w ↦ w.nodes-is
     ] in
     c.in_ok-is_over.ensures.over c.if-branch-2.true functions h next
-    (subst (IsCompressed (g.O.SeqObject.starts c.args.object.now) (g.O.SeqObject.step c.args.object.now) (g.O.SeqObject.observing c.args.object.now) (g.O.SeqObject.overwriting c.args.object.now) (with_event h c.args.event.now) c.args.next) (sym same) frontier)
+    (subst (IsCompressed (g.O.SeqObject.starts c.args.arrival.now.object.now) (g.O.SeqObject.step c.args.arrival.now.object.now) (g.O.SeqObject.observing c.args.arrival.now.object.now) (g.O.SeqObject.overwriting c.args.arrival.now.object.now) (with_event h c.args.arrival.now.event.now) c.args.next) (sym same) frontier)

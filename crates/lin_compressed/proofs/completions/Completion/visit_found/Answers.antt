@@ -1,6 +1,6 @@
 use Rattle.std.proofs.Common.{sym, ◌∙◌}
 use Rattle.lin_listing.specs.lemmas.Visiting.{taking_start, taking_turn, taking_end, grown_grown}
-use Rattle.lin_compressed.proofs.completions.Completion.visit.Goals as goal
+use Rattle.lin_compressed.proofs.completions.Completion.visit_found.Goals as goal
 
 pub loop-config-init : goal.loop-config-init
 loop-config-init g c = taking_start _ _ _ _ _ _ _
@@ -12,6 +12,5 @@ pub loop-config-preserved : goal.loop-config-preserved
 loop-config-preserved g c =
     taking_turn _ _ _ _ _ _ _ c.loop-config.next.items c.pop.new.self.items c.loop-config.nodes _ (c.in-Some.config, c.in-Some.placed) c.in-Some.ensures.items c.loop-config.invariant c.visit_one.new.nodes _ c.visit_one.ensures.grown c.in_ok-visit_one.ensures.taken
 
-pub returns-clause-visited : goal.returns-clause-visited
-returns-clause-visited g c =
-    taking_end _ _ _ _ _ _ _ c.loop-config.next.items c.loop-config.nodes _ (sym c.loop-config.next.ok.0 ∙ c.in_default.ensures.cases.0) c.loop-config.invariant
+pub returns-clause-some : goal.returns-clause-some
+returns-clause-some g c = ?
