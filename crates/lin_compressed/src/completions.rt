@@ -502,12 +502,13 @@ impl<'a, O: SeqObject> Completion<'a, O> {
         ensures some { OnOk result (IfSome onward.offers (λ offers. IsVisiting (O.observing self.now.object.now) self.now.pending.now next.old.items offers onward.path nodes.new
             (map (λ m. m.now) starts.now ++ visited.old.items) (map (λ m. m.now) starts.now ++ visited.new.items))) }
     {
-        let Some(offers) = onward.offers else {
+        let Onward { path, offers } = onward;
+        let Some(offers) = offers else {
             return Ok(());
         };
         while let Some((config, placed)) = next.pop() {
             let reached = Reached {
-                path: onward.path,
+                path,
                 config,
                 placed,
                 offers: &offers,
