@@ -21,6 +21,15 @@ use lin_members::{
 use lin_objects::SeqObject;
 use lin_orders::Placed;
 use std::alloc::Global;
+use std::hash::Hash;
+
+/// An open update that is placed for a member, with its reply, and the configuration that it makes of the member.
+#[derive(Drop)]
+struct Update<'a, S: Eq + Hash> {
+    member: &'a Member<S>,
+    config: Config<S>,
+    placed: Placed,
+}
 
 /// Whether the operation was called before the event at the position.
 fn is_early(operation: &Open, until: u32) -> bool
@@ -59,41 +68,29 @@ fn state_with<S: Drop>(steps: &mut Vec<(S, Reply)>, reply: &Reply) -> Option<S>
 impl<'a, O: SeqObject> Completion<'a, O> {
     /// The path with the operation behind all.
     #[inline(always)]
-    fn path_behind(
-        &self,
-        alloc: Global,
-        path: Path,
-        now: u32,
-        nodes: &mut RoundNodes,
-    ) -> Result<Path, OutOfMemory>
+    fn path_behind(&self, path: Path, now: u32, nodes: &mut RoundNodes) -> Result<Path, OutOfMemory>
         ensures grown { IsGrown nodes.old nodes.new }
         ensures begins { IfOk result (λ next. BeginsRound nodes.new path next (record { at = self.now.operation.now.at; reply = self.now.reply.now })) }
         ensures until { IfOk result (λ next. next.until ≡ now) }
     {
-        let placed = placed_at(alloc, self.operation.at, self.reply)?;
+        let placed = placed_at(self.alloc, self.operation.at, self.reply)?;
         put_behind(path, placed, now, nodes)
     }
 
     /// The path with the operation as a round of its own ahead of the last one.
     #[inline(always)]
-    fn path_ahead(
-        &self,
-        alloc: Global,
-        path: Path,
-        nodes: &mut RoundNodes,
-    ) -> Result<Path, OutOfMemory>
+    fn path_ahead(&self, path: Path, nodes: &mut RoundNodes) -> Result<Path, OutOfMemory>
         ensures grown { IsGrown nodes.old nodes.new }
         ensures ahead { IfOk result (λ next. IsAheadOf nodes.new path next (record { at = self.now.operation.now.at; reply = self.now.reply.now })) }
     {
-        let placed = placed_at(alloc, self.operation.at, self.reply)?;
+        let placed = placed_at(self.alloc, self.operation.at, self.reply)?;
         put_ahead(path, placed, nodes)
     }
 
     /// The path with the operation put in the round.
     #[inline(always)]
-    fn path_in(
+    pub(crate) fn path_in(
         &self,
-        alloc: Global,
         path: Path,
         round: usize,
         nodes: &mut RoundNodes,
@@ -103,7 +100,7 @@ impl<'a, O: SeqObject> Completion<'a, O> {
         ensures until { IfOk result (λ next. next.until ≡ path.until) }
         ensures node { IfOk result (λ next. IsNodeOf nodes.new next.node path.node ((record { at = self.now.operation.now.at; reply = self.now.reply.now }), Some round)) }
     {
-        let placed = placed_at(alloc, self.operation.at, self.reply)?;
+        let placed = placed_at(self.alloc, self.operation.at, self.reply)?;
         in_round(path, placed, round, nodes)
     }
 
@@ -111,20 +108,18 @@ impl<'a, O: SeqObject> Completion<'a, O> {
     #[inline(always)]
     fn with_state_of(
         &self,
-        alloc: Global,
         member: &Member<O::State>,
         config: &Config<O::State>,
     ) -> Result<Config<O::State>, OutOfMemory>
         ensures { IfOk result (λ made. made ≡ (member.now.0.state, config.now.1)) }
     {
-        let state = self.object.copy_state(alloc, member.state())?;
+        let state = self.object.copy_state(self.alloc, member.state())?;
         config.with_state(state)
     }
 
     /// Puts in `out` the member with the update placed behind all, which leads to the configuration.
     fn return_behind(
         &self,
-        alloc: Global,
         member: &Member<O::State>,
         config: Config<O::State>,
         now: u32,
@@ -140,14 +135,8 @@ impl<'a, O: SeqObject> Completion<'a, O> {
             → IsReturnedBehind (O.step self.now.object.now) (O.observing self.now.object.now) self.now.operation.now self.now.reply.now self.now.pending.now nodes.new now member.now n)) }
         ensures tried { IsTriedAtMost (length self.now.pending.now) meter.old meter.new }
     {
-        let path = self.path_behind(alloc, member.path(), now, nodes)?;
-        let offers = self.offers_behind(
-            alloc,
-            member,
-            &mut scratch.steps,
-            meter,
-            &mut scratch.pool,
-        )?;
+        let path = self.path_behind(member.path(), now, nodes)?;
+        let offers = self.offers_behind(member, &mut scratch.steps, meter, &mut scratch.pool)?;
         push_member(
             out,
             Member {
@@ -161,7 +150,6 @@ impl<'a, O: SeqObject> Completion<'a, O> {
     /// Puts in `out` the member with the update placed ahead of the last one. The configuration is the one that the update leads to.
     fn return_ahead(
         &self,
-        alloc: Global,
         member: &Member<O::State>,
         config: &Config<O::State>,
         out: &mut Vec<Member<O::State>>,
@@ -183,7 +171,7 @@ impl<'a, O: SeqObject> Completion<'a, O> {
             scratch.early(),
         )?;
         let before = Pending::of(&operations);
-        self.return_beside(alloc, member, &before, config, out, nodes, meter, scratch)?;
+        self.return_beside(member, &before, config, out, nodes, meter, scratch)?;
         scratch.keep_early(operations);
         Ok(())
     }
@@ -191,7 +179,6 @@ impl<'a, O: SeqObject> Completion<'a, O> {
     /// The same, given the early operations.
     fn return_beside(
         &self,
-        alloc: Global,
         member: &Member<O::State>,
         before: &Pending,
         config: &Config<O::State>,
@@ -209,9 +196,8 @@ impl<'a, O: SeqObject> Completion<'a, O> {
             → (now : ℕ) → IsReturnedAhead (O.step self.now.object.now) (O.observing self.now.object.now) self.now.operation.now self.now.reply.now self.now.pending.now nodes.new now member.now config.now.0 n)) }
         ensures tried { IsTriedAtMost (length self.now.pending.now) meter.old meter.new }
     {
-        let path = self.path_ahead(alloc, member.path(), nodes)?;
+        let path = self.path_ahead(member.path(), nodes)?;
         let offers = self.offers_with(
-            alloc,
             member,
             config,
             before,
@@ -219,7 +205,7 @@ impl<'a, O: SeqObject> Completion<'a, O> {
             meter,
             &mut scratch.pool,
         )?;
-        let config = self.with_state_of(alloc, member, member.config())?;
+        let config = self.with_state_of(member, member.config())?;
         push_member(
             out,
             Member {
@@ -233,7 +219,6 @@ impl<'a, O: SeqObject> Completion<'a, O> {
     /// Puts in `out` what the update makes of the member with its reply.
     fn return_update(
         &self,
-        alloc: Global,
         member: &Member<O::State>,
         now: u32,
         out: &mut Vec<Member<O::State>>,
@@ -250,7 +235,7 @@ impl<'a, O: SeqObject> Completion<'a, O> {
     {
         meter.tick_try();
         self.object.outcomes(
-            alloc,
+            self.alloc,
             member.state(),
             &self.operation.call,
             &mut scratch.steps,
@@ -260,19 +245,16 @@ impl<'a, O: SeqObject> Completion<'a, O> {
         };
         let config = member.config().with_state(state)?;
         if is_early(self.operation, member.path().until) {
-            self.return_ahead(alloc, member, &config, out, nodes, meter, scratch)?;
+            self.return_ahead(member, &config, out, nodes, meter, scratch)?;
         }
-        self.return_behind(alloc, member, config, now, out, nodes, meter, scratch)
+        self.return_behind(member, config, now, out, nodes, meter, scratch)
     }
 
     /// Puts in `out` the member with the update, which gives the observer its reply, and the observer placed behind all. The
     /// configuration is the one that the update leads to.
     fn ask_behind(
         &self,
-        alloc: Global,
-        member: &Member<O::State>,
-        config: Config<O::State>,
-        placed: Placed,
+        update: Update<O::State>,
         now: u32,
         out: &mut Vec<Member<O::State>>,
         nodes: &mut RoundNodes,
@@ -280,21 +262,20 @@ impl<'a, O: SeqObject> Completion<'a, O> {
         scratch: &mut Scratch<O>,
     ) -> Result<(), OutOfMemory>
         requires observer { O.observing self.now.object.now self.now.operation.now.call ≡ true }
-        requires places { PlacesUpdate (O.step self.now.object.now) (O.observing self.now.object.now) self.now.pending.now (member.now.0.state, member.now.0.placed) placed config }
-        requires gives { (last : O.State) × O.step self.now.object.now config.0 self.now.operation.now.call last self.now.reply.now }
+        requires places { PlacesUpdate (O.step self.now.object.now) (O.observing self.now.object.now) self.now.pending.now (update.member.now.0.state, update.member.now.0.placed) update.placed update.config }
+        requires gives { (last : O.State) × O.step self.now.object.now update.config.0 self.now.operation.now.call last self.now.reply.now }
         ensures grown { IsGrown nodes.old nodes.new }
-        ensures made { OnOk result ((n : MemberOf O.State × PathOf) × (out.new.items ≡ out.old.items ++ n ∷ []) × IsAskedBehind (O.step self.now.object.now) (O.observing self.now.object.now) self.now.operation.now self.now.reply.now self.now.pending.now nodes.new now member.now placed n × (n.0.state ≡ config.0) × (n.0.placed ≡ config.1)) }
+        ensures made { OnOk result ((n : MemberOf O.State × PathOf) × (out.new.items ≡ out.old.items ++ n ∷ []) × IsAskedBehind (O.step self.now.object.now) (O.observing self.now.object.now) self.now.operation.now self.now.reply.now self.now.pending.now nodes.new now update.entry.member.now update.entry.placed n × (n.0.state ≡ update.entry.config.0) × (n.0.placed ≡ update.entry.config.1)) }
         ensures tried { IsTriedAtMost (length self.now.pending.now) meter.old meter.new }
     {
-        let path = put_behind(member.path(), placed, now, nodes)?;
-        let path = self.path_in(alloc, path, path.round as usize, nodes)?;
-        let offers = self.offers_behind(
-            alloc,
+        let Update {
             member,
-            &mut scratch.steps,
-            meter,
-            &mut scratch.pool,
-        )?;
+            config,
+            placed,
+        } = update;
+        let path = put_behind(member.path(), placed, now, nodes)?;
+        let path = self.path_in(path, path.round as usize, nodes)?;
+        let offers = self.offers_behind(member, &mut scratch.steps, meter, &mut scratch.pool)?;
         push_member(
             out,
             Member {
@@ -309,38 +290,39 @@ impl<'a, O: SeqObject> Completion<'a, O> {
     /// update. The configuration is the one that the update leads to.
     fn ask_ahead(
         &self,
-        alloc: Global,
-        member: &Member<O::State>,
+        update: Update<O::State>,
         before: &Pending,
-        config: &Config<O::State>,
-        placed: Placed,
         out: &mut Vec<Member<O::State>>,
         nodes: &mut RoundNodes,
         meter: &mut Meter,
         scratch: &mut Scratch<O>,
     ) -> Result<(), OutOfMemory>
-        requires before { before.now ≡ early_of member.now.1.until self.now.pending.now }
+        requires before { before.now ≡ early_of update.member.now.1.until self.now.pending.now }
         requires observer { O.observing self.now.object.now self.now.operation.now.call ≡ true }
-        requires early { self.now.operation.now.at < member.now.1.until }
-        requires places { PlacesUpdate (O.step self.now.object.now) (O.observing self.now.object.now) before.now (member.now.0.state, member.now.0.placed) placed config.now }
-        requires gives { (last : O.State) × O.step self.now.object.now config.now.0 self.now.operation.now.call last self.now.reply.now }
+        requires early { self.now.operation.now.at < update.member.now.1.until }
+        requires places { PlacesUpdate (O.step self.now.object.now) (O.observing self.now.object.now) before.now (update.member.now.0.state, update.member.now.0.placed) update.placed update.config }
+        requires gives { (last : O.State) × O.step self.now.object.now update.config.0 self.now.operation.now.call last self.now.reply.now }
         ensures grown { IsGrown nodes.old nodes.new }
-        ensures made { OnOk result ((n : MemberOf O.State × PathOf) × (out.new.items ≡ out.old.items ++ n ∷ []) × ((now : ℕ) → IsAskedAhead (O.step self.now.object.now) (O.observing self.now.object.now) self.now.operation.now self.now.reply.now self.now.pending.now nodes.new now member.now placed config.now.0 n) × (n.0.placed ≡ config.now.1)) }
+        ensures made { OnOk result ((n : MemberOf O.State × PathOf) × (out.new.items ≡ out.old.items ++ n ∷ []) × ((now : ℕ) → IsAskedAhead (O.step self.now.object.now) (O.observing self.now.object.now) self.now.operation.now self.now.reply.now self.now.pending.now nodes.new now update.entry.member.now update.entry.placed update.entry.config.0 n) × (n.0.placed ≡ update.entry.config.1)) }
         ensures tried { IsTriedAtMost (length self.now.pending.now) meter.old meter.new }
     {
-        let from = member.path();
-        let path = put_ahead(from, placed, nodes)?;
-        let path = self.path_in(alloc, path, from.round as usize, nodes)?;
-        let offers = self.offers_with(
-            alloc,
+        let Update {
             member,
             config,
+            placed,
+        } = update;
+        let from = member.path();
+        let path = put_ahead(from, placed, nodes)?;
+        let path = self.path_in(path, from.round as usize, nodes)?;
+        let offers = self.offers_with(
+            member,
+            &config,
             before,
             &mut scratch.steps,
             meter,
             &mut scratch.pool,
         )?;
-        let config = self.with_state_of(alloc, member, config)?;
+        let config = self.with_state_of(member, &config)?;
         push_member(
             out,
             Member {
@@ -354,10 +336,7 @@ impl<'a, O: SeqObject> Completion<'a, O> {
     /// The same for an update behind all, if it gives the observer its reply.
     fn ask_one_behind(
         &self,
-        alloc: Global,
-        member: &Member<O::State>,
-        config: Config<O::State>,
-        placed: Placed,
+        update: Update<O::State>,
         now: u32,
         out: &mut Vec<Member<O::State>>,
         nodes: &mut RoundNodes,
@@ -365,25 +344,22 @@ impl<'a, O: SeqObject> Completion<'a, O> {
         scratch: &mut Scratch<O>,
     ) -> Result<(), OutOfMemory>
         requires observer { O.observing self.now.object.now self.now.operation.now.call ≡ true }
-        requires places { PlacesUpdate (O.step self.now.object.now) (O.observing self.now.object.now) self.now.pending.now (member.now.0.state, member.now.0.placed) placed config }
+        requires places { PlacesUpdate (O.step self.now.object.now) (O.observing self.now.object.now) self.now.pending.now (update.member.now.0.state, update.member.now.0.placed) update.placed update.config }
         ensures grown { IsGrown nodes.old nodes.new }
-        ensures asked { OnOk result (((n : MemberOf O.State × PathOf) × (out.new.items ≡ out.old.items ++ n ∷ []) × IsAskedBehind (O.step self.now.object.now) (O.observing self.now.object.now) self.now.operation.now self.now.reply.now self.now.pending.now nodes.new now member.now placed n × (n.0.state ≡ config.0) × (n.0.placed ≡ config.1))
-            ⊎ ((((last : O.State) × O.step self.now.object.now config.0 self.now.operation.now.call last self.now.reply.now) → ⊥) × (out.new.items ≡ out.old.items) × (nodes.new ≡ nodes.old))) }
+        ensures asked { OnOk result (((n : MemberOf O.State × PathOf) × (out.new.items ≡ out.old.items ++ n ∷ []) × IsAskedBehind (O.step self.now.object.now) (O.observing self.now.object.now) self.now.operation.now self.now.reply.now self.now.pending.now nodes.new now update.entry.member.now update.entry.placed n × (n.0.state ≡ update.entry.config.0) × (n.0.placed ≡ update.entry.config.1))
+            ⊎ ((((last : O.State) × O.step self.now.object.now update.entry.config.0 self.now.operation.now.call last self.now.reply.now) → ⊥) × (out.new.items ≡ out.old.items) × (nodes.new ≡ nodes.old))) }
         ensures tried { IsTriedAtMost (length self.now.pending.now + 1) meter.old meter.new }
     {
-        let gives = self.gives(alloc, config.state(), &mut scratch.steps, meter)?;
+        let gives = self.gives(update.config.state(), &mut scratch.steps, meter)?;
         if !gives {
             return Ok(());
         }
-        self.ask_behind(
-            alloc, member, config, placed, now, out, nodes, meter, scratch,
-        )
+        self.ask_behind(update, now, out, nodes, meter, scratch)
     }
 
     /// The same for each update behind all that gives the observer its reply.
     fn ask_all_behind(
         &self,
-        alloc: Global,
         member: &Member<O::State>,
         now: u32,
         out: &mut Vec<Member<O::State>>,
@@ -401,7 +377,6 @@ impl<'a, O: SeqObject> Completion<'a, O> {
     {
         let mut next = scratch.next();
         self.updates(
-            alloc,
             self.pending,
             member.config(),
             &mut next,
@@ -410,9 +385,12 @@ impl<'a, O: SeqObject> Completion<'a, O> {
             &mut scratch.pool,
         )?;
         while let Some((config, placed)) = next.pop() {
-            self.ask_one_behind(
-                alloc, member, config, placed, now, out, nodes, meter, scratch,
-            )?;
+            let update = Update {
+                member,
+                config,
+                placed,
+            };
+            self.ask_one_behind(update, now, out, nodes, meter, scratch)?;
         }
         scratch.keep_next(next);
         Ok(())
@@ -421,38 +399,32 @@ impl<'a, O: SeqObject> Completion<'a, O> {
     /// The same for an early update ahead of the last one, if it gives the observer its reply.
     fn ask_one_ahead(
         &self,
-        alloc: Global,
-        member: &Member<O::State>,
+        update: Update<O::State>,
         before: &Pending,
-        config: Config<O::State>,
-        placed: Placed,
         out: &mut Vec<Member<O::State>>,
         nodes: &mut RoundNodes,
         meter: &mut Meter,
         scratch: &mut Scratch<O>,
     ) -> Result<(), OutOfMemory>
-        requires before { before.now ≡ early_of member.now.1.until self.now.pending.now }
+        requires before { before.now ≡ early_of update.member.now.1.until self.now.pending.now }
         requires observer { O.observing self.now.object.now self.now.operation.now.call ≡ true }
-        requires early { self.now.operation.now.at < member.now.1.until }
-        requires places { PlacesUpdate (O.step self.now.object.now) (O.observing self.now.object.now) before.now (member.now.0.state, member.now.0.placed) placed config }
+        requires early { self.now.operation.now.at < update.member.now.1.until }
+        requires places { PlacesUpdate (O.step self.now.object.now) (O.observing self.now.object.now) before.now (update.member.now.0.state, update.member.now.0.placed) update.placed update.config }
         ensures grown { IsGrown nodes.old nodes.new }
-        ensures asked { OnOk result (((n : MemberOf O.State × PathOf) × (out.new.items ≡ out.old.items ++ n ∷ []) × ((now : ℕ) → IsAskedAhead (O.step self.now.object.now) (O.observing self.now.object.now) self.now.operation.now self.now.reply.now self.now.pending.now nodes.new now member.now placed config.0 n) × (n.0.placed ≡ config.1))
-            ⊎ ((((last : O.State) × O.step self.now.object.now config.0 self.now.operation.now.call last self.now.reply.now) → ⊥) × (out.new.items ≡ out.old.items) × (nodes.new ≡ nodes.old))) }
+        ensures asked { OnOk result (((n : MemberOf O.State × PathOf) × (out.new.items ≡ out.old.items ++ n ∷ []) × ((now : ℕ) → IsAskedAhead (O.step self.now.object.now) (O.observing self.now.object.now) self.now.operation.now self.now.reply.now self.now.pending.now nodes.new now update.entry.member.now update.entry.placed update.entry.config.0 n) × (n.0.placed ≡ update.entry.config.1))
+            ⊎ ((((last : O.State) × O.step self.now.object.now update.entry.config.0 self.now.operation.now.call last self.now.reply.now) → ⊥) × (out.new.items ≡ out.old.items) × (nodes.new ≡ nodes.old))) }
         ensures tried { IsTriedAtMost (length self.now.pending.now + 1) meter.old meter.new }
     {
-        let gives = self.gives(alloc, config.state(), &mut scratch.steps, meter)?;
+        let gives = self.gives(update.config.state(), &mut scratch.steps, meter)?;
         if !gives {
             return Ok(());
         }
-        self.ask_ahead(
-            alloc, member, before, &config, placed, out, nodes, meter, scratch,
-        )
+        self.ask_ahead(update, before, out, nodes, meter, scratch)
     }
 
     /// And for each early one ahead.
     fn ask_all_ahead(
         &self,
-        alloc: Global,
         member: &Member<O::State>,
         out: &mut Vec<Member<O::State>>,
         nodes: &mut RoundNodes,
@@ -474,7 +446,7 @@ impl<'a, O: SeqObject> Completion<'a, O> {
             scratch.early(),
         )?;
         let before = Pending::of(&operations);
-        self.ask_all_beside(alloc, member, &before, out, nodes, meter, scratch)?;
+        self.ask_all_beside(member, &before, out, nodes, meter, scratch)?;
         scratch.keep_early(operations);
         Ok(())
     }
@@ -482,7 +454,6 @@ impl<'a, O: SeqObject> Completion<'a, O> {
     /// The same, given the early operations.
     fn ask_all_beside(
         &self,
-        alloc: Global,
         member: &Member<O::State>,
         before: &Pending,
         out: &mut Vec<Member<O::State>>,
@@ -502,7 +473,6 @@ impl<'a, O: SeqObject> Completion<'a, O> {
     {
         let mut next = scratch.next();
         self.updates(
-            alloc,
             before,
             member.config(),
             &mut next,
@@ -511,9 +481,12 @@ impl<'a, O: SeqObject> Completion<'a, O> {
             &mut scratch.pool,
         )?;
         while let Some((config, placed)) = next.pop() {
-            self.ask_one_ahead(
-                alloc, member, before, config, placed, out, nodes, meter, scratch,
-            )?;
+            let update = Update {
+                member,
+                config,
+                placed,
+            };
+            self.ask_one_ahead(update, before, out, nodes, meter, scratch)?;
         }
         scratch.keep_next(next);
         Ok(())
@@ -522,7 +495,6 @@ impl<'a, O: SeqObject> Completion<'a, O> {
     /// Puts in `out` what the observer makes of the member with its reply.
     fn return_observer(
         &self,
-        alloc: Global,
         member: &Member<O::State>,
         now: u32,
         out: &mut Vec<Member<O::State>>,
@@ -537,19 +509,18 @@ impl<'a, O: SeqObject> Completion<'a, O> {
         ensures asked { OnOk result (((n : MemberOf O.State × PathOf) × Contains out.new.items n × IsAnsweredStill (O.step self.now.object.now) (O.observing self.now.object.now) self.now.operation.now self.now.reply.now self.now.pending.now nodes.new now member.now n) ⊎ AreAsked (O.step self.now.object.now) (O.observing self.now.object.now) self.now.operation.now self.now.reply.now self.now.pending.now nodes.new now member.now out.new.items) }
         ensures tried { IsTriedAtMost (2 * (length self.now.pending.now * (length self.now.pending.now + 2)) + 1) meter.old meter.new }
     {
-        if let Some(round) = self.round_given(alloc, member, &mut scratch.steps, meter)? {
-            return self.push_answered(alloc, member, round, out, nodes, &mut scratch.pool);
+        if let Some(round) = self.round_given(member, &mut scratch.steps, meter)? {
+            return self.push_answered(member, round, out, nodes, &mut scratch.pool);
         }
         if is_early(self.operation, member.path().until) {
-            self.ask_all_ahead(alloc, member, out, nodes, meter, scratch)?;
+            self.ask_all_ahead(member, out, nodes, meter, scratch)?;
         }
-        self.ask_all_behind(alloc, member, now, out, nodes, meter, scratch)
+        self.ask_all_behind(member, now, out, nodes, meter, scratch)
     }
 
     /// Puts in `out` what the completion makes of the member, in which the operation has no place.
     pub fn return_from(
         &self,
-        alloc: Global,
         member: &Member<O::State>,
         now: u32,
         out: &mut Vec<Member<O::State>>,
@@ -564,8 +535,8 @@ impl<'a, O: SeqObject> Completion<'a, O> {
         ensures tried { IsTriedAtMost (2 * ((length self.now.pending.now + 1) * (length self.now.pending.now + 1))) meter.old meter.new }
     {
         if self.object.observes(&self.operation.call) {
-            return self.return_observer(alloc, member, now, out, nodes, meter, scratch);
+            return self.return_observer(member, now, out, nodes, meter, scratch);
         }
-        self.return_update(alloc, member, now, out, nodes, meter, scratch)
+        self.return_update(member, now, out, nodes, meter, scratch)
     }
 }

@@ -15,7 +15,7 @@ use crate::seen::{Seen, is_found};
 use lin_events::{Meter, OutOfMemory, Reply};
 use lin_frontier::{Config, Open, Pending, place_if_absent};
 use lin_members::{
-    Member, OfferList, Offers, Path, Pool, RoundNodes, advanced, answered, may_be_watched,
+    Member, OfferList, Offers, Path, Pool, RoundNodes, Shown, advanced, copied, may_be_watched,
     placed_at, push_member, waits_for_like,
 };
 use lin_objects::SeqObject;
@@ -28,9 +28,27 @@ use std::rc::Rc;
 #[derive(Drop)]
 pub struct Completion<'a, O: SeqObject> {
     pub object: &'a O,
+    pub alloc: Global,
     pub operation: &'a Open,
     pub reply: &'a Reply,
     pub pending: &'a Pending<'a>,
+}
+
+/// What placing an update makes of a member: the configuration, and the operation with its reply. The path is that of the member, the
+/// offers are those behind it.
+#[derive(Drop)]
+struct Reached<'a, S: Eq + Hash> {
+    path: Path,
+    config: Config<S>,
+    placed: Placed,
+    offers: &'a Offers,
+}
+
+/// The path of a member, and what is on offer behind it where more can come of it.
+#[derive(Drop)]
+struct Onward {
+    path: Path,
+    offers: Option<Offers>,
 }
 
 /// Puts the value last, if it is wanted.
@@ -70,7 +88,6 @@ impl<'a, O: SeqObject> Completion<'a, O> {
     #[inline(always)]
     pub(crate) fn offers_behind(
         &self,
-        alloc: Global,
         member: &Member<O::State>,
         steps: &mut Vec<(O::State, Reply)>,
         meter: &mut Meter,
@@ -80,7 +97,7 @@ impl<'a, O: SeqObject> Completion<'a, O> {
         ensures tried { IsTriedAtMost (length self.now.pending.now) meter.old meter.new }
     {
         if may_be_watched(self.object, self.pending) {
-            return self.offers_to_watchers(alloc, member, steps, meter, pool);
+            return self.offers_to_watchers(member, steps, meter, pool);
         }
         Ok(Offers::none())
     }
@@ -89,7 +106,6 @@ impl<'a, O: SeqObject> Completion<'a, O> {
     #[inline(never)]
     fn offers_to_watchers(
         &self,
-        alloc: Global,
         member: &Member<O::State>,
         steps: &mut Vec<(O::State, Reply)>,
         meter: &mut Meter,
@@ -98,22 +114,13 @@ impl<'a, O: SeqObject> Completion<'a, O> {
         ensures offered { IfOk result (AreBehind (O.step self.now.object.now) (O.observing self.now.object.now) self.now.pending.now member.now) }
         ensures tried { IsTriedAtMost (length self.now.pending.now) meter.old meter.new }
     {
-        self.offers_with(
-            alloc,
-            member,
-            member.config(),
-            self.pending,
-            steps,
-            meter,
-            pool,
-        )
+        self.offers_with(member, member.config(), self.pending, steps, meter, pool)
     }
 
     /// What is on offer once these operations, of those that are open, may have seen the configuration from the member's last round.
     #[inline(always)]
     pub(crate) fn offers_with(
         &self,
-        alloc: Global,
         member: &Member<O::State>,
         config: &Config<O::State>,
         operations: &Pending,
@@ -125,28 +132,26 @@ impl<'a, O: SeqObject> Completion<'a, O> {
             (watched (O.observing self.now.object.now) self.now.pending.now member.now.0.offers)) }
         ensures tried { IsTriedAtMost (length operations.now) meter.old meter.new }
     {
-        let mut shared = OfferList::emptied(alloc, &mut pool.offers)?;
+        let mut shared = OfferList::emptied(self.alloc, &mut pool.offers)?;
         // It has one owner, so it can be written.
         let Some(list) = Rc::get_mut(&mut shared) else {
             return Err(OutOfMemory);
         };
-        list.push_watched(self.object, alloc, self.pending, member.offers())?;
-        list.offer_all(
-            self.object,
-            alloc,
+        list.push_watched(self.object, self.alloc, self.pending, member.offers())?;
+        let shown = Shown {
+            object: self.object,
+            alloc: self.alloc,
             config,
-            operations,
-            member.path().round as usize,
-            steps,
-            meter,
-        )?;
+            pending: operations,
+            round: member.path().round as usize,
+        };
+        list.offer_all(&shown, steps, meter)?;
         Ok(Offers::of(shared, &mut pool.offers))
     }
 
     /// Places the operation in each way that the object has, unless it is treated as an observer.
     fn place_update(
         &self,
-        alloc: Global,
         config: &Config<O::State>,
         operation: &Open,
         out: &mut Vec<(Config<O::State>, Placed)>,
@@ -163,7 +168,7 @@ impl<'a, O: SeqObject> Completion<'a, O> {
         }
         place_if_absent(
             self.object,
-            alloc,
+            self.alloc,
             config,
             operation,
             out,
@@ -178,7 +183,6 @@ impl<'a, O: SeqObject> Completion<'a, O> {
     /// the same call are placed in the order of their invocations, since nothing that follows tells them apart.
     pub(crate) fn updates(
         &self,
-        alloc: Global,
         pending: &Pending,
         config: &Config<O::State>,
         out: &mut Vec<(Config<O::State>, Placed)>,
@@ -195,7 +199,7 @@ impl<'a, O: SeqObject> Completion<'a, O> {
         let mut at = 0;
         while let Some(operation) = operations.get(at) {
             if !waits_for_like(&operations[..at], config.placed(), operation) {
-                self.place_update(alloc, config, operation, out, steps, meter, pool)?;
+                self.place_update(config, operation, out, steps, meter, pool)?;
             }
             at += 1;
         }
@@ -222,11 +226,7 @@ impl<'a, O: SeqObject> Completion<'a, O> {
     #[inline(always)]
     fn visit_one(
         &self,
-        alloc: Global,
-        path: Path,
-        config: Config<O::State>,
-        placed: Placed,
-        offers: &Offers,
+        reached: Reached<O::State>,
         starts: &[&Member<O::State>],
         seen: &mut Seen,
         visited: &mut Vec<Member<O::State>>,
@@ -234,46 +234,26 @@ impl<'a, O: SeqObject> Completion<'a, O> {
         pool: &mut Pool,
     ) -> Result<(), OutOfMemory>
         ensures grown { IsGrown nodes.old nodes.new }
-        ensures taken { OnOk result (IsTakenIn (O.observing self.now.object.now) self.now.pending.now config placed offers.now path nodes.new
+        ensures taken { OnOk result (IsTakenIn (O.observing self.now.object.now) self.now.pending.now reached.entry.config reached.entry.placed reached.entry.offers.now reached.entry.path nodes.new
             (map (λ m. m.now) starts.now ++ visited.old.items) (map (λ m. m.now) starts.now ++ visited.new.items)) }
     {
+        let Reached {
+            path,
+            config,
+            placed,
+            offers,
+        } = reached;
         if self.is_seen(&config, offers, starts, seen, visited) {
             config.give_up(&mut pool.pairs);
             return Ok(());
         }
-        push_next(alloc, config, offers, path, placed, visited, nodes)?;
-        seen.catch_up(alloc, self.pending, visited)
-    }
-
-    /// Takes in what neither a start nor a visited member dominates.
-    fn visit(
-        &self,
-        alloc: Global,
-        path: Path,
-        next: &mut Vec<(Config<O::State>, Placed)>,
-        offers: &Offers,
-        starts: &[&Member<O::State>],
-        seen: &mut Seen,
-        visited: &mut Vec<Member<O::State>>,
-        nodes: &mut RoundNodes,
-        pool: &mut Pool,
-    ) -> Result<(), OutOfMemory>
-        ensures grown { IsGrown nodes.old nodes.new }
-        ensures visited { OnOk result (IsVisiting (O.observing self.now.object.now) self.now.pending.now next.old.items offers.now path nodes.new
-            (map (λ m. m.now) starts.now ++ visited.old.items) (map (λ m. m.now) starts.now ++ visited.new.items)) }
-    {
-        while let Some((config, placed)) = next.pop() {
-            self.visit_one(
-                alloc, path, config, placed, offers, starts, seen, visited, nodes, pool,
-            )?;
-        }
-        Ok(())
+        push_next(self.alloc, config, offers, path, placed, visited, nodes)?;
+        seen.catch_up(self.alloc, self.pending, visited)
     }
 
     /// Whether the operation can give the reply in this state.
     pub(crate) fn gives(
         &self,
-        alloc: Global,
         state: &O::State,
         steps: &mut Vec<(O::State, Reply)>,
         meter: &mut Meter,
@@ -283,7 +263,7 @@ impl<'a, O: SeqObject> Completion<'a, O> {
     {
         meter.tick_try();
         self.object
-            .outcomes(alloc, state, &self.operation.call, steps)?;
+            .outcomes(self.alloc, state, &self.operation.call, steps)?;
         while let Some((_, reply)) = steps.pop() {
             if reply == *self.reply {
                 return Ok(true);
@@ -295,7 +275,6 @@ impl<'a, O: SeqObject> Completion<'a, O> {
     /// A round in which the operation can take the reply, if there is one.
     pub(crate) fn round_given(
         &self,
-        alloc: Global,
         member: &Member<O::State>,
         steps: &mut Vec<(O::State, Reply)>,
         meter: &mut Meter,
@@ -307,7 +286,7 @@ impl<'a, O: SeqObject> Completion<'a, O> {
         if let Some(round) = member.offers().round_of(self.operation.process, self.reply) {
             return Ok(Some(round));
         }
-        if self.gives(alloc, member.state(), steps, meter)? {
+        if self.gives(member.state(), steps, meter)? {
             return Ok(Some(member.path().round as usize));
         }
         Ok(None)
@@ -317,7 +296,6 @@ impl<'a, O: SeqObject> Completion<'a, O> {
     #[inline(always)]
     pub(crate) fn push_answered(
         &self,
-        alloc: Global,
         member: &Member<O::State>,
         round: usize,
         out: &mut Vec<Member<O::State>>,
@@ -329,25 +307,15 @@ impl<'a, O: SeqObject> Completion<'a, O> {
         ensures grown { IsGrown nodes.old nodes.new }
         ensures made { OnOk result ((n : MemberOf O.State × PathOf) × (out.new.items ≡ out.old.items ++ n ∷ []) × IsAnswered (O.step self.now.object.now) (O.observing self.now.object.now) self.now.operation.now self.now.reply.now self.now.pending.now nodes.new member.now n × (n.1.until ≡ member.now.1.until)) }
     {
-        let placed = placed_at(alloc, self.operation.at, self.reply)?;
-        let next = answered(
-            self.object,
-            alloc,
-            self.pending,
-            member,
-            round,
-            placed,
-            nodes,
-            pool,
-        )?;
-        push_member(out, next)
+        let path = self.path_in(member.path(), round, nodes)?;
+        let same = copied(self.object, self.alloc, self.pending, member, pool)?;
+        push_member(out, Member { path, ..same })
     }
 
     /// Puts in `out` what the operation, an observer, makes of the member with its reply; or, where it can't take it,
     /// answers what is on offer behind the member.
     fn observe(
         &self,
-        alloc: Global,
         member: &Member<O::State>,
         out: &mut Vec<Member<O::State>>,
         nodes: &mut RoundNodes,
@@ -363,11 +331,11 @@ impl<'a, O: SeqObject> Completion<'a, O> {
         ensures offered { IfOk result (λ offers. IfSome offers (AreBehind (O.step self.now.object.now) (O.observing self.now.object.now) self.now.pending.now member.now)) }
         ensures tried { IsTriedAtMost (length self.now.pending.now + 1) meter.old meter.new }
     {
-        if let Some(round) = self.round_given(alloc, member, steps, meter)? {
-            self.push_answered(alloc, member, round, out, nodes, pool)?;
+        if let Some(round) = self.round_given(member, steps, meter)? {
+            self.push_answered(member, round, out, nodes, pool)?;
             return Ok(None);
         }
-        let offers = self.offers_behind(alloc, member, steps, meter, pool)?;
+        let offers = self.offers_behind(member, steps, meter, pool)?;
         Ok(Some(offers))
     }
 
@@ -375,7 +343,6 @@ impl<'a, O: SeqObject> Completion<'a, O> {
     #[inline(always)]
     fn push_update(
         &self,
-        alloc: Global,
         member: &Member<O::State>,
         config: Config<O::State>,
         offers: &Offers,
@@ -385,15 +352,22 @@ impl<'a, O: SeqObject> Completion<'a, O> {
         ensures grown { IsGrown nodes.old nodes.new }
         ensures put { OnOk result (IsPutNext config (record { at = self.now.operation.now.at; reply = self.now.reply.now }) offers.now member.now.1 nodes.new out.old.items out.new.items) }
     {
-        let placed = placed_at(alloc, self.operation.at, self.reply)?;
-        push_next(alloc, config, offers, member.path(), placed, out, nodes)
+        let placed = placed_at(self.alloc, self.operation.at, self.reply)?;
+        push_next(
+            self.alloc,
+            config,
+            offers,
+            member.path(),
+            placed,
+            out,
+            nodes,
+        )
     }
 
     /// The same from the state that the update leads to, unless one that was found dominates that member.
     #[inline(always)]
     fn put_state(
         &self,
-        alloc: Global,
         member: &Member<O::State>,
         state: O::State,
         offers: &Offers,
@@ -407,14 +381,13 @@ impl<'a, O: SeqObject> Completion<'a, O> {
         if is_found(self.object, self.pending, out, &config, offers) {
             return Ok(());
         }
-        self.push_update(alloc, member, config, offers, out, nodes)
+        self.push_update(member, config, offers, out, nodes)
     }
 
     /// The same if the step to the state has the operation's reply.
     #[inline(always)]
     fn put_update(
         &self,
-        alloc: Global,
         member: &Member<O::State>,
         state: O::State,
         reply: Reply,
@@ -428,14 +401,13 @@ impl<'a, O: SeqObject> Completion<'a, O> {
         if reply != *self.reply {
             return Ok(());
         }
-        self.put_state(alloc, member, state, offers, out, nodes)
+        self.put_state(member, state, offers, out, nodes)
     }
 
     /// Puts in `out` what the operation, an update, makes of the member with its reply, and answers what is on offer
     /// behind the member.
     fn update(
         &self,
-        alloc: Global,
         member: &Member<O::State>,
         out: &mut Vec<Member<O::State>>,
         nodes: &mut RoundNodes,
@@ -450,12 +422,12 @@ impl<'a, O: SeqObject> Completion<'a, O> {
         ensures offered { IfOk result (AreBehind (O.step self.now.object.now) (O.observing self.now.object.now) self.now.pending.now member.now) }
         ensures tried { IsTriedAtMost (length self.now.pending.now + 1) meter.old meter.new }
     {
-        let offers = self.offers_behind(alloc, member, steps, meter, pool)?;
+        let offers = self.offers_behind(member, steps, meter, pool)?;
         meter.tick_try();
         self.object
-            .outcomes(alloc, member.state(), &self.operation.call, steps)?;
+            .outcomes(self.alloc, member.state(), &self.operation.call, steps)?;
         while let Some((state, reply)) = steps.pop() {
-            self.put_update(alloc, member, state, reply, &offers, out, nodes)?;
+            self.put_update(member, state, reply, &offers, out, nodes)?;
         }
         Ok(offers)
     }
@@ -464,7 +436,6 @@ impl<'a, O: SeqObject> Completion<'a, O> {
     /// what is on offer behind it.
     fn complete(
         &self,
-        alloc: Global,
         member: &Member<O::State>,
         out: &mut Vec<Member<O::State>>,
         nodes: &mut RoundNodes,
@@ -480,9 +451,9 @@ impl<'a, O: SeqObject> Completion<'a, O> {
         ensures tried { IsTriedAtMost (length self.now.pending.now + 1) meter.old meter.new }
     {
         if self.object.observes(&self.operation.call) {
-            return self.observe(alloc, member, out, nodes, steps, meter, pool);
+            return self.observe(member, out, nodes, steps, meter, pool);
         }
-        let offers = self.update(alloc, member, out, nodes, steps, meter, pool)?;
+        let offers = self.update(member, out, nodes, steps, meter, pool)?;
         Ok(Some(offers))
     }
 
@@ -490,7 +461,6 @@ impl<'a, O: SeqObject> Completion<'a, O> {
     /// which is written over, what placing an update makes of it, and answers what is on offer behind it.
     fn work_off(
         &self,
-        alloc: Global,
         member: &Member<O::State>,
         out: &mut Vec<Member<O::State>>,
         next: &mut Vec<(Config<O::State>, Placed)>,
@@ -507,29 +477,19 @@ impl<'a, O: SeqObject> Completion<'a, O> {
         ensures placed { IfOk result (λ found. IfSome found (λ _. AreUpdates (O.step self.now.object.now) (O.observing self.now.object.now) self.now.pending.now (member.now.0.state, member.now.0.placed) next.new.items)) }
         ensures tried { IsTriedAtMost (2 * length self.now.pending.now + 1) meter.old meter.new }
     {
-        match self.complete(alloc, member, out, nodes, steps, meter, pool)? {
+        match self.complete(member, out, nodes, steps, meter, pool)? {
             Some(offers) => {
-                self.updates(
-                    alloc,
-                    self.pending,
-                    member.config(),
-                    next,
-                    steps,
-                    meter,
-                    pool,
-                )?;
+                self.updates(self.pending, member.config(), next, steps, meter, pool)?;
                 Ok(Some(offers))
             }
             None => Ok(None),
         }
     }
 
-    /// Takes in what was found, if anything was.
+    /// Where more can come of the member, takes in what neither a start nor a visited member dominates.
     fn visit_found(
         &self,
-        alloc: Global,
-        path: Path,
-        found: Option<Offers>,
+        onward: Onward,
         next: &mut Vec<(Config<O::State>, Placed)>,
         starts: &[&Member<O::State>],
         seen: &mut Seen,
@@ -538,16 +498,24 @@ impl<'a, O: SeqObject> Completion<'a, O> {
         pool: &mut Pool,
     ) -> Result<(), OutOfMemory>
         ensures grown { IsGrown nodes.old nodes.new }
-        ensures none { OnOk result (IfNone found ((visited.new.items ≡ visited.old.items) × (nodes.new ≡ nodes.old))) }
-        ensures some { OnOk result (IfSome found (λ offers. IsVisiting (O.observing self.now.object.now) self.now.pending.now next.old.items offers path nodes.new
+        ensures none { OnOk result (IfNone onward.offers ((visited.new.items ≡ visited.old.items) × (nodes.new ≡ nodes.old))) }
+        ensures some { OnOk result (IfSome onward.offers (λ offers. IsVisiting (O.observing self.now.object.now) self.now.pending.now next.old.items offers onward.path nodes.new
             (map (λ m. m.now) starts.now ++ visited.old.items) (map (λ m. m.now) starts.now ++ visited.new.items))) }
     {
-        if let Some(offers) = found {
-            self.visit(
-                alloc, path, next, &offers, starts, seen, visited, nodes, pool,
-            )?;
-            offers.give_up(&mut pool.offers);
+        let Onward { path, offers } = onward;
+        let Some(offers) = offers else {
+            return Ok(());
+        };
+        while let Some((config, placed)) = next.pop() {
+            let reached = Reached {
+                path,
+                config,
+                placed,
+                offers: &offers,
+            };
+            self.visit_one(reached, starts, seen, visited, nodes, pool)?;
         }
+        offers.give_up(&mut pool.offers);
         Ok(())
     }
 
@@ -577,7 +545,6 @@ impl<'a, O: SeqObject> Completion<'a, O> {
     /// What the operation, an update, makes of the members with its reply, with no other update placed ahead of it.
     fn at_once(
         &self,
-        alloc: Global,
         starts: &[&Member<O::State>],
         found: Vec<Member<O::State>>,
         nodes: &mut RoundNodes,
@@ -593,7 +560,7 @@ impl<'a, O: SeqObject> Completion<'a, O> {
     {
         let mut out = found;
         for start in starts {
-            self.update(alloc, start, &mut out, nodes, steps, meter, pool)?;
+            self.update(start, &mut out, nodes, steps, meter, pool)?;
         }
         Ok(out)
     }
@@ -619,7 +586,6 @@ impl<'a, O: SeqObject> Completion<'a, O> {
         let found = scratch.found(room)?;
         if self.goes_ahead() {
             let made = self.at_once(
-                alloc,
                 starts,
                 found,
                 nodes,
@@ -670,10 +636,12 @@ impl<'a, O: SeqObject> Completion<'a, O> {
         let mut out = found;
         for start in starts {
             let path = start.path();
-            let found = self.work_off(alloc, start, &mut out, next, nodes, steps, meter, pool)?;
-            self.visit_found(
-                alloc, path, found, next, starts, &mut seen, visited, nodes, pool,
-            )?;
+            let found = self.work_off(start, &mut out, next, nodes, steps, meter, pool)?;
+            let onward = Onward {
+                path,
+                offers: found,
+            };
+            self.visit_found(onward, next, starts, &mut seen, visited, nodes, pool)?;
         }
         let mut tried = starts.len();
         let mut at = 0;
@@ -682,10 +650,12 @@ impl<'a, O: SeqObject> Completion<'a, O> {
                 return Ok(None);
             }
             let path = member.path();
-            let found = self.work_off(alloc, member, &mut out, next, nodes, steps, meter, pool)?;
-            self.visit_found(
-                alloc, path, found, next, starts, &mut seen, visited, nodes, pool,
-            )?;
+            let found = self.work_off(member, &mut out, next, nodes, steps, meter, pool)?;
+            let onward = Onward {
+                path,
+                offers: found,
+            };
+            self.visit_found(onward, next, starts, &mut seen, visited, nodes, pool)?;
             tried += 1;
             at += 1;
         }

@@ -25,7 +25,7 @@ use lin_events::{
     Body, Event, Meter, OutOfMemory, Reply, ends_are_unique, well_formed_is_alternating,
 };
 use lin_frontier::{
-    Open, Pending, append_operations, is_absent, is_placed, open_of, take_in,
+    Arrival, Open, Pending, append_operations, is_absent, is_placed, open_of, take_in,
 };
 use lin_members::{
     Member, Pool, RoundNodes, copied, dominated_can_go, members_after_events, members_after_ok,
@@ -159,17 +159,16 @@ fn push_taken_out<O: SeqObject>(
     alloc: Global,
     pending: &Pending,
     member: &Member<O::State>,
-    process: u64,
-    reply: &Reply,
+    ended: (u64, &Reply),
     out: &mut Vec<Member<O::State>>,
     pool: &mut Pool,
 ) -> Result<(), OutOfMemory>
-    ensures { OnOk result (IsMadeOne (Contains member.now.0.placed (process, reply.now)) (rest_of (O.observing object.now) pending.now process member.now) out.old.items out.new.items) }
+    ensures { OnOk result (IsMadeOne (Contains member.now.0.placed (ended.entry.0, ended.entry.1.now)) (rest_of (O.observing object.now) pending.now ended.entry.0 member.now) out.old.items out.new.items) }
 {
-    if !is_placed(member.placed(), process, reply) {
+    if !is_placed(member.placed(), ended.0, ended.1) {
         return Ok(());
     }
-    let rest = taken_out(object, alloc, pending, member, process, pool)?;
+    let rest = taken_out(object, alloc, pending, member, ended.0, pool)?;
     push_member(out, rest)?;
     Ok(())
 }
@@ -180,16 +179,15 @@ pub(crate) fn push_all_taken_out<O: SeqObject>(
     alloc: Global,
     pending: &Pending,
     members: &[Member<O::State>],
-    process: u64,
-    reply: &Reply,
+    ended: (u64, &Reply),
     out: &mut Vec<Member<O::State>>,
     pool: &mut Pool,
 ) -> Result<(), OutOfMemory>
-    ensures { OnOk result ((made : List (MemberOf O.State × PathOf)) × IsMade (λ m. Contains m.0.placed (process, reply.now)) (rest_of (O.observing object.now) pending.now process) members.now made
+    ensures { OnOk result ((made : List (MemberOf O.State × PathOf)) × IsMade (λ m. Contains m.0.placed (ended.entry.0, ended.entry.1.now)) (rest_of (O.observing object.now) pending.now ended.entry.0) members.now made
         × (out.new.items ≡ out.old.items ++ made)) }
 {
     for member in members {
-        push_taken_out(object, alloc, pending, member, process, reply, out, pool)?;
+        push_taken_out(object, alloc, pending, member, ended, out, pool)?;
     }
     Ok(())
 }
@@ -197,7 +195,6 @@ pub(crate) fn push_all_taken_out<O: SeqObject>(
 /// The members after the operation completed with the reply, or `None` where more than the limit come up.
 fn after_ok<O: SeqObject>(
     completion: &Completion<O>,
-    alloc: Global,
     members: &[Member<O::State>],
     limit: usize,
     nodes: &mut RoundNodes,
@@ -209,20 +206,27 @@ fn after_ok<O: SeqObject>(
     ensures tried { IsTriedAtMost (limit * (2 * length completion.now.pending.now + 1)) meter.old meter.new }
 {
     let process = completion.operation.process;
-    let starts = absent_ones(alloc, members, process)?;
+    let starts = absent_ones(completion.alloc, members, process)?;
     // What is found, and then the members that placed the operation.
     let room = members.len().saturating_add(3);
-    let Some(mut found) = completion.found_from(alloc, &starts, room, limit, nodes, meter, scratch)?
+    let Some(mut found) = completion.found_from(
+        completion.alloc,
+        &starts,
+        room,
+        limit,
+        nodes,
+        meter,
+        scratch,
+    )?
     else {
         return Ok(None);
     };
     push_all_taken_out(
         completion.object,
-        alloc,
+        completion.alloc,
         completion.pending,
         members,
-        process,
-        completion.reply,
+        (process, completion.reply),
         &mut found,
         &mut scratch.pool,
     )?;
@@ -232,7 +236,6 @@ fn after_ok<O: SeqObject>(
 /// Puts in `found` what the completion makes of the members in which its operation has no place.
 fn return_all<O: SeqObject>(
     completion: &Completion<O>,
-    alloc: Global,
     members: &[Member<O::State>],
     now: u32,
     found: &mut Vec<Member<O::State>>,
@@ -251,7 +254,7 @@ fn return_all<O: SeqObject>(
 {
     for member in members {
         if is_absent(member.placed(), completion.operation.process) {
-            completion.return_from(alloc, member, now, found, nodes, meter, scratch)?;
+            completion.return_from(member, now, found, nodes, meter, scratch)?;
         }
     }
     Ok(())
@@ -260,7 +263,6 @@ fn return_all<O: SeqObject>(
 /// The members after the operation of an object that is overwritten completed with the reply, at the position `now`.
 fn after_overwriting_ok<O: SeqObject>(
     completion: &Completion<O>,
-    alloc: Global,
     members: &[Member<O::State>],
     now: usize,
     nodes: &mut RoundNodes,
@@ -276,16 +278,13 @@ fn after_overwriting_ok<O: SeqObject>(
         return Err(OutOfMemory);
     };
     let mut found = scratch.found(members.len().saturating_add(3))?;
-    return_all(
-        completion, alloc, members, at, &mut found, nodes, meter, scratch,
-    )?;
+    return_all(completion, members, at, &mut found, nodes, meter, scratch)?;
     push_all_taken_out(
         completion.object,
-        alloc,
+        completion.alloc,
         completion.pending,
         members,
-        completion.operation.process,
-        completion.reply,
+        (completion.operation.process, completion.reply),
         &mut found,
         &mut scratch.pool,
     )?;
@@ -323,63 +322,65 @@ fn kept<O: SeqObject>(
 /// The members after the event, or `None` where a search comes to more than the limit. The operations that are pending
 /// are those that are open after it.
 fn next_members<O: SeqObject>(
-    object: &O,
-    alloc: Global,
+    arrival: &Arrival<O>,
     members: &[Member<O::State>],
-    before: &[Open],
     pending: &Pending,
-    at: usize,
-    event: &Event,
     alone: bool,
     limit: usize,
     nodes: &mut RoundNodes,
     meter: &mut Meter,
     scratch: &mut Scratch<O>,
 ) -> Result<Option<Vec<Member<O::State>>>, OutOfMemory>
-    requires { alone ≡ false → O.overwriting object.now ≡ true }
+    requires { alone ≡ false → O.overwriting arrival.now.object.now ≡ true }
     ensures grown { IsGrown nodes.old nodes.new }
-    ensures alone { IfOk result (λ found. IfSome found (λ out. alone ≡ true → CompletesOpen event.now before.now
-        → IsNextOf (O.step object.now) (O.observing object.now) event.now.process event.now.body before.now pending.now nodes.new members.now out.items)) }
-    ensures next { IfOk result (λ found. IfSome found (λ out. alone ≡ false → CompletesOpen event.now before.now
-        → IsNextWith (O.step object.now) (O.observing object.now) event.now.process event.now.body before.now pending.now nodes.new at members.now out.items)) }
-    ensures oks { IfOk result (λ found. IfNone found ((alone ≡ true) × (name : NameOf) × (reply : ReplyOf) × (event.now.body ≡ BodyOf.Ok name reply))) }
+    ensures alone { IfOk result (λ found. IfSome found (λ out. alone ≡ true → CompletesOpen arrival.now.event.now arrival.now.pending.now
+        → IsNextOf (O.step arrival.now.object.now) (O.observing arrival.now.object.now) arrival.now.event.now.process arrival.now.event.now.body arrival.now.pending.now pending.now nodes.new members.now out.items)) }
+    ensures next { IfOk result (λ found. IfSome found (λ out. alone ≡ false → CompletesOpen arrival.now.event.now arrival.now.pending.now
+        → IsNextWith (O.step arrival.now.object.now) (O.observing arrival.now.object.now) arrival.now.event.now.process arrival.now.event.now.body arrival.now.pending.now pending.now nodes.new arrival.now.at members.now out.items)) }
+    ensures oks { IfOk result (λ found. IfNone found ((alone ≡ true) × (name : NameOf) × (reply : ReplyOf) × (arrival.now.event.now.body ≡ BodyOf.Ok name reply))) }
     ensures tried { IsTriedAtMost (limit * (2 * length pending.now + 1) + length members.now * (2 * ((length pending.now + 1) * (length pending.now + 1)))) meter.old meter.new }
 {
-    match &event.body {
+    match &arrival.event.body {
         Body::Invoke(_) => Ok(Some(all_copied(
-            object,
-            alloc,
+            arrival.object,
+            arrival.alloc,
             pending,
             members,
             &mut scratch.pool,
         )?)),
-        Body::Info(_) => Ok(Some(all_copied(object, alloc, pending, members, &mut scratch.pool)?)),
-        Body::Fail(_) => Ok(Some(all_absent(
-            object,
-            alloc,
+        Body::Info(_) => Ok(Some(all_copied(
+            arrival.object,
+            arrival.alloc,
             pending,
             members,
-            event.process,
+            &mut scratch.pool,
+        )?)),
+        Body::Fail(_) => Ok(Some(all_absent(
+            arrival.object,
+            arrival.alloc,
+            pending,
+            members,
+            arrival.event.process,
             &mut scratch.pool,
         )?)),
         Body::Ok(_, reply) => {
-            let Some(operation) = open_of(before, event.process) else {
-                return Ok(Some(Vec::new(alloc)));
+            let Some(operation) = open_of(arrival.pending, arrival.event.process) else {
+                return Ok(Some(Vec::new(arrival.alloc)));
             };
             let completion = Completion {
-                object,
+                object: arrival.object,
+                alloc: arrival.alloc,
                 operation,
                 reply,
                 pending,
             };
             if alone {
-                return after_ok(&completion, alloc, members, limit, nodes, meter, scratch);
+                return after_ok(&completion, members, limit, nodes, meter, scratch);
             }
             let found = after_overwriting_ok(
                 &completion,
-                alloc,
                 members,
-                at,
+                arrival.at,
                 nodes,
                 meter,
                 scratch,
@@ -408,50 +409,46 @@ pub(crate) fn open_after(
 
 /// The members after the event, none of which another one is above; `None` where a search comes to more than the limit.
 fn advanced<O: SeqObject>(
-    object: &O,
-    alloc: Global,
+    arrival: &Arrival<O>,
     members: &[Member<O::State>],
-    before: &[Open],
-    at: usize,
-    event: &Event,
     alone: bool,
     limit: usize,
     nodes: &mut RoundNodes,
     meter: &mut Meter,
     scratch: &mut Scratch<O>,
 ) -> Result<Option<Vec<Member<O::State>>>, OutOfMemory>
-    requires fits { alone ≡ true → AreAlone (O.overwriting object.now) members.now }
-    requires goes { alone ≡ false → O.overwriting object.now ≡ true }
+    requires fits { alone ≡ true → AreAlone (O.overwriting arrival.now.object.now) members.now }
+    requires goes { alone ≡ false → O.overwriting arrival.now.object.now ≡ true }
     ensures grown { IsGrown nodes.old nodes.new }
-    ensures next { IfOk result (λ found. IfSome found (λ out. (functions : ℤ → NameOf → Bool) (h : List EventOf) → IsNextEvent functions h before.now at event.now
-        → IsCovering (O.starts object.now) (O.step object.now) (O.observing object.now) (O.overwriting object.now) h members.now nodes.old
-        → IsCompressed (O.starts object.now) (O.step object.now) (O.observing object.now) (O.overwriting object.now) (with_event h event.now) out.items nodes.new)) }
-    ensures oks { IfOk result (λ found. IfNone found ((alone ≡ true) × (name : NameOf) × (reply : ReplyOf) × (event.now.body ≡ BodyOf.Ok name reply))) }
-    ensures tried { IsTriedAtMost (limit * (2 * length before.now + 3) + length members.now * (2 * ((length before.now + 2) * (length before.now + 2)))) meter.old meter.new }
+    ensures next { IfOk result (λ found. IfSome found (λ out. (functions : ℤ → NameOf → Bool) (h : List EventOf) → IsNextEvent functions h arrival.now.pending.now arrival.now.at arrival.now.event.now
+        → IsCovering (O.starts arrival.now.object.now) (O.step arrival.now.object.now) (O.observing arrival.now.object.now) (O.overwriting arrival.now.object.now) h members.now nodes.old
+        → IsCompressed (O.starts arrival.now.object.now) (O.step arrival.now.object.now) (O.observing arrival.now.object.now) (O.overwriting arrival.now.object.now) (with_event h arrival.now.event.now) out.items nodes.new)) }
+    ensures oks { IfOk result (λ found. IfNone found ((alone ≡ true) × (name : NameOf) × (reply : ReplyOf) × (arrival.now.event.now.body ≡ BodyOf.Ok name reply))) }
+    ensures tried { IsTriedAtMost (limit * (2 * length arrival.now.pending.now + 3) + length members.now * (2 * ((length arrival.now.pending.now + 2) * (length arrival.now.pending.now + 2)))) meter.old meter.new }
 {
     well_formed_is_alternating();
     ends_are_unique();
-    dominated_can_go(object);
-    members_after_events(object);
-    members_after_ok(object);
-    rounds_spell_members(object);
-    rounds_take_operations(object);
-    rounds_after_events(object);
-    overwritten_can_go(object);
-    overwritten_after_events(object);
-    overwritten_after_update(object);
-    overwritten_after_observer(object);
-    rounds_go_ahead(object);
+    dominated_can_go(arrival.object);
+    members_after_events(arrival.object);
+    members_after_ok(arrival.object);
+    rounds_spell_members(arrival.object);
+    rounds_take_operations(arrival.object);
+    rounds_after_events(arrival.object);
+    overwritten_can_go(arrival.object);
+    overwritten_after_events(arrival.object);
+    overwritten_after_update(arrival.object);
+    overwritten_after_observer(arrival.object);
+    rounds_go_ahead(arrival.object);
     rounds_allow_overwritten::<O>();
-    let after = open_after(scratch.open(), before, at, event)?;
+    let after = open_after(scratch.open(), arrival.pending, arrival.at, arrival.event)?;
     let pending = Pending::of(&after);
     let Some(found) = next_members(
-        object, alloc, members, before, &pending, at, event, alone, limit, nodes, meter, scratch,
+        arrival, members, &pending, alone, limit, nodes, meter, scratch,
     )?
     else {
         return Ok(None);
     };
-    let kept = kept(object, alloc, &pending, found, alone)?;
+    let kept = kept(arrival.object, arrival.alloc, &pending, found, alone)?;
     scratch.keep_open(after);
     Ok(Some(kept))
 }
@@ -490,55 +487,39 @@ impl<O: SeqObject> Compressed<O> {
     /// The frontier after one more event, searched up to a limit.
     pub(crate) fn advance_up_to(
         &self,
-        alloc: Global,
-        object: &O,
-        pending: &[Open],
-        at: usize,
-        event: &Event,
+        arrival: &Arrival<O>,
         alone: bool,
         limit: usize,
         nodes: &mut RoundNodes,
         meter: &mut Meter,
         scratch: &mut Scratch<O>,
     ) -> Result<Found<O>, OutOfMemory>
-        requires fits { alone ≡ true → AreAlone (O.overwriting object.now) self.now }
-        requires goes { alone ≡ false → O.overwriting object.now ≡ true }
+        requires fits { alone ≡ true → AreAlone (O.overwriting arrival.now.object.now) self.now }
+        requires goes { alone ≡ false → O.overwriting arrival.now.object.now ≡ true }
         // Where the frontier is one of a history, with these operations open, the answer speaks of that history with the event behind
         // it, which has to be well-formed.
         ensures next { IfOk result (λ step. (next : List (MemberOf O.State × PathOf)) → step ≡ Found.Next next → (functions : ℤ → NameOf → Bool) (h : List EventOf)
-            → IsNextEvent functions h pending.now at event.now → IsCompressed (O.starts object.now) (O.step object.now) (O.observing object.now) (O.overwriting object.now) h self.now nodes.old
-            → IsCompressed (O.starts object.now) (O.step object.now) (O.observing object.now) (O.overwriting object.now) (with_event h event.now) next nodes.new) }
+            → IsNextEvent functions h arrival.now.pending.now arrival.now.at arrival.now.event.now → IsCompressed (O.starts arrival.now.object.now) (O.step arrival.now.object.now) (O.observing arrival.now.object.now) (O.overwriting arrival.now.object.now) h self.now nodes.old
+            → IsCompressed (O.starts arrival.now.object.now) (O.step arrival.now.object.now) (O.observing arrival.now.object.now) (O.overwriting arrival.now.object.now) (with_event h arrival.now.event.now) next nodes.new) }
         ensures some { IfOk result (λ step. (next : List (MemberOf O.State × PathOf)) → step ≡ Found.Next next → 0 < length next) }
         ensures empty { IfOk result (λ step. step ≡ Found.Empty → (functions : ℤ → NameOf → Bool) (h : List EventOf)
-            → IsNextEvent functions h pending.now at event.now → IsCompressed (O.starts object.now) (O.step object.now) (O.observing object.now) (O.overwriting object.now) h self.now nodes.old
-            → IsLinearizableBy (O.starts object.now) (O.step object.now) (with_event h event.now) → ⊥) }
+            → IsNextEvent functions h arrival.now.pending.now arrival.now.at arrival.now.event.now → IsCompressed (O.starts arrival.now.object.now) (O.step arrival.now.object.now) (O.observing arrival.now.object.now) (O.overwriting arrival.now.object.now) h self.now nodes.old
+            → IsLinearizableBy (O.starts arrival.now.object.now) (O.step arrival.now.object.now) (with_event h arrival.now.event.now) → ⊥) }
         // Only an ok is searched for.
-        ensures oks { IfOk result (λ step. step ≡ Found.TooMany → (alone ≡ true) × (name : NameOf) × (reply : ReplyOf) × (event.now.body ≡ BodyOf.Ok name reply)) }
+        ensures oks { IfOk result (λ step. step ≡ Found.TooMany → (alone ≡ true) × (name : NameOf) × (reply : ReplyOf) × (arrival.now.event.now.body ≡ BodyOf.Ok name reply)) }
         // Nodes are only added; and none is where there is no next frontier.
         ensures grown { IsGrown nodes.old nodes.new }
         ensures kept { IfOk result (λ step. (step ≡ Found.Empty) ⊎ (step ≡ Found.TooMany) → nodes.new ≡ nodes.old) }
         ensures refused { OnErr result (nodes.new ≡ nodes.old) }
         ensures steps { meter.new.steps ≡ ticked meter.old.steps 1 }
-        ensures tries { meter.new.tries ≤ meter.old.tries + (limit * (2 * length pending.now + 3) + length self.now * (2 * ((length pending.now + 2) * (length pending.now + 2)))) }
+        ensures tries { meter.new.tries ≤ meter.old.tries + (limit * (2 * length arrival.now.pending.now + 3) + length self.now * (2 * ((length arrival.now.pending.now + 2) * (length arrival.now.pending.now + 2)))) }
         ensures scans { meter.new.scans ≡ meter.old.scans }
     {
-        legal_orders_end(object);
-        members_are_exact(object);
+        legal_orders_end(arrival.object);
+        members_are_exact(arrival.object);
         meter.tick_step();
         let count = nodes.len();
-        match advanced(
-            object,
-            alloc,
-            &self.members,
-            pending,
-            at,
-            event,
-            alone,
-            limit,
-            nodes,
-            meter,
-            scratch,
-        ) {
+        match advanced(arrival, &self.members, alone, limit, nodes, meter, scratch) {
             Ok(Some(members)) => {
                 if members.is_empty() {
                     nodes.cut(count);

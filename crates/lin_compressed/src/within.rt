@@ -22,7 +22,7 @@ ghost use Rattle.lin_frontier.specs.Walks.{IsTriedAtMost};
 use crate::compressed::{Compressed, Found, alone_all, open_after, push_all_taken_out};
 use crate::scratch::Scratch;
 use lin_events::{Body, Event, Meter, OutOfMemory, ends_are_unique, well_formed_is_alternating};
-use lin_frontier::{Open, Pending};
+use lin_frontier::{Arrival, Open, Pending};
 use lin_listing::{are_surely_more, listed};
 use lin_members::{
     Member, Pool, RoundNodes, dominated_can_go, members_after_events, members_are_exact,
@@ -104,8 +104,7 @@ fn first_of<S: Eq + Hash + Drop>(members: &[Member<S>]) -> Option<&Member<S>>
 
 /// Whether the members lead to more configurations than the budget.
 fn exceeds<O: SeqObject>(
-    object: &O,
-    alloc: Global,
+    arrival: &Arrival<O>,
     pending: &Pending,
     members: &[Member<O::State>],
     budget: usize,
@@ -113,12 +112,20 @@ fn exceeds<O: SeqObject>(
     meter: &mut Meter,
 ) -> Result<bool, OutOfMemory>
     ensures over { IfOk result (λ over. over ≡ true → (functions : ℤ → NameOf → Bool) (h : List EventOf) → IsWellFormed functions h → IsPending h pending.now
-        → ((m : MemberOf O.State × PathOf) → Contains members.now m → IsSpelled (O.starts object.now) (O.step object.now) (O.observing object.now) h nodes.old m) → IsOver (O.starts object.now) (O.step object.now) h budget) }
+        → ((m : MemberOf O.State × PathOf) → Contains members.now m → IsSpelled (O.starts arrival.now.object.now) (O.step arrival.now.object.now) (O.observing arrival.now.object.now) h nodes.old m) → IsOver (O.starts arrival.now.object.now) (O.step arrival.now.object.now) h budget) }
     ensures nodes { nodes.new ≡ nodes.old }
     ensures tried { IsTriedAtMost (budget * length pending.now) meter.old meter.new }
 {
     let count = nodes.len();
-    let found = listed(object, alloc, pending, members, budget, nodes, meter);
+    let found = listed(
+        arrival.object,
+        arrival.alloc,
+        pending,
+        members,
+        budget,
+        nodes,
+        meter,
+    );
     nodes.cut(count);
     match found {
         Ok(Some(_)) => Ok(false),
@@ -129,43 +136,43 @@ fn exceeds<O: SeqObject>(
 
 /// The members after an ok, from a list of all configurations before it: those that placed its operation with the reply, without it.
 fn after_listing<O: SeqObject>(
-    object: &O,
-    alloc: Global,
+    arrival: &Arrival<O>,
     list: &[Member<O::State>],
-    pending: &[Open],
-    at: usize,
-    event: &Event,
     nodes: &RoundNodes,
 ) -> Result<Vec<Member<O::State>>, OutOfMemory>
-    requires { (name : NameOf) × (reply : ReplyOf) × (event.now.body ≡ BodyOf.Ok name reply) }
-    ensures { IfOk result (λ out. (functions : ℤ → NameOf → Bool) (h : List EventOf) → IsNextEvent functions h pending.now at event.now
-        → IsListingOf (O.starts object.now) (O.step object.now) (O.observing object.now) h list.now nodes.now
-        → IsCompressed (O.starts object.now) (O.step object.now) (O.observing object.now) (O.overwriting object.now) (with_event h event.now) out.items nodes.now) }
+    requires { (name : NameOf) × (reply : ReplyOf) × (arrival.now.event.now.body ≡ BodyOf.Ok name reply) }
+    ensures { IfOk result (λ out. (functions : ℤ → NameOf → Bool) (h : List EventOf) → IsNextEvent functions h arrival.now.pending.now arrival.now.at arrival.now.event.now
+        → IsListingOf (O.starts arrival.now.object.now) (O.step arrival.now.object.now) (O.observing arrival.now.object.now) h list.now nodes.now
+        → IsCompressed (O.starts arrival.now.object.now) (O.step arrival.now.object.now) (O.observing arrival.now.object.now) (O.overwriting arrival.now.object.now) (with_event h arrival.now.event.now) out.items nodes.now) }
 {
     well_formed_is_alternating();
     ends_are_unique();
-    dominated_can_go(object);
-    members_cover_configurations(object);
-    rounds_after_events(object);
-    overwritten_can_go(object);
+    dominated_can_go(arrival.object);
+    members_cover_configurations(arrival.object);
+    rounds_after_events(arrival.object);
+    overwritten_can_go(arrival.object);
     let _ = nodes.len();
-    let Body::Ok(_, reply) = &event.body else {
+    let Body::Ok(_, reply) = &arrival.event.body else {
         unreachable!()
     };
-    let operations = open_after(Vec::new(alloc), pending, at, event)?;
+    let operations = open_after(
+        Vec::new(arrival.alloc),
+        arrival.pending,
+        arrival.at,
+        arrival.event,
+    )?;
     let after = Pending::of(&operations);
-    let mut found = Vec::new(alloc);
+    let mut found = Vec::new(arrival.alloc);
     push_all_taken_out(
-        object,
-        alloc,
+        arrival.object,
+        arrival.alloc,
         &after,
         list,
-        event.process,
-        reply,
+        (arrival.event.process, reply),
         &mut found,
-        &mut Pool::new(alloc),
+        &mut Pool::new(arrival.alloc),
     )?;
-    let kept = pruned_many(object, alloc, &after, alone_all(found))?;
+    let kept = pruned_many(arrival.object, arrival.alloc, &after, alone_all(found))?;
     Ok(kept)
 }
 
@@ -223,31 +230,19 @@ impl<O: SeqObject> Compressed<O> {
         ensures tries { meter.new.tries ≤ meter.old.tries + (budget * (4 * length pending.now + 4) + length self.now * (2 * ((length pending.now + 2) * (length pending.now + 2)))) }
         ensures scans { meter.new.scans ≡ meter.old.scans }
     {
-        if let Body::Invoke(_) = &event.body {
-            return self.invoked(
-                alloc,
-                object,
-                pending,
-                at,
-                event,
-                budget as usize,
-                nodes,
-                meter,
-            );
-        }
-        let count = nodes.len();
-        let step = self.step(
-            alloc,
+        let arrival = Arrival {
             object,
+            alloc,
             pending,
             at,
             event,
-            budget as usize,
-            nodes,
-            meter,
-            scratch,
-        );
-        match step {
+        };
+        let budget = budget as usize;
+        if let Body::Invoke(_) = &event.body {
+            return self.invoked(&arrival, budget, nodes, meter);
+        }
+        let count = nodes.len();
+        match self.step(&arrival, budget, nodes, meter, scratch) {
             Ok(Advance::Next(next)) => Ok(Advance::Next(next)),
             Ok(none) => {
                 nodes.cut(count);
@@ -272,35 +267,31 @@ impl<O: SeqObject> Compressed<O> {
     /// After an invocation the members are the same, unless the configurations are counted and too many.
     fn invoked(
         &self,
-        alloc: Global,
-        object: &O,
-        pending: &[Open],
-        at: usize,
-        event: &Event,
+        arrival: &Arrival<O>,
         budget: usize,
         nodes: &mut RoundNodes,
         meter: &mut Meter,
     ) -> Result<Advance<O>, OutOfMemory>
-        requires { (call : CallOf) × (event.now.body ≡ BodyOf.Invoke call) }
+        requires { (call : CallOf) × (arrival.now.event.now.body ≡ BodyOf.Invoke call) }
         ensures answers { IfOk result (λ step. (step ≡ Advance.Same) ⊎ (step ≡ Advance.Over)) }
         ensures same { IfOk result (λ step. step ≡ Advance.Same → (functions : ℤ → NameOf → Bool) (h : List EventOf)
-            → IsNextEvent functions h pending.now at event.now → IsCompressed (O.starts object.now) (O.step object.now) (O.observing object.now) (O.overwriting object.now) h self.now nodes.old
-            → IsCompressed (O.starts object.now) (O.step object.now) (O.observing object.now) (O.overwriting object.now) (with_event h event.now) self.now nodes.new) }
+            → IsNextEvent functions h arrival.now.pending.now arrival.now.at arrival.now.event.now → IsCompressed (O.starts arrival.now.object.now) (O.step arrival.now.object.now) (O.observing arrival.now.object.now) (O.overwriting arrival.now.object.now) h self.now nodes.old
+            → IsCompressed (O.starts arrival.now.object.now) (O.step arrival.now.object.now) (O.observing arrival.now.object.now) (O.overwriting arrival.now.object.now) (with_event h arrival.now.event.now) self.now nodes.new) }
         ensures over { IfOk result (λ step. step ≡ Advance.Over → (functions : ℤ → NameOf → Bool) (h : List EventOf)
-            → IsNextEvent functions h pending.now at event.now → IsCompressed (O.starts object.now) (O.step object.now) (O.observing object.now) (O.overwriting object.now) h self.now nodes.old
-            → IsOver (O.starts object.now) (O.step object.now) (with_event h event.now) budget) }
+            → IsNextEvent functions h arrival.now.pending.now arrival.now.at arrival.now.event.now → IsCompressed (O.starts arrival.now.object.now) (O.step arrival.now.object.now) (O.observing arrival.now.object.now) (O.overwriting arrival.now.object.now) h self.now nodes.old
+            → IsOver (O.starts arrival.now.object.now) (O.step arrival.now.object.now) (with_event h arrival.now.event.now) budget) }
         ensures nodes { nodes.new ≡ nodes.old }
         ensures steps { meter.new.steps ≡ ticked meter.old.steps 1 }
-        ensures tries { meter.new.tries ≤ meter.old.tries + budget * (length pending.now + 1) }
+        ensures tries { meter.new.tries ≤ meter.old.tries + budget * (length arrival.now.pending.now + 1) }
         ensures scans { meter.new.scans ≡ meter.old.scans }
     {
         well_formed_is_alternating();
-        members_after_events(object);
-        rounds_after_events(object);
-        overwritten_after_events(object);
+        members_after_events(arrival.object);
+        rounds_after_events(arrival.object);
+        overwritten_after_events(arrival.object);
         rounds_allow_overwritten::<O>();
         meter.tick_step();
-        if self.is_over(alloc, object, pending, at, event, budget, nodes, meter)? {
+        if self.is_over(arrival, budget, nodes, meter)? {
             return Ok(Advance::Over);
         }
         Ok(Advance::Same)
@@ -309,56 +300,46 @@ impl<O: SeqObject> Compressed<O> {
     /// The same for other events; nodes may be left where there is no next frontier.
     fn step(
         &self,
-        alloc: Global,
-        object: &O,
-        pending: &[Open],
-        at: usize,
-        event: &Event,
+        arrival: &Arrival<O>,
         budget: usize,
         nodes: &mut RoundNodes,
         meter: &mut Meter,
         scratch: &mut Scratch<O>,
     ) -> Result<Advance<O>, OutOfMemory>
         ensures next { IfOk result (λ step. (next : List (MemberOf O.State × PathOf)) → step ≡ Advance.Next next → (functions : ℤ → NameOf → Bool) (h : List EventOf)
-            → IsNextEvent functions h pending.now at event.now → IsCompressed (O.starts object.now) (O.step object.now) (O.observing object.now) (O.overwriting object.now) h self.now nodes.old
-            → IsCompressed (O.starts object.now) (O.step object.now) (O.observing object.now) (O.overwriting object.now) (with_event h event.now) next nodes.new) }
+            → IsNextEvent functions h arrival.now.pending.now arrival.now.at arrival.now.event.now → IsCompressed (O.starts arrival.now.object.now) (O.step arrival.now.object.now) (O.observing arrival.now.object.now) (O.overwriting arrival.now.object.now) h self.now nodes.old
+            → IsCompressed (O.starts arrival.now.object.now) (O.step arrival.now.object.now) (O.observing arrival.now.object.now) (O.overwriting arrival.now.object.now) (with_event h arrival.now.event.now) next nodes.new) }
         ensures some { IfOk result (λ step. (next : List (MemberOf O.State × PathOf)) → step ≡ Advance.Next next → 0 < length next) }
         ensures empty { IfOk result (λ step. step ≡ Advance.Empty → (functions : ℤ → NameOf → Bool) (h : List EventOf)
-            → IsNextEvent functions h pending.now at event.now → IsCompressed (O.starts object.now) (O.step object.now) (O.observing object.now) (O.overwriting object.now) h self.now nodes.old
-            → IsLinearizableBy (O.starts object.now) (O.step object.now) (with_event h event.now) → ⊥) }
+            → IsNextEvent functions h arrival.now.pending.now arrival.now.at arrival.now.event.now → IsCompressed (O.starts arrival.now.object.now) (O.step arrival.now.object.now) (O.observing arrival.now.object.now) (O.overwriting arrival.now.object.now) h self.now nodes.old
+            → IsLinearizableBy (O.starts arrival.now.object.now) (O.step arrival.now.object.now) (with_event h arrival.now.event.now) → ⊥) }
         ensures over { IfOk result (λ step. step ≡ Advance.Over → (functions : ℤ → NameOf → Bool) (h : List EventOf)
-            → IsNextEvent functions h pending.now at event.now → IsCompressed (O.starts object.now) (O.step object.now) (O.observing object.now) (O.overwriting object.now) h self.now nodes.old
-            → IsOver (O.starts object.now) (O.step object.now) (with_event h event.now) budget) }
+            → IsNextEvent functions h arrival.now.pending.now arrival.now.at arrival.now.event.now → IsCompressed (O.starts arrival.now.object.now) (O.step arrival.now.object.now) (O.observing arrival.now.object.now) (O.overwriting arrival.now.object.now) h self.now nodes.old
+            → IsOver (O.starts arrival.now.object.now) (O.step arrival.now.object.now) (with_event h arrival.now.event.now) budget) }
         ensures before { IfOk result (λ step. step ≡ Advance.OverBefore → (functions : ℤ → NameOf → Bool) (h : List EventOf)
-            → IsNextEvent functions h pending.now at event.now → IsCompressed (O.starts object.now) (O.step object.now) (O.observing object.now) (O.overwriting object.now) h self.now nodes.old
-            → (0 < at) × IsOver (O.starts object.now) (O.step object.now) h budget) }
+            → IsNextEvent functions h arrival.now.pending.now arrival.now.at arrival.now.event.now → IsCompressed (O.starts arrival.now.object.now) (O.step arrival.now.object.now) (O.observing arrival.now.object.now) (O.overwriting arrival.now.object.now) h self.now nodes.old
+            → (0 < arrival.now.at) × IsOver (O.starts arrival.now.object.now) (O.step arrival.now.object.now) h budget) }
         ensures same { IfOk result (λ step. step ≡ Advance.Same → ⊥) }
         ensures grown { IsGrown nodes.old nodes.new }
         ensures steps { meter.new.steps ≡ ticked meter.old.steps 1 }
-        ensures tries { meter.new.tries ≤ meter.old.tries + (budget * (4 * length pending.now + 4) + length self.now * (2 * ((length pending.now + 2) * (length pending.now + 2)))) }
+        ensures tries { meter.new.tries ≤ meter.old.tries + (budget * (4 * length arrival.now.pending.now + 4) + length self.now * (2 * ((length arrival.now.pending.now + 2) * (length arrival.now.pending.now + 2)))) }
         ensures scans { meter.new.scans ≡ meter.old.scans }
     {
         well_formed_is_alternating();
-        let alone = self.is_alone(object, budget);
-        let Ok(is_over) = self.is_surely_over(alloc, object, pending, budget) else {
+        let alone = self.is_alone(arrival.object, budget);
+        let Ok(is_over) = self.is_surely_over(arrival, budget) else {
             meter.tick_step();
             return Err(OutOfMemory);
         };
         let limit = longest_search(budget, is_over);
-        match self.advance_up_to(
-            alloc, object, pending, at, event, alone, limit, nodes, meter, scratch,
-        )? {
+        match self.advance_up_to(arrival, alone, limit, nodes, meter, scratch)? {
             Found::Empty => Ok(Advance::Empty),
             Found::Next(next) => {
                 // Members are compared with one another, so fewer of them cost as much as a search.
                 let many = !alone && next.len() > limit / 16;
-                self.next_within(
-                    alloc, object, next, many, pending, at, event, budget, nodes, meter,
-                )
+                self.next_within(arrival, next, many, budget, nodes, meter)
             }
-            Found::TooMany => {
-                self.from_listing(alloc, object, pending, at, event, budget, nodes, meter)
-            }
+            Found::TooMany => self.from_listing(arrival, budget, nodes, meter),
         }
     }
 
@@ -366,56 +347,52 @@ impl<O: SeqObject> Compressed<O> {
     /// many members, or after it.
     fn next_within(
         &self,
-        alloc: Global,
-        object: &O,
+        arrival: &Arrival<O>,
         next: Compressed<O>,
         many: bool,
-        pending: &[Open],
-        at: usize,
-        event: &Event,
         budget: usize,
         nodes: &mut RoundNodes,
         meter: &mut Meter,
     ) -> Result<Advance<O>, OutOfMemory>
         ensures next { IfOk result (λ step. (out : List (MemberOf O.State × PathOf)) → step ≡ Advance.Next out → out ≡ next) }
         ensures over { IfOk result (λ step. step ≡ Advance.Over → (functions : ℤ → NameOf → Bool) (h : List EventOf)
-            → IsNextEvent functions h pending.now at event.now → IsCompressed (O.starts object.now) (O.step object.now) (O.observing object.now) (O.overwriting object.now) (with_event h event.now) next nodes.old
-            → IsOver (O.starts object.now) (O.step object.now) (with_event h event.now) budget) }
-        ensures before { IfOk result (λ step. step ≡ Advance.OverBefore → (functions : ℤ → NameOf → Bool) (h : List EventOf) → IsWellFormed functions h → IsPending h pending.now
-            → IsCompressed (O.starts object.now) (O.step object.now) (O.observing object.now) (O.overwriting object.now) h self.now nodes.old
-            → (0 < at) × IsOver (O.starts object.now) (O.step object.now) h budget) }
+            → IsNextEvent functions h arrival.now.pending.now arrival.now.at arrival.now.event.now → IsCompressed (O.starts arrival.now.object.now) (O.step arrival.now.object.now) (O.observing arrival.now.object.now) (O.overwriting arrival.now.object.now) (with_event h arrival.now.event.now) next nodes.old
+            → IsOver (O.starts arrival.now.object.now) (O.step arrival.now.object.now) (with_event h arrival.now.event.now) budget) }
+        ensures before { IfOk result (λ step. step ≡ Advance.OverBefore → (functions : ℤ → NameOf → Bool) (h : List EventOf) → IsWellFormed functions h → IsPending h arrival.now.pending.now
+            → IsCompressed (O.starts arrival.now.object.now) (O.step arrival.now.object.now) (O.observing arrival.now.object.now) (O.overwriting arrival.now.object.now) h self.now nodes.old
+            → (0 < arrival.now.at) × IsOver (O.starts arrival.now.object.now) (O.step arrival.now.object.now) h budget) }
         ensures never { IfOk result (λ step. (step ≡ Advance.Empty) ⊎ (step ≡ Advance.Same) → ⊥) }
         ensures nodes { nodes.new ≡ nodes.old }
-        ensures tried { IsTriedAtMost (budget * (2 * length pending.now + 1)) meter.old meter.new }
+        ensures tried { IsTriedAtMost (budget * (2 * length arrival.now.pending.now + 1)) meter.old meter.new }
     {
-        if many && at > 0 && self.exceeds_before(alloc, object, pending, budget, nodes, meter)? {
+        if many && arrival.at > 0 && self.exceeds_before(arrival, budget, nodes, meter)? {
             return Ok(Advance::OverBefore);
         }
-        if next.is_over(alloc, object, pending, at, event, budget, nodes, meter)? {
+        if next.is_over(arrival, budget, nodes, meter)? {
             return Ok(Advance::Over);
         }
         Ok(Advance::Next(next))
     }
 
     /// Whether there are more configurations than the budget, as far as it is told without making any. Not so where all are counted.
-    fn is_surely_over(
-        &self,
-        alloc: Global,
-        object: &O,
-        pending: &[Open],
-        budget: usize,
-    ) -> Result<bool, OutOfMemory>
-        ensures { IfOk result (λ over. over ≡ true → (functions : ℤ → NameOf → Bool) (h : List EventOf) (nodes : List (ℕ × (PlacedOf × Option ℕ))) → IsWellFormed functions h → IsPending h pending.now
-            → IsCompressed (O.starts object.now) (O.step object.now) (O.observing object.now) (O.overwriting object.now) h self.now nodes
-            → IsOver (O.starts object.now) (O.step object.now) h budget) }
+    fn is_surely_over(&self, arrival: &Arrival<O>, budget: usize) -> Result<bool, OutOfMemory>
+        ensures { IfOk result (λ over. over ≡ true → (functions : ℤ → NameOf → Bool) (h : List EventOf) (nodes : List (ℕ × (PlacedOf × Option ℕ))) → IsWellFormed functions h → IsPending h arrival.now.pending.now
+            → IsCompressed (O.starts arrival.now.object.now) (O.step arrival.now.object.now) (O.observing arrival.now.object.now) (O.overwriting arrival.now.object.now) h self.now nodes
+            → IsOver (O.starts arrival.now.object.now) (O.step arrival.now.object.now) h budget) }
     {
-        if is_counted(budget) || pending.len() < FEWEST_OPEN {
+        if is_counted(budget) || arrival.pending.len() < FEWEST_OPEN {
             return Ok(false);
         }
         let Some(member) = first_of(&self.members) else {
             return Ok(false);
         };
-        let is_over = are_surely_more(object, alloc, pending, member, budget)?;
+        let is_over = are_surely_more(
+            arrival.object,
+            arrival.alloc,
+            arrival.pending,
+            member,
+            budget,
+        )?;
         Ok(is_over)
     }
 
@@ -424,112 +401,112 @@ impl<O: SeqObject> Compressed<O> {
     #[inline(always)]
     fn is_over(
         &self,
-        alloc: Global,
-        object: &O,
-        pending: &[Open],
-        at: usize,
-        event: &Event,
+        arrival: &Arrival<O>,
         budget: usize,
         nodes: &mut RoundNodes,
         meter: &mut Meter,
     ) -> Result<bool, OutOfMemory>
-        ensures over { IfOk result (λ over. over ≡ true → (functions : ℤ → NameOf → Bool) (h : List EventOf) → IsNextEvent functions h pending.now at event.now
-            → IsCompressed (O.starts object.now) (O.step object.now) (O.observing object.now) (O.overwriting object.now) (with_event h event.now) self.now nodes.old
-            → IsOver (O.starts object.now) (O.step object.now) (with_event h event.now) budget) }
+        ensures over { IfOk result (λ over. over ≡ true → (functions : ℤ → NameOf → Bool) (h : List EventOf) → IsNextEvent functions h arrival.now.pending.now arrival.now.at arrival.now.event.now
+            → IsCompressed (O.starts arrival.now.object.now) (O.step arrival.now.object.now) (O.observing arrival.now.object.now) (O.overwriting arrival.now.object.now) (with_event h arrival.now.event.now) self.now nodes.old
+            → IsOver (O.starts arrival.now.object.now) (O.step arrival.now.object.now) (with_event h arrival.now.event.now) budget) }
         ensures nodes { nodes.new ≡ nodes.old }
-        ensures tried { IsTriedAtMost (budget * (length pending.now + 1)) meter.old meter.new }
+        ensures tried { IsTriedAtMost (budget * (length arrival.now.pending.now + 1)) meter.old meter.new }
     {
         if !is_counted(budget) {
             return Ok(false);
         }
-        self.exceeds_after(alloc, object, pending, at, event, budget, nodes, meter)
+        self.exceeds_after(arrival, budget, nodes, meter)
     }
 
     /// Whether there are more configurations than the budget before the event.
     #[inline(never)]
     fn exceeds_before(
         &self,
-        alloc: Global,
-        object: &O,
-        pending: &[Open],
+        arrival: &Arrival<O>,
         budget: usize,
         nodes: &mut RoundNodes,
         meter: &mut Meter,
     ) -> Result<bool, OutOfMemory>
-        ensures over { IfOk result (λ over. over ≡ true → (functions : ℤ → NameOf → Bool) (h : List EventOf) → IsWellFormed functions h → IsPending h pending.now
-            → IsCompressed (O.starts object.now) (O.step object.now) (O.observing object.now) (O.overwriting object.now) h self.now nodes.old
-            → IsOver (O.starts object.now) (O.step object.now) h budget) }
+        ensures over { IfOk result (λ over. over ≡ true → (functions : ℤ → NameOf → Bool) (h : List EventOf) → IsWellFormed functions h → IsPending h arrival.now.pending.now
+            → IsCompressed (O.starts arrival.now.object.now) (O.step arrival.now.object.now) (O.observing arrival.now.object.now) (O.overwriting arrival.now.object.now) h self.now nodes.old
+            → IsOver (O.starts arrival.now.object.now) (O.step arrival.now.object.now) h budget) }
         ensures nodes { nodes.new ≡ nodes.old }
-        ensures tried { IsTriedAtMost (budget * length pending.now) meter.old meter.new }
+        ensures tried { IsTriedAtMost (budget * length arrival.now.pending.now) meter.old meter.new }
     {
-        let before = Pending::of(pending);
-        exceeds(object, alloc, &before, &self.members, budget, nodes, meter)
+        let before = Pending::of(arrival.pending);
+        exceeds(arrival, &before, &self.members, budget, nodes, meter)
     }
 
     /// Whether there are more configurations than the budget.
     #[inline(never)]
     fn exceeds_after(
         &self,
-        alloc: Global,
-        object: &O,
-        pending: &[Open],
-        at: usize,
-        event: &Event,
+        arrival: &Arrival<O>,
         budget: usize,
         nodes: &mut RoundNodes,
         meter: &mut Meter,
     ) -> Result<bool, OutOfMemory>
-        ensures over { IfOk result (λ over. over ≡ true → (functions : ℤ → NameOf → Bool) (h : List EventOf) → IsNextEvent functions h pending.now at event.now
-            → IsCompressed (O.starts object.now) (O.step object.now) (O.observing object.now) (O.overwriting object.now) (with_event h event.now) self.now nodes.old
-            → IsOver (O.starts object.now) (O.step object.now) (with_event h event.now) budget) }
+        ensures over { IfOk result (λ over. over ≡ true → (functions : ℤ → NameOf → Bool) (h : List EventOf) → IsNextEvent functions h arrival.now.pending.now arrival.now.at arrival.now.event.now
+            → IsCompressed (O.starts arrival.now.object.now) (O.step arrival.now.object.now) (O.observing arrival.now.object.now) (O.overwriting arrival.now.object.now) (with_event h arrival.now.event.now) self.now nodes.old
+            → IsOver (O.starts arrival.now.object.now) (O.step arrival.now.object.now) (with_event h arrival.now.event.now) budget) }
         ensures nodes { nodes.new ≡ nodes.old }
-        ensures tried { IsTriedAtMost (budget * (length pending.now + 1)) meter.old meter.new }
+        ensures tried { IsTriedAtMost (budget * (length arrival.now.pending.now + 1)) meter.old meter.new }
     {
-        let operations = open_after(Vec::new(alloc), pending, at, event)?;
+        let operations = open_after(
+            Vec::new(arrival.alloc),
+            arrival.pending,
+            arrival.at,
+            arrival.event,
+        )?;
         let after = Pending::of(&operations);
-        exceeds(object, alloc, &after, &self.members, budget, nodes, meter)
+        exceeds(arrival, &after, &self.members, budget, nodes, meter)
     }
 
     /// The frontier after an ok, from the list of all configurations before it, which may be more than the budget.
     fn from_listing(
         &self,
-        alloc: Global,
-        object: &O,
-        pending: &[Open],
-        at: usize,
-        event: &Event,
+        arrival: &Arrival<O>,
         budget: usize,
         nodes: &mut RoundNodes,
         meter: &mut Meter,
     ) -> Result<Advance<O>, OutOfMemory>
-        requires ok { (name : NameOf) × (reply : ReplyOf) × (event.now.body ≡ BodyOf.Ok name reply) }
-        requires alone { AreAlone (O.overwriting object.now) self.now }
+        requires ok { (name : NameOf) × (reply : ReplyOf) × (arrival.now.event.now.body ≡ BodyOf.Ok name reply) }
+        requires alone { AreAlone (O.overwriting arrival.now.object.now) self.now }
         ensures next { IfOk result (λ step. (next : List (MemberOf O.State × PathOf)) → step ≡ Advance.Next next → (functions : ℤ → NameOf → Bool) (h : List EventOf)
-            → IsNextEvent functions h pending.now at event.now → IsCompressed (O.starts object.now) (O.step object.now) (O.observing object.now) (O.overwriting object.now) h self.now nodes.old
-            → IsCompressed (O.starts object.now) (O.step object.now) (O.observing object.now) (O.overwriting object.now) (with_event h event.now) next nodes.new) }
+            → IsNextEvent functions h arrival.now.pending.now arrival.now.at arrival.now.event.now → IsCompressed (O.starts arrival.now.object.now) (O.step arrival.now.object.now) (O.observing arrival.now.object.now) (O.overwriting arrival.now.object.now) h self.now nodes.old
+            → IsCompressed (O.starts arrival.now.object.now) (O.step arrival.now.object.now) (O.observing arrival.now.object.now) (O.overwriting arrival.now.object.now) (with_event h arrival.now.event.now) next nodes.new) }
         ensures some { IfOk result (λ step. (next : List (MemberOf O.State × PathOf)) → step ≡ Advance.Next next → 0 < length next) }
         ensures empty { IfOk result (λ step. step ≡ Advance.Empty → (functions : ℤ → NameOf → Bool) (h : List EventOf)
-            → IsNextEvent functions h pending.now at event.now → IsCompressed (O.starts object.now) (O.step object.now) (O.observing object.now) (O.overwriting object.now) h self.now nodes.old
-            → IsLinearizableBy (O.starts object.now) (O.step object.now) (with_event h event.now) → ⊥) }
+            → IsNextEvent functions h arrival.now.pending.now arrival.now.at arrival.now.event.now → IsCompressed (O.starts arrival.now.object.now) (O.step arrival.now.object.now) (O.observing arrival.now.object.now) (O.overwriting arrival.now.object.now) h self.now nodes.old
+            → IsLinearizableBy (O.starts arrival.now.object.now) (O.step arrival.now.object.now) (with_event h arrival.now.event.now) → ⊥) }
         ensures before { IfOk result (λ step. step ≡ Advance.OverBefore → (functions : ℤ → NameOf → Bool) (h : List EventOf)
-            → IsNextEvent functions h pending.now at event.now → IsCompressed (O.starts object.now) (O.step object.now) (O.observing object.now) (O.overwriting object.now) h self.now nodes.old
-            → (0 < at) × IsOver (O.starts object.now) (O.step object.now) h budget) }
+            → IsNextEvent functions h arrival.now.pending.now arrival.now.at arrival.now.event.now → IsCompressed (O.starts arrival.now.object.now) (O.step arrival.now.object.now) (O.observing arrival.now.object.now) (O.overwriting arrival.now.object.now) h self.now nodes.old
+            → (0 < arrival.now.at) × IsOver (O.starts arrival.now.object.now) (O.step arrival.now.object.now) h budget) }
         ensures never { IfOk result (λ step. (step ≡ Advance.Over) ⊎ (step ≡ Advance.Same) → ⊥) }
         ensures grown { IsGrown nodes.old nodes.new }
-        ensures tried { IsTriedAtMost (budget * length pending.now) meter.old meter.new }
+        ensures tried { IsTriedAtMost (budget * length arrival.now.pending.now) meter.old meter.new }
     {
         well_formed_is_alternating();
-        legal_orders_end(object);
-        members_are_exact(object);
-        overwritten_can_go(object);
-        if self.is_surely_over(alloc, object, pending, budget)? {
+        legal_orders_end(arrival.object);
+        members_are_exact(arrival.object);
+        overwritten_can_go(arrival.object);
+        if self.is_surely_over(arrival, budget)? {
             return Ok(Advance::OverBefore);
         }
-        let before = Pending::of(pending);
-        let Some(list) = listed(object, alloc, &before, &self.members, budget, nodes, meter)? else {
+        let before = Pending::of(arrival.pending);
+        let Some(list) = listed(
+            arrival.object,
+            arrival.alloc,
+            &before,
+            &self.members,
+            budget,
+            nodes,
+            meter,
+        )?
+        else {
             return Ok(Advance::OverBefore);
         };
-        let members = after_listing(object, alloc, list.as_slice(), pending, at, event, nodes)?;
+        let members = after_listing(arrival, list.as_slice(), nodes)?;
         if members.is_empty() {
             return Ok(Advance::Empty);
         }

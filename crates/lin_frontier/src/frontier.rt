@@ -41,6 +41,16 @@ impl<O: SeqObject> Model for Frontier<O> {
     ghost view = { λ f. f.configs.entries };
 }
 
+/// An event that comes next: what stands at the position among the events of the object, with the operations that are open before it.
+#[derive(Drop)]
+pub struct Arrival<'a, O: SeqObject> {
+    pub object: &'a O,
+    pub alloc: Global,
+    pub pending: &'a [Open],
+    pub at: usize,
+    pub event: &'a Event,
+}
+
 /// What one more event makes of a frontier.
 #[derive(Drop)]
 pub enum Step<O: SeqObject> {
@@ -57,43 +67,39 @@ pub enum Step<O: SeqObject> {
 /// After an invocation they are what the event leaves and all that placing reaches from it; after a completion
 /// nothing has to be placed.
 fn next_configs<O: SeqObject>(
-    alloc: Global,
-    object: &O,
+    arrival: &Arrival<O>,
     configs: &IndexMap<Config<O::State>, NodeId>,
-    pending: &[Open],
-    at: usize,
-    event: &Event,
     budget: usize,
     nodes: &mut Nodes,
     meter: &mut Meter,
 ) -> Result<Option<IndexMap<Config<O::State>, NodeId>>, OutOfMemory>
     ensures next { IfOk result (λ found. IfSome found (λ map. (functions : ℤ → NameOf → Bool) (h : List EventOf)
-        → IsNextEvent functions h pending.now at event.now → IsFrontier (O.starts object.now) (O.step object.now) h configs.now.entries nodes.old
-        → IsFrontier (O.starts object.now) (O.step object.now) (with_event h event.now) map.entries nodes.new)) }
+        → IsNextEvent functions h arrival.now.pending.now arrival.now.at arrival.now.event.now → IsFrontier (O.starts arrival.now.object.now) (O.step arrival.now.object.now) h configs.now.entries nodes.old
+        → IsFrontier (O.starts arrival.now.object.now) (O.step arrival.now.object.now) (with_event h arrival.now.event.now) map.entries nodes.new)) }
     ensures small { IfOk result (λ found. IfSome found (λ map. index_map_len map ≤ budget)) }
     ensures over { IfOk result (λ found. IfNone found ((functions : ℤ → NameOf → Bool) (h : List EventOf)
-        → IsNextEvent functions h pending.now at event.now → IsFrontier (O.starts object.now) (O.step object.now) h configs.now.entries nodes.old
-        → IsOver (O.starts object.now) (O.step object.now) (with_event h event.now) budget)) }
+        → IsNextEvent functions h arrival.now.pending.now arrival.now.at arrival.now.event.now → IsFrontier (O.starts arrival.now.object.now) (O.step arrival.now.object.now) h configs.now.entries nodes.old
+        → IsOver (O.starts arrival.now.object.now) (O.step arrival.now.object.now) (with_event h arrival.now.event.now) budget)) }
     ensures grown { IsGrown nodes.old nodes.new }
-    ensures tried { IsTriedAtMost (tries_within budget (length pending.now) event.now.body) meter.old meter.new }
+    ensures tried { IsTriedAtMost (tries_within budget (length arrival.now.pending.now) arrival.now.event.now.body) meter.old meter.new }
 {
     well_formed_is_alternating();
-    configurations_after_events(object);
-    placing_is_legal(object);
-    let kept = keep_all(object, alloc, configs, event)?;
-    if let Body::Invoke(call) = &event.body {
+    configurations_after_events(arrival.object);
+    placing_is_legal(arrival.object);
+    let kept = keep_all(arrival.object, arrival.alloc, configs, arrival.event)?;
+    if let Body::Invoke(call) = &arrival.event.body {
         let new = Open {
-            process: event.process,
-            at,
+            process: arrival.event.process,
+            at: arrival.at,
             call: *call,
             crashed: false,
         };
         let placing = Placing {
-            object,
-            pending,
+            object: arrival.object,
+            pending: arrival.pending,
             new: &new,
         };
-        return closure(&placing, alloc, kept, budget, nodes, meter);
+        return closure(&placing, arrival.alloc, kept, budget, nodes, meter);
     }
     if kept.len() > budget {
         return Ok(None);
@@ -169,17 +175,14 @@ impl<O: SeqObject> Frontier<O> {
         legal_orders_end(object);
         meter.tick_step();
         let count = nodes.len();
-        match next_configs(
-            alloc,
+        let arrival = Arrival {
             object,
-            &self.configs,
+            alloc,
             pending,
             at,
             event,
-            budget as usize,
-            nodes,
-            meter,
-        ) {
+        };
+        match next_configs(&arrival, &self.configs, budget as usize, nodes, meter) {
             Ok(Some(configs)) => {
                 if configs.is_empty() {
                     nodes.cut(count);

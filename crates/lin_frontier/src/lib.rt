@@ -12,7 +12,7 @@ mod search;
 mod spare;
 
 pub use configs::{Config, is_absent, is_pair, is_placed};
-pub use frontier::{Frontier, Step};
+pub use frontier::{Arrival, Frontier, Step};
 pub use keeping::{copy_config, copy_without};
 pub use nodes::{NodeId, Nodes};
 pub use pairs::{PairList, Pairs};

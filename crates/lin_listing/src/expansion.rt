@@ -29,6 +29,7 @@ use std::alloc::Global;
 #[derive(Drop)]
 pub struct Expansion<'a, O: SeqObject> {
     pub object: &'a O,
+    pub alloc: Global,
     pub pending: &'a Pending<'a>,
     pub offers: &'a Offers,
     /// Whether open operations are placed.
@@ -39,7 +40,6 @@ impl<'a, O: SeqObject> Expansion<'a, O> {
     /// Takes the configuration in, unless one that was found stands in for it.
     fn visit(
         &self,
-        alloc: Global,
         path: Path,
         config: Config<O::State>,
         placed: Placed,
@@ -53,15 +53,14 @@ impl<'a, O: SeqObject> Expansion<'a, O> {
         if found.holds(self.pending, &config) {
             return Ok(());
         }
-        let member = bare_next(alloc, config, path, placed, spot, nodes)?;
-        found.push(self.object, alloc, self.pending, member)?;
+        let member = bare_next(self.alloc, config, path, placed, spot, nodes)?;
+        found.push(self.object, self.alloc, self.pending, member)?;
         Ok(())
     }
 
     /// Takes in what taking the offer makes of the configuration, which was found.
     fn take_one(
         &self,
-        alloc: Global,
         config: &Config<O::State>,
         path: Path,
         offer: &(usize, (u64, Reply)),
@@ -83,18 +82,17 @@ impl<'a, O: SeqObject> Expansion<'a, O> {
         let Some(operation) = open_of(self.pending.as_slice(), process) else {
             return Ok(());
         };
-        let placed = placed_at(alloc, operation.at, &offer.1.1)?;
-        let state = self.object.copy_state(alloc, config.state())?;
-        let reply = offer.1.1.copy(alloc)?;
-        let next = config.with_placed_anew(alloc, state, process, reply)?;
-        self.visit(alloc, path, next, placed, Some(offer.0), found, nodes)?;
+        let placed = placed_at(self.alloc, operation.at, &offer.1.1)?;
+        let state = self.object.copy_state(self.alloc, config.state())?;
+        let reply = offer.1.1.copy(self.alloc)?;
+        let next = config.with_placed_anew(self.alloc, state, process, reply)?;
+        self.visit(path, next, placed, Some(offer.0), found, nodes)?;
         Ok(())
     }
 
     /// Takes in what taking each of the offers makes of the configuration, which was found.
     fn take_all(
         &self,
-        alloc: Global,
         config: &Config<O::State>,
         path: Path,
         found: &mut Gathered<O>,
@@ -106,7 +104,7 @@ impl<'a, O: SeqObject> Expansion<'a, O> {
         ensures taken { OnOk result (All (IsTakenAt (O.observing self.now.object.now) self.now.pending.now found.new config.now) self.now.offers.now) }
     {
         for offer in self.offers.as_slice() {
-            self.take_one(alloc, config, path, offer, found, nodes)?;
+            self.take_one(config, path, offer, found, nodes)?;
         }
         Ok(())
     }
@@ -114,7 +112,6 @@ impl<'a, O: SeqObject> Expansion<'a, O> {
     /// What placing any open operation makes of the configuration.
     fn placings(
         &self,
-        alloc: Global,
         config: &Config<O::State>,
         meter: &mut Meter,
     ) -> Result<Vec<(Config<O::State>, Placed)>, OutOfMemory>
@@ -124,13 +121,13 @@ impl<'a, O: SeqObject> Expansion<'a, O> {
             → PlacesOne (O.step self.now.object.now) o config.now p d → Contains out.items (d, p)) }
         ensures tried { IsTriedAtMost (length self.now.pending.now) meter.old meter.new }
     {
-        let mut out = Vec::new(alloc);
-        let mut steps = Vec::new(alloc);
-        let mut spare = Spare::new(alloc);
+        let mut out = Vec::new(self.alloc);
+        let mut steps = Vec::new(self.alloc);
+        let mut spare = Spare::new(self.alloc);
         for operation in self.pending.as_slice() {
             place_if_absent(
                 self.object,
-                alloc,
+                self.alloc,
                 config,
                 operation,
                 &mut out,
@@ -145,7 +142,6 @@ impl<'a, O: SeqObject> Expansion<'a, O> {
     /// Takes in what placing any open operation makes of the configuration, which was found.
     fn place_all(
         &self,
-        alloc: Global,
         config: &Config<O::State>,
         path: Path,
         found: &mut Gathered<O>,
@@ -159,9 +155,9 @@ impl<'a, O: SeqObject> Expansion<'a, O> {
         ensures tried { IsTriedAtMost (length self.now.pending.now) meter.old meter.new }
     {
         rounds_take_operations(self.object);
-        let mut out = self.placings(alloc, config, meter)?;
+        let mut out = self.placings(config, meter)?;
         while let Some((next, placed)) = out.pop() {
-            self.visit(alloc, path, next, placed, None, found, nodes)?;
+            self.visit(path, next, placed, None, found, nodes)?;
         }
         Ok(())
     }
@@ -169,7 +165,6 @@ impl<'a, O: SeqObject> Expansion<'a, O> {
     /// Takes in all that is come to from the configuration, which was found.
     fn work_off(
         &self,
-        alloc: Global,
         config: &Config<O::State>,
         path: Path,
         found: &mut Gathered<O>,
@@ -183,9 +178,9 @@ impl<'a, O: SeqObject> Expansion<'a, O> {
         ensures placed { OnOk result (self.now.places ≡ true → IsPlacedAt (O.step self.now.object.now) (O.observing self.now.object.now) self.now.pending.now found.new config.now) }
         ensures tried { IsTriedAtMost (placing_tries self.now.places self.now.pending.now) meter.old meter.new }
     {
-        self.take_all(alloc, config, path, found, nodes)?;
+        self.take_all(config, path, found, nodes)?;
         if self.places {
-            self.place_all(alloc, config, path, found, nodes, meter)?;
+            self.place_all(config, path, found, nodes, meter)?;
         }
         Ok(())
     }
@@ -195,7 +190,6 @@ impl<'a, O: SeqObject> Expansion<'a, O> {
     /// The list grows while it is worked off from its first member to its last.
     pub fn reach(
         &self,
-        alloc: Global,
         starts: Gathered<O>,
         budget: usize,
         nodes: &mut RoundNodes,
@@ -219,8 +213,8 @@ impl<'a, O: SeqObject> Expansion<'a, O> {
         let mut at = 0;
         while let Some(member) = found.get(at) {
             let path = member.path();
-            let config = copy_config(self.object, alloc, member.config())?;
-            self.work_off(alloc, &config, path, &mut found, nodes, meter)?;
+            let config = copy_config(self.object, self.alloc, member.config())?;
+            self.work_off(&config, path, &mut found, nodes, meter)?;
             if found.len() > budget {
                 return Ok(None);
             }

@@ -55,11 +55,12 @@ fn spread<O: SeqObject>(
     let starts = alone(object, alloc, pending, member)?;
     let choices = Expansion {
         object,
+        alloc,
         pending,
         offers: member.offers(),
         places: false,
     };
-    let found = choices.reach(alloc, starts, budget, nodes, meter)?;
+    let found = choices.reach(starts, budget, nodes, meter)?;
     Ok(found)
 }
 
@@ -123,11 +124,12 @@ pub fn listed<O: SeqObject>(
     let none = Offers::none();
     let placing = Expansion {
         object,
+        alloc,
         pending,
         offers: &none,
         places: true,
     };
-    let found = placing.reach(alloc, all, budget, nodes, meter)?;
+    let found = placing.reach(all, budget, nodes, meter)?;
     Ok(found)
 }
 

@@ -23,10 +23,10 @@ pub use member_laws::{
     start_is_complete,
 };
 pub use members::{
-    Member, Path, advanced, answered, bare, bare_next, copied, in_round, placed_at, push_member,
-    put_ahead, put_behind, same, taken_out,
+    Member, Path, advanced, bare, bare_next, copied, in_round, placed_at, push_member, put_ahead,
+    put_behind, same, taken_out,
 };
-pub use offers::{OfferList, Offers, may_be_watched};
+pub use offers::{OfferList, Offers, Shown, may_be_watched};
 pub use overwritten_laws::{
     overwritten_after_events, overwritten_after_observer, overwritten_after_update,
     overwritten_are_sound, overwritten_can_go, rounds_allow_overwritten, rounds_go_ahead,

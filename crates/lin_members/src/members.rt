@@ -176,33 +176,6 @@ pub fn taken_out<O: SeqObject>(
     })
 }
 
-/// The member after the observer took the reply in the round.
-#[inline(always)]
-pub fn answered<O: SeqObject>(
-    object: &O,
-    alloc: Global,
-    pending: &Pending,
-    member: &Member<O::State>,
-    round: usize,
-    placed: Placed,
-    nodes: &mut RoundNodes,
-    pool: &mut Pool,
-) -> Result<Member<O::State>, OutOfMemory>
-    ensures grown { IsGrown nodes.old nodes.new }
-    ensures same { IfOk result (λ next. next.0 ≡ (record {
-      state = member.now.0.state;
-      placed = member.now.0.placed;
-      offers = watched (O.observing object.now) pending.now member.now.0.offers;
-    })) }
-    ensures round { IfOk result (λ next. next.1.round ≡ member.now.1.round) }
-    ensures until { IfOk result (λ next. next.1.until ≡ member.now.1.until) }
-    ensures node { IfOk result (λ next. IsNodeOf nodes.new next.1.node member.now.1.node (placed, Some round)) }
-{
-    let path = in_round(member.path, placed, round, nodes)?;
-    let same = copied(object, alloc, pending, member, pool)?;
-    Ok(Member { path, ..same })
-}
-
 /// A node more under the parent.
 #[inline(always)]
 fn pushed(

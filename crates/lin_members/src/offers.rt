@@ -48,6 +48,16 @@ impl Model for Offers {
     ghost view = { λ o. shared o.list };
 }
 
+/// The configuration of a round, as it is shown to the processes that watch: those of these operations that observe.
+#[derive(Drop)]
+pub struct Shown<'a, O: SeqObject> {
+    pub object: &'a O,
+    pub alloc: Global,
+    pub config: &'a Config<O::State>,
+    pub pending: &'a Pending<'a>,
+    pub round: usize,
+}
+
 /// A bit for a reply on offer to the process.
 fn offer_bit(process: u64, reply: &Reply) -> u64 {
     let value = match reply {
@@ -404,58 +414,48 @@ impl OfferList {
     /// in the configuration.
     fn offer_one<O: SeqObject>(
         &mut self,
-        object: &O,
-        alloc: Global,
-        config: &Config<O::State>,
-        pending: &Pending,
+        shown: &Shown<O>,
         operation: &Open,
-        round: usize,
         known: &mut Option<Call>,
         steps: &mut Vec<(O::State, Reply)>,
         meter: &mut Meter,
     ) -> Result<(), OutOfMemory>
-        requires { Knows (O.step object.now) config.now.0 known.old steps.old.items }
-        ensures offered { OnOk result (IsOffering (GivesOne (O.step object.now) (O.observing object.now) pending.now config.now operation.now) round self.old self.new) }
-        ensures knows { OnOk result (Knows (O.step object.now) config.now.0 known.new steps.new.items) }
+        requires { Knows (O.step shown.now.object.now) shown.now.config.now.0 known.old steps.old.items }
+        ensures offered { OnOk result (IsOffering (GivesOne (O.step shown.now.object.now) (O.observing shown.now.object.now) shown.now.pending.now shown.now.config.now operation.now) shown.now.round self.old self.new) }
+        ensures knows { OnOk result (Knows (O.step shown.now.object.now) shown.now.config.now.0 known.new steps.new.items) }
         ensures tried { IsTriedAtMost 1 meter.old meter.new }
     {
-        if !may_be_told(object, config, pending, operation) {
+        if !may_be_told(shown.object, shown.config, shown.pending, operation) {
             return Ok(());
         }
         know(
-            object,
-            alloc,
-            config.state(),
+            shown.object,
+            shown.alloc,
+            shown.config.state(),
             &operation.call,
             known,
             steps,
             meter,
         )?;
-        self.offer_steps(alloc, operation.process, round, steps)
+        self.offer_steps(shown.alloc, operation.process, shown.round, steps)
     }
 
     /// Offers in the round what the configuration's state gives to the operations. `steps` is only written over.
     pub fn offer_all<O: SeqObject>(
         &mut self,
-        object: &O,
-        alloc: Global,
-        config: &Config<O::State>,
-        pending: &Pending,
-        round: usize,
+        shown: &Shown<O>,
         steps: &mut Vec<(O::State, Reply)>,
         meter: &mut Meter,
     ) -> Result<(), OutOfMemory>
-        ensures offered { OnOk result (IsOffering (GivesAny (O.step object.now) (O.observing object.now) pending.now config.now) round self.old self.new) }
-        ensures tried { IsTriedAtMost (length pending.now) meter.old meter.new }
+        ensures offered { OnOk result (IsOffering (GivesAny (O.step shown.now.object.now) (O.observing shown.now.object.now) shown.now.pending.now shown.now.config.now) shown.now.round self.old self.new) }
+        ensures tried { IsTriedAtMost (length shown.now.pending.now) meter.old meter.new }
     {
         let mut known = None;
-        for operation in pending.as_slice() {
+        for operation in shown.pending.as_slice() {
             if operation.crashed {
                 continue;
             }
-            self.offer_one(
-                object, alloc, config, pending, operation, round, &mut known, steps, meter,
-            )?;
+            self.offer_one(shown, operation, &mut known, steps, meter)?;
         }
         Ok(())
     }

@@ -8,9 +8,9 @@ use Rattle.lin_compressed.proofs.compressed.advanced.Goals as goal
 
 pub returns-clause-next : goal.returns-clause-next
 returns-clause-next g c functions h next covering =
-    let begin = g.O.SeqObject.starts c.args.object.now in
-    let step = g.O.SeqObject.step c.args.object.now in
-    let observes = g.O.SeqObject.observing c.args.object.now in
+    let begin = g.O.SeqObject.starts c.args.arrival.now.object.now in
+    let step = g.O.SeqObject.step c.args.arrival.now.object.now in
+    let observes = g.O.SeqObject.observing c.args.arrival.now.object.now in
     let laws : Laws begin step = record {
       alternating = c.well_formed_is_alternating.ensures;
       unique = c.ends_are_unique.ensures;
@@ -45,31 +45,31 @@ returns-clause-next g c functions h next covering =
     let pending = c.in_ok-after.after.items in
     let opened = c.in_ok-after.ensures.pending functions h next in
     let same = c.of-pending.ensures ∙ c.deref.ensures.value in
-    let completes = completes_open begin step observes laws functions h c.args.before.now c.args.at c.args.event.now next pending opened in
-    let covered = covering_stays begin step observes (g.O.SeqObject.overwriting c.args.object.now) h c.args.nodes.now c.next_members.new.nodes c.args.members.now c.next_members.ensures.grown covering in
+    let completes = completes_open begin step observes laws functions h c.args.arrival.now.pending.now c.args.arrival.now.at c.args.arrival.now.event.now next pending opened in
+    let covered = covering_stays begin step observes (g.O.SeqObject.overwriting c.args.arrival.now.object.now) h c.args.nodes.now c.next_members.new.nodes c.args.members.now c.next_members.ensures.grown covering in
     elim (cases_Bool c.args.alone) [
       | inl alone ↦
-          alone_advances begin step observes laws functions h c.args.before.now c.args.at c.args.event.now next pending opened (g.O.SeqObject.unchanged c.args.object.now) c.next_members.new.nodes c.args.members.now
-          c.in-Some.found.items c.in_ok-kept.kept.items c.dominated_can_go.ensures.thinned (g.O.SeqObject.overwriting c.args.object.now) (c.requires.fits alone)
+          alone_advances begin step observes laws functions h c.args.arrival.now.pending.now c.args.arrival.now.at c.args.arrival.now.event.now next pending opened (g.O.SeqObject.unchanged c.args.arrival.now.object.now) c.next_members.new.nodes c.args.members.now
+          c.in-Some.found.items c.in_ok-kept.kept.items c.dominated_can_go.ensures.thinned (g.O.SeqObject.overwriting c.args.arrival.now.object.now) (c.requires.fits alone)
           (rw same at (from_some _ c.in-Some.is c.in_ok-found.ensures.alone alone completes)) (rw same at (c.in_ok-kept.ensures.alone alone)) covered
       | inr others ↦
-          advances_with begin step observes laws functions h c.args.before.now c.args.at c.args.event.now next pending opened (g.O.SeqObject.unchanged c.args.object.now) c.next_members.new.nodes c.args.members.now
-          c.in-Some.found.items c.in_ok-kept.kept.items (g.O.SeqObject.overwriting c.args.object.now) (c.requires.goes others) (g.O.SeqObject.overwritten c.args.object.now (c.requires.goes others))
+          advances_with begin step observes laws functions h c.args.arrival.now.pending.now c.args.arrival.now.at c.args.arrival.now.event.now next pending opened (g.O.SeqObject.unchanged c.args.arrival.now.object.now) c.next_members.new.nodes c.args.members.now
+          c.in-Some.found.items c.in_ok-kept.kept.items (g.O.SeqObject.overwriting c.args.arrival.now.object.now) (c.requires.goes others) (g.O.SeqObject.overwritten c.args.arrival.now.object.now (c.requires.goes others))
           (rw same at (from_some _ c.in-Some.is c.in_ok-found.ensures.next others completes)) (rw same at (c.in_ok-kept.ensures.others others)) covered
     ]
 
 pub returns-in_err-found-clause-tried : goal.returns-in_err-found-clause-tried
 returns-in_err-found-clause-tried g c =
-    tried_within c.args.limit (length c.args.members.now) (length c.of-pending.result) (length c.args.before.now) _ _ (omega (arith, c.in_ok-after.ensures.len, ap length (c.of-pending.ensures ∙ c.deref.ensures.value))) c.next_members.ensures.tried
+    tried_within c.args.limit (length c.args.members.now) (length c.of-pending.result) (length c.args.arrival.now.pending.now) _ _ (omega (arith, c.in_ok-after.ensures.len, ap length (c.of-pending.ensures ∙ c.deref.ensures.value))) c.next_members.ensures.tried
 
 pub returns-in_default-clause-tried : goal.returns-in_default-clause-tried
 returns-in_default-clause-tried g c =
-    tried_within c.args.limit (length c.args.members.now) (length c.of-pending.result) (length c.args.before.now) _ _ (omega (arith, c.in_ok-after.ensures.len, ap length (c.of-pending.ensures ∙ c.deref.ensures.value))) c.next_members.ensures.tried
+    tried_within c.args.limit (length c.args.members.now) (length c.of-pending.result) (length c.args.arrival.now.pending.now) _ _ (omega (arith, c.in_ok-after.ensures.len, ap length (c.of-pending.ensures ∙ c.deref.ensures.value))) c.next_members.ensures.tried
 
 pub returns-clause-tried : goal.returns-clause-tried
 returns-clause-tried g c =
-    tried_within c.args.limit (length c.args.members.now) (length c.of-pending.result) (length c.args.before.now) _ _ (omega (arith, c.in_ok-after.ensures.len, ap length (c.of-pending.ensures ∙ c.deref.ensures.value))) c.next_members.ensures.tried
+    tried_within c.args.limit (length c.args.members.now) (length c.of-pending.result) (length c.args.arrival.now.pending.now) _ _ (omega (arith, c.in_ok-after.ensures.len, ap length (c.of-pending.ensures ∙ c.deref.ensures.value))) c.next_members.ensures.tried
 
 pub returns-in_err-kept-clause-tried : goal.returns-in_err-kept-clause-tried
 returns-in_err-kept-clause-tried g c =
-    tried_within c.args.limit (length c.args.members.now) (length c.of-pending.result) (length c.args.before.now) _ _ (omega (arith, c.in_ok-after.ensures.len, ap length (c.of-pending.ensures ∙ c.deref.ensures.value))) c.next_members.ensures.tried
+    tried_within c.args.limit (length c.args.members.now) (length c.of-pending.result) (length c.args.arrival.now.pending.now) _ _ (omega (arith, c.in_ok-after.ensures.len, ap length (c.of-pending.ensures ∙ c.deref.ensures.value))) c.next_members.ensures.tried

@@ -14,8 +14,8 @@ returns-clause-made g c =
       n,
       pushed,
       λ now.
-          is_asked_ahead _ _ c.args.self.now.operation.now c.args.self.now.reply.now c.args.self.now.pending.now now c.args.member.now c.put_ahead.new.nodes c.args.config.now c.in_ok-offers.offers c.path-from.result c.in_ok-path.path c.path-from.ensures
-          c.path_in.new.nodes c.path_in.ensures.grown c.args.placed (record { at = c.args.self.now.operation.now.at; reply = c.args.self.now.reply.now }) c.in_ok-path-2.path refl c.in_ok-path-2.ensures.round c.in_ok-path-2.ensures.until c.requires.observer c.requires.gives
+          is_asked_ahead _ _ c.args.self.now.operation.now c.args.self.now.reply.now c.args.self.now.pending.now now c.args.update.member.now c.put_ahead.new.nodes c.args.update.config c.in_ok-offers.offers c.path-from.result c.in_ok-path.path c.path-from.ensures
+          c.path_in.new.nodes c.path_in.ensures.grown c.args.update.placed (record { at = c.args.self.now.operation.now.at; reply = c.args.self.now.reply.now }) c.in_ok-path-2.path refl c.in_ok-path-2.ensures.round c.in_ok-path-2.ensures.until c.requires.observer c.requires.gives
           c.args.before.now made c.path-from.result.round c.requires.before c.requires.places c.in_ok-offers.ensures.offered c.in_ok-path.ensures.ahead c.in_ok-config.ensures c.requires.early (ap (λ (k : Path). k.round) c.path-from.ensures) c.in_ok-path-2.ensures.node,
       λ i. (c.in_ok-config.ensures i).1,
     )) c.push_member.ensures
@@ -33,10 +33,10 @@ pub returns-clause-grown : goal.returns-clause-grown
 returns-clause-grown g c = grown_grown c.args.nodes.now c.put_ahead.new.nodes c.path_in.new.nodes c.put_ahead.ensures.grown c.path_in.ensures.grown
 
 pub returns-in_err-offers-clause-tried : goal.returns-in_err-offers-clause-tried
-returns-in_err-offers-clause-tried g c = early_tried c.args.before.now c.args.member.now.1.until c.args.self.now.pending.now _ _ c.requires.before c.offers_with.ensures.tried
+returns-in_err-offers-clause-tried g c = early_tried c.args.before.now c.args.update.member.now.1.until c.args.self.now.pending.now _ _ c.requires.before c.offers_with.ensures.tried
 
 pub returns-in_err-config-clause-tried : goal.returns-in_err-config-clause-tried
-returns-in_err-config-clause-tried g c = early_tried c.args.before.now c.args.member.now.1.until c.args.self.now.pending.now _ _ c.requires.before c.offers_with.ensures.tried
+returns-in_err-config-clause-tried g c = early_tried c.args.before.now c.args.update.member.now.1.until c.args.self.now.pending.now _ _ c.requires.before c.offers_with.ensures.tried
 
 pub returns-clause-tried : goal.returns-clause-tried
-returns-clause-tried g c = early_tried c.args.before.now c.args.member.now.1.until c.args.self.now.pending.now _ _ c.requires.before c.offers_with.ensures.tried
+returns-clause-tried g c = early_tried c.args.before.now c.args.update.member.now.1.until c.args.self.now.pending.now _ _ c.requires.before c.offers_with.ensures.tried

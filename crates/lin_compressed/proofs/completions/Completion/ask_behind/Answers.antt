@@ -8,12 +8,12 @@ use Rattle.lin_compressed.proofs.completions.Completion.ask_behind.Goals as goal
 
 pub returns-clause-made : goal.returns-clause-made
 returns-clause-made g c =
-    let n : Member g.row.O-State.Denot × Path = (record { state = c.args.config.0; placed = c.args.config.1; offers = c.in_ok-offers.offers }, c.in_ok-path-2.path) in
+    let n : Member g.row.O-State.Denot × Path = (record { state = c.args.update.config.0; placed = c.args.update.config.1; offers = c.in_ok-offers.offers }, c.in_ok-path-2.path) in
     OnOk-map c.push_member.result _ _ (λ pushed. (
       n,
       pushed,
-      is_asked_behind _ _ c.args.self.now.operation.now c.args.self.now.reply.now c.args.self.now.pending.now c.args.now c.args.member.now c.put_behind.new.nodes c.args.config c.in_ok-offers.offers c.path.result c.in_ok-path.path c.path.ensures
-          c.path_in.new.nodes c.path_in.ensures.grown c.args.placed (record { at = c.args.self.now.operation.now.at; reply = c.args.self.now.reply.now }) c.in_ok-path-2.path refl c.in_ok-path-2.ensures.round c.in_ok-path-2.ensures.until c.requires.observer c.requires.gives
+      is_asked_behind _ _ c.args.self.now.operation.now c.args.self.now.reply.now c.args.self.now.pending.now c.args.now c.args.update.member.now c.put_behind.new.nodes c.args.update.config c.in_ok-offers.offers c.path.result c.in_ok-path.path c.path.ensures
+          c.path_in.new.nodes c.path_in.ensures.grown c.args.update.placed (record { at = c.args.self.now.operation.now.at; reply = c.args.self.now.reply.now }) c.in_ok-path-2.path refl c.in_ok-path-2.ensures.round c.in_ok-path-2.ensures.until c.requires.observer c.requires.gives
           c.requires.places c.in_ok-offers.ensures.offered c.in_ok-path.ensures.begins c.in_ok-path.ensures.until c.in_ok-path-2.ensures.node,
       refl,
       refl,

@@ -8,4 +8,4 @@ returns-then-is_seen-clause-taken g c =
     inl (found.0, found.1, found.2, refl)
 
 pub returns-clause-taken : goal.returns-clause-taken
-returns-clause-taken g c = on_any c.catch_up.result _ (inr (put_after c.args.config c.args.placed c.args.offers.now c.args.path c.push_next.new.nodes (map (λ m. m.now) c.args.starts.now) c.args.visited.now.items c.push_next.new.members.items c.in_ok-push_next.ensures.put))
+returns-clause-taken g c = on_any c.catch_up.result _ (inr (put_after c.args.reached.config c.args.reached.placed c.args.reached.offers.now c.args.reached.path c.push_next.new.nodes (map (λ m. m.now) c.args.starts.now) c.args.visited.now.items c.push_next.new.members.items c.in_ok-push_next.ensures.put))

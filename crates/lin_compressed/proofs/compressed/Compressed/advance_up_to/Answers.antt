@@ -11,18 +11,18 @@ use Rattle.lin_compressed.proofs.compressed.Compressed.advance_up_to.Goals as go
 
 pub returns-then-is_empty-clause-empty : goal.returns-then-is_empty-clause-empty
 returns-then-is_empty-clause-empty g c is functions h next frontier =
-    let known = subst (λ l. IsCovering (g.O.SeqObject.starts c.args.object.now) (g.O.SeqObject.step c.args.object.now) (g.O.SeqObject.observing c.args.object.now) (g.O.SeqObject.overwriting c.args.object.now) h l c.args.nodes.now)
+    let known = subst (λ l. IsCovering (g.O.SeqObject.starts c.args.arrival.now.object.now) (g.O.SeqObject.step c.args.arrival.now.object.now) (g.O.SeqObject.observing c.args.arrival.now.object.now) (g.O.SeqObject.overwriting c.args.arrival.now.object.now) h l c.args.nodes.now)
     (sym (c.deref.ensures.value ∙ c.self.view_is)) frontier.covering in
-    none_left (g.O.SeqObject.starts c.args.object.now) (g.O.SeqObject.step c.args.object.now) (g.O.SeqObject.observing c.args.object.now) (g.O.SeqObject.overwriting c.args.object.now) functions (with_event h c.args.event.now) c.advanced.new.nodes c.in-Ok-Some.members.items
+    none_left (g.O.SeqObject.starts c.args.arrival.now.object.now) (g.O.SeqObject.step c.args.arrival.now.object.now) (g.O.SeqObject.observing c.args.arrival.now.object.now) (g.O.SeqObject.overwriting c.args.arrival.now.object.now) functions (with_event h c.args.arrival.now.event.now) c.advanced.new.nodes c.in-Ok-Some.members.items
     c.members_are_exact.ensures.exact c.legal_orders_end.ensures next.well_formed (sym c.in-Ok-Some.members.ok.0 ∙ eqb-true _ _ (sym c.is_empty.ensures ∙ c.if-is_empty.true))
     (from_some _ c.in-Ok-Some.field-0-is c.in-Ok-Some.ensures.next functions h next known)
 
 pub returns-else-is_empty-clause-next : goal.returns-else-is_empty-clause-next
 returns-else-is_empty-clause-next g c next is functions h nx frontier =
-    let known = subst (λ l. IsCovering (g.O.SeqObject.starts c.args.object.now) (g.O.SeqObject.step c.args.object.now) (g.O.SeqObject.observing c.args.object.now) (g.O.SeqObject.overwriting c.args.object.now) h l c.args.nodes.now)
+    let known = subst (λ l. IsCovering (g.O.SeqObject.starts c.args.arrival.now.object.now) (g.O.SeqObject.step c.args.arrival.now.object.now) (g.O.SeqObject.observing c.args.arrival.now.object.now) (g.O.SeqObject.overwriting c.args.arrival.now.object.now) h l c.args.nodes.now)
     (sym (c.deref.ensures.value ∙ c.self.view_is)) frontier.covering in
     let same : c.in-Ok-Some.members.items ≡ next = cc in
-    subst (λ l. IsCompressed (g.O.SeqObject.starts c.args.object.now) (g.O.SeqObject.step c.args.object.now) (g.O.SeqObject.observing c.args.object.now) (g.O.SeqObject.overwriting c.args.object.now) (with_event h c.args.event.now) l c.advanced.new.nodes) same
+    subst (λ l. IsCompressed (g.O.SeqObject.starts c.args.arrival.now.object.now) (g.O.SeqObject.step c.args.arrival.now.object.now) (g.O.SeqObject.observing c.args.arrival.now.object.now) (g.O.SeqObject.overwriting c.args.arrival.now.object.now) (with_event h c.args.arrival.now.event.now) l c.advanced.new.nodes) same
     (from_some _ c.in-Ok-Some.field-0-is c.in-Ok-Some.ensures.next functions h nx known)
 
 pub returns-then-is_empty-clause-grown : goal.returns-then-is_empty-clause-grown
@@ -39,25 +39,25 @@ advanced-requires-clause-fits g c alone overwriting m there = c.requires.fits al
 
 pub returns-then-is_empty-clause-tries : goal.returns-then-is_empty-clause-tries
 returns-then-is_empty-clause-tries g c =
-    let len = length c.args.pending.now in
+    let len = length c.args.arrival.now.pending.now in
     tried_since c.args.meter.now c.tick_step.new.self c.advanced.new.meter (c.args.limit * (2 * len + 3)) (length c.deref.result.now) (length c.args.self.now) (2 * ((len + 2) * (len + 2))) (ap (λ (m : Meter). m.tries) c.tick_step.ensures)
     (ap length (c.deref.ensures.value ∙ c.self.view_is)) c.advanced.ensures.tried
 
 pub returns-else-is_empty-clause-tries : goal.returns-else-is_empty-clause-tries
 returns-else-is_empty-clause-tries g c =
-    let len = length c.args.pending.now in
+    let len = length c.args.arrival.now.pending.now in
     tried_since c.args.meter.now c.tick_step.new.self c.advanced.new.meter (c.args.limit * (2 * len + 3)) (length c.deref.result.now) (length c.args.self.now) (2 * ((len + 2) * (len + 2))) (ap (λ (m : Meter). m.tries) c.tick_step.ensures)
     (ap length (c.deref.ensures.value ∙ c.self.view_is)) c.advanced.ensures.tried
 
 pub returns-in-Ok-None-clause-tries : goal.returns-in-Ok-None-clause-tries
 returns-in-Ok-None-clause-tries g c =
-    let len = length c.args.pending.now in
+    let len = length c.args.arrival.now.pending.now in
     tried_since c.args.meter.now c.tick_step.new.self c.advanced.new.meter (c.args.limit * (2 * len + 3)) (length c.deref.result.now) (length c.args.self.now) (2 * ((len + 2) * (len + 2))) (ap (λ (m : Meter). m.tries) c.tick_step.ensures)
     (ap length (c.deref.ensures.value ∙ c.self.view_is)) c.advanced.ensures.tried
 
 pub returns-in-Err-clause-tries : goal.returns-in-Err-clause-tries
 returns-in-Err-clause-tries g c =
-    let len = length c.args.pending.now in
+    let len = length c.args.arrival.now.pending.now in
     tried_since c.args.meter.now c.tick_step.new.self c.advanced.new.meter (c.args.limit * (2 * len + 3)) (length c.deref.result.now) (length c.args.self.now) (2 * ((len + 2) * (len + 2))) (ap (λ (m : Meter). m.tries) c.tick_step.ensures)
     (ap length (c.deref.ensures.value ∙ c.self.view_is)) c.advanced.ensures.tried
 

@@ -13,39 +13,39 @@ use Rattle.lin_compressed.proofs.compressed.Compressed.from_listing.Goals as goa
 
 pub returns-in_default-clause-before : goal.returns-in_default-clause-before
 returns-in_default-clause-before g c is functions h next frontier = (
-  ok_not_first c.well_formed_is_alternating.ensures functions h c.args.pending.now c.args.at c.args.event.now c.requires.ok.0 c.requires.ok.1 c.requires.ok.2 next,
-  from_none _ c.in_default.is c.in_ok-list.ensures.over functions h (well_formed_before c.well_formed_is_alternating.ensures functions h c.args.event.now next.well_formed) (subst (IsPending h) (sym c.of-before.ensures) next.opened)
-      (subst (AreSpelled (g.O.SeqObject.starts c.args.object.now) (g.O.SeqObject.step c.args.object.now) (g.O.SeqObject.observing c.args.object.now) h c.args.nodes.now) (sym (c.deref.ensures.value ∙ c.self.view_is)) frontier.covering.spelled),
+  ok_not_first c.well_formed_is_alternating.ensures functions h c.args.arrival.now.pending.now c.args.arrival.now.at c.args.arrival.now.event.now c.requires.ok.0 c.requires.ok.1 c.requires.ok.2 next,
+  from_none _ c.in_default.is c.in_ok-list.ensures.over functions h (well_formed_before c.well_formed_is_alternating.ensures functions h c.args.arrival.now.event.now next.well_formed) (subst (IsPending h) (sym c.of-before.ensures) next.opened)
+      (subst (AreSpelled (g.O.SeqObject.starts c.args.arrival.now.object.now) (g.O.SeqObject.step c.args.arrival.now.object.now) (g.O.SeqObject.observing c.args.arrival.now.object.now) h c.args.nodes.now) (sym (c.deref.ensures.value ∙ c.self.view_is)) frontier.covering.spelled),
 )
 
 pub returns-then-branch-clause-before : goal.returns-then-branch-clause-before
 returns-then-branch-clause-before g c is functions h next frontier = (
-  ok_not_first c.well_formed_is_alternating.ensures functions h c.args.pending.now c.args.at c.args.event.now c.requires.ok.0 c.requires.ok.1 c.requires.ok.2 next,
-  c.in_ok-is_surely_over.ensures c.if-branch.true functions h c.args.nodes.now (well_formed_before c.well_formed_is_alternating.ensures functions h c.args.event.now next.well_formed) next.opened frontier,
+  ok_not_first c.well_formed_is_alternating.ensures functions h c.args.arrival.now.pending.now c.args.arrival.now.at c.args.arrival.now.event.now c.requires.ok.0 c.requires.ok.1 c.requires.ok.2 next,
+  c.in_ok-is_surely_over.ensures c.if-branch.true functions h c.args.nodes.now (well_formed_before c.well_formed_is_alternating.ensures functions h c.args.arrival.now.event.now next.well_formed) next.opened frontier,
 )
 
 pub returns-then-is_empty-clause-empty : goal.returns-then-is_empty-clause-empty
 returns-then-is_empty-clause-empty g c is functions h next frontier =
-    let begin = g.O.SeqObject.starts c.args.object.now in
-    let step = g.O.SeqObject.step c.args.object.now in
-    let observes = g.O.SeqObject.observing c.args.object.now in
+    let begin = g.O.SeqObject.starts c.args.arrival.now.object.now in
+    let step = g.O.SeqObject.step c.args.arrival.now.object.now in
+    let observes = g.O.SeqObject.observing c.args.arrival.now.object.now in
     let known = subst (λ l. IsCovering begin step observes false h l c.args.nodes.now) (sym (c.deref.ensures.value ∙ c.self.view_is))
-    (without_overwritten begin step observes (g.O.SeqObject.overwriting c.args.object.now) h c.args.self.now c.args.nodes.now c.overwritten_can_go.ensures.none c.requires.alone frontier.covering) in
-    let listing = from_some _ c.in-Some.is c.in_ok-list.ensures.listing functions h (well_formed_before c.well_formed_is_alternating.ensures functions h c.args.event.now next.well_formed) (subst (IsPending h) (sym c.of-before.ensures) next.opened) known in
-    none_left begin step observes (g.O.SeqObject.overwriting c.args.object.now) functions (with_event h c.args.event.now) c.listed.new.nodes c.in_ok-members.members.items c.members_are_exact.ensures.exact c.legal_orders_end.ensures next.well_formed
+    (without_overwritten begin step observes (g.O.SeqObject.overwriting c.args.arrival.now.object.now) h c.args.self.now c.args.nodes.now c.overwritten_can_go.ensures.none c.requires.alone frontier.covering) in
+    let listing = from_some _ c.in-Some.is c.in_ok-list.ensures.listing functions h (well_formed_before c.well_formed_is_alternating.ensures functions h c.args.arrival.now.event.now next.well_formed) (subst (IsPending h) (sym c.of-before.ensures) next.opened) known in
+    none_left begin step observes (g.O.SeqObject.overwriting c.args.arrival.now.object.now) functions (with_event h c.args.arrival.now.event.now) c.listed.new.nodes c.in_ok-members.members.items c.members_are_exact.ensures.exact c.legal_orders_end.ensures next.well_formed
     (sym c.in_ok-members.members.ok.0 ∙ eqb-true _ _ (sym c.is_empty.ensures ∙ c.if-is_empty.true))
     (c.in_ok-members.ensures functions h next (subst (λ l. IsListingOf begin step observes h l c.listed.new.nodes) (sym c.as_slice.ensures) listing))
 
 pub returns-clause-next : goal.returns-clause-next
 returns-clause-next g c next is functions h nx frontier =
-    let begin = g.O.SeqObject.starts c.args.object.now in
-    let step = g.O.SeqObject.step c.args.object.now in
-    let observes = g.O.SeqObject.observing c.args.object.now in
+    let begin = g.O.SeqObject.starts c.args.arrival.now.object.now in
+    let step = g.O.SeqObject.step c.args.arrival.now.object.now in
+    let observes = g.O.SeqObject.observing c.args.arrival.now.object.now in
     let known = subst (λ l. IsCovering begin step observes false h l c.args.nodes.now) (sym (c.deref.ensures.value ∙ c.self.view_is))
-    (without_overwritten begin step observes (g.O.SeqObject.overwriting c.args.object.now) h c.args.self.now c.args.nodes.now c.overwritten_can_go.ensures.none c.requires.alone frontier.covering) in
-    let listing = from_some _ c.in-Some.is c.in_ok-list.ensures.listing functions h (well_formed_before c.well_formed_is_alternating.ensures functions h c.args.event.now nx.well_formed) (subst (IsPending h) (sym c.of-before.ensures) nx.opened) known in
+    (without_overwritten begin step observes (g.O.SeqObject.overwriting c.args.arrival.now.object.now) h c.args.self.now c.args.nodes.now c.overwritten_can_go.ensures.none c.requires.alone frontier.covering) in
+    let listing = from_some _ c.in-Some.is c.in_ok-list.ensures.listing functions h (well_formed_before c.well_formed_is_alternating.ensures functions h c.args.arrival.now.event.now nx.well_formed) (subst (IsPending h) (sym c.of-before.ensures) nx.opened) known in
     let same : c.in_ok-members.members.items ≡ next = cc in
-    subst (λ l. IsCompressed begin step observes (g.O.SeqObject.overwriting c.args.object.now) (with_event h c.args.event.now) l c.listed.new.nodes) same
+    subst (λ l. IsCompressed begin step observes (g.O.SeqObject.overwriting c.args.arrival.now.object.now) (with_event h c.args.arrival.now.event.now) l c.listed.new.nodes) same
     (c.in_ok-members.ensures functions h nx (subst (λ l. IsListingOf begin step observes h l c.listed.new.nodes) (sym c.as_slice.ensures) listing))
 
 pub returns-in_err-is_surely_over-clause-before : goal.returns-in_err-is_surely_over-clause-before

@@ -15,13 +15,13 @@ returns-in-Empty-clause-empty g c is = c.in_ok-advance_up_to.ensures.empty c.in-
 
 pub returns-after-not-alone-clause-next : goal.returns-after-not-alone-clause-next
 returns-after-not-alone-clause-next g c =
-    let begin = g.O.SeqObject.starts c.args.object.now in
-    let step = g.O.SeqObject.step c.args.object.now in
-    let observes = g.O.SeqObject.observing c.args.object.now in
-    let overwriting = g.O.SeqObject.overwriting c.args.object.now in
+    let begin = g.O.SeqObject.starts c.args.arrival.now.object.now in
+    let step = g.O.SeqObject.step c.args.arrival.now.object.now in
+    let observes = g.O.SeqObject.observing c.args.arrival.now.object.now in
+    let overwriting = g.O.SeqObject.overwriting c.args.arrival.now.object.now in
     if_ok_weaker _ _ (λ _ same next is functions h nx frontier.
-    subst (IsCompressed begin step observes overwriting (with_event h c.args.event.now) next) (sym c.next_within.ensures.nodes)
-    (subst (λ l. IsCompressed begin step observes overwriting (with_event h c.args.event.now) l c.advance_up_to.new.nodes) (sym (same next is))
+    subst (IsCompressed begin step observes overwriting (with_event h c.args.arrival.now.event.now) next) (sym c.next_within.ensures.nodes)
+    (subst (λ l. IsCompressed begin step observes overwriting (with_event h c.args.arrival.now.event.now) l c.advance_up_to.new.nodes) (sym (same next is))
     (c.in_ok-advance_up_to.ensures.next c.in-Next.next c.in-Next.is functions h nx frontier))) c.next_within.result c.next_within.ensures.next
 
 pub returns-after-not-alone-clause-some : goal.returns-after-not-alone-clause-some
@@ -38,13 +38,13 @@ returns-after-not-alone-clause-over g c =
 pub returns-after-not-alone-clause-before : goal.returns-after-not-alone-clause-before
 returns-after-not-alone-clause-before g c =
     if_ok_weaker _ _ (λ _ says is functions h nx frontier.
-    says is functions h (well_formed_before c.well_formed_is_alternating.ensures functions h c.args.event.now nx.well_formed) nx.opened
-    (compressed_stays (g.O.SeqObject.starts c.args.object.now) (g.O.SeqObject.step c.args.object.now) (g.O.SeqObject.observing c.args.object.now) (g.O.SeqObject.overwriting c.args.object.now) h c.args.nodes.now c.advance_up_to.new.nodes
+    says is functions h (well_formed_before c.well_formed_is_alternating.ensures functions h c.args.arrival.now.event.now nx.well_formed) nx.opened
+    (compressed_stays (g.O.SeqObject.starts c.args.arrival.now.object.now) (g.O.SeqObject.step c.args.arrival.now.object.now) (g.O.SeqObject.observing c.args.arrival.now.object.now) (g.O.SeqObject.overwriting c.args.arrival.now.object.now) h c.args.nodes.now c.advance_up_to.new.nodes
     c.args.self.now c.advance_up_to.ensures.grown frontier)) c.next_within.result c.next_within.ensures.before
 
 pub returns-after-not-alone-clause-tries : goal.returns-after-not-alone-clause-tries
 returns-after-not-alone-clause-tries g c =
-    let len = length c.args.pending.now in
+    let len = length c.args.arrival.now.pending.now in
     tried_both c.args.meter.now c.advance_up_to.new.meter c.next_within.new.meter c.longest_search-limit.result c.args.budget len (length c.args.self.now * (2 * ((len + 2) * (len + 2)))) c.longest_search-limit.ensures
     c.advance_up_to.ensures.tries c.next_within.ensures.tried
 
@@ -52,25 +52,25 @@ pub returns-in-TooMany-clause-next : goal.returns-in-TooMany-clause-next
 returns-in-TooMany-clause-next g c =
     if_ok_weaker _ _ (λ step says next is functions h nx frontier.
     says next is functions h nx
-    (subst (IsCompressed (g.O.SeqObject.starts c.args.object.now) (g.O.SeqObject.step c.args.object.now) (g.O.SeqObject.observing c.args.object.now) (g.O.SeqObject.overwriting c.args.object.now) h c.args.self.now)
+    (subst (IsCompressed (g.O.SeqObject.starts c.args.arrival.now.object.now) (g.O.SeqObject.step c.args.arrival.now.object.now) (g.O.SeqObject.observing c.args.arrival.now.object.now) (g.O.SeqObject.overwriting c.args.arrival.now.object.now) h c.args.self.now)
     (sym (c.in_ok-advance_up_to.ensures.kept (inr c.in-TooMany.is))) frontier)) c.from_listing.result c.from_listing.ensures.next
 
 pub returns-in-TooMany-clause-empty : goal.returns-in-TooMany-clause-empty
 returns-in-TooMany-clause-empty g c =
     if_ok_weaker _ _ (λ step says is functions h nx frontier.
     says is functions h nx
-    (subst (IsCompressed (g.O.SeqObject.starts c.args.object.now) (g.O.SeqObject.step c.args.object.now) (g.O.SeqObject.observing c.args.object.now) (g.O.SeqObject.overwriting c.args.object.now) h c.args.self.now)
+    (subst (IsCompressed (g.O.SeqObject.starts c.args.arrival.now.object.now) (g.O.SeqObject.step c.args.arrival.now.object.now) (g.O.SeqObject.observing c.args.arrival.now.object.now) (g.O.SeqObject.overwriting c.args.arrival.now.object.now) h c.args.self.now)
     (sym (c.in_ok-advance_up_to.ensures.kept (inr c.in-TooMany.is))) frontier)) c.from_listing.result c.from_listing.ensures.empty
 
 pub returns-in-TooMany-clause-before : goal.returns-in-TooMany-clause-before
 returns-in-TooMany-clause-before g c =
     if_ok_weaker _ _ (λ step says is functions h nx frontier.
     says is functions h nx
-    (subst (IsCompressed (g.O.SeqObject.starts c.args.object.now) (g.O.SeqObject.step c.args.object.now) (g.O.SeqObject.observing c.args.object.now) (g.O.SeqObject.overwriting c.args.object.now) h c.args.self.now)
+    (subst (IsCompressed (g.O.SeqObject.starts c.args.arrival.now.object.now) (g.O.SeqObject.step c.args.arrival.now.object.now) (g.O.SeqObject.observing c.args.arrival.now.object.now) (g.O.SeqObject.overwriting c.args.arrival.now.object.now) h c.args.self.now)
     (sym (c.in_ok-advance_up_to.ensures.kept (inr c.in-TooMany.is))) frontier)) c.from_listing.result c.from_listing.ensures.before
 
 pub returns-in-TooMany-clause-tries : goal.returns-in-TooMany-clause-tries
 returns-in-TooMany-clause-tries g c =
-    let len = length c.args.pending.now in
+    let len = length c.args.arrival.now.pending.now in
     tried_both c.args.meter.now c.advance_up_to.new.meter c.from_listing.new.meter c.longest_search-limit.result c.args.budget len (length c.args.self.now * (2 * ((len + 2) * (len + 2)))) c.longest_search-limit.ensures
     c.advance_up_to.ensures.tries (tried_up (c.args.budget * len) (c.args.budget * (2 * len + 1)) _ _ (mul-le c.args.budget len c.args.budget (2 * len + 1) (omega arith) (omega arith)) c.from_listing.ensures.tried)

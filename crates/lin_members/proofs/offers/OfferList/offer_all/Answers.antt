@@ -19,12 +19,12 @@ pub loop-operation-preserved-then-operation : goal.loop-operation-preserved-then
 loop-operation-preserved-then-operation g c =
     let same = c.as_slice-operation-items.ensures in
     let inside = rw same at c.loop-operation-test.true in
-    let xs = c.args.pending.now in
+    let xs = c.args.shown.now.pending.now in
     let i = c.loop-operation.operation-index in
-    let observes = g.O.SeqObject.observing c.args.object.now in
+    let observes = g.O.SeqObject.observing c.args.shown.now.object.now in
     record {
-      offered = offering_more (GivesOne (g.O.SeqObject.step c.args.object.now) observes xs c.args.config.now) c.args.round c.args.self.now xs i _ c.loop-operation.self c.loop-operation.self inside
-          (offering_nothing _ c.args.round c.loop-operation.self (λ x gives. crashed_waits_not observes xs _ (Contains-get_or xs i _ inside) (rw same at c.if-operation.true) gives.1)) c.loop-operation.invariant.offered;
+      offered = offering_more (GivesOne (g.O.SeqObject.step c.args.shown.now.object.now) observes xs c.args.shown.now.config.now) c.args.shown.now.round c.args.self.now xs i _ c.loop-operation.self c.loop-operation.self inside
+          (offering_nothing _ c.args.shown.now.round c.loop-operation.self (λ x gives. crashed_waits_not observes xs _ (Contains-get_or xs i _ inside) (rw same at c.if-operation.true) gives.1)) c.loop-operation.invariant.offered;
       knows = c.loop-operation.invariant.knows;
       tried = tried_more i 0 (i + 1) _ _ _ (omega arith) c.loop-operation.invariant.tried (tried_none 0 _);
     }
@@ -32,10 +32,10 @@ loop-operation-preserved-then-operation g c =
 pub loop-operation-preserved : goal.loop-operation-preserved
 loop-operation-preserved g c =
     let same = c.as_slice-operation-items.ensures in
-    let xs = c.args.pending.now in
+    let xs = c.args.shown.now.pending.now in
     let i = c.loop-operation.operation-index in
     record {
-      offered = offering_more (GivesOne (g.O.SeqObject.step c.args.object.now) (g.O.SeqObject.observing c.args.object.now) xs c.args.config.now) c.args.round c.args.self.now xs
+      offered = offering_more (GivesOne (g.O.SeqObject.step c.args.shown.now.object.now) (g.O.SeqObject.observing c.args.shown.now.object.now) xs c.args.shown.now.config.now) c.args.shown.now.round c.args.self.now xs
           i _ c.loop-operation.self c.offer_one.new.self (rw same at c.loop-operation-test.true) (rw same at c.in_ok-offer_one.ensures.offered) c.loop-operation.invariant.offered;
       knows = c.in_ok-offer_one.ensures.knows;
       tried = tried_more i 1 (i + 1) _ _ _ (omega arith) c.loop-operation.invariant.tried c.offer_one.ensures.tried;
@@ -43,5 +43,5 @@ loop-operation-preserved g c =
 
 pub returns-clause-offered : goal.returns-clause-offered
 returns-clause-offered g c =
-    subst (λ l. IsOffering (IsOver (GivesOne (g.O.SeqObject.step c.args.object.now) (g.O.SeqObject.observing c.args.object.now) c.args.pending.now c.args.config.now) l) c.args.round c.args.self.now c.loop-operation.self)
-    (take_all c.loop-operation.operation-index c.args.pending.now (rw c.as_slice-operation-items.ensures at c.loop-operation-test.false)) c.loop-operation.invariant.offered
+    subst (λ l. IsOffering (IsOver (GivesOne (g.O.SeqObject.step c.args.shown.now.object.now) (g.O.SeqObject.observing c.args.shown.now.object.now) c.args.shown.now.pending.now c.args.shown.now.config.now) l) c.args.shown.now.round c.args.self.now c.loop-operation.self)
+    (take_all c.loop-operation.operation-index c.args.shown.now.pending.now (rw c.as_slice-operation-items.ensures at c.loop-operation-test.false)) c.loop-operation.invariant.offered

@@ -6,7 +6,7 @@ use Rattle.lin_members.proofs.offers.OfferList.offer_all.Given as goal
 
 abbrev pub invariant-loop-operation : goal.invariant-loop-operation
 invariant-loop-operation g l = record {
-  offered : IsOffering (IsOver (GivesOne (g.O.SeqObject.step l.object) (g.O.SeqObject.observing l.object) l.pending l.config) (take l.operation-index l.pending)) l.round l.fn.self l.self;
-  knows : Knows (g.O.SeqObject.step l.object) l.config.0 l.known l.steps.items;
+  offered : IsOffering (IsOver (GivesOne (g.O.SeqObject.step l.shown.object.now) (g.O.SeqObject.observing l.shown.object.now) l.shown.pending.now l.shown.config.now) (take l.operation-index l.shown.pending.now)) l.shown.round l.fn.self l.self;
+  knows : Knows (g.O.SeqObject.step l.shown.object.now) l.shown.config.now.0 l.known l.steps.items;
   tried : IsTriedAtMost l.operation-index l.fn.meter l.meter;
 }
