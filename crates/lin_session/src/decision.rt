@@ -30,21 +30,21 @@ impl Objects {
         alloc: Global,
         scope: Scope,
         patience: u64,
-        present: Present<'_>,
+        present: &Present<'_>,
         meter: &mut Meter,
     ) -> Result<Verdict, OutOfMemory>
-        requires few { length present.history.now < usize.MAX }
-        requires right { AreRight self.old (kind_of present.kinds.now) present.budget present.history.now }
-        requires well_formed { IsWellFormed (functions_of (kind_of present.kinds.now)) present.history.now }
-        ensures right { AreRight self.new (kind_of present.kinds.now) present.budget present.history.now }
-        ensures split { OnOk result (split_in self.new ≡ length present.history.now) }
-        ensures apart { split_in self.old ≡ length present.history.now → split_in self.new ≡ length present.history.now }
-        ensures verdict { IfOk result (IsVerdict (record { history = present.history.now; kinds = present.kinds.now; budget = present.budget }) scope) }
+        requires few { length present.now.history.now < usize.MAX }
+        requires right { AreRight self.old (kind_of present.now.kinds.now) present.now.budget present.now.history.now }
+        requires well_formed { IsWellFormed (functions_of (kind_of present.now.kinds.now)) present.now.history.now }
+        ensures right { AreRight self.new (kind_of present.now.kinds.now) present.now.budget present.now.history.now }
+        ensures split { OnOk result (split_in self.new ≡ length present.now.history.now) }
+        ensures apart { split_in self.old ≡ length present.now.history.now → split_in self.new ≡ length present.now.history.now }
+        ensures verdict { IfOk result (IsVerdict (record { history = present.now.history.now; kinds = present.now.kinds.now; budget = present.now.budget }) scope) }
         ensures scans { meter.new.scans ≡ meter.old.scans }
-        ensures marked { OnOk result (AreSameMarks (marks_in self.old) (marks_in self.new) ⊎ AreMarked (kind_of present.kinds.now) present.budget present.history.now scope (marks_in self.old) (marks_in self.new)) }
+        ensures marked { OnOk result (AreSameMarks (marks_in self.old) (marks_in self.new) ⊎ AreMarked (kind_of present.now.kinds.now) present.now.budget present.now.history.now scope (marks_in self.old) (marks_in self.new)) }
         ensures unmarked { OnErr result (AreSameMarks (marks_in self.old) (marks_in self.new)) }
-        ensures steps { meter.new.steps ≤ meter.old.steps + cost_in (marks_in self.old) present.history.now scope }
-        ensures ready { split_in self.old ≡ length present.history.now → IsNothingDue present.history.now scope (marks_in self.old) → IsOk result }
+        ensures steps { meter.new.steps ≤ meter.old.steps + cost_in (marks_in self.old) present.now.history.now scope }
+        ensures ready { split_in self.old ≡ length present.now.history.now → IsNothingDue present.now.history.now scope (marks_in self.old) → IsOk result }
     {
         match self.hurried(alloc, scope, patience, present, meter)? {
             Some(verdict) => Ok(verdict),
@@ -63,21 +63,21 @@ impl Objects {
         alloc: Global,
         scope: Scope,
         patience: u64,
-        present: Present<'_>,
+        present: &Present<'_>,
         meter: &mut Meter,
     ) -> Result<Option<Verdict>, OutOfMemory>
-        requires few { length present.history.now < usize.MAX }
-        requires right { AreRight self.old (kind_of present.kinds.now) present.budget present.history.now }
-        requires well_formed { IsWellFormed (functions_of (kind_of present.kinds.now)) present.history.now }
-        ensures right { AreRight self.new (kind_of present.kinds.now) present.budget present.history.now }
-        ensures split { OnOk result (split_in self.new ≡ length present.history.now) }
-        ensures apart { split_in self.old ≡ length present.history.now → split_in self.new ≡ length present.history.now }
-        ensures verdict { IfOk result (λ found. IfSome found (IsVerdict (record { history = present.history.now; kinds = present.kinds.now; budget = present.budget }) scope)) }
+        requires few { length present.now.history.now < usize.MAX }
+        requires right { AreRight self.old (kind_of present.now.kinds.now) present.now.budget present.now.history.now }
+        requires well_formed { IsWellFormed (functions_of (kind_of present.now.kinds.now)) present.now.history.now }
+        ensures right { AreRight self.new (kind_of present.now.kinds.now) present.now.budget present.now.history.now }
+        ensures split { OnOk result (split_in self.new ≡ length present.now.history.now) }
+        ensures apart { split_in self.old ≡ length present.now.history.now → split_in self.new ≡ length present.now.history.now }
+        ensures verdict { IfOk result (λ found. IfSome found (IsVerdict (record { history = present.now.history.now; kinds = present.now.kinds.now; budget = present.now.budget }) scope)) }
         ensures scans { meter.new.scans ≡ meter.old.scans }
         ensures marks { AreSameMarks (marks_in self.old) (marks_in self.new) }
-        ensures steps { meter.new.steps ≤ meter.old.steps + cost_in (marks_in self.old) present.history.now scope }
-        ensures left { OnOk result ((n : ℕ) × (meter.new.steps + n ≤ meter.old.steps + cost_in (marks_in self.old) present.history.now scope) × IsCost present.budget self.new scope n) }
-        ensures ready { split_in self.old ≡ length present.history.now → IsNothingDue present.history.now scope (marks_in self.old) → IsOk result }
+        ensures steps { meter.new.steps ≤ meter.old.steps + cost_in (marks_in self.old) present.now.history.now scope }
+        ensures left { OnOk result ((n : ℕ) × (meter.new.steps + n ≤ meter.old.steps + cost_in (marks_in self.old) present.now.history.now scope) × IsCost present.now.budget self.new scope n) }
+        ensures ready { split_in self.old ≡ length present.now.history.now → IsNothingDue present.now.history.now scope (marks_in self.old) → IsOk result }
     {
         positions_spell_parts();
         self.split(alloc, present.history, present.kinds)?;

@@ -30,14 +30,14 @@ impl Objects {
         &self,
         alloc: Global,
         i: usize,
-        present: Present<'_>,
+        present: &Present<'_>,
     ) -> Option<(Option<usize>, Option<usize>)>
         requires listed { i < length self.now.keys.keys }
-        requires few { length present.history.now < usize.MAX }
-        requires split { split_in self.now ≡ length present.history.now }
-        requires right { AreRight self.now (kind_of present.kinds.now) present.budget present.history.now }
-        requires well_formed { IsWellFormed (functions_of (kind_of present.kinds.now)) present.history.now }
-        ensures { IfSome result (λ r. (key : ℤ) → slice_get self.now.keys.keys i ≡ Some key → IsFinding (kind_of present.kinds.now) present.budget present.history.now key r.0 r.1) }
+        requires few { length present.now.history.now < usize.MAX }
+        requires split { split_in self.now ≡ length present.now.history.now }
+        requires right { AreRight self.now (kind_of present.now.kinds.now) present.now.budget present.now.history.now }
+        requires well_formed { IsWellFormed (functions_of (kind_of present.now.kinds.now)) present.now.history.now }
+        ensures { IfSome result (λ r. (key : ℤ) → slice_get self.now.keys.keys i ≡ Some key → IsFinding (kind_of present.now.kinds.now) present.now.budget present.now.history.now key r.0 r.1) }
     {
         let object = &self.objects[i];
         if !is_searched_first(object.chain.kind()) {
@@ -53,13 +53,13 @@ impl Objects {
     fn foreseen_all(
         &self,
         alloc: Global,
-        present: Present<'_>,
+        present: &Present<'_>,
     ) -> Option<(Option<usize>, Option<usize>)>
-        requires few { length present.history.now < usize.MAX }
-        requires split { split_in self.now ≡ length present.history.now }
-        requires right { AreRight self.now (kind_of present.kinds.now) present.budget present.history.now }
-        requires well_formed { IsWellFormed (functions_of (kind_of present.kinds.now)) present.history.now }
-        ensures { IfSome result (λ r. AreFound (kind_of present.kinds.now) present.budget present.history.now self.now.keys.keys r.0 r.1) }
+        requires few { length present.now.history.now < usize.MAX }
+        requires split { split_in self.now ≡ length present.now.history.now }
+        requires right { AreRight self.now (kind_of present.now.kinds.now) present.now.budget present.now.history.now }
+        requires well_formed { IsWellFormed (functions_of (kind_of present.now.kinds.now)) present.now.history.now }
+        ensures { IfSome result (λ r. AreFound (kind_of present.now.kinds.now) present.now.budget present.now.history.now self.now.keys.keys r.0 r.1) }
     {
         let mut failing = None;
         let mut over = None;
@@ -74,12 +74,12 @@ impl Objects {
     }
 
     /// Whether the object of the key is linearizable, if they tell.
-    fn foreseen_object(&self, alloc: Global, key: i64, present: Present<'_>) -> Option<Verdict>
-        requires few { length present.history.now < usize.MAX }
-        requires split { split_in self.now ≡ length present.history.now }
-        requires right { AreRight self.now (kind_of present.kinds.now) present.budget present.history.now }
-        requires well_formed { IsWellFormed (functions_of (kind_of present.kinds.now)) present.history.now }
-        ensures { IfSome result (IsObjectVerdict (kind_of present.kinds.now) present.budget present.history.now key) }
+    fn foreseen_object(&self, alloc: Global, key: i64, present: &Present<'_>) -> Option<Verdict>
+        requires few { length present.now.history.now < usize.MAX }
+        requires split { split_in self.now ≡ length present.now.history.now }
+        requires right { AreRight self.now (kind_of present.now.kinds.now) present.now.budget present.now.history.now }
+        requires well_formed { IsWellFormed (functions_of (kind_of present.now.kinds.now)) present.now.history.now }
+        ensures { IfSome result (IsObjectVerdict (kind_of present.now.kinds.now) present.now.budget present.now.history.now key) }
     {
         absent_keys_are_legal();
         let Some(i) = self.find(key) else {
@@ -92,12 +92,12 @@ impl Objects {
     }
 
     /// Whether the whole is linearizable, if they tell.
-    fn foreseen_whole(&self, alloc: Global, present: Present<'_>) -> Option<Verdict>
-        requires few { length present.history.now < usize.MAX }
-        requires split { split_in self.now ≡ length present.history.now }
-        requires right { AreRight self.now (kind_of present.kinds.now) present.budget present.history.now }
-        requires well_formed { IsWellFormed (functions_of (kind_of present.kinds.now)) present.history.now }
-        ensures { IfSome result (IsWholeVerdict (kind_of present.kinds.now) present.budget present.history.now) }
+    fn foreseen_whole(&self, alloc: Global, present: &Present<'_>) -> Option<Verdict>
+        requires few { length present.now.history.now < usize.MAX }
+        requires split { split_in self.now ≡ length present.now.history.now }
+        requires right { AreRight self.now (kind_of present.now.kinds.now) present.now.budget present.now.history.now }
+        requires well_formed { IsWellFormed (functions_of (kind_of present.now.kinds.now)) present.now.history.now }
+        ensures { IfSome result (IsWholeVerdict (kind_of present.now.kinds.now) present.now.budget present.now.history.now) }
     {
         absent_keys_are_legal();
         prefixes_are_linearizable();
@@ -115,13 +115,13 @@ impl Objects {
         &self,
         alloc: Global,
         scope: Scope,
-        present: Present<'_>,
+        present: &Present<'_>,
     ) -> Option<Verdict>
-        requires few { length present.history.now < usize.MAX }
-        requires split { split_in self.now ≡ length present.history.now }
-        requires right { AreRight self.now (kind_of present.kinds.now) present.budget present.history.now }
-        requires well_formed { IsWellFormed (functions_of (kind_of present.kinds.now)) present.history.now }
-        ensures { IfSome result (IsVerdict (record { history = present.history.now; kinds = present.kinds.now; budget = present.budget }) scope) }
+        requires few { length present.now.history.now < usize.MAX }
+        requires split { split_in self.now ≡ length present.now.history.now }
+        requires right { AreRight self.now (kind_of present.now.kinds.now) present.now.budget present.now.history.now }
+        requires well_formed { IsWellFormed (functions_of (kind_of present.now.kinds.now)) present.now.history.now }
+        ensures { IfSome result (IsVerdict (record { history = present.now.history.now; kinds = present.now.kinds.now; budget = present.now.budget }) scope) }
     {
         match scope {
             Scope::Object(key) => self.foreseen_object(alloc, key, present),

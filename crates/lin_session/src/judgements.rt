@@ -33,23 +33,23 @@ impl Objects {
         &mut self,
         alloc: Global,
         scope: Scope,
-        present: Present<'_>,
+        present: &Present<'_>,
         meter: &mut Meter,
     ) -> Result<Answer, OutOfMemory>
-        requires few { length present.history.now < usize.MAX }
-        requires right { AreRight self.old (kind_of present.kinds.now) present.budget present.history.now }
-        requires well_formed { IsWellFormed (functions_of (kind_of present.kinds.now)) present.history.now }
-        ensures right { AreRight self.new (kind_of present.kinds.now) present.budget present.history.now }
-        ensures split { OnOk result (split_in self.new ≡ length present.history.now) }
-        ensures apart { split_in self.old ≡ length present.history.now → split_in self.new ≡ length present.history.now }
-        ensures answer { IfOk result (IsAnswer (record { history = present.history.now; kinds = present.kinds.now; budget = present.budget }) scope) }
+        requires few { length present.now.history.now < usize.MAX }
+        requires right { AreRight self.old (kind_of present.now.kinds.now) present.now.budget present.now.history.now }
+        requires well_formed { IsWellFormed (functions_of (kind_of present.now.kinds.now)) present.now.history.now }
+        ensures right { AreRight self.new (kind_of present.now.kinds.now) present.now.budget present.now.history.now }
+        ensures split { OnOk result (split_in self.new ≡ length present.now.history.now) }
+        ensures apart { split_in self.old ≡ length present.now.history.now → split_in self.new ≡ length present.now.history.now }
+        ensures answer { IfOk result (IsAnswer (record { history = present.now.history.now; kinds = present.now.kinds.now; budget = present.now.budget }) scope) }
         ensures dead { (n : ℕ) → result ≡ Ok (Answer.No n) → IsDeadFor self.new scope n }
         ensures scans { meter.new.scans ≡ meter.old.scans }
         ensures marks { AreSameMarks (marks_in self.old) (marks_in self.new) }
-        ensures judged { OnOk result (AreJudged (kind_of present.kinds.now) present.budget present.history.now self.new scope) }
-        ensures steps { meter.new.steps ≤ meter.old.steps + cost_in (marks_in self.old) present.history.now scope }
-        ensures ready { split_in self.old ≡ length present.history.now → IsNothingDue present.history.now scope (marks_in self.old)
-            → IsWithoutOrder (record { history = present.history.now; kinds = present.kinds.now; budget = present.budget }) scope (marks_in self.old) → IsOk result }
+        ensures judged { OnOk result (AreJudged (kind_of present.now.kinds.now) present.now.budget present.now.history.now self.new scope) }
+        ensures steps { meter.new.steps ≤ meter.old.steps + cost_in (marks_in self.old) present.now.history.now scope }
+        ensures ready { split_in self.old ≡ length present.now.history.now → IsNothingDue present.now.history.now scope (marks_in self.old)
+            → IsWithoutOrder (record { history = present.now.history.now; kinds = present.now.kinds.now; budget = present.now.budget }) scope (marks_in self.old) → IsOk result }
     {
         linearizability_is_local();
         match self.judge(alloc, scope, present, meter)? {
@@ -68,21 +68,21 @@ impl Objects {
         &mut self,
         alloc: Global,
         key: i64,
-        present: Present<'_>,
+        present: &Present<'_>,
         meter: &mut Meter,
     ) -> Result<Refuted, RefuteFault>
-        requires few { length present.history.now < usize.MAX }
-        requires right { AreRight self.old (kind_of present.kinds.now) present.budget present.history.now }
-        requires well_formed { IsWellFormed (functions_of (kind_of present.kinds.now)) present.history.now }
-        ensures right { AreRight self.new (kind_of present.kinds.now) present.budget present.history.now }
-        ensures split { OnOk result (split_in self.new ≡ length present.history.now) }
-        ensures apart { split_in self.old ≡ length present.history.now → split_in self.new ≡ length present.history.now }
-        ensures refuted { IfOk result (IsRefuted (record { history = present.history.now; kinds = present.kinds.now; budget = present.budget }) key) }
-        ensures unrefuted { IfErr result (IsUnrefuted (record { history = present.history.now; kinds = present.kinds.now; budget = present.budget }) key) }
+        requires few { length present.now.history.now < usize.MAX }
+        requires right { AreRight self.old (kind_of present.now.kinds.now) present.now.budget present.now.history.now }
+        requires well_formed { IsWellFormed (functions_of (kind_of present.now.kinds.now)) present.now.history.now }
+        ensures right { AreRight self.new (kind_of present.now.kinds.now) present.now.budget present.now.history.now }
+        ensures split { OnOk result (split_in self.new ≡ length present.now.history.now) }
+        ensures apart { split_in self.old ≡ length present.now.history.now → split_in self.new ≡ length present.now.history.now }
+        ensures refuted { IfOk result (IsRefuted (record { history = present.now.history.now; kinds = present.now.kinds.now; budget = present.now.budget }) key) }
+        ensures unrefuted { IfErr result (IsUnrefuted (record { history = present.now.history.now; kinds = present.now.kinds.now; budget = present.now.budget }) key) }
         ensures scans { meter.new.scans ≡ meter.old.scans }
         ensures marks { AreSameMarks (marks_in self.old) (marks_in self.new) }
-        ensures judged { OnOk result (AreJudged (kind_of present.kinds.now) present.budget present.history.now self.new (Scope.Object key)) }
-        ensures steps { meter.new.steps ≤ meter.old.steps + cost_in (marks_in self.old) present.history.now (Scope.Object key) }
+        ensures judged { OnOk result (AreJudged (kind_of present.now.kinds.now) present.now.budget present.now.history.now self.new (Scope.Object key)) }
+        ensures steps { meter.new.steps ≤ meter.old.steps + cost_in (marks_in self.old) present.now.history.now (Scope.Object key) }
     {
         match self.ask(alloc, Scope::Object(key), present, meter) {
             Ok(Answer::No { prefix }) => {
@@ -124,24 +124,24 @@ impl Objects {
         &mut self,
         alloc: Global,
         scope: Scope,
-        present: Present<'_>,
+        present: &Present<'_>,
         meter: &mut Meter,
     ) -> Result<Verdict, OutOfMemory>
-        requires few { length present.history.now < usize.MAX }
-        requires right { AreRight self.old (kind_of present.kinds.now) present.budget present.history.now }
-        requires well_formed { IsWellFormed (functions_of (kind_of present.kinds.now)) present.history.now }
-        ensures right { AreRight self.new (kind_of present.kinds.now) present.budget present.history.now }
-        ensures split { OnOk result (split_in self.new ≡ length present.history.now) }
-        ensures apart { split_in self.old ≡ length present.history.now → split_in self.new ≡ length present.history.now }
-        ensures verdict { IfOk result (IsVerdict (record { history = present.history.now; kinds = present.kinds.now; budget = present.budget }) scope) }
+        requires few { length present.now.history.now < usize.MAX }
+        requires right { AreRight self.old (kind_of present.now.kinds.now) present.now.budget present.now.history.now }
+        requires well_formed { IsWellFormed (functions_of (kind_of present.now.kinds.now)) present.now.history.now }
+        ensures right { AreRight self.new (kind_of present.now.kinds.now) present.now.budget present.now.history.now }
+        ensures split { OnOk result (split_in self.new ≡ length present.now.history.now) }
+        ensures apart { split_in self.old ≡ length present.now.history.now → split_in self.new ≡ length present.now.history.now }
+        ensures verdict { IfOk result (IsVerdict (record { history = present.now.history.now; kinds = present.now.kinds.now; budget = present.now.budget }) scope) }
         ensures alive { result ≡ Ok Verdict.Yes → AreAlive self.new scope }
         ensures dead { (n : ℕ) → result ≡ Ok (Verdict.No n) → IsDeadFor self.new scope n }
         ensures scans { meter.new.scans ≡ meter.old.scans }
         ensures marks { AreSameMarks (marks_in self.old) (marks_in self.new) }
-        ensures judged { OnOk result (AreJudged (kind_of present.kinds.now) present.budget present.history.now self.new scope) }
-        ensures steps { meter.new.steps ≤ meter.old.steps + cost_in (marks_in self.old) present.history.now scope }
-        ensures left { split_in self.old ≡ length present.history.now → (n : ℕ) → IsCost present.budget self.old scope n → meter.new.steps ≤ meter.old.steps + n }
-        ensures ready { split_in self.old ≡ length present.history.now → IsNothingDue present.history.now scope (marks_in self.old) → IsOk result }
+        ensures judged { OnOk result (AreJudged (kind_of present.now.kinds.now) present.now.budget present.now.history.now self.new scope) }
+        ensures steps { meter.new.steps ≤ meter.old.steps + cost_in (marks_in self.old) present.now.history.now scope }
+        ensures left { split_in self.old ≡ length present.now.history.now → (n : ℕ) → IsCost present.now.budget self.old scope n → meter.new.steps ≤ meter.old.steps + n }
+        ensures ready { split_in self.old ≡ length present.now.history.now → IsNothingDue present.now.history.now scope (marks_in self.old) → IsOk result }
     {
         positions_spell_parts();
         self.split(alloc, present.history, present.kinds)?;

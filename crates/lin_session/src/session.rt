@@ -197,7 +197,7 @@ impl Session {
                     kinds: &self.kinds,
                     budget: self.budget,
                 };
-                let answer = self.objects.ask(alloc, scope, present, &mut self.meter)?;
+                let answer = self.objects.ask(alloc, scope, &present, &mut self.meter)?;
                 self.objects.mark(scope);
                 self.low = None;
                 Ok(answer)
@@ -237,8 +237,8 @@ impl Session {
                     kinds: &self.kinds,
                     budget: self.budget,
                 };
-                let verdict = self.objects.judge(alloc, scope, present, &mut self.meter)?;
-                let reconsidered = self.objects.reconsidered(alloc, scope, present, verdict);
+                let verdict = self.objects.judge(alloc, scope, &present, &mut self.meter)?;
+                let reconsidered = self.objects.reconsidered(alloc, scope, &present, verdict);
                 self.objects.mark(scope);
                 self.low = None;
                 Ok(reconsidered)
@@ -283,7 +283,7 @@ impl Session {
                 };
                 let verdict = self
                     .objects
-                    .decide(alloc, scope, patience, present, &mut self.meter)?;
+                    .decide(alloc, scope, patience, &present, &mut self.meter)?;
                 self.low = None;
                 Ok(verdict)
             }
@@ -360,7 +360,7 @@ impl Session {
                     kinds: &self.kinds,
                     budget: self.budget,
                 };
-                let refuted = self.objects.refute(alloc, key, present, &mut self.meter)?;
+                let refuted = self.objects.refute(alloc, key, &present, &mut self.meter)?;
                 self.objects.mark(Scope::Object(key));
                 self.low = None;
                 Ok(refuted)

@@ -62,15 +62,15 @@ impl Objects {
         &self,
         i: usize,
         end: End,
-        present: Present<'_>,
+        present: &Present<'_>,
     ) -> (Option<usize>, Option<usize>)
         requires listed { i < length self.now.keys.keys }
-        requires few { length present.history.now < usize.MAX }
-        requires split { split_in self.now ≡ length present.history.now }
-        requires right { AreRight self.now (kind_of present.kinds.now) present.budget present.history.now }
-        requires well_formed { IsWellFormed (functions_of (kind_of present.kinds.now)) present.history.now }
-        requires end { (object : ObjectOf) → slice_get self.now.objects.items i ≡ Some object → IsEndOf (kind_in object.chain) present.budget (events_at present.history.now object.picks.items) end }
-        ensures { (key : ℤ) → slice_get self.now.keys.keys i ≡ Some key → IsFinding (kind_of present.kinds.now) present.budget present.history.now key result.0 result.1 }
+        requires few { length present.now.history.now < usize.MAX }
+        requires split { split_in self.now ≡ length present.now.history.now }
+        requires right { AreRight self.now (kind_of present.now.kinds.now) present.now.budget present.now.history.now }
+        requires well_formed { IsWellFormed (functions_of (kind_of present.now.kinds.now)) present.now.history.now }
+        requires end { (object : ObjectOf) → slice_get self.now.objects.items i ≡ Some object → IsEndOf (kind_in object.chain) present.now.budget (events_at present.now.history.now object.picks.items) end }
+        ensures { (key : ℤ) → slice_get self.now.keys.keys i ≡ Some key → IsFinding (kind_of present.now.kinds.now) present.now.budget present.now.history.now key result.0 result.1 }
     {
         positions_spell_parts();
         parts_of_prefixes();
@@ -85,15 +85,15 @@ impl Objects {
         &self,
         alloc: Global,
         i: usize,
-        present: Present<'_>,
+        present: &Present<'_>,
     ) -> (Option<usize>, Option<usize>)
         requires listed { i < length self.now.keys.keys }
-        requires few { length present.history.now < usize.MAX }
-        requires split { split_in self.now ≡ length present.history.now }
-        requires right { AreRight self.now (kind_of present.kinds.now) present.budget present.history.now }
-        requires well_formed { IsWellFormed (functions_of (kind_of present.kinds.now)) present.history.now }
-        requires judged { (key : ℤ) (object : ObjectOf) → slice_get self.now.keys.keys i ≡ Some key → slice_get self.now.objects.items i ≡ Some object → IsJudged (kind_of present.kinds.now) present.budget present.history.now key object }
-        ensures { (key : ℤ) → slice_get self.now.keys.keys i ≡ Some key → IsFinding (kind_of present.kinds.now) present.budget present.history.now key result.0 result.1 }
+        requires few { length present.now.history.now < usize.MAX }
+        requires split { split_in self.now ≡ length present.now.history.now }
+        requires right { AreRight self.now (kind_of present.now.kinds.now) present.now.budget present.now.history.now }
+        requires well_formed { IsWellFormed (functions_of (kind_of present.now.kinds.now)) present.now.history.now }
+        requires judged { (key : ℤ) (object : ObjectOf) → slice_get self.now.keys.keys i ≡ Some key → slice_get self.now.objects.items i ≡ Some object → IsJudged (kind_of present.now.kinds.now) present.now.budget present.now.history.now key object }
+        ensures { (key : ℤ) → slice_get self.now.keys.keys i ≡ Some key → IsFinding (kind_of present.now.kinds.now) present.now.budget present.now.history.now key result.0 result.1 }
     {
         positions_spell_parts();
         let object = &self.objects[i];
@@ -106,14 +106,14 @@ impl Objects {
     fn findings_with_orders(
         &self,
         alloc: Global,
-        present: Present<'_>,
+        present: &Present<'_>,
     ) -> (Option<usize>, Option<usize>)
-        requires few { length present.history.now < usize.MAX }
-        requires split { split_in self.now ≡ length present.history.now }
-        requires right { AreRight self.now (kind_of present.kinds.now) present.budget present.history.now }
-        requires well_formed { IsWellFormed (functions_of (kind_of present.kinds.now)) present.history.now }
-        requires judged { AreJudged (kind_of present.kinds.now) present.budget present.history.now self.now Scope.Whole }
-        ensures { AreFound (kind_of present.kinds.now) present.budget present.history.now self.now.keys.keys result.0 result.1 }
+        requires few { length present.now.history.now < usize.MAX }
+        requires split { split_in self.now ≡ length present.now.history.now }
+        requires right { AreRight self.now (kind_of present.now.kinds.now) present.now.budget present.now.history.now }
+        requires well_formed { IsWellFormed (functions_of (kind_of present.now.kinds.now)) present.now.history.now }
+        requires judged { AreJudged (kind_of present.now.kinds.now) present.now.budget present.now.history.now self.now Scope.Whole }
+        ensures { AreFound (kind_of present.now.kinds.now) present.now.budget present.now.history.now self.now.keys.keys result.0 result.1 }
     {
         let mut failing = None;
         let mut over = None;
@@ -126,13 +126,13 @@ impl Objects {
     }
 
     /// Whether the object of the key, which was judged, is linearizable.
-    fn object_with_order(&self, alloc: Global, key: i64, present: Present<'_>) -> Verdict
-        requires few { length present.history.now < usize.MAX }
-        requires split { split_in self.now ≡ length present.history.now }
-        requires right { AreRight self.now (kind_of present.kinds.now) present.budget present.history.now }
-        requires well_formed { IsWellFormed (functions_of (kind_of present.kinds.now)) present.history.now }
-        requires judged { AreJudged (kind_of present.kinds.now) present.budget present.history.now self.now (Scope.Object key) }
-        ensures { IsObjectVerdict (kind_of present.kinds.now) present.budget present.history.now key result }
+    fn object_with_order(&self, alloc: Global, key: i64, present: &Present<'_>) -> Verdict
+        requires few { length present.now.history.now < usize.MAX }
+        requires split { split_in self.now ≡ length present.now.history.now }
+        requires right { AreRight self.now (kind_of present.now.kinds.now) present.now.budget present.now.history.now }
+        requires well_formed { IsWellFormed (functions_of (kind_of present.now.kinds.now)) present.now.history.now }
+        requires judged { AreJudged (kind_of present.now.kinds.now) present.now.budget present.now.history.now self.now (Scope.Object key) }
+        ensures { IsObjectVerdict (kind_of present.now.kinds.now) present.now.budget present.now.history.now key result }
     {
         absent_keys_are_legal();
         match self.find(key) {
@@ -145,13 +145,13 @@ impl Objects {
     }
 
     /// Whether the whole is linearizable. All objects were judged.
-    fn whole_with_orders(&self, alloc: Global, present: Present<'_>) -> Verdict
-        requires few { length present.history.now < usize.MAX }
-        requires split { split_in self.now ≡ length present.history.now }
-        requires right { AreRight self.now (kind_of present.kinds.now) present.budget present.history.now }
-        requires well_formed { IsWellFormed (functions_of (kind_of present.kinds.now)) present.history.now }
-        requires judged { AreJudged (kind_of present.kinds.now) present.budget present.history.now self.now Scope.Whole }
-        ensures { IsWholeVerdict (kind_of present.kinds.now) present.budget present.history.now result }
+    fn whole_with_orders(&self, alloc: Global, present: &Present<'_>) -> Verdict
+        requires few { length present.now.history.now < usize.MAX }
+        requires split { split_in self.now ≡ length present.now.history.now }
+        requires right { AreRight self.now (kind_of present.now.kinds.now) present.now.budget present.now.history.now }
+        requires well_formed { IsWellFormed (functions_of (kind_of present.now.kinds.now)) present.now.history.now }
+        requires judged { AreJudged (kind_of present.now.kinds.now) present.now.budget present.now.history.now self.now Scope.Whole }
+        ensures { IsWholeVerdict (kind_of present.now.kinds.now) present.now.budget present.now.history.now result }
     {
         absent_keys_are_legal();
         prefixes_are_linearizable();
@@ -168,16 +168,16 @@ impl Objects {
         &self,
         alloc: Global,
         scope: Scope,
-        present: Present<'_>,
+        present: &Present<'_>,
         verdict: Verdict,
     ) -> Verdict
-        requires few { length present.history.now < usize.MAX }
-        requires split { split_in self.now ≡ length present.history.now }
-        requires right { AreRight self.now (kind_of present.kinds.now) present.budget present.history.now }
-        requires well_formed { IsWellFormed (functions_of (kind_of present.kinds.now)) present.history.now }
-        requires judged { AreJudged (kind_of present.kinds.now) present.budget present.history.now self.now scope }
-        requires verdict { IsVerdict (record { history = present.history.now; kinds = present.kinds.now; budget = present.budget }) scope verdict }
-        ensures { IsVerdict (record { history = present.history.now; kinds = present.kinds.now; budget = present.budget }) scope result }
+        requires few { length present.now.history.now < usize.MAX }
+        requires split { split_in self.now ≡ length present.now.history.now }
+        requires right { AreRight self.now (kind_of present.now.kinds.now) present.now.budget present.now.history.now }
+        requires well_formed { IsWellFormed (functions_of (kind_of present.now.kinds.now)) present.now.history.now }
+        requires judged { AreJudged (kind_of present.now.kinds.now) present.now.budget present.now.history.now self.now scope }
+        requires verdict { IsVerdict (record { history = present.now.history.now; kinds = present.now.kinds.now; budget = present.now.budget }) scope verdict }
+        ensures { IsVerdict (record { history = present.now.history.now; kinds = present.now.kinds.now; budget = present.now.budget }) scope result }
     {
         match verdict {
             Verdict::Undecided { .. } if !is_counted(present.budget as usize) => match scope {

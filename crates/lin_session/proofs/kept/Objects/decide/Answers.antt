@@ -24,14 +24,14 @@ returns-in_err-verdict-in-None-clause-ready c = λ all nothing.
 
 pub returns-in_ok-verdict-in-None-clause-right : goal.returns-in_ok-verdict-in-None-clause-right
 returns-in_ok-verdict-in-None-clause-right c =
-    c.mark.ensures.right (kind_of c.args.present.kinds.now) c.args.present.budget c.args.present.history.now c.in_ok-verdict-in-None.ensures.split c.judge.ensures.right c.in_ok-verdict-in-None.ensures.judged
+    c.mark.ensures.right (kind_of c.args.present.now.kinds.now) c.args.present.now.budget c.args.present.now.history.now c.in_ok-verdict-in-None.ensures.split c.judge.ensures.right c.in_ok-verdict-in-None.ensures.judged
 
 pub returns-in_ok-verdict-in-None-clause-marked : goal.returns-in_ok-verdict-in-None-clause-marked
 returns-in_ok-verdict-in-None-clause-marked c =
-    let K = kind_of c.args.present.kinds.now in
-    let h = c.args.present.history.now in
-    let are = c.mark.ensures.marks K c.args.present.budget h c.in_ok-verdict-in-None.ensures.split c.judge.ensures.right c.in_ok-verdict-in-None.ensures.judged in
-    inr (AreMarked-since K c.args.present.budget h c.args.scope (marks_in c.args.self.now) (marks_in c.judge.new.self) (marks_in c.mark.new.self) (λ key. c.judge.ensures.marks key ∙ c.hurried.ensures.marks key) are)
+    let K = kind_of c.args.present.now.kinds.now in
+    let h = c.args.present.now.history.now in
+    let are = c.mark.ensures.marks K c.args.present.now.budget h c.in_ok-verdict-in-None.ensures.split c.judge.ensures.right c.in_ok-verdict-in-None.ensures.judged in
+    inr (AreMarked-since K c.args.present.now.budget h c.args.scope (marks_in c.args.self.now) (marks_in c.judge.new.self) (marks_in c.mark.new.self) (λ key. c.judge.ensures.marks key ∙ c.hurried.ensures.marks key) are)
 
 pub returns-in_ok-verdict-in-None-clause-steps : goal.returns-in_ok-verdict-in-None-clause-steps
 returns-in_ok-verdict-in-None-clause-steps c =
