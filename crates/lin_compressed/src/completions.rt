@@ -10,13 +10,14 @@ ghost use Rattle.lin_members.specs.Searching.{AreBehind, AreUpdates, PlacesIfUpd
 ghost use Rattle.lin_listing.specs.Putting.{IsPutNext, IsTakenIn, IsTakenInIf};
 ghost use Rattle.lin_frontier.specs.Walks.{IsTriedAtMost};
 
+use crate::exchanges::waits_for_like;
 use crate::scratch::{Scratch, empty, give_up_all};
 use crate::seen::{Seen, is_found};
 use lin_events::{Meter, OutOfMemory, Reply};
 use lin_frontier::{Config, Open, Pending, place_if_absent};
 use lin_members::{
     Member, OfferList, Offers, Path, Pool, RoundNodes, Shown, advanced, copied, may_be_watched,
-    placed_at, push_member, waits_for_like,
+    placed_at, push_member,
 };
 use lin_objects::SeqObject;
 use lin_orders::Placed;

@@ -4,6 +4,7 @@
 mod asking;
 mod completions;
 mod compressed;
+mod exchanges;
 mod scratch;
 mod seen;
 mod showing;

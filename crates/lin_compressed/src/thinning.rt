@@ -4,9 +4,10 @@ ghost use Rattle.lin_members.specs.declared.members.Path.{Path as PathOf};
 ghost use Rattle.lin_members.specs.Members.{Member as MemberOf};
 ghost use Rattle.lin_members.specs.Settling.{IsSettled, IsShadow, IsThinned};
 
+use crate::exchanges::{are_some_alike, settle};
 use lin_events::OutOfMemory;
 use lin_frontier::{Config, Pending};
-use lin_members::{Member, Path, are_some_alike, pruned_many, push_member, same, settle};
+use lin_members::{Member, Path, pruned_many, push_member, same};
 use lin_objects::SeqObject;
 use std::alloc::Global;
 

@@ -1,8 +1,6 @@
-//! Tests of frontiers, chains and searches: worked and drawn histories.
+//! Tests of frontiers and searches: worked and drawn histories.
 #![tactic(auto)]
 
-#[cfg(test)]
-mod chains;
 #[cfg(test)]
 mod compressed;
 #[cfg(test)]

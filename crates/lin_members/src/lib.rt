@@ -3,7 +3,6 @@
 #![tactic(auto)]
 
 mod domination;
-mod exchanges;
 mod member_examples;
 mod member_laws;
 mod members;
@@ -16,7 +15,6 @@ mod round_laws;
 mod rounds;
 
 pub use domination::{covers, dominates};
-pub use exchanges::{are_some_alike, settle, waits_for_like};
 pub use member_examples::members_of_a_register;
 pub use member_laws::{
     dominated_can_go, members_after_events, members_after_ok, members_cover_configurations,

@@ -2,18 +2,13 @@
 //! passed a check.
 #![tactic(auto)]
 
-mod acts;
-mod attempts;
 mod bags;
 mod copies;
-mod drafts;
 mod elements;
-mod lines;
 mod operations;
 mod queues;
 mod ranks;
 mod sets;
 mod witness;
-mod zones;
 
 pub use witness::{finds_failure, finds_order};

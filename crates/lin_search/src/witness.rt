@@ -3,12 +3,9 @@ ghost use Rattle.std.specs.Prelude.{◌≡◌, ◌∷◌, ◌++◌, [], ℤ, All
 ghost use Rattle.lin_orders.specs.Parts.{events_at};
 ghost use Rattle.lin_orders.specs.Linearizable.{IsDeadAt, IsLegalOrderAs, IsLinearizableAs};
 
-use crate::acts::Acts;
-use crate::attempts::Attempt;
 use crate::bags::bag_order;
 use crate::queues::queue_order;
 use crate::sets::set_order;
-use crate::zones::sought;
 use lin_events::{Event, OutOfMemory};
 use lin_failures::{
     BagConflict, Conflict, QueueConflict, SetConflict, bag_failure, is_bag_refuted,
@@ -16,6 +13,7 @@ use lin_failures::{
 };
 use lin_objects::{Kind, Kinds};
 use lin_orders::{Placed, check_order};
+use lin_registers::{register_failure, register_order};
 use std::alloc::Global;
 
 /// Puts the event at the place last, if there is one.
@@ -42,30 +40,6 @@ fn picked(alloc: Global, events: &[Event], picks: &[usize]) -> Result<Vec<Event>
         append_at(alloc, &mut own, events, *pick)?;
     }
     Ok(own)
-}
-
-/// The operations with their replies.
-fn placed(alloc: Global, acts: &Acts, operations: &[usize]) -> Result<Vec<Placed>, OutOfMemory> {
-    let mut order = Vec::new(alloc);
-    for at in operations {
-        if let Some(act) = acts.act(*at) {
-            order.push(Placed {
-                at: *at,
-                reply: act.reply(),
-            })?;
-        }
-    }
-    Ok(order)
-}
-
-/// An order of the events of a register, if the search finds one.
-fn register_order(alloc: Global, events: &[Event]) -> Result<Option<Vec<Placed>>, OutOfMemory> {
-    let acts = Acts::of(alloc, events)?;
-    let mut attempt = Attempt::new(alloc, &acts);
-    match attempt.run()? {
-        Some(operations) => Ok(Some(placed(alloc, &acts, &operations)?)),
-        None => Ok(None),
-    }
 }
 
 /// An order of the events of an object of the kind, if a search finds one.
@@ -164,7 +138,10 @@ fn sought_as(
 ) -> Result<Option<(usize, Reason)>, OutOfMemory> {
     match kind {
         Kind::Register | Kind::CasRegister => {
-            Ok(sought(alloc, events)?.map(|(at, conflict)| (at, Reason::Register(conflict))))
+            Ok(register_failure(alloc, events)?.map(|(at, conflict)| (
+                at,
+                Reason::Register(conflict),
+            )))
         }
         Kind::Set => {
             Ok(set_failure(alloc, events)?.map(|(at, conflict)| (at, Reason::Set(conflict))))

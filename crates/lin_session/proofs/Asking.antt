@@ -21,7 +21,7 @@ use Rattle.lin_chain.specs.Ends.{IsEndOf}
 use Rattle.lin_session.specs.declared.answers.Verdict.{Verdict}
 use Rattle.lin_session.specs.declared.answers.Verdict.TheVariants.{Yes, No}
 use Rattle.lin_session.specs.declared.kept.Object.{Object}
-use Rattle.lin_session.specs.declared.work.Mark.{Mark}
+use Rattle.lin_session.specs.declared.marks.Mark.{Mark}
 use Rattle.lin_session.specs.Answers.{IsObjectVerdict}
 use Rattle.lin_session.specs.Objects.{IsMarkRight, IsObject, IsPlaceIn, Finds, IsOrderIn}
 use Rattle.lin_session.specs.Judgements.{IsFinding, IsTold}

@@ -9,7 +9,7 @@ use Rattle.lin_orders.specs.Parts.{part}
 use Rattle.lin_chain.specs.Chains.{ready_under}
 use Rattle.lin_session.specs.declared.answers.Scope.{Scope}
 use Rattle.lin_session.specs.declared.answers.Scope.TheVariants as scope
-use Rattle.lin_session.specs.declared.work.Mark.{Mark}
+use Rattle.lin_session.specs.declared.marks.Mark.{Mark}
 use Rattle.lin_session.specs.Marks.{IsNothingDue, IsOf}
 use Rattle.lin_session.specs.Objects.{AreKept, AreRight, listed_marks, marks_in, split_in, stands_for}
 use Rattle.lin_session.specs.declared.kept.Objects.{Objects}

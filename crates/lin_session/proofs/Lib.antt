@@ -13,7 +13,7 @@ pub mod Low
 pub mod Equals
 pub mod Sums
 pub mod Costing
-pub mod Present
+pub mod Occurring
 pub mod Settling
 pub mod Raising
 pub mod Ready

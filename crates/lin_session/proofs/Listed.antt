@@ -8,7 +8,7 @@ use Rattle.std.proofs.lemmas.Map.Views.{list_any-from_Contains, Contains-from_an
 use Rattle.std.proofs.lemmas.Bool.{false≢true}
 use Rattle.std.proofs.lemmas.Option.{same_Some}
 use Rattle.lin_session.specs.declared.kept.Object.{Object}
-use Rattle.lin_session.specs.declared.work.Mark.{Mark}
+use Rattle.lin_session.specs.declared.marks.Mark.{Mark}
 use Rattle.lin_events.specs.declared.events.Event.{Event}
 use Rattle.lin_objects.specs.declared.kinds.Kind.{Kind}
 use Rattle.lin_orders.specs.Parts.{part}

@@ -10,7 +10,7 @@ use Rattle.lin_chain.specs.declared.chain.End.{End}
 use Rattle.lin_chain.specs.declared.chain.End.TheVariants.{Alive, Dead, Over}
 use Rattle.lin_chain.specs.Chains.{Stands, end_in, end_under, ready_count, ready_under, IsRight}
 use Rattle.lin_session.specs.declared.kept.Object.{Object}
-use Rattle.lin_session.specs.declared.work.Mark.{Mark}
+use Rattle.lin_session.specs.declared.marks.Mark.{Mark}
 use Rattle.lin_session.specs.Objects.{IsMarkRight, stands_for, up_to}
 use Rattle.lin_session.proofs.Low.{rounded_below}
 use Rattle.lin_session.specs.Work.{ahead_of, least, raised, rounded, rounded_too, settled_at, touched, unasked}

@@ -13,7 +13,7 @@ use Rattle.lin_session.specs.declared.answers.Scope.TheVariants.{Object, Whole}
 use Rattle.lin_session.specs.declared.answers.Verdict.TheVariants.{Yes}
 use Rattle.lin_session.specs.declared.kept.Object.{Object as Kept}
 use Rattle.lin_session.specs.declared.kept.Objects.{Objects}
-use Rattle.lin_session.specs.declared.work.Mark.{Mark}
+use Rattle.lin_session.specs.declared.marks.Mark.{Mark}
 use Rattle.lin_session.specs.Answers.{kinds_in, IsVerdict}
 use Rattle.lin_session.specs.Edits.{Present}
 use Rattle.lin_session.specs.Judgements.{AreAlive, IsAlive}
@@ -22,7 +22,7 @@ use Rattle.lin_session.specs.Objects.{AreRight, marks_in, split_in}
 use Rattle.lin_session.specs.Work.{AreSameMarks, settled_at}
 use Rattle.lin_session.proofs.Listed.{is_listed, mark_listed}
 use Rattle.lin_lists.specs.lemmas.Taken.{All-at, element_at, one_place}
-use Rattle.lin_session.proofs.Present.{event_there}
+use Rattle.lin_session.proofs.Occurring.{event_there}
 
 alive_at : (objects : Objects) (scope : Scope) → AreAlive objects scope → (i : ℕ) (key : ℤ) (o : Kept) → IsOf scope key → slice_get objects.keys.keys i ≡ Some key → slice_get objects.objects.items i ≡ Some o → IsAlive o
 alive_at objects (Object named) alive i key o same key_at o_at = alive i o (key_at ∙ ap Some same) o_at

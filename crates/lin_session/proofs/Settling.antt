@@ -10,7 +10,7 @@ use Rattle.lin_orders.specs.Parts.{part}
 use Rattle.lin_chain.specs.Chains.{end_in}
 use Rattle.lin_session.specs.declared.answers.Scope.{Scope}
 use Rattle.lin_session.specs.declared.kept.Object.{Object}
-use Rattle.lin_session.specs.declared.work.Mark.{Mark}
+use Rattle.lin_session.specs.declared.marks.Mark.{Mark}
 use Rattle.lin_session.specs.Costs.{IsJudged}
 use Rattle.lin_session.specs.Marks.{AreMarked, IsOf}
 use Rattle.lin_session.specs.Objects.{AreKept, IsObject, listed_marks, settled_object}
@@ -26,7 +26,7 @@ use Rattle.lin_session.specs.declared.answers.Scope.TheVariants as scope
 use Rattle.lin_lists.specs.lemmas.Taken.{there_at}
 use Rattle.lin_session.proofs.Marking.{IsMarkRight-same, IsMarkRight-settled, same_over, settled_over}
 use Rattle.lin_chain.specs.Ends.{IsEndOf}
-use Rattle.lin_session.proofs.Present.{event_there}
+use Rattle.lin_session.proofs.Occurring.{event_there}
 
 -- the objects of the scope are marked, and the others stay
 abbrev pub AreSet : Scope → List ℤ → List Object → List Object → Type 0

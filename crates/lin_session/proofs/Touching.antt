@@ -10,7 +10,7 @@ use Rattle.std.proofs.lemmas.List.Elements.{filter-append}
 use Rattle.lin_events.specs.declared.events.Event.{Event}
 use Rattle.lin_orders.specs.Orders.{is_of_key}
 use Rattle.lin_orders.specs.Parts.{part}
-use Rattle.lin_session.specs.declared.work.Mark.{Mark}
+use Rattle.lin_session.specs.declared.marks.Mark.{Mark}
 use Rattle.lin_session.specs.Work.{AreSameMarks, AreTouched, count_before, rounded, touched, touched_at, truncated}
 use Rattle.lin_lists.specs.lemmas.Lists.{take_next}
 use Rattle.lin_session.proofs.Around.{part-more, part-same}

@@ -8,7 +8,7 @@ use Rattle.lin_chain.specs.declared.chain.End.{End}
 use Rattle.lin_chain.specs.Ends.{IsEndOf}
 use Rattle.lin_session.specs.declared.answers.Scope.{Scope}
 use Rattle.lin_session.specs.declared.answers.Scope.TheVariants.{Object, Whole}
-use Rattle.lin_session.specs.declared.work.Mark.{Mark}
+use Rattle.lin_session.specs.declared.marks.Mark.{Mark}
 use Rattle.lin_session.specs.Edits.{Present}
 use Rattle.lin_session.specs.Answers.{kinds_in}
 use Rattle.lin_session.specs.Work.{settled_at}

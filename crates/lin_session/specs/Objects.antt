@@ -11,7 +11,7 @@ use Rattle.lin_chain.specs.declared.chain.End.TheVariants.{Alive, Dead, Over}
 use Rattle.lin_orders.specs.declared.placed.Placed.{Placed}
 use Rattle.lin_session.specs.declared.kept.Object.{Object}
 use Rattle.lin_session.specs.declared.kept.Objects.{Objects}
-use Rattle.lin_session.specs.declared.work.Mark.{Mark}
+use Rattle.lin_session.specs.declared.marks.Mark.{Mark}
 use Rattle.lin_session.specs.Work.{mark_of, raised, settled_at, unasked}
 
 -- how many of so many events stand as they were found

@@ -9,7 +9,7 @@ use Rattle.lin_objects.specs.Kinds.{functions_of, kind_of}
 use Rattle.lin_wellformed.specs.declared.scan.Scan.{Scan}
 use Rattle.lin_wellformed.specs.Scans.{IsRight, ready_count}
 use Rattle.lin_session.specs.declared.kept.Objects.{Objects}
-use Rattle.lin_session.specs.declared.work.Mark.{Mark}
+use Rattle.lin_session.specs.declared.marks.Mark.{Mark}
 use Rattle.lin_session.specs.Objects.{AreRight, split_in}
 use Rattle.lin_session.specs.Edits.{Present, IsBudget}
 

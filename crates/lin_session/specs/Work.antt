@@ -11,7 +11,7 @@ use Rattle.lin_session.specs.declared.answers.Scope.{Scope}
 use Rattle.lin_session.specs.declared.answers.Scope.TheVariants.{Object, Whole}
 use Rattle.lin_session.specs.declared.edits.Edit.{Edit}
 use Rattle.lin_session.specs.declared.edits.Edit.TheVariants.{Append, Truncate, Replace, Remove, SetKind, SetBudget}
-use Rattle.lin_session.specs.declared.work.Mark.{Mark}
+use Rattle.lin_session.specs.declared.marks.Mark.{Mark}
 use Rattle.lin_session.specs.Edits.{Present}
 
 -- the lesser of two numbers, where there are two

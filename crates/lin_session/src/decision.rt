@@ -13,9 +13,9 @@ ghost use Rattle.lin_session.specs.Work.{AreSameMarks, cost_in};
 use crate::answers::{Scope, Verdict};
 use crate::foresight::is_searched_first;
 use crate::kept::Objects;
+use crate::present::Present;
 use lin_compressed::is_counted;
 use lin_events::{Event, Meter, OutOfMemory};
-use lin_objects::Kinds;
 use lin_orders::{parts_keep_operations, positions_spell_parts};
 use std::alloc::Global;
 
@@ -30,29 +30,27 @@ impl Objects {
         alloc: Global,
         scope: Scope,
         patience: u64,
-        events: &[Event],
-        kinds: &Kinds,
-        budget: u32,
+        present: &Present<'_>,
         meter: &mut Meter,
     ) -> Result<Verdict, OutOfMemory>
-        requires few { length events.now < usize.MAX }
-        requires right { AreRight self.old (kind_of kinds.now) budget events.now }
-        requires well_formed { IsWellFormed (functions_of (kind_of kinds.now)) events.now }
-        ensures right { AreRight self.new (kind_of kinds.now) budget events.now }
-        ensures split { OnOk result (split_in self.new ≡ length events.now) }
-        ensures apart { split_in self.old ≡ length events.now → split_in self.new ≡ length events.now }
-        ensures verdict { IfOk result (IsVerdict (record { history = events.now; kinds = kinds.now; budget = budget }) scope) }
+        requires few { length present.now.history.now < usize.MAX }
+        requires right { AreRight self.old (kind_of present.now.kinds.now) present.now.budget present.now.history.now }
+        requires well_formed { IsWellFormed (functions_of (kind_of present.now.kinds.now)) present.now.history.now }
+        ensures right { AreRight self.new (kind_of present.now.kinds.now) present.now.budget present.now.history.now }
+        ensures split { OnOk result (split_in self.new ≡ length present.now.history.now) }
+        ensures apart { split_in self.old ≡ length present.now.history.now → split_in self.new ≡ length present.now.history.now }
+        ensures verdict { IfOk result (IsVerdict (record { history = present.now.history.now; kinds = present.now.kinds.now; budget = present.now.budget }) scope) }
         ensures scans { meter.new.scans ≡ meter.old.scans }
-        ensures marked { OnOk result (AreSameMarks (marks_in self.old) (marks_in self.new) ⊎ AreMarked (kind_of kinds.now) budget events.now scope (marks_in self.old) (marks_in self.new)) }
+        ensures marked { OnOk result (AreSameMarks (marks_in self.old) (marks_in self.new) ⊎ AreMarked (kind_of present.now.kinds.now) present.now.budget present.now.history.now scope (marks_in self.old) (marks_in self.new)) }
         ensures unmarked { OnErr result (AreSameMarks (marks_in self.old) (marks_in self.new)) }
-        ensures steps { meter.new.steps ≤ meter.old.steps + cost_in (marks_in self.old) events.now scope }
-        ensures ready { split_in self.old ≡ length events.now → IsNothingDue events.now scope (marks_in self.old) → IsOk result }
+        ensures steps { meter.new.steps ≤ meter.old.steps + cost_in (marks_in self.old) present.now.history.now scope }
+        ensures ready { split_in self.old ≡ length present.now.history.now → IsNothingDue present.now.history.now scope (marks_in self.old) → IsOk result }
     {
-        match self.hurried(alloc, scope, patience, events, kinds, budget, meter)? {
+        match self.hurried(alloc, scope, patience, present, meter)? {
             Some(verdict) => Ok(verdict),
             None => {
-                let verdict = self.judge(alloc, scope, events, kinds, budget, meter)?;
-                let told = self.reconsidered(alloc, scope, events, kinds, budget, verdict);
+                let verdict = self.judge(alloc, scope, present, meter)?;
+                let told = self.reconsidered(alloc, scope, present, verdict);
                 self.mark(scope);
                 Ok(told)
             }
@@ -65,33 +63,31 @@ impl Objects {
         alloc: Global,
         scope: Scope,
         patience: u64,
-        events: &[Event],
-        kinds: &Kinds,
-        budget: u32,
+        present: &Present<'_>,
         meter: &mut Meter,
     ) -> Result<Option<Verdict>, OutOfMemory>
-        requires few { length events.now < usize.MAX }
-        requires right { AreRight self.old (kind_of kinds.now) budget events.now }
-        requires well_formed { IsWellFormed (functions_of (kind_of kinds.now)) events.now }
-        ensures right { AreRight self.new (kind_of kinds.now) budget events.now }
-        ensures split { OnOk result (split_in self.new ≡ length events.now) }
-        ensures apart { split_in self.old ≡ length events.now → split_in self.new ≡ length events.now }
-        ensures verdict { IfOk result (λ found. IfSome found (IsVerdict (record { history = events.now; kinds = kinds.now; budget = budget }) scope)) }
+        requires few { length present.now.history.now < usize.MAX }
+        requires right { AreRight self.old (kind_of present.now.kinds.now) present.now.budget present.now.history.now }
+        requires well_formed { IsWellFormed (functions_of (kind_of present.now.kinds.now)) present.now.history.now }
+        ensures right { AreRight self.new (kind_of present.now.kinds.now) present.now.budget present.now.history.now }
+        ensures split { OnOk result (split_in self.new ≡ length present.now.history.now) }
+        ensures apart { split_in self.old ≡ length present.now.history.now → split_in self.new ≡ length present.now.history.now }
+        ensures verdict { IfOk result (λ found. IfSome found (IsVerdict (record { history = present.now.history.now; kinds = present.now.kinds.now; budget = present.now.budget }) scope)) }
         ensures scans { meter.new.scans ≡ meter.old.scans }
         ensures marks { AreSameMarks (marks_in self.old) (marks_in self.new) }
-        ensures steps { meter.new.steps ≤ meter.old.steps + cost_in (marks_in self.old) events.now scope }
-        ensures left { OnOk result ((n : ℕ) × (meter.new.steps + n ≤ meter.old.steps + cost_in (marks_in self.old) events.now scope) × IsCost budget self.new scope n) }
-        ensures ready { split_in self.old ≡ length events.now → IsNothingDue events.now scope (marks_in self.old) → IsOk result }
+        ensures steps { meter.new.steps ≤ meter.old.steps + cost_in (marks_in self.old) present.now.history.now scope }
+        ensures left { OnOk result ((n : ℕ) × (meter.new.steps + n ≤ meter.old.steps + cost_in (marks_in self.old) present.now.history.now scope) × IsCost present.now.budget self.new scope n) }
+        ensures ready { split_in self.old ≡ length present.now.history.now → IsNothingDue present.now.history.now scope (marks_in self.old) → IsOk result }
     {
         positions_spell_parts();
-        self.split(alloc, events, kinds)?;
-        if is_counted(budget as usize) {
+        self.split(alloc, present.history, present.kinds)?;
+        if is_counted(present.budget as usize) {
             return Ok(None);
         }
-        if self.take_some(scope, patience, events, budget, meter)? {
+        if self.take_some(scope, patience, present.history, present.budget, meter)? {
             return Ok(None);
         }
-        Ok(self.foreseen(alloc, scope, events, kinds, budget))
+        Ok(self.foreseen(alloc, scope, present))
     }
 
     /// Lets the chains of the scope's queues and sets take events in, within so many tries for each, and tells whether that was all.

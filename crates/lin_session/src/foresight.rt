@@ -7,11 +7,12 @@ ghost use Rattle.lin_session.specs.Judgements.{AreFound, IsFinding};
 ghost use Rattle.lin_session.specs.Objects.{AreRight, split_in};
 
 use crate::answers::{Scope, Verdict};
+use crate::judgements::told;
 use crate::kept::Objects;
-use crate::objects::told;
-use crate::work::least_of;
-use lin_events::{Event, beginnings_are_well_formed};
-use lin_objects::{Kind, Kinds};
+use crate::marks::least_of;
+use crate::present::Present;
+use lin_events::beginnings_are_well_formed;
+use lin_objects::Kind;
 use lin_orders::{
     absent_keys_are_legal, linearizability_is_local, parts_keep_orders, prefixes_are_linearizable,
 };
@@ -29,23 +30,21 @@ impl Objects {
         &self,
         alloc: Global,
         i: usize,
-        events: &[Event],
-        kinds: &Kinds,
-        budget: u32,
+        present: &Present<'_>,
     ) -> Option<(Option<usize>, Option<usize>)>
         requires listed { i < length self.now.keys.keys }
-        requires few { length events.now < usize.MAX }
-        requires split { split_in self.now ≡ length events.now }
-        requires right { AreRight self.now (kind_of kinds.now) budget events.now }
-        requires well_formed { IsWellFormed (functions_of (kind_of kinds.now)) events.now }
-        ensures { IfSome result (λ r. (key : ℤ) → slice_get self.now.keys.keys i ≡ Some key → IsFinding (kind_of kinds.now) budget events.now key r.0 r.1) }
+        requires few { length present.now.history.now < usize.MAX }
+        requires split { split_in self.now ≡ length present.now.history.now }
+        requires right { AreRight self.now (kind_of present.now.kinds.now) present.now.budget present.now.history.now }
+        requires well_formed { IsWellFormed (functions_of (kind_of present.now.kinds.now)) present.now.history.now }
+        ensures { IfSome result (λ r. (key : ℤ) → slice_get self.now.keys.keys i ≡ Some key → IsFinding (kind_of present.now.kinds.now) present.now.budget present.now.history.now key r.0 r.1) }
     {
         let object = &self.objects[i];
         if !is_searched_first(object.chain.kind()) {
             return None;
         }
-        match object.found_end(alloc, events) {
-            Some(end) => Some(self.told_end(i, end, events, kinds, budget)),
+        match object.found_end(alloc, present.history) {
+            Some(end) => Some(self.told_end(i, end, present)),
             None => None,
         }
     }
@@ -54,20 +53,18 @@ impl Objects {
     fn foreseen_all(
         &self,
         alloc: Global,
-        events: &[Event],
-        kinds: &Kinds,
-        budget: u32,
+        present: &Present<'_>,
     ) -> Option<(Option<usize>, Option<usize>)>
-        requires few { length events.now < usize.MAX }
-        requires split { split_in self.now ≡ length events.now }
-        requires right { AreRight self.now (kind_of kinds.now) budget events.now }
-        requires well_formed { IsWellFormed (functions_of (kind_of kinds.now)) events.now }
-        ensures { IfSome result (λ r. AreFound (kind_of kinds.now) budget events.now self.now.keys.keys r.0 r.1) }
+        requires few { length present.now.history.now < usize.MAX }
+        requires split { split_in self.now ≡ length present.now.history.now }
+        requires right { AreRight self.now (kind_of present.now.kinds.now) present.now.budget present.now.history.now }
+        requires well_formed { IsWellFormed (functions_of (kind_of present.now.kinds.now)) present.now.history.now }
+        ensures { IfSome result (λ r. AreFound (kind_of present.now.kinds.now) present.now.budget present.now.history.now self.now.keys.keys r.0 r.1) }
     {
         let mut failing = None;
         let mut over = None;
         for i in 0..self.objects.len() {
-            let Some(found) = self.foreseen_listed(alloc, i, events, kinds, budget) else {
+            let Some(found) = self.foreseen_listed(alloc, i, present) else {
                 return None;
             };
             failing = least_of(failing, found.0);
@@ -77,50 +74,37 @@ impl Objects {
     }
 
     /// Whether the object of the key is linearizable, if they tell.
-    fn foreseen_object(
-        &self,
-        alloc: Global,
-        key: i64,
-        events: &[Event],
-        kinds: &Kinds,
-        budget: u32,
-    ) -> Option<Verdict>
-        requires few { length events.now < usize.MAX }
-        requires split { split_in self.now ≡ length events.now }
-        requires right { AreRight self.now (kind_of kinds.now) budget events.now }
-        requires well_formed { IsWellFormed (functions_of (kind_of kinds.now)) events.now }
-        ensures { IfSome result (IsObjectVerdict (kind_of kinds.now) budget events.now key) }
+    fn foreseen_object(&self, alloc: Global, key: i64, present: &Present<'_>) -> Option<Verdict>
+        requires few { length present.now.history.now < usize.MAX }
+        requires split { split_in self.now ≡ length present.now.history.now }
+        requires right { AreRight self.now (kind_of present.now.kinds.now) present.now.budget present.now.history.now }
+        requires well_formed { IsWellFormed (functions_of (kind_of present.now.kinds.now)) present.now.history.now }
+        ensures { IfSome result (IsObjectVerdict (kind_of present.now.kinds.now) present.now.budget present.now.history.now key) }
     {
         absent_keys_are_legal();
         let Some(i) = self.find(key) else {
             return Some(Verdict::Yes);
         };
-        match self.foreseen_listed(alloc, i, events, kinds, budget) {
+        match self.foreseen_listed(alloc, i, present) {
             Some((failing, over)) => Some(told(failing, over)),
             None => None,
         }
     }
 
     /// Whether the whole is linearizable, if they tell.
-    fn foreseen_whole(
-        &self,
-        alloc: Global,
-        events: &[Event],
-        kinds: &Kinds,
-        budget: u32,
-    ) -> Option<Verdict>
-        requires few { length events.now < usize.MAX }
-        requires split { split_in self.now ≡ length events.now }
-        requires right { AreRight self.now (kind_of kinds.now) budget events.now }
-        requires well_formed { IsWellFormed (functions_of (kind_of kinds.now)) events.now }
-        ensures { IfSome result (IsWholeVerdict (kind_of kinds.now) budget events.now) }
+    fn foreseen_whole(&self, alloc: Global, present: &Present<'_>) -> Option<Verdict>
+        requires few { length present.now.history.now < usize.MAX }
+        requires split { split_in self.now ≡ length present.now.history.now }
+        requires right { AreRight self.now (kind_of present.now.kinds.now) present.now.budget present.now.history.now }
+        requires well_formed { IsWellFormed (functions_of (kind_of present.now.kinds.now)) present.now.history.now }
+        ensures { IfSome result (IsWholeVerdict (kind_of present.now.kinds.now) present.now.budget present.now.history.now) }
     {
         absent_keys_are_legal();
         prefixes_are_linearizable();
         parts_keep_orders();
         beginnings_are_well_formed();
         linearizability_is_local();
-        match self.foreseen_all(alloc, events, kinds, budget) {
+        match self.foreseen_all(alloc, present) {
             Some((failing, over)) => Some(told(failing, over)),
             None => None,
         }
@@ -131,19 +115,17 @@ impl Objects {
         &self,
         alloc: Global,
         scope: Scope,
-        events: &[Event],
-        kinds: &Kinds,
-        budget: u32,
+        present: &Present<'_>,
     ) -> Option<Verdict>
-        requires few { length events.now < usize.MAX }
-        requires split { split_in self.now ≡ length events.now }
-        requires right { AreRight self.now (kind_of kinds.now) budget events.now }
-        requires well_formed { IsWellFormed (functions_of (kind_of kinds.now)) events.now }
-        ensures { IfSome result (IsVerdict (record { history = events.now; kinds = kinds.now; budget = budget }) scope) }
+        requires few { length present.now.history.now < usize.MAX }
+        requires split { split_in self.now ≡ length present.now.history.now }
+        requires right { AreRight self.now (kind_of present.now.kinds.now) present.now.budget present.now.history.now }
+        requires well_formed { IsWellFormed (functions_of (kind_of present.now.kinds.now)) present.now.history.now }
+        ensures { IfSome result (IsVerdict (record { history = present.now.history.now; kinds = present.now.kinds.now; budget = present.now.budget }) scope) }
     {
         match scope {
-            Scope::Object(key) => self.foreseen_object(alloc, key, events, kinds, budget),
-            Scope::Whole => self.foreseen_whole(alloc, events, kinds, budget),
+            Scope::Object(key) => self.foreseen_object(alloc, key, present),
+            Scope::Whole => self.foreseen_whole(alloc, present),
         }
     }
 }

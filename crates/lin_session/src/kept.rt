@@ -1,7 +1,7 @@
 //! What is kept of the objects of a history.
 ghost use Rattle.std.specs.Prelude.{◌≡◌, length};
 
-use crate::work::Mark;
+use crate::marks::Mark;
 use indexmap::IndexSet;
 use lin_chain::Chain;
 

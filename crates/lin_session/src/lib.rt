@@ -5,13 +5,15 @@ mod answers;
 mod decision;
 mod edits;
 mod foresight;
+mod judgements;
 mod kept;
+mod marks;
+mod merging;
 mod object;
-mod objects;
-mod orders;
+mod parts;
+mod present;
 mod session;
 mod witnesses;
-mod work;
 
 pub use answers::{Answer, Refuted, Scope, Verdict, answers_are_verdicts};
 pub use edits::{Edit, EditFault};

@@ -13,7 +13,7 @@ ghost use Rattle.lin_session.specs.Judgements.{IsAlive};
 ghost use Rattle.lin_session.specs.Work.{rounded, touched, unasked};
 
 use crate::kept::Object;
-use crate::work::{Mark, round_down};
+use crate::marks::{Mark, round_down};
 use lin_chain::{Chain, End};
 use lin_events::{Event, Meter, OutOfMemory};
 use lin_objects::Kind;

@@ -18,7 +18,8 @@ ghost use Rattle.lin_session.specs.Work.{AreSameMarks, anew, cost_in, low_after,
 use crate::answers::{Answer, Refuted, Scope, Verdict};
 use crate::edits::{Edit, EditFault};
 use crate::kept::Objects;
-use crate::work::{least_of, round_down};
+use crate::marks::{least_of, round_down};
+use crate::present::Present;
 use indexmap::IndexSet;
 use lin_chain::{End, RefuteFault};
 use lin_events::{Event, Meter, OutOfMemory, Shape};
@@ -191,14 +192,12 @@ impl Session {
             .settle(&self.events, &self.kinds, &mut self.meter)?
         {
             Shape::Good => {
-                let answer = self.objects.ask(
-                    alloc,
-                    scope,
-                    &self.events,
-                    &self.kinds,
-                    self.budget,
-                    &mut self.meter,
-                )?;
+                let present = Present {
+                    history: &self.events,
+                    kinds: &self.kinds,
+                    budget: self.budget,
+                };
+                let answer = self.objects.ask(alloc, scope, &present, &mut self.meter)?;
                 self.objects.mark(scope);
                 self.low = None;
                 Ok(answer)
@@ -233,22 +232,13 @@ impl Session {
             .settle(&self.events, &self.kinds, &mut self.meter)?
         {
             Shape::Good => {
-                let verdict = self.objects.judge(
-                    alloc,
-                    scope,
-                    &self.events,
-                    &self.kinds,
-                    self.budget,
-                    &mut self.meter,
-                )?;
-                let reconsidered = self.objects.reconsidered(
-                    alloc,
-                    scope,
-                    &self.events,
-                    &self.kinds,
-                    self.budget,
-                    verdict,
-                );
+                let present = Present {
+                    history: &self.events,
+                    kinds: &self.kinds,
+                    budget: self.budget,
+                };
+                let verdict = self.objects.judge(alloc, scope, &present, &mut self.meter)?;
+                let reconsidered = self.objects.reconsidered(alloc, scope, &present, verdict);
                 self.objects.mark(scope);
                 self.low = None;
                 Ok(reconsidered)
@@ -286,15 +276,14 @@ impl Session {
             .settle(&self.events, &self.kinds, &mut self.meter)?
         {
             Shape::Good => {
-                let verdict = self.objects.decide(
-                    alloc,
-                    scope,
-                    patience,
-                    &self.events,
-                    &self.kinds,
-                    self.budget,
-                    &mut self.meter,
-                )?;
+                let present = Present {
+                    history: &self.events,
+                    kinds: &self.kinds,
+                    budget: self.budget,
+                };
+                let verdict = self
+                    .objects
+                    .decide(alloc, scope, patience, &present, &mut self.meter)?;
                 self.low = None;
                 Ok(verdict)
             }
@@ -366,14 +355,12 @@ impl Session {
         };
         match shape {
             Shape::Good => {
-                let refuted = self.objects.refute(
-                    alloc,
-                    key,
-                    &self.events,
-                    &self.kinds,
-                    self.budget,
-                    &mut self.meter,
-                )?;
+                let present = Present {
+                    history: &self.events,
+                    kinds: &self.kinds,
+                    budget: self.budget,
+                };
+                let refuted = self.objects.refute(alloc, key, &present, &mut self.meter)?;
                 self.objects.mark(Scope::Object(key));
                 self.low = None;
                 Ok(refuted)

@@ -12,16 +12,16 @@ ghost use Rattle.lin_session.specs.Judgements.{AreFound, IsFinding};
 ghost use Rattle.lin_session.specs.Objects.{AreRight, split_in};
 
 use crate::answers::{Scope, Verdict};
+use crate::judgements::told;
 use crate::kept::{Object, Objects};
-use crate::objects::told;
-use crate::work::least_of;
+use crate::marks::least_of;
+use crate::present::Present;
 use lin_chain::End;
 use lin_compressed::is_counted;
 use lin_events::{Event, beginnings_are_well_formed};
-use lin_objects::Kinds;
 use lin_orders::{
-    absent_keys_are_legal, linearizability_is_local, parts_keep_operations, parts_keep_orders,
-    parts_of_prefixes, positions_spell_parts, prefixes_are_linearizable,
+    absent_keys_are_legal, linearizability_is_local, parts_keep_orders, parts_of_prefixes,
+    positions_spell_parts, prefixes_are_linearizable,
 };
 use lin_search::{finds_failure, finds_order};
 use std::alloc::Global;
@@ -62,17 +62,15 @@ impl Objects {
         &self,
         i: usize,
         end: End,
-        events: &[Event],
-        kinds: &Kinds,
-        budget: u32,
+        present: &Present<'_>,
     ) -> (Option<usize>, Option<usize>)
         requires listed { i < length self.now.keys.keys }
-        requires few { length events.now < usize.MAX }
-        requires split { split_in self.now ≡ length events.now }
-        requires right { AreRight self.now (kind_of kinds.now) budget events.now }
-        requires well_formed { IsWellFormed (functions_of (kind_of kinds.now)) events.now }
-        requires end { (object : ObjectOf) → slice_get self.now.objects.items i ≡ Some object → IsEndOf (kind_in object.chain) budget (events_at events.now object.picks.items) end }
-        ensures { (key : ℤ) → slice_get self.now.keys.keys i ≡ Some key → IsFinding (kind_of kinds.now) budget events.now key result.0 result.1 }
+        requires few { length present.now.history.now < usize.MAX }
+        requires split { split_in self.now ≡ length present.now.history.now }
+        requires right { AreRight self.now (kind_of present.now.kinds.now) present.now.budget present.now.history.now }
+        requires well_formed { IsWellFormed (functions_of (kind_of present.now.kinds.now)) present.now.history.now }
+        requires end { (object : ObjectOf) → slice_get self.now.objects.items i ≡ Some object → IsEndOf (kind_in object.chain) present.now.budget (events_at present.now.history.now object.picks.items) end }
+        ensures { (key : ℤ) → slice_get self.now.keys.keys i ≡ Some key → IsFinding (kind_of present.now.kinds.now) present.now.budget present.now.history.now key result.0 result.1 }
     {
         positions_spell_parts();
         parts_of_prefixes();
@@ -87,22 +85,20 @@ impl Objects {
         &self,
         alloc: Global,
         i: usize,
-        events: &[Event],
-        kinds: &Kinds,
-        budget: u32,
+        present: &Present<'_>,
     ) -> (Option<usize>, Option<usize>)
         requires listed { i < length self.now.keys.keys }
-        requires few { length events.now < usize.MAX }
-        requires split { split_in self.now ≡ length events.now }
-        requires right { AreRight self.now (kind_of kinds.now) budget events.now }
-        requires well_formed { IsWellFormed (functions_of (kind_of kinds.now)) events.now }
-        requires judged { (key : ℤ) (object : ObjectOf) → slice_get self.now.keys.keys i ≡ Some key → slice_get self.now.objects.items i ≡ Some object → IsJudged (kind_of kinds.now) budget events.now key object }
-        ensures { (key : ℤ) → slice_get self.now.keys.keys i ≡ Some key → IsFinding (kind_of kinds.now) budget events.now key result.0 result.1 }
+        requires few { length present.now.history.now < usize.MAX }
+        requires split { split_in self.now ≡ length present.now.history.now }
+        requires right { AreRight self.now (kind_of present.now.kinds.now) present.now.budget present.now.history.now }
+        requires well_formed { IsWellFormed (functions_of (kind_of present.now.kinds.now)) present.now.history.now }
+        requires judged { (key : ℤ) (object : ObjectOf) → slice_get self.now.keys.keys i ≡ Some key → slice_get self.now.objects.items i ≡ Some object → IsJudged (kind_of present.now.kinds.now) present.now.budget present.now.history.now key object }
+        ensures { (key : ℤ) → slice_get self.now.keys.keys i ≡ Some key → IsFinding (kind_of present.now.kinds.now) present.now.budget present.now.history.now key result.0 result.1 }
     {
         positions_spell_parts();
         let object = &self.objects[i];
-        let end = object.end_with_order(alloc, events);
-        self.told_end(i, end, events, kinds, budget)
+        let end = object.end_with_order(alloc, present.history);
+        self.told_end(i, end, present)
     }
 
     /// What is found of all objects, which were judged, with legal orders looked for: the shortest prefix that fails one, and the first
@@ -110,21 +106,19 @@ impl Objects {
     fn findings_with_orders(
         &self,
         alloc: Global,
-        events: &[Event],
-        kinds: &Kinds,
-        budget: u32,
+        present: &Present<'_>,
     ) -> (Option<usize>, Option<usize>)
-        requires few { length events.now < usize.MAX }
-        requires split { split_in self.now ≡ length events.now }
-        requires right { AreRight self.now (kind_of kinds.now) budget events.now }
-        requires well_formed { IsWellFormed (functions_of (kind_of kinds.now)) events.now }
-        requires judged { AreJudged (kind_of kinds.now) budget events.now self.now Scope.Whole }
-        ensures { AreFound (kind_of kinds.now) budget events.now self.now.keys.keys result.0 result.1 }
+        requires few { length present.now.history.now < usize.MAX }
+        requires split { split_in self.now ≡ length present.now.history.now }
+        requires right { AreRight self.now (kind_of present.now.kinds.now) present.now.budget present.now.history.now }
+        requires well_formed { IsWellFormed (functions_of (kind_of present.now.kinds.now)) present.now.history.now }
+        requires judged { AreJudged (kind_of present.now.kinds.now) present.now.budget present.now.history.now self.now Scope.Whole }
+        ensures { AreFound (kind_of present.now.kinds.now) present.now.budget present.now.history.now self.now.keys.keys result.0 result.1 }
     {
         let mut failing = None;
         let mut over = None;
         for i in 0..self.objects.len() {
-            let found = self.finding_with_order(alloc, i, events, kinds, budget);
+            let found = self.finding_with_order(alloc, i, present);
             failing = least_of(failing, found.0);
             over = least_of(over, found.1);
         }
@@ -132,25 +126,18 @@ impl Objects {
     }
 
     /// Whether the object of the key, which was judged, is linearizable.
-    fn object_with_order(
-        &self,
-        alloc: Global,
-        key: i64,
-        events: &[Event],
-        kinds: &Kinds,
-        budget: u32,
-    ) -> Verdict
-        requires few { length events.now < usize.MAX }
-        requires split { split_in self.now ≡ length events.now }
-        requires right { AreRight self.now (kind_of kinds.now) budget events.now }
-        requires well_formed { IsWellFormed (functions_of (kind_of kinds.now)) events.now }
-        requires judged { AreJudged (kind_of kinds.now) budget events.now self.now (Scope.Object key) }
-        ensures { IsObjectVerdict (kind_of kinds.now) budget events.now key result }
+    fn object_with_order(&self, alloc: Global, key: i64, present: &Present<'_>) -> Verdict
+        requires few { length present.now.history.now < usize.MAX }
+        requires split { split_in self.now ≡ length present.now.history.now }
+        requires right { AreRight self.now (kind_of present.now.kinds.now) present.now.budget present.now.history.now }
+        requires well_formed { IsWellFormed (functions_of (kind_of present.now.kinds.now)) present.now.history.now }
+        requires judged { AreJudged (kind_of present.now.kinds.now) present.now.budget present.now.history.now self.now (Scope.Object key) }
+        ensures { IsObjectVerdict (kind_of present.now.kinds.now) present.now.budget present.now.history.now key result }
     {
         absent_keys_are_legal();
         match self.find(key) {
             Some(i) => {
-                let (failing, over) = self.finding_with_order(alloc, i, events, kinds, budget);
+                let (failing, over) = self.finding_with_order(alloc, i, present);
                 told(failing, over)
             }
             None => Verdict::Yes,
@@ -158,26 +145,20 @@ impl Objects {
     }
 
     /// Whether the whole is linearizable. All objects were judged.
-    fn whole_with_orders(
-        &self,
-        alloc: Global,
-        events: &[Event],
-        kinds: &Kinds,
-        budget: u32,
-    ) -> Verdict
-        requires few { length events.now < usize.MAX }
-        requires split { split_in self.now ≡ length events.now }
-        requires right { AreRight self.now (kind_of kinds.now) budget events.now }
-        requires well_formed { IsWellFormed (functions_of (kind_of kinds.now)) events.now }
-        requires judged { AreJudged (kind_of kinds.now) budget events.now self.now Scope.Whole }
-        ensures { IsWholeVerdict (kind_of kinds.now) budget events.now result }
+    fn whole_with_orders(&self, alloc: Global, present: &Present<'_>) -> Verdict
+        requires few { length present.now.history.now < usize.MAX }
+        requires split { split_in self.now ≡ length present.now.history.now }
+        requires right { AreRight self.now (kind_of present.now.kinds.now) present.now.budget present.now.history.now }
+        requires well_formed { IsWellFormed (functions_of (kind_of present.now.kinds.now)) present.now.history.now }
+        requires judged { AreJudged (kind_of present.now.kinds.now) present.now.budget present.now.history.now self.now Scope.Whole }
+        ensures { IsWholeVerdict (kind_of present.now.kinds.now) present.now.budget present.now.history.now result }
     {
         absent_keys_are_legal();
         prefixes_are_linearizable();
         parts_keep_orders();
         beginnings_are_well_formed();
         linearizability_is_local();
-        let (failing, over) = self.findings_with_orders(alloc, events, kinds, budget);
+        let (failing, over) = self.findings_with_orders(alloc, present);
         told(failing, over)
     }
 
@@ -187,23 +168,21 @@ impl Objects {
         &self,
         alloc: Global,
         scope: Scope,
-        events: &[Event],
-        kinds: &Kinds,
-        budget: u32,
+        present: &Present<'_>,
         verdict: Verdict,
     ) -> Verdict
-        requires few { length events.now < usize.MAX }
-        requires split { split_in self.now ≡ length events.now }
-        requires right { AreRight self.now (kind_of kinds.now) budget events.now }
-        requires well_formed { IsWellFormed (functions_of (kind_of kinds.now)) events.now }
-        requires judged { AreJudged (kind_of kinds.now) budget events.now self.now scope }
-        requires verdict { IsVerdict (record { history = events.now; kinds = kinds.now; budget = budget }) scope verdict }
-        ensures { IsVerdict (record { history = events.now; kinds = kinds.now; budget = budget }) scope result }
+        requires few { length present.now.history.now < usize.MAX }
+        requires split { split_in self.now ≡ length present.now.history.now }
+        requires right { AreRight self.now (kind_of present.now.kinds.now) present.now.budget present.now.history.now }
+        requires well_formed { IsWellFormed (functions_of (kind_of present.now.kinds.now)) present.now.history.now }
+        requires judged { AreJudged (kind_of present.now.kinds.now) present.now.budget present.now.history.now self.now scope }
+        requires verdict { IsVerdict (record { history = present.now.history.now; kinds = present.now.kinds.now; budget = present.now.budget }) scope verdict }
+        ensures { IsVerdict (record { history = present.now.history.now; kinds = present.now.kinds.now; budget = present.now.budget }) scope result }
     {
         match verdict {
-            Verdict::Undecided { .. } if !is_counted(budget as usize) => match scope {
-                Scope::Object(key) => self.object_with_order(alloc, key, events, kinds, budget),
-                Scope::Whole => self.whole_with_orders(alloc, events, kinds, budget),
+            Verdict::Undecided { .. } if !is_counted(present.budget as usize) => match scope {
+                Scope::Object(key) => self.object_with_order(alloc, key, present),
+                Scope::Whole => self.whole_with_orders(alloc, present),
             },
             _ => verdict,
         }

@@ -1,6 +1,6 @@
 use Rattle.std.proofs.Common.{◌∙◌, ap, inl, inr, arith}
 use Rattle.lin_objects.specs.Kinds.{kind_of}
-use Rattle.lin_session.specs.declared.work.Mark.{Mark}
+use Rattle.lin_session.specs.declared.marks.Mark.{Mark}
 use Rattle.lin_session.specs.Objects.{marks_in}
 use Rattle.lin_session.proofs.Found.{not_ok, on_err_since}
 use Rattle.lin_session.proofs.Settling.{AreMarked-since}
@@ -24,14 +24,14 @@ returns-in_err-verdict-in-None-clause-ready c = λ all nothing.
 
 pub returns-in_ok-verdict-in-None-clause-right : goal.returns-in_ok-verdict-in-None-clause-right
 returns-in_ok-verdict-in-None-clause-right c =
-    c.mark.ensures.right (kind_of c.args.kinds.now) c.args.budget c.args.events.now c.in_ok-verdict-in-None.ensures.split c.judge.ensures.right c.in_ok-verdict-in-None.ensures.judged
+    c.mark.ensures.right (kind_of c.args.present.now.kinds.now) c.args.present.now.budget c.args.present.now.history.now c.in_ok-verdict-in-None.ensures.split c.judge.ensures.right c.in_ok-verdict-in-None.ensures.judged
 
 pub returns-in_ok-verdict-in-None-clause-marked : goal.returns-in_ok-verdict-in-None-clause-marked
 returns-in_ok-verdict-in-None-clause-marked c =
-    let K = kind_of c.args.kinds.now in
-    let h = c.args.events.now in
-    let are = c.mark.ensures.marks K c.args.budget h c.in_ok-verdict-in-None.ensures.split c.judge.ensures.right c.in_ok-verdict-in-None.ensures.judged in
-    inr (AreMarked-since K c.args.budget h c.args.scope (marks_in c.args.self.now) (marks_in c.judge.new.self) (marks_in c.mark.new.self) (λ key. c.judge.ensures.marks key ∙ c.hurried.ensures.marks key) are)
+    let K = kind_of c.args.present.now.kinds.now in
+    let h = c.args.present.now.history.now in
+    let are = c.mark.ensures.marks K c.args.present.now.budget h c.in_ok-verdict-in-None.ensures.split c.judge.ensures.right c.in_ok-verdict-in-None.ensures.judged in
+    inr (AreMarked-since K c.args.present.now.budget h c.args.scope (marks_in c.args.self.now) (marks_in c.judge.new.self) (marks_in c.mark.new.self) (λ key. c.judge.ensures.marks key ∙ c.hurried.ensures.marks key) are)
 
 pub returns-in_ok-verdict-in-None-clause-steps : goal.returns-in_ok-verdict-in-None-clause-steps
 returns-in_ok-verdict-in-None-clause-steps c =

@@ -7,26 +7,26 @@ use Rattle.lin_session.proofs.Wholes.{AreFound-next, AreFound-none}
 use Rattle.lin_session.proofs.kept.Objects.findings_with_orders.Goals as goal
 
 pub loop-i-init : goal.loop-i-init
-loop-i-init c = AreFound-none (kind_of c.args.kinds.now) c.args.budget c.args.events.now
+loop-i-init c = AreFound-none (kind_of c.args.present.now.kinds.now) c.args.present.now.budget c.args.present.now.history.now
 
 pub finding_with_order-found-requires-clause-judged : goal.finding_with_order-found-requires-clause-judged
 finding_with_order-found-requires-clause-judged c = λ key object key_at object_at. c.requires.judged c.loop-i.i key object tt key_at object_at
 
 pub loop-i-preserved : goal.loop-i-preserved
 loop-i-preserved c =
-    let K = kind_of c.args.kinds.now in
+    let K = kind_of c.args.present.now.kinds.now in
     let i = c.loop-i.i in
-    let h = c.args.events.now in
+    let h = c.args.present.now.history.now in
     let keys = c.args.self.now.keys.keys in
     let within : i < length keys = omega (arith, c.loop-i-test.true, c.len-i-end.ensures, c.args.self.now.objects.ok.0, c.args.self.now.aligned) in
     let key : ℤ = get_or keys i (pos 0) in
     let key_at : slice_get keys i ≡ Some key = slice_get-get_or keys i (pos 0) within in
     let found = c.finding_with_order-found.result in
-    AreFound-next K c.args.budget h keys i c.loop-i.failing c.loop-i.over found.0 found.1 c.least_of-failing.result c.least_of-over.result key key_at c.loop-i.invariant (c.finding_with_order-found.ensures key key_at)
+    AreFound-next K c.args.present.now.budget h keys i c.loop-i.failing c.loop-i.over found.0 found.1 c.least_of-failing.result c.least_of-over.result key key_at c.loop-i.invariant (c.finding_with_order-found.ensures key key_at)
     c.least_of-failing.ensures c.least_of-over.ensures
 
 pub returns : goal.returns
 returns c =
     let keys = c.args.self.now.keys.keys in
     let all : take c.loop-i.i keys ≡ keys = take_all c.loop-i.i keys (omega (arith, c.loop-i-test.false, c.len-i-end.ensures, c.args.self.now.objects.ok.0, c.args.self.now.aligned)) in
-    subst (λ k. AreFound (kind_of c.args.kinds.now) c.args.budget c.args.events.now k c.loop-i.failing c.loop-i.over) all c.loop-i.invariant
+    subst (λ k. AreFound (kind_of c.args.present.now.kinds.now) c.args.present.now.budget c.args.present.now.history.now k c.loop-i.failing c.loop-i.over) all c.loop-i.invariant

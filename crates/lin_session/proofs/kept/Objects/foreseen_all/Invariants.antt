@@ -4,4 +4,4 @@ use Rattle.lin_session.specs.Judgements.{AreFound}
 use Rattle.lin_session.proofs.kept.Objects.foreseen_all.Given as goal
 
 abbrev pub invariant-loop-i : goal.invariant-loop-i
-invariant-loop-i l = AreFound (kind_of l.kinds) l.budget l.events (take l.i l.self.keys.keys) l.failing l.over
+invariant-loop-i l = AreFound (kind_of l.present.kinds.now) l.present.budget l.present.history.now (take l.i l.self.keys.keys) l.failing l.over

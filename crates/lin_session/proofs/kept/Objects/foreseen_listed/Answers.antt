@@ -12,4 +12,4 @@ told_end-requires-clause-end c = λ object object_at.
     let old = c.index-object.result.now in
     let there = object_within c.args.self.now.keys.keys c.args.self.now.objects.items c.args.i old c.args.self.now.aligned c.requires.listed c.index-object.ensures in
     let same : old ≡ object = same_Some old object (sym there ∙ object_at) in
-    subst (λ (o : Object). IsEndOf (kind_in o.chain) c.args.budget (events_at c.args.events.now o.picks.items) c.in-Some.end) same (c.in-Some.ensures c.args.budget)
+    subst (λ (o : Object). IsEndOf (kind_in o.chain) c.args.present.now.budget (events_at c.args.present.now.history.now o.picks.items) c.in-Some.end) same (c.in-Some.ensures c.args.present.now.budget)

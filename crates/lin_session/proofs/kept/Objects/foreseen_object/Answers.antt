@@ -12,15 +12,15 @@ pub returns-in-Some-foreseen_listed : goal.returns-in-Some-foreseen_listed
 returns-in-Some-foreseen_listed c =
     let is_key : to_z w64 (of_z w64 c.args.key) ≡ c.args.key = to_z-of_z w64 c.args.key c.ranges.key in
     let key_at = subst (λ k. slice_get c.args.self.now.keys.keys c.in-Some.i ≡ Some k) is_key c.in-Some.ensures.found in
-    verdict_told (kind_of c.args.kinds.now) c.args.budget c.args.events.now c.args.key c.in-Some-foreseen_listed.failing c.in-Some-foreseen_listed.over c.told.result
+    verdict_told (kind_of c.args.present.now.kinds.now) c.args.present.now.budget c.args.present.now.history.now c.args.key c.in-Some-foreseen_listed.failing c.in-Some-foreseen_listed.over c.told.result
     (c.in-Some-foreseen_listed.ensures c.args.key key_at) c.told.ensures
 
 pub returns-in_default : goal.returns-in_default
 returns-in_default c =
-    let h = c.args.events.now in
+    let h = c.args.present.now.history.now in
     let is_key : to_z w64 (of_z w64 c.args.key) ≡ c.args.key = to_z-of_z w64 c.args.key c.ranges.key in (
       [],
-      c.absent_keys_are_legal.ensures (kind_of c.args.kinds.now) h c.args.key (λ at event stands same.
+      c.absent_keys_are_legal.ensures (kind_of c.args.present.now.kinds.now) h c.args.key (λ at event stands same.
           let below = slice_get_within h at event stands in
           c.in_default.ensures.none (subst (Contains c.args.self.now.keys.keys) (same ∙ sym is_key) (c.requires.right.known at event (omega (arith, below, c.requires.split)) stands))),
     )

@@ -23,77 +23,77 @@ use Rattle.lin_session.proofs.kept.Objects.judge.Goals as goal
 use Rattle.lin_session.proofs.kept.Objects.judge.Goals.{After-judge_object, After-judge_whole, In_ok-split}
 
 pub judge_object-requires-clause-right : goal.judge_object-requires-clause-right
-judge_object-requires-clause-right c = (kind_of c.args.kinds.now, c.split.ensures.right c.args.budget c.requires.right, c.requires.well_formed)
+judge_object-requires-clause-right c = (kind_of c.args.present.now.kinds.now, c.split.ensures.right c.args.present.now.budget c.requires.right, c.requires.well_formed)
 
 pub judge_whole-requires-clause-right : goal.judge_whole-requires-clause-right
-judge_whole-requires-clause-right c = (kind_of c.args.kinds.now, c.split.ensures.right c.args.budget c.requires.right, c.requires.well_formed)
+judge_whole-requires-clause-right c = (kind_of c.args.present.now.kinds.now, c.split.ensures.right c.args.present.now.budget c.requires.right, c.requires.well_formed)
 
 pub returns-in-Object-clause-right : goal.returns-in-Object-clause-right
-returns-in-Object-clause-right c = c.judge_object.ensures.right (kind_of c.args.kinds.now) (c.split.ensures.right c.args.budget c.requires.right)
+returns-in-Object-clause-right c = c.judge_object.ensures.right (kind_of c.args.present.now.kinds.now) (c.split.ensures.right c.args.present.now.budget c.requires.right)
 
 pub returns-in-Whole-clause-right : goal.returns-in-Whole-clause-right
-returns-in-Whole-clause-right c = c.judge_whole.ensures.right (kind_of c.args.kinds.now) (c.split.ensures.right c.args.budget c.requires.right)
+returns-in-Whole-clause-right c = c.judge_whole.ensures.right (kind_of c.args.present.now.kinds.now) (c.split.ensures.right c.args.present.now.budget c.requires.right)
 
 pub returns-in-Object-clause-verdict : goal.returns-in-Object-clause-verdict
 returns-in-Object-clause-verdict c =
-    let K = kind_of c.args.kinds.now in
-    let h = c.args.events.now in
+    let K = kind_of c.args.present.now.kinds.now in
+    let h = c.args.present.now.history.now in
     let key = c.in-Object.key in
-    let now : Present = record { history = h; kinds = c.args.kinds.now; budget = c.args.budget } in
+    let now : Present = record { history = h; kinds = c.args.present.now.kinds.now; budget = c.args.present.now.budget } in
     let is_key : to_z w64 (of_z w64 key) ≡ key = to_z-of_z w64 key (search rules) in
     IfOk-weaker c.judge_object.result
-    (λ verdict. (kinds : ℤ → Kind) → AreRight c.split.new.self kinds c.args.budget h → IsWellFormed (functions_of kinds) h → IsObjectVerdict kinds c.args.budget h (to_z w64 (of_z w64 key)) verdict)
+    (λ verdict. (kinds : ℤ → Kind) → AreRight c.split.new.self kinds c.args.present.now.budget h → IsWellFormed (functions_of kinds) h → IsObjectVerdict kinds c.args.present.now.budget h (to_z w64 (of_z w64 key)) verdict)
     (IsVerdict now c.args.scope)
     (λ verdict told.
-    let is = subst (λ k. IsObjectVerdict K c.args.budget h k verdict) is_key (told K (c.split.ensures.right c.args.budget c.requires.right) c.requires.well_formed) in
+    let is = subst (λ k. IsObjectVerdict K c.args.present.now.budget h k verdict) is_key (told K (c.split.ensures.right c.args.present.now.budget c.requires.right) c.requires.well_formed) in
     subst (λ s. IsVerdict now s verdict) (sym c.in-Object.is) (IsVerdict-object now key verdict c.requires.well_formed is)) c.judge_object.ensures.verdict
 
 pub returns-in-Whole-clause-verdict : goal.returns-in-Whole-clause-verdict
 returns-in-Whole-clause-verdict c =
-    let K = kind_of c.args.kinds.now in
-    let h = c.args.events.now in
-    let now : Present = record { history = h; kinds = c.args.kinds.now; budget = c.args.budget } in
+    let K = kind_of c.args.present.now.kinds.now in
+    let h = c.args.present.now.history.now in
+    let now : Present = record { history = h; kinds = c.args.present.now.kinds.now; budget = c.args.present.now.budget } in
     IfOk-weaker c.judge_whole.result
-    (λ verdict. (kinds : ℤ → Kind) → AreRight c.split.new.self kinds c.args.budget h → IsWellFormed (functions_of kinds) h → IsWholeVerdict kinds c.args.budget h verdict)
+    (λ verdict. (kinds : ℤ → Kind) → AreRight c.split.new.self kinds c.args.present.now.budget h → IsWellFormed (functions_of kinds) h → IsWholeVerdict kinds c.args.present.now.budget h verdict)
     (IsVerdict now c.args.scope)
     (λ verdict told.
-    let is = told K (c.split.ensures.right c.args.budget c.requires.right) c.requires.well_formed in
+    let is = told K (c.split.ensures.right c.args.present.now.budget c.requires.right) c.requires.well_formed in
     subst (λ s. IsVerdict now s verdict) (sym c.in-Whole.is) (IsVerdict-whole now verdict c.requires.well_formed is)) c.judge_whole.ensures.verdict
 
 pub returns-in_err-split-clause-right : goal.returns-in_err-split-clause-right
-returns-in_err-split-clause-right c = c.split.ensures.right c.args.budget c.requires.right
+returns-in_err-split-clause-right c = c.split.ensures.right c.args.present.now.budget c.requires.right
 
 pub returns-in-Object-clause-judged : goal.returns-in-Object-clause-judged
 returns-in-Object-clause-judged c =
-    let K = kind_of c.args.kinds.now in
+    let K = kind_of c.args.present.now.kinds.now in
     let key = c.in-Object.key in
     let is_key : to_z w64 (of_z w64 key) ≡ key = to_z-of_z w64 key (search rules) in
     on_ok_weaker c.judge_object.result
-    (λ judged. subst (AreJudged K c.args.budget c.args.events.now c.judge_object.new.self) (ap scope.Object is_key ∙ sym c.in-Object.is) (judged K (c.split.ensures.right c.args.budget c.requires.right)))
+    (λ judged. subst (AreJudged K c.args.present.now.budget c.args.present.now.history.now c.judge_object.new.self) (ap scope.Object is_key ∙ sym c.in-Object.is) (judged K (c.split.ensures.right c.args.present.now.budget c.requires.right)))
     c.judge_object.ensures.judged
 
 pub returns-in-Whole-clause-judged : goal.returns-in-Whole-clause-judged
 returns-in-Whole-clause-judged c =
-    let K = kind_of c.args.kinds.now in
+    let K = kind_of c.args.present.now.kinds.now in
     on_ok_weaker c.judge_whole.result
-    (λ judged. subst (AreJudged K c.args.budget c.args.events.now c.judge_whole.new.self) (sym c.in-Whole.is) (judged K (c.split.ensures.right c.args.budget c.requires.right)))
+    (λ judged. subst (AreJudged K c.args.present.now.budget c.args.present.now.history.now c.judge_whole.new.self) (sym c.in-Whole.is) (judged K (c.split.ensures.right c.args.present.now.budget c.requires.right)))
     c.judge_whole.ensures.judged
 
 -- the events are told apart, so a question costs what is due
-cost : (c : In_ok-split) → IsCost c.args.budget c.split.new.self c.args.scope (cost_in (marks_in c.args.self.now) c.args.events.now c.args.scope)
+cost : (c : In_ok-split) → IsCost c.args.present.now.budget c.split.new.self c.args.scope (cost_in (marks_in c.args.self.now) c.args.present.now.history.now c.args.scope)
 cost c =
-    scope_cost c.positions_spell_parts.ensures (kind_of c.args.kinds.now) c.args.budget c.args.events.now c.split.new.self (c.split.ensures.right c.args.budget c.requires.right) c.in_ok-split.ensures.all (marks_in c.args.self.now) c.split.ensures.marks c.args.scope
+    scope_cost c.positions_spell_parts.ensures (kind_of c.args.present.now.kinds.now) c.args.present.now.budget c.args.present.now.history.now c.split.new.self (c.split.ensures.right c.args.present.now.budget c.requires.right) c.in_ok-split.ensures.all (marks_in c.args.self.now) c.split.ensures.marks c.args.scope
 
-settled : (c : In_ok-split) → IsNothingDue c.args.events.now c.args.scope (marks_in c.args.self.now) → AreSettled c.args.budget c.split.new.self c.args.scope
+settled : (c : In_ok-split) → IsNothingDue c.args.present.now.history.now c.args.scope (marks_in c.args.self.now) → AreSettled c.args.present.now.budget c.split.new.self c.args.scope
 settled c =
-    scope_settled c.positions_spell_parts.ensures (kind_of c.args.kinds.now) c.args.budget c.args.events.now c.split.new.self (c.split.ensures.right c.args.budget c.requires.right) c.in_ok-split.ensures.all (marks_in c.args.self.now) c.split.ensures.marks c.args.scope
+    scope_settled c.positions_spell_parts.ensures (kind_of c.args.present.now.kinds.now) c.args.present.now.budget c.args.present.now.history.now c.split.new.self (c.split.ensures.right c.args.present.now.budget c.requires.right) c.in_ok-split.ensures.all (marks_in c.args.self.now) c.split.ensures.marks c.args.scope
 
-object_steps : (c : After-judge_object) (n : ℕ) → IsCost c.args.budget c.split.new.self c.args.scope n → c.judge_object.new.meter.steps ≤ c.args.meter.now.steps + n
+object_steps : (c : After-judge_object) (n : ℕ) → IsCost c.args.present.now.budget c.split.new.self c.args.scope n → c.judge_object.new.meter.steps ≤ c.args.meter.now.steps + n
 object_steps c n most =
     let s = c.split.new.self in
     let key = c.in-Object.key in
     let is_key : to_z w64 (of_z w64 key) ≡ key = to_z-of_z w64 key (search rules) in
-    let costs = subst (λ q. IsCost c.args.budget s q n) c.in-Object.is most in
+    let costs = subst (λ q. IsCost c.args.present.now.budget s q n) c.in-Object.is most in
     elim (is_listed s.keys.keys key) [
       | inl at ↦
           let within = slice_get_within s.keys.keys at.0 key at.1 in
@@ -104,9 +104,9 @@ object_steps c n most =
           omega (arith, ap (λ m. m.steps) idle)
     ]
 
-whole_steps : (c : After-judge_whole) (n : ℕ) → IsCost c.args.budget c.split.new.self c.args.scope n → c.judge_whole.new.meter.steps ≤ c.args.meter.now.steps + n
+whole_steps : (c : After-judge_whole) (n : ℕ) → IsCost c.args.present.now.budget c.split.new.self c.args.scope n → c.judge_whole.new.meter.steps ≤ c.args.meter.now.steps + n
 whole_steps c n most =
-    let costs = subst (λ q. IsCost c.args.budget c.split.new.self q n) c.in-Whole.is most in
+    let costs = subst (λ q. IsCost c.args.present.now.budget c.split.new.self q n) c.in-Whole.is most in
     omega (arith, c.judge_whole.ensures.steps, costs)
 
 pub returns-in-Object-clause-steps : goal.returns-in-Object-clause-steps
@@ -117,22 +117,22 @@ returns-in-Whole-clause-steps c = let at = goal.at.returns-in-Whole-clause-steps
 
 pub returns-in-Object-clause-left : goal.returns-in-Object-clause-left
 returns-in-Object-clause-left c = λ apart n most.
-    object_steps (goal.at.returns-in-Object-clause-left c).After-judge_object n (subst (λ o. IsCost c.args.budget o c.args.scope n) (sym (c.split.ensures.same apart)) most)
+    object_steps (goal.at.returns-in-Object-clause-left c).After-judge_object n (subst (λ o. IsCost c.args.present.now.budget o c.args.scope n) (sym (c.split.ensures.same apart)) most)
 
 pub returns-in-Whole-clause-left : goal.returns-in-Whole-clause-left
 returns-in-Whole-clause-left c = λ apart n most.
-    whole_steps (goal.at.returns-in-Whole-clause-left c).After-judge_whole n (subst (λ o. IsCost c.args.budget o c.args.scope n) (sym (c.split.ensures.same apart)) most)
+    whole_steps (goal.at.returns-in-Whole-clause-left c).After-judge_whole n (subst (λ o. IsCost c.args.present.now.budget o c.args.scope n) (sym (c.split.ensures.same apart)) most)
 
 pub returns-in-Object-clause-ready : goal.returns-in-Object-clause-ready
 returns-in-Object-clause-ready c = λ apart nothing.
     let key = c.in-Object.key in
     let is_key : to_z w64 (of_z w64 key) ≡ key = to_z-of_z w64 key (search rules) in
-    let all = subst (AreSettled c.args.budget c.split.new.self) c.in-Object.is (settled (goal.at.returns-in-Object-clause-ready c).In_ok-split nothing) in
+    let all = subst (AreSettled c.args.present.now.budget c.split.new.self) c.in-Object.is (settled (goal.at.returns-in-Object-clause-ready c).In_ok-split nothing) in
     c.judge_object.ensures.settled (λ i o key_at o_at. all i o (key_at ∙ ap Some is_key) o_at)
 
 pub returns-in-Whole-clause-ready : goal.returns-in-Whole-clause-ready
 returns-in-Whole-clause-ready c = λ apart nothing.
-    c.judge_whole.ensures.settled (subst (AreSettled c.args.budget c.split.new.self) c.in-Whole.is (settled (goal.at.returns-in-Whole-clause-ready c).In_ok-split nothing))
+    c.judge_whole.ensures.settled (subst (AreSettled c.args.present.now.budget c.split.new.self) c.in-Whole.is (settled (goal.at.returns-in-Whole-clause-ready c).In_ok-split nothing))
 
 pub returns-in_err-split-clause-ready : goal.returns-in_err-split-clause-ready
 returns-in_err-split-clause-ready c = λ apart nothing. absurd (not_ok c.split.result c.in_err-split.field-0.0 c.in_err-split.was (c.split.ensures.settled apart))

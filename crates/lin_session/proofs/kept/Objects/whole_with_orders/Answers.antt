@@ -6,8 +6,8 @@ use Rattle.lin_session.proofs.kept.Objects.whole_with_orders.Goals as goal
 
 pub returns : goal.returns
 returns c =
-    let h = c.args.events.now in
+    let h = c.args.present.now.history.now in
     let found = c.findings_with_orders-failing.result in
     told_is c.linearizability_is_local.ensures c.absent_keys_are_legal.ensures c.prefixes_are_linearizable.ensures.object c.parts_keep_orders.ensures.linearizable c.beginnings_are_well_formed.ensures
-    (kind_of c.args.kinds.now) c.args.budget h c.requires.well_formed c.args.self.now.keys.keys (λ at event stands. c.requires.right.known at event (let below = slice_get_within h at event stands in omega (arith, below, c.requires.split)) stands)
+    (kind_of c.args.present.now.kinds.now) c.args.present.now.budget h c.requires.well_formed c.args.self.now.keys.keys (λ at event stands. c.requires.right.known at event (let below = slice_get_within h at event stands in omega (arith, below, c.requires.split)) stands)
     found.0 found.1 c.findings_with_orders-failing.ensures c.told.result c.told.ensures

@@ -3,7 +3,6 @@ use Rattle.lin_events.specs.WellFormed.{IsShape, IsWellFormed}
 use Rattle.lin_objects.specs.Kinds.{functions_of, kind_of}
 use Rattle.lin_wellformed.specs.Scans.{ready_count}
 use Rattle.lin_session.specs.Answers.{kinds_in}
-use Rattle.lin_session.specs.Costs.{AreJudged}
 use Rattle.lin_session.specs.Sessions.{AreTakenIn, Standing}
 use Rattle.lin_session.proofs.Found.{not_ok}
 use Rattle.lin_session.specs.Marks.{AreMarked, IsNothingDue}
@@ -21,11 +20,7 @@ judge-requires-clause-well_formed c =
 pub reconsidered-reconsidered-requires-clause-well_formed : goal.reconsidered-reconsidered-requires-clause-well_formed
 reconsidered-reconsidered-requires-clause-well_formed c =
     let F = functions_of (kind_of c.self.inside.kinds) in
-    subst (IsShape F c.deref-in-Good-2.result.now) c.in-Good.is (subst (λ l. IsShape F l c.in_ok-settle.field-0) (c.deref.ensures.value ∙ sym c.deref-in-Good-2.ensures.value) c.in_ok-settle.ensures.shape)
-
-pub reconsidered-reconsidered-requires-clause-judged : goal.reconsidered-reconsidered-requires-clause-judged
-reconsidered-reconsidered-requires-clause-judged c =
-    subst (λ l. AreJudged (kind_of c.self.inside.kinds) c.self.inside.budget l c.judge.new.self c.args.scope) (c.deref-in-Good.ensures.value ∙ sym c.deref-in-Good-2.ensures.value) c.in_ok-verdict-in-Good.ensures.judged
+    subst (IsShape F c.deref-in-Good.result.now) c.in-Good.is (subst (λ l. IsShape F l c.in_ok-settle.field-0) (c.deref.ensures.value ∙ sym c.deref-in-Good.ensures.value) c.in_ok-settle.ensures.shape)
 
 pub returns-in-Bad-clause-verdict : goal.returns-in-Bad-clause-verdict
 returns-in-Bad-clause-verdict c =

@@ -1,4 +1,4 @@
-use Rattle.lin_frontier_tests.proofs.chains.sets_of_a_dead_chain_pass_the_check.Goals as goal
+use Rattle.lin_tests.proofs.chains.sets_of_a_dead_chain_pass_the_check.Goals as goal
 
 pub settle-requires : goal.settle-requires
 settle-requires g c = c.new.ensures.right _ _

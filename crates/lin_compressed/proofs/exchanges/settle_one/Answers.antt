@@ -2,7 +2,7 @@ use Rattle.std.proofs.Common.{◌∙◌, ap, map, sym, subst}
 use Rattle.std.proofs.lemmas.Result.{IfOk-weaker}
 use Rattle.lin_frontier.specs.Placing.{IsAbsent}
 use Rattle.lin_members.specs.Settling.{renamed_pair, IsRenamed, more}
-use Rattle.lin_members.proofs.exchanges.settle_one.Goals as goal
+use Rattle.lin_compressed.proofs.exchanges.settle_one.Goals as goal
 
 pub returns-in-Some : goal.returns-in-Some
 returns-in-Some c =

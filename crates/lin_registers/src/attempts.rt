@@ -3,7 +3,8 @@
 use crate::acts::{Act, Acts};
 use crate::drafts::{Draft, Gap, Spot, Step};
 use crate::lines::Line;
-use lin_events::{OutOfMemory, Val};
+use lin_events::{Event, OutOfMemory, Val};
+use lin_orders::Placed;
 use std::alloc::Global;
 
 /// So many beginnings are kept at most.
@@ -20,7 +21,7 @@ const FREE: usize = 1 << 18;
 
 /// What a search has at hand.
 #[derive(Drop)]
-pub struct Attempt<'a> {
+struct Attempt<'a> {
     alloc: Global,
     acts: &'a Acts,
     /// Operations that are open, the earliest first.
@@ -38,7 +39,7 @@ struct Goal {
 
 impl<'a> Attempt<'a> {
     /// At the beginning of the history.
-    pub fn new(alloc: Global, acts: &'a Acts) -> Attempt<'a> {
+    fn new(alloc: Global, acts: &'a Acts) -> Attempt<'a> {
         Attempt {
             alloc,
             acts,
@@ -48,7 +49,7 @@ impl<'a> Attempt<'a> {
     }
 
     /// The operations of the history in a legal order, if one is found.
-    pub fn run(&mut self) -> Result<Option<Vec<usize>>, OutOfMemory> {
+    fn run(&mut self) -> Result<Option<Vec<usize>>, OutOfMemory> {
         let most = self.acts.len().saturating_mul(STEPS).saturating_add(FREE);
         let mut drafts = Vec::new(self.alloc);
         drafts.push(Draft::new(self.alloc, self.acts.len()))?;
@@ -400,4 +401,28 @@ fn best(alloc: Global, drafts: Vec<Draft>, acts: &Acts) -> Result<Vec<Draft>, Ou
         }
     }
     Ok(kept)
+}
+
+/// The operations with their replies.
+fn placed(alloc: Global, acts: &Acts, operations: &[usize]) -> Result<Vec<Placed>, OutOfMemory> {
+    let mut order = Vec::new(alloc);
+    for at in operations {
+        if let Some(act) = acts.act(*at) {
+            order.push(Placed {
+                at: *at,
+                reply: act.reply(),
+            })?;
+        }
+    }
+    Ok(order)
+}
+
+/// An order of the events of a register, if the search finds one.
+pub fn register_order(alloc: Global, events: &[Event]) -> Result<Option<Vec<Placed>>, OutOfMemory> {
+    let acts = Acts::of(alloc, events)?;
+    let mut attempt = Attempt::new(alloc, &acts);
+    match attempt.run()? {
+        Some(operations) => Ok(Some(placed(alloc, &acts, &operations)?)),
+        None => Ok(None),
+    }
 }

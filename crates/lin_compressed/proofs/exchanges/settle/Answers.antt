@@ -1,7 +1,7 @@
 use Rattle.std.proofs.Common.{sym, subst}
 use Rattle.std.proofs.lemmas.List.Elements.{Contains-get_or}
 use Rattle.lin_members.specs.Settling.{IsRenamed, same}
-use Rattle.lin_members.proofs.exchanges.settle.Goals as goal
+use Rattle.lin_compressed.proofs.exchanges.settle.Goals as goal
 
 pub settle_one-requires : goal.settle_one-requires
 settle_one-requires c = Contains-get_or c.args.pending.now c.loop-operation.operation-index _ c.loop-operation-test.true

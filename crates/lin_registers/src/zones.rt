@@ -174,7 +174,10 @@ fn held(act: Act) -> Val {
 }
 
 /// Operations that conflict, in the shortest beginning that has such ones, and the place of its last event.
-pub fn sought(alloc: Global, events: &[Event]) -> Result<Option<(usize, Conflict)>, OutOfMemory> {
+pub fn register_failure(
+    alloc: Global,
+    events: &[Event],
+) -> Result<Option<(usize, Conflict)>, OutOfMemory> {
     let acts = Acts::of(alloc, events)?;
     let most = acts.len().saturating_mul(STEPS).saturating_add(FREE);
     let mut search = Search::new(alloc);

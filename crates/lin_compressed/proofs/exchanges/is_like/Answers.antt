@@ -1,5 +1,5 @@
 use Rattle.std.proofs.Common.{rules}
-use Rattle.lin_members.proofs.exchanges.is_like.Goals as goal
+use Rattle.lin_compressed.proofs.exchanges.is_like.Goals as goal
 
 pub returns-then-eq : goal.returns-then-eq
 returns-then-eq c = search rules

@@ -1,0 +1,280 @@
+//! The part of each object in the history: where its events stand, as the history is edited and its events are told apart.
+ghost use Rattle.std.specs.Prelude.{◌≡◌, ◌+◌, ◌<◌, ◌≤◌, ◌∷◌, ◌++◌, ◌||◌, [], ℕ, ℤ, List, Contains, IsOk, IfSome, IfNone, OnOk, OnErr, Some, remove, slice_set, if◌then◌else◌, length, min, nat_lt, slice_get};
+ghost use Rattle.std.specs.Ordering.{int_eq};
+ghost use Rattle.lin_events.specs.declared.events.Event.{Event as EventOf};
+ghost use Rattle.lin_objects.specs.declared.kinds.Kind.{Kind as KindOf};
+ghost use Rattle.lin_objects.specs.Kinds.{kind_of};
+ghost use Rattle.lin_orders.specs.Orders.{is_of_key};
+ghost use Rattle.lin_orders.specs.Parts.{part};
+ghost use Rattle.lin_session.specs.Objects.{AreRight, marks_in, split_in};
+ghost use Rattle.lin_session.specs.Costs.{AreJudged};
+ghost use Rattle.lin_session.specs.Marks.{AreMarked};
+ghost use Rattle.lin_session.specs.Work.{AreSameMarks, AreTouched, raised, rounded, touched_at, unasked};
+
+use crate::answers::Scope;
+use crate::kept::{Object, Objects};
+use crate::object::{mark_all, raise_all};
+use indexmap::IndexSet;
+use lin_events::{Event, OutOfMemory};
+use lin_objects::{Kind, Kinds};
+use lin_orders::{parts_grow, parts_of_prefixes, positions_spell_parts};
+use std::alloc::Global;
+
+impl Objects {
+    /// No event was looked at.
+    pub(crate) fn new(alloc: Global) -> Objects
+        ensures right { (kinds : ℤ → KindOf) (budget : ℕ) (h : List EventOf) → AreRight result kinds budget h }
+        ensures marks { (key : ℤ) → marks_in result key ≡ unasked }
+    {
+        Objects {
+            split: 0,
+            keys: IndexSet::new(alloc),
+            objects: Vec::new(alloc),
+        }
+    }
+
+    /// Where the key is listed. The key that was listed last needs no hash.
+    pub(crate) fn find(&self, key: i64) -> Option<usize>
+        ensures found { IfSome result (λ i. slice_get self.now.keys.keys i ≡ Some key) }
+        ensures none { IfNone result (Contains self.now.keys.keys key → ⊥) }
+    {
+        match self.keys.last() {
+            Some(last) if *last == key => Some(self.keys.len() - 1),
+            _ => self.keys.get_index_of(&key),
+        }
+    }
+
+    /// Forgets where the events from the position on stand.
+    fn unsplit(&mut self, events: &[Event], at: usize)
+        requires { split_in self.old ≤ length events.now }
+        ensures split { split_in self.new ≡ min at (split_in self.old) }
+        ensures right { (kinds : ℤ → KindOf) (budget : ℕ) → AreRight self.old kinds budget events.now → AreRight self.new kinds budget events.now }
+        ensures marks { AreSameMarks (marks_in self.old) (marks_in self.new) }
+    {
+        while self.split > at {
+            self.unsplit_last(&events[self.split - 1]);
+        }
+    }
+
+    fn unsplit_last(&mut self, event: &Event)
+        requires { 0 < split_in self.old }
+        ensures split { split_in self.new + 1 ≡ split_in self.old }
+        ensures right { (kinds : ℤ → KindOf) (budget : ℕ) (h : List EventOf) → slice_get h (split_in self.new) ≡ Some event.now → AreRight self.old kinds budget h → AreRight self.new kinds budget h }
+        ensures marks { AreSameMarks (marks_in self.old) (marks_in self.new) }
+    {
+        parts_of_prefixes();
+        self.split -= 1;
+        if let Some(i) = self.find(event.key) {
+            let object = &mut self.objects[i];
+            let _ = object.picks.pop();
+        }
+    }
+
+    /// The event at the position leaves the history.
+    pub(crate) fn leave(&mut self, events: &[Event], at: usize)
+        requires place { at < length events.now }
+        requires within { split_in self.old ≤ length events.now }
+        ensures split { split_in self.new ≡ min at (split_in self.old) }
+        ensures right { (kinds : ℤ → KindOf) (budget : ℕ) → AreRight self.old kinds budget events.now → AreRight self.new kinds budget (remove events.now at) }
+        ensures marks { (kinds : ℤ → KindOf) (budget : ℕ) → AreRight self.old kinds budget events.now
+            → (x : ℤ) → marks_in self.new x ≡ (if is_of_key events.now x at then touched_at events.now x at (marks_in self.old x) else marks_in self.old x) }
+    {
+        self.unsplit(events, at);
+        self.take_out(events[at].key, &events[at + 1..]);
+    }
+
+    /// In place of the event at the position comes this one.
+    pub(crate) fn replace(&mut self, events: &[Event], at: usize, event: &Event)
+        requires place { at < length events.now }
+        requires within { split_in self.old ≤ length events.now }
+        requires few { length events.now < usize.MAX }
+        ensures right { (kinds : ℤ → KindOf) (budget : ℕ) → AreRight self.old kinds budget events.now → AreRight self.new kinds budget (slice_set events.now at event.now) }
+        ensures marks { (kinds : ℤ → KindOf) (budget : ℕ) → AreRight self.old kinds budget events.now
+            → (x : ℤ) → marks_in self.new x ≡ (if int_eq event.now.key x || is_of_key events.now x at then touched_at events.now x at (marks_in self.old x) else marks_in self.old x) }
+    {
+        self.leave(events, at);
+        self.put_in(event.key, &events[at + 1..]);
+    }
+
+    /// In place of the event at the position comes an equal one.
+    pub(crate) fn replace_by_equal(&mut self, events: &[Event], at: usize)
+        requires { at < length events.now }
+        ensures split { split_in self.new ≡ split_in self.old }
+        ensures right { (kinds : ℤ → KindOf) (budget : ℕ) → AreRight self.old kinds budget events.now → AreRight self.new kinds budget events.now }
+        ensures marks { (kinds : ℤ → KindOf) (budget : ℕ) → AreRight self.old kinds budget events.now
+            → (x : ℤ) → marks_in self.new x ≡ (if is_of_key events.now x at then touched_at events.now x at (marks_in self.old x) else marks_in self.old x) }
+    {
+        self.touch(events[at].key, &events[at..]);
+    }
+
+    /// The first of these events, which is of the key, comes in place of an equal one.
+    fn touch(&mut self, key: i64, behind: &[Event])
+        ensures split { split_in self.new ≡ split_in self.old }
+        ensures right { (kinds : ℤ → KindOf) (budget : ℕ) (before : List EventOf)
+            → AreRight self.old kinds budget (before ++ behind.now) → AreRight self.new kinds budget (before ++ behind.now) }
+        ensures marks { (kinds : ℤ → KindOf) (budget : ℕ) (before : List EventOf)
+            → AreRight self.old kinds budget (before ++ behind.now) → AreTouched key (length (part key before)) (rounded (length (part key before))) (marks_in self.old) (marks_in self.new) }
+    {
+        if let Some(i) = self.find(key) {
+            self.objects[i].touch_ahead_of(key, behind);
+        }
+    }
+
+    /// An event of the key, ahead of these, leaves the history.
+    fn take_out(&mut self, key: i64, behind: &[Event])
+        ensures split { split_in self.new ≡ split_in self.old }
+        ensures right { (kinds : ℤ → KindOf) (budget : ℕ) (before : List EventOf) (event : EventOf) → event.key ≡ key → split_in self.old ≤ length before
+            → AreRight self.old kinds budget (before ++ event ∷ behind.now) → AreRight self.new kinds budget (before ++ behind.now) }
+        ensures marks { (kinds : ℤ → KindOf) (budget : ℕ) (before : List EventOf) (event : EventOf) → event.key ≡ key
+            → AreRight self.old kinds budget (before ++ event ∷ behind.now) → AreTouched key (length (part key before)) (rounded (length (part key before))) (marks_in self.old) (marks_in self.new) }
+    {
+        if let Some(i) = self.find(key) {
+            let object = &mut self.objects[i];
+            object.count = object.count.saturating_sub(1);
+            object.cut_ahead_of(key, behind);
+        }
+    }
+
+    /// An event of the key, ahead of these, comes into the history.
+    fn put_in(&mut self, key: i64, behind: &[Event])
+        ensures split { split_in self.new ≡ split_in self.old }
+        ensures right { (kinds : ℤ → KindOf) (budget : ℕ) (before : List EventOf) (event : EventOf) → event.key ≡ key → split_in self.old ≤ length before → length before + length behind.now < usize.MAX
+            → AreRight self.old kinds budget (before ++ behind.now) → AreRight self.new kinds budget (before ++ event ∷ behind.now) }
+        ensures marks { (kinds : ℤ → KindOf) (budget : ℕ) (before : List EventOf)
+            → AreRight self.old kinds budget (before ++ behind.now) → AreTouched key (length (part key before)) (rounded (length (part key before))) (marks_in self.old) (marks_in self.new) }
+    {
+        if let Some(i) = self.find(key) {
+            let object = &mut self.objects[i];
+            object.cut_ahead_of(key, behind);
+            object.count = object.count.saturating_add(1);
+        }
+    }
+
+    /// An event of the key comes last.
+    pub(crate) fn put_last(&mut self, key: i64)
+        ensures split { split_in self.new ≡ split_in self.old }
+        ensures right { (kinds : ℤ → KindOf) (budget : ℕ) (h : List EventOf) (event : EventOf) → event.key ≡ key → length h < usize.MAX → AreRight self.old kinds budget h → AreRight self.new kinds budget (h ++ event ∷ []) }
+        ensures marks { (kinds : ℤ → KindOf) (budget : ℕ) (h : List EventOf) → AreRight self.old kinds budget h → AreTouched key (length (part key h)) (length (part key h)) (marks_in self.old) (marks_in self.new) }
+    {
+        if let Some(i) = self.find(key) {
+            let object = &mut self.objects[i];
+            object.cut_at_end();
+            object.count = object.count.saturating_add(1);
+        }
+    }
+
+    /// The object of the key is of this kind.
+    pub(crate) fn rekind(&mut self, key: i64, kind: Kind)
+        ensures right { (kinds other : ℤ → KindOf) (budget : ℕ) (h : List EventOf) → ((x : ℤ) → other x ≡ (if int_eq key x then kind else kinds x)) → AreRight self.old kinds budget h → AreRight self.new other budget h }
+        ensures marks { (kinds : ℤ → KindOf) (budget : ℕ) (h : List EventOf) → AreRight self.old kinds budget h → AreTouched key 0 0 (marks_in self.old) (marks_in self.new) }
+    {
+        if let Some(i) = self.find(key) {
+            let object = &mut self.objects[i];
+            object.chain.rekind(kind);
+            object.mark.touch(0, 0);
+        }
+    }
+
+    /// The budget was the one, and is the other one now.
+    pub(crate) fn rebudget(&mut self, before: u32, after: u32)
+        ensures split { split_in self.new ≡ split_in self.old }
+        ensures right { (kinds : ℤ → KindOf) (h : List EventOf) → AreRight self.old kinds before h → AreRight self.new kinds after h }
+        ensures marks { (key : ℤ) → marks_in self.new key ≡ (if nat_lt before after then raised (marks_in self.old key) else marks_in self.old key) }
+    {
+        if before < after {
+            raise_all(&mut self.objects);
+        }
+    }
+
+    /// All objects of the scope that have an event were judged, and what was asked of them is answered.
+    pub(crate) fn mark(&mut self, scope: Scope)
+        ensures split { split_in self.new ≡ split_in self.old }
+        ensures right { (kinds : ℤ → KindOf) (budget : ℕ) (h : List EventOf) → split_in self.old ≡ length h → AreRight self.old kinds budget h → AreJudged kinds budget h self.old scope
+            → AreRight self.new kinds budget h }
+        ensures marks { (kinds : ℤ → KindOf) (budget : ℕ) (h : List EventOf) → split_in self.old ≡ length h → AreRight self.old kinds budget h → AreJudged kinds budget h self.old scope
+            → AreMarked kinds budget h scope (marks_in self.old) (marks_in self.new) }
+    {
+        positions_spell_parts();
+        match scope {
+            Scope::Object(key) => {
+                if let Some(i) = self.find(key) {
+                    self.objects[i].mark();
+                }
+            }
+            Scope::Whole => mark_all(&mut self.objects),
+        }
+    }
+
+    /// Tells all events apart by their keys.
+    pub(crate) fn split(
+        &mut self,
+        alloc: Global,
+        events: &[Event],
+        kinds: &Kinds,
+    ) -> Result<(), OutOfMemory>
+        requires { (budget : ℕ) × AreRight self.old (kind_of kinds.now) budget events.now }
+        ensures all { OnOk result (split_in self.new ≡ length events.now) }
+        ensures apart { split_in self.old ≡ length events.now → split_in self.new ≡ length events.now }
+        ensures right { (budget : ℕ) → AreRight self.old (kind_of kinds.now) budget events.now → AreRight self.new (kind_of kinds.now) budget events.now }
+        ensures settled { split_in self.old ≡ length events.now → IsOk result }
+        ensures same { split_in self.old ≡ length events.now → self.new ≡ self.old }
+        ensures marks { AreSameMarks (marks_in self.old) (marks_in self.new) }
+    {
+        while self.split < events.len() {
+            let event = &events[self.split];
+            self.split_next(alloc, event.key, kinds.of(event.key))?;
+        }
+        Ok(())
+    }
+
+    fn split_next(&mut self, alloc: Global, key: i64, kind: Kind) -> Result<(), OutOfMemory>
+        requires room { split_in self.old < usize.MAX }
+        ensures split { OnOk result (split_in self.new ≡ split_in self.old + 1) }
+        ensures next { OnOk result ((kinds : ℤ → KindOf) (budget : ℕ) (h : List EventOf) (event : EventOf) → slice_get h (split_in self.old) ≡ Some event → event.key ≡ key → kinds key ≡ kind
+            → AreRight self.old kinds budget h → AreRight self.new kinds budget h) }
+        ensures same { OnErr result ((kinds : ℤ → KindOf) (budget : ℕ) (h : List EventOf) → AreRight self.old kinds budget h → AreRight self.new kinds budget h) }
+        ensures marks { AreSameMarks (marks_in self.old) (marks_in self.new) }
+    {
+        match self.find(key) {
+            Some(i) => self.pick(i),
+            None => self.add(alloc, key, kind),
+        }
+    }
+
+    /// The next event is of the key that is listed here.
+    fn pick(&mut self, i: usize) -> Result<(), OutOfMemory>
+        requires room { split_in self.old < usize.MAX }
+        requires listed { i < length self.old.keys.keys }
+        ensures split { OnOk result (split_in self.new ≡ split_in self.old + 1) }
+        ensures next { OnOk result ((kinds : ℤ → KindOf) (budget : ℕ) (h : List EventOf) (event : EventOf) → slice_get h (split_in self.old) ≡ Some event → slice_get self.old.keys.keys i ≡ Some event.key
+            → AreRight self.old kinds budget h → AreRight self.new kinds budget h) }
+        ensures same { OnErr result ((kinds : ℤ → KindOf) (budget : ℕ) (h : List EventOf) → AreRight self.old kinds budget h → AreRight self.new kinds budget h) }
+        ensures marks { AreSameMarks (marks_in self.old) (marks_in self.new) }
+    {
+        parts_grow();
+        let split = self.split;
+        self.objects[i].pick(split)?;
+        self.split += 1;
+        Ok(())
+    }
+
+    /// Lists a key that is not listed yet, and whose first event is the next one.
+    fn add(&mut self, alloc: Global, key: i64, kind: Kind) -> Result<(), OutOfMemory>
+        requires room { split_in self.old < usize.MAX }
+        requires absent { Contains self.old.keys.keys key → ⊥ }
+        ensures split { OnOk result (split_in self.new ≡ split_in self.old + 1) }
+        ensures next { OnOk result ((kinds : ℤ → KindOf) (budget : ℕ) (h : List EventOf) (event : EventOf) → slice_get h (split_in self.old) ≡ Some event → event.key ≡ key → kinds key ≡ kind
+            → AreRight self.old kinds budget h → AreRight self.new kinds budget h) }
+        ensures same { OnErr result ((kinds : ℤ → KindOf) (budget : ℕ) (h : List EventOf) → AreRight self.old kinds budget h → AreRight self.new kinds budget h) }
+        ensures marks { AreSameMarks (marks_in self.old) (marks_in self.new) }
+    {
+        parts_grow();
+        let mut object = Object::new(alloc, kind);
+        object.pick(self.split)?;
+        self.objects.reserve(1)?;
+        self.keys.insert(key)?;
+        self.objects.push_reserved(object);
+        self.split += 1;
+        Ok(())
+    }
+}
