@@ -3,3 +3,7 @@ pub mod Longer
 pub mod Levels
 pub mod Found
 pub mod Newlines
+pub mod Untagged
+pub mod Rows
+pub mod Telling
+pub mod Marking

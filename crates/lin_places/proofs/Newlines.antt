@@ -14,7 +14,7 @@ take_more : (n m : ℕ) (s : List ℕ) → take (n + m) s ≡ take n s ++ take m
 take_more n m s =
     let parts : take n (take (n + m) s) ++ drop n (take (n + m) s) ≡ take (n + m) s = take-append-drop n (take (n + m) s) in
     let few : n ≤ n + m = omega arith in
-    let first : take n (take (n + m) s) ≡ take n s = ? in
+    let first : take n (take (n + m) s) ≡ take n s = take-take n (n + m) s few in
     sym parts ∙ ap (λ l. l ++ drop n (take (n + m) s)) first ∙ ap (λ l. take n s ++ l) (drop-take n m s)
 
 -- a place that lies some bytes later

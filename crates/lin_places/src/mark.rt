@@ -1,7 +1,7 @@
 //! The places of the events in a text.
 ghost use Rattle.std.specs.Prelude.{◌≡◌, ◌≢◌, ◌+◌, ◌≤◌, suc, [], ℕ, List, Some, None, Ok, map, length, IfOk, IfSome, MatchOption};
 ghost use Rattle.lin_edn.specs.Grammar.{Spells};
-ghost use Rattle.lin_edn.specs.Value.{Value, Values, values_of};
+ghost use Rattle.lin_edn.specs.Value.{Value, tagged, values_of};
 ghost use Rattle.lin_edn.specs.View.{view};
 ghost use Rattle.lin_history.specs.Sees.{most};
 ghost use Rattle.lin_history.specs.Stream.{told, told_by};
@@ -10,7 +10,7 @@ ghost use Rattle.lin_places.specs.Places.{row_of};
 
 use crate::place::{Cursor, Place, Stop, go_to};
 use lin_edn::{
-    Edn, EdnCause, Next, blanks_are_skipped, blanks_in_front, next_element,
+    Edn, EdnCause, Next, Span, blanks_are_skipped, blanks_in_front, next_element,
     places as places_lie_within, readings_are_unique,
 };
 use lin_events::OutOfMemory;
@@ -95,6 +95,17 @@ fn row_in<'e, 'a>(element: &'e Edn<'a>) -> Option<&'e [Edn<'a>]>
     }
 }
 
+/// The tag in front of an element, if it has one, and the element behind it.
+fn behind_tag<'e, 'a>(element: &'e Edn<'a>) -> Option<(&'e Span<'a>, &'e Edn<'a>)>
+    ensures { MatchOption result ((i : ℕ) (name : List ℕ) (v : Value) → view element.entry.now ≡ tagged i name v → ⊥)
+        (λ r. view element.entry.now ≡ tagged r.0.now.at r.0.now.text.now (view r.1.now)) }
+{
+    match element {
+        Edn::Tagged(tag, inner) => Some((tag, inner.as_ref())),
+        _ => None,
+    }
+}
+
 /// Where the elements of a list or vector begin that begins at a place, with its tags.
 fn row_begun(
     alloc: Global,
@@ -107,12 +118,12 @@ fn row_begun(
     ensures { IfOk result (λ from. (until : ℕ) (vs : List Value) → IsStanding text.now at (view element.now) until →
         row_of (view element.now) ≡ Some (values_of vs) → (at ≤ from) × IsAmong text.now from [] vs until) }
 {
-    match element {
-        Edn::Tagged(tag, inner) => {
+    match behind_tag(element) {
+        Some((tag, inner)) => {
             let (begun, _) = element_at(alloc, text, tag.at + tag.text.len())?;
-            row_begun(alloc, text, inner.as_ref(), begun)
+            row_begun(alloc, text, inner, begun)
         }
-        _ => Ok(at + 1),
+        None => Ok(at + 1),
     }
 }
 
