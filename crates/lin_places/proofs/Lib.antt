@@ -7,3 +7,4 @@ pub mod Untagged
 pub mod Rows
 pub mod Telling
 pub mod Marking
+pub mod Reading

@@ -1,17 +1,23 @@
 -- The places of maps, one after another.
-use Rattle.std.proofs.Common.{◌≡◌, ℕ, suc, ◌+◌, ◌<◌, ◌≤◌, Bool, true, List, [], ◌∷◌, ◌++◌, length, drop, take, Option, Some, None, Result, Ok, Err, refl, sym, ap, subst, arith, ◌∙◌, append_assoc, append-nil}
-use Rattle.lin_edn.specs.Grammar.{Blank, Blanks, no_blank, one_more as one_more_blank, Element, Row, blank, element, Frame, frame, Open, within, Spells, longest}
+use Rattle.std.proofs.Common.{◌≡◌, ℕ, zero, suc, ◌+◌, ◌<◌, ◌≤◌, Bool, true, false, List, [], ◌∷◌, ◌++◌, length, drop, take, map, get_or, take-append-drop, Option, Some, None, Result, Ok, Err, refl, sym, ap, subst, arith, ◌∙◌, append_assoc, append-nil}
+use Rattle.lin_edn.specs.Grammar.{Blank, Blanks, no_blank, one_more as one_more_blank, Element, Row, blank, element, Frame, frame, Open, none_open, within, ShortBlanks, no_blank_yet, one_more_short, Spells, spells, longest}
 use Rattle.lin_edn.specs.Bytes.{Kind}
 use Rattle.lin_edn.specs.Value.{Value, Values, no_values, value, values_of}
+use Rattle.std.proofs.lemmas.Bool.{false≢true}
+use Rattle.lin_edn.specs.View.{view}
+use Rattle.lin_edn.specs.declared.Edn.{Edn}
 use Rattle.lin_history.specs.Stream.{Told, before, told_by, told, Gives}
 use Rattle.lin_history.specs.Table.{event}
 use Rattle.lin_events.specs.declared.events.Event.{Event}
 use Rattle.lin_history.specs.declared.table.EventFault.{EventFault}
 use Rattle.lin_places.specs.Places.{place_at, row_of, is_row, AreTags, Begins, alone, inside, ArePlaces, one_more}
-use Rattle.lin_places.specs.Marks.{IsPutBehind, IsPut, StandsAt, Follow, another, IsAmong, IsUpTo, IsSound, IsUnsound}
+use Rattle.lin_places.specs.Marks.{IsPutBehind, IsMarkedOne, IsPut, StandsAt, Follow, another, IsAmong, IsStanding, IsUpTo, IsSound, IsUnsound, AreMarked}
 use Rattle.lin_places.specs.declared.place.Place.{Place}
 use Rattle.lin_places.specs.declared.place.Cursor.{Cursor}
-use Rattle.lin_places.proofs.Tails.{tail_is, tail_rises, blanks_tail, element_past}
+use Rattle.lin_events.specs.declared.numbers.OutOfMemory.{OutOfMemory}
+use Rattle.lin_places.specs.declared.mark.Maps.{Maps}
+use Rattle.lin_places.specs.declared.mark.Maps.TheVariants as maps
+use Rattle.lin_places.proofs.Tails.{Tail, all, then, blank_past, tail_is, tail_rises, blanks_tail, element_past}
 use Rattle.lin_places.proofs.Rows.{follow_rises}
 use Rattle.lin_places.proofs.Telling.{behind_told, told_behind, lone_map}
 
@@ -163,3 +169,111 @@ unsound_next keyed text at until earlier others v from next here start old new n
         place whole p up.0 far.0,
       ),
 )
+
+-- an item of a list, and what stands before and behind it
+taken : (es : List Edn) (i : ℕ) (e : Edn) → i < length es → e ≡ get_or es i e →
+    (take (suc i) (map view es) ≡ take i (map view es) ++ view e ∷ []) × (drop i (map view es) ≡ view e ∷ drop (suc i) (map view es))
+taken [] i e lt h = absurd (omega arith)
+taken (x ∷ xs) zero e lt h = (ap (λ y. view y ∷ []) (sym h), ap (λ y. view y ∷ map view xs) (sym h))
+taken (x ∷ xs) (suc i) e lt h = let rest = taken xs i e (omega arith) h in (ap (λ l. view x ∷ l) rest.0, rest.1)
+
+pub took : (es : List Edn) (i : ℕ) (e : Edn) → i < length es → e ≡ get_or es i e → take i (map view es) ++ view e ∷ [] ≡ take (i + 1) (map view es)
+took es i e lt h = let one : suc i ≡ i + 1 = omega arith in sym (taken es i e lt h).0 ∙ ap (λ n. take n (map view es)) one
+
+leaves : (es : List Edn) (i : ℕ) (e : Edn) → i < length es → e ≡ get_or es i e → drop i (map view es) ≡ view e ∷ drop (i + 1) (map view es)
+leaves es i e lt h = let one : suc i ≡ i + 1 = omega arith in (taken es i e lt h).1 ∙ ap (λ n. view e ∷ drop n (map view es)) one
+
+pub all_items : (es : List Edn) (i : ℕ) (e : Edn) → i < length es → e ≡ get_or es i e → take i (map view es) ++ view e ∷ drop (i + 1) (map view es) ≡ map view es
+all_items es i e lt h = ap (λ l. take i (map view es) ++ l) (sym (leaves es i e lt h)) ∙ take-append-drop i (map view es)
+
+pub among_item : (s : List ℕ) (at until : ℕ) (es : List Edn) (i : ℕ) (e : Edn) → i < length es → e ≡ get_or es i e → IsAmong s at (take i (map view es)) (drop i (map view es)) until →
+    Next s at (take i (map view es)) (view e) (drop (i + 1) (map view es)) until
+among_item s at until es i e lt h among =
+    next_among s at (take i (map view es)) (view e) (drop (i + 1) (map view es)) until (subst (λ l. IsAmong s at (take i (map view es)) l until) (leaves es i e lt h) among)
+
+pub among_ends : (s : List ℕ) (at : ℕ) (before others : List Value) (until : ℕ) → IsAmong s at before others until → at ≤ until
+among_ends s at before others until h =
+    let a : at ≤ h.end = follow_rises h.follow in
+    let b : h.end ≤ until = h.ends in omega arith
+
+pub marked_sound : (keyed : Bool) (v : Value) (p : Place) (old new : List Place) (b : Bool) → b ≡ true → IsMarkedOne keyed v p old new (Ok b) → IsPut (event keyed v) p old new
+marked_sound keyed v p old new true h m = m
+marked_sound keyed v p old new false h m = absurd (false≢true h)
+
+pub marked_bad : (keyed : Bool) (v : Value) (p : Place) (old new : List Place) (b : Bool) → b ≡ false → IsMarkedOne keyed v p old new (Ok b) → (f : EventFault) × (event keyed v ≡ Err f) × (new ≡ old)
+marked_bad keyed v p old new false h m = m
+marked_bad keyed v p old new true h m = absurd (false≢true (sym h))
+
+-- what stands before a place changes nothing of what is marked from a later one on, if no map stands between
+pub marked_from : (keyed : Bool) (text : List ℕ) (t u : Told) (from later : Cursor) (until : ℕ) (old new : List Place) (r : Result Maps OutOfMemory) → t ≡ u →
+    ((whole : List ℕ) (p : ℕ) → text ≡ drop p whole → from.place ≡ place_at whole (p + from.at) → later.place ≡ place_at whole (p + later.at)) →
+    AreMarked keyed text t later until old new r → AreMarked keyed text u from until old new r
+marked_from keyed text t u from later until old new (Ok (maps.Sound next)) same place m = (
+  m.0,
+  m.1,
+  m.2,
+  (m.3.0, sym same ∙ m.3.1, λ whole p es up. m.3.2 whole p es (up.0, up.1, place whole p up.0 up.2, up.3)),
+)
+marked_from keyed text t u from later until old new (Ok (maps.Bad bad)) same place m = (
+  m.0,
+  m.1,
+  sym same ∙ m.2,
+  λ whole p es up. m.3 whole p es (up.0, up.1, place whole p up.0 up.2, up.3),
+)
+marked_from keyed text t u from later until old new (Err e) same place m = m
+
+alone_at : (keyed : Bool) (text whole : List ℕ) (p at until : ℕ) (es : List Event) (v : Value) → text ≡ drop p whole → Gives keyed whole es p → Spells text v at until → row_of v ≡ None →
+    Begins keyed whole es (p + at) v
+alone_at keyed text whole p at until es v is gives spelled none = alone gives (subst (λ l. Spells l v at until) is spelled) none
+
+-- a map that stands alone
+pub lone_sound : (keyed : Bool) (text : List ℕ) (v : Value) (begun next : Cursor) (until : ℕ) (old new : List Place) → Spells text v begun.at until → row_of v ≡ None →
+    IsPut (event keyed v) begun.place old new →
+    ((whole : List ℕ) (p : ℕ) → text ≡ drop p whole → begun.place ≡ place_at whole (p + begun.at) → next.place ≡ place_at whole (p + next.at)) →
+    IsSound keyed text (told keyed v) begun old next new
+lone_sound keyed text v begun next until old new spelled none put place =
+    let one = one_put keyed v (event keyed v) begun.place old new refl put in (
+      one.0,
+      lone_map keyed v none ∙ one.1,
+      λ whole p es up. (
+        place whole p up.0 up.2,
+        one.2 whole es (p + begun.at) up.3 (alone_at keyed text whole p begun.at until es v up.0 up.1 spelled none) up.2,
+      ),
+    )
+
+pub lone_unsound : (keyed : Bool) (text : List ℕ) (v : Value) (begun : Cursor) (until : ℕ) (old new : List Place) → Spells text v begun.at until → row_of v ≡ None →
+    (f : EventFault) × (event keyed v ≡ Err f) × (new ≡ old) → IsUnsound keyed text (told keyed v) begun old begun.place new
+lone_unsound keyed text v begun until old new spelled none bad = (
+  [],
+  bad.0,
+  lone_map keyed v none ∙ ap (λ r. before r (record { events = []; ends = None })) bad.1,
+  λ whole p es up. (
+    subst (λ l. ArePlaces keyed whole l new) (sym (append-nil es)) (subst (λ l. ArePlaces keyed whole es l) (sym bad.2) up.3),
+    p + begun.at,
+    v,
+    subst (λ l. Begins keyed whole l (p + begun.at) v) (sym (append-nil es)) (alone_at keyed text whole p begun.at until es v up.0 up.1 spelled none),
+    bad.1,
+    up.2,
+  ),
+)
+
+short_tail : {q : ℕ} {s t : List ℕ} → ShortBlanks s q t → Tail 0 s q t
+short_tail no_blank_yet = all
+short_tail (one_more_short bs b le) = then (short_tail bs) (blank_past b).1
+
+-- what is spelled stands at its place
+pub standing : (s : List ℕ) (v : Value) (at used : ℕ) → Spells s v at used → used ≤ length s → IsStanding s at v used
+standing s v at used (spells {t = t} {u = u} bs e le) within =
+    let from : t ≡ drop at s = tail_is s (short_tail bs) refl in
+    let rest : u ≡ drop used s = tail_is s (element_past e).1 from in record {
+      levels = 64;
+      st = [];
+      used = used;
+      few = omega arith;
+      are_tags = tt;
+      is_open = subst (λ l. Open s 64 [] at l) from (none_open bs);
+      stands = subst (λ l. Element 64 at l v used (drop used s)) from (subst (λ l. Element 64 at t v used l) rest e);
+      ends = omega arith;
+      short = le;
+      inside = within;
+    }

@@ -8,7 +8,7 @@ use Rattle.lin_history.specs.declared.table.EventFault.{EventFault}
 use Rattle.lin_places.specs.Places.{row_of}
 
 -- what is told behind events
-pub behind_told : List Event → Told → Told
+abbrev pub behind_told : List Event → Told → Told
 behind_told es t = record { events = es ++ t.events; ends = t.ends }
 
 abbrev nothing_told : Told

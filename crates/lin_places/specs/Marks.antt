@@ -97,7 +97,7 @@ IsUnsound keyed text t from old bad new = (fs : List Event) × (cause : EventFau
     ArePlaces keyed whole (es ++ fs) new × (q : ℕ) × (v : Value) × Begins keyed whole (es ++ fs) q v × (event keyed v ≡ Err cause) × (bad ≡ place_at whole q))
 
 abbrev pub AreMarked : Bool → List ℕ → Told → Cursor → ℕ → List Place → List Place → Result Maps OutOfMemory → Type 0
-AreMarked keyed text t from until old new (Ok (maps.Sound next)) = (next.at ≡ until) × Fits text next × IsSound keyed text t from old next new
+AreMarked keyed text t from until old new (Ok (maps.Sound next)) = (next.at ≡ until) × Fits text next × IsPutBehind old new × IsSound keyed text t from old next new
 AreMarked keyed text t from until old new (Ok (maps.Bad bad)) = IsUnsound keyed text t from old bad new
 AreMarked keyed text t from until old new (Err _) = IsPutBehind old new
 
@@ -116,10 +116,9 @@ pub record Ends (keyed : Bool) (whole : List ℕ) (next : Place) (places : List 
 
 -- a text that stands from a place on is read as far as it goes
 pub record IsRead (keyed : Bool) (text : List ℕ) (place : Place) (old new : List Place) (r : Read) : Type 0 where
-  pub put : IsPutBehind old new
   pub fits : Fits text r.next
-  pub moved : r.next.place.offset ≡ place.offset + r.next.at
-  pub ends : (whole : List ℕ) → text ≡ drop place.offset whole → IsReadTo keyed whole place old → Ends keyed whole r.next.place new r.stop
+  pub ends : (whole : List ℕ) → text ≡ drop place.offset whole → IsReadTo keyed whole place old →
+      (r.next.place.offset ≡ place.offset + r.next.at) × Ends keyed whole r.next.place new r.stop
 
 abbrev pub IsReadOn : Bool → List ℕ → Place → List Place → List Place → Result Read OutOfMemory → Type 0
 IsReadOn keyed text place old new (Ok r) = IsRead keyed text place old new r
@@ -127,8 +126,8 @@ IsReadOn keyed text place old new (Err _) = IsPutBehind old new
 
 -- what stands in front of a text, which stands from a place on
 abbrev pub IsFront : Bool → List ℕ → Place → List Place → List Place → Result Front OutOfMemory → Type 0
-IsFront keyed text place old new (Ok (front.Element next)) = IsPutBehind old new × Fits text next × (1 ≤ next.at) × (next.place.offset ≡ place.offset + next.at) ×
-    ((whole : List ℕ) → text ≡ drop place.offset whole → IsReadTo keyed whole place old → IsReadTo keyed whole next.place new)
+IsFront keyed text place old new (Ok (front.Element next)) = IsPutBehind old new × Fits text next × (1 ≤ next.at) ×
+    ((whole : List ℕ) → text ≡ drop place.offset whole → IsReadTo keyed whole place old → (next.place.offset ≡ place.offset + next.at) × IsReadTo keyed whole next.place new)
 IsFront keyed text place old new (Ok (front.End r)) = IsRead keyed text place old new r
 IsFront keyed text place old new (Err _) = IsPutBehind old new
 

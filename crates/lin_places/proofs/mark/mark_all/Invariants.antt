@@ -8,5 +8,5 @@ use Rattle.lin_places.proofs.mark.mark_all.Given as goal
 
 abbrev pub invariant-loop-item : goal.invariant-loop-item
 invariant-loop-item l =
-    Fits l.text.now l.next × IsAmong l.text.now l.next.at (take l.item-index (map view l.items.now)) (drop l.item-index (map view l.items.now)) l.until × IsPutBehind l.fn.places.items l.places.items ×
-    IsSound l.keyed l.text.now (told_by l.keyed (values_of (take l.item-index (map view l.items.now)))) l.from l.fn.places.items l.next l.places.items
+    Fits l.text l.next × IsAmong l.text l.next.at (take l.item-index (map view l.items)) (drop l.item-index (map view l.items)) l.until × IsPutBehind l.fn.places.items l.places.items ×
+    IsSound l.keyed l.text (told_by l.keyed (values_of (take l.item-index (map view l.items)))) l.fn.from l.fn.places.items l.next l.places.items
