@@ -8,3 +8,4 @@ pub mod Rows
 pub mod Telling
 pub mod Marking
 pub mod Reading
+pub mod Feeding

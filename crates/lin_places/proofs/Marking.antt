@@ -1,6 +1,6 @@
 -- The places of maps, one after another.
 use Rattle.std.proofs.Common.{◌≡◌, ℕ, zero, suc, ◌+◌, ◌<◌, ◌≤◌, Bool, true, false, List, [], ◌∷◌, ◌++◌, length, drop, take, map, get_or, take-append-drop, Option, Some, None, Result, Ok, Err, refl, sym, ap, subst, arith, ◌∙◌, append_assoc, append-nil}
-use Rattle.lin_edn.specs.Grammar.{Blank, Blanks, no_blank, one_more as one_more_blank, Element, Row, blank, element, Frame, frame, Open, none_open, within, ShortBlanks, no_blank_yet, one_more_short, Spells, spells, longest}
+use Rattle.lin_edn.specs.Grammar.{Blank, Blanks, no_blank, one_more as one_more_blank, Element, Row, blank, element, Frame, frame, Open, none_open, within, Spells, spells, longest}
 use Rattle.lin_edn.specs.Bytes.{Kind}
 use Rattle.lin_edn.specs.Value.{Value, Values, no_values, value, values_of}
 use Rattle.std.proofs.lemmas.Bool.{false≢true}
@@ -17,7 +17,7 @@ use Rattle.lin_places.specs.declared.place.Cursor.{Cursor}
 use Rattle.lin_events.specs.declared.numbers.OutOfMemory.{OutOfMemory}
 use Rattle.lin_places.specs.declared.mark.Maps.{Maps}
 use Rattle.lin_places.specs.declared.mark.Maps.TheVariants as maps
-use Rattle.lin_places.proofs.Tails.{Tail, all, then, blank_past, tail_is, tail_rises, blanks_tail, element_past}
+use Rattle.lin_places.proofs.Tails.{short_tail, tail_is, tail_rises, blanks_tail, element_past}
 use Rattle.lin_places.proofs.Rows.{follow_rises}
 use Rattle.lin_places.proofs.Telling.{behind_told, told_behind, lone_map}
 
@@ -257,13 +257,9 @@ lone_unsound keyed text v begun until old new spelled none bad = (
   ),
 )
 
-short_tail : {q : ℕ} {s t : List ℕ} → ShortBlanks s q t → Tail 0 s q t
-short_tail no_blank_yet = all
-short_tail (one_more_short bs b le) = then (short_tail bs) (blank_past b).1
-
 -- what is spelled stands at its place
 pub standing : (s : List ℕ) (v : Value) (at used : ℕ) → Spells s v at used → used ≤ length s → IsStanding s at v used
-standing s v at used (spells {t = t} {u = u} bs e le) within =
+standing s v at used (spells {t = t} {u = u} bs e le) all_there =
     let from : t ≡ drop at s = tail_is s (short_tail bs) refl in
     let rest : u ≡ drop used s = tail_is s (element_past e).1 from in record {
       levels = 64;
@@ -275,5 +271,5 @@ standing s v at used (spells {t = t} {u = u} bs e le) within =
       stands = subst (λ l. Element 64 at l v used (drop used s)) from (subst (λ l. Element 64 at t v used l) rest e);
       ends = omega arith;
       short = le;
-      inside = within;
+      inside = all_there;
     }

@@ -2,7 +2,7 @@
 use Rattle.std.proofs.Common.{◌≡◌, ℕ, ◌+◌, ◌<◌, ◌≤◌, List, [], ◌∷◌, length, drop, refl, sym, ap, ◌∙◌, arith}
 use Rattle.std.proofs.lemmas.List.{drop-drop}
 use Rattle.lin_edn.specs.Bytes.{Kind, Class}
-use Rattle.lin_edn.specs.Grammar.{One, one, Inside, first, joined, character, next, Tag, first_of_tag, next_of_tag, Text, Escape, opened, opened_by_hash, plain, pair, escape, Comment, starts, goes, Opens, bracket, set_bracket, Discard, discards, Blank, white_byte, comment, discarded, Blanks, no_blank, one_more, Element, run, hash_alone, whole_text, tagged_element, collection, Row, empty, blank, element}
+use Rattle.lin_edn.specs.Grammar.{One, one, Inside, first, joined, character, next, Tag, first_of_tag, next_of_tag, Text, Escape, opened, opened_by_hash, plain, pair, escape, Comment, starts, goes, Opens, bracket, set_bracket, Discard, discards, Blank, white_byte, comment, discarded, Blanks, no_blank, one_more, Element, run, hash_alone, whole_text, tagged_element, collection, Row, empty, blank, element, ShortBlanks, no_blank_yet, one_more_short, Frame, Open, none_open, within, waits, awaits}
 use Rattle.lin_edn.specs.Value.{Value}
 
 -- the bytes t stand from place q on, where s stand from place p on
@@ -97,3 +97,14 @@ drop_one s t b q e =
 pub tail_is : {p q : ℕ} {s t : List ℕ} (whole : List ℕ) → Tail p s q t → s ≡ drop p whole → t ≡ drop q whole
 tail_is whole all e = e
 tail_is whole (last {q = q} {b = b} {t = t} h) e = drop_one whole t b q (tail_is whole h e)
+
+pub short_tail : {q : ℕ} {s t : List ℕ} → ShortBlanks s q t → Tail 0 s q t
+short_tail no_blank_yet = all
+short_tail (one_more_short bs b le) = then (short_tail bs) (blank_past b).1
+
+-- where levels are open
+pub open_tail : {n p : ℕ} {s t : List ℕ} {st : List Frame} → Open s n st p t → Tail 0 s p t
+open_tail (none_open bs) = short_tail bs
+open_tail (within o i row) = then (open_tail o) (then (opens_past i).1 (row_tail row))
+open_tail (waits o h d bs) = then (open_tail o) (then (last (one_past h).1) (blanks_tail bs))
+open_tail (awaits o tg h bs) = then (open_tail o) (then (tag_past tg).1 (blanks_tail bs))

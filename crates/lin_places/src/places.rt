@@ -1,6 +1,5 @@
 //! The places of the events of a stream that comes in pieces.
 ghost use Rattle.std.specs.Prelude.{◌≡◌, ◌+◌, ◌≤◌, ◌++◌, [], false, Bool, ℕ, List, length, drop, IfSome, IsSome, IsNone};
-ghost use Rattle.lin_history.specs.Sees.{most};
 ghost use Rattle.lin_places.specs.Marks.{Fits, IsResting};
 ghost use Rattle.lin_places.specs.Places.{Marks, Feeds, bad_of, unfinished_of, is_bad as says_bad};
 ghost use Rattle.lin_places.specs.Rests.{IsSeen, IsTakenIn};
@@ -9,8 +8,12 @@ use crate::mark::{Read, read_on};
 use crate::place::{Cursor, Place, Stop};
 use lin_edn::{Skim, more_bytes, places as places_lie_within};
 use lin_events::OutOfMemory;
+use lin_history::faults_stay;
 use std::alloc::Global;
 use std::marker::Model;
+
+/// The greatest number of bytes of a stream.
+const MOST: u64 = 1_099_511_627_776;
 
 /// A reader of the places of a stream's events, to be fed the same pieces as a `Follow`.
 ///
@@ -37,7 +40,8 @@ struct Rest {
 }
 
 impl Model for Places {
-    ghost use Rattle.std.specs.Prelude.{◌≤◌, suc};
+    ghost use Rattle.std.specs.Prelude.{◌+◌, ◌≤◌, suc, length};
+    ghost use Rattle.lin_history.specs.Sees.{most};
     ghost use Rattle.lin_places.specs.Places.{Marked};
     ghost use Rattle.lin_places.specs.Rests.{IsSeen};
 
@@ -45,7 +49,7 @@ impl Model for Places {
 
     ghost view = { λ p. record { keyed = p.keyed; places = p.places.items; stop = p.stop; next = p.next; held = p.held.items } };
 
-    ghost invariant = { λ p. (p.next.line ≤ suc p.next.offset) × IsSeen p.rest p.held.items };
+    ghost invariant = { λ p. (p.next.offset + length p.held.items ≤ most) × (p.next.line ≤ suc p.next.offset) × IsSeen p.rest p.held.items };
 }
 
 impl Places {
@@ -95,15 +99,20 @@ impl Places {
         }
     }
 
-    /// Takes in a piece of the stream. After `OutOfMemory` nothing changed.
+    /// Takes in a piece of the stream. Behind a fault, or a map that is no event, nothing is read.
+    ///
+    /// After `OutOfMemory` nothing changed. It is answered too where the pieces together would pass 1,099,511,627,776 bytes.
     pub fn feed(&mut self, piece: &[u8]) -> Result<(), OutOfMemory>
-        requires { self.old.next.offset + length self.old.held + length piece.now ≤ most }
         ensures { Feeds self.old piece.now self.new result }
     {
         more_bytes();
         places_lie_within();
+        faults_stay();
         if is_bad(&self.stop) {
             return Ok(());
+        }
+        if piece.len() as u64 > MOST - self.next.offset - self.held.len() as u64 {
+            return Err(OutOfMemory);
         }
         match take_in(
             self.alloc,
