@@ -2,7 +2,7 @@
 use Rattle.std.proofs.Common.{◌≡◌, ℕ, suc, ◌+◌, ◌-◌, ◌<◌, ◌≤◌, Bool, true, false, List, [], ◌∷◌, ◌++◌, Result, Err, Ok, drop, take, length, refl, sym, ap, subst, arith, ◌∙◌, append_assoc, length-append, length-drop}
 use Rattle.std.proofs.lemmas.Bool.{false≢true}
 use Rattle.std.proofs.lemmas.List.{drop-append-le, drop-drop}
-use Rattle.lin_edn.specs.Grammar.{Spells, ShortBlanks, Element, Frame, Open, IsBlankText, IsUnfinished, nothing_more, no_blank_yet}
+use Rattle.lin_edn.specs.Grammar.{Spells, ShortBlanks, Element, Frame, frame, Open, IsBlankText, IsUnfinished, nothing_more, no_blank_yet}
 use Rattle.lin_edn.specs.Reading.{Refuses}
 use Rattle.lin_edn.specs.Value.{Value}
 use Rattle.lin_edn.specs.declared.EdnCause.{EdnCause}
@@ -70,8 +70,8 @@ gives_more l {k} {s} {es} {p} x (element {v = v} {p = q} {at = at} {used = used}
 begins_more : Laws → {k : Bool} {s : List ℕ} {es : List Event} {p : ℕ} {v : Value} (x : List ℕ) → Begins k s es p v → Begins k (s ++ x) es p v
 begins_more l {s = s} x (alone {p = q} {at = at} {used = used} {v = v} g y r) =
     alone (gives_more l x g) (subst (λ z. Spells z v at used) (sym (drop-append-le q s x (gives_inside l g))) (l.spelled_stays (drop q s) x v at used y)) r
-begins_more l {s = s} x (inside {p = q} g o r tags w e) =
-    inside (gives_more l x g) (rw (drop-append-le q s x (gives_inside l g)) (open_longer o x)) r tags w (element_longer e x)
+begins_more l {s = s} x (inside {t = t} {p = q} {n = n} {o = o} {at = at} {k = k} {vs = vs} {st = st} g open_there r tags w e) =
+    inside (gives_more l x g) (subst (λ z. Open z n (frame k o vs ∷ st) at (t ++ x)) (sym (drop-append-le q s x (gives_inside l g))) (open_longer open_there x)) r tags w (element_longer e x)
 
 begun_inside : Laws → {k : Bool} {s : List ℕ} {es : List Event} {p : ℕ} {v : Value} → Begins k s es p v → p ≤ length s
 begun_inside l {s = s} (alone {p = q} {at = at} {used = used} {v = v} g y r) =
@@ -187,3 +187,7 @@ ends_resting k whole held next ps (stop.Unfinished p) is rests h =
       goes_on = λ n. (h.1, h.2);
     }
 ends_resting k whole held next ps (stop.Bad p) is rests h = absurd rests
+
+pub none_rests : (b : List ℕ) → length b ≡ 0 → IsBlankText b 0
+none_rests [] e = nothing_more no_blank_yet
+none_rests (c ∷ b) e = absurd (omega arith)
