@@ -1,6 +1,7 @@
 -- What a reader of places marks when a piece is taken in.
-use Rattle.std.proofs.Common.{◌≡◌, ℕ, suc, ◌+◌, ◌-◌, ◌<◌, ◌≤◌, Bool, true, false, List, [], ◌∷◌, ◌++◌, Result, Err, Ok, drop, take, length, refl, sym, ap, subst, arith, ◌∙◌, append_assoc, length-append, length-drop}
+use Rattle.std.proofs.Common.{◌≡◌, ℕ, suc, ◌+◌, ◌-◌, ◌<◌, ◌≤◌, ◌==◌, Bool, true, false, List, [], ◌∷◌, ◌++◌, Result, Err, Ok, drop, take, length, refl, sym, ap, subst, arith, ◌∙◌, append_assoc, length-append, length-drop}
 use Rattle.std.proofs.lemmas.Bool.{false≢true}
+use Rattle.std.proofs.lemmas.Bool.Decides.{nat_tests}
 use Rattle.std.proofs.lemmas.List.{drop-append-le, drop-drop}
 use Rattle.lin_edn.specs.Grammar.{Spells, ShortBlanks, Element, Frame, frame, Open, IsBlankText, IsUnfinished, nothing_more, no_blank_yet}
 use Rattle.lin_edn.specs.Reading.{Refuses}
@@ -191,3 +192,9 @@ ends_resting k whole held next ps (stop.Bad p) is rests h = absurd rests
 pub none_rests : (b : List ℕ) → length b ≡ 0 → IsBlankText b 0
 none_rests [] e = nothing_more no_blank_yet
 none_rests (c ∷ b) e = absurd (omega arith)
+
+pub is_zero : (n : ℕ) → (n == 0) ≡ true → n ≡ 0
+is_zero n h = grind (arith, nat_tests)
+
+pub is_some : (n : ℕ) → (n == 0) ≡ false → 0 < n
+is_some n h = grind (arith, nat_tests)
