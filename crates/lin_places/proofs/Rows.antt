@@ -126,8 +126,7 @@ behind_tag (whole_text h c) e r = cc
 behind_tag {i = i} {s = s} {w = w} {v = v} (tagged_element {n = n} {p = p} {q = q} {r = b} {o = o} {c = c} {t = t} {u = u} {x = x'} {w = name} {v = y} tg h bs el) e r =
     let same : y ≡ v = (cc) in
     let names : name ≡ w = (cc) in
-    let place : i ≡ p + 1 = (cc) in
-    (
+    let place : i ≡ p + 1 = (cc) in (
       record {
         levels = n;
         end = q;

@@ -17,5 +17,5 @@ abbrev pub IsTakenIn : Bool → Place → List ℕ → List ℕ → List Place �
 IsTakenIn keyed next piece held places held' places' (Ok r) =
     (held' ≡ drop r.next.at (held ++ piece)) × Fits (held ++ piece) r.next ×
     ((whole : List ℕ) → held ++ piece ≡ drop next.offset whole → IsReadTo keyed whole next places →
-        (r.next.place.offset ≡ next.offset + r.next.at) × Ends keyed whole r.next.place places' r.stop)
+    (r.next.place.offset ≡ next.offset + r.next.at) × Ends keyed whole r.next.place places' r.stop)
 IsTakenIn keyed next piece held places held' places' (Err _) = (held' ≡ held) × (places' ≡ places)

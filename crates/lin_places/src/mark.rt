@@ -107,12 +107,7 @@ fn behind_tag<'e, 'a>(element: &'e Edn<'a>) -> Option<(&'e Span<'a>, &'e Edn<'a>
 }
 
 /// Where the elements of a list or vector begin that begins at a place, with its tags.
-fn row_begun(
-    alloc: Global,
-    text: &[u8],
-    element: &Edn,
-    at: usize,
-) -> Result<usize, OutOfMemory>
+fn row_begun(alloc: Global, text: &[u8], element: &Edn, at: usize) -> Result<usize, OutOfMemory>
     requires stands { (until : ℕ) × IsStanding text.now at (view element.now) until }
     requires row { (vs : List Value) × (row_of (view element.now) ≡ Some (values_of vs)) }
     ensures { IfOk result (λ from. (until : ℕ) (vs : List Value) → IsStanding text.now at (view element.now) until →
@@ -171,7 +166,15 @@ fn mark(
     match row_in(element) {
         Some(items) => {
             let from = row_begun(alloc, text, element, begun.at)?;
-            mark_all(alloc, keyed, text, items, go_to(text, begun, from), until, places)
+            mark_all(
+                alloc,
+                keyed,
+                text,
+                items,
+                go_to(text, begun, from),
+                until,
+                places,
+            )
         }
         None => {
             if mark_one(alloc, keyed, element, begun.place, places)? {
@@ -199,7 +202,15 @@ fn read_front(
     let front = Cursor { at: 0, place };
     match next_element(alloc, text) {
         Ok(Next::Complete { value, at, used }) => {
-            match mark(alloc, keyed, text, &value, go_to(text, front, at), used, places)? {
+            match mark(
+                alloc,
+                keyed,
+                text,
+                &value,
+                go_to(text, front, at),
+                used,
+                places,
+            )? {
                 Maps::Sound(next) => Ok(Front::Element(next)),
                 Maps::Bad(bad) => Ok(ends(front, Stop::Bad(bad))),
             }

@@ -68,11 +68,11 @@ row_begun-requires t c =
 
 pub returns-in_ok-begun-in-Some : goal.returns-in_ok-begun-in-Some
 returns-in_ok-begun-in-Some t c = IfOk-weaker c.row_begun.result _ _ (λ from more until vs stands row. (
-      let tag = c.in-Some.tag.now in
-      let next = standing_behind c.args.text.now tag.text.now c.args.at tag.at until (view c.in-Some.inner.now) (values_of vs)
-      (subst (λ (v : Value). IsStanding c.args.text.now c.args.at v until) c.in-Some.ensures stands) (ap row_of (sym c.in-Some.ensures) ∙ row) in
-      let later : c.args.at < next.0 = next.5 in
-      let here : c.in_ok-begun-in-Some.begun ≡ next.0 = (c.in_ok-begun-in-Some.ensures (view c.in-Some.inner.now) next.0 next.1 next.2).0 in
-      let rest = more until vs (subst (λ (b : ℕ). IsStanding c.args.text.now b (view c.in-Some.inner.now) until) (sym here) next.3) (ap row_of (sym c.in-Some.ensures) ∙ row) in
-      let le : c.in_ok-begun-in-Some.begun ≤ from = rest.0 in
-      (omega arith, rest.1))) c.row_begun.ensures
+    let tag = c.in-Some.tag.now in
+    let next = standing_behind c.args.text.now tag.text.now c.args.at tag.at until (view c.in-Some.inner.now) (values_of vs)
+    (subst (λ (v : Value). IsStanding c.args.text.now c.args.at v until) c.in-Some.ensures stands) (ap row_of (sym c.in-Some.ensures) ∙ row) in
+    let later : c.args.at < next.0 = next.5 in
+    let here : c.in_ok-begun-in-Some.begun ≡ next.0 = (c.in_ok-begun-in-Some.ensures (view c.in-Some.inner.now) next.0 next.1 next.2).0 in
+    let rest = more until vs (subst (λ (b : ℕ). IsStanding c.args.text.now b (view c.in-Some.inner.now) until) (sym here) next.3) (ap row_of (sym c.in-Some.ensures) ∙ row) in
+    let le : c.in_ok-begun-in-Some.begun ≤ from = rest.0 in
+    (omega arith, rest.1))) c.row_begun.ensures
