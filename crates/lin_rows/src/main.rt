@@ -23,6 +23,7 @@ use lin_events::{Body, Call, Event, IntSet, Meter, Name, Reply, Shape, Val};
 use lin_history::{EventFault, Follow, FollowFault, NextEvent, event_of, next_event};
 use lin_objects::{Any, IntBag, IntQueue, Kind, Kinds, SeqObject, State};
 use lin_orders::{Placed, check_order, merge};
+use lin_places::{Place, Places};
 use lin_wellformed::{Scan, look_back};
 use std::alloc::Global;
 use std::io;
@@ -51,6 +52,7 @@ fn answer_value(alloc: Global, command: &str, rest: &str, out: &mut String) -> O
         "meter" => values::meter(rest, out),
         "set" => values::set(alloc, rest, out),
         "pieces" => streams::pieces(alloc, rest, out),
+        "places" => streams::places(alloc, rest, out),
         "tells" => streams::tells(alloc, rest, out),
         _ => answer_object(alloc, command, rest, out),
     }

@@ -1,7 +1,7 @@
 //! Rows about streams that are fed in pieces.
 use crate::shown::{put_event, put_events};
 use crate::words::{first_number, keyed};
-use crate::{Event, Follow, FollowFault};
+use crate::{Event, Follow, FollowFault, Place, Places};
 use std::alloc::Global;
 
 /// A stream to which a text is fed in pieces of so many bytes.
@@ -138,4 +138,31 @@ pub fn tells(alloc: Global, text: &str, out: &mut String) -> Option<()> {
     let unusual = tells_unusual(alloc, keyed, rest, &whole)?;
     let count = whole.events.len();
     write!(out, "{count} events, cut: {cut}, unusual: {unusual}").ok()
+}
+
+fn put_place(out: &mut String, name: &str, place: Option<Place>) -> Option<()> {
+    match place {
+        Some(place) => write!(out, "{name} {}:{}", place.offset, place.line).ok(),
+        None => Some(()),
+    }
+}
+
+/// `places SIZE TEXT`, `places keyed SIZE TEXT`: the places of a text's events as `BYTE:LINE`, fed in pieces of so many bytes, and where it
+/// stops.
+pub fn places(alloc: Global, text: &str, out: &mut String) -> Option<()> {
+    let (keyed, rest) = keyed(text);
+    let (size, rest) = first_number(rest)?;
+    if size == 0 {
+        return None;
+    }
+    let mut places = Places::new(alloc, keyed);
+    for piece in rest.as_bytes().chunks(size) {
+        places.feed(piece).ok()?;
+    }
+    write!(out, "{} places", places.as_slice().len()).ok()?;
+    for place in places.as_slice() {
+        write!(out, " {}:{}", place.offset, place.line).ok()?;
+    }
+    put_place(out, ", bad", places.bad())?;
+    put_place(out, ", unfinished", places.unfinished())
 }

@@ -1,0 +1,138 @@
+-- What the code marks while it reads: cited by the contracts of private functions alone.
+use Rattle.std.specs.Prelude.{◌≡◌, ℕ, suc, ◌+◌, ◌≤◌, Bool, true, false, List, [], ◌∷◌, ◌++◌, length, drop, Option, Some, None, Result, Ok, Err}
+use Rattle.lin_edn.specs.Bytes.{Kind, closing}
+use Rattle.lin_edn.specs.Grammar.{Frame, frame, Open, Blanks, Element, Spells, IsBlankText, IsUnfinished, longest}
+use Rattle.lin_edn.specs.Skimming.{HasSeen}
+use Rattle.lin_edn.specs.Value.{Value, Values}
+use Rattle.lin_history.specs.Sees.{most}
+use Rattle.lin_history.specs.Stream.{Told, Gives, IsStream}
+use Rattle.lin_history.specs.Table.{event}
+use Rattle.lin_events.specs.declared.events.Event.{Event}
+use Rattle.lin_events.specs.declared.numbers.OutOfMemory.{OutOfMemory}
+use Rattle.lin_history.specs.declared.table.EventFault.{EventFault}
+use Rattle.lin_history.specs.declared.follow.FollowFault.{FollowFault}
+use Rattle.lin_places.specs.Places.{place_at, AreTags, is_row, Begins, ArePlaces, StopsAt, is_bad}
+use Rattle.lin_places.specs.declared.place.Place.{Place}
+use Rattle.lin_places.specs.declared.place.Cursor.{Cursor}
+use Rattle.lin_places.specs.declared.place.Stop.{Stop}
+use Rattle.lin_places.specs.declared.place.Stop.TheVariants as stop
+use Rattle.lin_places.specs.declared.mark.Read.{Read}
+use Rattle.lin_places.specs.declared.mark.Front.{Front}
+use Rattle.lin_places.specs.declared.mark.Front.TheVariants as front
+use Rattle.lin_places.specs.declared.mark.Maps.{Maps}
+use Rattle.lin_places.specs.declared.mark.Maps.TheVariants as maps
+
+-- the places of a text, from a cursor on, have room in 64 bits
+abbrev pub Fits : List ℕ → Cursor → Type 0
+Fits text c = (c.at ≤ length text) × (c.place.offset + length text ≤ most + c.at) × (c.place.line ≤ suc c.place.offset)
+
+-- some more were put behind
+abbrev pub IsPutBehind : List Place → List Place → Type 0
+IsPutBehind old new = (more : List Place) × (new ≡ old ++ more)
+
+-- the place is put behind where an element says an event
+abbrev pub IsPut : Result (Option Event) EventFault → Place → List Place → List Place → Type 0
+IsPut (Ok (Some e)) p old new = new ≡ old ++ p ∷ []
+IsPut (Ok None) p old new = new ≡ old
+IsPut (Err f) p old new = ⊥
+
+abbrev pub IsMarkedOne : Bool → Value → Place → List Place → List Place → Result Bool OutOfMemory → Type 0
+IsMarkedOne keyed v p old new (Ok true) = IsPut (event keyed v) p old new
+IsMarkedOne keyed v p old new (Ok false) = (f : EventFault) × (event keyed v ≡ Err f) × (new ≡ old)
+IsMarkedOne keyed v p old new (Err _) = IsPutBehind old new
+
+-- behind blanks from a place on an element stands
+abbrev pub StandsAt : List ℕ → ℕ → Value → ℕ → ℕ → Type 0
+StandsAt s from v at used = (n : ℕ) × (n ≤ 64) × Blanks n from (drop from s) at (drop at s) × Element n at (drop at s) v used (drop used s) × (used ≤ from + longest)
+
+-- elements and blanks, the first one first
+pub data Follow : ℕ → ℕ → List ℕ → List Value → ℕ → List ℕ → Type 0 where
+  no_more : {n p q : ℕ} {s t : List ℕ} → Blanks n p s q t → Follow n p s [] q t
+  another : {n p q r o : ℕ} {s t u x : List ℕ} {v : Value} {vs : List Value} →
+      Blanks n p s q t → Element n q t v r u → Follow n r u vs o x → Follow n p s (v ∷ vs) o x
+
+-- at a place of a text, behind tags, an element stands that ends no later than another place
+pub record IsStanding (s : List ℕ) (at : ℕ) (v : Value) (until : ℕ) : Type 0 where
+  pub levels : ℕ
+  pub st : List Frame
+  pub used : ℕ
+  pub few : levels ≤ 64
+  pub are_tags : AreTags st
+  pub is_open : Open s levels st at (drop at s)
+  pub stands : Element levels at (drop at s) v used (drop used s)
+  pub ends : used ≤ until
+  pub short : until ≤ at + longest
+  pub inside : until ≤ length s
+
+-- at a place of a text a list or vector is open, behind tags, in which these elements stand before the place, and the others behind it
+pub record IsAmong (s : List ℕ) (at : ℕ) (before others : List Value) (until : ℕ) : Type 0 where
+  pub levels : ℕ
+  pub kind : Kind
+  pub begun : ℕ
+  pub st : List Frame
+  pub end : ℕ
+  pub rest : List ℕ
+  pub few : levels ≤ 64
+  pub row : is_row kind ≡ true
+  pub are_tags : AreTags st
+  pub is_open : Open s levels (frame kind begun before ∷ st) at (drop at s)
+  pub follow : Follow levels at (drop at s) others end rest
+  pub ends : end ≤ until
+  pub short : until ≤ at + longest
+  pub inside : until ≤ length s
+
+-- before a cursor of a text, which stands behind what is read of a longer one, these are the places
+abbrev pub IsUpTo : Bool → List ℕ → ℕ → List Event → List ℕ → Cursor → List Place → Type 0
+IsUpTo keyed whole p es text c places = (text ≡ drop p whole) × Gives keyed whole es p × (c.place ≡ place_at whole (p + c.at)) × ArePlaces keyed whole es places
+
+-- what is told has its places, and no fault
+abbrev pub IsSound : Bool → List ℕ → Told → Cursor → List Place → Cursor → List Place → Type 0
+IsSound keyed text t from old next new = (fs : List Event) × (t ≡ record { events = fs; ends = None }) × ((whole : List ℕ) (p : ℕ) (es : List Event) →
+    IsUpTo keyed whole p es text from old → (next.place ≡ place_at whole (p + next.at)) × ArePlaces keyed whole (es ++ fs) new)
+
+-- what is told has its places, and its fault this one
+abbrev pub IsUnsound : Bool → List ℕ → Told → Cursor → List Place → Place → List Place → Type 0
+IsUnsound keyed text t from old bad new = (fs : List Event) × (cause : EventFault) × (t ≡ record { events = fs; ends = Some cause }) ×
+    ((whole : List ℕ) (p : ℕ) (es : List Event) → IsUpTo keyed whole p es text from old →
+    ArePlaces keyed whole (es ++ fs) new × (q : ℕ) × (v : Value) × Begins keyed whole (es ++ fs) q v × (event keyed v ≡ Err cause) × (bad ≡ place_at whole q))
+
+abbrev pub AreMarked : Bool → List ℕ → Told → Cursor → ℕ → List Place → List Place → Result Maps OutOfMemory → Type 0
+AreMarked keyed text t from until old new (Ok (maps.Sound next)) = (next.at ≡ until) × Fits text next × IsPutBehind old new × IsSound keyed text t from old next new
+AreMarked keyed text t from until old new (Ok (maps.Bad bad)) = IsUnsound keyed text t from old bad new
+AreMarked keyed text t from until old new (Err _) = IsPutBehind old new
+
+-- what is read of a text up to a place, and the places in it
+abbrev pub IsReadTo : Bool → List ℕ → Place → List Place → Type 0
+IsReadTo keyed whole next places = (es : List Event) × Gives keyed whole es next.offset × (next ≡ place_at whole next.offset) × ArePlaces keyed whole es places
+
+-- the places of a text, and where it stops; where it may go on, it is read up to a place
+pub record Ends (keyed : Bool) (whole : List ℕ) (next : Place) (places : List Place) (x : Stop) : Type 0 where
+  pub events : List Event
+  pub outcome : Result (Unit {0}) FollowFault
+  pub is_stream : IsStream keyed whole events outcome
+  pub are_places : ArePlaces keyed whole events places
+  pub stops : StopsAt keyed whole events outcome x
+  pub goes_on : is_bad x ≡ false → Gives keyed whole events next.offset × (next ≡ place_at whole next.offset)
+
+-- a text that stands from a place on is read as far as it goes
+pub record IsRead (keyed : Bool) (text : List ℕ) (place : Place) (old new : List Place) (r : Read) : Type 0 where
+  pub fits : Fits text r.next
+  pub ends : (whole : List ℕ) → text ≡ drop place.offset whole → IsReadTo keyed whole place old →
+      (r.next.place.offset ≡ place.offset + r.next.at) × Ends keyed whole r.next.place new r.stop
+
+abbrev pub IsReadOn : Bool → List ℕ → Place → List Place → List Place → Result Read OutOfMemory → Type 0
+IsReadOn keyed text place old new (Ok r) = IsRead keyed text place old new r
+IsReadOn keyed text place old new (Err _) = IsPutBehind old new
+
+-- what stands in front of a text, which stands from a place on
+abbrev pub IsFront : Bool → List ℕ → Place → List Place → List Place → Result Front OutOfMemory → Type 0
+IsFront keyed text place old new (Ok (front.Element next)) = IsPutBehind old new × Fits text next × (1 ≤ next.at) ×
+    ((whole : List ℕ) → text ≡ drop place.offset whole → IsReadTo keyed whole place old → (next.place.offset ≡ place.offset + next.at) × IsReadTo keyed whole next.place new)
+IsFront keyed text place old new (Ok (front.End r)) = IsRead keyed text place old new r
+IsFront keyed text place old new (Err _) = IsPutBehind old new
+
+-- a text that is held goes on with what is unfinished in front of it, or is blank
+abbrev pub IsResting : List ℕ → Place → Stop → Type 0
+IsResting held next stop.Nowhere = IsBlankText held 0
+IsResting held next (stop.Unfinished p) = (p ≡ next) × IsUnfinished held 0
+IsResting held next (stop.Bad p) = ⊥

@@ -1,0 +1,10 @@
+//! On which line and at which byte of a recording each event stands.
+#![tactic(auto)]
+
+mod mark;
+mod place;
+mod places;
+
+pub use lin_events::OutOfMemory;
+pub use place::Place;
+pub use places::Places;

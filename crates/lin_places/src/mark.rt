@@ -1,0 +1,266 @@
+//! The places of the events in a text.
+ghost use Rattle.std.specs.Prelude.{◌≡◌, ◌≢◌, ◌+◌, ◌≤◌, suc, [], ℕ, List, Some, None, Ok, map, length, IfOk, IfSome, MatchOption};
+ghost use Rattle.lin_edn.specs.Grammar.{Spells};
+ghost use Rattle.lin_edn.specs.Value.{Value, tagged, values_of};
+ghost use Rattle.lin_edn.specs.View.{view};
+ghost use Rattle.lin_history.specs.Sees.{most};
+ghost use Rattle.lin_history.specs.Stream.{told, told_by};
+ghost use Rattle.lin_places.specs.Marks.{Fits, IsMarkedOne, StandsAt, IsStanding, IsAmong, AreMarked, IsFront, IsReadOn};
+ghost use Rattle.lin_places.specs.Places.{row_of};
+
+use crate::place::{Cursor, Place, Stop, go_to};
+use lin_edn::{
+    Edn, EdnCause, Next, Span, blanks_are_skipped, blanks_in_front, next_element,
+    places as places_lie_within, readings_are_unique,
+};
+use lin_events::OutOfMemory;
+use lin_history::{EventFault, event_of};
+use std::alloc::Global;
+
+/// What was read of a text: so far, and so it stops.
+#[derive(Drop)]
+pub(crate) struct Read {
+    pub next: Cursor,
+    pub stop: Stop,
+}
+
+/// What stands in front of a text.
+#[derive(Drop)]
+enum Front {
+    /// An element without fault, up to here.
+    Element(Cursor),
+    /// No whole element, or a fault.
+    End(Read),
+}
+
+/// What the maps of an element say.
+#[derive(Drop)]
+enum Maps {
+    /// They are without fault; a place in the element.
+    Sound(Cursor),
+    /// The place of the first that is no event.
+    Bad(Place),
+}
+
+/// Marks the place of a map, if it says an event. False where it is faulty.
+fn mark_one(
+    alloc: Global,
+    keyed: bool,
+    element: &Edn,
+    place: Place,
+    places: &mut Vec<Place>,
+) -> Result<bool, OutOfMemory>
+    ensures { IsMarkedOne keyed (view element.now) place places.old.items places.new.items result }
+{
+    match event_of(alloc, element, keyed) {
+        Ok(None) => Ok(true),
+        Ok(Some(_)) => {
+            places.push(place)?;
+            Ok(true)
+        }
+        Err(EventFault::OutOfMemory) => Err(OutOfMemory),
+        Err(_) => Ok(false),
+    }
+}
+
+/// Where the element behind blanks at a place begins and ends.
+fn element_at(alloc: Global, text: &[u8], from: usize) -> Result<(usize, usize), OutOfMemory>
+    requires inside { from ≤ length text.now }
+    requires stands { (v : Value) × (at : ℕ) × (used : ℕ) × StandsAt text.now from v at used }
+    ensures { IfOk result (λ r. (v : Value) (at : ℕ) (used : ℕ) → StandsAt text.now from v at used → (r.0 ≡ at) × (r.1 ≡ used)) }
+{
+    places_lie_within();
+    readings_are_unique();
+    blanks_are_skipped();
+    match next_element(alloc, &text[from..]) {
+        Ok(Next::Complete { value: _, at, used }) => Ok((from + at, from + used)),
+        Ok(Next::Partial { at: _ }) => unreachable!(),
+        Ok(Next::Blank { used: _ }) => unreachable!(),
+        Err(fault) => match fault.cause {
+            EdnCause::OutOfMemory => Err(OutOfMemory),
+            _ => unreachable!(),
+        },
+    }
+}
+
+/// The elements of a list or vector, whatever tags stand in front of it.
+fn row_in<'e, 'a>(element: &'e Edn<'a>) -> Option<&'e [Edn<'a>]>
+    ensures { MatchOption result (row_of (view element.entry.now) ≡ None) (λ items. row_of (view element.entry.now) ≡ Some (values_of (map view items.now))) }
+{
+    match element {
+        Edn::List(items) => Some(items.as_slice()),
+        Edn::Vector(items) => Some(items.as_slice()),
+        Edn::Tagged(_, inner) => row_in(inner.as_ref()),
+        _ => None,
+    }
+}
+
+/// The tag in front of an element, if it has one, and the element behind it.
+fn behind_tag<'e, 'a>(element: &'e Edn<'a>) -> Option<(&'e Span<'a>, &'e Edn<'a>)>
+    ensures { MatchOption result ((i : ℕ) (name : List ℕ) (v : Value) → view element.entry.now ≡ tagged i name v → ⊥)
+        (λ r. view element.entry.now ≡ tagged r.0.now.at r.0.now.text.now (view r.1.now)) }
+{
+    match element {
+        Edn::Tagged(tag, inner) => Some((tag, inner.as_ref())),
+        _ => None,
+    }
+}
+
+/// Where the elements of a list or vector begin that begins at a place, with its tags.
+fn row_begun(alloc: Global, text: &[u8], element: &Edn, at: usize) -> Result<usize, OutOfMemory>
+    requires stands { (until : ℕ) × IsStanding text.now at (view element.now) until }
+    requires row { (vs : List Value) × (row_of (view element.now) ≡ Some (values_of vs)) }
+    ensures { IfOk result (λ from. (until : ℕ) (vs : List Value) → IsStanding text.now at (view element.now) until →
+        row_of (view element.now) ≡ Some (values_of vs) → (at ≤ from) × IsAmong text.now from [] vs until) }
+{
+    match behind_tag(element) {
+        Some((tag, inner)) => {
+            let (begun, _) = element_at(alloc, text, tag.at + tag.text.len())?;
+            row_begun(alloc, text, inner, begun)
+        }
+        None => Ok(at + 1),
+    }
+}
+
+/// Marks the places of the elements of a list or vector, which stand from a place on and end before another.
+fn mark_all(
+    alloc: Global,
+    keyed: bool,
+    text: &[u8],
+    items: &[Edn],
+    from: Cursor,
+    until: usize,
+    places: &mut Vec<Place>,
+) -> Result<Maps, OutOfMemory>
+    requires fits { Fits text.now from }
+    requires among { IsAmong text.now from.at [] (map view items.now) until }
+    ensures { AreMarked keyed text.now (told_by keyed (values_of (map view items.now))) from until places.old.items places.new.items result }
+{
+    let mut next = from;
+    for item in items {
+        let (begun, used) = element_at(alloc, text, next.at)?;
+        let here = go_to(text, next, begun);
+        if !mark_one(alloc, keyed, item, here.place, places)? {
+            return Ok(Maps::Bad(here.place));
+        }
+        next = go_to(text, here, used);
+    }
+    Ok(Maps::Sound(go_to(text, next, until)))
+}
+
+/// Marks the places of the maps of an element that begins at a place and ends before another.
+fn mark(
+    alloc: Global,
+    keyed: bool,
+    text: &[u8],
+    element: &Edn,
+    begun: Cursor,
+    until: usize,
+    places: &mut Vec<Place>,
+) -> Result<Maps, OutOfMemory>
+    requires fits { Fits text.now begun }
+    requires spelled { Spells text.now (view element.now) begun.at until }
+    ensures { AreMarked keyed text.now (told keyed (view element.now)) begun until places.old.items places.new.items result }
+{
+    places_lie_within();
+    match row_in(element) {
+        Some(items) => {
+            let from = row_begun(alloc, text, element, begun.at)?;
+            mark_all(
+                alloc,
+                keyed,
+                text,
+                items,
+                go_to(text, begun, from),
+                until,
+                places,
+            )
+        }
+        None => {
+            if mark_one(alloc, keyed, element, begun.place, places)? {
+                Ok(Maps::Sound(go_to(text, begun, until)))
+            } else {
+                Ok(Maps::Bad(begun.place))
+            }
+        }
+    }
+}
+
+/// Reads what stands in front of a text, which has a place in a longer one.
+fn read_front(
+    alloc: Global,
+    keyed: bool,
+    text: &[u8],
+    place: Place,
+    places: &mut Vec<Place>,
+) -> Result<Front, OutOfMemory>
+    requires fits { Fits text.now (record { at = 0; place = place }) }
+    ensures { IsFront keyed text.now place places.old.items places.new.items result }
+{
+    places_lie_within();
+    blanks_in_front();
+    let front = Cursor { at: 0, place };
+    match next_element(alloc, text) {
+        Ok(Next::Complete { value, at, used }) => {
+            match mark(
+                alloc,
+                keyed,
+                text,
+                &value,
+                go_to(text, front, at),
+                used,
+                places,
+            )? {
+                Maps::Sound(next) => Ok(Front::Element(next)),
+                Maps::Bad(bad) => Ok(ends(front, Stop::Bad(bad))),
+            }
+        }
+        Ok(Next::Partial { at }) => {
+            let next = go_to(text, front, at);
+            Ok(ends(next, Stop::Unfinished(next.place)))
+        }
+        Ok(Next::Blank { used }) => Ok(ends(go_to(text, front, used), Stop::Nowhere)),
+        Err(fault) => match fault.cause {
+            EdnCause::OutOfMemory => Err(OutOfMemory),
+            _ => Ok(ends(front, Stop::Bad(go_to(text, front, fault.at).place))),
+        },
+    }
+}
+
+fn ends(next: Cursor, stop: Stop) -> Front
+    ensures { result ≡ Front.End (record { next = next; stop = stop }) }
+{
+    Front::End(Read { next, stop })
+}
+
+/// Reads a text, which has a place in a longer one, as far as it goes.
+pub(crate) fn read_on(
+    alloc: Global,
+    keyed: bool,
+    text: &[u8],
+    place: Place,
+    places: &mut Vec<Place>,
+) -> Result<Read, OutOfMemory>
+    requires fits { Fits text.now (record { at = 0; place = place }) }
+    ensures { IsReadOn keyed text.now place places.old.items places.new.items result }
+{
+    let mut at = 0;
+    let mut place = place;
+    'elements: loop {
+        match read_front(alloc, keyed, &text[at..], place, places)? {
+            Front::Element(next) => {
+                at += next.at;
+                place = next.place;
+            }
+            Front::End(read) => {
+                return Ok(Read {
+                    next: Cursor {
+                        at: at + read.next.at,
+                        place: read.next.place,
+                    },
+                    stop: read.stop,
+                });
+            }
+        }
+    }
+}
