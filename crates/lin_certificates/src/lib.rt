@@ -1,0 +1,13 @@
+//! Certificates: a few operations of one object that no legal order can have, each of a form that shows why.
+#![tactic(auto)]
+
+mod certificate;
+mod locks;
+mod operations;
+mod passes;
+mod queues;
+mod registers;
+mod sets;
+mod words;
+
+pub use certificate::{Certificate, certificates_exclude_orders, certifies};
