@@ -13,10 +13,11 @@ use Rattle.lin_orders.specs.declared.placed.Placed.{Placed}
 use Rattle.lin_orders.specs.Linearizable.{IsLegalOrderAs, Runs}
 use Rattle.lin_orders.specs.Orders.{IsBefore, IsCall}
 use Rattle.lin_orders.specs.lemmas.OneEnd.{one_call}
-use Rattle.lin_failures.specs.BagConflicts.{AtLeast, AtMost}
 use Rattle.lin_failures.specs.lemmas.Counting.{Chosen, chosen_empty, chosen_least, chosen_most, chosen_one, chosen_other, pairs_rest}
-use Rattle.lin_certificates.specs.Words.{Exactly, Returned}
-use Rattle.lin_certificates.specs.Certificates.{CanCall, DidCall, IsCounted, IsTwice, IsTwiceBy}
+use Rattle.lin_certificates.specs.Words.{IsOfCalls, Returned}
+use Rattle.lin_certificates.specs.declared.words.Calls.{Calls}
+use Rattle.lin_certificates.specs.declared.words.Calls.TheVariants.{Acquires, Releases}
+use Rattle.lin_certificates.specs.Certificates.{CanCall, DidCall, IsCounted, IsTwice, IsTwiceIn}
 use Rattle.lin_certificates.proofs.Standing.{At, not_failed, ok_there, place_of, stands_ahead}
 use Rattle.lin_certificates.proofs.Numbers.{at_least, at_most}
 
@@ -39,6 +40,23 @@ other_call false = Acquire
 abbrev this_call : Bool → Call
 this_call true = Acquire
 this_call false = Release
+
+-- and what certificates name them by
+abbrev other_sort : Bool → Calls
+other_sort true = Releases
+other_sort false = Acquires
+
+abbrev this_sort : Bool → Calls
+this_sort true = Acquires
+this_sort false = Releases
+
+of_this : (held : Bool) (call : Call) → IsOfCalls (this_sort held) call → call ≡ this_call held
+of_this true call is = is
+of_this false call is = is
+
+is_other : (held : Bool) → IsOfCalls (other_sort held) (other_call held)
+is_other true = refl
+is_other false = refl
 
 -- of a lock that is held the next call is a release, and of one that is free an acquire
 next_call : (held : Bool) (next : State) (call : Call) (reply : Reply) → Step Mutex (Held held) call next reply → call ≡ other_call held
@@ -164,16 +182,16 @@ module _ (h : List Event) where
       apart e = cc
 
   module _ (order : List Placed) (legal : IsLegalOrderAs Mutex h order) where
-    twice_by : (held : Bool) (first second : ℕ) → IsTwiceBy h (this_call held) (other_call held) first second → ⊥
+    twice_by : (held : Bool) (first second : ℕ) → IsTwiceIn h (this_sort held) (other_sort held) first second → ⊥
     twice_by held first second is =
         let p : Placed = record { at = first; reply = is.one.2 } in
         let q : Placed = record { at = second; reply = is.two.2 } in
         let i = ok_there Mutex h order legal first is.one.1 is.one.2 is.one.4 in
         let j = ok_there Mutex h order legal second is.two.1 is.two.2 is.two.4 in
         let less = stands_ahead Mutex h order legal i.0 j.0 p q i.1 j.1 is.in_time in
-        let k = between held (start Mutex) legal.legal.0 order i.0 j.0 p q legal.legal.1 i.1 j.1 less (subst (IsCall h first) is.one.5 is.one.3) (subst (IsCall h second) is.two.5 is.two.3) in
+        let k = between held (start Mutex) legal.legal.0 order i.0 j.0 p q legal.legal.1 i.1 j.1 less (subst (IsCall h first) (of_this held is.one.0 is.one.5) is.one.3) (subst (IsCall h second) (of_this held is.two.0 is.two.5) is.two.3) in
         let r = k.3.0 in
-        let ahead = stands_ahead Mutex h order legal k.0 i.0 r p k.3.1 i.1 (is.none_between r.at (other_call held, k.3.2, not_failed Mutex h order legal k.0 r k.3.1, refl)) in
+        let ahead = stands_ahead Mutex h order legal k.0 i.0 r p k.3.1 i.1 (is.none_between r.at (other_call held, k.3.2, not_failed Mutex h order legal k.0 r k.3.1, is_other held)) in
         let behind = k.1 in
         omega (arith, ahead, behind)
 
@@ -183,10 +201,10 @@ module _ (h : List Event) where
       | inr released ↦ twice_by false first second released
     ]
 
-    can : (call : Call) (p : Placed) → Contains order p → Makes call p → CanCall h call p.at
-    can call p there makes = let place = place_of order p there in (call, makes, not_failed Mutex h order legal place.0 p place.1, refl)
+    can : (sort : Calls) (call : Call) → IsOfCalls sort call → (p : Placed) → Contains order p → Makes call p → CanCall h sort p.at
+    can sort call of_it p there makes = let place = place_of order p there in (call, makes, not_failed Mutex h order legal place.0 p place.1, of_it)
 
-    did : (call : Call) (at : ℕ) → DidCall h call at → (p : Placed) × Contains order p × Makes call p × (p.at ≡ at)
+    did : (call : Call) (at : ℕ) → Returned h (λ it reply. it ≡ call) at → (p : Placed) × Contains order p × Makes call p × (p.at ≡ at)
     did call at is = (record { at = at; reply = is.2 }, legal.order_of.each_ok at is.1 is.2 tt is.4, subst (IsCall h at) is.5 is.3, refl)
 
     pub unbalanced : IsCounted h → ⊥
@@ -194,10 +212,10 @@ module _ (h : List Event) where
         let all = counted (start Mutex) legal.legal.0 order legal.order_of.once legal.legal.1 in
         let sum : 0 + length all.0 ≡ held_as legal.legal.0 + length all.1 = all.4 in
         let small = all.5 in
-        let few_up = chosen_most (Makes Acquire) order all.0 all.2 (CanCall h Acquire) (can Acquire) is.can_acquire (at_most (CanCall h Acquire) is.can_acquire is.all_can_acquire) in
-        let few_down = chosen_most (Makes Release) order all.1 all.3 (CanCall h Release) (can Release) is.can_release (at_most (CanCall h Release) is.can_release is.all_can_release) in
-        let many_up = chosen_least (Makes Acquire) order all.0 all.2 (DidCall h Acquire) (did Acquire) is.acquired (at_least (DidCall h Acquire) is.acquired is.all_acquired) in
-        let many_down = chosen_least (Makes Release) order all.1 all.3 (DidCall h Release) (did Release) is.released (at_least (DidCall h Release) is.released is.all_released) in
+        let few_up = chosen_most (Makes Acquire) order all.0 all.2 (CanCall h Acquires) (can Acquires Acquire refl) is.can_acquire (at_most (CanCall h Acquires) is.can_acquire is.all_can_acquire) in
+        let few_down = chosen_most (Makes Release) order all.1 all.3 (CanCall h Releases) (can Releases Release refl) is.can_release (at_most (CanCall h Releases) is.can_release is.all_can_release) in
+        let many_up = chosen_least (Makes Acquire) order all.0 all.2 (DidCall h Acquires) (did Acquire) is.acquired (at_least (DidCall h Acquires) is.acquired is.all_acquired) in
+        let many_down = chosen_least (Makes Release) order all.1 all.3 (DidCall h Releases) (did Release) is.released (at_least (DidCall h Releases) is.released is.all_released) in
         elim is.more [
           | inl less ↦ omega (arith, sum, few_up, many_down, less)
           | inr less ↦ omega (arith, sum, small, few_down, many_up, less)

@@ -20,7 +20,7 @@ module _ (P : ℕ → Type 0) where
       let two = b.1 in
       omega (arith, up, down, one, two)
 
--- where there is one, two are the same, and where there is none, none is
+-- where there is one, two are the same
 pub the_one : (P : ℕ → Type 0) → Exactly 1 P → (at other : ℕ) → P at → P other → at ≡ other
 the_one P one at other is is_other = by one.0 one.1 ((one.3 at).0 is) ((one.3 other).0 is_other)
   where
@@ -34,10 +34,3 @@ the_one P one at other is is_other = by one.0 one.1 ((one.3 at).0 is) ((one.3 ot
       | inr none ↦ absurd (nothing_in at none)
     ]
     by (x ∷ y ∷ places) many in_at in_other = absurd (omega (arith, many))
-
-pub none_of : (P : ℕ → Type 0) → Exactly 0 P → (at : ℕ) → P at → ⊥
-none_of P zero_of at is = by zero_of.0 zero_of.1 ((zero_of.3 at).0 is)
-  where
-    by : (places : List ℕ) → length places ≡ 0 → Contains places at → ⊥
-    by [] many there = nothing_in at there
-    by (x ∷ places) many there = omega (arith, many)

@@ -58,7 +58,7 @@ module _ (h : List Event) (at : ℕ) where
     | inl ok ↦ absurd (counts (λ fails. both ok fails))
     | inr other ↦ elim other [
       | inl fails ↦ fails
-      | inr open ↦ absurd (counts open.1)
+      | inr still ↦ absurd (counts still.1)
     ]
   ]
     where

@@ -133,14 +133,14 @@ module _ (kind : Kind) (inside : State → List ℤ → ℕ) (each : (s next : S
     | inl ok ↦ ahead (stays.taken_later p.at (other, (takes.0, ok.0, ok.1, takes.1, ok.2, subst (λ r. Takes takes.0 r n) (reply_there kind h order legal k p at_p ok.0 ok.1 ok.2) takes.2)))
     | inr rest ↦ elim rest [
       | inl failed ↦ not_failed kind h order legal k p at_p failed
-      | inr open ↦ elim stays.open_later [
+      | inr still ↦ elim stays.open_later [
         | inl once ↦
             let t = once.1.1 in
             let q : Placed = record { at = once.1.0; reply = t.2 } in
             let place = ok_there kind h order legal once.1.0 t.1 t.2 t.4 in
             one_taker n once.0 p q (stands_in order k p at_p) (stands_in order place.0 q place.1) takes (t.0, t.3, t.5)
-            (λ same. open.0 t.1 t.2 (subst (λ x. IsOk h x t.1 t.2) (sym same) t.4))
-        | inr later ↦ ahead (later p.at (other, (takes.0, takes.1, open.0, open.1, takes_call takes.0 p.reply n takes.2)))
+            (λ same. still.0 t.1 t.2 (subst (λ x. IsOk h x t.1 t.2) (sym same) t.4))
+        | inr later ↦ ahead (later p.at (other, (takes.0, takes.1, still.0, still.1, takes_call takes.0 p.reply n takes.2)))
       ]
     ]
   ]
@@ -211,7 +211,7 @@ module _ (h : List Event) (order : List Placed) (legal : IsLegalOrderAs Fifo h o
         let t = once.1.1 in
         passed_later h order legal n enqueue put.1 dequeue took.1 once.1.0 t.1 (only once.0) put_at passing (t.0, t.2, t.3, t.4, t.5)
         (past once.1.0 (is.stays.taken_later once.1.0 (taker once.1.0 t, t)))
-    | inr open ↦ passed_over h order legal n enqueue put.1 dequeue took.1 put_at passing (untaken open)
+    | inr still ↦ passed_over h order legal n enqueue put.1 dequeue took.1 put_at passing (untaken still)
   ]
     where
       put : Returned h (λ call reply. Adds call n) enqueue
@@ -256,7 +256,7 @@ module _ (h : List Event) (order : List Placed) (legal : IsLegalOrderAs Fifo h o
             inl (the_one (CanAdd h n) once at enqueue (call, it, not_failed Fifo h order legal place.0 (record { at = at; reply = ok.1 }) place.1, adds) itself)
         | inr rest ↦ elim rest [
           | inl failed ↦ inr failed
-          | inr open ↦ inl (the_one (CanAdd h n) once at enqueue (call, it, open.1, adds) itself)
+          | inr still ↦ inl (the_one (CanAdd h n) once at enqueue (call, it, still.1, adds) itself)
         ]
       ]
         where
@@ -264,7 +264,7 @@ module _ (h : List Event) (order : List Placed) (legal : IsLegalOrderAs Fifo h o
           itself = let place = ok_there Fifo h order legal enqueue put.1 put.2 put.4 in (put.0, put.3, not_failed Fifo h order legal place.0 (record { at = enqueue; reply = put.2 }) place.1, put.5)
 
       untaken : ((at : ℕ) → (at ≢ dequeue) × StaysOpen h (λ call. call ≡ Dequeue) at → IsBefore h dequeue at) → IsNotTakenBy h n took.1
-      untaken open at upto it = elim (outcome h at Dequeue it) [
+      untaken opened at upto it = elim (outcome h at Dequeue it) [
         | inl ok ↦ inr (ok.0, ok.1, ok.2, λ takes.
             let t : TookOut h n at = (Dequeue, ok.0, ok.1, it, ok.2, takes) in
             let after = past at (is.stays.taken_later at (taker at t, t)) in
@@ -272,7 +272,7 @@ module _ (h : List Event) (order : List Placed) (legal : IsLegalOrderAs Fifo h o
         | inr rest ↦ elim rest [
           | inl failed ↦ inl failed
           | inr still ↦
-              let after = past at (open at ((λ same. still.0 took.1 took.2 (subst (λ x. IsOk h x took.1 took.2) (sym same) took.4)), (Dequeue, it, still.0, still.1, refl))) in
+              let after = past at (opened at ((λ same. still.0 took.1 took.2 (subst (λ x. IsOk h x took.1 took.2) (sym same) took.4)), (Dequeue, it, still.0, still.1, refl))) in
               absurd (omega (arith, after, upto))
         ]
       ]

@@ -1,5 +1,5 @@
 -- Registers have no legal order of operations that a certificate holds of.
-use Rattle.std.proofs.Common.{◌≡◌, ◌≢◌, ◌⊎◌, ◌×◌, ◌<◌, ◌≤◌, ℕ, ℤ, zero, suc, List, [], ◌∷◌, Contains, Option, None, Some, length, inl, inr, refl, sym, ap, subst, ◌∙◌, arith}
+use Rattle.std.proofs.Common.{◌≡◌, ◌≢◌, ◌⊎◌, ◌<◌, ◌≤◌, ℕ, ℤ, zero, suc, List, [], ◌∷◌, Contains, Option, None, Some, length, inl, inr, refl, sym, ap, subst, ◌∙◌, arith}
 use Rattle.std.proofs.lemmas.Bool.{cases_lt, cases_order}
 use Rattle.lin_lists.specs.lemmas.Elements.{first_or_rest, nothing_in}
 use Rattle.lin_events.specs.declared.calls.Call.{Call}
@@ -20,10 +20,10 @@ use Rattle.lin_orders.specs.Orders.{IsBefore, IsCall}
 use Rattle.lin_orders.specs.lemmas.OneEnd.{one_call}
 use Rattle.lin_failures.specs.Conflicts.{IsRegister, Leaves}
 use Rattle.lin_failures.specs.lemmas.Conflicting.{found, no_other, set, value_is, wrote}
-use Rattle.lin_certificates.specs.Words.{Counts, Exactly, Gives, Needs, Returned, Updates}
-use Rattle.lin_certificates.specs.Certificates.{AreCrossed, CanLeave, HasSource, IsAhead, IsLeftOnce, IsOverwritten, IsUnwritten, OtherCanLeave, Overwrites, Touched, Touches}
+use Rattle.lin_certificates.specs.Words.{Counts, Gives, Needs, Returned, Updates}
+use Rattle.lin_certificates.specs.Certificates.{AreCrossed, CanLeave, HasSource, IsLeftOnce, IsOverwritten, IsUnwritten, OtherCanLeave, Overwrites, Touched, Touches}
 use Rattle.lin_certificates.specs.declared.words.Sort.TheVariants as Sorted
-use Rattle.lin_certificates.proofs.Numbers.{none_of, the_one}
+use Rattle.lin_certificates.proofs.Numbers.{the_one}
 use Rattle.lin_certificates.proofs.Standing.{At, not_failed, ok_there, one_place, one_there, pair_there, stands_ahead, step_there}
 
 same_value : (x y : Val) → Replied.Value x ≡ Replied.Value y → x ≡ y
@@ -36,6 +36,7 @@ needed CasRegister is (Value y) next (Cas from to) reply v step needs = ap Value
 needed CasRegister is s next (Cas from to) reply v step needs = absurd step
 needed Register is (Value y) next (Cas from to) reply v step needs = absurd step
 needed Register is s next (Cas from to) reply v step needs = absurd step
+needed kind is s next (Cas from to) reply v step needs = absurd is
 needed kind is s next call reply v step needs = absurd needs
 
 -- a call leaves what the register holds behind it, or leaves nothing and changes nothing
@@ -164,13 +165,13 @@ module _ (kind : Kind) (is_register : IsRegister kind) (h : List Event) where
         ]
 
     -- the one that leaves the value stands at the first place, one that touches it at the second or there too, and no update between
-    abbrev Held : Val → ℕ → Type 0
-    Held v at = (i : ℕ) × (p : Placed) × At order i p × (p.at ≡ at) × (j : ℕ) × (q : Placed) × (c : Call) × At order j q × IsCall h q.at c × Leaves c v × (j ≤ i) × ((k : ℕ) → j < k → k < i → UpdatesAt order k → ⊥)
+    abbrev HeldThere : Val → ℕ → Type 0
+    HeldThere v at = (i : ℕ) × (p : Placed) × At order i p × (p.at ≡ at) × (j : ℕ) × (q : Placed) × (c : Call) × At order j q × IsCall h q.at c × Leaves c v × (j ≤ i) × ((k : ℕ) → j < k → k < i → UpdatesAt order k → ⊥)
 
-    itself : (v : Val) (at i : ℕ) (p : Placed) (c : Call) → At order i p → p.at ≡ at → IsCall h p.at c → Leaves c v → Held v at
+    itself : (v : Val) (at i : ℕ) (p : Placed) (c : Call) → At order i p → p.at ≡ at → IsCall h p.at c → Leaves c v → HeldThere v at
     itself v at i p c there is call leaves = (i, p, there, is, i, p, c, there, call, leaves, omega arith, λ k more less updates. omega (arith, more, less))
 
-    touched : (n : ℤ) (at : ℕ) → Touched h (Int n) at → Held (Int n) at
+    touched : (n : ℤ) (at : ℕ) → Touched h (Int n) at → HeldThere (Int n) at
     touched n at is = elim is.5 [
       | inl needs ↦
           let s = seat (Int n) at (is.0, is.1, is.2, is.3, is.4, needs) in
@@ -183,37 +184,37 @@ module _ (kind : Kind) (is_register : IsRegister kind) (h : List Event) where
           itself (Int n) at place.0 (record { at = at; reply = is.2 }) is.0 place.1 refl is.3 leaves
     ]
 
-    touches : (n : ℤ) (at : ℕ) → IsLeftOnce h (Int n) → Touches h (Int n) at → Held (Int n) at
+    touches : (n : ℤ) (at : ℕ) → IsLeftOnce h (Int n) → Touches h (Int n) at → HeldThere (Int n) at
     touches n at only is = elim is [
       | inl ok ↦ touched n at ok
-      | inr open ↦
-          let other = touched n open.1.0 open.1.1 in
-          let same = the_one (CanLeave h (Int n)) only other.5.at at (can_leave (Int n) other.4 other.5 other.6 other.7 other.8 other.9) open.0 in
+      | inr still ↦
+          let other = touched n still.1.0 still.1.1 in
+          let same = the_one (CanLeave h (Int n)) only other.5.at at (can_leave (Int n) other.4 other.5 other.6 other.7 other.8 other.9) still.0 in
           itself (Int n) at other.4 other.5 other.6 other.7 same other.8 other.9
     ]
 
     -- where nothing leaves nil, no update stands ahead of one that touches it
-    touches_nil : (at : ℕ) → Exactly 0 (CanLeave h Nil) → Touches h Nil at → (i : ℕ) × (p : Placed) × At order i p × (p.at ≡ at) × NoneAhead order i
+    touches_nil : (at : ℕ) → ((other : ℕ) → CanLeave h Nil other → ⊥) → Touches h Nil at → (i : ℕ) × (p : Placed) × At order i p × (p.at ≡ at) × NoneAhead order i
     touches_nil at never is = elim is [
       | inl ok ↦ elim ok.5 [
         | inl needs ↦
             let s = seat Nil at (ok.0, ok.1, ok.2, ok.3, ok.4, needs) in
             elim s.4 [
-              | inl left ↦ absurd (none_of (CanLeave h Nil) never left.1.at (can_leave Nil left.0 left.1 left.2 left.4 left.5 left.6))
+              | inl left ↦ absurd (never left.1.at (can_leave Nil left.0 left.1 left.2 left.4 left.5 left.6))
               | inr none ↦ (s.0, s.1, s.2, s.3, none.1)
             ]
         | inr leaves ↦
             let place = ok_there kind h order legal at ok.1 ok.2 ok.4 in
-            absurd (none_of (CanLeave h Nil) never at (can_leave Nil place.0 (record { at = at; reply = ok.2 }) ok.0 place.1 ok.3 leaves))
+            absurd (never at (can_leave Nil place.0 (record { at = at; reply = ok.2 }) ok.0 place.1 ok.3 leaves))
       ]
-      | inr open ↦ absurd (none_of (CanLeave h Nil) never at open.0)
+      | inr still ↦ absurd (never at still.0)
     ]
 
-    updates_at : (v : Val) (at : ℕ) (x : Held v at) → UpdatesAt order x.4
+    updates_at : (v : Val) (at : ℕ) (x : HeldThere v at) → UpdatesAt order x.4
     updates_at v at x = (x.5, x.6, x.7, x.8, (v, x.9))
 
     -- where the one was left ahead of the other, nothing that touches the other is before what touches the one
-    in_turn : (v w : Val) (early late : ℕ) (a : Held v late) (b : Held w early) → a.4 < b.4 → IsBefore h early late → ⊥
+    in_turn : (v w : Val) (early late : ℕ) (a : HeldThere v late) (b : HeldThere w early) → a.4 < b.4 → IsBefore h early late → ⊥
     in_turn v w early late a b less in_time =
         let ahead = stands_ahead kind h order legal b.0 a.0 b.1 a.1 b.2 a.2 (subst (λ x. IsBefore h x a.1.at) (sym b.3) (subst (IsBefore h early) (sym a.3) in_time)) in
         let inside = b.10 in
@@ -221,39 +222,41 @@ module _ (kind : Kind) (is_register : IsRegister kind) (h : List Event) where
 
     pub crossed : (v : Val) (w : ℤ) (early late : ℕ) (back : Option (ℕ × ℕ)) → AreCrossed h v w early late back → ⊥
     crossed Nil w early late None is =
-        let b = touches w early is.only is.early_one in
-        let a = touches_nil late is.ahead is.late_one in
-        let ahead = stands_ahead kind h order legal b.0 a.0 b.1 a.1 b.2 a.2 (subst (λ x. IsBefore h x a.1.at) (sym b.3) (subst (IsBefore h early) (sym a.3) is.in_time)) in
+        let turn = is.in_turn in
+        let b = touches w early turn.0 turn.1 in
+        let a = touches_nil late is.again turn.2 in
+        let ahead = stands_ahead kind h order legal b.0 a.0 b.1 a.1 b.2 a.2 (subst (λ x. IsBefore h x a.1.at) (sym b.3) (subst (IsBefore h early) (sym a.3) turn.3)) in
         let inside = b.10 in
         a.4 b.4 (omega (arith, ahead, inside)) (updates_at (Int w) early b)
     crossed (Int v) w early late (Some pair) is =
-        let more = is.ahead in
-        let b = touches w early is.only is.early_one in
-        let a = touches v late more.0 is.late_one in
+        let turn = is.in_turn in
+        let more = is.again in
+        let b = touches w early turn.0 turn.1 in
+        let a = touches v late more.0 turn.2 in
         let c = touches v pair.0 more.0 more.1 in
-        let e = touches w pair.1 is.only more.2 in
+        let e = touches w pair.1 turn.0 more.2 in
         let one_a = one_leaver v late pair.0 more.0 a c in
-        let one_b = one_leaver w early pair.1 is.only b e in
+        let one_b = one_leaver w early pair.1 turn.0 b e in
         elim (cases_order a.4 b.4) [
           | inl equal ↦ is.differ (one_value v late a b equal)
           | inr differ ↦ elim differ [
-            | inl less ↦ in_turn (Int v) (Int w) early late a b less is.in_time
+            | inl less ↦ in_turn (Int v) (Int w) early late a b less turn.3
             | inr other ↦ in_turn (Int w) (Int v) pair.0 pair.1 e c (omega (arith, one_a, one_b, other)) more.3
           ]
         ]
       where
-        one_leaver : (n : ℤ) (x y : ℕ) → IsLeftOnce h (Int n) → (p : Held (Int n) x) (q : Held (Int n) y) → p.4 ≡ q.4
+        one_leaver : (n : ℤ) (x y : ℕ) → IsLeftOnce h (Int n) → (p : HeldThere (Int n) x) (q : HeldThere (Int n) y) → p.4 ≡ q.4
         one_leaver n x y only p q =
             one_place kind h order legal p.4 q.4 p.5 q.5 p.7 q.7
             (the_one (CanLeave h (Int n)) only p.5.at q.5.at (can_leave (Int n) p.4 p.5 p.6 p.7 p.8 p.9) (can_leave (Int n) q.4 q.5 q.6 q.7 q.8 q.9))
 
-        one_value : (n : ℤ) (x : ℕ) (p : Held (Int n) x) (q : Held (Int w) early) → p.4 ≡ q.4 → Int n ≡ Int w
+        one_value : (n : ℤ) (x : ℕ) (p : HeldThere (Int n) x) (q : HeldThere (Int w) early) → p.4 ≡ q.4 → Int n ≡ Int w
         one_value n x p q equal =
             let same : p.5 ≡ q.5 = one_there order q.4 p.5 q.5 (subst (λ k. At order k p.5) equal p.7) q.7 in
             let call = one_call h q.5.at p.6 q.6 (subst (λ (z : Placed). IsCall h z.at p.6) same p.8) q.8 in
             leaves_one q.6 (Int n) (Int w) (subst (λ z. Leaves z (Int n)) call p.9) q.9
-    crossed Nil w early late (Some pair) is = absurd is.ahead
-    crossed (Int v) w early late None is = absurd is.ahead
+    crossed Nil w early late (Some pair) is = absurd is.again
+    crossed (Int v) w early late None is = absurd is.again
 
     -- a read of a register gives a value
     pub no_members : (at : ℕ) → Returned h (λ call reply. Gives Sorted.Members call reply) at → ⊥

@@ -1,7 +1,6 @@
 -- What each form of a certificate says of the operations of one object. None of these has a legal order.
 use Rattle.std.specs.Prelude.{◌≡◌, ◌≢◌, ◌⊎◌, ◌<◌, ◌+◌, ℕ, ℤ, List, Option, None, Some}
-use Rattle.lin_events.specs.declared.calls.Call.{Call}
-use Rattle.lin_events.specs.declared.calls.Call.TheVariants.{Dequeue, Acquire, Release}
+use Rattle.lin_events.specs.declared.calls.Call.TheVariants.{Dequeue}
 use Rattle.lin_events.specs.declared.calls.Reply.{Reply}
 use Rattle.lin_events.specs.declared.calls.Reply.TheVariants as Replied
 use Rattle.lin_events.specs.declared.calls.Val.{Val}
@@ -14,7 +13,9 @@ use Rattle.lin_failures.specs.Adding.{Adds}
 use Rattle.lin_failures.specs.Conflicts.{Leaves}
 use Rattle.lin_failures.specs.QueueConflicts.{Takes}
 use Rattle.lin_failures.specs.SetConflicts.{Has, Lacks}
-use Rattle.lin_certificates.specs.Words.{Counts, Exactly, Gives, Needs, Returned, StaysOpen, Updates}
+use Rattle.lin_certificates.specs.Words.{Counts, Exactly, Gives, IsOfCalls, Needs, Returned, StaysOpen, Updates}
+use Rattle.lin_certificates.specs.declared.words.Calls.{Calls}
+use Rattle.lin_certificates.specs.declared.words.Calls.TheVariants.{Acquires, Releases}
 use Rattle.lin_certificates.specs.declared.words.Sort.TheVariants as Sorted
 use Rattle.lin_certificates.specs.declared.certificate.Certificate.{Certificate}
 use Rattle.lin_certificates.specs.declared.certificate.Certificate.TheVariants as Form
@@ -61,22 +62,22 @@ Touches h v at = Touched h v at ⊎ (CanLeave h v at × ((other : ℕ) × Touche
 abbrev pub IsLeftOnce : List Event → Val → Type 0
 IsLeftOnce h v = Exactly 1 (CanLeave h v)
 
--- nothing leaves nil, with which the register begins; or one operation leaves the number, and of two that touch the one and the other value
--- the first is before the second
+-- one operation leaves the value, and of two that touch it and the other value the first is before the second
+abbrev pub IsLeftAhead : List Event → Val → Val → ℕ → ℕ → Type 0
+IsLeftAhead h v w first second = IsLeftOnce h v × Touches h v first × Touches h w second × IsBefore h first second
+
+-- nothing leaves nil, with which the register begins, or the number is left, and held ahead of the other value
 abbrev pub IsAhead : List Event → Val → Val → Option (ℕ × ℕ) → Type 0
-IsAhead h Nil w None = Exactly 0 (CanLeave h Nil)
-IsAhead h (Int v) w (Some pair) = IsLeftOnce h (Int v) × Touches h (Int v) pair.0 × Touches h w pair.1 × IsBefore h pair.0 pair.1
+IsAhead h Nil w None = (at : ℕ) → CanLeave h Nil at → ⊥
+IsAhead h (Int v) w (Some pair) = IsLeftAhead h (Int v) w pair.0 pair.1
 IsAhead h _ _ _ = ⊥
 
 -- values that are left by one operation each are held in turn, once each: but the one was held before the other, and the other before the one
 -- (Gibbons and Korach 1997)
 pub record AreCrossed (h : List Event) (v : Val) (w : ℤ) (early late : ℕ) (back : Option (ℕ × ℕ)) : Type 0 where
   pub differ : v ≢ Int w
-  pub only : IsLeftOnce h (Int w)
-  pub early_one : Touches h (Int w) early
-  pub late_one : Touches h v late
-  pub in_time : IsBefore h early late
-  pub ahead : IsAhead h v (Int w) back
+  pub in_turn : IsLeftAhead h (Int w) v early late
+  pub again : IsAhead h v (Int w) back
 
 -- the operation counts and puts the number in, or adds it
 abbrev pub CanAdd : List Event → ℤ → ℕ → Type 0
@@ -144,22 +145,23 @@ pub record IsLate (h : List Event) (earlier add read : ℕ) (n other : ℤ) : Ty
   pub all_later : (at : ℕ) → CanAdd h other at → IsBefore h earlier at
   pub told : Told h other n read
 
--- the operation is ok, and has this call; or counts, and has it
-abbrev pub DidCall : List Event → Call → ℕ → Type 0
-DidCall h call at = Returned h (λ it reply. it ≡ call) at
+-- the operation is ok, and its call is of this sort; or it counts, and its call is
+abbrev pub DidCall : List Event → Calls → ℕ → Type 0
+DidCall h calls at = Returned h (λ call reply. IsOfCalls calls call) at
 
-abbrev pub CanCall : List Event → Call → ℕ → Type 0
-CanCall h call at = Counts h (λ it. it ≡ call) at
+abbrev pub CanCall : List Event → Calls → ℕ → Type 0
+CanCall h calls at = Counts h (λ call. IsOfCalls calls call) at
 
--- of two such calls the one is before the other, and each call that must stand between them is before both
-pub record IsTwiceBy (h : List Event) (call between : Call) (first second : ℕ) : Type 0 where
-  pub one : DidCall h call first
-  pub two : DidCall h call second
+-- of two calls of a sort the one is before the other, and each that must stand between them is before both
+pub record IsTwiceIn (h : List Event) (calls between : Calls) (first second : ℕ) : Type 0 where
+  pub one : DidCall h calls first
+  pub two : DidCall h calls second
   pub in_time : IsBefore h first second
   pub none_between : (at : ℕ) → CanCall h between at → IsBefore h at first
 
+-- the lock was acquired twice and can't have been released between, or released twice and can't have been acquired between
 abbrev pub IsTwice : List Event → ℕ → ℕ → Type 0
-IsTwice h first second = IsTwiceBy h Acquire Release first second ⊎ IsTwiceBy h Release Acquire first second
+IsTwice h first second = IsTwiceIn h Acquires Releases first second ⊎ IsTwiceIn h Releases Acquires first second
 
 -- the lock was released more often than it can have been acquired, or acquired more than once oftener than it can have been released
 pub record IsCounted (h : List Event) : Type 0 where
@@ -167,10 +169,10 @@ pub record IsCounted (h : List Event) : Type 0 where
   pub can_release : ℕ
   pub acquired : ℕ
   pub released : ℕ
-  pub all_can_acquire : Exactly can_acquire (CanCall h Acquire)
-  pub all_can_release : Exactly can_release (CanCall h Release)
-  pub all_acquired : Exactly acquired (DidCall h Acquire)
-  pub all_released : Exactly released (DidCall h Release)
+  pub all_can_acquire : Exactly can_acquire (CanCall h Acquires)
+  pub all_can_release : Exactly can_release (CanCall h Releases)
+  pub all_acquired : Exactly acquired (DidCall h Acquires)
+  pub all_released : Exactly released (DidCall h Releases)
   pub more : (can_acquire < released) ⊎ (can_release + 1 < acquired)
 
 -- what certifies that a register, a queue, ordered or not, a set, or a lock has no legal order

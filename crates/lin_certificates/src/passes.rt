@@ -22,6 +22,17 @@ pub fn last_of(events: &[Event], ends: &[Option<usize>], which: &Which) -> Optio
     last
 }
 
+/// Whether there is one of these operations.
+pub fn is_any(events: &[Event], ends: &[Option<usize>], which: &Which) -> bool
+    requires { IsNextTable events.now ends.now }
+    ensures { IsTrue result ↔ ((at : ℕ) × IsOfWhich events.now which.now at) }
+{
+    match last_of(events, ends, which) {
+        Some(_) => true,
+        None => false,
+    }
+}
+
 /// How many of these operations there are.
 pub fn count_of(events: &[Event], ends: &[Option<usize>], which: &Which) -> usize
     requires { IsNextTable events.now ends.now }

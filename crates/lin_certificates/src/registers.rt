@@ -2,10 +2,10 @@
 ghost use Rattle.std.specs.Prelude.{◌↔◌, ◌≡◌, IsTrue};
 ghost use Rattle.lin_events.specs.declared.calls.Val.{Val as ValOf};
 ghost use Rattle.lin_orders.specs.Tables.{IsNextTable};
-ghost use Rattle.lin_certificates.specs.Certificates.{AreCrossed, HasSource, IsAhead, IsLeftOnce, IsOverwritten, IsUnwritten, Touches};
+ghost use Rattle.lin_certificates.specs.Certificates.{AreCrossed, HasSource, IsAhead, IsLeftAhead, IsLeftOnce, IsOverwritten, IsUnwritten, Touches};
 
 use crate::operations::{comes_before, is_among};
-use crate::passes::{all_ahead, count_of, last_of};
+use crate::passes::{all_ahead, count_of, is_any, last_of};
 use crate::words::{Answers, Calls, Which};
 use lin_events::{Event, Val};
 
@@ -15,33 +15,27 @@ pub fn is_unwritten(events: &[Event], ends: &[Option<usize>], operation: usize, 
     ensures { IsTrue result ↔ IsUnwritten events.now operation number }
 {
     let value = Val::Int(number);
-    let needs = Which::Returned(Answers::Needs(value));
-    if !is_among(events, ends, operation, &needs) {
-        return false;
-    }
+    let needed = Which::Returned(Answers::Needs(value));
     let others = Which::CountsBut(Calls::Leaves(value), operation);
-    last_of(events, ends, &others).is_none()
+    let needs = is_among(events, ends, operation, &needed);
+    let left = is_any(events, ends, &others);
+    needs & !left
 }
 
-/// Whether something left the value before the operation, or left another instead of the one that a register begins with. `over` is the last
-/// operation that leaves some value and is before the operation.
+/// Whether another operation leaves the value, or, if it is nil, some value was left before the operation.
 fn has_source(events: &[Event], ends: &[Option<usize>], operation: usize, value: Val) -> bool
     requires { IsNextTable events.now ends.now }
     ensures { IsTrue result ↔ HasSource events.now operation value }
 {
-    match value {
-        Val::Nil => {
-            let over = Which::ReturnedBefore(Answers::Called(Calls::Updates), operation);
-            last_of(events, ends, &over).is_some()
-        }
-        Val::Int(_) => {
-            let others = Which::CountsBut(Calls::Leaves(value), operation);
-            last_of(events, ends, &others).is_some()
-        }
-    }
+    let which = match value {
+        Val::Nil => Which::ReturnedBefore(Answers::Called(Calls::Updates), operation),
+        Val::Int(_) => Which::CountsBut(Calls::Leaves(value), operation),
+    };
+    is_any(events, ends, &which)
 }
 
 /// Whether the operation needs the value, and each other one that leaves it is before one that leaves some value and is before the operation.
+/// Of the latter the one that was invoked last will do.
 pub fn is_overwritten(
     events: &[Event],
     ends: &[Option<usize>],
@@ -51,16 +45,16 @@ pub fn is_overwritten(
     requires { IsNextTable events.now ends.now }
     ensures { IsTrue result ↔ IsOverwritten events.now operation value }
 {
-    let needs = Which::Returned(Answers::Needs(value));
-    if !is_among(events, ends, operation, &needs) || !has_source(events, ends, operation, value) {
-        return false;
-    }
-    let over = Which::ReturnedBefore(Answers::Called(Calls::Updates), operation);
-    let Some(last) = last_of(events, ends, &over) else {
+    let updates = Which::ReturnedBefore(Answers::Called(Calls::Updates), operation);
+    let Some(over) = last_of(events, ends, &updates) else {
         return false;
     };
+    let needed = Which::Returned(Answers::Needs(value));
     let others = Which::CountsBut(Calls::Leaves(value), operation);
-    all_ahead(events, ends, &others, last)
+    let needs = is_among(events, ends, operation, &needed);
+    let source = has_source(events, ends, operation, value);
+    let each = all_ahead(events, ends, &others, over);
+    needs & source & each
 }
 
 /// Whether one operation that isn't failed leaves the value.
@@ -77,14 +71,33 @@ fn touches(events: &[Event], ends: &[Option<usize>], operation: usize, value: Va
     ensures { IsTrue result ↔ Touches events.now value operation }
 {
     let touching = Which::Returned(Answers::Touches(value));
-    if is_among(events, ends, operation, &touching) {
-        return true;
-    }
     let leaving = Which::Counts(Calls::Leaves(value));
-    is_among(events, ends, operation, &leaving) && last_of(events, ends, &touching).is_some()
+    let touched = is_among(events, ends, operation, &touching);
+    let leaves = is_among(events, ends, operation, &leaving);
+    let other = is_any(events, ends, &touching);
+    touched | leaves & other
 }
 
-/// Whether nothing leaves nil, or one operation leaves the value, and two touch it and the other one, the first before the second.
+/// Whether one operation leaves the value, and two touch it and the other one, the first before the second.
+fn is_left_ahead(
+    events: &[Event],
+    ends: &[Option<usize>],
+    value: Val,
+    other: Val,
+    pair: (usize, usize),
+) -> bool
+    requires { IsNextTable events.now ends.now }
+    ensures { IsTrue result ↔ IsLeftAhead events.now value other pair.0 pair.1 }
+{
+    let (first, second) = pair;
+    let once = is_left_once(events, ends, value);
+    let one = touches(events, ends, first, value);
+    let two = touches(events, ends, second, other);
+    let before = comes_before(events, ends, first, second);
+    once & one & two & before
+}
+
+/// Whether nothing leaves nil, or one operation leaves the number, and two touch it and the other value, the first before the second.
 fn is_ahead(
     events: &[Event],
     ends: &[Option<usize>],
@@ -96,13 +109,8 @@ fn is_ahead(
     ensures { IsTrue result ↔ IsAhead events.now value other back }
 {
     match (value, back) {
-        (Val::Nil, None) => count_of(events, ends, &Which::Counts(Calls::Leaves(value))) == 0,
-        (Val::Int(_), Some((first, second))) => {
-            is_left_once(events, ends, value)
-                && touches(events, ends, first, value)
-                && touches(events, ends, second, other)
-                && comes_before(events, ends, first, second)
-        }
+        (Val::Nil, None) => !is_any(events, ends, &Which::Counts(Calls::Leaves(value))),
+        (Val::Int(_), Some(pair)) => is_left_ahead(events, ends, value, other, pair),
         _ => false,
     }
 }
@@ -119,13 +127,9 @@ pub fn are_crossed(
     ensures { IsTrue result ↔ AreCrossed events.now values.0 values.1 pair.0 pair.1 back }
 {
     let (value, number) = values;
-    let (early, late) = pair;
     let other = Val::Int(number);
-    if value == other || !is_left_once(events, ends, other) {
-        return false;
-    }
-    touches(events, ends, early, other)
-        && touches(events, ends, late, value)
-        && comes_before(events, ends, early, late)
-        && is_ahead(events, ends, value, other, back)
+    let same = value == other;
+    let in_turn = is_left_ahead(events, ends, other, value, pair);
+    let again = is_ahead(events, ends, value, other, back);
+    !same & in_turn & again
 }
