@@ -121,7 +121,7 @@ fn certifies_register(events: &[Event], ends: &[Option<usize>], certificate: &Ce
             early,
             late,
             back,
-        } => are_crossed(events, ends, (*value, *number), (*early, *late), *back),
+        } => are_crossed(events, ends, *value, *number, (*early, *late), *back),
         _ => false,
     }
 }

@@ -119,14 +119,14 @@ fn is_ahead(
 pub fn are_crossed(
     events: &[Event],
     ends: &[Option<usize>],
-    values: (Val, i64),
+    value: Val,
+    number: i64,
     pair: (usize, usize),
     back: Option<(usize, usize)>,
 ) -> bool
     requires { IsNextTable events.now ends.now }
-    ensures { IsTrue result ↔ AreCrossed events.now values.0 values.1 pair.0 pair.1 back }
+    ensures { IsTrue result ↔ AreCrossed events.now value number pair.0 pair.1 back }
 {
-    let (value, number) = values;
     let other = Val::Int(number);
     let same = value == other;
     let in_turn = is_left_ahead(events, ends, other, value, pair);
