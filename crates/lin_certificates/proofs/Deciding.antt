@@ -10,10 +10,13 @@ module _ {P Q : Type 0} where
   pub either : (a b : Bool) → IsTrue a ↔ P → IsTrue b ↔ Q → IsTrue (a || b) ↔ (P ⊎ Q)
   either true b p q = (λ yes'. inl (p.0 refl), λ is. refl)
   either false true p q = (λ yes'. inr (q.0 refl), λ is. refl)
-  either false false p q = (λ no. cc, λ is. elim is [
-    | inl one ↦ p.1 one
-    | inr other ↦ q.1 other
-  ])
+  either false false p q = (
+    λ no. cc,
+    λ is. elim is [
+      | inl one ↦ p.1 one
+      | inr other ↦ q.1 other
+    ],
+  )
 
   pub made : (a : Bool) → IsTrue a ↔ P → (P → Q) → (Q → P) → IsTrue a ↔ Q
   made a decides to from = (λ yes'. to (decides.0 yes'), λ is. decides.1 (from is))

@@ -114,7 +114,7 @@ module _ (kind : Kind) (inside : State → List ℤ → ℕ) (each : (s next : S
         p.at ∷ q.at ∷ [],
         refl,
         AllPairs-cons ◌≢◌ p.at (q.at ∷ []) (all_of (λ at. p.at ≢ at) (q.at ∷ []) (λ at there same. differ (same ∙ alone at there)))
-        (AllPairs-cons ◌≢◌ q.at [] (all_of (λ at. q.at ≢ at) [] (λ at there. absurd (nothing_in at there))) (λ i j d before within. absurd (omega (arith, within)))),
+            (AllPairs-cons ◌≢◌ q.at [] (all_of (λ at. q.at ≢ at) [] (λ at there. absurd (nothing_in at there))) (λ i j d before within. absurd (omega (arith, within)))),
         all_of (λ at. (at ≡ p.at) ⊎ (at ≡ q.at)) (p.at ∷ q.at ∷ []) (λ at there. elim (first_or_rest p.at (q.at ∷ []) at there) [
           | inl same ↦ inl (sym same)
           | inr rest ↦ inr (alone at rest)
@@ -231,9 +231,12 @@ module _ (h : List Event) (order : List Placed) (legal : IsLegalOrderAs Fifo h o
         Replied.Value (Int other),
         subst (IsCall h dequeue) found.0 took.3,
         subst (IsOk h dequeue took.1) found.1 took.4,
-        ((λ same. is.differ (sym same)), not_added h other put.1 (λ at can.
-            let before = is.all_later at can in
-            subst (λ (end : ℕ). end < at) (one_ok h enqueue before.0 put.1 before.1 put.2 before.2 put.4).0 before.3)),
+        (
+          (λ same. is.differ (sym same)),
+          not_added h other put.1 (λ at can.
+              let before = is.all_later at can in
+              subst (λ (end : ℕ). end < at) (one_ok h enqueue before.0 put.1 before.1 put.2 before.2 put.4).0 before.3),
+        ),
       )
 
       -- whatever the dequeue is before was invoked past its end
@@ -265,10 +268,15 @@ module _ (h : List Event) (order : List Placed) (legal : IsLegalOrderAs Fifo h o
 
       untaken : ((at : ℕ) → (at ≢ dequeue) × StaysOpen h (λ call. call ≡ Dequeue) at → IsBefore h dequeue at) → IsNotTakenBy h n took.1
       untaken opened at upto it = elim (outcome h at Dequeue it) [
-        | inl ok ↦ inr (ok.0, ok.1, ok.2, λ takes.
-            let t : TookOut h n at = (Dequeue, ok.0, ok.1, it, ok.2, takes) in
-            let after = past at (is.stays.taken_later at (taker at t, t)) in
-            omega (arith, after, upto))
+        | inl ok ↦ inr (
+          ok.0,
+          ok.1,
+          ok.2,
+          λ takes.
+              let t : TookOut h n at = (Dequeue, ok.0, ok.1, it, ok.2, takes) in
+              let after = past at (is.stays.taken_later at (taker at t, t)) in
+              omega (arith, after, upto),
+        )
         | inr rest ↦ elim rest [
           | inl failed ↦ inl failed
           | inr still ↦

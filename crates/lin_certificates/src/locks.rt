@@ -46,8 +46,16 @@ pub fn is_counted(events: &[Event], ends: &[Option<usize>]) -> bool
 {
     let can_acquire = count_of(events, ends, &Which::Counts(Calls::Acquires));
     let can_release = count_of(events, ends, &Which::Counts(Calls::Releases));
-    let acquired = count_of(events, ends, &Which::Returned(Answers::Called(Calls::Acquires)));
-    let released = count_of(events, ends, &Which::Returned(Answers::Called(Calls::Releases)));
+    let acquired = count_of(
+        events,
+        ends,
+        &Which::Returned(Answers::Called(Calls::Acquires)),
+    );
+    let released = count_of(
+        events,
+        ends,
+        &Which::Returned(Answers::Called(Calls::Releases)),
+    );
     let over_released = can_acquire < released;
     let over_acquired = can_release < acquired.saturating_sub(1);
     over_released | over_acquired

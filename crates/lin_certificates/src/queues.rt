@@ -61,7 +61,12 @@ pub fn is_passed(
     let put = is_among(events, ends, enqueue, &puts);
     let some = is_among(events, ends, later, &others);
     let all = all_behind(events, ends, &others, enqueue);
-    let took = is_among(events, ends, dequeue, &Which::Returned(Answers::Takes(other)));
+    let took = is_among(
+        events,
+        ends,
+        dequeue,
+        &Which::Returned(Answers::Takes(other)),
+    );
     let stayed = stays(events, ends, number, dequeue);
     let differ = number != other;
     differ & put & some & all & took & stayed
@@ -80,7 +85,12 @@ pub fn is_inside(
 {
     let puts = Which::Returned(Answers::Called(Calls::Adds(number)));
     let put = is_among(events, ends, enqueue, &puts);
-    let found = is_among(events, ends, dequeue, &Which::Returned(Answers::FindsNothing));
+    let found = is_among(
+        events,
+        ends,
+        dequeue,
+        &Which::Returned(Answers::FindsNothing),
+    );
     let before = comes_before(events, ends, enqueue, dequeue);
     let stayed = stays(events, ends, number, dequeue);
     put & found & before & stayed

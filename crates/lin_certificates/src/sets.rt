@@ -29,7 +29,12 @@ pub fn is_lost(
     requires { IsNextTable events.now ends.now }
     ensures { IsTrue result ↔ IsLost events.now earlier read number }
 {
-    let has = is_among(events, ends, earlier, &Which::Returned(Answers::Has(number)));
+    let has = is_among(
+        events,
+        ends,
+        earlier,
+        &Which::Returned(Answers::Has(number)),
+    );
     let lacks = is_among(events, ends, read, &Which::Returned(Answers::Lacks(number)));
     let before = comes_before(events, ends, earlier, read);
     has & lacks & before
@@ -40,7 +45,12 @@ fn tells(events: &[Event], ends: &[Option<usize>], read: usize, number: i64, oth
     requires { IsNextTable events.now ends.now }
     ensures { IsTrue result ↔ Told events.now number other read }
 {
-    is_among(events, ends, read, &Which::Returned(Answers::Tells(number, other)))
+    is_among(
+        events,
+        ends,
+        read,
+        &Which::Returned(Answers::Tells(number, other)),
+    )
 }
 
 /// Whether each of the reads has one of the numbers and lacks the other.
@@ -72,7 +82,12 @@ pub fn is_late(
     ensures { IsTrue result ↔ IsLate events.now earlier.0 earlier.1 read number other }
 {
     let adds = Which::Counts(Calls::Adds(other));
-    let had = is_among(events, ends, earlier.0, &Which::Returned(Answers::Has(number)));
+    let had = is_among(
+        events,
+        ends,
+        earlier.0,
+        &Which::Returned(Answers::Has(number)),
+    );
     let some = is_among(events, ends, earlier.1, &adds);
     let all = all_behind(events, ends, &adds, earlier.0);
     let told = tells(events, ends, read, other, number);

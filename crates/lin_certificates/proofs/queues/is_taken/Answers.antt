@@ -15,8 +15,8 @@ returns c =
     let less = Decides-ltb c.count_of-puts.result c.count_of-takes.result in (
       λ yes'. record { puts = c.count_of-puts.result; takes = c.count_of-takes.result; all_puts = puts; all_takes = takes; fewer = less.0 yes' },
       λ is. less.1 (
-        let one = exactly_one (CanAdd h n) is.puts c.count_of-puts.result is.all_puts puts in
-        let other = exactly_one (TookOut h n) is.takes c.count_of-takes.result is.all_takes takes in
-        let fewer = is.fewer in
-        omega (arith, one, other, fewer)),
+          let one = exactly_one (CanAdd h n) is.puts c.count_of-puts.result is.all_puts puts in
+          let other = exactly_one (TookOut h n) is.takes c.count_of-takes.result is.all_takes takes in
+          let fewer = is.fewer in
+          omega (arith, one, other, fewer)),
     )

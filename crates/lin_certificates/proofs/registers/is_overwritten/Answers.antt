@@ -16,7 +16,10 @@ returns c =
     let last = c.in-Some.ensures in
     made _ (both _ _ (both _ _ c.is_among-needs.ensures c.has_source-source.ensures) c.all_ahead-each.ensures)
     (λ is. record { needed = is.0.0; source = is.0.1; each = λ other it. (c.in-Some.over, last.0, is.1 other it) })
-    (λ is. ((is.needed, is.source), λ other it.
-        let over = is.each other it in
-        let latest = last.1 over.0 over.1 in
-        (over.2.0, over.2.1, over.2.2, let ends = over.2.3 in omega (arith, ends, latest))))
+    (λ is. (
+      (is.needed, is.source),
+      λ other it.
+          let over = is.each other it in
+          let latest = last.1 over.0 over.1 in
+          (over.2.0, over.2.1, over.2.2, let ends = over.2.3 in omega (arith, ends, latest)),
+    ))
