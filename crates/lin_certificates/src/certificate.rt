@@ -207,7 +207,12 @@ fn certifies_mutex(events: &[Event], ends: &[Option<usize>], certificate: &Certi
 }
 
 /// Whether the certificate holds of an object of the kind.
-fn holds(events: &[Event], ends: &[Option<usize>], kind: Kind, certificate: &Certificate) -> bool
+pub fn holds(
+    events: &[Event],
+    ends: &[Option<usize>],
+    kind: Kind,
+    certificate: &Certificate,
+) -> bool
     requires { IsNextTable events.now ends.now }
     ensures { IsTrue result ↔ Certifies events.now kind certificate.now }
 {

@@ -1,7 +1,9 @@
 //! Certificates: a few operations of one object that no legal order can have, each of a form that shows why.
 #![tactic(auto)]
 
+mod candidates;
 mod certificate;
+mod finding;
 mod locks;
 mod operations;
 mod passes;
@@ -11,3 +13,4 @@ mod sets;
 mod words;
 
 pub use certificate::{Certificate, certificates_exclude_orders, certifies};
+pub use finding::find_certificate;
