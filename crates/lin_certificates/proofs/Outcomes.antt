@@ -1,5 +1,5 @@
 -- How an operation ends can be decided.
-use Rattle.std.proofs.Common.{◌≡◌, ◌⊎◌, ◌<◌, ◌≤◌, ℕ, ℤ, List, length, inl, inr, refl, sym, ap, subst, ◌∙◌, arith}
+use Rattle.std.proofs.Common.{◌≡◌, ◌⊎◌, ◌<◌, ℕ, ℤ, List, length, inl, inr, refl, sym, ap, ◌∙◌, arith}
 use Rattle.std.proofs.lemmas.Option.{slice_get_within}
 use Rattle.lin_events.specs.declared.calls.Call.{Call}
 use Rattle.lin_events.specs.declared.calls.Name.{Name}
@@ -10,7 +10,7 @@ use Rattle.lin_events.specs.declared.events.Event.{Event}
 use Rattle.lin_events.specs.Operations.{IsEnd, IsFailed, IsOf, IsOk}
 use Rattle.lin_events.specs.lemmas.Deciding.{first_between}
 use Rattle.lin_orders.specs.Orders.{IsCall}
-use Rattle.lin_failures.specs.Adding.{Adds, IsNotAddedBy}
+use Rattle.lin_failures.specs.Adding.{IsNotAddedBy}
 use Rattle.lin_certificates.specs.Certificates.{CanAdd}
 use Rattle.lin_orders.specs.lemmas.OneEnd.{one_ending, one_process}
 

@@ -1,10 +1,10 @@
 -- What passes over the operations of a history have found so far.
-use Rattle.std.proofs.Common.{◌≡◌, ◌≢◌, ◌↔◌, ◌+◌, ◌<◌, ◌≤◌, ℕ, List, [], ◌∷◌, AllPairs, Contains, Option, None, Some, MatchOption, length, inl, inr, refl, sym, subst, ◌∙◌, arith}
+use Rattle.std.proofs.Common.{◌≡◌, ◌≢◌, ◌+◌, ◌<◌, ◌≤◌, ℕ, List, [], ◌∷◌, Option, None, Some, MatchOption, length, inl, inr, sym, subst, arith}
 use Rattle.std.proofs.lemmas.Bool.{cases_lt}
 use Rattle.std.proofs.lemmas.Option.{slice_get_within}
 use Rattle.std.proofs.lemmas.List.Elements.{Contains-append_right}
 use Rattle.std.proofs.lemmas.List.Kept.{AllPairs-cons}
-use Rattle.lin_lists.specs.lemmas.Elements.{all_of, first_or_rest, nothing_in}
+use Rattle.lin_lists.specs.lemmas.Elements.{all_of, first_or_rest}
 use Rattle.lin_events.specs.declared.calls.Call.{Call}
 use Rattle.lin_events.specs.declared.events.Event.{Event}
 use Rattle.lin_orders.specs.Orders.{IsCall}

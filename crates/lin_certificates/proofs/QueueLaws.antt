@@ -1,7 +1,5 @@
 -- Queues, ordered or not, have no legal order of operations that a certificate holds of.
-use Rattle.std.proofs.Common.{◌≡◌, ◌≢◌, ◌⊎◌, ◌<◌, ◌≤◌, ◌+◌, ℕ, ℤ, zero, suc, List, [], ◌∷◌, ◌++◌, All, AllPairs, Contains, length, inl, inr, refl, sym, ap, subst, ◌∙◌, arith}
-use Rattle.std.proofs.lemmas.Bool.{cases_lt}
-use Rattle.std.proofs.lemmas.List.Elements.{Contains-append_left}
+use Rattle.std.proofs.Common.{◌≡◌, ◌≢◌, ◌⊎◌, ◌<◌, ◌+◌, ℕ, ℤ, List, [], ◌∷◌, ◌++◌, AllPairs, Contains, length, inl, inr, refl, sym, ap, subst, ◌∙◌, arith}
 use Rattle.std.proofs.lemmas.List.Kept.{AllPairs-cons}
 use Rattle.lin_lists.specs.lemmas.Elements.{all_of, first_or_rest, nothing_in, pairs_left}
 use Rattle.lin_events.specs.declared.calls.Call.{Call}
@@ -22,11 +20,11 @@ use Rattle.lin_orders.specs.Orders.{IsBefore, IsCall}
 use Rattle.lin_orders.specs.lemmas.OneEnd.{one_call, one_ok}
 use Rattle.lin_orders.specs.lemmas.Running.{runs_split}
 use Rattle.lin_failures.specs.Adding.{Adds, IsAddedOnce}
-use Rattle.lin_failures.specs.BagConflicts.{AtLeast, AtMost, MayPut, OfOne, Took}
-use Rattle.lin_failures.specs.QueueConflicts.{IsNotTakenBy, IsPassing, PutAt, Takes, TookAt}
+use Rattle.lin_failures.specs.BagConflicts.{AtLeast, Took}
+use Rattle.lin_failures.specs.QueueConflicts.{IsNotTakenBy, IsPassing, PutAt, Takes}
 use Rattle.lin_failures.specs.lemmas.BagConflicting.{changes, empties, in_decides, inside, no_number, no_put, no_take, one, one_in, one_out, times}
 use Rattle.lin_failures.specs.lemmas.Conflicting.{parted}
-use Rattle.lin_failures.specs.lemmas.Counting.{Changes, Chosen, Puts, TakesOut, chosen_least, chosen_most, counted, overtaken}
+use Rattle.lin_failures.specs.lemmas.Counting.{Changes, Puts, TakesOut, chosen_least, chosen_most, counted, overtaken}
 use Rattle.lin_failures.specs.lemmas.QueueConflicting.{one_alone, passed_later, passed_over, takes_call}
 use Rattle.lin_certificates.specs.Words.{Exactly, Returned, StaysOpen}
 use Rattle.lin_certificates.specs.Certificates.{CanAdd, IsInside, IsPassed, IsTaken, Stays, TookOut}

@@ -1,7 +1,6 @@
 -- Registers have no legal order of operations that a certificate holds of.
-use Rattle.std.proofs.Common.{◌≡◌, ◌≢◌, ◌⊎◌, ◌<◌, ◌≤◌, ℕ, ℤ, zero, suc, List, [], ◌∷◌, Contains, Option, None, Some, length, inl, inr, refl, sym, ap, subst, ◌∙◌, arith}
-use Rattle.std.proofs.lemmas.Bool.{cases_lt, cases_order}
-use Rattle.lin_lists.specs.lemmas.Elements.{first_or_rest, nothing_in}
+use Rattle.std.proofs.Common.{◌≡◌, ◌≢◌, ◌⊎◌, ◌<◌, ◌≤◌, ℕ, ℤ, zero, suc, List, [], ◌∷◌, Option, None, Some, inl, inr, refl, sym, ap, subst, ◌∙◌, arith}
+use Rattle.std.proofs.lemmas.Bool.{cases_order}
 use Rattle.lin_events.specs.declared.calls.Call.{Call}
 use Rattle.lin_events.specs.declared.calls.Call.TheVariants.{Read, Write, Cas}
 use Rattle.lin_events.specs.declared.calls.Reply.{Reply}
@@ -12,7 +11,7 @@ use Rattle.lin_events.specs.declared.events.Event.{Event}
 use Rattle.lin_objects.specs.declared.kinds.Kind.{Kind}
 use Rattle.lin_objects.specs.declared.kinds.Kind.TheVariants.{Register, CasRegister}
 use Rattle.lin_objects.specs.declared.states.State.{State}
-use Rattle.lin_objects.specs.declared.states.State.TheVariants.{Value, Queue, Members, Held, Bag}
+use Rattle.lin_objects.specs.declared.states.State.TheVariants.{Value}
 use Rattle.lin_objects.specs.Steps.{Step, start}
 use Rattle.lin_orders.specs.declared.placed.Placed.{Placed}
 use Rattle.lin_orders.specs.Linearizable.{IsLegalOrderAs, Runs}
@@ -20,11 +19,11 @@ use Rattle.lin_orders.specs.Orders.{IsBefore, IsCall}
 use Rattle.lin_orders.specs.lemmas.OneEnd.{one_call}
 use Rattle.lin_failures.specs.Conflicts.{IsRegister, Leaves}
 use Rattle.lin_failures.specs.lemmas.Conflicting.{found, no_other, set, value_is, wrote}
-use Rattle.lin_certificates.specs.Words.{Counts, Gives, Needs, Returned, Updates}
-use Rattle.lin_certificates.specs.Certificates.{AreCrossed, CanLeave, HasSource, IsLeftOnce, IsOverwritten, IsUnwritten, OtherCanLeave, Overwrites, Touched, Touches}
+use Rattle.lin_certificates.specs.Words.{Gives, Needs, Returned, Updates}
+use Rattle.lin_certificates.specs.Certificates.{AreCrossed, CanLeave, HasSource, IsLeftOnce, IsOverwritten, IsUnwritten, Overwrites, Touched, Touches}
 use Rattle.lin_certificates.specs.declared.words.Sort.TheVariants as Sorted
 use Rattle.lin_certificates.proofs.Numbers.{the_one}
-use Rattle.lin_certificates.proofs.Standing.{At, not_failed, ok_there, one_place, one_there, pair_there, stands_ahead, step_there}
+use Rattle.lin_certificates.proofs.Standing.{At, not_failed, ok_there, one_place, one_there, stands_ahead, step_there}
 
 same_value : (x y : Val) → Replied.Value x ≡ Replied.Value y → x ≡ y
 same_value x y e = cc

@@ -1,6 +1,5 @@
 -- Sets have no legal order of operations that a certificate holds of.
-use Rattle.std.proofs.Common.{◌≡◌, ◌<◌, ◌≤◌, ℕ, ℤ, List, refl, sym, subst, ◌∙◌, arith}
-use Rattle.lin_events.specs.declared.calls.Call.{Call}
+use Rattle.std.proofs.Common.{◌≡◌, ◌<◌, ℕ, ℤ, List, sym, subst, ◌∙◌}
 use Rattle.lin_events.specs.declared.calls.Call.TheVariants.{Read}
 use Rattle.lin_events.specs.declared.calls.Reply.{Reply}
 use Rattle.lin_events.specs.declared.calls.Reply.TheVariants as Replied
@@ -12,12 +11,12 @@ use Rattle.lin_objects.specs.declared.states.State.TheVariants.{Members}
 use Rattle.lin_objects.specs.Steps.{Step, start}
 use Rattle.lin_orders.specs.declared.placed.Placed.{Placed}
 use Rattle.lin_orders.specs.Linearizable.{IsLegalOrderAs}
-use Rattle.lin_orders.specs.Orders.{IsBefore, IsCall}
+use Rattle.lin_orders.specs.Orders.{IsBefore}
 use Rattle.lin_orders.specs.lemmas.OneEnd.{one_call, one_ok}
-use Rattle.lin_failures.specs.SetConflicts.{FoundAt, HadAt, LackedAt}
+use Rattle.lin_failures.specs.SetConflicts.{FoundAt, HadAt}
 use Rattle.lin_failures.specs.lemmas.SetConflicting.{ahead_of, apart, lost, unadded}
 use Rattle.lin_certificates.specs.Words.{Gives, Returned}
-use Rattle.lin_certificates.specs.Certificates.{AreSplit, CanAdd, Had, IsLate, IsLost, IsUnadded, Told}
+use Rattle.lin_certificates.specs.Certificates.{AreSplit, Had, IsLate, IsLost, IsUnadded, Told}
 use Rattle.lin_certificates.specs.declared.words.Sort.TheVariants as Sorted
 use Rattle.lin_certificates.proofs.Outcomes.{not_added}
 use Rattle.lin_certificates.proofs.Standing.{ok_there, step_there}

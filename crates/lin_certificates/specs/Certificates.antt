@@ -1,7 +1,6 @@
 -- What each form of a certificate says of the operations of one object. None of these has a legal order.
 use Rattle.std.specs.Prelude.{◌≡◌, ◌≢◌, ◌⊎◌, ◌<◌, ◌+◌, ℕ, ℤ, List, Option, None, Some}
 use Rattle.lin_events.specs.declared.calls.Call.TheVariants.{Dequeue}
-use Rattle.lin_events.specs.declared.calls.Reply.{Reply}
 use Rattle.lin_events.specs.declared.calls.Reply.TheVariants as Replied
 use Rattle.lin_events.specs.declared.calls.Val.{Val}
 use Rattle.lin_events.specs.declared.calls.Val.TheVariants.{Nil, Int}

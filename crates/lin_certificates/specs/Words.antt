@@ -1,7 +1,7 @@
 -- What operations do, in the words of which certificates are made.
 use Rattle.std.specs.Prelude.{◌≡◌, ◌≢◌, ◌⊎◌, ◌≤◌, ℕ, ℤ, List, AllPairs, Contains, length, ◌↔◌}
 use Rattle.lin_events.specs.declared.calls.Call.{Call}
-use Rattle.lin_events.specs.declared.calls.Call.TheVariants.{Read, Write, Cas, Enqueue, Dequeue, Add, Acquire, Release}
+use Rattle.lin_events.specs.declared.calls.Call.TheVariants.{Read, Cas, Dequeue, Acquire, Release}
 use Rattle.lin_events.specs.declared.calls.Reply.{Reply}
 use Rattle.lin_events.specs.declared.calls.Reply.TheVariants as Replied
 use Rattle.lin_events.specs.declared.calls.Val.{Val}

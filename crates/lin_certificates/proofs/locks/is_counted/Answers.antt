@@ -1,4 +1,4 @@
-use Rattle.std.proofs.Common.{◌<◌, ◌-◌, ◌+◌, inl, inr, arith}
+use Rattle.std.proofs.Common.{inl, inr, arith}
 use Rattle.std.proofs.lemmas.Bool.Decides.{Decides-ltb}
 use Rattle.lin_certificates.specs.Certificates.{CanCall, DidCall}
 use Rattle.lin_certificates.specs.declared.words.Calls.TheVariants.{Acquires, Releases}

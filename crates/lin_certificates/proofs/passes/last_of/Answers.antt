@@ -1,4 +1,4 @@
-use Rattle.std.proofs.Common.{◌+◌, Some, arith, sym, subst}
+use Rattle.std.proofs.Common.{◌+◌, arith, sym, subst}
 use Rattle.lin_certificates.specs.Words.{IsOfWhich}
 use Rattle.lin_certificates.proofs.Passing.{LastBelow, last_at_end, last_here, last_same, which_within}
 use Rattle.lin_certificates.proofs.passes.last_of.Goals.{then-is_of_which, else-is_of_which}

@@ -1,4 +1,4 @@
-use Rattle.std.proofs.Common.{◌<◌, arith}
+use Rattle.std.proofs.Common.{arith}
 use Rattle.std.proofs.lemmas.Bool.Decides.{Decides-ltb}
 use Rattle.lin_failures.specs.lemmas.SetConflicting.{as_held}
 use Rattle.lin_certificates.specs.Certificates.{CanAdd, TookOut}

@@ -1,9 +1,5 @@
-use Rattle.std.proofs.Common.{◌<◌, ◌≤◌, ℕ, arith}
-use Rattle.lin_events.specs.declared.calls.Val.{Val}
-use Rattle.lin_events.specs.declared.calls.Val.TheVariants.{Nil, Int}
-use Rattle.lin_events.specs.declared.events.Event.{Event}
+use Rattle.std.proofs.Common.{arith}
 use Rattle.lin_orders.specs.lemmas.Lists.{no_since}
-use Rattle.lin_certificates.specs.Certificates.{IsOverwritten}
 use Rattle.lin_certificates.proofs.Deciding.{both, made}
 use Rattle.lin_certificates.proofs.Overwriting.{none_over}
 use Rattle.lin_certificates.proofs.registers.is_overwritten.Goals as goal

@@ -1,4 +1,3 @@
-use Rattle.std.proofs.Common.{not}
 use Rattle.lin_failures.specs.lemmas.SetConflicting.{as_held}
 use Rattle.lin_certificates.proofs.Deciding.{both, made, neither}
 use Rattle.lin_certificates.proofs.registers.is_unwritten.Goals as goal
