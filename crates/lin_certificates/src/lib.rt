@@ -9,6 +9,8 @@ mod operations;
 mod passes;
 mod queues;
 mod registers;
+#[cfg(test)]
+mod rows;
 mod sets;
 mod words;
 
