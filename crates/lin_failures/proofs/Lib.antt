@@ -1,5 +1,0 @@
-pub mod Conflicting
-pub mod SetConflicting
-pub mod QueueConflicting
-pub mod Counting
-pub mod BagConflicting

@@ -3,3 +3,4 @@ pub mod Adding
 pub mod SetConflicts
 pub mod QueueConflicts
 pub mod BagConflicts
+pub mod lemmas

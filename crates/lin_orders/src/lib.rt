@@ -20,7 +20,7 @@ pub use configurations::{
 pub use laws::{empty_is_legal, parts_are_legal, prefixes_are_linearizable, replies_are_recorded};
 pub use locality::{absent_keys_are_legal, linearizability_is_local, merged_orders_are_legal};
 pub use merging::merge;
-pub use operations::{end_of, ends_of};
+pub use operations::{call_at, end_of, ends_of, is_failed, ok_end};
 pub use orders::check_order;
 pub use part_laws::{
     parts_grow, parts_keep_operations, parts_keep_orders, parts_of_prefixes, positions_spell_parts,

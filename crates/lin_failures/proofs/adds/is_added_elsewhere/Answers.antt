@@ -4,7 +4,7 @@ use Rattle.std.proofs.lemmas.Option.{slice_get_within}
 use Rattle.lin_events.specs.Operations.{IsFailed}
 use Rattle.lin_orders.specs.Orders.{IsCall}
 use Rattle.lin_failures.specs.Adding.{Adds}
-use Rattle.lin_failures.proofs.SetConflicting.{as_held}
+use Rattle.lin_failures.specs.lemmas.SetConflicting.{as_held}
 use Rattle.lin_failures.proofs.adds.is_added_elsewhere.Goals as goal
 
 pub loop-at-preserved : goal.loop-at-preserved

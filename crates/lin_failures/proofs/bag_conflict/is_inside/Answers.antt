@@ -1,5 +1,5 @@
 use Rattle.std.proofs.lemmas.Bool.Decides.{Decides-ltb}
-use Rattle.lin_failures.proofs.BagConflicting.{bag_inside}
+use Rattle.lin_failures.specs.lemmas.BagConflicting.{bag_inside}
 use Rattle.lin_failures.proofs.bag_conflict.is_inside.Goals as goal
 
 pub returns : goal.returns

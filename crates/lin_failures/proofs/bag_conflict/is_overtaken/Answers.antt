@@ -1,6 +1,6 @@
 use Rattle.std.proofs.lemmas.Bool.Decides.{Decides-ltb}
-use Rattle.lin_failures.proofs.BagConflicting.{bag_overtaken}
-use Rattle.lin_failures.proofs.SetConflicting.{as_held}
+use Rattle.lin_failures.specs.lemmas.BagConflicting.{bag_overtaken}
+use Rattle.lin_failures.specs.lemmas.SetConflicting.{as_held}
 use Rattle.lin_failures.proofs.bag_conflict.is_overtaken.Goals as goal
 
 pub returns : goal.returns

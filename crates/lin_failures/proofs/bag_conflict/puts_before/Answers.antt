@@ -1,6 +1,6 @@
 use Rattle.std.proofs.Common.{◌<◌, ◌≤◌, ◌+◌, ℕ, arith, sym, subst}
 use Rattle.lin_failures.specs.BagConflicts.{AtLeast, OfOne, PutBefore}
-use Rattle.lin_failures.proofs.Counting.{least_more, least_of, least_same}
+use Rattle.lin_failures.specs.lemmas.Counting.{least_more, least_of, least_same}
 use Rattle.lin_failures.proofs.bag_conflict.puts_before.Goals.{then-is_one_put_before, else-is_one_put_before}
 use Rattle.lin_failures.proofs.bag_conflict.puts_before.Goals as goal
 

@@ -1,8 +1,8 @@
 use Rattle.std.proofs.Common.{◌<◌, ◌≤◌, ◌+◌, arith, sym, subst, to_z, of_z, w64}
 use Rattle.std.proofs.lemmas.Option.{slice_get_within}
 use Rattle.lin_failures.specs.BagConflicts.{AtMost, MayPut}
-use Rattle.lin_failures.proofs.Counting.{most_more, most_of, most_same}
-use Rattle.lin_failures.proofs.SetConflicting.{as_held}
+use Rattle.lin_failures.specs.lemmas.Counting.{most_more, most_of, most_same}
+use Rattle.lin_failures.specs.lemmas.SetConflicting.{as_held}
 use Rattle.lin_failures.proofs.bag_conflict.puts_of.Goals.{then-is_add_at, else-is_add_at}
 use Rattle.lin_failures.proofs.bag_conflict.puts_of.Goals as goal
 

@@ -1,7 +1,7 @@
 use Rattle.std.proofs.Common.{◌<◌, ◌≤◌, ◌+◌, ℕ, arith, sym, subst}
 use Rattle.std.proofs.lemmas.Option.{slice_get_within}
 use Rattle.lin_failures.specs.BagConflicts.{AtMost, MayTakeBy, OfOne}
-use Rattle.lin_failures.proofs.Counting.{most_more, most_of, most_same}
+use Rattle.lin_failures.specs.lemmas.Counting.{most_more, most_of, most_same}
 use Rattle.lin_failures.proofs.bag_conflict.takes_by.Goals.{then-may_take_one_by, else-may_take_one_by}
 use Rattle.lin_failures.proofs.bag_conflict.takes_by.Goals as goal
 

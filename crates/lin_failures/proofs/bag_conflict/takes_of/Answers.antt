@@ -1,7 +1,7 @@
 use Rattle.std.proofs.Common.{◌<◌, ◌≤◌, ◌+◌, arith, sym, subst, to_z, of_z, w64}
 use Rattle.lin_failures.specs.BagConflicts.{AtLeast, Took}
-use Rattle.lin_failures.proofs.Counting.{least_more, least_of, least_same}
-use Rattle.lin_failures.proofs.SetConflicting.{as_held}
+use Rattle.lin_failures.specs.lemmas.Counting.{least_more, least_of, least_same}
+use Rattle.lin_failures.specs.lemmas.SetConflicting.{as_held}
 use Rattle.lin_failures.proofs.bag_conflict.takes_of.Goals.{then-took, else-took}
 use Rattle.lin_failures.proofs.bag_conflict.takes_of.Goals as goal
 

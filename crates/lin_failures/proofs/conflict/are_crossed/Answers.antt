@@ -2,7 +2,7 @@ use Rattle.std.proofs.Common.{◌≡◌, sym, ◌∙◌, subst, true, true≢fal
 use Rattle.std.proofs.lemmas.Bool.Decides.{Decides-ltb}
 use Rattle.lin_events.specs.Replies.{val_itself}
 use Rattle.lin_events.specs.contracts.calls.ValPartialEq.TheImpl as ValImpl
-use Rattle.lin_failures.proofs.Conflicting.{crossed}
+use Rattle.lin_failures.specs.lemmas.Conflicting.{crossed}
 use Rattle.lin_failures.proofs.conflict.are_crossed.Goals as goal
 
 pub returns : goal.returns

@@ -1,5 +1,5 @@
 use Rattle.lin_failures.specs.Conflicts.{IsBlock}
-use Rattle.lin_failures.proofs.Conflicting.{no_nil, only_left}
+use Rattle.lin_failures.specs.lemmas.Conflicting.{no_nil, only_left}
 use Rattle.lin_failures.proofs.conflict.end_of.Goals as goal
 
 pub returns : goal.returns

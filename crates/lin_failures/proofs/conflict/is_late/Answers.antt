@@ -1,6 +1,6 @@
 use Rattle.std.proofs.lemmas.Bool.Decides.{Decides-ltb}
 use Rattle.lin_events.specs.declared.calls.Val.TheVariants.{Nil}
-use Rattle.lin_failures.proofs.Conflicting.{never_left, no_nil, nil_late}
+use Rattle.lin_failures.specs.lemmas.Conflicting.{never_left, no_nil, nil_late}
 use Rattle.lin_failures.proofs.conflict.is_late.Goals as goal
 
 pub returns-in-Some-shown : goal.returns-in-Some-shown

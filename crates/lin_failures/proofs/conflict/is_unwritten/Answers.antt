@@ -1,4 +1,4 @@
-use Rattle.lin_failures.proofs.Conflicting.{never_left, no_nil, unwritten}
+use Rattle.lin_failures.specs.lemmas.Conflicting.{never_left, no_nil, unwritten}
 use Rattle.lin_failures.proofs.conflict.is_unwritten.Goals as goal
 
 pub returns-in-Some : goal.returns-in-Some

@@ -3,7 +3,7 @@ use mir.Val.{SFits}
 use Rattle.std.proofs.lemmas.Bool.{not-true}
 use Rattle.lin_events.specs.declared.calls.Reply.TheVariants as Replied
 use Rattle.lin_failures.specs.QueueConflicts.{IsBehind}
-use Rattle.lin_failures.proofs.SetConflicting.{as_held}
+use Rattle.lin_failures.specs.lemmas.SetConflicting.{as_held}
 use Rattle.lin_failures.proofs.queue_conflict.is_behind.Goals as goal
 
 pub returns-else-found-number : goal.returns-else-found-number

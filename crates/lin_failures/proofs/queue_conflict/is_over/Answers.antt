@@ -1,6 +1,6 @@
 use Rattle.std.proofs.lemmas.Bool.{not-true}
-use Rattle.lin_failures.proofs.QueueConflicting.{passed_over}
-use Rattle.lin_failures.proofs.SetConflicting.{as_held}
+use Rattle.lin_failures.specs.lemmas.QueueConflicting.{passed_over}
+use Rattle.lin_failures.specs.lemmas.SetConflicting.{as_held}
 use Rattle.lin_failures.proofs.queue_conflict.is_over.Goals as goal
 
 pub returns : goal.returns

@@ -1,8 +1,8 @@
 use Rattle.std.proofs.Common.{true≢false, sym, ◌∙◌}
 use Rattle.std.proofs.lemmas.Bool.{not-true}
 use Rattle.std.proofs.lemmas.Bool.Decides.{Decides-eqb}
-use Rattle.lin_failures.proofs.QueueConflicting.{twice}
-use Rattle.lin_failures.proofs.SetConflicting.{as_held}
+use Rattle.lin_failures.specs.lemmas.QueueConflicting.{twice}
+use Rattle.lin_failures.specs.lemmas.SetConflicting.{as_held}
 use Rattle.lin_failures.proofs.queue_conflict.is_twice.Goals as goal
 
 pub returns : goal.returns

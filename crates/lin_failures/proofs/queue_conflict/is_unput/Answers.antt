@@ -1,5 +1,5 @@
-use Rattle.lin_failures.proofs.QueueConflicting.{unput}
-use Rattle.lin_failures.proofs.SetConflicting.{as_held}
+use Rattle.lin_failures.specs.lemmas.QueueConflicting.{unput}
+use Rattle.lin_failures.specs.lemmas.SetConflicting.{as_held}
 use Rattle.lin_failures.proofs.queue_conflict.is_unput.Goals as goal
 
 pub returns-in-Some : goal.returns-in-Some

@@ -1,4 +1,4 @@
-use Rattle.lin_failures.proofs.SetConflicting.{as_held}
+use Rattle.lin_failures.specs.lemmas.SetConflicting.{as_held}
 use Rattle.lin_failures.proofs.queue_conflict.put_at.Goals as goal
 
 pub returns-then-adds : goal.returns-then-adds

@@ -1,4 +1,4 @@
-use Rattle.lin_failures.proofs.SetConflicting.{apart, as_held}
+use Rattle.lin_failures.specs.lemmas.SetConflicting.{apart, as_held}
 use Rattle.lin_failures.proofs.set_conflict.are_apart.Goals as goal
 
 pub returns-in-Some-found_at : goal.returns-in-Some-found_at

@@ -1,5 +1,5 @@
 use Rattle.std.proofs.lemmas.Bool.Decides.{Decides-ltb}
-use Rattle.lin_failures.proofs.SetConflicting.{as_held, lost}
+use Rattle.lin_failures.specs.lemmas.SetConflicting.{as_held, lost}
 use Rattle.lin_failures.proofs.set_conflict.is_lost.Goals as goal
 
 pub returns : goal.returns

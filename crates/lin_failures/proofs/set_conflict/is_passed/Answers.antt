@@ -1,5 +1,5 @@
 use Rattle.std.proofs.lemmas.Bool.{not-true}
-use Rattle.lin_failures.proofs.SetConflicting.{ahead_of, as_held}
+use Rattle.lin_failures.specs.lemmas.SetConflicting.{ahead_of, as_held}
 use Rattle.lin_failures.proofs.set_conflict.is_passed.Goals as goal
 
 pub returns : goal.returns

@@ -1,5 +1,5 @@
 use Rattle.std.proofs.lemmas.Bool.{not-true}
-use Rattle.lin_failures.proofs.SetConflicting.{as_held, unadded}
+use Rattle.lin_failures.specs.lemmas.SetConflicting.{as_held, unadded}
 use Rattle.lin_failures.proofs.set_conflict.is_unadded.Goals as goal
 
 pub returns-in-Some : goal.returns-in-Some

@@ -23,7 +23,7 @@ use Rattle.lin_orders.specs.lemmas.OneEnd.{one_call}
 use Rattle.lin_orders.specs.lemmas.Running.{runs_split}
 use Rattle.lin_failures.specs.Adding.{Adds, IsAddedOnce, IsNotAddedBy}
 use Rattle.lin_failures.specs.QueueConflicts.{Takes, PutAt, TookAt, IsBehind, IsPassing, IsNotTakenBy}
-use Rattle.lin_failures.proofs.Conflicting.{across, parted}
+use Rattle.lin_failures.specs.lemmas.Conflicting.{across, parted}
 
 -- the number is in the queue
 abbrev InQueue : State → ℤ → Type 0

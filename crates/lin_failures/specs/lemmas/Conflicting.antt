@@ -22,38 +22,38 @@ use Rattle.lin_orders.specs.lemmas.OneEnd.{one_call}
 use Rattle.lin_orders.specs.lemmas.Running.{runs_split}
 use Rattle.lin_failures.specs.Conflicts.{Holds, IsBlock, IsLeftBy, IsNeverLeft, IsRegister, IsShown, Leaves}
 
-value_is : (v w : Val) → Value v ≡ Value w → v ≡ w
+pub value_is : (v w : Val) → Value v ≡ Value w → v ≡ w
 value_is v w e = cc
 
 -- the steps that registers take
-wrote : (kind : Kind) → IsRegister kind → (s next : State) (w : Val) (reply : Reply) → Step kind s (Write w) next reply → next ≡ Value w
+pub wrote : (kind : Kind) → IsRegister kind → (s next : State) (w : Val) (reply : Reply) → Step kind s (Write w) next reply → next ≡ Value w
 wrote Register is (Value x) next w reply step = step.0
 wrote Register is s next w reply step = absurd step
 wrote CasRegister is (Value x) next w reply step = step.0
 wrote CasRegister is s next w reply step = absurd step
 wrote kind is s next w reply step = absurd is
 
-set : (kind : Kind) → IsRegister kind → (s next : State) (from to : Val) (reply : Reply) → Step kind s (Cas from to) next reply → next ≡ Value to
+pub set : (kind : Kind) → IsRegister kind → (s next : State) (from to : Val) (reply : Reply) → Step kind s (Cas from to) next reply → next ≡ Value to
 set CasRegister is (Value x) next from to reply step = step.1
 set CasRegister is s next from to reply step = absurd step
 set Register is (Value x) next from to reply step = absurd step
 set Register is s next from to reply step = absurd step
 set kind is s next from to reply step = absurd is
 
-found : (kind : Kind) → IsRegister kind → (s next : State) (reply : Reply) → Step kind s Read next reply → (x : Val) × (s ≡ Value x) × (next ≡ Value x) × (reply ≡ Replied.Value x)
+pub found : (kind : Kind) → IsRegister kind → (s next : State) (reply : Reply) → Step kind s Read next reply → (x : Val) × (s ≡ Value x) × (next ≡ Value x) × (reply ≡ Replied.Value x)
 found Register is (Value x) next reply step = (x, refl, step.0, step.1)
 found Register is s next reply step = absurd step
 found CasRegister is (Value x) next reply step = (x, refl, step.0, step.1)
 found CasRegister is s next reply step = absurd step
 found kind is s next reply step = absurd is
 
-abbrev IsOther : Call → Type 0
+abbrev pub IsOther : Call → Type 0
 IsOther Read = ⊥
 IsOther (Write w) = ⊥
 IsOther (Cas from to) = ⊥
 IsOther call = Unit {0}
 
-no_other : (kind : Kind) → IsRegister kind → (s next : State) (call : Call) (reply : Reply) → IsOther call → Step kind s call next reply → ⊥
+pub no_other : (kind : Kind) → IsRegister kind → (s next : State) (call : Call) (reply : Reply) → IsOther call → Step kind s call next reply → ⊥
 no_other kind is s next Read reply other step = other
 no_other kind is s next (Write w) reply other step = other
 no_other kind is s next (Cas from to) reply other step = other

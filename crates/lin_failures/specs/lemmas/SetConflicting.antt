@@ -25,7 +25,7 @@ use Rattle.lin_orders.specs.lemmas.OneEnd.{one_call}
 use Rattle.lin_orders.specs.lemmas.Running.{runs_split}
 use Rattle.lin_failures.specs.Adding.{Adds, IsNotAddedBy}
 use Rattle.lin_failures.specs.SetConflicts.{Has, Lacks, HadAt, LackedAt, FoundAt}
-use Rattle.lin_failures.proofs.Conflicting.{across, parted}
+use Rattle.lin_failures.specs.lemmas.Conflicting.{across, parted}
 
 -- a number as a call holds it
 pub as_held : (n : ℤ) → SFits w64 n → to_z w64 (of_z w64 n) ≡ n

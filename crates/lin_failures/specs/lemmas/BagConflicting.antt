@@ -21,14 +21,14 @@ use Rattle.lin_orders.specs.Linearizable.{IsLegalOrderAs}
 use Rattle.lin_failures.specs.Adding.{Adds}
 use Rattle.lin_failures.specs.BagConflicts.{AtLeast, AtMost, FoundNothing, MayPut, MayTakeBy, OfOne, PutBefore, Took}
 use Rattle.lin_failures.specs.QueueConflicts.{Takes}
-use Rattle.lin_failures.proofs.Counting.{Changes, left_inside, overtaken}
+use Rattle.lin_failures.specs.lemmas.Counting.{Changes, left_inside, overtaken}
 
 -- whether the number is one of these
-is_in : List ℤ → ℤ → Bool
+pub is_in : List ℤ → ℤ → Bool
 is_in [] x = false
 is_in (n ∷ ns) x = cond (int_eq n x) true (is_in ns x)
 
-in_decides : (ns : List ℤ) (x : ℤ) → ((is_in ns x ≡ true) × Contains ns x) ⊎ ((is_in ns x ≡ false) × (Contains ns x → ⊥))
+pub in_decides : (ns : List ℤ) (x : ℤ) → ((is_in ns x ≡ true) × Contains ns x) ⊎ ((is_in ns x ≡ false) × (Contains ns x → ⊥))
 unfolding is_in
 in_decides [] x = inr (refl, nothing_in x)
 in_decides (n ∷ ns) x = by (int_eq n x) refl (in_decides ns x)
@@ -48,24 +48,24 @@ in_decides (n ∷ ns) x = by (int_eq n x) refl (in_decides ns x)
     ]
 
 -- one, if the number is one of these
-one : List ℤ → ℤ → ℕ
+pub one : List ℤ → ℤ → ℕ
 one ns x = cond (is_in ns x) 1 0
 
-one_in : (ns : List ℤ) (x : ℤ) → is_in ns x ≡ true → one ns x ≡ 1
+pub one_in : (ns : List ℤ) (x : ℤ) → is_in ns x ≡ true → one ns x ≡ 1
 unfolding one
 one_in ns x there = ap (λ b. cond b 1 0) there
 
-one_out : (ns : List ℤ) (x : ℤ) → is_in ns x ≡ false → one ns x ≡ 0
+pub one_out : (ns : List ℤ) (x : ℤ) → is_in ns x ≡ false → one ns x ≡ 0
 unfolding one
 one_out ns x none = ap (λ b. cond b 1 0) none
 
 -- how many of these the list has
-abbrev times : List ℤ → List ℤ → ℕ
+abbrev pub times : List ℤ → List ℤ → ℕ
 times ns [] = 0
 times ns (x ∷ xs) = one ns x + times ns xs
 
 -- how many of them are in the bag
-abbrev inside : State → List ℤ → ℕ
+abbrev pub inside : State → List ℤ → ℕ
 inside (Bagged q) ns = times ns q
 inside _ ns = 0
 
@@ -94,17 +94,17 @@ times_without ns y (x ∷ q) there = by (int_eq x y) refl (λ rest. times_withou
     ]
 
 -- an enqueue takes none out, a dequeue puts none in, and takes none out if it finds nothing
-no_take : (x : ℤ) (ns : List ℤ) (reply : Reply) → OfOne ns (Takes (Enqueue x) reply) → ⊥
+pub no_take : (x : ℤ) (ns : List ℤ) (reply : Reply) → OfOne ns (Takes (Enqueue x) reply) → ⊥
 no_take x ns reply takes = takes.2
 
-no_put : (ns : List ℤ) → OfOne ns (Adds Dequeue) → ⊥
+pub no_put : (ns : List ℤ) → OfOne ns (Adds Dequeue) → ⊥
 no_put ns adds = adds.2
 
-no_number : (ns : List ℤ) (reply : Reply) → reply ≡ Replied.Value Nil → OfOne ns (Takes Dequeue reply) → ⊥
+pub no_number : (ns : List ℤ) (reply : Reply) → reply ≡ Replied.Value Nil → OfOne ns (Takes Dequeue reply) → ⊥
 no_number ns reply is takes = subst (λ r. Takes Dequeue r takes.0) is takes.2
 
 -- how a step changes how many of the numbers are inside
-changes : (s next : State) (call : Call) (reply : Reply) (ns : List ℤ) → Step Bag s call next reply → Changes (inside s ns) (inside next ns) call reply ns
+pub changes : (s next : State) (call : Call) (reply : Reply) (ns : List ℤ) → Step Bag s call next reply → Changes (inside s ns) (inside next ns) call reply ns
 changes (Bagged q) next (Enqueue x) reply ns step =
     let many : inside next ns ≡ one ns x + times ns q = ap (λ s. inside s ns) step.0 ∙ times_bag ns (x ∷ q) in
     elim (in_decides ns x) [
@@ -125,7 +125,7 @@ changes (Bagged []) next Dequeue reply ns step = inr (inr (no_put ns, no_number 
 changes (Bagged q) next call reply ns step = absurd step
 changes s next call reply ns step = absurd step
 
-empties : (s next : State) (ns : List ℤ) → Step Bag s Dequeue next (Replied.Value Nil) → inside s ns ≡ 0
+pub empties : (s next : State) (ns : List ℤ) → Step Bag s Dequeue next (Replied.Value Nil) → inside s ns ≡ 0
 empties (Bagged []) next ns step = refl
 empties (Bagged (x ∷ q)) next ns step = absurd (apart step.0 step.3)
   where

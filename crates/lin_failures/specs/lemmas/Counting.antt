@@ -23,13 +23,13 @@ use Rattle.lin_orders.specs.lemmas.Running.{runs_split}
 use Rattle.lin_failures.specs.Adding.{Adds}
 use Rattle.lin_failures.specs.BagConflicts.{AtLeast, AtMost, FoundNothing, MayPut, MayTakeBy, OfOne, PutBefore, Took}
 use Rattle.lin_failures.specs.QueueConflicts.{Takes}
-use Rattle.lin_failures.proofs.Conflicting.{across, parted}
-use Rattle.lin_failures.proofs.QueueConflicting.{one_alone, takes_call}
+use Rattle.lin_failures.specs.lemmas.Conflicting.{across, parted}
+use Rattle.lin_failures.specs.lemmas.QueueConflicting.{one_alone, takes_call}
 
-pairs_rest : {A : Type 0} (R : A → A → Type 0) (x : A) (xs : List A) → AllPairs R (x ∷ xs) → AllPairs R xs
+pub pairs_rest : {A : Type 0} (R : A → A → Type 0) (x : A) (xs : List A) → AllPairs R (x ∷ xs) → AllPairs R xs
 pairs_rest R x xs all i j d before within = all (suc i) (suc j) d (omega (arith, before)) (omega (arith, within))
 
-first_apart : {A : Type 0} (R : A → A → Type 0) (x : A) (xs : List A) → AllPairs R (x ∷ xs) → (y : A) → Contains xs y → R x y
+pub first_apart : {A : Type 0} (R : A → A → Type 0) (x : A) (xs : List A) → AllPairs R (x ∷ xs) → (y : A) → Contains xs y → R x y
 first_apart R x xs all y there = across R (x ∷ []) xs x y all (0, omega arith, refl) there
 
 -- different numbers that stand in a list are at most as many as it has
@@ -107,10 +107,10 @@ pub record Chosen (P : Placed → Type 0) (order : List Placed) (ats : List ℕ)
   pub apart : AllPairs ◌≢◌ ats
 
 module _ (P : Placed → Type 0) where
-  chosen_empty : Chosen P [] []
+  pub chosen_empty : Chosen P [] []
   chosen_empty = record { are = λ at there. absurd (nothing_in at there); all = λ p there is. absurd (nothing_in p there); apart = λ i j d before within. absurd (omega (arith, within)) }
 
-  chosen_other : (q : Placed) (order : List Placed) (ats : List ℕ) → Chosen P order ats → (P q → ⊥) → Chosen P (q ∷ order) ats
+  pub chosen_other : (q : Placed) (order : List Placed) (ats : List ℕ) → Chosen P order ats → (P q → ⊥) → Chosen P (q ∷ order) ats
   chosen_other q order ats rest none = record {
     are = λ at there. let p = rest.are at there in (p.0, Contains-append_right (q ∷ []) order p.0 p.1, p.2, p.3);
     all = λ p there is. elim (first_or_rest q order p there) [
@@ -120,7 +120,7 @@ module _ (P : Placed → Type 0) where
     apart = rest.apart;
   }
 
-  chosen_one : (q : Placed) (order : List Placed) (ats : List ℕ) → Chosen P order ats → AllPairs (λ x y. x.at ≢ y.at) (q ∷ order) → P q → Chosen P (q ∷ order) (q.at ∷ ats)
+  pub chosen_one : (q : Placed) (order : List Placed) (ats : List ℕ) → Chosen P order ats → AllPairs (λ x y. x.at ≢ y.at) (q ∷ order) → P q → Chosen P (q ∷ order) (q.at ∷ ats)
   chosen_one q order ats rest once here = record {
     are = λ at there. elim (first_or_rest q.at ats at there) [
       | inl same ↦ (q, (0, omega arith, refl), here, same)

@@ -1,0 +1,11 @@
+pub mod Passing
+pub mod Numbers
+pub mod Outcomes
+pub mod Standing
+pub mod RegisterLaws
+pub mod SetLaws
+pub mod QueueLaws
+pub mod LockLaws
+pub mod Laws
+pub mod Deciding
+pub mod Overwriting

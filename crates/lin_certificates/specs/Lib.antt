@@ -1,0 +1,3 @@
+pub mod Words
+pub mod Certificates
+pub mod Laws

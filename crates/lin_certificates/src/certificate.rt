@@ -1,0 +1,245 @@
+//! Certificates, and whether one holds of a history.
+ghost use Rattle.std.specs.Prelude.{◌↔◌, IfOk, IsTrue};
+ghost use Rattle.lin_orders.specs.Tables.{IsNextTable};
+ghost use Rattle.lin_certificates.specs.Certificates.{Certifies, CertifiesBag, CertifiesFifo, CertifiesMutex, CertifiesRegister, CertifiesSet};
+ghost use Rattle.lin_certificates.specs.Laws.{CertificatesExcludeOrders};
+
+use crate::locks::{is_counted, is_twice};
+use crate::operations::is_among;
+use crate::queues::{is_inside, is_passed, is_taken};
+use crate::registers::{are_crossed, is_overwritten, is_unwritten};
+use crate::sets::{are_split, is_late, is_lost, is_unadded};
+use crate::words::{Answers, Sort, Which};
+use lin_events::{Event, OutOfMemory, Val};
+use lin_objects::Kind;
+use lin_orders::ends_of;
+use std::alloc::Global;
+
+/// Why the operations of an object have no legal order. Operations are named by the places of their invocations; the values that the form
+/// speaks of stand beside them.
+#[derive(Clone, Copy, Debug, PartialEq, Eq)]
+pub enum Certificate {
+    /// The read of a set gave a value, or that of a register gave members.
+    Shape {
+        read: usize,
+    },
+    /// The operation needs the number, and no other one that isn't failed leaves it.
+    Unwritten {
+        operation: usize,
+        number: i64,
+    },
+    /// The operation needs the value. Whichever other one leaves it is before one that leaves some value and is before the operation.
+    Overwritten {
+        operation: usize,
+        value: Val,
+    },
+    /// One operation leaves the number, and one the value, or none where it is nil. Two operations touch the number and the value, the first
+    /// before the second; and, unless the value is nil, another two the value and the number (Gibbons and Korach 1997).
+    Crossed {
+        value: Val,
+        number: i64,
+        early: usize,
+        late: usize,
+        back: Option<(usize, usize)>,
+    },
+    /// More dequeues took the number than enqueues of it aren't failed.
+    Taken {
+        number: i64,
+    },
+    /// The dequeue took the other number, whose enqueues, of which one is named, were all invoked after that of the number, which stayed until
+    /// the dequeue.
+    Passed {
+        enqueue: usize,
+        later: usize,
+        dequeue: usize,
+        number: i64,
+        other: i64,
+    },
+    /// The dequeue found nothing. The number was put in before it, and stayed until it.
+    Inside {
+        enqueue: usize,
+        dequeue: usize,
+        number: i64,
+    },
+    /// The read has the number, and all adds of it failed.
+    Unadded {
+        read: usize,
+        number: i64,
+    },
+    /// The operation that has the number is before the read, which lacks it.
+    Lost {
+        earlier: usize,
+        read: usize,
+        number: i64,
+    },
+    /// The first read has the number and lacks the other one; the second has that one and lacks the number.
+    Split {
+        first: usize,
+        second: usize,
+        number: i64,
+        other: i64,
+    },
+    /// The operation that has the number is before each add of the other one, of which one is named. The read has the other one and lacks the
+    /// number.
+    Late {
+        earlier: usize,
+        add: usize,
+        read: usize,
+        number: i64,
+        other: i64,
+    },
+    /// Both are acquires, or releases, the first before the second, and each call of the other function is before the first or failed.
+    Twice {
+        first: usize,
+        second: usize,
+    },
+    /// More releases are ok than acquires aren't failed, or more acquires than one more than the releases that aren't.
+    Counted,
+}
+
+/// Whether the certificate holds of a register.
+fn certifies_register(events: &[Event], ends: &[Option<usize>], certificate: &Certificate) -> bool
+    requires { IsNextTable events.now ends.now }
+    ensures { IsTrue result ↔ CertifiesRegister events.now certificate.now }
+{
+    match certificate {
+        Certificate::Shape { read } => is_among(
+            events,
+            ends,
+            *read,
+            &Which::Returned(Answers::Gives(Sort::Members)),
+        ),
+        Certificate::Unwritten { operation, number } => {
+            is_unwritten(events, ends, *operation, *number)
+        }
+        Certificate::Overwritten { operation, value } => {
+            is_overwritten(events, ends, *operation, *value)
+        }
+        Certificate::Crossed {
+            value,
+            number,
+            early,
+            late,
+            back,
+        } => are_crossed(events, ends, *value, *number, (*early, *late), *back),
+        _ => false,
+    }
+}
+
+/// Whether the certificate holds of a queue that promises no order.
+fn certifies_bag(events: &[Event], ends: &[Option<usize>], certificate: &Certificate) -> bool
+    requires { IsNextTable events.now ends.now }
+    ensures { IsTrue result ↔ CertifiesBag events.now certificate.now }
+{
+    match certificate {
+        Certificate::Taken { number } => is_taken(events, ends, *number),
+        Certificate::Inside {
+            enqueue,
+            dequeue,
+            number,
+        } => is_inside(events, ends, *enqueue, *dequeue, *number),
+        _ => false,
+    }
+}
+
+/// Whether the certificate holds of a queue: first in, first out.
+fn certifies_fifo(events: &[Event], ends: &[Option<usize>], certificate: &Certificate) -> bool
+    requires { IsNextTable events.now ends.now }
+    ensures { IsTrue result ↔ CertifiesFifo events.now certificate.now }
+{
+    match certificate {
+        Certificate::Passed {
+            enqueue,
+            later,
+            dequeue,
+            number,
+            other,
+        } => is_passed(events, ends, (*enqueue, *later), *dequeue, *number, *other),
+        _ => certifies_bag(events, ends, certificate),
+    }
+}
+
+/// Whether the certificate holds of a set.
+fn certifies_set(events: &[Event], ends: &[Option<usize>], certificate: &Certificate) -> bool
+    requires { IsNextTable events.now ends.now }
+    ensures { IsTrue result ↔ CertifiesSet events.now certificate.now }
+{
+    match certificate {
+        Certificate::Shape { read } => is_among(
+            events,
+            ends,
+            *read,
+            &Which::Returned(Answers::Gives(Sort::Value)),
+        ),
+        Certificate::Unadded { read, number } => is_unadded(events, ends, *read, *number),
+        Certificate::Lost {
+            earlier,
+            read,
+            number,
+        } => is_lost(events, ends, *earlier, *read, *number),
+        Certificate::Split {
+            first,
+            second,
+            number,
+            other,
+        } => are_split(events, ends, (*first, *second), *number, *other),
+        Certificate::Late {
+            earlier,
+            add,
+            read,
+            number,
+            other,
+        } => is_late(events, ends, (*earlier, *add), *read, *number, *other),
+        _ => false,
+    }
+}
+
+/// Whether the certificate holds of a lock.
+fn certifies_mutex(events: &[Event], ends: &[Option<usize>], certificate: &Certificate) -> bool
+    requires { IsNextTable events.now ends.now }
+    ensures { IsTrue result ↔ CertifiesMutex events.now certificate.now }
+{
+    match certificate {
+        Certificate::Twice { first, second } => is_twice(events, ends, *first, *second),
+        Certificate::Counted => is_counted(events, ends),
+        _ => false,
+    }
+}
+
+/// Whether the certificate holds of an object of the kind.
+pub fn holds(
+    events: &[Event],
+    ends: &[Option<usize>],
+    kind: Kind,
+    certificate: &Certificate,
+) -> bool
+    requires { IsNextTable events.now ends.now }
+    ensures { IsTrue result ↔ Certifies events.now kind certificate.now }
+{
+    match kind {
+        Kind::Register | Kind::CasRegister => certifies_register(events, ends, certificate),
+        Kind::Fifo => certifies_fifo(events, ends, certificate),
+        Kind::Bag => certifies_bag(events, ends, certificate),
+        Kind::Set => certifies_set(events, ends, certificate),
+        Kind::Mutex => certifies_mutex(events, ends, certificate),
+    }
+}
+
+/// Whether the certificate holds of the events, which are those of one object of the kind: exactly where its form holds of the operations that
+/// it names. Time is linear in the events. `OutOfMemory` is answered only where memory was refused.
+pub fn certifies(
+    alloc: Global,
+    events: &[Event],
+    kind: Kind,
+    certificate: &Certificate,
+) -> Result<bool, OutOfMemory>
+    ensures { IfOk result (λ holds. IsTrue holds ↔ Certifies events.now kind certificate.now) }
+{
+    let ends = ends_of(alloc, events)?;
+    Ok(holds(events, ends.as_slice(), kind, certificate))
+}
+
+/// Operations that a certificate holds of have no legal order.
+pub fn certificates_exclude_orders()
+    ensures { CertificatesExcludeOrders }
+{}

@@ -1,0 +1,120 @@
+//! A search for a certificate. Whatever it finds is tested; that it finds one isn't promised.
+ghost use Rattle.std.specs.Prelude.{IfOk, IfSome};
+ghost use Rattle.lin_orders.specs.Tables.{IsNextTable};
+ghost use Rattle.lin_certificates.specs.Certificates.{Certifies};
+
+use crate::candidates::{Operation, candidates, operations_of};
+use crate::certificate::{Certificate, holds};
+use lin_events::{Event, OutOfMemory};
+use lin_objects::Kind;
+use lin_orders::ends_of;
+use std::alloc::Global;
+
+/// How many operations are looked at beside the failing one, the last invoked first.
+const LIMIT: usize = 64;
+
+/// The first of the certificates that holds.
+fn first_that_holds(
+    events: &[Event],
+    ends: &[Option<usize>],
+    kind: Kind,
+    certificates: &[Certificate],
+) -> Option<Certificate>
+    requires { IsNextTable events.now ends.now }
+    ensures { IfSome result (λ found. Certifies events.now kind found) }
+{
+    for certificate in certificates {
+        if holds(events, ends, kind, certificate) {
+            return Some(*certificate);
+        }
+    }
+    None
+}
+
+/// A certificate in which the operation has the chief part.
+fn certificate_of(
+    alloc: Global,
+    events: &[Event],
+    ends: &[Option<usize>],
+    kind: Kind,
+    operations: &[Operation],
+    target: &Operation,
+) -> Result<Option<Certificate>, OutOfMemory>
+    requires { IsNextTable events.now ends.now }
+    ensures { IfOk result (λ found. IfSome found (λ certificate. Certifies events.now kind certificate)) }
+{
+    let some = candidates(alloc, kind, operations, target)?;
+    Ok(first_that_holds(events, ends, kind, some.as_slice()))
+}
+
+/// A certificate in which the operation that was invoked at the place has the chief part.
+fn certificate_at(
+    alloc: Global,
+    events: &[Event],
+    ends: &[Option<usize>],
+    kind: Kind,
+    operations: &[Operation],
+    failing: usize,
+) -> Result<Option<Certificate>, OutOfMemory>
+    requires { IsNextTable events.now ends.now }
+    ensures { IfOk result (λ found. IfSome found (λ certificate. Certifies events.now kind certificate)) }
+{
+    for operation in operations {
+        if operation.at == failing {
+            return certificate_of(alloc, events, ends, kind, operations, operation);
+        }
+    }
+    Ok(None)
+}
+
+/// A certificate in which one of the last operations has the chief part.
+fn certificate_of_last(
+    alloc: Global,
+    events: &[Event],
+    ends: &[Option<usize>],
+    kind: Kind,
+    operations: &[Operation],
+) -> Result<Option<Certificate>, OutOfMemory>
+    requires { IsNextTable events.now ends.now }
+    ensures { IfOk result (λ found. IfSome found (λ certificate. Certifies events.now kind certificate)) }
+{
+    let mut tried = 0;
+    for operation in operations.iter().rev() {
+        if LIMIT <= tried {
+            break;
+        }
+        let found = certificate_of(alloc, events, ends, kind, operations, operation)?;
+        if found.is_some() {
+            return Ok(found);
+        }
+        tried += 1;
+    }
+    Ok(None)
+}
+
+/// A certificate that holds of the events, which are those of one object of the kind, if the search finds one. `failing` is the place where the
+/// failing operation was invoked, the one with whose end no order is legal any more: certificates in which it has the chief part come first,
+/// then those of the operations that were invoked last. `OutOfMemory` is answered only where memory was refused.
+pub fn find_certificate(
+    alloc: Global,
+    events: &[Event],
+    kind: Kind,
+    failing: usize,
+) -> Result<Option<Certificate>, OutOfMemory>
+    ensures { IfOk result (λ found. IfSome found (λ certificate. Certifies events.now kind certificate)) }
+{
+    let ends = ends_of(alloc, events)?;
+    let operations = operations_of(alloc, events, ends.as_slice())?;
+    let found = certificate_at(
+        alloc,
+        events,
+        ends.as_slice(),
+        kind,
+        operations.as_slice(),
+        failing,
+    )?;
+    if found.is_some() {
+        return Ok(found);
+    }
+    certificate_of_last(alloc, events, ends.as_slice(), kind, operations.as_slice())
+}

@@ -1,0 +1,95 @@
+//! Which operations a history has: those that count, that are ok, and that are open.
+ghost use Rattle.std.specs.Prelude.{◌↔◌, ◌<◌, IsTrue, length};
+ghost use Rattle.lin_events.specs.Operations.{IsFailed};
+ghost use Rattle.lin_orders.specs.Orders.{IsBefore};
+ghost use Rattle.lin_orders.specs.Tables.{IsNextTable};
+ghost use Rattle.lin_certificates.specs.Words.{Counts, IsOfAnswers, IsOfCalls, IsOfWhich, Returned, StaysOpen};
+
+use crate::words::{Answers, Calls, Which, is_of_answers, is_of_calls};
+use lin_events::Event;
+use lin_orders::{call_at, is_failed, ok_end};
+
+/// Whether the operation at the place counts, and its call is of the sort.
+fn counts(events: &[Event], ends: &[Option<usize>], at: usize, calls: &Calls) -> bool
+    requires table { IsNextTable events.now ends.now }
+    requires within { at < length events.now }
+    ensures { IsTrue result ↔ Counts events.now (IsOfCalls calls.now) at }
+{
+    let Some(call) = call_at(events, at) else {
+        return false;
+    };
+    is_of_calls(call, calls) && !is_failed(events, ends, at)
+}
+
+/// Whether the operation at the place is ok, and its call with its reply is of the sort.
+fn returned(events: &[Event], ends: &[Option<usize>], at: usize, answers: &Answers) -> bool
+    requires table { IsNextTable events.now ends.now }
+    requires within { at < length events.now }
+    ensures { IsTrue result ↔ Returned events.now (IsOfAnswers answers.now) at }
+{
+    let Some(call) = call_at(events, at) else {
+        return false;
+    };
+    match ok_end(events, ends, at) {
+        Some((_, reply)) => is_of_answers(call, reply, answers),
+        None => false,
+    }
+}
+
+/// Whether the operation at the place is neither ok nor failed, and its call is of the sort.
+fn is_open(events: &[Event], ends: &[Option<usize>], at: usize, calls: &Calls) -> bool
+    requires table { IsNextTable events.now ends.now }
+    requires within { at < length events.now }
+    ensures { IsTrue result ↔ StaysOpen events.now (IsOfCalls calls.now) at }
+{
+    match ok_end(events, ends, at) {
+        Some(_) => false,
+        None => counts(events, ends, at, calls),
+    }
+}
+
+/// Whether the one operation, which stands in the history, is before the other in real time.
+fn is_before(events: &[Event], ends: &[Option<usize>], earlier: usize, later: usize) -> bool
+    requires table { IsNextTable events.now ends.now }
+    requires within { earlier < length events.now }
+    ensures { IsTrue result ↔ IsBefore events.now earlier later }
+{
+    match ok_end(events, ends, earlier) {
+        Some((end, _)) => end < later,
+        None => false,
+    }
+}
+
+/// Whether the one operation is before the other in real time.
+pub fn comes_before(events: &[Event], ends: &[Option<usize>], earlier: usize, later: usize) -> bool
+    requires { IsNextTable events.now ends.now }
+    ensures { IsTrue result ↔ IsBefore events.now earlier later }
+{
+    earlier < events.len() && is_before(events, ends, earlier, later)
+}
+
+/// Whether the operation at the place, which stands in the history, is one of these.
+pub fn is_of_which(events: &[Event], ends: &[Option<usize>], at: usize, which: &Which) -> bool
+    requires table { IsNextTable events.now ends.now }
+    requires within { at < length events.now }
+    ensures { IsTrue result ↔ IsOfWhich events.now which.now at }
+{
+    match which {
+        Which::Counts(calls) => counts(events, ends, at, calls),
+        Which::CountsBut(calls, but) => at != *but && counts(events, ends, at, calls),
+        Which::Returned(answers) => returned(events, ends, at, answers),
+        Which::ReturnedBut(answers, but) => at != *but && returned(events, ends, at, answers),
+        Which::ReturnedBefore(answers, place) => {
+            returned(events, ends, at, answers) && is_before(events, ends, at, *place)
+        }
+        Which::OpenBut(calls, but) => at != *but && is_open(events, ends, at, calls),
+    }
+}
+
+/// Whether one of these operations is at the place.
+pub fn is_among(events: &[Event], ends: &[Option<usize>], at: usize, which: &Which) -> bool
+    requires { IsNextTable events.now ends.now }
+    ensures { IsTrue result ↔ IsOfWhich events.now which.now at }
+{
+    at < events.len() && is_of_which(events, ends, at, which)
+}

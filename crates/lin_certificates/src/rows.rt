@@ -1,0 +1,343 @@
+//! Histories of one object, and the certificates that are found of them.
+use crate::{Certificate, certifies, find_certificate};
+use lin_events::{Body, Call, Event, IntSet, Name, Reply, Val};
+use lin_objects::Kind;
+use std::process::Abort;
+
+/// What a process does next.
+#[derive(Clone, Copy)]
+enum Step {
+    Calls(Call),
+    IsDone,
+    Gets(Val),
+    Reads(&'static [i64]),
+    Fails,
+    Crashes,
+}
+
+/// What an event says. The function that a completion names is of no matter here.
+fn body(rt: &(impl Abort + AllocGlobal), step: Step) -> Body {
+    match step {
+        Step::Calls(call) => Body::Invoke(call),
+        Step::IsDone => Body::Ok(Name::Read, Reply::Done),
+        Step::Gets(value) => Body::Ok(Name::Read, Reply::Value(value)),
+        Step::Reads(members) => {
+            let mut items = Vec::new(rt.alloc());
+            for member in members {
+                items.push(*member).expect(rt, "memory");
+            }
+            let set = IntSet::from_members(rt.alloc(), items).expect(rt, "memory");
+            Body::Ok(Name::Read, Reply::Members(set))
+        }
+        Step::Fails => Body::Fail(Name::Read),
+        Step::Crashes => Body::Info(Name::Read),
+    }
+}
+
+/// The events of an object.
+fn events(rt: &(impl Abort + AllocGlobal), steps: &[(u64, Step)]) -> Vec<Event> {
+    let mut events = Vec::new(rt.alloc());
+    for (process, step) in steps {
+        let event = Event {
+            process: *process,
+            key: 0,
+            body: body(rt, *step),
+        };
+        events.push(event).expect(rt, "memory");
+    }
+    events
+}
+
+/// The certificate that is found is the wanted one, and holds.
+fn finds(
+    rt: &(impl Abort + AllocGlobal),
+    kind: Kind,
+    steps: &[(u64, Step)],
+    failing: usize,
+    wanted: Option<Certificate>,
+) {
+    let events = events(rt, steps);
+    let found = find_certificate(rt.alloc(), &events, kind, failing).expect(rt, "memory");
+    assert_eq!(rt; found, wanted);
+    if let Some(certificate) = found {
+        let holds = certifies(rt.alloc(), &events, kind, &certificate).expect(rt, "memory");
+        assert!(rt; holds);
+    }
+}
+
+const READ: Step = Step::Calls(Call::Read);
+
+const DEQUEUE: Step = Step::Calls(Call::Dequeue);
+
+const NIL: Step = Step::Gets(Val::Nil);
+
+fn write(number: i64) -> Step {
+    Step::Calls(Call::Write(Val::Int(number)))
+}
+
+fn enqueue(number: i64) -> Step {
+    Step::Calls(Call::Enqueue(number))
+}
+
+fn add(number: i64) -> Step {
+    Step::Calls(Call::Add(number))
+}
+
+fn gets(number: i64) -> Step {
+    Step::Gets(Val::Int(number))
+}
+
+#[test]
+fn registers(rt: HostRuntime) {
+    let stale = [(0, write(1)), (0, Step::IsDone), (1, READ), (1, NIL)];
+    let overwritten = Certificate::Overwritten {
+        operation: 2,
+        value: Val::Nil,
+    };
+    finds(&rt, Kind::Register, &stale, 2, Some(overwritten));
+    let failed = [(0, write(2)), (1, READ), (1, gets(2)), (0, Step::Fails)];
+    let unwritten = Certificate::Unwritten {
+        operation: 1,
+        number: 2,
+    };
+    finds(&rt, Kind::Register, &failed, 0, Some(unwritten));
+}
+
+#[test]
+fn nil_that_comes_back(rt: HostRuntime) {
+    let seen = [
+        (0, write(5)),
+        (0, Step::Crashes),
+        (1, READ),
+        (1, NIL),
+        (1, READ),
+        (1, gets(5)),
+        (1, READ),
+        (1, NIL),
+    ];
+    let crossed = Certificate::Crossed {
+        value: Val::Nil,
+        number: 5,
+        early: 4,
+        late: 6,
+        back: None,
+    };
+    finds(&rt, Kind::Register, &seen, 6, Some(crossed));
+}
+
+#[test]
+fn reads_and_swaps(rt: HostRuntime) {
+    let members = [(0, READ), (0, Step::Reads(&[1]))];
+    finds(
+        &rt,
+        Kind::Register,
+        &members,
+        0,
+        Some(Certificate::Shape { read: 0 }),
+    );
+    let swapped = [
+        (0, write(3)),
+        (0, Step::IsDone),
+        (1, Step::Calls(Call::Cas(Val::Int(1), Val::Int(2)))),
+        (1, Step::IsDone),
+    ];
+    let unwritten = Certificate::Unwritten {
+        operation: 2,
+        number: 1,
+    };
+    finds(&rt, Kind::CasRegister, &swapped, 2, Some(unwritten));
+}
+
+#[test]
+fn values_in_turn(rt: HostRuntime) {
+    let turned = [
+        (0, write(1)),
+        (1, write(2)),
+        (1, Step::IsDone),
+        (0, Step::IsDone),
+        (2, READ),
+        (2, gets(1)),
+        (3, READ),
+        (3, gets(2)),
+    ];
+    let crossed = Certificate::Crossed {
+        value: Val::Int(2),
+        number: 1,
+        early: 4,
+        late: 6,
+        back: Some((1, 4)),
+    };
+    finds(&rt, Kind::Register, &turned, 6, Some(crossed));
+    // 1 is left by two operations, and nothing followed the second.
+    let again = [
+        (0, write(1)),
+        (0, Step::IsDone),
+        (0, write(2)),
+        (1, write(1)),
+        (0, Step::IsDone),
+        (1, Step::IsDone),
+        (2, READ),
+        (2, gets(2)),
+        (2, READ),
+        (2, gets(1)),
+    ];
+    finds(&rt, Kind::Register, &again, 8, None);
+}
+
+#[test]
+fn queues(rt: HostRuntime) {
+    let passed = [
+        (0, enqueue(1)),
+        (0, Step::IsDone),
+        (0, enqueue(2)),
+        (0, Step::IsDone),
+        (0, DEQUEUE),
+        (0, gets(2)),
+    ];
+    let certificate = Certificate::Passed {
+        enqueue: 0,
+        later: 2,
+        dequeue: 4,
+        number: 1,
+        other: 2,
+    };
+    finds(&rt, Kind::Fifo, &passed, 4, Some(certificate));
+    finds(&rt, Kind::Bag, &passed, 4, None);
+}
+
+#[test]
+fn open_dequeue_that_may_have_taken_it(rt: HostRuntime) {
+    let open = [
+        (0, enqueue(1)),
+        (0, Step::IsDone),
+        (0, enqueue(2)),
+        (0, Step::IsDone),
+        (1, DEQUEUE),
+        (0, DEQUEUE),
+        (0, gets(2)),
+    ];
+    finds(&rt, Kind::Fifo, &open, 5, None);
+}
+
+#[test]
+fn taken_too_often(rt: HostRuntime) {
+    let taken = [
+        (0, enqueue(1)),
+        (0, Step::IsDone),
+        (1, DEQUEUE),
+        (1, gets(1)),
+        (2, DEQUEUE),
+        (2, gets(1)),
+    ];
+    finds(
+        &rt,
+        Kind::Fifo,
+        &taken,
+        4,
+        Some(Certificate::Taken { number: 1 }),
+    );
+    finds(
+        &rt,
+        Kind::Bag,
+        &taken,
+        4,
+        Some(Certificate::Taken { number: 1 }),
+    );
+}
+
+#[test]
+fn found_nothing(rt: HostRuntime) {
+    let inside = [(0, enqueue(4)), (0, Step::IsDone), (1, DEQUEUE), (1, NIL)];
+    let certificate = Certificate::Inside {
+        enqueue: 0,
+        dequeue: 2,
+        number: 4,
+    };
+    finds(&rt, Kind::Fifo, &inside, 2, Some(certificate));
+    finds(&rt, Kind::Bag, &inside, 2, Some(certificate));
+}
+
+#[test]
+fn sets(rt: HostRuntime) {
+    let lost = [
+        (0, add(1)),
+        (0, Step::IsDone),
+        (0, add(2)),
+        (0, Step::IsDone),
+        (1, READ),
+        (1, Step::Reads(&[2])),
+    ];
+    let certificate = Certificate::Lost {
+        earlier: 0,
+        read: 4,
+        number: 1,
+    };
+    finds(&rt, Kind::Set, &lost, 4, Some(certificate));
+    let split = [
+        (0, add(1)),
+        (1, add(2)),
+        (2, READ),
+        (3, READ),
+        (2, Step::Reads(&[1])),
+        (3, Step::Reads(&[2])),
+    ];
+    let certificate = Certificate::Split {
+        first: 3,
+        second: 2,
+        number: 2,
+        other: 1,
+    };
+    finds(&rt, Kind::Set, &split, 3, Some(certificate));
+    let late = [
+        (2, READ),
+        (0, add(1)),
+        (0, Step::IsDone),
+        (1, add(2)),
+        (2, Step::Reads(&[2])),
+    ];
+    let certificate = Certificate::Late {
+        earlier: 1,
+        add: 3,
+        read: 0,
+        number: 1,
+        other: 2,
+    };
+    finds(&rt, Kind::Set, &late, 0, Some(certificate));
+    let unadded = [(0, READ), (0, Step::Reads(&[7]))];
+    let certificate = Certificate::Unadded { read: 0, number: 7 };
+    finds(&rt, Kind::Set, &unadded, 0, Some(certificate));
+    finds(
+        &rt,
+        Kind::Set,
+        &[(0, READ), (0, NIL)],
+        0,
+        Some(Certificate::Shape { read: 0 }),
+    );
+}
+
+#[test]
+fn locks(rt: HostRuntime) {
+    let acquire = Step::Calls(Call::Acquire);
+    let release = Step::Calls(Call::Release);
+    let twice = [
+        (0, acquire),
+        (0, Step::IsDone),
+        (1, acquire),
+        (1, Step::IsDone),
+    ];
+    let certificate = Certificate::Twice {
+        first: 0,
+        second: 2,
+    };
+    finds(&rt, Kind::Mutex, &twice, 2, Some(certificate));
+    let counted = [(0, release), (0, Step::IsDone)];
+    finds(&rt, Kind::Mutex, &counted, 0, Some(Certificate::Counted));
+    let turns = [
+        (0, acquire),
+        (0, Step::IsDone),
+        (0, release),
+        (1, acquire),
+        (1, Step::IsDone),
+    ];
+    finds(&rt, Kind::Mutex, &turns, 3, None);
+}

@@ -1,0 +1,239 @@
+//! What operations do, in the words of which certificates are made.
+ghost use Rattle.std.specs.Prelude.{◌↔◌, ◌⊎◌, ◌≡◌, Contains, IsTrue, false};
+ghost use Rattle.lin_failures.specs.Adding.{Adds};
+ghost use Rattle.lin_failures.specs.Conflicts.{Leaves};
+ghost use Rattle.lin_failures.specs.QueueConflicts.{Takes};
+ghost use Rattle.lin_failures.specs.SetConflicts.{Has, Lacks};
+ghost use Rattle.lin_certificates.specs.Words.{Gives, IsOfAnswers, IsOfCalls, Needs, Updates};
+
+use lin_events::{Call, Reply, Val};
+
+/// A sort of calls.
+#[derive(Clone, Copy, Debug, PartialEq, Eq)]
+pub enum Calls {
+    /// It leaves the value in a register.
+    Leaves(Val),
+    /// It leaves some value in a register.
+    Updates,
+    /// It adds the number to a set, or puts it into a queue.
+    Adds(i64),
+    Dequeues,
+    Acquires,
+    Releases,
+}
+
+/// What a read gave.
+#[derive(Clone, Copy, Debug, PartialEq, Eq)]
+pub enum Sort {
+    Value,
+    Members,
+}
+
+/// A sort of calls with their replies.
+#[derive(Clone, Copy, Debug, PartialEq, Eq)]
+pub enum Answers {
+    /// The call is of the sort.
+    Called(Calls),
+    /// A register had to hold the value.
+    Needs(Val),
+    /// A register had to hold the value, or holds it behind the call.
+    Touches(Val),
+    /// It took the number out of a queue.
+    Takes(i64),
+    /// It found a queue empty.
+    FindsNothing,
+    /// A set has the number behind it.
+    Has(i64),
+    /// It found a set without the number.
+    Lacks(i64),
+    /// It found a set with the first number and without the second.
+    Tells(i64, i64),
+    /// It read something of the sort.
+    Gives(Sort),
+}
+
+/// Which operations. Those are named that stand apart.
+#[derive(Clone, Copy, Debug, PartialEq, Eq)]
+pub enum Which {
+    /// Those that aren't failed.
+    Counts(Calls),
+    /// Those that aren't failed, but for this one.
+    CountsBut(Calls, usize),
+    /// Those that are ok.
+    Returned(Answers),
+    /// Those that are ok, but for this one.
+    ReturnedBut(Answers, usize),
+    /// Those that were known to be ok before this place.
+    ReturnedBefore(Answers, usize),
+    /// Those that are neither ok nor failed, but for this one.
+    OpenBut(Calls, usize),
+}
+
+/// Whether the register has to hold the value for the call to get this reply.
+fn needs(call: &Call, reply: &Reply, value: Val) -> bool
+    ensures { IsTrue result ↔ Needs call.now reply.now value }
+{
+    match call {
+        Call::Read => match reply {
+            Reply::Value(found) => *found == value,
+            _ => false,
+        },
+        Call::Cas(from, _) => *from == value,
+        _ => false,
+    }
+}
+
+/// Whether the call leaves the value in the register.
+fn leaves(call: &Call, value: Val) -> bool
+    ensures { IsTrue result ↔ Leaves call.now value }
+{
+    match call {
+        Call::Write(left) => *left == value,
+        Call::Cas(_, left) => *left == value,
+        _ => false,
+    }
+}
+
+/// Whether the call leaves some value in the register.
+fn updates(call: &Call) -> bool
+    ensures { IsTrue result ↔ Updates call.now }
+{
+    match call {
+        Call::Write(_) => true,
+        Call::Cas(_, _) => true,
+        _ => false,
+    }
+}
+
+/// Whether the call adds the number to a set, or puts it into a queue.
+fn adds(call: &Call, number: i64) -> bool
+    ensures { IsTrue result ↔ Adds call.now number }
+{
+    match call {
+        Call::Add(added) => *added == number,
+        Call::Enqueue(added) => *added == number,
+        _ => false,
+    }
+}
+
+/// Whether the call with this reply takes the number out.
+fn takes(call: &Call, reply: &Reply, number: i64) -> bool
+    ensures { IsTrue result ↔ Takes call.now reply.now number }
+{
+    match call {
+        Call::Dequeue => match reply {
+            Reply::Value(Val::Int(found)) => *found == number,
+            _ => false,
+        },
+        _ => false,
+    }
+}
+
+/// Whether the number is one of these.
+fn is_member(members: &[i64], number: i64) -> bool
+    ensures found { IsTrue result → Contains members.now number }
+    ensures none { result ≡ false → Contains members.now number → ⊥ }
+{
+    for at in 0..members.len() {
+        if members[at] == number {
+            return true;
+        }
+    }
+    false
+}
+
+/// Whether the set has the number behind the call with this reply.
+fn has(call: &Call, reply: &Reply, number: i64) -> bool
+    ensures { IsTrue result ↔ Has call.now reply.now number }
+{
+    match call {
+        Call::Add(added) => *added == number,
+        Call::Read => match reply {
+            Reply::Members(members) => is_member(members.as_slice(), number),
+            _ => false,
+        },
+        _ => false,
+    }
+}
+
+/// Whether the call with this reply found the set without the number.
+fn lacks(call: &Call, reply: &Reply, number: i64) -> bool
+    ensures { IsTrue result ↔ Lacks call.now reply.now number }
+{
+    match call {
+        Call::Read => match reply {
+            Reply::Members(members) => !is_member(members.as_slice(), number),
+            _ => false,
+        },
+        _ => false,
+    }
+}
+
+/// Whether the call is of the sort.
+pub fn is_of_calls(call: &Call, calls: &Calls) -> bool
+    ensures { IsTrue result ↔ IsOfCalls calls.now call.now }
+{
+    match calls {
+        Calls::Leaves(value) => leaves(call, *value),
+        Calls::Updates => updates(call),
+        Calls::Adds(number) => adds(call, *number),
+        Calls::Dequeues => matches!(call, Call::Dequeue),
+        Calls::Acquires => matches!(call, Call::Acquire),
+        Calls::Releases => matches!(call, Call::Release),
+    }
+}
+
+/// Whether the call with this reply is a dequeue that found nothing.
+fn finds_nothing(call: &Call, reply: &Reply) -> bool
+    ensures { IsTrue result ↔ ((call.now ≡ Call.Dequeue) × (reply.now ≡ Reply.Value Val.Nil)) }
+{
+    match call {
+        Call::Dequeue => match reply {
+            Reply::Value(Val::Nil) => true,
+            _ => false,
+        },
+        _ => false,
+    }
+}
+
+/// Whether the call reads, and the reply is of the sort.
+fn gives(call: &Call, reply: &Reply, sort: Sort) -> bool
+    ensures { IsTrue result ↔ Gives sort call.now reply.now }
+{
+    match (call, sort, reply) {
+        (Call::Read, Sort::Value, Reply::Value(_)) => true,
+        (Call::Read, Sort::Members, Reply::Members(_)) => true,
+        _ => false,
+    }
+}
+
+/// Whether the register has to hold the value for the call to get this reply, or holds it behind that.
+fn touches(call: &Call, reply: &Reply, value: Val) -> bool
+    ensures { IsTrue result ↔ (Needs call.now reply.now value ⊎ Leaves call.now value) }
+{
+    needs(call, reply, value) || leaves(call, value)
+}
+
+/// Whether the call with this reply found the set with the one number and without the other.
+fn tells(call: &Call, reply: &Reply, number: i64, other: i64) -> bool
+    ensures { IsTrue result ↔ (Has call.now reply.now number × Lacks call.now reply.now other) }
+{
+    has(call, reply, number) && lacks(call, reply, other)
+}
+
+/// Whether the call with this reply is of the sort.
+pub fn is_of_answers(call: &Call, reply: &Reply, answers: &Answers) -> bool
+    ensures { IsTrue result ↔ IsOfAnswers answers.now call.now reply.now }
+{
+    match answers {
+        Answers::Called(calls) => is_of_calls(call, calls),
+        Answers::Needs(value) => needs(call, reply, *value),
+        Answers::Touches(value) => touches(call, reply, *value),
+        Answers::Takes(number) => takes(call, reply, *number),
+        Answers::FindsNothing => finds_nothing(call, reply),
+        Answers::Has(number) => has(call, reply, *number),
+        Answers::Lacks(number) => lacks(call, reply, *number),
+        Answers::Tells(number, other) => tells(call, reply, *number, *other),
+        Answers::Gives(sort) => gives(call, reply, *sort),
+    }
+}

@@ -1,0 +1,5 @@
+pub mod Conflicting
+pub mod QueueConflicting
+pub mod SetConflicting
+pub mod Counting
+pub mod BagConflicting
