@@ -5,11 +5,11 @@ ghost use Rattle.lin_report.specs.Runs.{IsCommandReply, IsEditReply, order_answe
 ghost use Rattle.lin_report.specs.Runs as said;
 ghost use Rattle.lin_report.specs.Refusals.{edit_fault_text, fault_text};
 
+use crate::answers::{status_of, verdict_of, verdict_words, write_answer};
 use crate::commands::{Command, CommandFault};
 use crate::refused::{put_edit_fault, put_fault};
 use crate::refuting::refute;
 use crate::reports::write_report;
-use crate::answers::{status_of, verdict_of, verdict_words, write_answer};
 use lin_events::OutOfMemory;
 use lin_formats::{Status, put_number, write_order};
 use lin_session::{Answer, Edit, EditFault, Scope, Session, Verdict};
