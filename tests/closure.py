@@ -194,7 +194,13 @@ def closure(starts):
                     due.append((owner, said) if "." in owner else (owner + ".declared", said))
             continue
         file = specs().get(module)
+        if not file and module.rpartition(".")[0] in specs():
+            # the constructors of a type
+            module, _, name = module.rpartition(".")
+            file = specs()[module]
         if not file:
+            if os.path.isdir(f"{HERE}/crates/{crate}"):
+                raise SystemExit(f"closure.py: there is no {module}")
             continue
         name = name if name in file.definitions else file.owners.get(name, name)
         if (module, name) in found:
