@@ -1,9 +1,9 @@
 #!/usr/bin/env python3
 """Holds each crate to what it may cite of the others: their specs/ and, in .rt files, the public items of those that crates.txt lists for it.
 
-An offence is an import of another crate's proofs, but for those of ROOMS, whose plain lemmas are for all above; an import from a crate that does not
-stand below by crates.txt; and a path of Rust into one that crates.txt does not list for the crate itself. Each is printed, and last a count of the
-crates without and with offences.
+An offence is an import of another crate's proofs, but for those of ROOMS, whose plain lemmas are for all above, or of its specs/inner/; an import
+from a crate that does not stand below by crates.txt; and a path of Rust into one that crates.txt does not list for the crate itself. Each is
+printed, and last a count of the crates without and with offences.
 usage: tests/imports.py
 """
 import os
@@ -49,6 +49,8 @@ def offences(libraries, name, line, is_rust):
                 yield f"imports from {library}, which does not stand below {name}"
             elif library in libraries and part == "proofs" and library not in ROOMS:
                 yield f"imports proofs of {library}"
+            elif library in libraries and f"Rattle.{library}.specs.inner." in code:
+                yield f"imports inner specs of {library}"
     for library in re.findall(r"(?<![\w:])(\w+)::", code) if is_rust else []:
         if library != name and library in libraries and library not in libraries[name]:
             yield f"uses {library}, which crates.txt does not list for {name}"

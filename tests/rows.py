@@ -16,6 +16,7 @@ A file of tests/rows/ is a topic. Its lines:
       <parts TEXT COUNT ..       a line of standard input, each text so many times
       + EVENT; EVENT             `append MAP` on standard input for each event, and `ok LEN` wanted, one more than the last such LEN
       ~ BYTES                    the file grows by these bytes once all lines wanted so far are there
+      !                          standard input fails once all lines wanted so far are there
 
 Words are divided and quoted as in a shell, those of `parts` too. Bytes, commands and words know the escapes of Python. `FILE` is a file
 with the history, the only one of the folder. A row stands for several where it has the word `EACH` (each kind of object), `FILE:A..B`
@@ -36,6 +37,7 @@ import itertools
 import os
 import re
 import shlex
+import socket
 import subprocess
 import sys
 import tempfile
@@ -87,7 +89,7 @@ class Row:
     words: list
     status: int
     history: tuple  # how it is said, and the text that says it
-    steps: list = dataclasses.field(default_factory=list)  # bytes `told`, `wanted` or `grown`
+    steps: list = dataclasses.field(default_factory=list)  # bytes `told`, `wanted` or `grown`, or what has `failed`
     kept: int = None  # how many bytes of the history there are, and how many standard output takes: all if None
     taken: int = None
     output: str = None
@@ -105,6 +107,8 @@ class Row:
                 self.steps += [('told', b'append %s\n' % event), ('wanted', b'ok %d\n' % (counts[-1] + 1 if counts else 1))]
         elif mark == '~':
             self.steps.append(('grown', unescaped(rest)))
+        elif mark == '!':
+            self.steps.append(('failed', b''))
         else:
             self.steps.append(('wanted', line.encode() + b'\n'))
 
@@ -150,14 +154,19 @@ class Row:
         """What the program prints on both outputs, and its status."""
         if self.taken is not None:
             words = [sys.executable, '-S', '-c', CRAMPED, str(self.taken)] + words
+        here, there = socket.socketpair() if ('failed', b'') in self.steps else (None, None)
         with tempfile.TemporaryFile() as cramped, open(self.output or os.devnull, 'wb') as elsewhere:
             out = cramped if self.taken is not None else elsewhere if self.output else subprocess.PIPE
-            with subprocess.Popen(words, cwd=folder, bufsize=0, stdin=subprocess.PIPE, stdout=out, stderr=subprocess.PIPE) as program:
+            with subprocess.Popen(words, cwd=folder, bufsize=0, stdin=there or subprocess.PIPE, stdout=out, stderr=subprocess.PIPE) as program:
                 timer = threading.Timer(SECONDS, program.kill)
                 timer.start()
                 try:
-                    before, told = self.follow(program, os.path.join(folder, 'FILE'))
-                    printed, failed = program.communicate(told)
+                    if there:
+                        # A socket that is closed before it has read what came resets its peer, whose next read fails.
+                        there.send(b'unread')
+                        there.close()
+                    before, told = self.follow(program, here, os.path.join(folder, 'FILE'))
+                    printed, failed = program.communicate(told or None)
                 finally:
                     timer.cancel()
             if self.taken is not None:
@@ -165,8 +174,8 @@ class Row:
                 printed = cramped.read()
         return before + (printed or b''), failed, program.returncode
 
-    def follow(self, program, path):
-        """Goes on to the last growth of the file. Gives what was read, and what is to be told from there on."""
+    def follow(self, program, peer, path):
+        """Goes on to the last growth of the file, or until standard input fails. Gives what was read, and what is to be told from there on."""
         read, told, due = b'', b'', 0
         for what, text in self.steps:
             if what == 'told':
@@ -174,12 +183,18 @@ class Row:
             elif what == 'wanted':
                 due += 1
             else:
-                program.stdin.write(told)
+                if peer:
+                    peer.sendall(told)
+                else:
+                    program.stdin.write(told)
                 told = b''
                 while read.count(b'\n') < due and (line := program.stdout.readline()):
                     read += line
-                with open(path, 'ab') as file:
-                    file.write(text)
+                if what == 'failed':
+                    peer.close()
+                else:
+                    with open(path, 'ab') as file:
+                        file.write(text)
         return read, told
 
 

@@ -1,7 +1,5 @@
 -- One verdict is right.
-use Rattle.std.proofs.Common.{◌≡◌, ◌<◌, ◌≤◌, ◌-◌, ℕ, Bool, List, length, take, Result, Ok, Err, inl, inr, refl, sym, ap, subst, ◌∙◌, arith}
-use Rattle.std.proofs.lemmas.Bool.{cases_order}
-use Rattle.std.proofs.lemmas.List.{take-take}
+use Rattle.std.proofs.Common.{◌≡◌, ◌<◌, ◌≤◌, ℕ, Bool, List, length, Result, Ok, Err, inl, inr, refl, sym, ap, subst, ◌∙◌, arith}
 use Rattle.lin_events.specs.declared.events.Event.{Event}
 use Rattle.lin_history.specs.declared.follow.FollowFault.{FollowFault}
 use Rattle.lin_history.specs.declared.follow.FollowFault.TheVariants as fault
@@ -9,17 +7,17 @@ use Rattle.lin_events.specs.declared.shapes.Shape.TheVariants.{Good, Bad}
 use Rattle.lin_history.specs.Stream.{StreamsAreUnique}
 use Rattle.lin_events.specs.WellFormedLaws.{ShapesAreUnique}
 use Rattle.lin_objects.specs.declared.kinds.Kind.{Kind}
-use Rattle.lin_objects.specs.Kinds.{functions_of, kind_of}
+use Rattle.lin_objects.specs.Kinds.{functions_of}
 use Rattle.lin_orders.specs.declared.placed.Placed.{Placed}
-use Rattle.lin_orders.specs.Linearizable.{IsLegalOrder, IsLinearizable, IsLinearizableFor}
-use Rattle.lin_formats.specs.Inputs.{limit, IsFaulty, IsRefused, IsTooMany, IsWhole}
+use Rattle.lin_orders.specs.Linearizable.{IsLegalOrder}
+use Rattle.lin_formats.specs.Inputs.{limit, IsFaulty, AreRefused, IsTooMany, IsWhole}
 use Rattle.lin_formats.specs.Orders.{order_of}
 use Rattle.lin_formats.specs.Verdicts.{all_of, IsJudged, IsRightFor}
-use Rattle.lin_formats.specs.declared.answers.Refusal.{Refusal}
-use Rattle.lin_formats.specs.declared.answers.Refusal.TheVariants.{Edn, Event as OfEvent, Truncated, Full, BadPair}
-use Rattle.lin_formats.specs.declared.answers.Verdict.{Verdict}
-use Rattle.lin_formats.specs.declared.answers.Verdict.TheVariants.{Yes, No, IllFormed, Refused}
-use Rattle.lin_formats.specs.declared.runs.Settings.{Settings}
+use Rattle.lin_formats.specs.declared.verdicts.Refusal.{Refusal}
+use Rattle.lin_formats.specs.declared.verdicts.Refusal.TheVariants.{Edn, Event as OfEvent, Truncated, Full, BadPair}
+use Rattle.lin_formats.specs.declared.verdicts.OrderVerdict.{OrderVerdict}
+use Rattle.lin_formats.specs.declared.verdicts.OrderVerdict.TheVariants.{Yes, No, IllFormed, Refused}
+use Rattle.lin_formats.specs.declared.settings.Settings.{Settings}
 
 -- an `Ok` is no `Err`
 ok_no_err : {A B : Type 0} (a : A) (b : B) → Ok a ≡ Err b → ⊥
@@ -50,7 +48,7 @@ module _ (streams : StreamsAreUnique) (keyed : Bool) (text : List ℕ) where
       let many : limit < length y.0 = y.3 in
       omega arith
 
-  one_refusal : (r s : Refusal) → IsRefused keyed text r → IsRefused keyed text s → r ≡ s
+  one_refusal : (r s : Refusal) → AreRefused keyed text r → AreRefused keyed text s → r ≡ s
   one_refusal (Edn at cause) (Edn place other) x y = let e = one_fault (fault.Edn at cause) (fault.Edn place other) x y in cc
   one_refusal (Edn at cause) (OfEvent place other) x y = let e = one_fault (fault.Edn at cause) (fault.Event place other) x y in cc
   one_refusal (Edn at cause) (Truncated place) x y = let e = one_fault (fault.Edn at cause) (fault.Truncated place) x y in cc
@@ -74,7 +72,7 @@ module _ (streams : StreamsAreUnique) (keyed : Bool) (text : List ℕ) where
   one_refusal (BadPair _) s x y = elim x [ ]
 
   -- a whole history is not refused
-  never_both : (events : List Event) (r : Refusal) → IsWhole keyed text events → IsRefused keyed text r → ⊥
+  never_both : (events : List Event) (r : Refusal) → IsWhole keyed text events → AreRefused keyed text r → ⊥
   never_both events (Edn at cause) x y = ok_no_err tt (fault.Edn at cause) (streams keyed text events y.0 (Ok tt) (Err (fault.Edn at cause)) x.0 y.1).1
   never_both events (OfEvent at cause) x y = ok_no_err tt (fault.Event at cause) (streams keyed text events y.0 (Ok tt) (Err (fault.Event at cause)) x.0 y.1).1
   never_both events (Truncated at) x y = ok_no_err tt (fault.Truncated at) (streams keyed text events y.0 (Ok tt) (Err (fault.Truncated at)) x.0 y.1).1
@@ -90,7 +88,7 @@ module _ (shapes : ShapesAreUnique) (kind : Kind) (events : List Event) (text : 
   one_order a b x y = one_ok (order_of text) a b x y
 
   -- one judgement is right
-  one_judgement : (v w : Verdict) → IsJudged kind events text v → IsJudged kind events text w → v ≡ w
+  one_judgement : (v w : OrderVerdict) → IsJudged kind events text v → IsJudged kind events text w → v ≡ w
   one_judgement Yes Yes x y = refl
   one_judgement Yes No x y = absurd (y.3 (subst (IsLegalOrder (all_of kind) events) (one_order x.0 y.0 x.1 y.1) x.3))
   one_judgement No Yes x y = absurd (x.3 (subst (IsLegalOrder (all_of kind) events) (one_order y.0 x.0 y.1 x.1) y.3))
@@ -129,7 +127,7 @@ module _ (shapes : ShapesAreUnique) (kind : Kind) (events : List Event) (text : 
   one_judgement (Refused (BadPair at)) (Refused Full) x y = elim y [ ]
 
 -- one verdict is right
-pub one_verdict : StreamsAreUnique → ShapesAreUnique → (settings : Settings) (bytes order : List ℕ) (v w : Verdict)
+pub one_verdict : StreamsAreUnique → ShapesAreUnique → (settings : Settings) (bytes order : List ℕ) (v w : OrderVerdict)
     → IsRightFor settings bytes order v → IsRightFor settings bytes order w → v ≡ w
 one_verdict streams shapes settings bytes order v w (inl x) (inl y) =
     x.1 ∙ ap Refused (one_refusal streams settings.keyed bytes x.0 y.0 x.2 y.2) ∙ sym y.1

@@ -11,7 +11,7 @@ use Rattle.lin_orders.specs.declared.placed.Placed.{Placed}
 use Rattle.lin_orders.specs.Linearizable.{IsLegalOrder}
 use Rattle.lin_formats.specs.Orders.{order_of}
 use Rattle.lin_formats.specs.Verdicts.{all_of, IsJudged}
-use Rattle.lin_formats.specs.declared.answers.Verdict.TheVariants.{Yes, No, IllFormed}
+use Rattle.lin_formats.specs.declared.verdicts.OrderVerdict.TheVariants.{Yes, No, IllFormed}
 
 same_kinds : (kind : Kind) (kinds : ℤ → Kind) → ((key : ℤ) → kinds key ≡ kind) → kinds ≡ all_of kind
 same_kinds kind kinds each = λ i key. each key i

@@ -2,7 +2,7 @@
 use Rattle.std.proofs.Common.{◌≡◌, ℕ, suc, ◌+◌, ◌<◌, ◌≤◌, cond, drop-cons, true, false, List, [], ◌∷◌, ◌++◌, Option, Some, None, ℤ, length, drop, option_map, refl, sym, ap, ◌∙◌, append_assoc, append-nil, arith, ne_eqb}
 use Rattle.lin_formats.specs.Integers.{integer_of}
 use Rattle.lin_formats.specs.Parts.{Part, parts_from, parts_behind}
-use Rattle.lin_formats.specs.Orders.{is_rising, only_rising, before_all, integers_of, members_of}
+use Rattle.lin_formats.specs.Orders.{is_rising, only_rising, before_all, integers_of, members_written}
 use Rattle.lin_formats.proofs.Rising.{rising_front}
 
 -- the members before those that are left, where each is a number
@@ -21,7 +21,7 @@ pub record Reads (text : List ℕ) (from : ℕ) (members : List ℤ) : Type 0 wh
   pub rising : is_rising members ≡ true
   pub read : integers_of (parts_from 44 0 text) ≡ after_members members (integers_of (parts_from 44 from (drop from text)))
 
-whole : (text : List ℕ) → 0 < length text → members_of text ≡ only_rising (integers_of (parts_from 44 0 text))
+whole : (text : List ℕ) → 0 < length text → members_written text ≡ only_rising (integers_of (parts_from 44 0 text))
 whole text some =
     ap (λ b. cond b (Some []) (only_rising (integers_of (parts_from 44 0 text))))
     (ne_eqb (length text) 0 (λ (e : length text ≡ 0). absurd (omega arith)))
@@ -29,7 +29,7 @@ whole text some =
 -- a part that writes no number
 pub members_none : (text : List ℕ) (from end : ℕ) (members : List ℤ) (part : Part) → Reads text from members
     → parts_from 44 from (drop from text) ≡ part ∷ parts_behind 44 end (drop end text)
-    → None ≡ integer_of part.text → None ≡ members_of text
+    → None ≡ integer_of part.text → None ≡ members_written text
 members_none text from end members part so_far parts none =
     let rest = integers_of (parts_behind 44 end (drop end text)) in
     sym (whole text so_far.some ∙ ap only_rising (so_far.read ∙ ap (λ ps. after_members members (integers_of ps)) parts
@@ -52,7 +52,7 @@ reads_one text from end members part x so_far parts is =
 -- a number that is not above the ones before it
 pub members_fall : (text : List ℕ) (from end : ℕ) (members : List ℤ) (part : Part) (x : ℤ) → Reads text from members
     → parts_from 44 from (drop from text) ≡ part ∷ parts_behind 44 end (drop end text)
-    → Some x ≡ integer_of part.text → is_rising (members ++ x ∷ []) ≡ false → None ≡ members_of text
+    → Some x ≡ integer_of part.text → is_rising (members ++ x ∷ []) ≡ false → None ≡ members_written text
 members_fall text from end members part x so_far parts is falls =
     sym (whole text so_far.some ∙ ap only_rising (reads_one text from end members part x so_far parts is)
     ∙ not_rising (members ++ x ∷ []) _ falls)
@@ -61,7 +61,7 @@ members_fall text from end members part x so_far parts is falls =
 pub members_end : (text : List ℕ) (from end : ℕ) (members : List ℤ) (part : Part) (x : ℤ) → Reads text from members
     → parts_from 44 from (drop from text) ≡ part ∷ parts_behind 44 end (drop end text)
     → Some x ≡ integer_of part.text → is_rising (members ++ x ∷ []) ≡ true → drop end text ≡ []
-    → Some (members ++ x ∷ []) ≡ members_of text
+    → Some (members ++ x ∷ []) ≡ members_written text
 members_end text from end members part x so_far parts is rises none =
     let new = members ++ x ∷ [] in
     sym (whole text so_far.some ∙ ap only_rising (reads_one text from end members part x so_far parts is)

@@ -2,7 +2,7 @@
 use Rattle.std.proofs.Common.{◌≡◌, ℕ, ◌+◌, List, [], ◌∷◌, ◌++◌, Result, Ok, Err, Some, length, drop, refl, sym, ap, ◌∙◌, append_assoc}
 use Rattle.lin_orders.specs.declared.placed.Placed.{Placed}
 use Rattle.lin_formats.specs.Parts.{Part, words_from, IsFirstWord}
-use Rattle.lin_formats.specs.Orders.{before_pairs, pair_of, pairs_of}
+use Rattle.lin_formats.specs.Orders.{before_pairs, pair_written, pairs_of}
 
 abbrev pub after_pairs : List Placed → Result (List Placed) ℕ → Result (List Placed) ℕ
 after_pairs pairs (Ok more) = Ok (pairs ++ more)
@@ -16,7 +16,7 @@ after_pairs-more pairs at pair (Err place) = refl
 -- one more pair was read
 pub pairs_more : (text : List ℕ) (from : ℕ) (word : Part) (pairs new : List Placed) (pair : Placed)
     → pairs_of (words_from 0 text) ≡ after_pairs pairs (pairs_of (words_from from (drop from text)))
-    → IsFirstWord text from word → Some pair ≡ pair_of word.text → new ≡ pairs ++ pair ∷ []
+    → IsFirstWord text from word → Some pair ≡ pair_written word.text → new ≡ pairs ++ pair ∷ []
     → pairs_of (words_from 0 text)
     ≡ after_pairs new (pairs_of (words_from (word.at + length word.text) (drop (word.at + length word.text) text)))
 pairs_more text from word pairs new pair read first is grown =

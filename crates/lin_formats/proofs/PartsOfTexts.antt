@@ -2,7 +2,7 @@
 use Rattle.std.proofs.Common.{◌≡◌, ◌≢◌, ◌==◌, ℕ, zero, suc, ◌+◌, ◌-◌, ◌<◌, ◌≤◌, true, false, List, [], ◌∷◌, length, get_or, take, drop, refl, sym, ap, ◌∙◌, arith, slice_range, filter, eq-eqb, ne_eqb, lt-ltb, add-zero, cond}
 use Rattle.std.specs.Prelude.{if◌then◌else◌}
 use Rattle.std.proofs.lemmas.List.{get_or-drop, drop-drop, length-take-le, length-drop}
-use Rattle.lin_formats.specs.Parts.{Part, with_first, parts_from, parts_behind, is_word, words_from, IsFirstWord}
+use Rattle.lin_formats.specs.Parts.{Part, with_first, parts_from, parts_behind, is_filled, words_from, IsFirstWord}
 
 pub first_part : (separator at n stop : ℕ) (s : List ℕ) → n ≤ length s → at + n ≡ stop
     → ((k : ℕ) → k < n → get_or s k 0 ≡ separator → ⊥) → (n < length s → get_or s n 0 ≡ separator)
@@ -35,11 +35,11 @@ part_between separator from stop text order within inner stops =
     ∙ ap (λ s. (record { at = from; text = take n (drop from text) }) ∷ parts_behind separator stop s) rest
 
 -- the words from the end of a part on are those of the parts behind it
-pub words_behind : (at : ℕ) (s : List ℕ) → (0 < length s → get_or s 0 0 ≡ 32) → words_from at s ≡ filter is_word (parts_behind 32 at s)
+pub words_behind : (at : ℕ) (s : List ℕ) → (0 < length s → get_or s 0 0 ≡ 32) → words_from at s ≡ filter is_filled (parts_behind 32 at s)
 words_behind at [] stops = refl
 words_behind at (c ∷ s) stops =
     let same : (c == 32) ≡ true = eq-eqb c 32 (stops (omega arith)) in
-    ap (λ b. filter is_word (if b then (record { at = at; text = [] }) ∷ parts_from 32 (suc at) s else with_first at c (parts_from 32 (suc at) s))) same
+    ap (λ b. filter is_filled (if b then (record { at = at; text = [] }) ∷ parts_from 32 (suc at) s else with_first at c (parts_from 32 (suc at) s))) same
 
 -- the first word stands between the place where no space stands and the end of the part that begins there
 pub first_word : (from at end : ℕ) (text : List ℕ) → from ≤ at → at ≤ end → end ≤ length text → at < length text
@@ -55,10 +55,10 @@ first_word from at end text later order within inside before other part stops =
     let size : length (slice_range text at end) ≡ end - at = length-take-le (end - at) (drop at text) (omega arith) in
     let behind = words_behind end (drop end text) (λ some. get_or-drop end text 0 0 ∙ ap (λ k. get_or text k 0) (add-zero end) ∙ stops (omega arith)) in
     let here : Part = record { at = at; text = slice_range text at end } in
-    let some : is_word here ≡ true = lt-ltb 0 (length (slice_range text at end)) (omega arith) in
+    let some : is_filled here ≡ true = lt-ltb 0 (length (slice_range text at end)) (omega arith) in
     let place : end ≡ at + length (slice_range text at end) = omega arith in (
-      before ∙ ap (filter is_word) part
-          ∙ ap (λ b. cond b (here ∷ filter is_word (parts_behind 32 end (drop end text))) (filter is_word (parts_behind 32 end (drop end text)))) some
+      before ∙ ap (filter is_filled) part
+          ∙ ap (λ b. cond b (here ∷ filter is_filled (parts_behind 32 end (drop end text))) (filter is_filled (parts_behind 32 end (drop end text)))) some
           ∙ ap (λ ws. here ∷ ws) (sym behind) ∙ ap (λ k. here ∷ words_from k (drop k text)) place,
       omega arith,
       omega arith,

@@ -18,9 +18,10 @@ use Rattle.lin_events.specs.declared.calls.Reply.{Reply}
 use Rattle.lin_events.specs.declared.calls.Reply.TheVariants.{Done, Value, Members}
 use Rattle.lin_lists.specs.Sets.{IsRising}
 use Rattle.lin_orders.specs.declared.placed.Placed.{Placed}
-use Rattle.lin_formats.specs.Integers.{all_digits, integer_of, is_digit, number_of, value_after}
-use Rattle.lin_formats.specs.Parts.{Part, is_word, parts_from, with_first, words_from}
-use Rattle.lin_formats.specs.Orders.{before_all, before_pairs, integers_of, is_rising, members_of, only_rising, order_of, order_of_words, pair_at, pair_of, pairs_of, placed, reply_of}
+use Rattle.lin_edn.specs.Bytes.{is_digit}
+use Rattle.lin_formats.specs.Integers.{all_digits, integer_of, number_of, value_after}
+use Rattle.lin_formats.specs.Parts.{Part, is_filled, parts_from, with_first, words_from}
+use Rattle.lin_formats.specs.Orders.{before_all, before_pairs, integers_of, is_rising, members_written, only_rising, order_of, order_of_words, pair_at, pair_written, pairs_of, placed, reply_written}
 use Rattle.lin_formats.specs.Texts.{order_text, placed_text, reply_text}
 use Rattle.lin_formats.specs.OrderLaws.{HasBits, IsPairOfCode, IsReplyOfCode}
 
@@ -121,7 +122,7 @@ integers_read at x (y ∷ ys) fits more =
     ap integers_of next.1 ∙ ap (λ r. before_all r (integers_of (parts_from 44 next.0 (join_by signed_decimal (codes ",") (y ∷ ys))))) (integer_read x fits)
     ∙ ap (before_all (Some x)) (integers_read next.0 y ys (All-head HasBits y ys more) (All-tail HasBits y ys more))
 
-members_read : (xs : List ℤ) → All HasBits xs → is_rising xs ≡ true → members_of (join_by signed_decimal (codes ",") xs) ≡ Some xs
+members_read : (xs : List ℤ) → All HasBits xs → is_rising xs ≡ true → members_written (join_by signed_decimal (codes ",") xs) ≡ Some xs
 members_read [] fits rises = refl
 members_read (x ∷ xs) fits rises =
     let text = join_by signed_decimal (codes ",") (x ∷ xs) in
@@ -134,7 +135,7 @@ members_read (x ∷ xs) fits rises =
 
 -- what begins with none of the bytes `d`, `n` and `{` is read as a number
 number_reply : (text : List ℕ) → 0 < length text → avoids 100 text ≡ true → avoids 110 text ≡ true → avoids 123 text ≡ true
-    → reply_of text ≡ option_map (λ i. Value (Int i)) (integer_of text)
+    → reply_written text ≡ option_map (λ i. Value (Int i)) (integer_of text)
 number_reply [] some d n b = absurd (omega arith)
 number_reply (c ∷ cs) some d n b =
     let no_d = avoids_at 100 (c ∷ cs) 0 d some in
@@ -143,15 +144,15 @@ number_reply (c ∷ cs) some d n b =
     rw (no_d, no_n, no_b)
 
 -- what stands between braces
-braced_reply : (inside : List ℕ) → reply_of (codes "{" ++ inside ++ codes "}") ≡ option_map Members (members_of inside)
+braced_reply : (inside : List ℕ) → reply_written (codes "{" ++ inside ++ codes "}") ≡ option_map Members (members_written inside)
 braced_reply inside =
     let text = 123 ∷ (inside ++ 125 ∷ []) in
     let size : length text - 1 ≡ length (123 ∷ inside) = omega (arith, length-append inside (125 ∷ [])) in
     let last : get_or text (length text - 1) 0 ≡ 125 = ap (λ k. get_or text k 0) size ∙ get_or-append_seam (123 ∷ inside) 125 [] 0 in
     let count : (length text - 1) - 1 ≡ length inside = omega (arith, size) in
     let part : slice_range text 1 (length text - 1) ≡ inside = ap (λ k. take k (inside ++ 125 ∷ [])) count ∙ take-append_seam inside (125 ∷ []) in
-    ap (λ b. if b then option_map Members (members_of (slice_range text 1 (length text - 1))) else option_map (λ i. Value (Int i)) (integer_of text)) (eq-eqb (get_or text (length text - 1) 0) 125 last)
-    ∙ ap (λ s. option_map Members (members_of s)) part
+    ap (λ b. if b then option_map Members (members_written (slice_range text 1 (length text - 1))) else option_map (λ i. Value (Int i)) (integer_of text)) (eq-eqb (get_or text (length text - 1) 0) 125 last)
+    ∙ ap (λ s. option_map Members (members_written s)) part
 
 true_of : (b : Bool) → T b → b ≡ true
 true_of true h = refl
@@ -164,7 +165,7 @@ is_rising_of : (xs : List ℤ) → IsRising xs → is_rising xs ≡ true
 is_rising_of [] rises = refl
 is_rising_of (x ∷ xs) rises = ap (λ b. b && is_rising xs) (all_above x xs rises.0) ∙ is_rising_of xs rises.1
 
-reply_read : (r : Reply) → IsReplyOfCode r → reply_of (reply_text r) ≡ Some r
+reply_read : (r : Reply) → IsReplyOfCode r → reply_written (reply_text r) ≡ Some r
 reply_read Done fits = refl
 reply_read (Value Nil) fits = refl
 reply_read (Value (Int i)) fits =
@@ -184,16 +185,16 @@ sign_at a b h =
     (λ inside. ap (λ c. c == 61) (get_or-append_seam a 61 b 0)) in
     ap (λ k. cond (nat_lt k (length text)) (Some k) None) at ∙ ap (λ t. cond t (Some (length a)) None) (lt-ltb (length a) (length text) (omega arith))
 
-pair_read : (pair : Placed) → IsPairOfCode pair → pair_of (placed_text pair) ≡ Some pair
+pair_read : (pair : Placed) → IsPairOfCode pair → pair_written (placed_text pair) ≡ Some pair
 pair_read pair fits =
     let at = decimal pair.at in
     let reply = reply_text pair.reply in
     let text = at ++ 61 ∷ reply in
-    ap pair_of (append_assoc at (codes "=") reply)
+    ap pair_written (append_assoc at (codes "=") reply)
     ∙ ap (pair_at text) (sign_at at reply (avoids_decimal 61 pair.at refl fits.0))
-    ∙ ap (λ s. placed (number_of (2 ^ 64 - 1) s) (reply_of (drop (length at + 1) text))) (take-append_seam at (61 ∷ reply))
-    ∙ ap (λ s. placed (number_of (2 ^ 64 - 1) at) (reply_of s)) (drop-append-add at (61 ∷ reply) 1)
-    ∙ ap (λ n. placed n (reply_of reply)) (number_read (2 ^ 64 - 1) pair.at fits.0 (omega (arith, fits.0)))
+    ∙ ap (λ s. placed (number_of (2 ^ 64 - 1) s) (reply_written (drop (length at + 1) text))) (take-append_seam at (61 ∷ reply))
+    ∙ ap (λ s. placed (number_of (2 ^ 64 - 1) at) (reply_written s)) (drop-append-add at (61 ∷ reply) 1)
+    ∙ ap (λ n. placed n (reply_written reply)) (number_read (2 ^ 64 - 1) pair.at fits.0 (omega (arith, fits.0)))
     ∙ ap (placed (Some pair.at)) (reply_read pair.reply fits.1)
 
 avoids_members : (c : ℕ) (xs : List ℤ) → is_digit c ≡ false → (45 == c) ≡ false → (44 == c) ≡ false → All HasBits xs
@@ -229,20 +230,20 @@ some_pair pair fits =
     let at = decimal_nonempty pair.at fits.0 in
     omega (arith, at, length-append (decimal pair.at ++ codes "=") (reply_text pair.reply), length-append (decimal pair.at) (codes "="))
 
-kept : (at : ℕ) (pair : Placed) (ps : List Part) → IsPairOfCode pair → filter is_word (word_of at pair ∷ ps) ≡ word_of at pair ∷ filter is_word ps
-kept at pair ps fits = ap (λ b. cond b (word_of at pair ∷ filter is_word ps) (filter is_word ps)) (lt-ltb 0 (length (placed_text pair)) (some_pair pair fits))
+kept : (at : ℕ) (pair : Placed) (ps : List Part) → IsPairOfCode pair → filter is_filled (word_of at pair ∷ ps) ≡ word_of at pair ∷ filter is_filled ps
+kept at pair ps fits = ap (λ b. cond b (word_of at pair ∷ filter is_filled ps) (filter is_filled ps)) (lt-ltb 0 (length (placed_text pair)) (some_pair pair fits))
 
 words_read : (at : ℕ) (x : Placed) (xs : List Placed) → IsPairOfCode x → All IsPairOfCode xs
     → (rest : List Part) × (words_from at (join_by placed_text (codes " ") (x ∷ xs)) ≡ word_of at x ∷ rest) × (pairs_of rest ≡ Ok xs)
 words_read at x [] fits more =
-    ([], ap (λ s. filter is_word (parts_from 32 at s)) (append-nil (placed_text x)) ∙ ap (filter is_word) (parts_one 32 at (placed_text x) (avoids_pair x fits)) ∙ kept at x [] fits, refl)
+    ([], ap (λ s. filter is_filled (parts_from 32 at s)) (append-nil (placed_text x)) ∙ ap (filter is_filled) (parts_one 32 at (placed_text x) (avoids_pair x fits)) ∙ kept at x [] fits, refl)
 words_read at x (y ∷ ys) fits more =
     let here = All-head IsPairOfCode y ys more in
     let text = join_by placed_text (codes " ") (y ∷ ys) in
     let next = parts_next 32 at (placed_text x) text (avoids_pair x fits) in
     let others = words_read next.0 y ys here (All-tail IsPairOfCode y ys more) in (
       word_of next.0 y ∷ others.0,
-      ap (filter is_word) next.1 ∙ kept at x (parts_from 32 next.0 text) fits ∙ ap (λ ws. word_of at x ∷ ws) others.1,
+      ap (filter is_filled) next.1 ∙ kept at x (parts_from 32 next.0 text) fits ∙ ap (λ ws. word_of at x ∷ ws) others.1,
       ap (λ p. before_pairs next.0 p (pairs_of others.0)) (pair_read y here) ∙ ap (before_pairs next.0 (Some y)) others.2,
     )
 

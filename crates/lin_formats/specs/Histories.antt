@@ -1,9 +1,9 @@
 -- What reading a file comes to.
 use Rattle.std.specs.Prelude.{ℕ, Bool, true, false, List, Option, Result, Ok, Err}
 use Rattle.std.specs.Io.KnownBytes.{IsAtEnd}
-use Rattle.lin_formats.specs.Inputs.{IsRefused, IsWhole}
-use Rattle.lin_formats.specs.declared.answers.Refusal.{Refusal}
-use Rattle.lin_formats.specs.declared.answers.Refusal.TheVariants as refusal
+use Rattle.lin_formats.specs.Inputs.{AreRefused, IsWhole}
+use Rattle.lin_formats.specs.declared.verdicts.Refusal.{Refusal}
+use Rattle.lin_formats.specs.declared.verdicts.Refusal.TheVariants as refusal
 use Rattle.lin_formats.specs.declared.inputs.History.{History}
 use Rattle.lin_formats.specs.declared.inputs.History.TheVariants.{Whole, Refused}
 use Rattle.lin_formats.specs.declared.faults.RunFault.{RunFault}
@@ -12,7 +12,7 @@ use Rattle.lin_formats.specs.declared.faults.RunFault.TheVariants.{ReadFailed, W
 -- the bytes say this
 abbrev pub IsHistory : Bool → List ℕ → History → Type 0
 IsHistory keyed text (Whole events) = IsWhole keyed text events.items
-IsHistory keyed text (Refused refusal) = IsRefused keyed text refusal
+IsHistory keyed text (Refused refusal) = AreRefused keyed text refusal
 
 -- at a fault of form, and where there are too many events, no more is read; else the reader came to its end
 abbrev pub StopsFor : Refusal → Option (List ℕ) → Type 0

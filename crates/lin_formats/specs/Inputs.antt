@@ -4,8 +4,8 @@ use Rattle.lin_events.specs.declared.events.Event.{Event as EventOf}
 use Rattle.lin_history.specs.declared.follow.FollowFault.{FollowFault}
 use Rattle.lin_history.specs.declared.follow.FollowFault.TheVariants as fault
 use Rattle.lin_history.specs.Stream.{IsStream}
-use Rattle.lin_formats.specs.declared.answers.Refusal.{Refusal}
-use Rattle.lin_formats.specs.declared.answers.Refusal.TheVariants.{Edn, Event, Truncated, Full, BadPair}
+use Rattle.lin_formats.specs.declared.verdicts.Refusal.{Refusal}
+use Rattle.lin_formats.specs.declared.verdicts.Refusal.TheVariants.{Edn, Event, Truncated, Full, BadPair}
 use Rattle.lin_formats.specs.declared.faults.RunFault.{RunFault}
 use Rattle.lin_formats.specs.declared.faults.RunFault.TheVariants.{OutOfMemory, TooMuch}
 
@@ -26,12 +26,12 @@ abbrev pub IsTooMany : Bool → List ℕ → Type 0
 IsTooMany keyed text = (events : List EventOf) × (outcome : Result (Unit {0}) FollowFault) × IsStream keyed text events outcome × (limit < length events)
 
 -- the bytes are refused for this
-abbrev pub IsRefused : Bool → List ℕ → Refusal → Type 0
-IsRefused keyed text (Edn at cause) = IsFaulty keyed text (fault.Edn at cause)
-IsRefused keyed text (Event at cause) = IsFaulty keyed text (fault.Event at cause)
-IsRefused keyed text (Truncated at) = IsFaulty keyed text (fault.Truncated at)
-IsRefused keyed text Full = IsTooMany keyed text
-IsRefused keyed text (BadPair at) = ⊥
+abbrev pub AreRefused : Bool → List ℕ → Refusal → Type 0
+AreRefused keyed text (Edn at cause) = IsFaulty keyed text (fault.Edn at cause)
+AreRefused keyed text (Event at cause) = IsFaulty keyed text (fault.Event at cause)
+AreRefused keyed text (Truncated at) = IsFaulty keyed text (fault.Truncated at)
+AreRefused keyed text Full = IsTooMany keyed text
+AreRefused keyed text (BadPair at) = ⊥
 
 -- the refusal, or the end of a run, that a fault of the stream comes to
 abbrev pub refusal_of : FollowFault → Result Refusal RunFault

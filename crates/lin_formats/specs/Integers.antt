@@ -1,10 +1,7 @@
 -- The numbers that texts write.
 use Rattle.std.specs.Prelude.{ℕ, ◌+◌, ◌-◌, ◌*◌, ◌^◌, ◌==◌, nat_le, ◌&&◌, Bool, true, List, [], ◌∷◌, Option, None, Some, ℤ, pos, neg_ℤ, if◌then◌else◌}
 use Rattle.std.specs.Option.{option_map}
-
--- one of the bytes `0` to `9`
-abbrev pub is_digit : ℕ → Bool
-is_digit c = nat_le 48 c && nat_le c 57
+use Rattle.lin_edn.specs.Bytes.{is_digit}
 
 abbrev pub all_digits : List ℕ → Bool
 all_digits [] = true

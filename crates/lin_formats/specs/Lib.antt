@@ -1,4 +1,4 @@
-pub mod Answers
+pub mod VerdictTexts
 pub mod Orders
 pub mod Parts
 pub mod Devices
@@ -7,6 +7,7 @@ pub mod Histories
 pub mod Inputs
 pub mod Intakes
 pub mod Integers
+pub mod Kinds
 pub mod OrderLaws
 pub mod Texts
 pub mod Verdicts

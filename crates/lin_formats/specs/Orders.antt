@@ -33,19 +33,19 @@ integers_of [] = Some []
 integers_of (part ∷ parts) = before_all (integer_of part.text) (integers_of parts)
 
 -- the members that a text writes between braces: nothing, or strictly rising numbers with commas (byte 44) between them
-abbrev pub members_of : List ℕ → Option (List ℤ)
-members_of text = if length text == 0 then Some [] else only_rising (integers_of (parts_from 44 0 text))
+abbrev pub members_written : List ℕ → Option (List ℤ)
+members_written text = if length text == 0 then Some [] else only_rising (integers_of (parts_from 44 0 text))
 
 -- begins with `{` and ends with `}`
 abbrev pub is_braced : List ℕ → Bool
 is_braced text = (slice_index text 0 == 123) && (slice_index text (length text - 1) == 125)
 
 -- the reply that a text writes: `done`, `nil`, members between braces, or a number
-abbrev pub reply_of : List ℕ → Option Reply
-reply_of text =
+abbrev pub reply_written : List ℕ → Option Reply
+reply_written text =
     if bytes_eq text (codes "done") then Some Done
     else (if bytes_eq text (codes "nil") then Some (Value Nil)
-    else (if is_braced text then option_map Members (members_of (slice_range text 1 (length text - 1)))
+    else (if is_braced text then option_map Members (members_written (slice_range text 1 (length text - 1)))
     else option_map (λ n. Value (Int n)) (integer_of text)))
 
 abbrev pub placed : Option ℕ → Option Reply → Option Placed
@@ -55,11 +55,11 @@ placed (Some at) (Some reply) = Some (record { at = at; reply = reply })
 
 abbrev pub pair_at : List ℕ → Option ℕ → Option Placed
 pair_at word None = None
-pair_at word (Some split) = placed (number_of (2 ^ 64 - 1) (take split word)) (reply_of (drop (split + 1) word))
+pair_at word (Some split) = placed (number_of (2 ^ 64 - 1) (take split word)) (reply_written (drop (split + 1) word))
 
 -- the pair that a word writes: a position and a reply, with the first `=` (byte 61) between them
-abbrev pub pair_of : List ℕ → Option Placed
-pair_of word = pair_at word (position (λ c. c == 61) word)
+abbrev pub pair_written : List ℕ → Option Placed
+pair_written word = pair_at word (position (λ c. c == 61) word)
 
 -- a pair before the others, or the place of the first word that writes none
 abbrev pub before_pairs : ℕ → Option Placed → Result (List Placed) ℕ → Result (List Placed) ℕ
@@ -70,7 +70,7 @@ before_pairs at (Some pair) (Err place) = Err place
 -- the pairs that the words write, or the place of the first word that writes none
 abbrev pub pairs_of : List Part → Result (List Placed) ℕ
 pairs_of [] = Ok []
-pairs_of (word ∷ words) = before_pairs word.at (pair_of word.text) (pairs_of words)
+pairs_of (word ∷ words) = before_pairs word.at (pair_written word.text) (pairs_of words)
 
 -- the word `empty` alone, or one pair or more; where there is no word the place is 0
 abbrev pub order_of_words : List Part → Result (List Placed) ℕ

@@ -19,12 +19,12 @@ parts_from separator at (c ∷ s) =
     if c == separator then (record { at = at; text = [] }) ∷ parts_from separator (suc at) s
     else with_first at c (parts_from separator (suc at) s)
 
-abbrev pub is_word : Part → Bool
-is_word part = nat_lt 0 (length part.text)
+abbrev pub is_filled : Part → Bool
+is_filled part = nat_lt 0 (length part.text)
 
 -- the words of a text that begins at `at`: what stands between its spaces, where that is not empty
 abbrev pub words_from : ℕ → List ℕ → List Part
-words_from at s = filter is_word (parts_from 32 at s)
+words_from at s = filter is_filled (parts_from 32 at s)
 
 -- the parts behind the first one: none where the text ends with it, else those behind the separator
 abbrev pub parts_behind : ℕ → ℕ → List ℕ → List Part

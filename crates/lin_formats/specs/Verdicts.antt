@@ -8,18 +8,18 @@ use Rattle.lin_events.specs.declared.shapes.Shape.TheVariants.{Bad}
 use Rattle.lin_events.specs.WellFormed.{IsShape, IsWellFormed}
 use Rattle.lin_orders.specs.declared.placed.Placed.{Placed}
 use Rattle.lin_orders.specs.Linearizable.{IsLegalOrder}
-use Rattle.lin_formats.specs.Answers.{line_of, status_of}
-use Rattle.lin_formats.specs.Inputs.{IsRefused, IsWhole}
+use Rattle.lin_formats.specs.VerdictTexts.{line_of, status_of}
+use Rattle.lin_formats.specs.Inputs.{AreRefused, IsWhole}
 use Rattle.lin_formats.specs.Histories.{StopsFor}
 use Rattle.lin_formats.specs.Orders.{order_of}
-use Rattle.lin_formats.specs.declared.answers.Refusal.{Refusal}
-use Rattle.lin_formats.specs.declared.answers.Refusal.TheVariants as refusal
-use Rattle.lin_formats.specs.declared.answers.Status.{Status}
-use Rattle.lin_formats.specs.declared.answers.Verdict.{Verdict}
-use Rattle.lin_formats.specs.declared.answers.Verdict.TheVariants.{Yes, No, IllFormed, Refused}
+use Rattle.lin_formats.specs.declared.verdicts.Refusal.{Refusal}
+use Rattle.lin_formats.specs.declared.verdicts.Refusal.TheVariants as refusal
+use Rattle.lin_formats.specs.declared.verdicts.Status.{Status}
+use Rattle.lin_formats.specs.declared.verdicts.OrderVerdict.{OrderVerdict}
+use Rattle.lin_formats.specs.declared.verdicts.OrderVerdict.TheVariants.{Yes, No, IllFormed, Refused}
 use Rattle.lin_formats.specs.declared.faults.RunFault.{RunFault}
 use Rattle.lin_formats.specs.declared.faults.RunFault.TheVariants.{ReadFailed, WriteFailed, OutOfMemory, TooMuch}
-use Rattle.lin_formats.specs.declared.runs.Settings.{Settings}
+use Rattle.lin_formats.specs.declared.settings.Settings.{Settings}
 
 -- every key has an object of this kind
 abbrev pub all_of : Kind → ℤ → Kind
@@ -27,7 +27,7 @@ all_of kind key = kind
 
 -- What is right to answer of a whole history and the text of an order: that the text is no order; else that the history
 -- isn't well-formed, with its first bad event; else whether the order is a legal order of the history.
-abbrev pub IsJudged : Kind → List Event → List ℕ → Verdict → Type 0
+abbrev pub IsJudged : Kind → List Event → List ℕ → OrderVerdict → Type 0
 IsJudged kind events text Yes =
     (order : List Placed) × (order_of text ≡ Ok order) × IsWellFormed (functions_of (all_of kind)) events × IsLegalOrder (all_of kind) events order
 IsJudged kind events text No =
@@ -42,13 +42,13 @@ IsJudged kind events text (Refused refusal.Full) = ⊥
 
 -- What is right to answer of the bytes of a file and the text of an order: why the bytes are refused; or, where they are a
 -- whole history, what is right to answer of that.
-abbrev pub IsRightFor : Settings → List ℕ → List ℕ → Verdict → Type 0
+abbrev pub IsRightFor : Settings → List ℕ → List ℕ → OrderVerdict → Type 0
 IsRightFor settings bytes order verdict =
-    ((refusal : Refusal) × (verdict ≡ Refused refusal) × IsRefused settings.keyed bytes refusal)
+    ((refusal : Refusal) × (verdict ≡ Refused refusal) × AreRefused settings.keyed bytes refusal)
     ⊎ ((events : List Event) × IsWhole settings.keyed bytes events × IsJudged settings.kind events order verdict)
 
 -- how far the file was read: to its end, but for a fault of form and too many events
-abbrev pub IsReadFor : Verdict → Option (List ℕ) → Type 0
+abbrev pub IsReadFor : OrderVerdict → Option (List ℕ) → Type 0
 IsReadFor Yes left = IsAtEnd left
 IsReadFor No left = IsAtEnd left
 IsReadFor (IllFormed at cause) left = IsAtEnd left
@@ -56,7 +56,7 @@ IsReadFor (Refused refusal) left = StopsFor refusal left
 
 -- what is left of a file went from the one to the other, the bytes between are not too many, and this is right to answer of
 -- them and the order
-abbrev pub IsVerified : Settings → List ℕ → Option (List ℕ) → Option (List ℕ) → Verdict → Type 0
+abbrev pub IsVerified : Settings → List ℕ → Option (List ℕ) → Option (List ℕ) → OrderVerdict → Type 0
 IsVerified settings order old new verdict =
     (bytes : List ℕ) × Consumes old new bytes × (length bytes ≤ 2 ^ 40) × IsReadFor verdict new × IsRightFor settings bytes order verdict
 
@@ -72,12 +72,12 @@ IsStopped settings order old new before after OutOfMemory = Keeps before after
 IsStopped settings order old new before after TooMuch =
     Keeps before after × IsReadTooFar old new
 IsStopped settings order old new before after WriteFailed =
-    (verdict : Verdict) × IsVerified settings order old new verdict × ((n : ℕ) × Appends before after (take n (line_of verdict)))
+    (verdict : OrderVerdict) × IsVerified settings order old new verdict × ((n : ℕ) × Appends before after (take n (line_of verdict)))
 
 -- What a run reads and writes, and how it ends: with the status of what is right to answer, and the line of that written; or early.
 abbrev pub IsVerifyRun : Settings → List ℕ → Option (List ℕ) → Option (List ℕ) → Option (List ℕ) → Option (List ℕ) → Result Status RunFault → Type 0
 IsVerifyRun settings order old new before after (Ok status) =
-    (verdict : Verdict) × IsVerified settings order old new verdict × Appends before after (line_of verdict) × (status ≡ status_of verdict)
+    (verdict : OrderVerdict) × IsVerified settings order old new verdict × Appends before after (line_of verdict) × (status ≡ status_of verdict)
 IsVerifyRun settings order old new before after (Err fault) = IsStopped settings order old new before after fault
 
 -- whether the run ended because the writer failed

@@ -4,15 +4,15 @@ ghost use Rattle.std.specs.Io.KnownBytes.{Consumes, IsAtEnd};
 ghost use Rattle.lin_events.specs.declared.events.Event.{Event as EventOf};
 ghost use Rattle.lin_history.specs.Sees.{is_fault, Sees};
 ghost use Rattle.lin_formats.specs.Devices.{device_of, failures_of, Counts};
-ghost use Rattle.lin_formats.specs.Intakes.{IsTaken};
-ghost use Rattle.lin_formats.specs.Inputs.{limit, IsRefused, IsTooMany};
+ghost use Rattle.lin_formats.specs.Intakes.{IsFed};
+ghost use Rattle.lin_formats.specs.Inputs.{limit, AreRefused, IsTooMany};
 ghost use Rattle.lin_formats.specs.Inputs as inputs_said;
 ghost use Rattle.lin_formats.specs.Verdicts.{IsReadTooFar};
 ghost use Rattle.lin_formats.specs.Histories.{EndsFor, IsHistory, StopsFor, is_read_failed};
 
-use crate::answers::Refusal;
 use crate::counted::Counted;
 use crate::faults::RunFault;
+use crate::verdicts::Refusal;
 use lin_events::{Event, OutOfMemory};
 use lin_history::{Follow, FollowFault};
 use std::alloc::Global;
@@ -51,7 +51,7 @@ fn take_ready(follow: &mut Follow, events: &mut Vec<Event>) -> Result<bool, OutO
     ensures keyed { follow.new.keyed ≡ follow.old.keyed }
     ensures outcome { follow.new.outcome ≡ follow.old.outcome }
     ensures all { IfOk result (λ fits. (bytes : List ℕ) → Sees follow.old bytes events.old.items →
-        MatchBool fits (IsTaken follow.new bytes events.new.items) (IsTooMany follow.new.keyed bytes)) }
+        MatchBool fits (IsFed follow.new bytes events.new.items) (IsTooMany follow.new.keyed bytes)) }
 {
     let mut more = follow.take_all();
     if more.len() > LIMIT - events.len() {
@@ -73,14 +73,14 @@ fn take_in(
 ) -> Result<Option<Refusal>, RunFault>
     requires { length events.old.items ≤ limit }
     ensures keyed { follow.new.keyed ≡ follow.old.keyed }
-    ensures taken { IfOk result (λ refusal. (bytes : List ℕ) → IsTaken follow.old bytes events.old.items → MatchOption refusal
-        (IsTaken follow.new (bytes ++ piece.now) events.new.items)
-        (IsRefused follow.new.keyed (bytes ++ piece.now))) }
+    ensures taken { IfOk result (λ refusal. (bytes : List ℕ) → IsFed follow.old bytes events.old.items → MatchOption refusal
+        (IsFed follow.new (bytes ++ piece.now) events.new.items)
+        (AreRefused follow.new.keyed (bytes ++ piece.now))) }
     ensures goes_on { IfOk result (λ refusal. IfNone refusal (is_fault follow.new.outcome ≡ false)) }
-    ensures within { IfOk result (λ _. (bytes : List ℕ) → IsTaken follow.old bytes events.old.items → is_fault follow.old.outcome ≡ false → length bytes + length piece.now ≤ 2 ^ 40) }
+    ensures within { IfOk result (λ _. (bytes : List ℕ) → IsFed follow.old bytes events.old.items → is_fault follow.old.outcome ≡ false → length bytes + length piece.now ≤ 2 ^ 40) }
     ensures stops { IfOk result (λ refusal. IfSome refusal (λ r. (left : Option (List ℕ)) → StopsFor r left)) }
     ensures faults { IfErr result (λ fault. (fault ≡ RunFault.OutOfMemory) ⊎ (fault ≡ RunFault.TooMuch)) }
-    ensures too_much { IsErrOf result RunFault.TooMuch → (bytes : List ℕ) → IsTaken follow.old bytes events.old.items → 2 ^ 40 < length bytes + length piece.now }
+    ensures too_much { IsErrOf result RunFault.TooMuch → (bytes : List ℕ) → IsFed follow.old bytes events.old.items → 2 ^ 40 < length bytes + length piece.now }
 {
     let refusal = match follow.feed(piece) {
         Ok(_) => None,
@@ -94,7 +94,7 @@ fn take_in(
 
 /// What a file says whose bytes all were taken in.
 fn finish(follow: &Follow, events: Vec<Event>) -> Result<History, RunFault>
-    ensures { (bytes : List ℕ) → IsTaken follow.now bytes events.items → MatchResult result (IsHistory follow.now.keyed bytes) (λ _. ⊥) }
+    ensures { (bytes : List ℕ) → IsFed follow.now bytes events.items → MatchResult result (IsHistory follow.now.keyed bytes) (λ _. ⊥) }
 {
     match follow.finish() {
         Ok(()) => Ok(History::Whole(events)),

@@ -1,7 +1,7 @@
 //! The orders that texts write.
 ghost use Rattle.std.specs.Prelude.{◌≡◌, ◌-◌, ◌<◌, ◌==◌, ◌∷◌, ◌++◌, [], false, true, length, position, slice_range, IfOk, IfSome, MatchOption, MatchResult};
 ghost use Rattle.lin_formats.specs.Parts.{words_from};
-ghost use Rattle.lin_formats.specs.Orders.{is_braced, is_rising, members_of, order_of, pair_of, pairs_of, reply_of, IsRefusedAs};
+ghost use Rattle.lin_formats.specs.Orders.{is_braced, is_rising, members_written, order_of, pair_written, pairs_of, reply_written, IsRefusedAs};
 
 use crate::faults::OrderFault;
 use crate::integers::{integer, number};
@@ -22,7 +22,7 @@ fn is_above(numbers: &[i64], number: i64) -> bool
 
 /// The numbers that a text writes with commas between them, where they rise strictly.
 fn read_members(alloc: Global, text: &[u8]) -> Result<Option<IntSet>, OutOfMemory>
-    ensures { IfOk result (λ members. members ≡ members_of text.now) }
+    ensures { IfOk result (λ members. members ≡ members_written text.now) }
 {
     let mut members = Vec::new(alloc);
     if text.is_empty() {
@@ -58,7 +58,7 @@ fn between_braces(text: &[u8]) -> Option<&[u8]>
 
 /// The reply that a text writes.
 fn read_reply(alloc: Global, text: &[u8]) -> Result<Option<Reply>, OutOfMemory>
-    ensures { IfOk result (λ reply. reply ≡ reply_of text.now) }
+    ensures { IfOk result (λ reply. reply ≡ reply_written text.now) }
 {
     if text == b"done".as_slice() {
         return Ok(Some(Reply::Done));
@@ -82,7 +82,7 @@ fn place_of_sign(word: &[u8]) -> Option<usize>
 
 /// The pair that a word writes.
 fn read_pair(alloc: Global, word: &[u8]) -> Result<Option<Placed>, OutOfMemory>
-    ensures { IfOk result (λ pair. pair ≡ pair_of word.now) }
+    ensures { IfOk result (λ pair. pair ≡ pair_written word.now) }
 {
     let Some(sign) = place_of_sign(word) else {
         return Ok(None);

@@ -1,5 +1,5 @@
 -- The command line, as `clap` defines it for this program.
-use Rattle.std.specs.Prelude.{◌≡◌, ◌⊎◌, ℕ, Bool, List, [], ◌∷◌, Some, None, Option, option_map, map, true, false, codes, if◌then◌else◌}
+use Rattle.std.specs.Prelude.{◌≡◌, ◌⊎◌, ℕ, Bool, List, [], ◌∷◌, Some, None, Option, option_and_then, option_map, map, true, false, codes}
 use Rattle.std.specs.Str.{bytes_eq}
 use Rattle.std.specs.Str.Parse.{digits_value, without_leading_plus}
 use Rattle.clap.specs.Words.{App, Rule, Row, Text, new_app, new_rule, with_rule, with_subcommand, first_of, subcommand_of, HasKind, fault_of, kind_of, IsUnsignedIn}
@@ -8,17 +8,12 @@ use Rattle.clap.specs.declared.builder.value_parser.ValueParser.{ValueParser}
 use Rattle.clap.specs.declared.builder.value_parser.ValueParser.TheVariants.{Names, Unsigned}
 use Rattle.clap.specs.declared.error.Error.{Error}
 use Rattle.clap.specs.declared.error.kind.ErrorKind.TheVariants.{OutOfMemory}
-use Rattle.lin_objects.specs.declared.kinds.Kind.{Kind}
-use Rattle.lin_objects.specs.declared.kinds.Kind.TheVariants.{Register, CasRegister, Fifo, Set as SetKind, Mutex, Bag}
-use Rattle.lin_formats.specs.declared.runs.Settings.{Settings}
+use Rattle.lin_formats.specs.Kinds.{kind_named, kind_words}
+use Rattle.lin_formats.specs.declared.settings.Settings.{Settings}
 use Rattle.lin_line.specs.declared.words.Line.{Line}
 use Rattle.lin_line.specs.declared.words.Line.TheVariants.{Verify, Check, Edit}
 
--- the words for the kinds
-abbrev pub kind_words : List Text
-kind_words = codes "register" ∷ codes "cas-register" ∷ codes "fifo" ∷ codes "set" ∷ codes "mutex" ∷ codes "unordered-queue" ∷ []
-
--- just these words pass
+-- just the words for kinds pass
 abbrev pub IsKindParser : ValueParser → Type 0
 IsKindParser (Names names) = map (λ name. name.now) names.now ≡ kind_words
 IsKindParser _ = ⊥
@@ -40,8 +35,8 @@ abbrev pub order_rule : Rule
 order_rule = record (new_rule (codes "order")) { value_names = 1; action = Some Set; required = true }
 
 -- the number that the text spells, with or without a `+` before its digits, where it is 1 to 1,000,000
-abbrev pub IsBudget : Text → ℕ → Type 0
-IsBudget text n = IsUnsignedIn 1 1000000 text × (n ≡ digits_value 10 (without_leading_plus text))
+abbrev pub SpellsBudget : Text → ℕ → Type 0
+SpellsBudget text n = IsUnsignedIn 1 1000000 text × (n ≡ digits_value 10 (without_leading_plus text))
 
 abbrev pub budget_rule : Rule
 budget_rule = record (new_rule (codes "budget")) { value_names = 1; long = Some (codes "budget"); action = Some Set; defaults = codes "65536" ∷ []; parser = Some (Unsigned 1 1000000) }
@@ -66,16 +61,6 @@ required a = record a { top = record a.top { subcommand_required = true } }
 abbrev pub program_app : ValueParser → App
 program_app parser = with_subcommand (with_subcommand (with_subcommand (required (new_app (codes "lincheck"))) (verify_app parser).top) (check_app parser).top) (edit_app parser).top
 
--- the kind that a word names
-abbrev pub kind_of_word : Text → Kind
-kind_of_word word =
-    if bytes_eq word (codes "cas-register") then CasRegister
-    else (if bytes_eq word (codes "fifo") then Fifo
-    else (if bytes_eq word (codes "set") then SetKind
-    else (if bytes_eq word (codes "mutex") then Mutex
-    else (if bytes_eq word (codes "unordered-queue") then Bag
-    else Register))))
-
 -- the flag's value is the word for yes
 abbrev pub is_given : Option Text → Bool
 is_given None = false
@@ -84,24 +69,24 @@ is_given (Some word) = bytes_eq word (codes "true")
 -- the settings are what the matches say: a kind, whether values are keyed, and a budget
 abbrev pub HasSettings : List Row → Settings → Type 0
 HasSettings rows settings =
-    (option_map kind_of_word (first_of (codes "kind") rows) ≡ Some settings.kind) × (settings.keyed ≡ is_given (first_of (codes "keyed") rows))
-    × ((text : Text) × (first_of (codes "budget") rows ≡ Some text) × IsBudget text settings.budget)
+    (option_and_then kind_named (first_of (codes "kind") rows) ≡ Some settings.kind) × (settings.keyed ≡ is_given (first_of (codes "keyed") rows))
+    × ((text : Text) × (first_of (codes "budget") rows ≡ Some text) × SpellsBudget text settings.budget)
 
 -- the text that the matches give for the name
-abbrev pub Gives : List Row → Text → Option Text → Type 0
-Gives rows name text = first_of name rows ≡ text
+abbrev pub GivesText : List Row → Text → Option Text → Type 0
+GivesText rows name text = first_of name rows ≡ text
 
 -- The line is what a command and its matches say: `verify` with a file and an order, `check` with a file, or `edit`, with a file or
 -- none; each with its settings.
 abbrev pub Says : Text × List Row → Line → Type 0
 Says found (Verify settings file order) =
-    (found.0 ≡ codes "verify") × Gives found.1 (codes "file") (Some file.now) × Gives found.1 (codes "order") (Some order.now) × HasSettings found.1 settings
-Says found (Check settings file) = (found.0 ≡ codes "check") × Gives found.1 (codes "file") (Some file.now) × HasSettings found.1 settings
-Says found (Edit settings file) = (found.0 ≡ codes "edit") × Gives found.1 (codes "file") (option_map (λ name. name.now) file) × HasSettings found.1 settings
+    (found.0 ≡ codes "verify") × GivesText found.1 (codes "file") (Some file.now) × GivesText found.1 (codes "order") (Some order.now) × HasSettings found.1 settings
+Says found (Check settings file) = (found.0 ≡ codes "check") × GivesText found.1 (codes "file") (Some file.now) × HasSettings found.1 settings
+Says found (Edit settings file) = (found.0 ≡ codes "edit") × GivesText found.1 (codes "file") (option_map (λ name. name.now) file) × HasSettings found.1 settings
 
--- the matches lack a kind or a budget
+-- the matches name no kind or lack a budget
 abbrev pub LacksSettings : List Row → Type 0
-LacksSettings rows = Gives rows (codes "kind") None ⊎ ((text : Text) (n : ℕ) → Gives rows (codes "budget") (Some text) → IsBudget text n → ⊥)
+LacksSettings rows = (option_and_then kind_named (first_of (codes "kind") rows) ≡ None) ⊎ ((text : Text) (n : ℕ) → GivesText rows (codes "budget") (Some text) → SpellsBudget text n → ⊥)
 
 -- memory ran out, or the error is one that `clap` defines for the program at these words
 abbrev pub IsRefusalOf : List Text → Error → Type 0

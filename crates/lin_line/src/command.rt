@@ -5,33 +5,16 @@ ghost use Rattle.clap.specs.declared.builder.value_parser.ValueParser.{ValuePars
 ghost use Rattle.clap.specs.declared.builder.value_parser.ValueParser.TheVariants.{Names};
 ghost use Rattle.clap.specs.declared.builder.command.Command.TheViews.{out-Command as fields_of};
 ghost use Rattle.lin_line.specs.declared.words.Line.{Line as LineOf};
-ghost use Rattle.lin_line.specs.CommandLine.{budget_rule, check_app, edit_app, file_rule, keyed_rule, kind_of_word, kind_rule, optional_file_rule, order_rule, program_app, verify_app, is_given as given, with_options as options_of, Gives, HasSettings, IsBudget, IsKindParser, LacksSettings, Says};
+ghost use Rattle.lin_line.specs.CommandLine.{budget_rule, check_app, edit_app, file_rule, keyed_rule, kind_rule, optional_file_rule, order_rule, program_app, verify_app, is_given as given, with_options as options_of, GivesText, HasSettings, SpellsBudget, IsKindParser, LacksSettings, Says};
 
 use crate::words::Line;
 use clap::builder::ValueParser;
 use clap::{Arg, ArgAction, ArgMatches, Command};
-use lin_formats::Settings;
-use lin_objects::Kind;
+use lin_formats::{Settings, kind_named, kind_words};
 use std::alloc::{AllocError, Global};
-
-const KINDS: [&str; 6] = [
-    "register",
-    "cas-register",
-    "fifo",
-    "set",
-    "mutex",
-    "unordered-queue",
-];
 
 /// The greatest budget.
 const MOST_BUDGET: u32 = 1_000_000;
-
-/// The words of `KINDS`.
-fn kind_words<'a>() -> &'a [&'a str]
-    ensures { IsKindParser (Names result) }
-{
-    KINDS.as_slice()
-}
 
 fn kind_option<'a>(alloc: Global, kinds: &'a [&'a str]) -> Arg<'a>
     ensures rule { rule_of result ≡ kind_rule (Names kinds.entry) }
@@ -162,20 +145,6 @@ pub fn program<'a>(alloc: Global) -> Result<Command<'a>, AllocError>
         .subcommand(edit_command(alloc, kinds)?)
 }
 
-/// The kind that a word of `KINDS` names.
-fn kind_named(word: &str) -> Kind
-    ensures { result ≡ kind_of_word word.now }
-{
-    match word {
-        "cas-register" => Kind::CasRegister,
-        "fifo" => Kind::Fifo,
-        "set" => Kind::Set,
-        "mutex" => Kind::Mutex,
-        "unordered-queue" => Kind::Bag,
-        _ => Kind::Register,
-    }
-}
-
 /// The text that `clap` found for the name.
 fn text_of<'a>(matches: &ArgMatches<'a>, name: &str) -> Option<&'a str>
     ensures { option_map (λ text. text.now) result ≡ first_of name.now (rows_of (found_of matches.now)) }
@@ -195,8 +164,8 @@ fn is_given(text: Option<&str>) -> bool
 
 /// The budget that a text spells, where it is one.
 fn budget_of(text: &str) -> Option<u32>
-    ensures some { IfSome result (IsBudget text.now) }
-    ensures none { IfNone result ((n : ℕ) → IsBudget text.now n → ⊥) }
+    ensures some { IfSome result (SpellsBudget text.now) }
+    ensures none { IfNone result ((n : ℕ) → SpellsBudget text.now n → ⊥) }
 {
     match text.parse::<u32>() {
         Ok(budget) if 1 <= budget && budget <= MOST_BUDGET => Some(budget),
@@ -204,12 +173,15 @@ fn budget_of(text: &str) -> Option<u32>
     }
 }
 
-/// What the options say; none where `clap` found no kind or budget, which have defaults.
+/// What the options say; none where `clap` found no word for a kind, or no budget: both have defaults.
 fn settings_of<'a>(matches: &ArgMatches<'a>) -> Option<Settings>
     ensures some { IfSome result (HasSettings (rows_of (found_of matches.now))) }
     ensures none { IfNone result (LacksSettings (rows_of (found_of matches.now))) }
 {
-    let Some(kind) = text_of(matches, "kind") else {
+    let Some(word) = text_of(matches, "kind") else {
+        return None;
+    };
+    let Some(kind) = kind_named(word.as_bytes()) else {
         return None;
     };
     let Some(budget) = text_of(matches, "budget") else {
@@ -219,7 +191,7 @@ fn settings_of<'a>(matches: &ArgMatches<'a>) -> Option<Settings>
         return None;
     };
     Some(Settings {
-        kind: kind_named(kind),
+        kind,
         keyed: is_given(text_of(matches, "keyed")),
         budget,
     })
@@ -228,7 +200,7 @@ fn settings_of<'a>(matches: &ArgMatches<'a>) -> Option<Settings>
 /// What the arguments of `verify` say; none where `clap` found no file or order, which it requires.
 fn verify_line<'a>(settings: Settings, matches: &ArgMatches<'a>) -> Option<Line<'a>>
     ensures some { HasSettings (rows_of (found_of matches.now)) settings → IfSome result (Says (codes "verify", rows_of (found_of matches.now))) }
-    ensures none { IfNone result (Gives (rows_of (found_of matches.now)) (codes "file") None ⊎ Gives (rows_of (found_of matches.now)) (codes "order") None) }
+    ensures none { IfNone result (GivesText (rows_of (found_of matches.now)) (codes "file") None ⊎ GivesText (rows_of (found_of matches.now)) (codes "order") None) }
 {
     let Some(file) = text_of(matches, "file") else {
         return None;
@@ -242,7 +214,7 @@ fn verify_line<'a>(settings: Settings, matches: &ArgMatches<'a>) -> Option<Line<
 /// What the arguments of `check` say; none where `clap` found no file, which it requires.
 fn check_line<'a>(settings: Settings, matches: &ArgMatches<'a>) -> Option<Line<'a>>
     ensures some { HasSettings (rows_of (found_of matches.now)) settings → IfSome result (Says (codes "check", rows_of (found_of matches.now))) }
-    ensures none { IfNone result (Gives (rows_of (found_of matches.now)) (codes "file") None) }
+    ensures none { IfNone result (GivesText (rows_of (found_of matches.now)) (codes "file") None) }
 {
     let Some(file) = text_of(matches, "file") else {
         return None;

@@ -5,13 +5,13 @@ use Rattle.std.specs.declared.io.ErrorKind.TheVariants as io_kind
 use Rattle.clap.specs.declared.error.kind.ErrorKind.{ErrorKind}
 use Rattle.clap.specs.declared.error.kind.ErrorKind.TheVariants as kind
 use Rattle.lin_report.specs.Reports.{IsCheckRun}
-use Rattle.lin_report.specs.Runs.{IsRunOf as IsEditRun}
+use Rattle.lin_report.specs.Runs.{IsEditRun}
 use Rattle.lin_formats.specs.Verdicts.{IsVerifyRun}
-use Rattle.lin_formats.specs.declared.answers.Status.{Status}
-use Rattle.lin_formats.specs.declared.answers.Status.TheVariants.{Yes, No, Undecided, IllFormed, Refused}
+use Rattle.lin_formats.specs.declared.verdicts.Status.{Status}
+use Rattle.lin_formats.specs.declared.verdicts.Status.TheVariants.{Yes, No, Undecided, IllFormed, Refused}
 use Rattle.lin_formats.specs.declared.faults.RunFault.{RunFault}
 use Rattle.lin_formats.specs.declared.faults.RunFault.TheVariants.{ReadFailed, WriteFailed, OutOfMemory, TooMuch}
-use Rattle.lin_formats.specs.declared.runs.Settings.{Settings}
+use Rattle.lin_formats.specs.declared.settings.Settings.{Settings}
 use Rattle.lin_line.specs.CommandLine.{file_of}
 use Rattle.lin_line.specs.declared.words.Line.{Line}
 use Rattle.lin_line.specs.declared.words.Line.TheVariants.{Verify, Check, Edit}

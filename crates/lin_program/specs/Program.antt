@@ -17,6 +17,6 @@ TellsOf e _ = ⊥
 
 -- The program ends so on these words: as it ends on the line that they say; or it tells of their refusal, and ends with its exit status, or
 -- with 6 where that couldn't be told.
-abbrev pub IsEnd : {S F C O : Type 0} → SystemWords S F C O → (F → Option (List ℕ)) → (C → Option (List ℕ)) → (O → Option (List ℕ)) → S → S → List Text → ℕ → Type 0
-IsEnd system held commanded written old new words status = ((line : Line) × IsLineOf words line × Ends system held commanded written old new line status)
+abbrev pub EndsOnWords : {S F C O : Type 0} → SystemWords S F C O → (F → Option (List ℕ)) → (C → Option (List ℕ)) → (O → Option (List ℕ)) → S → S → List Text → ℕ → Type 0
+EndsOnWords system held commanded written old new words status = ((line : Line) × IsLineOf words line × Ends system held commanded written old new line status)
     ⊎ ((e : Error) × IsRefusalOf words e × (m : Message) × TellsOf e m × (told : Bool) × system.tells old m told new × (status ≡ (if told then refusal_status (kind_of e) else 6)))

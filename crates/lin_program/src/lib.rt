@@ -4,7 +4,7 @@
 ghost use Rattle.std.specs.Prelude.{map};
 ghost use Rattle.std.specs.IoError.{error_kind};
 ghost use Rattle.lin_program.specs.Exit.{IsRunnable, Ends, EndsOver, EndsWithoutWords};
-ghost use Rattle.lin_program.specs.Program.{IsEnd};
+ghost use Rattle.lin_program.specs.Program.{EndsOnWords};
 
 mod endings;
 mod system;
@@ -56,7 +56,7 @@ fn run_line<S: System>(alloc: Global, system: &mut S, line: Line) -> u8
 
 /// Runs what the words say, and gives the exit status.
 pub fn run_words<S: System>(alloc: Global, system: &mut S, words: &[&str]) -> u8
-    ensures { IsEnd S.words S.File.remaining S.Commands.remaining S.Out.contents system.old system.new (map (λ w. w.now) words.entry.now) result }
+    ensures { EndsOnWords S.words S.File.remaining S.Commands.remaining S.Out.contents system.old system.new (map (λ w. w.now) words.entry.now) result }
 {
     match line(alloc, words) {
         Ok(line) => run_line(alloc, system, line),

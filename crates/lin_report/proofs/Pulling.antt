@@ -1,5 +1,5 @@
 -- What a pull takes from a follower, piece by piece.
-use Rattle.std.proofs.Common.{◌≡◌, ◌+◌, ◌-◌, ◌<◌, ◌≤◌, ◌∷◌, ◌++◌, [], ℕ, Bool, List, Option, None, Some, Result, Ok, Err, length, take, refl, sym, ap, subst, ◌∙◌, arith, append_assoc, append-nil, length-append, ◌==◌, ne_eqb, lt-ltb, le-ltb}
+use Rattle.std.proofs.Common.{◌≡◌, ◌+◌, ◌-◌, ◌<◌, ◌≤◌, ◌∷◌, ◌++◌, [], ℕ, Bool, List, Option, None, Some, Result, Ok, Err, length, take, inl, inr, refl, sym, ap, subst, ◌∙◌, arith, append_assoc, append-nil, length-append, ◌==◌, ne_eqb, lt-ltb, le-ltb}
 use Rattle.std.specs.Prelude.{if◌then◌else◌}
 use Rattle.std.specs.Io.KnownBytes.{Consumes, IsAtEnd}
 use Rattle.std.proofs.Math.Seq.{take-append_seam}
@@ -13,8 +13,8 @@ use Rattle.lin_session.specs.Edits.{Present}
 use Rattle.lin_formats.specs.Inputs.{limit}
 use Rattle.lin_report.specs.Pulls.{Enters, IsAllOrFull, IsStop, StandsAt}
 use Rattle.lin_report.specs.Runs.{GoesOn, IsPull, IsReadOn, RunState, pull_refusal, refusal_in, room_in}
-use Rattle.lin_formats.specs.declared.answers.Refusal.{Refusal}
-use Rattle.lin_formats.specs.declared.answers.Refusal.TheVariants.{Edn, Event as OfEvent, Truncated, Full, BadPair}
+use Rattle.lin_formats.specs.declared.verdicts.Refusal.{Refusal}
+use Rattle.lin_formats.specs.declared.verdicts.Refusal.TheVariants.{Edn, Event as OfEvent, Truncated, Full, BadPair}
 
 -- no event went yet
 pub none_entered : (now : Present) (follow : Followed) → Enters now now follow follow []
@@ -135,6 +135,13 @@ goes_on keyed before now new follow after left part entered stands so_far stop =
       stream = stream_so_far keyed before now new follow after left part entered stands so_far;
       unrefused = fitting (room_in before.present) (entered ++ after.ready) after.outcome fits ∙ stop.1;
     }
+
+-- and that was so before the pull, if something was read
+pub goes_on_still : (keyed : Bool) (before : RunState) (part piece : List ℕ) → IsReadOn keyed before part → GoesOn keyed (before.bytes ++ part) before.put (room_in before.present)
+    → IsReadOn keyed before (part ++ piece)
+goes_on_still keyed before part piece (inl none) now =
+    inr (subst (λ b. GoesOn keyed b before.put (room_in before.present)) (ap (λ p. before.bytes ++ p) none ∙ append-nil before.bytes) now)
+goes_on_still keyed before part piece (inr on) now = inr on
 
 -- what went is what there was room for, and the refusal is the right one
 pub ends_right : (now new : Present) (after : Followed) (entered : List Event) (refused : Option Refusal) → new ≡ record now { history = now.history ++ entered }

@@ -7,7 +7,7 @@ use Rattle.lin_report.specs.Commands.{IsCommand, IsRead, longest_line}
 use Rattle.lin_report.specs.Pulls.{StandsAt}
 use Rattle.lin_report.specs.Runs.{IsCommandReply, IsDone, IsReply, RunState}
 use Rattle.lin_report.specs.Refusals.{fault_text}
-use Rattle.lin_formats.specs.declared.answers.Status.{Status}
+use Rattle.lin_formats.specs.declared.verdicts.Status.{Status}
 use Rattle.lin_report.specs.declared.commands.Command.{Command}
 use Rattle.lin_report.specs.declared.commands.Command.TheVariants.{Edit, Skipped, Ask, Order, Report, Pull, Refute}
 use Rattle.lin_report.specs.declared.commands.CommandFault.{CommandFault}

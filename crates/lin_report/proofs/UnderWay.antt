@@ -8,16 +8,16 @@ use Rattle.std.proofs.Math.Seq.{take-append-add}
 use Rattle.std.proofs.lemmas.List.Elements.{All-append}
 use Rattle.lin_history.specs.Sees.{Sees}
 use Rattle.lin_report.specs.Engines.{Holds, IsCarriedOut, IsCutOff, IsCutShort, IsFinished, IsUnderWay, ReadsPart}
-use Rattle.lin_report.specs.Runs.{AreCarriedOut, AreRead, IsDone, IsReply, IsRun, IsRunOf, IsSaidDone, IsWritten, RunState, lines_of, start_of}
-use Rattle.lin_report.specs.Runs.IsRun.{one_more}
+use Rattle.lin_report.specs.Runs.{AreCarriedOut, AreRead, IsDone, IsReply, AreReplies, IsEditRun, IsSaidDone, IsWritten, RunState, lines_of, start_of}
+use Rattle.lin_report.specs.Runs.AreReplies.{one_more}
 use Rattle.lin_formats.specs.Verdicts.{IsReadTooFar}
-use Rattle.lin_formats.specs.declared.answers.Status.{Status}
-use Rattle.lin_formats.specs.declared.answers.Status.TheVariants.{Yes}
-use Rattle.lin_formats.specs.declared.runs.Settings.{Settings}
+use Rattle.lin_formats.specs.declared.verdicts.Status.{Status}
+use Rattle.lin_formats.specs.declared.verdicts.Status.TheVariants.{Yes}
+use Rattle.lin_formats.specs.declared.settings.Settings.{Settings}
 use Rattle.lin_report.specs.declared.commands.Command.{Command}
 use Rattle.lin_report.specs.declared.commands.Command.TheVariants.{Edit, Skipped, Ask, Order, Report, Pull, Refute}
 use Rattle.lin_report.specs.declared.commands.CommandFault.{CommandFault}
-use Rattle.lin_report.specs.declared.engines.Engine.{Engine}
+use Rattle.lin_report.specs.declared.runs.Engine.{Engine}
 use Rattle.lin_formats.specs.declared.faults.RunFault.{RunFault}
 use Rattle.lin_formats.specs.declared.faults.RunFault.TheVariants.{ReadFailed, WriteFailed, OutOfMemory, TooMuch}
 use Rattle.lin_report.proofs.CommandLines.{last_line, line_ends}
@@ -64,7 +64,7 @@ module _ (keyed : Bool) (start : RunState) (before : Option (List ℕ)) where
     state = so_far.state;
     text = so_far.text;
     rest = so_far.rest ++ more;
-    run = subst (IsRun keyed start so_far.lines so_far.state so_far.text) (sym (ap (λ (e : Engine). e.status) same)) so_far.run;
+    run = subst (AreReplies keyed start so_far.lines so_far.state so_far.text) (sym (ap (λ (e : Engine). e.status) same)) so_far.run;
     stands = record {
       present_is = ap (λ (e : Engine). e.session.present) same ∙ so_far.stands.present_is;
       sees = subst (λ f. Sees f so_far.state.bytes so_far.state.put) (sym (ap (λ (e : Engine). e.follow) same)) so_far.stands.sees;
@@ -88,7 +88,7 @@ module _ (keyed : Bool) (start : RunState) (before : Option (List ℕ)) where
         state = done.after;
         text = so_far.text ++ done.reply;
         rest = [];
-        run = subst (IsRun keyed start (so_far.lines ++ so_far.rest ∷ []) done.after (so_far.text ++ done.reply)) (sym done.status)
+        run = subst (AreReplies keyed start (so_far.lines ++ so_far.rest ∷ []) done.after (so_far.text ++ done.reply)) (sym done.status)
             (one_more so_far.run so_far.rest done.after done.reply done.answer done.replies);
         stands = done.stands;
         consumed = subst (λ l. Consumes start.left l done.after.bytes) (sym done.stands.left_is)
@@ -199,7 +199,7 @@ module _ (keyed : Bool) (start : RunState) (before : Option (List ℕ)) where
         so_far.state,
         so_far.text,
         engine.status,
-        subst (λ ls. IsRun keyed start ls so_far.state so_far.text engine.status) (sym all) so_far.run,
+        subst (λ ls. AreReplies keyed start ls so_far.state so_far.text engine.status) (sym all) so_far.run,
         so_far.stands.left_is,
         so_far.written,
         is,
@@ -220,7 +220,7 @@ module _ (keyed : Bool) (start : RunState) (before : Option (List ℕ)) where
         done.after,
         so_far.text ++ done.reply,
         last,
-        subst (λ ls. IsRun keyed start ls done.after (so_far.text ++ done.reply) last) (sym (with_last old left after bytes so_far some))
+        subst (λ ls. AreReplies keyed start ls done.after (so_far.text ++ done.reply) last) (sym (with_last old left after bytes so_far some))
             (one_more so_far.run so_far.rest done.after done.reply done.answer done.replies),
         done.stands.left_is,
         Appends-trans before after after' so_far.text done.reply so_far.written done.written,
@@ -255,7 +255,7 @@ pub run_ends : (settings : Settings) (engine : Engine) (file left file' commands
     → IfOk r (λ status. (start : RunState) (before : Option (List ℕ)) (bs : List ℕ) → IsUnderWay settings.keyed start before engine left after bs → IsFinished settings.keyed start before file' out' bs status)
     → IfErr r (λ fault. (start : RunState) (before behind : Option (List ℕ)) (bs : List ℕ) → IsAtEnd behind → IsUnderWay settings.keyed start before engine left after bs
     → IsCutOff settings.keyed start before file' out' behind bs fault)
-    → IsRunOf settings file file' commands commands' out out' r
+    → IsEditRun settings file file' commands commands' out out' r
 run_ends settings engine file left file' commands commands' out after out' bytes (Ok status) consumed end within so_far done cut =
     let d = done (start_of settings file) out bytes so_far in
     (bytes, consumed, end, within, d.0, d.1, d.2, d.3, d.4, d.5, d.6)
@@ -266,7 +266,7 @@ run_ends settings engine file left file' commands commands' out after out' bytes
 -- how it ends early, by a fault that is passed on
 pub run_cut : (settings : Settings) (file file' commands commands' out out' : Option (List ℕ)) (bytes : List ℕ) (r : Result Status RunFault) (fault : RunFault)
     → IsErrAnd r (λ f. f ≡ fault) → Consumes commands commands' bytes → IsCutOff settings.keyed (start_of settings file) out file' out' commands' bytes fault
-    → IsRunOf settings file file' commands commands' out out' r
+    → IsEditRun settings file file' commands commands' out out' r
 run_cut settings file file' commands commands' out out' bytes (Ok status) fault same consumed cut = elim same [ ]
 run_cut settings file file' commands commands' out out' bytes (Err f) fault same consumed cut =
     let k = subst (IsCutOff settings.keyed (start_of settings file) out file' out' commands' bytes) (sym same) cut in

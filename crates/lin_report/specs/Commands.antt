@@ -10,12 +10,12 @@ use Rattle.lin_history.specs.Table.{event}
 use Rattle.lin_events.specs.declared.events.Event.{Event as EventOf}
 use Rattle.lin_history.specs.declared.table.EventFault.{EventFault}
 use Rattle.lin_objects.specs.declared.kinds.Kind.{Kind}
-use Rattle.lin_objects.specs.declared.kinds.Kind.TheVariants as kind
 use Rattle.lin_session.specs.declared.answers.Scope.{Scope}
 use Rattle.lin_session.specs.declared.answers.Scope.TheVariants as scope
 use Rattle.lin_session.specs.declared.edits.Edit.{Edit as EditOf}
 use Rattle.lin_session.specs.declared.edits.Edit.TheVariants as edit
 use Rattle.lin_formats.specs.Integers.{integer_of, number_of}
+use Rattle.lin_formats.specs.Kinds.{kind_named}
 use Rattle.lin_formats.specs.Parts.{Part, words_from}
 use Rattle.lin_report.specs.declared.commands.Command.{Command}
 use Rattle.lin_report.specs.declared.commands.Command.TheVariants.{Edit, Skipped, Ask, Order, Report, Pull, Refute}
@@ -29,13 +29,13 @@ use Rattle.lin_report.specs.declared.senses.Verb.{Verb}
 use Rattle.lin_report.specs.declared.senses.Verb.TheVariants as verb
 
 -- what a word stands for, by a list of rows
-abbrev pub look_up : {A : Type 0} → List (List ℕ × A) → List ℕ → Option A
-look_up [] word = None
-look_up (row ∷ rows) word = if bytes_eq word row.0 then Some row.1 else look_up rows word
+abbrev pub stands_for : {A : Type 0} → List (List ℕ × A) → List ℕ → Option A
+stands_for [] word = None
+stands_for (row ∷ rows) word = if bytes_eq word row.0 then Some row.1 else stands_for rows word
 
 -- the words that a line may begin with
 abbrev pub verb_of : List ℕ → Option Verb
-verb_of = look_up (
+verb_of = stands_for (
     (codes "append", verb.Append) ∷
     (codes "replace", verb.Replace) ∷
     (codes "remove", verb.Remove) ∷
@@ -48,25 +48,15 @@ verb_of = look_up (
     (codes "pull", verb.Pull) ∷
     (codes "refute", verb.Refute) ∷ [])
 
--- the words for kinds
-abbrev pub kind_of : List ℕ → Option Kind
-kind_of = look_up (
-    (codes "register", kind.Register) ∷
-    (codes "cas-register", kind.CasRegister) ∷
-    (codes "fifo", kind.Fifo) ∷
-    (codes "set", kind.Set) ∷
-    (codes "mutex", kind.Mutex) ∷
-    (codes "unordered-queue", kind.Bag) ∷ [])
-
 -- one test after another: what is none has its fault
-abbrev pub or_fault : {A B : Type 0} → CommandFault → Option A → (A → Result B CommandFault) → Result B CommandFault
-or_fault fault None more = Err fault
-or_fault fault (Some x) more = more x
+abbrev pub or_refused : {A B : Type 0} → CommandFault → Option A → (A → Result B CommandFault) → Result B CommandFault
+or_refused fault None more = Err fault
+or_refused fault (Some x) more = more x
 
 -- what is made of what was read; a fault stays
-abbrev pub made : {A B : Type 0} → (A → B) → Result A CommandFault → Result B CommandFault
-made make (Ok x) = Ok (make x)
-made make (Err fault) = Err fault
+abbrev pub made_of : {A B : Type 0} → (A → B) → Result A CommandFault → Result B CommandFault
+made_of make (Ok x) = Ok (make x)
+made_of make (Err fault) = Err fault
 
 -- the place behind a word
 abbrev pub end_of : Part → ℕ
@@ -90,35 +80,35 @@ no_more _ = Err BadWords
 -- the number that the only word writes
 abbrev pub number_in : ℕ → List Part → Result ℕ CommandFault
 number_in most words =
-    or_fault BadWords (only words) (λ word.
-    or_fault BadNumber (number_of most word.text) (λ n. Ok n))
+    or_refused BadWords (only words) (λ word.
+    or_refused BadNumber (number_of most word.text) (λ n. Ok n))
 
 -- the key that the only word writes
 abbrev pub key_in : List Part → Result ℤ CommandFault
 key_in words =
-    or_fault BadWords (only words) (λ word.
-    or_fault BadNumber (integer_of word.text) (λ key. Ok key))
+    or_refused BadWords (only words) (λ word.
+    or_refused BadNumber (integer_of word.text) (λ key. Ok key))
 
 -- what a question is about: the object of the key that the only word writes, or the whole where there is none
 abbrev pub scope_in : List Part → Result Scope CommandFault
 scope_in [] = Ok scope.Whole
-scope_in (first ∷ words) = made scope.Object (key_in (first ∷ words))
+scope_in (first ∷ words) = made_of scope.Object (key_in (first ∷ words))
 
 -- a key and its kind
 abbrev pub key_and_kind : List Part → Result (ℤ × Kind) CommandFault
 key_and_kind words =
-    or_fault BadWords (both words) (λ (key, word).
-    or_fault BadNumber (integer_of key.text) (λ k.
-    or_fault BadKind (kind_of word.text) (λ kind. Ok (k, kind))))
+    or_refused BadWords (both words) (λ (key, word).
+    or_refused BadNumber (integer_of key.text) (λ k.
+    or_refused BadKind (kind_named word.text) (λ kind. Ok (k, kind))))
 
 -- what `replace` says: behind the number stands a map
 abbrev pub replacement : List Part → Result Sense CommandFault
 replacement [] = Err BadWords
-replacement (word ∷ words) = or_fault BadNumber (number_of (2 ^ 64 - 1) word.text) (λ n. Ok (sense.Map (target.At n) (end_of word)))
+replacement (word ∷ words) = or_refused BadNumber (number_of (2 ^ 64 - 1) word.text) (λ n. Ok (sense.Map (target.At n) (end_of word)))
 
 -- a command made of what was read
 abbrev pub plain : {A : Type 0} → (A → Command) → Result A CommandFault → Result Sense CommandFault
-plain make read = made (λ x. sense.Plain (make x)) read
+plain make read = made_of (λ x. sense.Plain (make x)) read
 
 -- what the words behind the first one say, which ends at a place: first their number is tested, then each from left to right
 abbrev pub sense_behind : Verb → ℕ → List Part → Result Sense CommandFault
@@ -137,7 +127,7 @@ sense_behind verb.Refute end words = plain Refute (key_in words)
 -- what the words of a line say
 abbrev pub sense_of : List Part → Result Sense CommandFault
 sense_of [] = Ok sense.Nothing
-sense_of (word ∷ words) = or_fault UnknownCommand (verb_of word.text) (λ verb. sense_behind verb (end_of word) words)
+sense_of (word ∷ words) = or_refused UnknownCommand (verb_of word.text) (λ verb. sense_behind verb (end_of word) words)
 
 -- the edit that an event makes: it is put last, or in the place of another
 abbrev pub edit_at : Target → EventOf → EditOf

@@ -7,11 +7,11 @@ use Rattle.lin_history.specs.Sees.{Followed, Sees}
 use Rattle.lin_session.specs.Edits.{Present}
 use Rattle.lin_report.specs.Commands.{longest_line}
 use Rattle.lin_report.specs.Pulls.{StandsAt}
-use Rattle.lin_report.specs.Runs.{AreCarriedOut, AreRead, IsReply, IsRun, IsWritten, RunState, lines_of}
+use Rattle.lin_report.specs.Runs.{AreCarriedOut, AreRead, IsReply, AreReplies, IsWritten, RunState, lines_of}
 use Rattle.lin_formats.specs.Verdicts.{IsReadTooFar}
-use Rattle.lin_formats.specs.declared.answers.Status.{Status}
-use Rattle.lin_formats.specs.declared.answers.Status.TheVariants.{Yes}
-use Rattle.lin_report.specs.declared.engines.Engine.{Engine}
+use Rattle.lin_formats.specs.declared.verdicts.Status.{Status}
+use Rattle.lin_formats.specs.declared.verdicts.Status.TheVariants.{Yes}
+use Rattle.lin_report.specs.declared.runs.Engine.{Engine}
 use Rattle.lin_formats.specs.declared.faults.RunFault.{RunFault}
 use Rattle.lin_formats.specs.declared.faults.RunFault.TheVariants.{WriteFailed, TooMuch}
 
@@ -52,7 +52,7 @@ pub record IsUnderWay (keyed : Bool) (start : RunState) (before : Option (List �
   pub state : RunState
   pub text : List ℕ
   pub rest : List ℕ
-  pub run : IsRun keyed start lines state text engine.status
+  pub run : AreReplies keyed start lines state text engine.status
   pub stands : StandsAt keyed state engine.session.present engine.follow left
   pub consumed : Consumes start.left left state.bytes
   pub written : Appends before after text
@@ -69,5 +69,5 @@ IsCutOff keyed start before left after behind bytes fault =
 -- all lines of the bytes are carried out, with the status of the last answer
 abbrev pub IsFinished : Bool → RunState → Option (List ℕ) → Option (List ℕ) → Option (List ℕ) → List ℕ → Status → Type 0
 IsFinished keyed start before left after bytes status =
-    (end : RunState) × (text : List ℕ) × (last : Option Status) × IsRun keyed start (lines_of bytes) end text last
+    (end : RunState) × (text : List ℕ) × (last : Option Status) × AreReplies keyed start (lines_of bytes) end text last
     × (left ≡ end.left) × Appends before after text × (status ≡ unwrap_or last Yes)

@@ -5,8 +5,8 @@ use Rattle.lin_history.specs.Sees.{Followed, Sees}
 use Rattle.lin_session.specs.Edits.{Present}
 use Rattle.lin_formats.specs.Inputs.{limit}
 use Rattle.lin_report.specs.Runs.{RunState, refusal_in}
-use Rattle.lin_formats.specs.declared.answers.Refusal.{Refusal}
-use Rattle.lin_formats.specs.declared.answers.Refusal.TheVariants.{Full}
+use Rattle.lin_formats.specs.declared.verdicts.Refusal.{Refusal}
+use Rattle.lin_formats.specs.declared.verdicts.Refusal.TheVariants.{Full}
 
 -- these events went from the follower, where they were ready, to the end of the history; there was room
 pub record Enters (now new : Present) (follow after : Followed) (entered : List Event) : Type 0 where

@@ -5,7 +5,6 @@ use Rattle.std.specs.Io.KnownBytes.{Appends, Consumes, IsAtEnd, Keeps}
 use Rattle.std.specs.List.{flat_map}
 use Rattle.lin_events.specs.declared.events.Event.{Event}
 use Rattle.lin_objects.specs.declared.kinds.Kind.{Kind}
-use Rattle.lin_objects.specs.declared.kinds.Kind.TheVariants as kind
 use Rattle.lin_objects.specs.Kinds.{same_for_all}
 use Rattle.lin_session.specs.Answers.{IsVerdict, kinds_in}
 use Rattle.lin_session.specs.Edits.{Present}
@@ -13,25 +12,17 @@ use Rattle.lin_session.specs.Sessions.{AreKeys}
 use Rattle.lin_session.specs.declared.answers.Scope.TheVariants.{Object, Whole}
 use Rattle.lin_session.specs.declared.answers.Verdict.{Verdict}
 use Rattle.lin_session.specs.declared.answers.Verdict.TheVariants.{IllFormed, Yes, No, Undecided}
-use Rattle.lin_formats.specs.Answers.{cause_text, refusal_text}
+use Rattle.lin_formats.specs.VerdictTexts.{cause_text, refusal_text}
 use Rattle.lin_formats.specs.Histories.{StopsFor}
-use Rattle.lin_formats.specs.Inputs.{IsRefused, IsWhole}
+use Rattle.lin_formats.specs.Inputs.{AreRefused, IsWhole}
+use Rattle.lin_formats.specs.Kinds.{kind_text}
 use Rattle.lin_formats.specs.Verdicts.{IsReadTooFar}
-use Rattle.lin_formats.specs.declared.answers.Refusal.{Refusal}
-use Rattle.lin_formats.specs.declared.answers.Status.{Status}
-use Rattle.lin_formats.specs.declared.answers.Status.TheVariants as ends
+use Rattle.lin_formats.specs.declared.verdicts.Refusal.{Refusal}
+use Rattle.lin_formats.specs.declared.verdicts.Status.{Status}
+use Rattle.lin_formats.specs.declared.verdicts.Status.TheVariants as ends
 use Rattle.lin_formats.specs.declared.faults.RunFault.{RunFault}
 use Rattle.lin_formats.specs.declared.faults.RunFault.TheVariants.{ReadFailed, WriteFailed, OutOfMemory, TooMuch}
-use Rattle.lin_formats.specs.declared.runs.Settings.{Settings}
-
--- the word for a kind
-abbrev pub kind_text : Kind → List ℕ
-kind_text kind.Register = codes "register"
-kind_text kind.CasRegister = codes "cas-register"
-kind_text kind.Fifo = codes "fifo"
-kind_text kind.Set = codes "set"
-kind_text kind.Mutex = codes "mutex"
-kind_text kind.Bag = codes "unordered-queue"
+use Rattle.lin_formats.specs.declared.settings.Settings.{Settings}
 
 -- the text of an answer without its order
 abbrev pub answer_text : Verdict → List ℕ
@@ -102,7 +93,7 @@ opened settings events = record { history = events; kinds = same_for_all setting
 -- byte is left, a report of it.
 abbrev pub IsRightReport : Settings → List ℕ → Option (List ℕ) → List ℕ → Status → Type 0
 IsRightReport settings bytes left text status =
-    ((refusal : Refusal) × IsRefused settings.keyed bytes refusal × StopsFor refusal left × (text ≡ refusal_text refusal ++ codes "\n") × (status ≡ ends.Refused))
+    ((refusal : Refusal) × AreRefused settings.keyed bytes refusal × StopsFor refusal left × (text ≡ refusal_text refusal ++ codes "\n") × (status ≡ ends.Refused))
     ⊎ ((events : List Event) × IsWhole settings.keyed bytes events × IsAtEnd left × IsReport (opened settings events) text status)
 
 -- what is left of a file went from the one to the other, the bytes between are not too many, and this is right to print of them

@@ -17,22 +17,22 @@ use Rattle.lin_session.specs.declared.answers.Verdict.TheVariants as verdict
 use Rattle.lin_session.specs.declared.edits.Edit.{Edit as EditOf}
 use Rattle.lin_session.specs.declared.edits.EditFault.{EditFault}
 use Rattle.lin_session.specs.declared.edits.EditFault.TheVariants as edit_fault
-use Rattle.lin_formats.specs.Answers.{refusal_text}
+use Rattle.lin_formats.specs.VerdictTexts.{refusal_text}
 use Rattle.lin_report.specs.Commands.{IsCommand}
 use Rattle.lin_formats.specs.Inputs.{limit}
 use Rattle.lin_report.specs.Reports.{IsReport, answer_status, answer_text, opened}
 use Rattle.lin_formats.specs.Texts.{order_text}
 use Rattle.lin_report.specs.Refusals.{edit_fault_text, fault_text}
-use Rattle.lin_formats.specs.declared.answers.Refusal.{Refusal}
-use Rattle.lin_formats.specs.declared.answers.Refusal.TheVariants as refusal
-use Rattle.lin_formats.specs.declared.answers.Status.{Status}
-use Rattle.lin_formats.specs.declared.answers.Status.TheVariants as status_of
+use Rattle.lin_formats.specs.declared.verdicts.Refusal.{Refusal}
+use Rattle.lin_formats.specs.declared.verdicts.Refusal.TheVariants as refusal
+use Rattle.lin_formats.specs.declared.verdicts.Status.{Status}
+use Rattle.lin_formats.specs.declared.verdicts.Status.TheVariants as status_of
 use Rattle.lin_report.specs.declared.commands.Command.{Command}
 use Rattle.lin_report.specs.declared.commands.Command.TheVariants.{Edit, Skipped, Ask, Order, Report, Pull, Refute}
 use Rattle.lin_report.specs.declared.commands.CommandFault.{CommandFault}
 use Rattle.lin_formats.specs.declared.faults.RunFault.{RunFault}
 use Rattle.lin_formats.specs.declared.faults.RunFault.TheVariants.{ReadFailed, WriteFailed, OutOfMemory, TooMuch}
-use Rattle.lin_formats.specs.declared.runs.Settings.{Settings}
+use Rattle.lin_formats.specs.declared.settings.Settings.{Settings}
 use Rattle.lin_formats.specs.Devices.{Counts}
 use Rattle.lin_formats.specs.Verdicts.{IsReadTooFar}
 
@@ -123,10 +123,9 @@ pub record GoesOn (keyed : Bool) (bytes : List ℕ) (put : List Event) (room : �
   pub stream : IsStream keyed bytes (put ++ waiting) outcome
   pub unrefused : pull_refusal room waiting outcome ≡ None
 
--- nothing was read, or what was read before a last piece gave no reason to stop
+-- nothing is read, or what was read before gives no reason to stop
 abbrev pub IsReadOn : Bool → RunState → List ℕ → Type 0
-IsReadOn keyed before part = (part ≡ [])
-    ⊎ ((front piece : List ℕ) × (part ≡ front ++ piece) × (length piece ≤ 65536) × GoesOn keyed (before.bytes ++ front) before.put (room_in before.present))
+IsReadOn keyed before part = (part ≡ []) ⊎ GoesOn keyed before.bytes before.put (room_in before.present)
 
 -- A pull reads a part of the file, to its end where it isn't refused. Of the events that the bytes so far say, those that wait are
 -- put into the history, as far as there is room.
@@ -167,11 +166,11 @@ IsReply keyed before line after text status =
     (said : Result (Option Command) CommandFault) × IsCommand keyed line said × IsSaidDone keyed said before after text status
 
 -- the replies to lines in order, one behind the other, and the status of the last answer
-pub data IsRun (keyed : Bool) (start : RunState) : List (List ℕ) → RunState → List ℕ → Option Status → Type 0 where
-  nothing : IsRun keyed start [] start [] None
+pub data AreReplies (keyed : Bool) (start : RunState) : List (List ℕ) → RunState → List ℕ → Option Status → Type 0 where
+  nothing : AreReplies keyed start [] start [] None
   one_more : {lines : List (List ℕ)} {before : RunState} {text : List ℕ} {last : Option Status} →
-      IsRun keyed start lines before text last → (line : List ℕ) (after : RunState) (reply : List ℕ) (status : Option Status) →
-      IsReply keyed before line after reply status → IsRun keyed start (lines ++ line ∷ []) after (text ++ reply) (option_or status last)
+      AreReplies keyed start lines before text last → (line : List ℕ) (after : RunState) (reply : List ℕ) (status : Option Status) →
+      IsReply keyed before line after reply status → AreReplies keyed start (lines ++ line ∷ []) after (text ++ reply) (option_or status last)
 
 -- before the first command: no event, no byte read
 abbrev pub start_of : Settings → Option (List ℕ) → RunState
@@ -188,7 +187,7 @@ AreRead bytes left lines = BeginWith bytes lines ⊎ (IsAtEnd left × (lines_of 
 -- these lines were carried out, and this is so of their replies; what was read of the file behind them goes with the next line
 abbrev pub AreCarriedOut : Bool → RunState → List (List ℕ) → Option (List ℕ) → (List ℕ → Type 0) → Type 0
 AreCarriedOut keyed start lines file written =
-    (end : RunState) × (text : List ℕ) × (last : Option Status) × IsRun keyed start lines end text last
+    (end : RunState) × (text : List ℕ) × (last : Option Status) × AreReplies keyed start lines end text last
     × ((part : List ℕ) × Consumes end.left file part) × written text
 
 -- what is written of the replies at a fault: all, but a beginning where the writer failed
@@ -200,12 +199,12 @@ IsWritten TooMuch out out' text = Appends out out' text
 
 -- What a run reads and writes, and how it ends: with all lines carried out, their replies written, and the status of the last
 -- answer; or early, with some first lines carried out.
-abbrev pub IsRunOf : Settings → Option (List ℕ) → Option (List ℕ) → Option (List ℕ) → Option (List ℕ) → Option (List ℕ) → Option (List ℕ) → Result Status RunFault → Type 0
-IsRunOf settings file file' commands commands' out out' (Ok status) =
+abbrev pub IsEditRun : Settings → Option (List ℕ) → Option (List ℕ) → Option (List ℕ) → Option (List ℕ) → Option (List ℕ) → Option (List ℕ) → Result Status RunFault → Type 0
+IsEditRun settings file file' commands commands' out out' (Ok status) =
     (bytes : List ℕ) × Consumes commands commands' bytes × IsAtEnd commands' × (length bytes ≤ 2 ^ 40)
-    × (end : RunState) × (text : List ℕ) × (last : Option Status) × IsRun settings.keyed (start_of settings file) (lines_of bytes) end text last
+    × (end : RunState) × (text : List ℕ) × (last : Option Status) × AreReplies settings.keyed (start_of settings file) (lines_of bytes) end text last
     × (file' ≡ end.left) × Appends out out' text × (status ≡ unwrap_or last status_of.Yes)
-IsRunOf settings file file' commands commands' out out' (Err fault) =
+IsEditRun settings file file' commands commands' out out' (Err fault) =
     ((bytes : List ℕ) × Consumes commands commands' bytes × (lines : List (List ℕ)) × AreRead bytes commands' lines
     × AreCarriedOut settings.keyed (start_of settings file) lines file' (IsWritten fault out out'))
     × (fault ≡ TooMuch → IsReadTooFar file file' ⊎ IsReadTooFar commands commands')

@@ -1,13 +1,13 @@
 //! Whether the history in a file is linearizable.
 ghost use Rattle.std.specs.Prelude.{◌≡◌, ◌<◌, ◌≤◌, ◌++◌, codes, length, IfOk, IsErrOf};
-ghost use Rattle.lin_formats.specs.Answers.{refusal_text};
+ghost use Rattle.lin_formats.specs.VerdictTexts.{refusal_text};
 ghost use Rattle.lin_formats.specs.Devices.{device_of, failures_of, Counts};
 ghost use Rattle.lin_formats.specs.Histories.{is_read_failed};
 ghost use Rattle.lin_formats.specs.Inputs.{limit};
 ghost use Rattle.lin_report.specs.Reports.{IsChecked, IsCheckRun, IsReport, opened};
 ghost use Rattle.lin_formats.specs.Verdicts.{is_write_failed, IsReadTooFar};
 
-use crate::reports::{Answered, report};
+use crate::reports::write_report;
 use crate::sessions::session_of;
 use lin_events::{Event, OutOfMemory};
 use lin_formats::{
@@ -16,6 +16,13 @@ use lin_formats::{
 use std::alloc::{AllocError, Global};
 use std::io::{Read, Write};
 
+/// What is printed of a file, and the status of a run that prints it.
+#[derive(Drop)]
+struct Answered {
+    text: Vec<u8>,
+    status: Status,
+}
+
 /// A report of these events.
 fn report_of(alloc: Global, settings: Settings, events: Vec<Event>) -> Result<Answered, OutOfMemory>
     requires budget { (1 ≤ settings.budget) × (settings.budget ≤ 1000000) }
@@ -23,7 +30,9 @@ fn report_of(alloc: Global, settings: Settings, events: Vec<Event>) -> Result<An
     ensures { IfOk result (λ answered. IsReport (opened settings events.items) answered.text.items answered.status) }
 {
     let mut session = session_of(alloc, settings, events)?;
-    report(alloc, &mut session)
+    let mut text = Vec::new(alloc);
+    let status = write_report(alloc, &mut session, &mut text)?;
+    Ok(Answered { text, status })
 }
 
 /// The line that refuses a file.

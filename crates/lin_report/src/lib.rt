@@ -1,26 +1,26 @@
 //! Checks of recorded histories over readers and a writer: what is read, what is asked, and the text of the answer.
 #![tactic(auto)]
 
+mod answers;
 mod checks;
 mod commands;
-mod engines;
 mod laws;
 mod pulls;
 mod refused;
 mod refuting;
 mod replies;
 mod reports;
+mod runs;
 mod senses;
 mod sessions;
-mod verdicts;
 
+pub use answers::write_answer;
 pub use checks::check;
 pub use commands::{Command, CommandFault, commands_are_unique, read_command};
-pub use engines::run;
 pub use laws::answers_agree;
 pub use lin_formats::{
     Counted, OrderFault, RunFault, Settings, Status, read_order, verdicts_are_unique, verify,
     write_order, written_orders_are_read,
 };
 pub use reports::write_report;
-pub use verdicts::write_answer;
+pub use runs::run;

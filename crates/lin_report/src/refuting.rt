@@ -9,9 +9,9 @@ ghost use Rattle.lin_session.specs.Answers.{kinds_in};
 ghost use Rattle.lin_session.specs.Refuting.{Refutes};
 ghost use Rattle.lin_report.specs.Runs.{IsCommandReply, IsRefuteReply};
 
+use crate::answers::verdict_of;
 use crate::commands::Command;
 use crate::replies::{Reply, answered};
-use crate::verdicts::verdict_of;
 use lin_events::{Event, OutOfMemory, beginnings_are_well_formed};
 use lin_formats::{Status, put_number};
 use lin_order::{Refutation, check_refutation, refutations_exclude_orders};

@@ -5,11 +5,11 @@ ghost use Rattle.lin_report.specs.Runs.{IsCommandReply, IsEditReply, order_answe
 ghost use Rattle.lin_report.specs.Runs as said;
 ghost use Rattle.lin_report.specs.Refusals.{edit_fault_text, fault_text};
 
+use crate::answers::{status_of, verdict_of, verdict_words, write_answer};
 use crate::commands::{Command, CommandFault};
 use crate::refused::{put_edit_fault, put_fault};
 use crate::refuting::refute;
-use crate::reports::report;
-use crate::verdicts::{status_of, verdict_of, verdict_words};
+use crate::reports::write_report;
 use lin_events::OutOfMemory;
 use lin_formats::{Status, put_number, write_order};
 use lin_session::{Answer, Edit, EditFault, Scope, Session, Verdict};
@@ -117,7 +117,11 @@ fn order_words(alloc: Global, answer: &Answer) -> Result<Vec<u8>, OutOfMemory>
             write_order(order.as_slice(), &mut text)?;
             Ok(text)
         }
-        other => Ok(verdict_words(alloc, verdict_of(other))?),
+        other => {
+            let mut text = Vec::new(alloc);
+            write_answer(alloc, other, &mut text)?;
+            Ok(text)
+        }
     }
 }
 
@@ -131,6 +135,18 @@ fn order(alloc: Global, session: &mut Session, scope: Scope) -> Result<Reply, Ou
     Ok(Reply {
         text,
         status: Some(status_of(verdict_of(&answer))),
+    })
+}
+
+/// What is found of all objects.
+fn report(alloc: Global, session: &mut Session) -> Result<Reply, OutOfMemory>
+    ensures { IfOk result (λ reply. IsCommandReply Command.Report session.old.present session.new.present reply.text.items reply.status) }
+{
+    let mut text = Vec::new(alloc);
+    let status = write_report(alloc, session, &mut text)?;
+    Ok(Reply {
+        text,
+        status: Some(status),
     })
 }
 
@@ -148,13 +164,7 @@ pub fn reply_to(
         Command::Skipped => Ok(Reply::plain(Vec::from_slice(alloc, b"skipped\n")?)),
         Command::Ask(scope) => ask(alloc, session, scope),
         Command::Order(scope) => order(alloc, session, scope),
-        Command::Report => {
-            let answered = report(alloc, session)?;
-            Ok(Reply {
-                text: answered.text,
-                status: Some(answered.status),
-            })
-        }
+        Command::Report => report(alloc, session),
         Command::Refute(key) => refute(alloc, session, key),
         Command::Pull => unreachable!(),
     }

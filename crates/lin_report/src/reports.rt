@@ -6,36 +6,15 @@ ghost use Rattle.lin_session.specs.Sessions.{AreKeys};
 ghost use Rattle.lin_session.specs.declared.answers.Scope.TheVariants as scope;
 ghost use Rattle.lin_session.specs.declared.answers.Verdict.{Verdict as VerdictOf};
 ghost use Rattle.lin_report.specs.Reports as said;
-ghost use Rattle.lin_report.specs.Reports.{AreFindings, Finding, IsReport, answer_text, counts_text, kind_text, line_text, name_text};
-ghost use Rattle.lin_formats.specs.declared.answers.Status.{Status as StatusOf};
+ghost use Rattle.lin_report.specs.Reports.{AreFindings, Finding, IsReport, answer_text, counts_text, line_text, name_text};
 
-use crate::verdicts::{is_ill_formed, status_of, verdict_words};
+use crate::answers::{is_ill_formed, status_of, verdict_words};
 use lin_events::OutOfMemory;
-use lin_formats::{Status, put_integer, put_number};
+use lin_formats::{Status, kind_word, put_integer, put_number};
 use lin_objects::Kind;
 use lin_orders::{absent_keys_are_legal, linearizability_is_local};
 use lin_session::{Scope, Session, Verdict};
 use std::alloc::{AllocError, Global};
-
-/// A text that answers, and the status of a run that ends with it.
-#[derive(Drop)]
-pub struct Answered {
-    pub text: Vec<u8>,
-    pub status: Status,
-}
-
-fn kind_word(kind: Kind) -> &'static str
-    ensures { result.now ≡ kind_text kind }
-{
-    match kind {
-        Kind::Register => "register",
-        Kind::CasRegister => "cas-register",
-        Kind::Fifo => "fifo",
-        Kind::Set => "set",
-        Kind::Mutex => "mutex",
-        Kind::Bag => "unordered-queue",
-    }
-}
 
 /// The line that names so many events and objects.
 fn counts_line(alloc: Global, events: usize, objects: usize) -> Result<Vec<u8>, AllocError>
@@ -158,8 +137,8 @@ fn put_lines(
 }
 
 /// A report of the present history, and the status of what is found of the whole.
-pub fn report(alloc: Global, session: &mut Session) -> Result<Answered, OutOfMemory>
-    ensures report { IfOk result (λ answered. IsReport session.old.present answered.text.items answered.status) }
+fn report(alloc: Global, session: &mut Session) -> Result<(Vec<u8>, Status), OutOfMemory>
+    ensures report { IfOk result (λ reported. IsReport session.old.present reported.0.items reported.1) }
     ensures present { session.new.present ≡ session.old.present }
 {
     let keys = session.objects(alloc)?;
@@ -167,24 +146,22 @@ pub fn report(alloc: Global, session: &mut Session) -> Result<Answered, OutOfMem
     let mut text = counts_line(alloc, session.len(), keys.len())?;
     put_lines(alloc, session, keys.as_slice(), whole, &mut text)?;
     text.extend_from_slice(whole_line(alloc, whole)?.as_slice())?;
-    Ok(Answered {
-        text,
-        status: status_of(whole),
-    })
+    Ok((text, status_of(whole)))
 }
 
-/// Puts a report of the present history last: how many events and objects it has, what is found of each object, by rising key,
-/// and of the whole. Of a history that isn't well-formed no object is named. Refused, nothing has changed.
+/// Puts a report of the present history last, and gives the status of what is found of the whole: how many events and objects it
+/// has, what is found of each object, by rising key, and of the whole. Of a history that isn't well-formed no object is named.
+/// Refused, nothing has changed.
 pub fn write_report(
     alloc: Global,
     session: &mut Session,
     out: &mut Vec<u8>,
-) -> Result<(), OutOfMemory>
-    ensures written { OnOk result ((text : List ℕ) × (status : StatusOf) × IsReport session.old.present text status × (out.new.items ≡ out.old.items ++ text)) }
+) -> Result<Status, OutOfMemory>
+    ensures written { IfOk result (λ status. (text : List ℕ) × IsReport session.old.present text status × (out.new.items ≡ out.old.items ++ text)) }
     ensures same { OnErr result (out.new.items ≡ out.old.items) }
     ensures present { session.new.present ≡ session.old.present }
 {
-    let answered = report(alloc, session)?;
-    out.extend_from_slice(answered.text.as_slice())?;
-    Ok(())
+    let (text, status) = report(alloc, session)?;
+    out.extend_from_slice(text.as_slice())?;
+    Ok(status)
 }

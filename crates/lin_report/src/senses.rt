@@ -6,7 +6,7 @@ ghost use Rattle.lin_report.specs.MapCommands.{IsWithin};
 
 use crate::commands::{Command, CommandFault};
 use lin_events::Event;
-use lin_formats::{Word, integer, next_word, number};
+use lin_formats::{Word, integer, kind_named, next_word, number};
 use lin_objects::Kind;
 use lin_session::{Edit, Scope};
 
@@ -96,30 +96,6 @@ fn verb_of(word: &[u8]) -> Option<Verb>
     None
 }
 
-fn kind_of(word: &[u8]) -> Option<Kind>
-    ensures { result ≡ said.kind_of word.now }
-{
-    if word == b"register".as_slice() {
-        return Some(Kind::Register);
-    }
-    if word == b"cas-register".as_slice() {
-        return Some(Kind::CasRegister);
-    }
-    if word == b"fifo".as_slice() {
-        return Some(Kind::Fifo);
-    }
-    if word == b"set".as_slice() {
-        return Some(Kind::Set);
-    }
-    if word == b"mutex".as_slice() {
-        return Some(Kind::Mutex);
-    }
-    if word == b"unordered-queue".as_slice() {
-        return Some(Kind::Bag);
-    }
-    None
-}
-
 /// The only word behind a place.
 fn only_word(line: &[u8], from: usize) -> Option<Word<'_>>
     requires { from ≤ length line.now }
@@ -198,7 +174,7 @@ fn key_and_kind(line: &[u8], from: usize) -> Result<(i64, Kind), CommandFault>
     let Some(key) = integer(key.text) else {
         return Err(CommandFault::BadNumber);
     };
-    match kind_of(kind.text) {
+    match kind_named(kind.text) {
         Some(kind) => Ok((key, kind)),
         None => Err(CommandFault::BadKind),
     }

@@ -4,10 +4,10 @@ use Rattle.std.proofs.KnownBytes.{Consumes-trans}
 use Rattle.std.proofs.lemmas.List.{length-take-le}
 use Rattle.std.specs.Io.KnownBytes.{Consumes, IsAtEnd}
 use Rattle.lin_formats.specs.Histories.{EndsFor, IsHistory, StopsFor}
-use Rattle.lin_formats.specs.Inputs.{IsRefused}
+use Rattle.lin_formats.specs.Inputs.{AreRefused}
 use Rattle.lin_formats.specs.declared.faults.RunFault.{RunFault}
-use Rattle.lin_formats.specs.declared.answers.Refusal.{Refusal}
-use Rattle.lin_formats.specs.declared.answers.Refusal.TheVariants.{Edn, Event, Truncated, Full, BadPair}
+use Rattle.lin_formats.specs.declared.verdicts.Refusal.{Refusal}
+use Rattle.lin_formats.specs.declared.verdicts.Refusal.TheVariants.{Edn, Event, Truncated, Full, BadPair}
 use Rattle.lin_formats.specs.declared.inputs.History.{History}
 use Rattle.lin_formats.specs.declared.inputs.History.TheVariants.{Whole, Refused}
 
@@ -46,9 +46,9 @@ said_at_end (Err fault) a left read keyed text same within consumed end said = t
 
 -- why the file is refused
 pub refused_for : (r : Option Refusal) (refusal : Refusal) (read keyed : Bool) (text : List ℕ) (P : Type 0) → r ≡ Some refusal → read ≡ keyed
-    → MatchOption r P (IsRefused read text) → IsRefused keyed text refusal
+    → MatchOption r P (AreRefused read text) → AreRefused keyed text refusal
 refused_for r refusal read keyed text P is same said =
-    subst (λ k. IsRefused k text refusal) same (subst (λ o. MatchOption o P (IsRefused read text)) is said)
+    subst (λ k. AreRefused k text refusal) same (subst (λ o. MatchOption o P (AreRefused read text)) is said)
 
 pub stops_for : (r : Option Refusal) (refusal : Refusal) (left : Option (List ℕ)) → r ≡ Some refusal
     → IfSome r (λ x. (l : Option (List ℕ)) → StopsFor x l) → StopsFor refusal left

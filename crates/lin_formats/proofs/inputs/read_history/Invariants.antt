@@ -2,14 +2,14 @@ use Rattle.std.proofs.Common.{◌≡◌, ◌<◌, ◌≤◌, ◌^◌, ℕ, List,
 use Rattle.lin_history.specs.Sees.{is_fault}
 use Rattle.std.specs.Io.KnownBytes.{Consumes}
 use Rattle.lin_formats.specs.Devices.{device_of, failures_of}
-use Rattle.lin_formats.specs.Intakes.{IsTaken}
+use Rattle.lin_formats.specs.Intakes.{IsFed}
 use Rattle.lin_formats.proofs.inputs.read_history.Given as goal
 
 abbrev pub invariant-pieces : goal.invariant-pieces
 invariant-pieces g l = record {
   bytes : List ℕ;
   consumed : Consumes (g.R.Read.remaining (device_of l.fn.file)) (g.R.Read.remaining (device_of l.file)) bytes;
-  taken : IsTaken l.follow bytes l.events.items;
+  taken : IsFed l.follow bytes l.events.items;
   going : 0 < length bytes → is_fault l.follow.outcome ≡ false;
   within : length bytes ≤ 2 ^ 40;
   keyed : l.follow.keyed ≡ l.fn.keyed;

@@ -1,7 +1,6 @@
-use Rattle.std.proofs.Common.{◌++◌, [], List, ℕ, Err, None, Some, take, inl, inr, refl, sym, ap, ◌∙◌, arith, length-append}
-use Rattle.std.proofs.lemmas.List.{length-take-le}
+use Rattle.std.proofs.Common.{◌++◌, [], List, ℕ, Err, None, Some, take, inl, refl, sym, ap, ◌∙◌, arith, length-append}
 use Rattle.std.proofs.KnownBytes.{Consumes-nil, Consumes-trans}
-use Rattle.lin_report.proofs.Pulling.{goes_on, not_none, pull_ends, pulled_more, pulled_none, pulled_piece}
+use Rattle.lin_report.proofs.Pulling.{goes_on, goes_on_still, not_none, pull_ends, pulled_more, pulled_none, pulled_piece}
 use Rattle.lin_formats.specs.lemmas.Reading.{consumed_end, longer}
 use Rattle.lin_report.proofs.pulls.pull.Goals as goal
 
@@ -55,14 +54,13 @@ pieces-preserved g c =
     let e = rw c.in_default.is at c.in_ok-refusal.ensures in
     let pulled = pulled_more _ _ _ _ _ _ v.part v.entered e.0 v.pulled e.1 in
     let piece : List ℕ = take c.in-Ok.count c.read.new.buf in
-    let size = length-take-le c.in-Ok.count c.read.new.buf c.in-Ok.ensures.bound.0 in
     let more = longer c.pieces.counter c.in-Ok.count v.part c.read.new.buf v.counted c.in-Ok.ensures.bound.0 (omega arith) in
     record {
       part = v.part ++ piece;
       entered = v.entered ++ e.0;
       pulled = pulled_piece _ _ _ _ _ v.part piece (v.entered ++ e.0) c.in_ok-feed.ensures.fed.0 pulled c.in_ok-feed.ensures.fed.1;
       consumed = Consumes-trans _ _ _ v.part _ v.consumed c.in-Ok.ensures.bytes.0;
-      read_on = λ keyed before stands. inr (v.part, piece, refl, omega (arith, size, c.in-Ok.ensures.bound.0, c.read.auto.buf, v.room), goes_on keyed before _ _ _ _ _ v.part (v.entered ++ e.0) stands pulled e.2);
+      read_on = λ keyed before stands. goes_on_still keyed before v.part piece (v.read_on keyed before stands) (goes_on keyed before _ _ _ _ _ v.part (v.entered ++ e.0) stands pulled e.2);
       room = c.read.auto.buf ∙ v.room;
       counted = more.0;
       uncounted = c.in-Ok.ensures.counts ∙ v.uncounted;

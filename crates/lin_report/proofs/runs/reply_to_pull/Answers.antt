@@ -1,6 +1,6 @@
 use Rattle.std.proofs.Common.{length, ap, ◌∙◌}
 use Rattle.lin_report.specs.Runs.{pull_text}
-use Rattle.lin_report.proofs.engines.reply_to_pull.Goals as goal
+use Rattle.lin_report.proofs.runs.reply_to_pull.Goals as goal
 
 pub returns-clause-reply : goal.returns-clause-reply
 returns-clause-reply g c = λ keyed before stands.

@@ -6,12 +6,12 @@ use Rattle.lin_history.specs.declared.table.EventFault.{EventFault}
 use Rattle.lin_history.specs.declared.table.EventFault.TheVariants as fault
 use Rattle.lin_events.specs.declared.shapes.Cause.{Cause}
 use Rattle.lin_events.specs.declared.shapes.Cause.TheVariants as cause
-use Rattle.lin_formats.specs.declared.answers.Status.{Status}
-use Rattle.lin_formats.specs.declared.answers.Status.TheVariants as status
-use Rattle.lin_formats.specs.declared.answers.Refusal.{Refusal}
-use Rattle.lin_formats.specs.declared.answers.Refusal.TheVariants.{Edn, Event, Truncated, Full, BadPair}
-use Rattle.lin_formats.specs.declared.answers.Verdict.{Verdict}
-use Rattle.lin_formats.specs.declared.answers.Verdict.TheVariants.{Yes, No, IllFormed, Refused}
+use Rattle.lin_formats.specs.declared.verdicts.Status.{Status}
+use Rattle.lin_formats.specs.declared.verdicts.Status.TheVariants as status
+use Rattle.lin_formats.specs.declared.verdicts.Refusal.{Refusal}
+use Rattle.lin_formats.specs.declared.verdicts.Refusal.TheVariants.{Edn, Event, Truncated, Full, BadPair}
+use Rattle.lin_formats.specs.declared.verdicts.OrderVerdict.{OrderVerdict}
+use Rattle.lin_formats.specs.declared.verdicts.OrderVerdict.TheVariants.{Yes, No, IllFormed, Refused}
 
 -- the number and the name of a fault of EDN
 abbrev pub edn_cause_text : EdnCause → List ℕ
@@ -51,18 +51,18 @@ refusal_text Full = codes "refused edit 2 Full"
 refusal_text (BadPair at) = codes "refused order 1 BadPair at " ++ decimal at
 
 -- the text of what is found
-abbrev pub verdict_text : Verdict → List ℕ
+abbrev pub verdict_text : OrderVerdict → List ℕ
 verdict_text Yes = codes "yes"
 verdict_text No = codes "no"
 verdict_text (IllFormed at cause) = codes "ill-formed at " ++ decimal at ++ codes " cause " ++ cause_text cause
 verdict_text (Refused refusal) = refusal_text refusal
 
 -- the line that tells what is found
-abbrev pub line_of : Verdict → List ℕ
+abbrev pub line_of : OrderVerdict → List ℕ
 line_of verdict = verdict_text verdict ++ codes "\n"
 
 -- the status of a run that found this
-abbrev pub status_of : Verdict → Status
+abbrev pub status_of : OrderVerdict → Status
 status_of Yes = status.Yes
 status_of No = status.No
 status_of (IllFormed at cause) = status.IllFormed

@@ -1,5 +1,5 @@
 use Rattle.std.proofs.Common.{◌∙◌}
-use Rattle.lin_report.proofs.engines.Engine.carry_out.Goals as goal
+use Rattle.lin_report.proofs.runs.Engine.carry_out.Goals as goal
 
 pub returns-in-Err-clause-cut : goal.returns-in-Err-clause-cut
 returns-in-Err-clause-cut g c = λ before line stands holds.

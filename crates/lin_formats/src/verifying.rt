@@ -1,16 +1,17 @@
 //! Whether an order is a legal order of the history in a file.
 ghost use Rattle.std.specs.Prelude.{◌≡◌, ◌^◌, ◌<◌, ◌≤◌, ℕ, List, length, IfErr, IfOk, IsErrOf};
 ghost use Rattle.std.specs.Io.KnownBytes.{Appends, Consumes};
-ghost use Rattle.lin_formats.specs.Answers.{line_of, status_of};
+ghost use Rattle.lin_formats.specs.VerdictTexts.{line_of, status_of};
 ghost use Rattle.lin_formats.specs.Devices.{device_of, failures_of, Counts};
 ghost use Rattle.lin_formats.specs.Histories.{is_read_failed};
 ghost use Rattle.lin_formats.specs.Verdicts.{is_write_failed, IsJudged, IsReadTooFar, IsVerified, IsVerifyRun};
 
-use crate::answers::{Refusal, Status, Verdict, line};
 use crate::counted::Counted;
 use crate::faults::{OrderFault, RunFault};
 use crate::inputs::{History, read_history};
 use crate::orders::read_order;
+use crate::settings::Settings;
+use crate::verdicts::{OrderVerdict, Refusal, Status, line};
 use crate::writing::write_whole;
 use lin_events::{Event, Meter, OutOfMemory, Shape};
 use lin_objects::{Kind, Kinds};
@@ -19,35 +20,31 @@ use lin_wellformed::Scan;
 use std::alloc::Global;
 use std::io::{Read, Write};
 
-/// What a run is told.
-#[derive(Clone, Copy, Debug, PartialEq, Eq)]
-pub struct Settings {
-    /// What each object is.
-    pub kind: Kind,
-    /// Whether values are pairs of a key and a value, one object for each key.
-    pub keyed: bool,
-    /// How many configurations are kept for one object, 1 to 1,000,000.
-    pub budget: u32,
-}
-
 /// What is found of a whole history and the text of an order: the text is tested first, then the history, then the order.
-fn judge(alloc: Global, kind: Kind, events: &[Event], order: &[u8]) -> Result<Verdict, OutOfMemory>
+fn judge(
+    alloc: Global,
+    kind: Kind,
+    events: &[Event],
+    order: &[u8],
+) -> Result<OrderVerdict, OutOfMemory>
     ensures { IfOk result (IsJudged kind events.now order.now) }
 {
     let order = match read_order(alloc, order) {
         Ok(order) => order,
-        Err(OrderFault::BadPair { at }) => return Ok(Verdict::Refused(Refusal::BadPair { at })),
+        Err(OrderFault::BadPair { at }) => return Ok(OrderVerdict::Refused(Refusal::BadPair {
+            at,
+        })),
         Err(OrderFault::OutOfMemory) => return Err(OutOfMemory),
     };
     let kinds = Kinds::new(alloc, kind);
     let mut meter = Meter::new();
     match Scan::new(alloc).settle(events, &kinds, &mut meter)? {
-        Shape::Bad { at, cause } => Ok(Verdict::IllFormed { at, cause }),
+        Shape::Bad { at, cause } => Ok(OrderVerdict::IllFormed { at, cause }),
         Shape::Good => {
             if check_order(alloc, events, &kinds, order.as_slice())? {
-                Ok(Verdict::Yes)
+                Ok(OrderVerdict::Yes)
             } else {
-                Ok(Verdict::No)
+                Ok(OrderVerdict::No)
             }
         }
     }
@@ -59,7 +56,7 @@ fn find_verdict<R: Read>(
     settings: Settings,
     file: &mut Counted<R>,
     order: &[u8],
-) -> Result<Verdict, RunFault>
+) -> Result<OrderVerdict, RunFault>
     requires { failures_of file.old < u64.MAX }
     ensures found { IfOk result (IsVerified settings order.now (R.remaining (device_of file.old)) (R.remaining (device_of file.new))) }
     ensures too_much { IsErrOf result RunFault.TooMuch → IsReadTooFar (R.remaining (device_of file.old)) (R.remaining (device_of file.new)) }
@@ -68,7 +65,7 @@ fn find_verdict<R: Read>(
 {
     match read_history(alloc, settings.keyed, file)? {
         History::Whole(events) => Ok(judge(alloc, settings.kind, events.as_slice(), order)?),
-        History::Refused(refusal) => Ok(Verdict::Refused(refusal)),
+        History::Refused(refusal) => Ok(OrderVerdict::Refused(refusal)),
     }
 }
 

@@ -6,7 +6,7 @@ ghost use Rattle.lin_formats.specs.Devices.{device_of, failures_of, Counts};
 ghost use Rattle.lin_report.specs.Engines.{Holds, IsCarriedOut, IsCutOff, IsCutShort, IsFinished, IsUnderWay, Moves, ReadsPart};
 ghost use Rattle.lin_formats.specs.Histories.{is_read_failed};
 ghost use Rattle.lin_report.specs.Pulls.{StandsAt};
-ghost use Rattle.lin_report.specs.Runs.{CountsOne, IsDone, IsRunOf, IsReply, RunState, pull_text, start_of};
+ghost use Rattle.lin_report.specs.Runs.{CountsOne, IsDone, IsEditRun, IsReply, RunState, pull_text, start_of};
 ghost use Rattle.lin_formats.specs.Verdicts.{is_write_failed};
 
 use crate::commands::{Command, read_command};
@@ -235,7 +235,7 @@ impl Engine {
         requires file_reads { failures_of file.old < u64.MAX }
         requires command_reads { failures_of commands.old < u64.MAX }
         requires writes { failures_of out.old < u64.MAX }
-        ensures ran { IsRunOf settings (R.remaining (device_of file.old)) (R.remaining (device_of file.new))
+        ensures ran { IsEditRun settings (R.remaining (device_of file.old)) (R.remaining (device_of file.new))
             (C.remaining (device_of commands.old)) (C.remaining (device_of commands.new))
             (W.contents (device_of out.old)) (W.contents (device_of out.new)) result }
         ensures read_counts { CountsOne (is_read_failed result) (failures_of file.old) (failures_of file.new) (failures_of commands.old) (failures_of commands.new) }
@@ -279,7 +279,7 @@ pub fn run<R: Read, C: Read, W: Write>(
     requires file_reads { failures_of file.old < u64.MAX }
     requires command_reads { failures_of commands.old < u64.MAX }
     requires writes { failures_of out.old < u64.MAX }
-    ensures ran { IsRunOf settings (R.remaining (device_of file.old)) (R.remaining (device_of file.new))
+    ensures ran { IsEditRun settings (R.remaining (device_of file.old)) (R.remaining (device_of file.new))
         (C.remaining (device_of commands.old)) (C.remaining (device_of commands.new))
         (W.contents (device_of out.old)) (W.contents (device_of out.new)) result }
     ensures read_counts { CountsOne (is_read_failed result) (failures_of file.old) (failures_of file.new) (failures_of commands.old) (failures_of commands.new) }

@@ -1,8 +1,8 @@
 use Rattle.std.proofs.Common.{[], refl, arith}
 use Rattle.std.proofs.KnownBytes.{Appends-nil, Consumes-nil}
 use Rattle.lin_report.specs.Runs.{start_of}
-use Rattle.lin_report.specs.Runs.IsRun.{nothing}
-use Rattle.lin_report.proofs.engines.Engine.new.Goals as goal
+use Rattle.lin_report.specs.Runs.AreReplies.{nothing}
+use Rattle.lin_report.proofs.runs.Engine.new.Goals as goal
 
 pub returns : goal.returns
 returns c = λ left before. record {

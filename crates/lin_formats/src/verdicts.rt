@@ -1,6 +1,6 @@
 //! What a run answers, and its text.
 ghost use Rattle.std.specs.Prelude.{◌≡◌, ◌++◌, IfOk, OnOk, decimal};
-ghost use Rattle.lin_formats.specs.Answers.{edn_cause_text, event_fault_text, cause_text, line_of, refusal_text, status_of, verdict_text};
+ghost use Rattle.lin_formats.specs.VerdictTexts.{edn_cause_text, event_fault_text, cause_text, line_of, refusal_text, status_of, verdict_text};
 
 use itoa::Buffer;
 use lin_edn::EdnCause;
@@ -35,7 +35,7 @@ pub enum Refusal {
 
 /// What is found of a history and an order.
 #[derive(Clone, Copy, Debug, PartialEq, Eq)]
-pub enum Verdict {
+pub enum OrderVerdict {
     /// The order is a legal order of the history.
     Yes,
     /// It isn't.
@@ -45,16 +45,16 @@ pub enum Verdict {
     Refused(Refusal),
 }
 
-impl Verdict {
+impl OrderVerdict {
     /// The status of a run that ends with the verdict.
     pub fn status(self) -> Status
         ensures { result ≡ status_of self }
     {
         match self {
-            Verdict::Yes => Status::Yes,
-            Verdict::No => Status::No,
-            Verdict::IllFormed { .. } => Status::IllFormed,
-            Verdict::Refused(_) => Status::Refused,
+            OrderVerdict::Yes => Status::Yes,
+            OrderVerdict::No => Status::No,
+            OrderVerdict::IllFormed { .. } => Status::IllFormed,
+            OrderVerdict::Refused(_) => Status::Refused,
         }
     }
 }
@@ -143,25 +143,25 @@ pub fn refusal_words(alloc: Global, refusal: Refusal) -> Result<Vec<u8>, AllocEr
 }
 
 /// The text of a verdict.
-fn verdict_words(alloc: Global, verdict: Verdict) -> Result<Vec<u8>, AllocError>
+fn verdict_words(alloc: Global, verdict: OrderVerdict) -> Result<Vec<u8>, AllocError>
     ensures { IfOk result (λ line. line.items ≡ verdict_text verdict) }
 {
     match verdict {
-        Verdict::Yes => Vec::from_slice(alloc, b"yes"),
-        Verdict::No => Vec::from_slice(alloc, b"no"),
-        Verdict::IllFormed { at, cause } => {
+        OrderVerdict::Yes => Vec::from_slice(alloc, b"yes"),
+        OrderVerdict::No => Vec::from_slice(alloc, b"no"),
+        OrderVerdict::IllFormed { at, cause } => {
             let mut line = Vec::from_slice(alloc, b"ill-formed at ")?;
             put_number(&mut line, at as u64)?;
             line.extend_from_slice(b" cause ")?;
             line.extend_from_slice(cause_words(cause).as_bytes())?;
             Ok(line)
         }
-        Verdict::Refused(refusal) => refusal_words(alloc, refusal),
+        OrderVerdict::Refused(refusal) => refusal_words(alloc, refusal),
     }
 }
 
 /// The line of a verdict, with its end.
-pub fn line(alloc: Global, verdict: Verdict) -> Result<Vec<u8>, AllocError>
+pub fn line(alloc: Global, verdict: OrderVerdict) -> Result<Vec<u8>, AllocError>
     ensures { IfOk result (λ line. line.items ≡ line_of verdict) }
 {
     let mut line = verdict_words(alloc, verdict)?;

@@ -1,7 +1,7 @@
 use Rattle.std.proofs.Common.{◌≡◌, ◌-◌, ◌++◌, length, take, ap, ◌∙◌, arith}
 use Rattle.std.proofs.lemmas.List.{take_min}
 use Rattle.lin_report.proofs.CommandLines.{kept_more}
-use Rattle.lin_report.proofs.engines.hold.Goals as goal
+use Rattle.lin_report.proofs.runs.hold.Goals as goal
 
 pub returns : goal.returns
 returns c = λ line is.

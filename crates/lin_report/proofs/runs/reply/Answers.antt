@@ -1,6 +1,6 @@
 use Rattle.std.proofs.Common.{◌∙◌}
 use Rattle.lin_report.proofs.Replying.{command_said, nothing_said, plainly_said, refused_said}
-use Rattle.lin_report.proofs.engines.reply.Goals as goal
+use Rattle.lin_report.proofs.runs.reply.Goals as goal
 
 pub returns-in-Ok-None-clause-reply : goal.returns-in-Ok-None-clause-reply
 returns-in-Ok-None-clause-reply g c = λ line is before stands. (

@@ -1,7 +1,7 @@
 use Rattle.std.proofs.Common.{ap}
 use Rattle.lin_objects.specs.Kinds.{kind_of}
 use Rattle.lin_formats.proofs.Judging.{judged_bad, judged_good}
-use Rattle.lin_formats.proofs.runs.judge.Goals as goal
+use Rattle.lin_formats.proofs.verifying.judge.Goals as goal
 
 pub settle-requires : goal.settle-requires
 settle-requires c = c.new.ensures.right _ _

@@ -1,0 +1,276 @@
+#!/usr/bin/env python3
+"""Finds what the promises of the program stand on, definition by definition, and holds docs/PROOF.md to it.
+
+From the contracts of ROOTS it follows each name to its definition in some specs/*.antt, and from there each name that the definition
+cites, in its own file or by a `use` line. A type that is declared in code leads to the types of its fields; one that contracts see as
+something else leads to that alone. Names of the standard library and of crates of others end there. A variable that is called as a
+definition of its file, or as one that is imported there, counts as that.
+
+docs/PROOF.md lists the files of the definitions so found, each as `CRATE/specs/FILE.antt` with the number of their lines, comments in
+front of a definition counted, and last the numbers of files and lines. Its list is what stands between the two lines of MARKS.
+
+usage: tests/closure.py [--write | --names | --of NAME]
+--write puts the numbers into the list, --names prints the definitions, and --of what one definition stands on.
+The last line counts the files that agree and those that don't.
+"""
+import dataclasses
+import functools
+import os
+import re
+import sys
+
+HERE = os.path.join(os.path.dirname(os.path.abspath(__file__)), "..")
+PROOF = f"{HERE}/docs/PROOF.md"
+MARKS = ("<!-- what tests/closure.py finds: -->", "<!-- to here -->")
+# What the program promises of its runs, and of how it ends.
+ROOTS = {"lin_formats": ["verify"], "lin_report": ["check", "run"], "lin_program": ["run_words", "end_without_words"]}
+# That a list of events is linearizable.
+CORE = ("lin_orders.specs.Linearizable", "IsLinearizable")
+USE = re.compile(r"(?:ghost )?use Rattle\.([\w.]+?)(?:\.\{(.*)\}| as (\S+?))?;?\s*(?:--.*)?$")
+HEAD = re.compile(r" *((?:abbrev|unfoldable|pub|record|data) )*([^\s:(){}]+)")
+NAME = re.compile(r"(?<![\w.\])}'])[^\W\d][\w'-]*(?:\.[^\W\d][\w'-]*)*")
+
+
+@dataclasses.dataclass
+class Definition:
+    module: str
+    name: str
+    lines: list = dataclasses.field(default_factory=list)  # its comments first
+    around: str = ""  # the parameters of the module that it stands in
+
+    def text(self):
+        return self.around + "\n" + code("\n".join(self.lines))
+
+    def fields(self):
+        """The names that a record or a type gives its parts, which mean no definition inside of it."""
+        return set(re.findall(r"^ +pub ([^\s:]+) :", "\n".join(self.lines), re.M))
+
+    def constructors(self):
+        at = next((number for number, line in enumerate(self.lines) if re.match(r" *(abbrev )?(pub )?data ", line)), None)
+        if at is None:
+            return []
+        deep = len(self.lines[at]) - len(self.lines[at].lstrip()) + 2
+        return [it[1] for line in self.lines[at + 1:] if (it := re.match(r" {%d}([^\s:-][^\s:]*)(?: [^\s:]+)* :" % deep, line))]
+
+
+def code(text):
+    """A text without its comments and the words in it that are data."""
+    return re.sub(r"(^| )--.*|//.*", "", re.sub(r'"[^"\n]*"', '""', text), flags=re.M)
+
+
+def read(path):
+    with open(path, encoding="utf-8") as file:
+        return file.read()
+
+
+def imports(text):
+    """What a file's names mean: those that are imported, as a module and a name in it, and those that stand for a module."""
+    names, modules = {}, {}
+    for line in text.splitlines():
+        found = USE.match(line.strip())
+        if found and found[2] is not None:
+            for it in found[2].split(","):
+                name, _, other = it.strip().partition(" as ")
+                names[other or name] = (found[1], name)
+        elif found:
+            modules[found[3] or found[1].rsplit(".", 1)[-1]] = found[1]
+    return names, modules
+
+
+class File:
+    """The definitions of a file of specs/."""
+
+    def __init__(self, path, module):
+        text = read(path)
+        self.module, self.definitions = module, {}
+        self.names, self.modules = imports(text)
+        self.owners = {}
+        base, around, waiting, now = 0, "", [], None
+        for line in text.splitlines():
+            deep = len(line) - len(line.lstrip())
+            if not line or line.startswith("use "):
+                waiting = []
+            elif line.lstrip().startswith("--") and deep <= base:
+                waiting.append(line)
+            elif deep == 0 and re.match(r"((abbrev )?mutual|module _ .* where)$", line):
+                base, around, waiting = 2, line if line.startswith("module") else "", []
+            elif deep > base or re.match(r" *[)\]}]", line):
+                now.lines += waiting + [line]
+                waiting = []
+            else:
+                if deep < base:
+                    base, around = deep, ""
+                if line.startswith("pub mod "):
+                    continue
+                name = HEAD.match(line)[2]
+                if not (now and now.name == name):
+                    now = self.definitions.setdefault(name, Definition(module, name, [], around))
+                now.lines += waiting + [line]
+                waiting = []
+        for it in self.definitions.values():
+            for name in it.constructors():
+                self.owners.setdefault(name, it.name)
+
+    def cited(self, text, but=frozenset()):
+        """The names of other definitions that a text of this file cites, each as a module and a name."""
+        for said in re.findall(NAME, re.sub(r"([{;] *)[\w'-]+ =(?!=)", r"\1", text)):
+            first, _, rest = said.partition(".")
+            if first in self.modules and rest:
+                yield self.modules[first], rest.partition(".")[0]
+            elif first in but:
+                continue
+            elif first in self.names:
+                yield self.names[first]
+            elif first in self.definitions or first in self.owners:
+                yield self.module, first
+
+
+@functools.cache
+def specs():
+    """The files of all specs/ by their modules."""
+    found = {}
+    for crate in sorted(os.listdir(f"{HERE}/crates")):
+        for at, _, files in os.walk(f"{HERE}/crates/{crate}/specs"):
+            for it in sorted(files):
+                if it.endswith(".antt"):
+                    path = os.path.relpath(f"{at}/{it}", f"{HERE}/crates")
+                    module = path[:-5].replace("/", ".")
+                    found[module] = File(f"{at}/{it}", module)
+    return found
+
+
+class Source(File):
+    """A file of code, with the names that its ghost clauses cite."""
+
+    def __init__(self, path):
+        self.text = read(path)
+        self.names, self.modules = imports(self.text)
+        self.module, self.definitions, self.owners = "", {}, {}
+
+    def contract(self, name):
+        """The clauses of a public function."""
+        found = re.search(r"^pub fn %s\b.*?^\{\n" % name, self.text, re.M | re.S)
+        return found and code(found[0][found[0].index(")"):])
+
+    def declared(self, crate, name):
+        """What a type stands on: what contracts see it as, or else the types of its parts."""
+        seen = re.search(r"^impl(?:<[^>]*>)? Model for %s\b.*?^\}" % name, self.text, re.M | re.S)
+        if seen:
+            value = re.search(r"ghost Value = \{(.*?)\};", seen[0], re.S)
+            yield from self.cited(value[1])
+            return
+        body = re.search(r"^pub (?:struct|enum) %s\b[^;{]*(?:;|\{.*?^\})" % name, self.text, re.M | re.S)
+        for said in set(re.findall(r"\b[A-Z]\w+", code(body[0]) if body else "")) - {name}:
+            where = re.search(r"^(?:pub )?use ([\w:]+?)::(?:\{[^;]*?\b%s\b[^;]*?\}|%s);" % (said, said), self.text, re.M | re.S)
+            owner = where[1].split("::")[0] if where else "crate"
+            owner = crate if owner in ("crate", "self", "super") else owner
+            if os.path.isdir(f"{HERE}/crates/{owner}"):
+                yield owner, said
+
+
+def source_of(crate, name, kind=r"(?:struct|enum)"):
+    """The file of code that has the item."""
+    for at, _, files in os.walk(f"{HERE}/crates/{crate}/src"):
+        for it in sorted(files):
+            path = f"{at}/{it}"
+            if it.endswith(".rt") and re.search(r"^pub %s %s\b" % (kind, name), read(path), re.M):
+                return path
+    return None
+
+
+def closure(starts):
+    """All definitions, and all types declared in code, that these stand on."""
+    found, types, due = {}, {}, list(starts)
+    while due:
+        module, name = due.pop()
+        crate, _, rest = module.partition(".")
+        if rest.startswith("specs.declared.") or rest == "declared":
+            # `..declared.FILE.Type` with the type's own name in it, or with its variants
+            type_ = name if rest == "declared" else next(it for it in reversed(rest.split(".")) if not it.startswith("The"))
+            path = source_of(crate, type_)
+            if path and (crate, type_) not in types:
+                types[crate, type_] = os.path.relpath(path, f"{HERE}/crates")
+                for owner, said in Source(path).declared(crate, type_):
+                    due.append((owner, said) if "." in owner else (owner + ".declared", said))
+            continue
+        file = specs().get(module)
+        if not file and module.rpartition(".")[0] in specs():
+            # the constructors of a type
+            module, _, name = module.rpartition(".")
+            file = specs()[module]
+        if not file:
+            if os.path.isdir(f"{HERE}/crates/{crate}"):
+                raise SystemExit(f"closure.py: there is no {module}")
+            continue
+        name = name if name in file.definitions else file.owners.get(name, name)
+        if (module, name) in found:
+            continue
+        if name not in file.definitions:
+            raise SystemExit(f"closure.py: {module} has no {name}")
+        it = found[module, name] = file.definitions[name]
+        due += file.cited(it.text(), it.fields())
+    return found, types
+
+
+def roots():
+    for crate, names in ROOTS.items():
+        for name in names:
+            path = source_of(crate, name, "fn")
+            if not path:
+                raise SystemExit(f"closure.py: {crate} has no public {name}")
+            it = Source(path)
+            yield from it.cited(it.contract(name))
+
+
+def lines_by_file(found):
+    counts = {}
+    for (module, _), it in sorted(found.items()):
+        path = module.replace(".", "/") + ".antt"
+        counts[path] = counts.get(path, 0) + len(it.lines)
+    return counts
+
+
+def told(found, types):
+    """The sentence that counts what is found."""
+    counts = lines_by_file(found)
+    core, _ = closure([CORE])
+    return "In all %s lines in %d files, of which %s lines in %d files say that a list of events is linearizable; they speak of %d types that the code declares." % (
+        f"{sum(counts.values()):,}", len(counts), f"{sum(lines_by_file(core).values()):,}", len(lines_by_file(core)), len(types))
+
+
+def show(found, types):
+    for path, count in lines_by_file(found).items():
+        print(path, count, *sorted(name for (module, name) in found if module.replace(".", "/") + ".antt" == path))
+    print("types:", *sorted(f"{path}:{name}" for (_, name), path in types.items()))
+    print(sum(lines_by_file(found).values()), "lines")
+
+
+def main():
+    if sys.argv[1:2] == ["--of"]:
+        starts = [(module, name) for module, file in specs().items() for name in sys.argv[2:] if name in file.definitions]
+        show(*closure(starts))
+        return 0
+    found, types = closure(roots())
+    if sys.argv[1:2] == ["--names"]:
+        show(found, types)
+        return 0
+    text = read(PROOF)
+    before, list_, behind = re.fullmatch("(.*%s)(.*)(%s.*)" % tuple(map(re.escape, MARKS)), text, re.S).groups()
+    counts, sentence = lines_by_file(found), told(found, types)
+    if sys.argv[1:2] == ["--write"]:
+        list_ = re.sub(r"`(\w+/specs/[\w/]+\.antt)` \(\d*\)", lambda it: "`%s` (%d)" % (it[1], counts.get(it[1], 0)), list_)
+        list_ = re.sub(r"^In all .* declares\.$", sentence, list_, flags=re.M)
+        with open(PROOF, "w", encoding="utf-8") as file:
+            file.write(before + list_ + behind)
+    listed = {path: int(count) for path, count in re.findall(r"`(\w+/specs/[\w/]+\.antt)` \((\d+)\)", list_)}
+    faults = [f"missing: {path} ({counts[path]})" for path in counts if path not in listed]
+    faults += [f"too many: {path}" for path in listed if path not in counts]
+    faults += [f"{path}: {listed[path]} lines listed, {counts[path]} found" for path in counts if listed.get(path, counts[path]) != counts[path]]
+    faults += [] if sentence in list_.splitlines() else [f"found: {sentence}"]
+    print(sentence, *faults, sep="\n")
+    print(f"{len([path for path in counts if listed.get(path) == counts[path]])} passed, {len(faults)} failed")
+    return 1 if faults else 0
+
+
+if __name__ == "__main__":
+    sys.exit(main())
