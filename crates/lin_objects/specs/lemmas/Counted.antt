@@ -1,0 +1,34 @@
+-- How many elements of a list pass a test.
+use Rattle.std.proofs.Common.{◌≡◌, ℕ, suc, ◌+◌, ◌≤◌, Bool, true, false, cond, List, [], ◌∷◌, count_by, inl, inr, refl, ap, ◌∙◌, true≢false, arith, nat_le, nat_lt, nat_eq, sym, ◌<◌}
+use Rattle.std.proofs.lemmas.List.Sums.{sum_by-cons}
+use Rattle.std.proofs.lemmas.Bool.Decides.{leb_tells, eqb_tells, Decides-ltb}
+
+module _ {X : Type 0} (p : X → Bool) (x : X) (xs : List X) where
+  pub count_yes : p x ≡ true → count_by p (x ∷ xs) ≡ suc (count_by p xs)
+  count_yes e = sum_by-cons (λ y. cond (p y) 1 0) x xs ∙ ap (λ b. cond b 1 0 + count_by p xs) e ∙ omega arith
+
+  pub count_no : p x ≡ false → count_by p (x ∷ xs) ≡ count_by p xs
+  count_no e = sum_by-cons (λ y. cond (p y) 1 0) x xs ∙ ap (λ b. cond b 1 0 + count_by p xs) e ∙ omega arith
+
+  -- where none passes, neither the first one does nor one of the rest
+  pub none_counted : count_by p (x ∷ xs) ≤ 0 → (p x ≡ false) × (count_by p xs ≤ 0)
+  none_counted none = by (p x) refl
+    where
+      by : (b : Bool) → p x ≡ b → (p x ≡ false) × (count_by p xs ≤ 0)
+      by true e = let more = count_yes e in absurd (omega (arith, none))
+      by false e = let same = count_no e in (e, omega (arith, none))
+
+pub from_le : (m n : ℕ) → nat_le m n ≡ true → m ≤ n
+from_le m n e = elim (leb_tells m n) [
+  | inl is ↦ is.1
+  | inr no' ↦ absurd (true≢false (sym e ∙ no'.0))
+]
+
+pub from_eq : (m n : ℕ) → nat_eq m n ≡ true → m ≡ n
+from_eq m n e = elim (eqb_tells m n) [
+  | inl is ↦ is.1
+  | inr no' ↦ absurd (true≢false (sym e ∙ no'.0))
+]
+
+pub from_lt : (m n : ℕ) → nat_lt m n ≡ true → m < n
+from_lt m n e = (Decides-ltb m n).0 e
