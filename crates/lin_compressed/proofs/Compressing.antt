@@ -21,7 +21,7 @@ use Rattle.lin_members.specs.declared.members.Path.{Path}
 use Rattle.lin_frontier.specs.declared.pending.Open.{Open}
 use Rattle.lin_members.specs.Compressed.{IsSpelled, IsCovering, IsCompressed, CompressedSpellLegalOrders}
 use Rattle.lin_frontier.specs.Frontiers.{IsPending, IsNextEvent}
-use Rattle.lin_members.specs.MemberLaws.{first_member, IsDominatedAt, StartCompleteLaw, DroppingLaw, ThinningLaw, InvocationKeepsLaw, InfoKeepsLaw, FailKeepsLaw, ObserverSearchLaw, UpdateSearchLaw, CommutingOkLaw}
+use Rattle.lin_members.specs.MemberLaws.{first_member, IsDominatedAt, StartCompleteLaw, DroppingLaw, ThinningLaw, InvocationKeepsLaw, InfoKeepsLaw, FailKeepsLaw, ObserverSearchLaw, UpdateSearchLaw}
 use Rattle.lin_members.specs.Members.{Member, IsOnOffer, Dominates}
 use Rattle.lin_frontier.specs.Nodes.{IsGrown}
 use Rattle.lin_members.specs.Overwritten.{AllowsOverwritten, IsAbove, IsCompleteFor}
@@ -57,7 +57,6 @@ pub record Laws {S : Type 0} (start : S) (step : S → Call → S → Reply → 
   pub fail : FailKeepsLaw start step
   pub observer : ObserverSearchLaw start step
   pub update : UpdateSearchLaw start step
-  pub commuting : CommutingOkLaw start step
   pub fewer : FewerLaw start step
   pub places : TrailPlacesLaw start step
   pub trail_invocation : TrailInvocationLaw start step
@@ -126,7 +125,7 @@ module _ {S : Type 0} (start : S) (step : S → Call → S → Reply → Type 0)
       returned : (name : Name) (reply : Reply) → event.body ≡ Ok name reply → (o : Open) → Contains before o → o.process ≡ event.process → IsReturnOf step observes o reply pending nodes members out
           → IsCovering start step observes false (with_event h event) out nodes
       returned name reply body o there of r = record {
-        complete = returned_complete observes functions h event name reply body laws.unique alternates pending opened step before next.opened earlier o there of start next.well_formed laws.observer laws.update laws.commuting nodes members out r rising
+        complete = returned_complete observes functions h event name reply body laws.unique alternates pending opened step before next.opened earlier o there of start next.well_formed laws.observer laws.update nodes members out r rising
             reached_rising found_rising c.complete;
         spelled = returned_spelled observes functions h event name reply body laws.unique alternates pending opened start step nodes before next.opened next.well_formed o there of earlier_well_formed observing laws.places
             laws.trail_observer laws.trail_return laws.trail_ok members out r c.spelled;

@@ -27,7 +27,7 @@ use Rattle.lin_objects.specs.lemmas.Outs.{bag_long, bag_without, from_bag, in_ba
 
 module _ {S : Type 0} (step : S → Call → S → Reply → Type 0) where
   -- one more call at the end
-  takes_last : (others : List (ℕ × Call × Reply)) (state mid last : S) (x : ℕ × Call × Reply) → Takes step state others mid → step mid x.1 last x.2 → Takes step state (others ++ x ∷ []) last
+  pub takes_last : (others : List (ℕ × Call × Reply)) (state mid last : S) (x : ℕ × Call × Reply) → Takes step state others mid → step mid x.1 last x.2 → Takes step state (others ++ x ∷ []) last
   takes_last [] state mid last x takes steps = (last, subst (λ s. step s x.1 last x.2) (sym takes) steps, refl)
   takes_last (y ∷ others) state mid last x takes steps = (takes.0, takes.1, takes_last others takes.0 mid last x takes.2 steps)
 

@@ -1,6 +1,7 @@
 -- How many elements of a list pass a test.
-use Rattle.std.proofs.Common.{◌≡◌, ℕ, suc, ◌+◌, ◌≤◌, Bool, true, false, cond, List, [], ◌∷◌, count_by, inl, inr, refl, ap, ◌∙◌, true≢false, arith, nat_le, nat_lt, nat_eq, sym, ◌<◌}
-use Rattle.std.proofs.lemmas.List.Sums.{sum_by-cons}
+use Rattle.std.proofs.Common.{◌≡◌, ℕ, suc, ◌+◌, ◌≤◌, Bool, true, false, cond, List, [], ◌∷◌, ◌++◌, count_by, Contains, inl, inr, refl, ap, ◌∙◌, true≢false, arith, nat_le, nat_lt, nat_eq, sym, ◌<◌}
+use Rattle.std.proofs.lemmas.List.Sums.{sum_by-append, sum_by-cons}
+use Rattle.lin_lists.specs.lemmas.Elements.{first_or_rest}
 use Rattle.std.proofs.lemmas.Bool.Decides.{leb_tells, eqb_tells, Decides-ltb}
 
 module _ {X : Type 0} (p : X → Bool) (x : X) (xs : List X) where
@@ -32,3 +33,31 @@ from_eq m n e = elim (eqb_tells m n) [
 
 pub from_lt : (m n : ℕ) → nat_lt m n ≡ true → m < n
 from_lt m n e = (Decides-ltb m n).0 e
+
+module _ {X : Type 0} (p : X → Bool) where
+  -- one passes
+  pub some_counted : (xs : List X) (x : X) → Contains xs x → p x ≡ true → 1 ≤ count_by p xs
+  some_counted [] x there e = absurd (let inside = there.1 in omega arith)
+  some_counted (y ∷ ys) x there e = elim (first_or_rest y ys x there) [
+    | inl same ↦ let more = count_yes p y ys (ap p same ∙ e) in omega (arith, more)
+    | inr later ↦
+        let least = some_counted ys x later e in
+        by (p y) refl least
+  ]
+    where
+      by : (b : Bool) → p y ≡ b → 1 ≤ count_by p ys → 1 ≤ count_by p (y ∷ ys)
+      by true q least = let more = count_yes p y ys q in omega (arith, more)
+      by false q least = let same = count_no p y ys q in omega (arith, same, least)
+
+  -- none passes
+  pub nothing_counted : (xs : List X) → ((x : X) → Contains xs x → p x ≡ false) → count_by p xs ≡ 0
+  nothing_counted [] none = refl
+  nothing_counted (y ∷ ys) none = count_no p y ys (none y (0, omega arith, refl)) ∙ nothing_counted ys (λ x there. none x (suc there.0, omega (arith, there.1), there.2))
+
+  -- one in the middle
+  pub count_middle : (xs : List X) (y : X) (ys : List X) → count_by p (xs ++ y ∷ ys) ≡ cond (p y) 1 0 + count_by p (xs ++ ys)
+  count_middle xs y ys =
+      let a = sum_by-append (λ z. cond (p z) 1 0) xs (y ∷ ys) in
+      let b = sum_by-cons (λ z. cond (p z) 1 0) y ys in
+      let c = sum_by-append (λ z. cond (p z) 1 0) xs ys in
+      omega (arith, a, b, c)
