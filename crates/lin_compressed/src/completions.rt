@@ -64,6 +64,17 @@ fn push_next<S: Eq + Hash + Drop>(
     push_member(members, member)
 }
 
+/// The starts that a search has to note: none where nothing hinders the operation, since then it goes ahead at each.
+fn noted<'s, S: Eq + Hash>(
+    hindering: Option<usize>,
+    starts: &'s [&'s Member<S>],
+) -> &'s [&'s Member<S>] {
+    match hindering {
+        Some(0) => &[],
+        _ => starts,
+    }
+}
+
 impl<'a, O: SeqObject> Completion<'a, O> {
     /// What is on offer behind the state of the member.
     #[inline(always)]
@@ -675,7 +686,7 @@ impl<'a, O: SeqObject> Completion<'a, O> {
         ensures tried { IsTriedAtMost (limit * (2 * length self.now.pending.now + 1)) meter.old meter.new }
     {
         let hindering = self.hindering();
-        let mut seen = Seen::new(alloc, self.pending, starts)?;
+        let mut seen = Seen::new(alloc, self.pending, noted(hindering, starts))?;
         let mut out = found;
         for start in starts {
             let path = start.path();
