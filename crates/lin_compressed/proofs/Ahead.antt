@@ -44,5 +44,6 @@ no_more hinders (x ∷ xs) pending apart each =
               | inr there' ↦ Contains-append_right before behind k.0 there'
             ]
           ],
-          (k.2, k.3),
+          k.2,
+          k.3,
         )

@@ -31,7 +31,6 @@ use Rattle.lin_members.specs.RoundLaws.{ExactLaw, TrailStartLaw, FewerLaw, Trail
 use Rattle.lin_members.specs.Rounds.{IsTrailOf, root}
 use Rattle.lin_members.specs.Searching.{CompletesOpen, IsAboveIn, IsNextOf, IsPruned, IsReached, IsReturnOf}
 use Rattle.lin_members.specs.Settling.{AreFewer, IsThinned}
-use Rattle.lin_compressed.proofs.Ahead.{found_sound}
 use Rattle.lin_compressed.proofs.Alone.{allows_none}
 use Rattle.lin_compressed.proofs.Answering.{returned_complete}
 use Rattle.lin_members.specs.lemmas.Awaiting.{open_pending}
@@ -144,7 +143,7 @@ module _ {S : Type 0} (start : S) (step : S → Call → S → Reply → Type 0)
 
           found_rising : (n : Member S × Path) → Contains r.found n → IsRising n.0.placed
           found_rising n within =
-              let s = found_sound step observes o reply pending nodes r.starts r.found r.searched n within in
+              let s = r.searched.sound n within in
               let rising_there = reached_rising s.0 s.1 in
               elim s.2 [
                 | inl a ↦ subst IsRising (sym (ap (λ (k : Member S). k.placed) a.same)) rising_there
