@@ -18,7 +18,7 @@ no_more hinders (x ∷ xs) pending apart each =
     let rest = no_more hinders xs (before ++ behind) (tail_pairs (λ (a : ℕ × Call × Reply) (b : ℕ × Call × Reply). a.0 ≢ b.0) x xs apart) others in
     let one = sum_by-cons (λ (y : ℕ × Call × Reply). cond (hinders y.1) 1 0) x xs in
     let own = count_middle (λ (o : Open). hinders o.call) before t.0 behind in
-    let same = ap (λ a. cond (hinders a) 1 0) t.3 in
+    let same = ap {B = ℕ} (λ (a : Call). cond (hinders a) 1 0) t.3 in
     subst (λ (l : List Open). count_by (λ (y : ℕ × Call × Reply). hinders y.1) (x ∷ xs) ≤ count_by (λ (o : Open). hinders o.call) l) whole (omega (arith, rest, one, own, same))
   where
     t : (o : Open) × Contains pending o × (o.process ≡ x.0) × (o.call ≡ x.1)
