@@ -1,68 +1,49 @@
--- What an update that goes ahead of all others makes of members at once.
-use Rattle.std.proofs.Common.{◌≡◌, ℕ, ◌+◌, ◌<◌, ◌≤◌, List, [], ◌∷◌, ◌++◌, length, map, take, get_or, Contains, inl, inr, sym, ap, subst, ◌∙◌, arith, Bool, Option}
-use Rattle.std.proofs.lemmas.List.{take_all, take_more, get_or-map, length-map}
-use Rattle.std.proofs.lemmas.List.Elements.{Contains-push, Contains-push_cases, Contains-append_left}
+-- Operations that are open beside one that goes ahead of them.
+use Rattle.std.proofs.Common.{◌≡◌, ◌≢◌, ◌≤◌, ◌+◌, ℕ, suc, Bool, cond, List, [], ◌∷◌, ◌++◌, AllPairs, Contains, count_by, take, drop, inl, inr, sym, ap, subst, ◌∙◌, arith, refl}
+use Rattle.std.proofs.lemmas.List.Elements.{Contains-append_cases, Contains-append_left, Contains-append_right}
+use Rattle.std.proofs.lemmas.List.Sums.{sum_by-cons}
+use Rattle.lin_lists.specs.lemmas.Elements.{first_or_rest}
+use Rattle.lin_lists.specs.lemmas.Taken.{split_at}
 use Rattle.lin_events.specs.declared.calls.Call.{Call}
 use Rattle.lin_events.specs.declared.calls.Reply.{Reply}
-use Rattle.lin_orders.specs.declared.placed.Placed.{Placed}
-use Rattle.lin_members.specs.declared.members.Path.{Path}
+use Rattle.lin_objects.specs.lemmas.Counted.{count_middle}
 use Rattle.lin_frontier.specs.declared.pending.Open.{Open}
-use Rattle.lin_members.specs.Members.{Member}
-use Rattle.lin_frontier.specs.Nodes.{IsGrown}
-use Rattle.lin_members.specs.Searching.{IsCompleted, IsFinding, IsFoundFrom, IsMadeAtOnce, IsPassed, IsReached, start}
-use Rattle.lin_compressed.proofs.Completing.{completed_stays, passed_stays}
-use Rattle.lin_listing.specs.lemmas.Visiting.{grown_grown, not_grown}
+use Rattle.lin_members.specs.lemmas.Choosing.{head_pairs, tail_pairs}
 
-module _ {S : Type 0} (step : S → Call → S → Reply → Type 0) (observes : Call → Bool) (operation : Open) (reply : Reply) (pending : List Open) where
-  pub at_once_none : (nodes : List (ℕ × (Placed × Option ℕ))) (out : List (Member S × Path)) → out ≡ [] → IsMadeAtOnce step observes operation reply pending nodes [] out
-  at_once_none nodes out empty = record {
-    each = λ m there. absurd (let inside = there.1 in omega arith);
-    sound = λ n there. absurd (let inside = (subst (λ l. Contains l n) empty there).1 in omega arith);
-  }
+-- calls of different processes, each of which is pending, are no more than those
+pub no_more : (hinders : Call → Bool) (calls : List (ℕ × Call × Reply)) (pending : List Open) → AllPairs (λ x y. x.0 ≢ y.0) calls
+    → ((x : ℕ × Call × Reply) → Contains calls x → (o : Open) × Contains pending o × (o.process ≡ x.0) × (o.call ≡ x.1)) → count_by (λ x. hinders x.1) calls ≤ count_by (λ o. hinders o.call) pending
+no_more hinders [] pending apart each = omega arith
+no_more hinders (x ∷ xs) pending apart each =
+    let rest = no_more hinders xs (before ++ behind) (tail_pairs (λ (a : ℕ × Call × Reply) (b : ℕ × Call × Reply). a.0 ≢ b.0) x xs apart) others in
+    let one = sum_by-cons (λ (y : ℕ × Call × Reply). cond (hinders y.1) 1 0) x xs in
+    let own = count_middle (λ (o : Open). hinders o.call) before t.0 behind in
+    let same = ap {B = ℕ} (λ (a : Call). cond (hinders a) 1 0) t.3 in
+    subst (λ (l : List Open). count_by (λ (y : ℕ × Call × Reply). hinders y.1) (x ∷ xs) ≤ count_by (λ (o : Open). hinders o.call) l) whole (omega (arith, rest, one, own, same))
+  where
+    t : (o : Open) × Contains pending o × (o.process ≡ x.0) × (o.call ≡ x.1)
+    t = each x (0, omega arith, refl)
 
-  pub at_once_more : (nodes after : List (ℕ × (Placed × Option ℕ))) (starts : List (Member S × Path)) (m : Member S × Path) (out now : List (Member S × Path)) → IsGrown nodes after
-      → IsFinding step observes operation reply pending after m out now → IsPassed step observes operation reply pending now m → IsMadeAtOnce step observes operation reply pending nodes starts out
-      → IsMadeAtOnce step observes operation reply pending after (starts ++ m ∷ []) now
-  at_once_more nodes after starts m out now grown finding passed h = record {
-    each = λ k there. elim (Contains-push_cases starts m k there) [
-      | inl before ↦ passed_stays step observes pending operation reply k out now finding.kept (h.each k before)
-      | inr same ↦ subst (IsPassed step observes operation reply pending now) same passed
-    ];
-    sound = λ n there. elim (finding.sound n there) [
-      | inl old ↦ let s = h.sound n old in (s.0, Contains-append_left starts (m ∷ []) s.0 s.1, completed_stays step observes pending operation reply nodes after s.0 n grown s.2)
-      | inr made ↦ (m, Contains-push starts m, made)
-    ];
-  }
+    before : List Open
+    before = take t.1.0 pending
 
-  -- those of a list so far
-  pub record IsAtOnce (starts : List (Member S × Path)) (first nodes : List (ℕ × (Placed × Option ℕ))) (i : ℕ) (out : List (Member S × Path)) : Type 0 where
-    pub within : i ≤ length starts
-    pub nodes_grown : IsGrown first nodes
-    pub made : IsMadeAtOnce step observes operation reply pending nodes (take i starts) out
+    behind : List Open
+    behind = drop (suc t.1.0) pending
 
-  pub at_once_start : (starts : List (Member S × Path)) (nodes : List (ℕ × (Placed × Option ℕ))) (out : List (Member S × Path)) → out ≡ [] → IsAtOnce starts nodes nodes 0 out
-  at_once_start starts nodes out empty = record { within = omega arith; nodes_grown = not_grown nodes; made = at_once_none nodes out empty }
+    whole : before ++ t.0 ∷ behind ≡ pending
+    whole = split_at pending t.1.0 t.0 t.1.1 (sym t.1.2)
 
-  pub at_once_next : {B : Type 0} (f : B → Member S × Path) (xs : List B) (first nodes after : List (ℕ × (Placed × Option ℕ))) (i : ℕ) (x : B) (out now : List (Member S × Path)) → i < length xs → x ≡ get_or xs i x → IsGrown nodes after
-      → IsFinding step observes operation reply pending after (f x) out now → IsPassed step observes operation reply pending now (f x) → IsAtOnce (map f xs) first nodes i out → IsAtOnce (map f xs) first after (i + 1) now
-  at_once_next f xs first nodes after i x out now inside is grown finding passed h =
-      let many = length-map xs f in
-      let same : f x ≡ get_or (map f xs) i (f x) = sym (get_or-map f xs i x (f x) inside ∙ ap f (sym is)) in
-      record {
-        within = omega (arith, many, inside);
-        nodes_grown = grown_grown first nodes after h.nodes_grown grown;
-        made = subst (λ l. IsMadeAtOnce step observes operation reply pending after l now) (ap (λ y. take i (map f xs) ++ y ∷ []) same ∙ sym (take_more (map f xs) i (f x) (omega (arith, many, inside))))
-            (at_once_more nodes after (take i (map f xs)) (f x) out now grown finding passed h.made);
-      }
-
-  pub at_once_end : (starts : List (Member S × Path)) (first nodes : List (ℕ × (Placed × Option ℕ))) (i : ℕ) (out : List (Member S × Path)) → length starts ≤ i → IsAtOnce starts first nodes i out
-      → IsMadeAtOnce step observes operation reply pending nodes starts out
-  at_once_end starts first nodes i out past h = subst (λ l. IsMadeAtOnce step observes operation reply pending nodes l out) (take_all i starts past) h.made
-
-  -- what is found comes from a start, be it by a search or at once
-  pub found_sound : (nodes : List (ℕ × (Placed × Option ℕ))) (starts out : List (Member S × Path)) → IsFoundFrom step observes operation reply pending nodes starts out → (n : Member S × Path) → Contains out n
-      → (m : Member S × Path) × IsReached step observes pending nodes starts m × IsCompleted step observes operation reply pending nodes m n
-  found_sound nodes starts out found n there = elim found [
-    | inl searched ↦ searched.sound n there
-    | inr ahead ↦ let s = ahead.1.sound n there in (s.0, start s.1, s.2)
-  ]
+    others : (y : ℕ × Call × Reply) → Contains xs y → (o : Open) × Contains (before ++ behind) o × (o.process ≡ y.0) × (o.call ≡ y.1)
+    others y there =
+        let k = each y (suc there.0, omega (arith, there.1), there.2) in (
+          k.0,
+          elim (Contains-append_cases before (t.0 ∷ behind) k.0 (subst (λ (l : List Open). Contains l k.0) (sym whole) k.1)) [
+            | inl earlier ↦ Contains-append_left before behind k.0 earlier
+            | inr later ↦ elim (first_or_rest t.0 behind k.0 later) [
+              | inl same ↦ absurd (head_pairs (λ (a : ℕ × Call × Reply) (b : ℕ × Call × Reply). a.0 ≢ b.0) x xs y apart there (sym t.2 ∙ ap (λ (o : Open). o.process) same ∙ k.2))
+              | inr there' ↦ Contains-append_right before behind k.0 there'
+            ]
+          ],
+          k.2,
+          k.3,
+        )

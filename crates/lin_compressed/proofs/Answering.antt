@@ -11,7 +11,6 @@ use Rattle.lin_events.specs.Operations.{IsOpen}
 use Rattle.lin_events.specs.WellFormed.{IsWellFormed}
 use Rattle.lin_events.specs.WellFormedLaws.{EndsAreUnique}
 use Rattle.lin_events.specs.lemmas.OneMore.{one_open, one_call}
-use Rattle.lin_objects.specs.Commuting.{GoesFirst}
 use Rattle.lin_orders.specs.declared.placed.Placed.{Placed}
 use Rattle.lin_orders.specs.ConfigurationLaws.{with_event}
 use Rattle.lin_orders.specs.Configurations.{IsRising, IsAdded, IsPlacing}
@@ -20,10 +19,10 @@ use Rattle.lin_frontier.specs.declared.pending.Open.{Open}
 use Rattle.lin_members.specs.Covers.{HasCrashed}
 use Rattle.lin_members.specs.Exchanges.{AreAlike, Exchange, IsExchanged}
 use Rattle.lin_frontier.specs.Frontiers.{IsPending}
-use Rattle.lin_members.specs.MemberLaws.{IsTaken, IsSearched, CommutingOkLaw, ObserverSearchLaw, UpdateSearchLaw}
+use Rattle.lin_members.specs.MemberLaws.{IsAheadOfAll, IsAheadOfOpen, IsTaken, IsSearched, ObserverSearchLaw, UpdateSearchLaw}
 use Rattle.lin_members.specs.Members.{Member, IsComplete, IsOnOffer, IsWatching, IsGiven, IsUpdate, DominatesAt, Dominates}
 use Rattle.lin_frontier.specs.Placing.{IsAbsent, insert_pair}
-use Rattle.lin_members.specs.Searching.{is_watching, rest_of, CanTake, DominatesOver, GivesAny, GoesAhead, IsMade, IsMadeAtOnce, IsPassed, IsReached, IsReturnOf, IsSearchOf, IsSearchedFor, IsSearchedIn}
+use Rattle.lin_members.specs.Searching.{is_watching, rest_of, CanTake, DominatesOver, GivesAny, GoesAhead, IsFoundFrom, IsMade, IsPassed, IsReached, IsReturnOf, IsSearchedFor, IsSearchedIn}
 use Rattle.lin_frontier.specs.Masks.{is_crashed}
 use Rattle.lin_members.specs.lemmas.Awaiting.{open_pending, pending_crashed}
 use Rattle.lin_members.specs.lemmas.Crashes.{crash_before, crashed_open, ok_no_info}
@@ -32,6 +31,7 @@ use Rattle.lin_members.specs.lemmas.Exchanging.{change, change_first, change_nei
 use Rattle.lin_frontier.specs.lemmas.Inserting.{absent_from, kept_by, insert_added, insert_is, none_from, without_is}
 use Rattle.lin_lists.specs.lemmas.Filters.{from_map, in_map}
 use Rattle.lin_members.specs.lemmas.Pruned.{copy_dominates, watching_from, watching_to, crashed_to}
+use Rattle.lin_compressed.proofs.Ahead.{no_more}
 use Rattle.lin_compressed.proofs.Returned.{passes}
 
 module _ (observes : Call → Bool) (functions : ℤ → Name → Bool) (h : List Event) (event : Event) (name : Name) (reply : Reply) (body : event.body ≡ Ok name reply)
@@ -238,13 +238,10 @@ module _ (observes : Call → Bool) (functions : ℤ → Name → Bool) (h : Lis
             | inr crashed ↦ inr (crashed_to functions (with_event h event) pending opened unique alternates x.0 crashed)
           ]
 
-      pub returned_complete : (begin : S) → IsWellFormed functions (with_event h event) → ObserverSearchLaw begin step → UpdateSearchLaw begin step → CommutingOkLaw begin step → (nodes : List (ℕ × (Placed × Option ℕ))) (members out : List (Member S × Path))
+      pub returned_complete : (begin : S) → IsWellFormed functions (with_event h event) → ObserverSearchLaw begin step → UpdateSearchLaw begin step → (nodes : List (ℕ × (Placed × Option ℕ))) (members out : List (Member S × Path))
           → (r : IsReturnOf step observes o reply pending nodes members out) → ((m : Member S × Path) → Contains members m → IsRising m.0.placed) → ((m : Member S × Path) → IsReached step observes pending nodes r.starts m → IsRising m.0.placed)
           → ((m : Member S × Path) → Contains r.found m → IsRising m.0.placed) → IsComplete begin step observes h (map (λ k. k.0) members) → IsComplete begin step observes (with_event h event) (map (λ k. k.0) out)
-      returned_complete begin well_formed by_observer by_update by_commuting nodes members out r rising reached_rising found_rising complete = elim r.searched [
-        | inl s ↦ by_search s
-        | inr a ↦ at_once a.0 a.1
-      ]
+      returned_complete begin well_formed by_observer by_update nodes members out r rising reached_rising found_rising complete = by_search r.searched
         where
           found_out : (n : Member S × Path) → Contains r.found n → Contains out n
           found_out n there = subst (λ l. Contains l n) (sym r.both) (Contains-append_left r.found r.made n there)
@@ -268,30 +265,16 @@ module _ (observes : Call → Bool) (functions : ℤ → Name → Bool) (h : Lis
               let found = passed.returns update d.0 (subst (λ a. step k.0.state a d.0 reply) call (subst (λ a. step k.0.state placing.call d.0 a) same placing.steps)) in
               (found.0.0, in_map (λ (x : Member S × Path). x.0) out found.0 (found_out found.0 found.1), returned_to k.0 found.0.0 d (found_rising found.0 found.1) found.2)
 
-          -- where the operation goes ahead of all others
-          at_once : GoesAhead step observes o pending → IsMadeAtOnce step observes o reply pending nodes r.starts r.found → IsComplete begin step observes (with_event h event) (map (λ k. k.0) out)
-          at_once ahead made =
-              by_commuting observes functions h event name reply body well_formed (own_call false ahead.update)
-              (λ at q key call is. let t = open_pending (with_event h event) pending opened at q key call is in ap observes (sym t.4) ∙ (beside t.0 t.1).0)
-              (λ at other_at q key other_key call other is other_is.
-              let t = open_pending (with_event h event) pending opened other_at q other_key other other_is in
-              subst (λ a. GoesFirst step a other) (sym (same_call at key call is)) (subst (GoesFirst step o.call) t.4 (beside t.0 t.1).1))
-              (map (λ k. k.0) members) (map (λ k. k.0) out) taken emitted complete
-            where
-              beside : (t : Open) → Contains pending t → (observes t.call ≡ false) × GoesFirst step o.call t.call
-              beside t there = All-contains (λ (p : Open). (observes p.call ≡ false) × GoesFirst step o.call p.call) pending t ahead.beside there
+          -- where the operation goes ahead of what is pending, it does so of all that is open
+          ahead_of_all : (state : S) → GoesAhead step observes o reply pending state → IsAheadOfAll step observes h (with_event h event) event.process reply state
+          ahead_of_all state ahead = (
+            λ at q key call is. let t = open_pending (with_event h event) pending opened at q key call is in ap observes (sym t.4) ∙ All-contains (λ (p : Open). observes p.call ≡ false) pending t.0 ahead.quiet t.1,
+            λ at key call is. subst (λ a. IsAheadOfOpen step (with_event h event) state a reply) (sym (same_call at key call is)) (λ others mid last apart opens takes steps. ahead.ahead others mid last
+                (no_more ahead.hinders others pending apart (λ x there. let is_open = opens x there in
+                let t = open_pending (with_event h event) pending opened is_open.0 x.0 is_open.1 x.1 is_open.2 in (t.0, t.1, t.3, t.4))) takes steps),
+          )
 
-              emitted : (m : Member S) → Contains (map (λ k. k.0) members) m → ((other : Reply) → Contains m.placed (event.process, other) → ⊥) → (d : S × List (ℕ × Reply)) (u : IsUpdate step observes h (m.state, m.placed) d) → u.1.process ≡ event.process
-                  → u.0.reply ≡ reply → (n : Member S) × Contains (map (λ k. k.0) out) n × DominatesAt observes (with_event h event) n d.0 m.placed (λ x. IsOnOffer m x ⊎ IsGiven step h m.state x)
-              emitted m there absent =
-                  let k = from_map (λ (x : Member S × Path). x.0) members m there in
-                  let free = subst (λ q. IsAbsent q k.0.0.placed) (sym o_of) (subst (λ (x : Member S). IsAbsent event.process x.placed) (sym k.2) (absent_from event.process m.placed absent)) in
-                  subst (λ (x : Member S). (d : S × List (ℕ × Reply)) (u : IsUpdate step observes h (x.state, x.placed) d) → u.1.process ≡ event.process → u.0.reply ≡ reply
-                  → (n : Member S) × Contains (map (λ k. k.0) out) n × DominatesAt observes (with_event h event) n d.0 x.placed (λ y. IsOnOffer x y ⊎ IsGiven step h x.state y)) k.2
-                  (returned ahead.update k.0 (made.each k.0 (r.begun.complete k.0 k.1 free)))
-
-          -- where they are searched for
-          by_search : IsSearchOf step observes o reply pending nodes r.starts r.found → IsComplete begin step observes (with_event h event) (map (λ k. k.0) out)
+          by_search : IsFoundFrom step observes o reply pending nodes r.starts r.found → IsComplete begin step observes (with_event h event) (map (λ k. k.0) out)
           by_search s = by (observes o.call) refl
             where
               visited : List (Member S × Path)
@@ -317,25 +300,35 @@ module _ (observes : Call → Bool) (functions : ℤ → Name → Bool) (h : Lis
                   subst (λ (x : Member S). ((n : Member S) × Contains (map (λ k. k.0) out) n × Dominates observes (with_event h event) n x)
                   ⊎ ((IsOnOffer x (event.process, reply) → ⊥) × (IsGiven step h x.state (event.process, reply) → ⊥) × IsSearched step observes h event.process (map (λ k. k.0) visited) x)) k.2
                   (elim (s.each k.0 k.1) [
-                    | inl done ↦ inl (
-                      done.1.0,
-                      in_map (λ (x : Member S × Path). x.0) out done.1 (found_out done.1 done.2),
-                      subst (λ (x : Member S). Dominates observes (with_event h event) x k.0.0) (sym done.3)
-                          (copy_dominates functions (with_event h event) pending opened unique alternates observes k.0 (visited_rising k.0 k.1)),
-                    )
+                    | inl settled ↦ elim settled [
+                      | inl done ↦ inl (
+                        done.1.0,
+                        in_map (λ (x : Member S × Path). x.0) out done.1 (found_out done.1 done.2),
+                        subst (λ (x : Member S). Dominates observes (with_event h event) x k.0.0) (sym done.3)
+                            (copy_dominates functions (with_event h event) pending opened unique alternates observes k.0 (visited_rising k.0 k.1)),
+                      )
+                      | inr ahead ↦ absurd (true≢false (sym observer ∙ ahead.0.update))
+                    ]
                     | inr p ↦ inr (never_offered k.0 (p.0.never observer), never_given k.0 (p.0.never observer), searched_to visited visited_rising k.0.0 p.1)
                   ])
 
-              passed : observes o.call ≡ false → (k : Member S × Path) → Contains visited k → IsPassed step observes o reply pending r.found k × IsSearchedIn step observes pending visited k.0
+              passed : observes o.call ≡ false → (k : Member S × Path) → Contains visited k → IsPassed step observes o reply pending r.found k × (IsSearchedIn step observes pending visited k.0 ⊎ GoesAhead step observes o reply pending k.0.state)
               passed update k there = elim (s.each k there) [
-                | inl done ↦ absurd (true≢false (sym done.0 ∙ update))
-                | inr p ↦ p
+                | inl settled ↦ elim settled [
+                  | inl done ↦ absurd (true≢false (sym done.0 ∙ update))
+                  | inr ahead ↦ (ahead.1, inr ahead.0)
+                ]
+                | inr p ↦ (p.0, inl p.1)
               ]
 
-              searched : observes o.call ≡ false → (m : Member S) → Contains (map (λ k. k.0) visited) m → IsSearched step observes h event.process (map (λ k. k.0) visited) m
+              searched : observes o.call ≡ false → (m : Member S) → Contains (map (λ k. k.0) visited) m
+                  → IsSearched step observes h event.process (map (λ k. k.0) visited) m ⊎ IsAheadOfAll step observes h (with_event h event) event.process reply m.state
               searched update m there =
                   let k = from_map (λ (x : Member S × Path). x.0) visited m there in
-                  subst (IsSearched step observes h event.process (map (λ x. x.0) visited)) k.2 (searched_to visited visited_rising k.0.0 (passed update k.0 k.1).1)
+                  subst (λ (n : Member S). IsSearched step observes h event.process (map (λ x. x.0) visited) n ⊎ IsAheadOfAll step observes h (with_event h event) event.process reply n.state) k.2 (elim (passed update k.0 k.1).1 [
+                    | inl all ↦ inl (searched_to visited visited_rising k.0.0 all)
+                    | inr ahead ↦ inr (ahead_of_all k.0.0.state ahead)
+                  ])
 
               returns : observes o.call ≡ false → (m : Member S) → Contains (map (λ k. k.0) visited) m → (d : S × List (ℕ × Reply)) (u : IsUpdate step observes h (m.state, m.placed) d) → u.1.process ≡ event.process → u.0.reply ≡ reply
                   → (n : Member S) × Contains (map (λ k. k.0) out) n × DominatesAt observes (with_event h event) n d.0 m.placed (λ x. IsOnOffer m x ⊎ IsGiven step h m.state x)

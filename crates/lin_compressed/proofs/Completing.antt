@@ -11,7 +11,7 @@ use Rattle.lin_frontier.specs.declared.pending.Open.{Open}
 use Rattle.lin_members.specs.Members.{Member, IsOnOffer}
 use Rattle.lin_frontier.specs.Nodes.{IsGrown}
 use Rattle.lin_frontier.specs.Placing.{IsAbsent, insert_pair}
-use Rattle.lin_members.specs.Searching.{is_watching, AreBehind, AreUpdates, BeginsRound, DominatesIn, DominatesOver, GivesAny, IsCompleted, IsDone, IsFinding, IsFromBehind, IsPassed, IsReached, start, next, IsSearchedIn, IsSearchOf, IsSuccessor, IsVisiting}
+use Rattle.lin_members.specs.Searching.{is_watching, AreBehind, AreUpdates, BeginsRound, DominatesIn, DominatesOver, GivesAny, IsCompleted, IsDone, IsFinding, IsFoundFrom, IsFromBehind, IsPassed, IsSettled, IsReached, start, next, IsSearchedIn, IsSuccessor, IsVisiting}
 use Rattle.lin_frontier.specs.lemmas.Closing.{any_default}
 use Rattle.lin_frontier.specs.lemmas.Inserting.{kept_by, passed_by}
 use Rattle.lin_members.specs.lemmas.Undominated.{above_itself}
@@ -235,9 +235,16 @@ module _ {S : Type 0} (step : S → Call → S → Reply → Type 0) (observes :
         let f = s o p d in_pending places in
         record { placed = f.placed; among = f.among; stands = f.stands; absent = f.absent; member = f.member; there = kept f.member f.there; dominates = f.dominates }
 
+    pub settled_stays : (m : Member S × Path) (out now : List (Member S × Path)) → ((n : Member S × Path) → Contains out n → Contains now n) → IsSettled step observes operation reply pending out m
+        → IsSettled step observes operation reply pending now m
+    settled_stays m out now kept settled = elim settled [
+      | inl done ↦ inl (done_stays m.0 out now kept done)
+      | inr ahead ↦ inr (ahead.0, passed_stays m out now kept ahead.1)
+    ]
+
     -- one of those visited is worked off
     abbrev pub IsWorkedOff : List (Member S × Path) → List (Member S × Path) → Member S × Path → Type 0
-    IsWorkedOff visited out m = IsDone observes operation pending out m.0 ⊎ (IsPassed step observes operation reply pending out m × IsSearchedIn step observes pending visited m.0)
+    IsWorkedOff visited out m = IsSettled step observes operation reply pending out m ⊎ (IsPassed step observes operation reply pending out m × IsSearchedIn step observes pending visited m.0)
 
     -- those visited below `at` are worked off
     pub record IsWorking (starts : List (Member S × Path)) (first nodes : List (ℕ × (Placed × Option ℕ))) (at : ℕ) (visited out : List (Member S × Path)) : Type 0 where
@@ -274,7 +281,7 @@ module _ {S : Type 0} (step : S → Call → S → Reply → Type 0) (observes :
 
         worked_still : (now : List (Member S × Path)) → ((n : Member S × Path) → Contains visited n → Contains now n) → (k : Member S × Path) → IsWorkedOff visited out k → IsWorkedOff now found k
         worked_still now kept k w = elim w [
-          | inl done ↦ inl (done_stays k.0 out found finding.kept done)
+          | inl settled ↦ inl (settled_stays k out found finding.kept settled)
           | inr p ↦ inr (passed_stays k out found finding.kept p.0, searched_stays k.0 visited now kept p.1)
         ]
 
@@ -287,8 +294,8 @@ module _ {S : Type 0} (step : S → Call → S → Reply → Type 0) (observes :
         at_this : (d : Member S × Path) → get_or visited at d ≡ m
         at_this d = any_default visited at d m inside ∙ sym is
 
-        -- the member took the reply
-        pub working_done : IsDone observes operation pending found m.0 → IsWorking starts first after (at + 1) visited found
+        -- the member is done with
+        pub working_done : IsSettled step observes operation reply pending found m → IsWorking starts first after (at + 1) visited found
         working_done done = record {
           nodes_grown = grown_grown first nodes after h.nodes_grown grown;
           begins = h.begins;
@@ -350,7 +357,7 @@ module _ {S : Type 0} (step : S → Call → S → Reply → Type 0) (observes :
 
         -- the one or the other
         pub working_next : (updates : List ((S × List (ℕ × Reply)) × Placed)) (o : Option (List (ℕ × (ℕ × Reply)))) (path : Path) (last : List (ℕ × (Placed × Option ℕ))) (now : List (Member S × Path)) → path ≡ m.1
-            → IfNone o (IsDone observes operation pending found m.0) → IfSome o (λ _. IsPassed step observes operation reply pending found m) → IfSome o (AreBehind step observes pending m)
+            → IfNone o (IsSettled step observes operation reply pending found m) → IfSome o (λ _. IsPassed step observes operation reply pending found m) → IfSome o (AreBehind step observes pending m)
             → IfSome o (λ _. AreUpdates step observes pending (m.0.state, m.0.placed) updates) → IsGrown after last
             → IfNone o ((now ≡ visited) × (last ≡ after)) → IfSome o (λ offers. IsVisiting observes pending updates offers path last visited now)
             → IsWorking starts first last (at + 1) now found
@@ -360,7 +367,7 @@ module _ {S : Type 0} (step : S → Call → S → Reply → Type 0) (observes :
             working_on last now updates offers passed behind tried more_nodes (subst (λ q. IsVisiting observes pending updates offers q last visited now) same visiting)
 
       pub working_end : (nodes : List (ℕ × (Placed × Option ℕ))) (at : ℕ) (visited out : List (Member S × Path)) → length visited ≤ at → IsWorking starts first nodes at visited out
-          → IsSearchOf step observes operation reply pending nodes starts out
+          → IsFoundFrom step observes operation reply pending nodes starts out
       working_end nodes at visited out past h = record {
         visited = visited;
         begins = h.begins;

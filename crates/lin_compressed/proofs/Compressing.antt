@@ -21,7 +21,7 @@ use Rattle.lin_members.specs.declared.members.Path.{Path}
 use Rattle.lin_frontier.specs.declared.pending.Open.{Open}
 use Rattle.lin_members.specs.Compressed.{IsSpelled, IsCovering, IsCompressed, CompressedSpellLegalOrders}
 use Rattle.lin_frontier.specs.Frontiers.{IsPending, IsNextEvent}
-use Rattle.lin_members.specs.MemberLaws.{first_member, IsDominatedAt, StartCompleteLaw, DroppingLaw, ThinningLaw, InvocationKeepsLaw, InfoKeepsLaw, FailKeepsLaw, ObserverSearchLaw, UpdateSearchLaw, CommutingOkLaw}
+use Rattle.lin_members.specs.MemberLaws.{first_member, IsDominatedAt, StartCompleteLaw, DroppingLaw, ThinningLaw, InvocationKeepsLaw, InfoKeepsLaw, FailKeepsLaw, ObserverSearchLaw, UpdateSearchLaw}
 use Rattle.lin_members.specs.Members.{Member, IsOnOffer, Dominates}
 use Rattle.lin_frontier.specs.Nodes.{IsGrown}
 use Rattle.lin_members.specs.Overwritten.{AllowsOverwritten, IsAbove, IsCompleteFor}
@@ -31,7 +31,6 @@ use Rattle.lin_members.specs.RoundLaws.{ExactLaw, TrailStartLaw, FewerLaw, Trail
 use Rattle.lin_members.specs.Rounds.{IsTrailOf, root}
 use Rattle.lin_members.specs.Searching.{CompletesOpen, IsAboveIn, IsNextOf, IsPruned, IsReached, IsReturnOf}
 use Rattle.lin_members.specs.Settling.{AreFewer, IsThinned}
-use Rattle.lin_compressed.proofs.Ahead.{found_sound}
 use Rattle.lin_compressed.proofs.Alone.{allows_none}
 use Rattle.lin_compressed.proofs.Answering.{returned_complete}
 use Rattle.lin_members.specs.lemmas.Awaiting.{open_pending}
@@ -57,7 +56,6 @@ pub record Laws {S : Type 0} (start : S) (step : S → Call → S → Reply → 
   pub fail : FailKeepsLaw start step
   pub observer : ObserverSearchLaw start step
   pub update : UpdateSearchLaw start step
-  pub commuting : CommutingOkLaw start step
   pub fewer : FewerLaw start step
   pub places : TrailPlacesLaw start step
   pub trail_invocation : TrailInvocationLaw start step
@@ -126,7 +124,7 @@ module _ {S : Type 0} (start : S) (step : S → Call → S → Reply → Type 0)
       returned : (name : Name) (reply : Reply) → event.body ≡ Ok name reply → (o : Open) → Contains before o → o.process ≡ event.process → IsReturnOf step observes o reply pending nodes members out
           → IsCovering start step observes false (with_event h event) out nodes
       returned name reply body o there of r = record {
-        complete = returned_complete observes functions h event name reply body laws.unique alternates pending opened step before next.opened earlier o there of start next.well_formed laws.observer laws.update laws.commuting nodes members out r rising
+        complete = returned_complete observes functions h event name reply body laws.unique alternates pending opened step before next.opened earlier o there of start next.well_formed laws.observer laws.update nodes members out r rising
             reached_rising found_rising c.complete;
         spelled = returned_spelled observes functions h event name reply body laws.unique alternates pending opened start step nodes before next.opened next.well_formed o there of earlier_well_formed observing laws.places
             laws.trail_observer laws.trail_return laws.trail_ok members out r c.spelled;
@@ -145,7 +143,7 @@ module _ {S : Type 0} (start : S) (step : S → Call → S → Reply → Type 0)
 
           found_rising : (n : Member S × Path) → Contains r.found n → IsRising n.0.placed
           found_rising n within =
-              let s = found_sound step observes o reply pending nodes r.starts r.found r.searched n within in
+              let s = r.searched.sound n within in
               let rising_there = reached_rising s.0 s.1 in
               elim s.2 [
                 | inl a ↦ subst IsRising (sym (ap (λ (k : Member S). k.placed) a.same)) rising_there

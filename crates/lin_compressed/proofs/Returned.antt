@@ -34,7 +34,6 @@ use Rattle.lin_members.specs.lemmas.Joining.{put_many}
 use Rattle.lin_listing.specs.lemmas.Onward.{spelled_rising}
 use Rattle.lin_members.specs.lemmas.Pruned.{watching_to}
 use Rattle.lin_objects.specs.Observing.{IsObserving}
-use Rattle.lin_compressed.proofs.Ahead.{found_sound}
 
 ok_no_invoke : {body : Body} {name : Name} {reply : Reply} → body ≡ Ok name reply → (call : Call) → body ≡ Invoke call → ⊥
 ok_no_invoke is call other = cc
@@ -200,7 +199,7 @@ module _ (observes : Call → Bool) (functions : ℤ → Name → Bool) (h : Lis
       returned_spelled well_formed_before observing places observer returns ok members out r each n there =
           elim (Contains-append_cases r.found r.made n (subst (λ l. Contains l n) r.both there)) [
             | inl found ↦
-                let s = found_sound step observes o reply pending nodes r.starts r.found r.searched n found in
+                let s = r.searched.sound n found in
                 let f = free_reached well_formed_before places r.starts begun s.0 s.1 in
                 elim s.2 [
                   | inl a ↦ spelled_answered observing observer s.0 n f.0 f.1 a

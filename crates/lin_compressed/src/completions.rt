@@ -5,8 +5,7 @@ ghost use Rattle.lin_members.specs.Members.{Member as MemberOf};
 ghost use Rattle.lin_members.specs.declared.members.Path.{Path as PathOf};
 ghost use Rattle.lin_frontier.specs.Nodes.{IsGrown};
 ghost use Rattle.lin_frontier.specs.Placing.{IsTried};
-ghost use Rattle.lin_objects.specs.Commuting.{GoesFirst};
-ghost use Rattle.lin_members.specs.Searching.{AreBehind, AreUpdates, PlacesIfUpdate, CanTake, GoesAhead, IsAnswered, IsVisiting, IsFinding, IsFoundFrom, IsDone, IsMadeAtOnce, IsOffering, IsPassed, IsSearchOf, GivesAny, DominatesIn, watched};
+ghost use Rattle.lin_members.specs.Searching.{AreBehind, AreUpdates, PlacesIfUpdate, AreHindering, CanTake, GoesAhead, IsAnswered, IsVisiting, IsFinding, IsFoundFrom, IsDone, IsOffering, IsPassed, IsSettled, GivesAny, DominatesIn, watched};
 ghost use Rattle.lin_listing.specs.Putting.{IsPutNext, IsTakenIn, IsTakenInIf};
 ghost use Rattle.lin_frontier.specs.Walks.{IsTriedAtMost};
 
@@ -82,6 +81,17 @@ fn push_next<S: Eq + Hash + Drop>(
 {
     let member = advanced(alloc, config, offers, path, placed, nodes)?;
     push_member(members, member)
+}
+
+/// The starts that a search has to note: none where nothing hinders the operation, since then it goes ahead at each.
+fn noted<'s, S: Eq + Hash>(
+    hindering: Option<usize>,
+    starts: &'s [&'s Member<S>],
+) -> &'s [&'s Member<S>] {
+    match hindering {
+        Some(0) => &[],
+        _ => starts,
+    }
 }
 
 impl<'a, O: SeqObject> Completion<'a, O> {
@@ -520,56 +530,76 @@ impl<'a, O: SeqObject> Completion<'a, O> {
         Ok(())
     }
 
-    /// Whether the operation can be taken ahead of this one: that one is no observer, and they commute.
-    fn goes_ahead_of(&self, other: &Open) -> bool
-        ensures { IsTrue result → (O.observing self.now.object.now other.now.call ≡ false) × GoesFirst (O.step self.now.object.now) self.now.operation.now.call other.now.call }
-    {
-        !self.object.observes(&other.call)
-            && self.object.commutes(&self.operation.call, &other.call)
-    }
-
-    /// Whether the operation can be taken ahead of all that are open beside it.
-    fn goes_ahead(&self) -> bool
-        ensures { IsTrue result → GoesAhead (O.step self.now.object.now) (O.observing self.now.object.now) self.now.operation.now self.now.pending.now }
+    /// How many of the operations that are open beside it hinder this one, an update; `None` where one of them observes, or it does.
+    fn hindering(&self) -> Option<usize>
+        ensures { IfSome result (AreHindering (O.observing self.now.object.now) (O.hindered self.now.object.now) self.now.operation.now self.now.reply.now self.now.pending.now) }
     {
         if self.object.observes(&self.operation.call) {
-            return false;
+            return None;
         }
+        let mut many = 0;
         for other in self.pending.as_slice() {
-            if !self.goes_ahead_of(other) {
-                return false;
+            if self.object.observes(&other.call) {
+                return None;
+            }
+            if self
+                .object
+                .is_hindered(&self.operation.call, self.reply, &other.call)
+            {
+                many += 1;
             }
         }
-        true
+        Some(many)
     }
 
-    /// What the operation, an update, makes of the members with its reply, with no other update placed ahead of it.
-    fn at_once(
+    /// Whether the operation, which so many others hinder, goes ahead of all of them from the state on.
+    #[inline(always)]
+    fn goes_ahead(&self, hindering: Option<usize>, state: &O::State) -> bool
+        requires { IfSome hindering (AreHindering (O.observing self.now.object.now) (O.hindered self.now.object.now) self.now.operation.now self.now.reply.now self.now.pending.now) }
+        ensures { IsTrue result → GoesAhead (O.step self.now.object.now) (O.observing self.now.object.now) self.now.operation.now self.now.reply.now self.now.pending.now state.now }
+    {
+        match hindering {
+            Some(many) => {
+                self.object
+                    .goes_first(state, &self.operation.call, self.reply, many)
+            }
+            None => false,
+        }
+    }
+
+    /// The same as `work_off`, but for members where the operation goes ahead of all others: nothing more comes of them, since what
+    /// could be placed ahead of it can be placed behind it.
+    fn take_up(
         &self,
-        starts: &[&Member<O::State>],
-        found: Vec<Member<O::State>>,
+        hindering: Option<usize>,
+        member: &Member<O::State>,
+        out: &mut Vec<Member<O::State>>,
+        next: &mut Vec<(Config<O::State>, Placed)>,
         nodes: &mut RoundNodes,
         steps: &mut Vec<(O::State, Reply)>,
         meter: &mut Meter,
         pool: &mut Pool,
-    ) -> Result<Vec<Member<O::State>>, OutOfMemory>
-        requires update { O.observing self.now.object.now self.now.operation.now.call ≡ false }
-        requires empty { found.items ≡ [] }
+    ) -> Result<Option<Offers>, OutOfMemory>
+        requires { IfSome hindering (AreHindering (O.observing self.now.object.now) (O.hindered self.now.object.now) self.now.operation.now self.now.reply.now self.now.pending.now) }
         ensures grown { IsGrown nodes.old nodes.new }
-        ensures made { IfOk result (λ out. IsMadeAtOnce (O.step self.now.object.now) (O.observing self.now.object.now) self.now.operation.now self.now.reply.now self.now.pending.now nodes.new (map (λ m. m.now) starts.now) out.items) }
-        ensures tried { IsTriedAtMost (length starts.now * (2 * length self.now.pending.now + 1)) meter.old meter.new }
+        ensures found { OnOk result (IsFinding (O.step self.now.object.now) (O.observing self.now.object.now) self.now.operation.now self.now.reply.now self.now.pending.now nodes.new member.now out.old.items out.new.items) }
+        ensures settled { IfOk result (λ found. IfNone found (IsSettled (O.step self.now.object.now) (O.observing self.now.object.now) self.now.operation.now self.now.reply.now self.now.pending.now out.new.items member.now)) }
+        ensures passed { IfOk result (λ found. IfSome found (λ _. IsPassed (O.step self.now.object.now) (O.observing self.now.object.now) self.now.operation.now self.now.reply.now self.now.pending.now out.new.items member.now)) }
+        ensures offered { IfOk result (λ found. IfSome found (AreBehind (O.step self.now.object.now) (O.observing self.now.object.now) self.now.pending.now member.now)) }
+        ensures placed { IfOk result (λ found. IfSome found (λ _. AreUpdates (O.step self.now.object.now) (O.observing self.now.object.now) self.now.pending.now (member.now.0.state, member.now.0.placed) next.new.items)) }
+        ensures tried { IsTriedAtMost (2 * length self.now.pending.now + 1) meter.old meter.new }
     {
-        let mut out = found;
-        for start in starts {
-            self.update(start, &mut out, nodes, steps, meter, pool)?;
+        if self.goes_ahead(hindering, member.state()) {
+            let offers = self.update(member, out, nodes, steps, meter, pool)?;
+            offers.give_up(&mut pool.offers);
+            return Ok(None);
         }
-        Ok(out)
+        self.work_off(member, out, next, nodes, steps, meter, pool)
     }
 
-    /// What the operation makes of the members with its reply: at once where it goes ahead of all others, else by a search.
+    /// What the operation makes of the members with its reply.
     pub fn found_from(
         &self,
-        alloc: Global,
         starts: &[&Member<O::State>],
         room: usize,
         limit: usize,
@@ -585,20 +615,8 @@ impl<'a, O: SeqObject> Completion<'a, O> {
             return Ok(None);
         }
         let found = scratch.found(room)?;
-        if self.goes_ahead() {
-            let made = self.at_once(
-                starts,
-                found,
-                nodes,
-                &mut scratch.steps,
-                meter,
-                &mut scratch.pool,
-            )?;
-            return Ok(Some(made));
-        }
         empty(&mut scratch.visited);
         self.search(
-            alloc,
             starts,
             found,
             limit,
@@ -615,7 +633,6 @@ impl<'a, O: SeqObject> Completion<'a, O> {
     /// `None` where more members than the limit come up.
     fn search(
         &self,
-        alloc: Global,
         starts: &[&Member<O::State>],
         found: Vec<Member<O::State>>,
         limit: usize,
@@ -630,14 +647,16 @@ impl<'a, O: SeqObject> Completion<'a, O> {
         requires empty { found.items ≡ [] }
         requires unvisited { visited.old.items ≡ [] }
         ensures grown { IsGrown nodes.old nodes.new }
-        ensures found { IfOk result (λ found. IfSome found (λ out. IsSearchOf (O.step self.now.object.now) (O.observing self.now.object.now) self.now.operation.now self.now.reply.now self.now.pending.now nodes.new (map (λ m. m.now) starts.now) out.items)) }
+        ensures found { IfOk result (λ found. IfSome found (λ out. IsFoundFrom (O.step self.now.object.now) (O.observing self.now.object.now) self.now.operation.now self.now.reply.now self.now.pending.now nodes.new (map (λ m. m.now) starts.now) out.items)) }
         ensures tried { IsTriedAtMost (limit * (2 * length self.now.pending.now + 1)) meter.old meter.new }
     {
-        let mut seen = Seen::new(alloc, self.pending, starts)?;
+        let hindering = self.hindering();
+        let mut seen = Seen::new(self.alloc, self.pending, noted(hindering, starts))?;
         let mut out = found;
         for start in starts {
             let path = start.path();
-            let found = self.work_off(start, &mut out, next, nodes, steps, meter, pool)?;
+            let found =
+                self.take_up(hindering, start, &mut out, next, nodes, steps, meter, pool)?;
             let onward = Onward {
                 path,
                 offers: found,
@@ -651,7 +670,8 @@ impl<'a, O: SeqObject> Completion<'a, O> {
                 return Ok(None);
             }
             let path = member.path();
-            let found = self.work_off(member, &mut out, next, nodes, steps, meter, pool)?;
+            let found =
+                self.take_up(hindering, member, &mut out, next, nodes, steps, meter, pool)?;
             let onward = Onward {
                 path,
                 offers: found,

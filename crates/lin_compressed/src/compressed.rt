@@ -210,7 +210,6 @@ fn after_ok<O: SeqObject>(
     // What is found, and then the members that placed the operation.
     let room = members.len().saturating_add(3);
     let Some(mut found) = completion.found_from(
-        completion.alloc,
         &starts,
         room,
         limit,

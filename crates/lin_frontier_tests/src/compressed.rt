@@ -617,3 +617,33 @@ fn drawn_histories_have_a_member_where_they_have_a_legal_order(rt: HostRuntime) 
         }
     }
 }
+
+#[test]
+fn a_queue_without_order_that_holds_enough_keeps_one_member(rt: HostRuntime) {
+    let alloc = rt.alloc();
+    let mut events = Vec::new(alloc);
+    for number in 0..10 {
+        events
+            .push(invoke(0, Call::Enqueue(number)))
+            .expect(&rt, "memory");
+        events.push(done(0, Name::Enqueue)).expect(&rt, "memory");
+    }
+    for client in 1..6 {
+        events
+            .push(invoke(client, Call::Dequeue))
+            .expect(&rt, "memory");
+    }
+    // Five dequeues are open, and ten numbers inside: an enqueue returns first, and each dequeue finds what is inside.
+    events
+        .push(invoke(0, Call::Enqueue(10)))
+        .expect(&rt, "memory");
+    events.push(done(0, Name::Enqueue)).expect(&rt, "memory");
+    for client in 1..6 {
+        events
+            .push(gives(client, Name::Dequeue, Val::Int(client as i64 * 2)))
+            .expect(&rt, "memory");
+    }
+    let (came, counts) = walked(&rt, alloc, Kind::Bag, &events, AMPLE);
+    assert_eq!(rt; came, Came::Sound(1));
+    assert_eq!(rt; counts.members, events.len() as u64);
+}

@@ -13,7 +13,7 @@ pub mod Sounding
 pub mod ReadReturned
 pub mod ReadEarly
 pub mod Leading
-pub mod Commuting
+pub mod TakenFirst
 pub mod Parting
 pub mod Aboves
 pub mod LastingWith

@@ -11,17 +11,20 @@ use Rattle.lin_events.specs.Operations.{IsOpen}
 use Rattle.lin_events.specs.WellFormed.{Completes}
 use Rattle.lin_events.specs.WellFormedLaws.{EndsAreUnique, WellFormedIsAlternating}
 use Rattle.lin_events.specs.lemmas.OneMore.{alternates_before}
-use Rattle.lin_orders.specs.Configurations.{IsRising}
+use Rattle.lin_orders.specs.Configurations.{IsAdded, IsRising}
 use Rattle.lin_orders.specs.ConfigurationLaws.{with_event, AtStart, OkLaw}
 use Rattle.lin_members.specs.Covers.{HasCrashed}
 use Rattle.lin_members.specs.Members.{Member, IsOnOffer, IsWatching, IsGiven, IsOffered, IsUpdate, WayOf, here, more, LeadsToCover, DominatesAt, Dominates}
 use Rattle.lin_members.specs.Exchanges.{Exchange, IsExchanged}
-use Rattle.lin_members.specs.MemberLaws.{first_member, IsDominatedAt, IsSearched, StartCompleteLaw, SuccessorLaw, SkippedLaw, ObserverSearchLaw, OffersGoLaw, UpdateSearchLaw}
-use Rattle.lin_members.specs.lemmas.Ways.{covers_from, way_kept}
+use Rattle.lin_members.specs.MemberLaws.{first_member, IsAheadOfAll, IsDominatedAt, IsSearched, StartCompleteLaw, SuccessorLaw, SkippedLaw, ObserverSearchLaw, OffersGoLaw, UpdateSearchLaw}
+use Rattle.lin_members.specs.lemmas.Choosing.{can_add}
+use Rattle.lin_members.specs.lemmas.Leading.{leads_to_itself}
+use Rattle.lin_members.specs.lemmas.Ways.{covers_from, way_kept, way_start}
+use Rattle.lin_members.proofs.TakenFirst.{TakenFirst, dominates_leads, taken_first}
 use Rattle.lin_members.specs.lemmas.Crashes.{crashes_now, never_crashed, ok_no_info, passes_fail, passes_ok}
-use Rattle.lin_members.specs.lemmas.Exchanging.{both, exchange_all, exchanged_both, exchanged_itself, exchanged_update, fixed, no_exchange, only_itself}
+use Rattle.lin_members.specs.lemmas.Exchanging.{both, exchange_all, exchanged_both, exchanged_itself, exchanged_update, fixed, fixed_from, no_exchange, only_itself}
 use Rattle.lin_members.specs.lemmas.Returning.{ok_observer, ok_update}
-use Rattle.lin_members.proofs.Searching.{after_update, backs_itself, backs_ok, held_stops, not_watching, own_update, own_wider, through, watching}
+use Rattle.lin_members.proofs.Searching.{after_update, backs_itself, backs_ok, held_stops, not_watching, own_part, own_rest, own_update, own_wider, through, watching}
 use Rattle.lin_members.specs.lemmas.Taking.{IsStopped}
 
 pub start_complete_law : {S : Type 0} (start : S) (step : S → Call → S → Reply → Type 0) → AtStart start step → StartCompleteLaw start step
@@ -167,7 +170,11 @@ module _ {S : Type 0} (start : S) (step : S → Call → S → Reply → Type 0)
       ]
     ]
 
-  module _ (searched : (m : Member S) → Contains visited m → IsSearched step observes h event.process visited m) where
+  -- the operation goes ahead of all others at the member
+  abbrev Ahead : Member S → Type 0
+  Ahead m = IsAheadOfAll step observes h (with_event h event) event.process reply m.state
+
+  module _ (searched : (m : Member S) → Contains visited m → IsSearched step observes h event.process visited m ⊎ Ahead m) where
     -- what holds the visited member's placing holds the point's placing
     pub emit : (y : Member S) (c d : S × List (ℕ × Reply)) (offers : ℕ × Reply → Type 0) → DominatesAt observes h y c.0 c.1 (λ x. (x.0 ≢ event.process) × offers x) → (n : Member S)
         → DominatesAt observes (with_event h event) n d.0 y.placed (λ x. IsOnOffer y x ⊎ IsGiven step h y.state x)
@@ -190,15 +197,81 @@ module _ {S : Type 0} (start : S) (step : S → Call → S → Reply → Type 0)
           ]);
         }
 
+    -- from a visited member at which the operation goes ahead a way comes to the point, with no more placed but what crashed
+    pub record IsLeft (c : S × List (ℕ × Reply)) : Type 0 where
+      pub exchange : Exchange h
+      pub moved : List (ℕ × Reply)
+      pub exchanged : IsExchanged exchange c.1 moved
+      pub member : Member S
+      pub among : Contains visited member
+      pub ahead : Ahead member
+      pub placed : List (ℕ × Reply)
+      pub way : WayOf step observes h member (c.0, placed)
+      pub dominates : DominatesAt observes h (record { state = c.0; placed = placed; offers = [] }) c.0 moved (λ x. (x.0 ≢ event.process) × ⊥)
+
+    -- the beginning of such a way
+    left_there : (m : Member S) (c : S × List (ℕ × Reply)) (way : WayOf step observes h m c) (visit : Visits m c way) → Ahead visit.member → IsLeft c
+    left_there m c way visit ahead = record {
+      exchange = visit.exchange;
+      moved = visit.others;
+      exchanged = visit.exchanged;
+      member = visit.member;
+      among = visit.among;
+      ahead = ahead;
+      placed = visit.member.placed;
+      way = subst (λ s. WayOf step observes h visit.member (s, visit.member.placed)) visit.dominates.same here;
+      dominates = record { sorted = visit.dominates.sorted; same = refl; part = visit.dominates.part; rest = visit.dominates.rest; offered = λ x watches absent is. absurd is.1 };
+    }
+
+    -- one more update
+    module _ (d c : S × List (ℕ × Reply)) (u : IsUpdate step observes h d c) (left : IsLeft d) where
+      stop : Member S
+      stop = record { state = d.0; placed = left.placed; offers = [] }
+
+      left_u : (more_of : List (ℕ × Reply)) × IsExchanged left.exchange c.1 more_of × (v : IsUpdate step observes h (d.0, left.moved) (c.0, more_of)) × (v.1.process ≡ left.exchange.to u.1.process) × (v.0.reply ≡ u.0.reply)
+      left_u = exchanged_update left.exchange functions earlier step observes d c left.moved left.exchanged u
+
+      left_wider : (placed : List (ℕ × Reply)) × IsAdded left_u.2.1.process left_u.2.0.reply left.placed placed
+      unfolding stop
+      left_wider = own_wider step observes h event.process stop (d.0, left.moved) (c.0, left_u.0) (λ x. ⊥) left.dominates left_u.2
+
+      left_own : IsUpdate step observes h (d.0, left.placed) (c.0, left_wider.0)
+      unfolding stop left_wider
+      left_own = own_update step observes h event.process stop (d.0, left.moved) (c.0, left_u.0) (λ x. ⊥) left.dominates left_u.2
+
+      left_more : IsLeft c
+      unfolding stop left_wider
+      left_more = record {
+        exchange = left.exchange;
+        moved = left_u.0;
+        exchanged = left_u.1;
+        member = left.member;
+        among = left.among;
+        ahead = left.ahead;
+        placed = left_wider.0;
+        way = more left.way left_own;
+        dominates = record {
+          sorted = left_wider.1.rising;
+          same = refl;
+          part = own_part step observes h event.process stop (d.0, left.moved) (c.0, left_u.0) (λ x. ⊥) left.dominates left_u.2;
+          rest = own_rest step observes h event.process stop (d.0, left.moved) (c.0, left_u.0) (λ x. ⊥) left.dominates left_u.2;
+          offered = λ x watches absent is. absurd is.1;
+        };
+      }
+
     pub reaches : (m : Member S) → Contains members m → ((other : Reply) → Contains m.placed (event.process, other) → ⊥) → (c : S × List (ℕ × Reply)) (way : WayOf step observes h m c) → IsRising c.1
-        → ((other : Reply) → Contains c.1 (event.process, other) → ⊥) → Visits m c way
+        → ((other : Reply) → Contains c.1 (event.process, other) → ⊥) → Visits m c way ⊎ IsLeft c
     unfolding own u'
-    reaches m there absent c here rising never = let first = starts m there absent in first_visit m rising first.0 first.1 first.2
-    reaches m there absent c (more {c = d} way u) rising never =
-        let visit = reaches m there absent d way u.1.added.before (λ other is. never other (u.1.added.kept (event.process, other) is)) in
-        next_visit m c d way u visit (searched visit.member visit.among (c.0, own_end m c d way u visit) (own m c d way u visit)
-        (λ same. never u.0.reply
-        (subst (λ q. Contains c.1 (q, u.0.reply)) (only_itself visit.exchange event.process (stays visit.exchange) u.1.process (sym (u' m c d way u visit).3 ∙ same)) u.1.added.has)))
+    reaches m there absent c here rising never = let first = starts m there absent in inl (first_visit m rising first.0 first.1 first.2)
+    reaches m there absent c (more {c = d} way u) rising never = elim (reaches m there absent d way u.1.added.before (λ other is. never other (u.1.added.kept (event.process, other) is))) [
+      | inl visit ↦ elim (searched visit.member visit.among) [
+        | inl all ↦ inl (next_visit m c d way u visit (all (c.0, own_end m c d way u visit) (own m c d way u visit)
+            (λ same. never u.0.reply
+            (subst (λ q. Contains c.1 (q, u.0.reply)) (only_itself visit.exchange event.process (stays visit.exchange) u.1.process (sym (u' m c d way u visit).3 ∙ same)) u.1.added.has))))
+        | inr ahead ↦ inr (left_more d c u (left_there m d way visit ahead))
+      ]
+      | inr left ↦ inr (left_more d c u left)
+    ]
 
 module _ {S : Type 0} (start : S) (step : S → Call → S → Reply → Type 0) (unique : EndsAreUnique) (alternating : WellFormedIsAlternating) (law : OkLaw start step) where
   pub observer_search_law : ObserverSearchLaw start step
@@ -214,20 +287,59 @@ module _ {S : Type 0} (start : S) (step : S → Call → S → Reply → Type 0)
       ok_update start step observes unique functions h event name reply body alternates (law functions h event name reply body well_formed) members others taken complete update
       (λ m there c d way u same_process same_reply.
       let none : (other : Reply) → Contains c.1 (event.process, other) → ⊥ = λ other is. u.1.added.absent other (subst (λ q. Contains c.1 (q, other)) (sym same_process) is) in
-      let visit = reaches start step observes unique functions h event name reply body alternates members visited others starts searched m there
-      (λ other is. none other (way_kept step observes h (m.state, m.placed) c way (event.process, other) is)) c way u.1.added.before none in
-      let v = u' start step observes unique functions h event name reply body alternates members visited others starts m d c way u visit in
-      let held = emitted visit.member visit.among (d.0, own_end start step observes unique functions h event name reply body alternates members visited others starts m d c way u visit)
-      (own start step observes unique functions h event name reply body alternates members visited others starts m d c way u visit)
-      (v.3 ∙ ap visit.exchange.to same_process ∙ stays start step observes unique functions h event name reply body alternates members visited others starts visit.exchange) (v.4 ∙ same_reply) in (
-        visit.exchange,
-        visit.others,
-        held.0,
-        visit.exchanged,
-        held.1,
-        emit start step observes unique functions h event name reply body alternates members visited others starts searched visit.member (c.0, visit.others) d
-            (IsOffered step observes h (IsOnOffer m) (m.state, m.placed) c way) visit.dominates held.0 held.2,
-      ))
+      elim (reaches start step observes unique functions h event name reply body alternates members visited others starts searched m there
+      (λ other is. none other (way_kept step observes h (m.state, m.placed) c way (event.process, other) is)) c way u.1.added.before none) [
+        | inl visit ↦
+            let v = u' start step observes unique functions h event name reply body alternates members visited others starts m d c way u visit in
+            let held = emitted visit.member visit.among (d.0, own_end start step observes unique functions h event name reply body alternates members visited others starts m d c way u visit)
+            (own start step observes unique functions h event name reply body alternates members visited others starts m d c way u visit)
+            (v.3 ∙ ap visit.exchange.to same_process ∙ stays start step observes unique functions h event name reply body alternates members visited others starts visit.exchange) (v.4 ∙ same_reply) in (
+              visit.exchange,
+              visit.others,
+              held.0,
+              visit.exchanged,
+              (held.0, held.1, leads_to_itself step observes (with_event h event) held.0 held.2.sorted),
+              emit start step observes unique functions h event name reply body alternates members visited others starts searched visit.member (c.0, visit.others) d
+                  (IsOffered step observes h (IsOnOffer m) (m.state, m.placed) c way) visit.dominates held.0 held.2,
+            )
+        | inr left ↦
+            let passes = passes_ok h event functions alternates observes name reply body in
+            let is_open = subst (λ q. IsOpen h u.0.at q u.1.key u.1.call) same_process u.1.is_open in
+            let absent : (other : Reply) → Contains left.placed (event.process, other) → ⊥ =
+            (λ other is. none other (subst (λ q. Contains c.1 (q, other))
+            (fixed_from left.exchange event.process (λ c. never_crashed h event functions alternates unique name (subst (λ b. Completes b name) (sym body) refl) (λ other. ok_no_info body other) c))
+            (left.exchanged.rest (event.process, other) (left.dominates.part (event.process, other) is)))) in
+            let begun = way_start step observes h (left.member.state, left.member.placed) (c.0, left.placed) left.way left.dominates.sorted in
+            let t = taken_first step observes h (with_event h event) event.process reply u.1.call passes.opens (left.member.state, left.member.placed) (c.0, left.placed) begun
+            (left.ahead.1 u.0.at u.1.key u.1.call is_open) left.way d.0 (subst (step c.0 u.1.call d.0) same_reply u.1.steps) absent in
+            let wider = can_add event.process reply left.member.placed begun
+            (λ other is. absent other (way_kept step observes h (left.member.state, left.member.placed) (c.0, left.placed) left.way (event.process, other) is)) in
+            let n = emitted left.member left.among (t.first, wider.0) (
+              record { at = u.0.at; reply = reply },
+              record { process = event.process; key = u.1.key; call = u.1.call; is_open = is_open; steps = t.steps; added = wider.1 },
+              u.2,
+            ) refl refl in (
+              left.exchange,
+              left.moved,
+              record { state = d.0; placed = t.placed; offers = [] },
+              left.exchanged,
+              (
+                n.0,
+                n.1,
+                dominates_leads step observes (with_event h event) n.0 t.first left.member.placed (λ x. IsOnOffer left.member x ⊎ IsGiven step h left.member.state x) n.2 (d.0, t.placed) t.way,
+              ),
+              record {
+                sorted = t.rising;
+                same = refl;
+                part = λ x is. left.dominates.part x (t.part x is);
+                rest = λ x is. elim (left.dominates.rest x is) [
+                  | inl kept ↦ inl (t.rest x kept)
+                  | inr crashed ↦ inr (passes.crashes x.0 crashed)
+                ];
+                offered = λ x watches free is. absurd (true≢false (sym watches.observer ∙ left.ahead.0 watches.at x.0 watches.key watches.call watches.is_open));
+              },
+            )
+      ])
 
 pub successor_law : {S : Type 0} (step : S → Call → S → Reply → Type 0) → SuccessorLaw step
 successor_law step observes h process m n d u same added kept = record {

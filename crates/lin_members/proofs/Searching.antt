@@ -77,13 +77,13 @@ module _ {S : Type 0} (step : S → Call → S → Reply → Type 0) (observes :
     )
 
     -- the end of the one places no more than the end of the other, but for what crashed
-    own_part : (x : ℕ × Reply) → Contains own_wider.0 x → Contains d.1 x
+    pub own_part : (x : ℕ × Reply) → Contains own_wider.0 x → Contains d.1 x
     own_part x there = elim (own_wider.1.was x there) [
       | inl old ↦ u.1.added.kept x (dominates.part x old)
       | inr new ↦ subst (Contains d.1) new u.1.added.has
     ]
 
-    own_rest : (x : ℕ × Reply) → Contains d.1 x → Contains own_wider.0 x ⊎ HasCrashed h x.0
+    pub own_rest : (x : ℕ × Reply) → Contains d.1 x → Contains own_wider.0 x ⊎ HasCrashed h x.0
     own_rest x there = elim (u.1.added.was x there) [
       | inl old ↦ elim (dominates.rest x old) [
         | inl kept ↦ inl (own_wider.1.kept x kept)

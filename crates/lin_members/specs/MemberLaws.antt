@@ -1,6 +1,6 @@
 -- What members lead to, and what one more event makes of a complete list of members. Each law holds for any object, given by where it
 -- begins and which steps it takes, and for any calls that are treated as observers.
-use Rattle.std.specs.Prelude.{◌≡◌, ◌≢◌, ◌⊎◌, ◌↔◌, ℕ, ℤ, Bool, true, false, List, [], ◌∷◌, ◌++◌, Contains}
+use Rattle.std.specs.Prelude.{◌≡◌, ◌≢◌, ◌⊎◌, ◌↔◌, ℕ, ℤ, Bool, true, false, List, [], ◌∷◌, ◌++◌, AllPairs, Contains}
 use Rattle.lin_events.specs.declared.calls.Call.{Call}
 use Rattle.lin_events.specs.declared.calls.Name.{Name}
 use Rattle.lin_events.specs.declared.calls.Reply.{Reply}
@@ -8,7 +8,7 @@ use Rattle.lin_events.specs.declared.events.Body.TheVariants.{Invoke, Ok, Fail, 
 use Rattle.lin_events.specs.declared.events.Event.{Event}
 use Rattle.lin_events.specs.Operations.{IsCrashed, IsOpen}
 use Rattle.lin_events.specs.WellFormed.{IsWellFormed, Completes}
-use Rattle.lin_objects.specs.Commuting.{GoesFirst}
+use Rattle.lin_objects.specs.Ahead.{IsFirst, Takes}
 use Rattle.lin_objects.specs.Observing.{IsObserving}
 use Rattle.lin_orders.specs.declared.placed.Placed.{Placed}
 use Rattle.lin_orders.specs.ConfigurationLaws.{with_event}
@@ -124,30 +124,28 @@ ObserverSearchLaw {S} start step = (observes : Call → Bool) (functions : ℤ �
     ⊎ ((IsOnOffer m (event.process, reply) → ⊥) × (IsGiven step h m.state (event.process, reply) → ⊥) × IsSearched step observes h event.process visited m))
     → IsComplete start step observes h members → IsComplete start step observes (with_event h event) others
 
--- after the ok of an update. Members that placed it with this reply: without it. The others are visited. Each visited one is searched by all
--- other updates, and what placing this one with the reply makes of it, without it, is held
+-- wherever others that are open, each of its own process, can be placed from the state on and then the call, it can be placed at once with its reply,
+-- and then they in some order
+abbrev pub IsAheadOfOpen : {S : Type 0} → (S → Call → S → Reply → Type 0) → List Event → S → Call → Reply → Type 0
+IsAheadOfOpen {S} step h state call reply = (others : List (ℕ × Call × Reply)) (mid last : S) → AllPairs (λ x y. x.0 ≢ y.0) others
+    → ((x : ℕ × Call × Reply) → Contains others x → (at : ℕ) × (key : ℤ) × IsOpen h at x.0 key x.1) → Takes step state others mid → step mid call last reply → IsFirst step state call reply others last
+
+-- nobody observes behind the ok of the process, and its operation goes ahead of all that are open then
+abbrev pub IsAheadOfAll : {S : Type 0} → (S → Call → S → Reply → Type 0) → (Call → Bool) → List Event → List Event → ℕ → Reply → S → Type 0
+IsAheadOfAll step observes h after process reply state = ((at q : ℕ) (key : ℤ) (call : Call) → IsOpen after at q key call → observes call ≡ false)
+    × ((at : ℕ) (key : ℤ) (call : Call) → IsOpen h at process key call → IsAheadOfOpen step after state call reply)
+
+-- after the ok of an update. Members that placed it with this reply: without it. The others are visited. Of each visited one, what placing this one
+-- with the reply makes of it, without it, is held; and it is searched by all other updates, unless the operation goes ahead of them: what could be
+-- placed ahead of it can be placed behind it then
 abbrev pub UpdateSearchLaw : {S : Type 0} → S → (S → Call → S → Reply → Type 0) → Type 0
 UpdateSearchLaw {S} start step = (observes : Call → Bool) (functions : ℤ → Name → Bool) (h : List Event) (event : Event) (name : Name) (reply : Reply) → event.body ≡ Ok name reply
     → IsWellFormed functions (with_event h event) → ((at : ℕ) (key : ℤ) (call : Call) → IsOpen h at event.process key call → observes call ≡ false) → (members visited others : List (Member S))
     → ((m : Member S) → Contains members m → IsTaken observes (with_event h event) event.process reply others m)
     → ((m : Member S) → Contains members m → ((other : Reply) → Contains m.placed (event.process, other) → ⊥) → (n : Member S) × Contains visited n × Dominates observes h n m)
-    → ((m : Member S) → Contains visited m → IsSearched step observes h event.process visited m)
+    → ((m : Member S) → Contains visited m → IsSearched step observes h event.process visited m ⊎ IsAheadOfAll step observes h (with_event h event) event.process reply m.state)
     → ((m : Member S) → Contains visited m → (d : S × List (ℕ × Reply)) (u : IsUpdate step observes h (m.state, m.placed) d) → u.1.process ≡ event.process → u.0.reply ≡ reply
     → (n : Member S) × Contains others n × DominatesAt observes (with_event h event) n d.0 m.placed (λ x. IsOnOffer m x ⊎ IsGiven step h m.state x))
-    → IsComplete start step observes h members → IsComplete start step observes (with_event h event) others
-
--- after the ok of an update that commutes with all that is open beside it, and where nobody observes: members that placed it with this reply,
--- without it; and of the others what placing it with the reply makes of each, without it, is held. Nothing else is searched: what could be placed
--- ahead of it can be placed behind it
-abbrev pub CommutingOkLaw : {S : Type 0} → S → (S → Call → S → Reply → Type 0) → Type 0
-CommutingOkLaw {S} start step = (observes : Call → Bool) (functions : ℤ → Name → Bool) (h : List Event) (event : Event) (name : Name) (reply : Reply) → event.body ≡ Ok name reply
-    → IsWellFormed functions (with_event h event) → ((at : ℕ) (key : ℤ) (call : Call) → IsOpen h at event.process key call → observes call ≡ false)
-    → ((at process : ℕ) (key : ℤ) (call : Call) → IsOpen (with_event h event) at process key call → observes call ≡ false)
-    → ((at other_at process : ℕ) (key other_key : ℤ) (call other : Call) → IsOpen h at event.process key call → IsOpen (with_event h event) other_at process other_key other → GoesFirst step call other)
-    → (members others : List (Member S))
-    → ((m : Member S) → Contains members m → IsTaken observes (with_event h event) event.process reply others m)
-    → ((m : Member S) → Contains members m → ((other : Reply) → Contains m.placed (event.process, other) → ⊥) → (d : S × List (ℕ × Reply)) (u : IsUpdate step observes h (m.state, m.placed) d)
-    → u.1.process ≡ event.process → u.0.reply ≡ reply → (n : Member S) × Contains others n × DominatesAt observes (with_event h event) n d.0 m.placed (λ x. IsOnOffer m x ⊎ IsGiven step h m.state x))
     → IsComplete start step observes h members → IsComplete start step observes (with_event h event) others
 
 -- what a search makes of a member by an update dominates what the update comes to, but for what is on offer to a process

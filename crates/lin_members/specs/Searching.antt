@@ -1,5 +1,5 @@
 -- Searching the ways of members for a reply: words of private contracts. The operations are those that are open beside the one that completes.
-use Rattle.std.specs.Prelude.{◌≡◌, ◌≢◌, ◌⊎◌, ◌&&◌, ℕ, zero, suc, ◌+◌, ◌≤◌, Bool, true, false, not, nat_eq, List, [], ◌∷◌, ◌++◌, All, AllPairs, Contains, IsTrue, Option, Some, None, slice_get, filter}
+use Rattle.std.specs.Prelude.{◌≡◌, ◌≢◌, ◌⊎◌, ◌&&◌, ℕ, zero, suc, ◌+◌, ◌≤◌, Bool, true, false, not, nat_eq, List, [], ◌∷◌, ◌++◌, All, AllPairs, Contains, IsTrue, Option, Some, None, slice_get, filter, count_by}
 use Rattle.std.specs.List.{list_any}
 use Rattle.lin_events.specs.declared.calls.Call.{Call}
 use Rattle.lin_events.specs.declared.calls.Name.{Name}
@@ -7,7 +7,7 @@ use Rattle.lin_events.specs.declared.calls.Reply.{Reply}
 use Rattle.lin_events.specs.declared.events.Body.{Body}
 use Rattle.lin_events.specs.declared.events.Body.TheVariants.{Invoke, Ok, Fail, Info}
 use Rattle.lin_events.specs.declared.events.Event.{Event}
-use Rattle.lin_objects.specs.Commuting.{GoesFirst}
+use Rattle.lin_objects.specs.Ahead.{IsAhead}
 use Rattle.lin_orders.specs.declared.placed.Placed.{Placed}
 use Rattle.lin_members.specs.declared.members.Path.{Path}
 use Rattle.lin_frontier.specs.declared.pending.Open.{Open}
@@ -195,28 +195,31 @@ abbrev pub IsSearchedIn : {S : Type 0} → (S → Call → S → Reply → Type 
 IsSearchedIn {S} step observes pending visited m = (o : Open) (p : Placed) (d : S × List (ℕ × Reply)) → Contains pending o → PlacesIfUpdate step observes o (m.state, m.placed) p d
     → IsSearchedFor step observes pending visited m o p.reply d.0
 
--- a search for the reply of the operation, from these members to those found
-pub record IsSearchOf {S : Type 0} (step : S → Call → S → Reply → Type 0) (observes : Call → Bool) (operation : Open) (reply : Reply) (pending : List Open) (nodes : List (ℕ × (Placed × Option ℕ))) (starts out : List (Member S × Path)) : Type 0 where
+-- so many of the operations hinder this one, an update, with the reply, and none observes
+pub record AreHindering (observes : Call → Bool) (hinders : Call → Reply → Call → Bool) (operation : Open) (reply : Reply) (pending : List Open) (many : ℕ) : Type 0 where
+  pub update : observes operation.call ≡ false
+  pub quiet : All (λ o. observes o.call ≡ false) pending
+  pub counted : many ≡ count_by (λ o. hinders operation.call reply o.call) pending
+
+-- from the state the operation, an update, goes ahead of all that are open beside it, and none of them observes
+pub record GoesAhead {S : Type 0} (step : S → Call → S → Reply → Type 0) (observes : Call → Bool) (operation : Open) (reply : Reply) (pending : List Open) (state : S) : Type 0 where
+  pub update : observes operation.call ≡ false
+  pub quiet : All (λ o. observes o.call ≡ false) pending
+  pub hinders : Call → Bool
+  pub ahead : IsAhead step hinders state operation.call reply (count_by (λ o. hinders o.call) pending)
+
+-- the member is done with: an observer's reply was found for it, or the operation goes ahead of all others there
+abbrev pub IsSettled : {S : Type 0} → (S → Call → S → Reply → Type 0) → (Call → Bool) → Open → Reply → List Open → List (Member S × Path) → Member S × Path → Type 0
+IsSettled step observes operation reply pending out m =
+    IsDone observes operation pending out m.0 ⊎ (GoesAhead step observes operation reply pending m.0.state × IsPassed step observes operation reply pending out m)
+
+-- what is found for the reply of the operation, from these members on. Those that aren't settled are searched
+pub record IsFoundFrom {S : Type 0} (step : S → Call → S → Reply → Type 0) (observes : Call → Bool) (operation : Open) (reply : Reply) (pending : List Open) (nodes : List (ℕ × (Placed × Option ℕ))) (starts out : List (Member S × Path)) : Type 0 where
   pub visited : List (Member S × Path)
   pub begins : (m : Member S × Path) → Contains starts m → Contains visited m
   pub reached : (m : Member S × Path) → Contains visited m → IsReached step observes pending nodes starts m
-  pub each : (m : Member S × Path) → Contains visited m → IsDone observes operation pending out m.0 ⊎ (IsPassed step observes operation reply pending out m × IsSearchedIn step observes pending visited m.0)
+  pub each : (m : Member S × Path) → Contains visited m → IsSettled step observes operation reply pending out m ⊎ (IsPassed step observes operation reply pending out m × IsSearchedIn step observes pending visited m.0)
   pub sound : (n : Member S × Path) → Contains out n → (m : Member S × Path) × IsReached step observes pending nodes starts m × IsCompleted step observes operation reply pending nodes m n
-
--- the operation can be taken ahead of all that are open beside it: it is no observer, none of them is, and it commutes with each
-pub record GoesAhead {S : Type 0} (step : S → Call → S → Reply → Type 0) (observes : Call → Bool) (operation : Open) (pending : List Open) : Type 0 where
-  pub update : observes operation.call ≡ false
-  pub beside : All (λ o. (observes o.call ≡ false) × GoesFirst step operation.call o.call) pending
-
--- what the operation, an update, makes of these members with the reply, without any other update ahead of it
-pub record IsMadeAtOnce {S : Type 0} (step : S → Call → S → Reply → Type 0) (observes : Call → Bool) (operation : Open) (reply : Reply) (pending : List Open) (nodes : List (ℕ × (Placed × Option ℕ))) (starts out : List (Member S × Path)) : Type 0 where
-  pub each : (m : Member S × Path) → Contains starts m → IsPassed step observes operation reply pending out m
-  pub sound : (n : Member S × Path) → Contains out n → (m : Member S × Path) × Contains starts m × IsCompleted step observes operation reply pending nodes m n
-
--- found at once, where the operation goes ahead, or by a search
-abbrev pub IsFoundFrom : {S : Type 0} → (S → Call → S → Reply → Type 0) → (Call → Bool) → Open → Reply → List Open → List (ℕ × (Placed × Option ℕ)) → List (Member S × Path) → List (Member S × Path) → Type 0
-IsFoundFrom step observes operation reply pending nodes starts out =
-    IsSearchOf step observes operation reply pending nodes starts out ⊎ (GoesAhead step observes operation pending × IsMadeAtOnce step observes operation reply pending nodes starts out)
 
 -- the visited members with those that no visited one dominates, each with a round more
 pub record IsVisiting {S : Type 0} (observes : Call → Bool) (pending : List Open) (next : List ((S × List (ℕ × Reply)) × Placed)) (offers : List (ℕ × (ℕ × Reply))) (path : Path) (nodes : List (ℕ × (Placed × Option ℕ))) (old now : List (Member S × Path)) : Type 0 where

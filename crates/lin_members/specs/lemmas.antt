@@ -5,6 +5,7 @@ pub mod Aheads
 pub mod Choosing
 pub mod Ways
 pub mod Following
+pub mod Leading
 pub mod Exchanging
 pub mod Dominating
 pub mod Crashes

@@ -1,5 +1,5 @@
 //! Laws of the members of a compressed frontier. The functions do nothing.
-ghost use Rattle.lin_members.specs.MemberLaws.{CommutingOkLaw, CrashedLaw, DominationLaw, DroppingLaw, DropOneLaw, FailKeepsLaw, InfoKeepsLaw, InvocationKeepsLaw, LeadsOnLaw, LedToLaw, ListedLaw, ListingLaw, ListingOkLaw, ObserverSearchLaw, OffersGoLaw, PlaceLaw, SkippedLaw, SpreadingLaw, StartCompleteLaw, SuccessorLaw, ThinningLaw, TransitiveLaw, UpdateSearchLaw};
+ghost use Rattle.lin_members.specs.MemberLaws.{CrashedLaw, DominationLaw, DroppingLaw, DropOneLaw, FailKeepsLaw, InfoKeepsLaw, InvocationKeepsLaw, LeadsOnLaw, LedToLaw, ListedLaw, ListingLaw, ListingOkLaw, ObserverSearchLaw, OffersGoLaw, PlaceLaw, SkippedLaw, SpreadingLaw, StartCompleteLaw, SuccessorLaw, ThinningLaw, TransitiveLaw, UpdateSearchLaw};
 
 use lin_events::{ends_are_unique, well_formed_is_alternating};
 use lin_objects::SeqObject;
@@ -63,7 +63,6 @@ pub fn ended_offers_go<O: SeqObject>(object: &O)
 pub fn members_after_ok<O: SeqObject>(object: &O)
     ensures observer { ObserverSearchLaw (O.starts object.now) (O.step object.now) }
     ensures update { UpdateSearchLaw (O.starts object.now) (O.step object.now) }
-    ensures commuting { CommutingOkLaw (O.starts object.now) (O.step object.now) }
 {
     configurations_after_events(object);
     ends_are_unique();

@@ -1,4 +1,4 @@
--- Calls that commute: which of two is taken first makes no difference.
+-- Calls of sets that commute: which of two is taken first makes no difference.
 use Rattle.std.specs.Prelude.{◌≡◌, ℤ, ◌<ℤ◌, List, [], ◌∷◌, Bool, true, false}
 use Rattle.std.proofs.Common.{refl, sym, ap, ◌∙◌, subst, true≢false, arith}
 use Rattle.std.specs.Ordering.{int_cmp, match_ordering}
@@ -6,32 +6,18 @@ use Rattle.std.specs.declared.cmp.Ordering.TheVariants.{Less, Equal, Greater}
 use Rattle.std.proofs.lemmas.Cmp.{int_ranked, by_ranked}
 use Rattle.std.proofs.lemmas.Int.{ints}
 use Rattle.lin_events.specs.declared.calls.Call.{Call}
-use Rattle.lin_events.specs.declared.calls.Call.TheVariants.{Read, Add, Enqueue}
+use Rattle.lin_events.specs.declared.calls.Call.TheVariants.{Read, Add}
 use Rattle.lin_events.specs.declared.calls.Reply.{Reply}
 use Rattle.lin_lists.specs.Sets.{with_member}
-use Rattle.lin_objects.specs.declared.kinds.Kind.{Kind}
-use Rattle.lin_objects.specs.declared.kinds.Kind.TheVariants.{Set, Bag}
+use Rattle.lin_objects.specs.declared.kinds.Kind.TheVariants.{Set}
 use Rattle.lin_objects.specs.declared.states.State.TheVariants.{Members}
-use Rattle.lin_objects.specs.declared.states.State.TheVariants.{Bag as Bagged}
-use Rattle.lin_objects.specs.Bags.{bag_of}
-use Rattle.lin_objects.specs.lemmas.Bags.{bag_either}
+use Rattle.lin_objects.specs.Ahead.{hinders}
 use Rattle.lin_objects.specs.Steps.{Step}
 
 -- where the other call can be taken and then this one, this one can be taken first, with the same replies and the same state after both
 abbrev pub GoesFirst : {S : Type 0} → (S → Call → S → Reply → Type 0) → Call → Call → Type 0
 GoesFirst {S} step call other = (state mid last : S) (before after : Reply) → step state other mid before → step mid call last after
     → (first : S) × step state call first after × step first other last before
-
--- calls that commute do
-abbrev pub IsCommuting : {S : Type 0} → (S → Call → S → Reply → Type 0) → (Call → Call → Bool) → Type 0
-IsCommuting step commutes = (call other : Call) → commutes call other ≡ true → GoesFirst step call other
-
--- the calls that are known to commute: two that add to a set, two that read it, and two that put into an unordered queue
-abbrev pub commutes : Kind → Call → Call → Bool
-commutes Set (Add x) (Add y) = true
-commutes Set Read Read = true
-commutes Bag (Enqueue x) (Enqueue y) = true
-commutes _ _ _ = false
 
 -- how two numbers compare
 split : {G : Type 0} (x y : ℤ) → (int_cmp x y ≡ Less → x <ℤ y → G) → (int_cmp x y ≡ Equal → x ≡ y → G) → (int_cmp x y ≡ Greater → y <ℤ x → G) → G
@@ -70,18 +56,14 @@ put_both x y (z ∷ zs) h = split x z
 put_either : (x y : ℤ) (s : List ℤ) → with_member x (with_member y s) ≡ with_member y (with_member x s)
 put_either x y s = split x y (λ e q. put_both x y s q) (λ e q. subst (λ w. with_member x (with_member w s) ≡ with_member w (with_member x s)) q refl) (λ e q. sym (put_both y x s q))
 
--- adding to a set commutes with adding, reading with reading, and putting into an unordered queue with putting
-pub commuting_go_first : (kind : Kind) → IsCommuting (Step kind) (commutes kind)
-commuting_go_first Set (Add x) (Add y) c (Members s) mid last before after one two =
+-- calls of a set go first of those that don't hinder them
+pub set_goes_first : (call : Call) (reply : Reply) (other : Call) → hinders Set call reply other ≡ false → GoesFirst (Step Set) call other
+set_goes_first (Add x) reply (Add y) c (Members s) mid last before after one two =
     let then' : Step Set (Members (with_member y s)) (Add x) last after = subst (λ m. Step Set m (Add x) last after) one.0 two in
     (Members (with_member x s), (refl, then'.1), (then'.0 ∙ ap Members (put_either x y s), one.1))
-commuting_go_first Set Read Read c (Members s) mid last before after one two =
+set_goes_first Read reply Read c (Members s) mid last before after one two =
     let then' : Step Set (Members s) Read last after = subst (λ m. Step Set m Read last after) one.0 two in
     (Members s, (refl, then'.1), (then'.0, one.1))
-commuting_go_first Bag (Enqueue x) (Enqueue y) c (Bagged q) mid last before after one two =
-    let then' : Step Bag (Bagged (bag_of (y ∷ q))) (Enqueue x) last after = subst (λ m. Step Bag m (Enqueue x) last after) one.0 two in
-    (Bagged (bag_of (x ∷ q)), (refl, then'.1), (then'.0 ∙ ap Bagged (bag_either x y q), one.1))
-commuting_go_first Bag (Enqueue x) (Enqueue y) c _ mid last before after one two = absurd one
-commuting_go_first Set (Add x) (Add y) c _ mid last before after one two = absurd one
-commuting_go_first Set Read Read c _ mid last before after one two = absurd one
-commuting_go_first _ _ _ c _ mid last before after one two = absurd (true≢false (sym c))
+set_goes_first (Add x) reply (Add y) c _ mid last before after one two = absurd one
+set_goes_first Read reply Read c _ mid last before after one two = absurd one
+set_goes_first _ _ _ c _ mid last before after one two = absurd (true≢false c)

@@ -3,7 +3,9 @@ pub mod Bags
 pub mod Steps
 pub mod Observing
 pub mod Overwriting
+pub mod Ahead
 pub mod Commuting
+pub mod GoingFirst
 pub mod Total
 pub mod OnlySteps
 pub mod Taking

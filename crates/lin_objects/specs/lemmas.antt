@@ -1,1 +1,3 @@
 pub mod Bags
+pub mod Counted
+pub mod Outs

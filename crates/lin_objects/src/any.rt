@@ -2,7 +2,8 @@
 ghost use Rattle.std.specs.Prelude.{◌≡◌, ◌≢◌, true, IfOk, IfSome, IfNone, OnOk, Contains, AllPairs};
 ghost use Rattle.lin_events.specs.declared.calls.Reply.{Reply as ReplyOf};
 ghost use Rattle.lin_objects.specs.Steps.{start as start_of, allows as allows_of, Step};
-ghost use Rattle.lin_objects.specs.Commuting.{commutes as commutes_of, commuting_go_first};
+ghost use Rattle.lin_objects.specs.Ahead.{goes_first as goes_first_of, hinders};
+ghost use Rattle.lin_objects.specs.GoingFirst.{calls_go_first};
 ghost use Rattle.lin_objects.specs.Observing.{IsObserving, observes as observes_of, observers_keep};
 ghost use Rattle.lin_objects.specs.Overwriting.{IsOverwriting, overwrites as overwrites_of, registers_overwritten};
 ghost use Rattle.lin_objects.specs.States.{state_same};
@@ -44,9 +45,11 @@ impl SeqObject for Any {
 
     ghost overwritten = { λ a. registers_overwritten a.kind };
 
-    ghost commuting = { λ a. commutes_of a.kind };
+    ghost hindered = { λ a. hinders a.kind };
 
-    ghost swapped = { λ a. commuting_go_first a.kind };
+    ghost first = { λ a. goes_first_of a.kind };
+
+    ghost ahead = { λ a. calls_go_first a.kind };
 
     ghost total = { λ a. total_of a.kind };
 
@@ -94,15 +97,29 @@ impl SeqObject for Any {
         matches!(self.kind, Kind::Register)
     }
 
-    /// Two that add to a set, two that read it, and two that put into an unordered queue.
-    fn commutes(&self, call: &Call, other: &Call) -> bool {
-        match self.kind {
-            Kind::Set => matches!(
-                (call, other),
-                (Call::Add(_), Call::Add(_)) | (Call::Read, Call::Read)
+    /// All, but for adds to a set, its reads, and what doesn't matter to an unordered queue: there enqueues are hindered by dequeues,
+    /// which might find nothing without them, dequeues that found a number by enqueues of it, and those that found nothing by others.
+    fn is_hindered(&self, call: &Call, reply: &Reply, other: &Call) -> bool {
+        match (self.kind, call, reply, other) {
+            (Kind::Set, Call::Add(_), _, Call::Add(_)) => false,
+            (Kind::Set, Call::Read, _, Call::Read) => false,
+            (Kind::Bag, Call::Enqueue(_), _, Call::Enqueue(_)) => false,
+            (Kind::Bag, Call::Dequeue, Reply::Value(value), other) => is_hindered_dequeue(
+                value, other,
             ),
-            Kind::Bag => matches!((call, other), (Call::Enqueue(_), Call::Enqueue(_))),
-            Kind::Register | Kind::CasRegister | Kind::Fifo | Kind::Mutex => false,
+            _ => true,
+        }
+    }
+
+    /// Where nothing hinders it. An enqueue of an unordered queue also where a number is inside for each dequeue; a dequeue where what it
+    /// found is inside, or, if it found nothing, where nothing is, or where the others can't take out all that is.
+    fn goes_first(&self, state: &State, call: &Call, reply: &Reply, hindering: usize) -> bool {
+        match (self.kind, state, call, reply) {
+            (Kind::Bag, State::Bag(bag), Call::Enqueue(_), _) => hindering <= bag.as_slice().len(),
+            (Kind::Bag, State::Bag(bag), Call::Dequeue, Reply::Value(value)) => dequeue_goes_first(
+                bag, value, hindering,
+            ),
+            _ => hindering == 0,
         }
     }
 
@@ -181,6 +198,29 @@ impl Any {
             }
             (kind, state, call, reply) => only_next(alloc, kind, &state, call, reply),
         }
+    }
+}
+
+/// Whether a dequeue that found the value is hindered by the other call.
+fn is_hindered_dequeue(value: &Val, other: &Call) -> bool
+    ensures { result ≡ hinders Kind.Bag Call.Dequeue (Reply.Value value.now) other.now }
+{
+    match (value, other) {
+        (Val::Int(found), Call::Enqueue(number)) => found == number,
+        (Val::Int(_), Call::Dequeue) => false,
+        (Val::Nil, Call::Enqueue(_)) => false,
+        _ => true,
+    }
+}
+
+/// Whether a dequeue that found the value goes first, where so many hinder it.
+fn dequeue_goes_first(bag: &IntBag, value: &Val, hindering: usize) -> bool
+    ensures { result ≡ goes_first_of Kind.Bag (State.Bag bag.now) Call.Dequeue (Reply.Value value.now) hindering }
+{
+    let inside = bag.as_slice();
+    match value {
+        Val::Int(number) => hindering == 0 || inside.contains(number),
+        Val::Nil => inside.is_empty() || hindering < inside.len(),
     }
 }
 

@@ -1,9 +1,9 @@
 //! What all sequential objects have in common.
-ghost use Rattle.std.specs.Prelude.{◌≡◌, ◌≢◌, Bool, true, IfOk, OnOk, Contains, AllPairs};
+ghost use Rattle.std.specs.Prelude.{◌≡◌, ◌≢◌, ℕ, Bool, true, IfOk, OnOk, Contains, AllPairs};
 ghost use Rattle.lin_events.specs.declared.calls.Name.{Name as NameOf};
 ghost use Rattle.lin_events.specs.declared.calls.Call.{Call as CallOf};
 ghost use Rattle.lin_events.specs.declared.calls.Reply.{Reply as ReplyOf};
-ghost use Rattle.lin_objects.specs.Commuting.{IsCommuting};
+ghost use Rattle.lin_objects.specs.Ahead.{AreAhead};
 ghost use Rattle.lin_objects.specs.Observing.{IsObserving};
 ghost use Rattle.lin_objects.specs.Overwriting.{IsOverwriting};
 ghost use Rattle.lin_objects.specs.Total.{AreTotal, IsShown};
@@ -41,11 +41,14 @@ pub trait SeqObject {
     /// Where it is, they do.
     ghost overwritten: { (object : Self) → overwriting object ≡ true → IsOverwriting (starts object) (step object) (observing object) };
 
-    /// Whether the two calls are known to commute.
-    ghost commuting: { Self → CallOf → CallOf → Bool };
+    /// Whether the call, with the reply, is hindered by the other call.
+    ghost hindered: { Self → CallOf → ReplyOf → CallOf → Bool };
 
-    /// Of two calls that commute either can be taken first.
-    ghost swapped: { (object : Self) → IsCommuting (step object) (commuting object) };
+    /// Whether it goes first in the state, where so many hinder it.
+    ghost first: { Self → Self.State → CallOf → ReplyOf → ℕ → Bool };
+
+    /// Calls that go first can be taken at once wherever others can be taken and then they: the others can be taken behind them.
+    ghost ahead: { (object : Self) → AreAhead (step object) (hindered object) (first object) };
 
     /// Whether the call is known to be total.
     ghost total: { Self → CallOf → Bool };
@@ -83,10 +86,14 @@ pub trait SeqObject {
     fn overwrites(&self) -> bool
         ensures { result ≡ overwriting self.now };
 
-    /// Whether the two calls are known to commute: wherever the other can be taken and then the call, the call can be taken
-    /// first, with the same replies, and both lead to the same state.
-    fn commutes(&self, call: &Call, other: &Call) -> bool
-        ensures { result ≡ commuting self.now call.now other.now };
+    /// Whether the call, where it gets the reply, is hindered by the other one: whether that may have to be taken ahead of it.
+    fn is_hindered(&self, call: &Call, reply: &Reply, other: &Call) -> bool
+        ensures { result ≡ hindered self.now call.now reply.now other.now };
+
+    /// Whether the call goes first with the reply: wherever other calls can be taken from the state on, at most so many of which hinder
+    /// it, and then the call, it can be taken at once, and then the others in some order, with the same replies and to the same state.
+    fn goes_first(&self, state: &Self::State, call: &Call, reply: &Reply, hindering: usize) -> bool
+        ensures { result ≡ first self.now state.now call.now reply.now hindering };
 
     /// Whether the call is known to be total: the object takes it in each state that it comes to (Herlihy and Wing 1990, section 2).
     fn is_total(&self, call: &Call) -> bool

@@ -61,7 +61,8 @@ fn answer_value(alloc: Global, command: &str, rest: &str, out: &mut String) -> O
 /// A row's command that is about sequential objects.
 fn answer_object(alloc: Global, command: &str, rest: &str, out: &mut String) -> Option<()> {
     match command {
-        "commutes" => objects::commutes(alloc, rest, out),
+        "hindered" => objects::hindered(alloc, rest, out),
+        "first" => objects::first(alloc, rest, out),
         "has-taken" => objects::has_taken(alloc, rest, out),
         "object" => objects::object(alloc, rest, out),
         "observes" => objects::observes(alloc, rest, out),

@@ -133,12 +133,21 @@ pub fn total(alloc: Global, text: &str, out: &mut String) -> Option<()> {
     Some(())
 }
 
-/// `commutes KIND CALL OTHERS`: with which of the others the call is known to commute.
-pub fn commutes(alloc: Global, text: &str, out: &mut String) -> Option<()> {
-    let (object, calls) = words::object_with_calls(alloc, text)?;
-    let (call, others) = calls.as_slice().split_first()?;
-    for other in others {
-        write!(out, "{} ", object.commutes(call, other)).ok()?;
+/// `hindered KIND CALL REPLY OTHERS`: by which of the others the call with the reply is hindered.
+pub fn hindered(alloc: Global, text: &str, out: &mut String) -> Option<()> {
+    let (object, call, reply, others) = words::object_with_reply(alloc, text)?;
+    for other in words::calls(alloc, others)?.iter() {
+        write!(out, "{} ", object.is_hindered(&call, &reply, other)).ok()?;
+    }
+    Some(())
+}
+
+/// `first KIND CALL REPLY CALL:REPLY ..`: whether the call with the reply goes first behind the others, where 0, 1, 2 and 3 hinder it.
+pub fn first(alloc: Global, text: &str, out: &mut String) -> Option<()> {
+    let (object, call, reply, rest) = words::object_with_reply(alloc, text)?;
+    let state = state_behind(alloc, object.kind, rest)?;
+    for many in 0..4 {
+        write!(out, "{} ", object.goes_first(&state, &call, &reply, many)).ok()?;
     }
     Some(())
 }

@@ -112,6 +112,16 @@ pub fn kinds(alloc: Global, text: &str) -> Option<Kinds> {
     Some(kinds)
 }
 
+/// A kind's object, a call with its reply, and what stands behind them.
+pub fn object_with_reply(alloc: Global, text: &str) -> Option<(Any, Call, Reply, &str)> {
+    let (word, rest) = first_word(text);
+    let kind = kind(word)?;
+    let (word, rest) = first_word(rest);
+    let call = call(alloc, word)?;
+    let (word, rest) = first_word(rest);
+    Some((Any { kind }, call, reply(alloc, word)?, rest))
+}
+
 /// A kind's object, and the calls behind the kind.
 pub fn object_with_calls(alloc: Global, text: &str) -> Option<(Any, Vec<Call>)> {
     let (word, rest) = first_word(text);

@@ -14,10 +14,11 @@ use Rattle.lin_orders.specs.Configurations.{IsAdded, IsRising}
 use Rattle.lin_orders.specs.ConfigurationLaws.{with_event, AfterOk}
 use Rattle.lin_members.specs.Covers.{HasCrashed}
 use Rattle.lin_members.specs.Exchanges.{Exchange, IsExchanged}
-use Rattle.lin_members.specs.Members.{Meets, Member, IsUpdate, IsOffered, IsOnOffer, IsReady, WayOf, more, LeadsToCover, IsComplete, IsCovered, DominatesAt}
+use Rattle.lin_members.specs.Members.{Meets, Member, IsUpdate, IsOffered, IsOnOffer, IsReady, WayOf, more, LeadsToCover, LeadsToMember, IsComplete, IsCovered, DominatesAt}
 use Rattle.lin_members.specs.MemberLaws.{IsTaken}
 use Rattle.lin_members.specs.lemmas.Choosing.{stands}
-use Rattle.lin_members.specs.lemmas.Ways.{way_was, from_covers}
+use Rattle.lin_members.specs.lemmas.Leading.{meets_from}
+use Rattle.lin_members.specs.lemmas.Ways.{way_was, from_covers, to_covers}
 use Rattle.lin_frontier.specs.Placing.{without}
 use Rattle.lin_members.specs.lemmas.Crashes.{never_crashed, ok_no_info, passes_ok}
 use Rattle.lin_members.specs.lemmas.Exchanging.{both, exchange_on, exchanged_added, exchanged_both, exchanged_meets, exchanged_on, exchanged_without, fixed, fixed_from}
@@ -136,10 +137,14 @@ module _ {S : Type 0} (start : S) (step : S → Call → S → Reply → Type 0)
             is : Meets step observes h (m.state, m.placed) (IsOnOffer m) c.0 placed
             is = from_covers step observes h m (c.0, placed) found.exchanged.rising found.leads
 
+    -- one of the others leads to the member
+    abbrev pub IsLedToBy : Member S → Type 0
+    IsLedToBy n = (k : Member S) × Contains others k × LeadsToMember step observes (with_event h event) k n
+
     -- of members that didn't place the operation: what each way comes to by placing it with this reply, without it
     pub ok_update : ((at : ℕ) (key : ℤ) (call : Call) → IsOpen h at event.process key call → observes call ≡ false)
         → ((m : Member S) → Contains members m → (c d : S × List (ℕ × Reply)) (way : WayOf step observes h m c) (u : IsUpdate step observes h c d) → u.1.process ≡ event.process → u.0.reply ≡ reply
-        → (e : Exchange h) × (placed : List (ℕ × Reply)) × (n : Member S) × IsExchanged e c.1 placed × Contains others n
+        → (e : Exchange h) × (placed : List (ℕ × Reply)) × (n : Member S) × IsExchanged e c.1 placed × IsLedToBy n
         × DominatesAt observes (with_event h event) n d.0 placed (IsOffered step observes h (IsOnOffer m) (m.state, m.placed) d (more way u)))
         → IsComplete start step observes (with_event h event) others
     ok_update update reached c config =
@@ -149,7 +154,7 @@ module _ {S : Type 0} (start : S) (step : S → Call → S → Reply → Type 0)
       where
         -- the operation was placed last on the way, with this reply, and others hold it without
         IsPlacedLast : (m : Member S) → (d : S × List (ℕ × Reply)) → WayOf step observes h m d → Type 0
-        IsPlacedLast m d way = (e : Exchange h) × (wider : List (ℕ × Reply)) × (kept : List (ℕ × Reply)) × (n : Member S) × IsExchanged e d.1 wider × IsAdded event.process reply kept wider × Contains others n
+        IsPlacedLast m d way = (e : Exchange h) × (wider : List (ℕ × Reply)) × (kept : List (ℕ × Reply)) × (n : Member S) × IsExchanged e d.1 wider × IsAdded event.process reply kept wider × IsLedToBy n
             × DominatesAt observes (with_event h event) n d.0 kept (IsOffered step observes h (IsOnOffer m) (m.state, m.placed) d way)
 
         by : {wider : List (ℕ × Reply)} → (found : IsCovered step observes h members (c.0, wider)) → IsAdded event.process reply c.1 wider → IsCovered step observes (with_event h event) others c
@@ -169,11 +174,14 @@ module _ {S : Type 0} (start : S) (step : S → Call → S → Reply → Type 0)
                 let last' = exchanged_meets n.0 functions earlier step observes (IsOffered step observes h (IsOnOffer m) (m.state, m.placed) split.mid split.first) split.mid n.1 n.4 c.0 placed
                 (rest_of step observes h (m.state, m.placed) (IsOnOffer m) c.0 placed is (IsPlacedLast m) split) in
                 let next = exchanged_without n.0 event.process reply d.1 placed last'.0 (fixed n.0 event.process not_crashed) last'.1 added in
+                let leads = held_placed step observes functions h event name reply body alternates others split.mid.0 n.1 n.2
+                (IsOffered step observes h (IsOnOffer m) (m.state, m.placed) split.mid split.first) n.3 n.5 n.7 (c.0, without event.process last'.0) last'.0 next.1 last'.2 in
                 there_after found was n.0 last'.0 last'.1 (
-                  n.3,
-                  n.6,
-                  held_placed step observes functions h event name reply body alternates others split.mid.0 n.1 n.2
-                      (IsOffered step observes h (IsOnOffer m) (m.state, m.placed) split.mid split.first) n.3 n.5 n.7 (c.0, without event.process last'.0) last'.0 next.1 last'.2,
+                  n.6.0,
+                  n.6.1,
+                  to_covers step observes (with_event h event) n.6.0 (c.0, without event.process last'.0)
+                      (meets_from step observes (with_event h event) n.6.0 n.3 n.6.2 c.0 (without event.process last'.0)
+                      (from_covers step observes (with_event h event) n.3 (c.0, without event.process last'.0) next.1.before leads)),
                 )
             | inr other ↦ elim other [
               | inl ready ↦ absurd (true≢false (sym ready.0.observer ∙ update ready.0.at ready.0.key ready.0.call ready.0.is_open))

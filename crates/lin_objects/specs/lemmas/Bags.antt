@@ -13,16 +13,16 @@ use Rattle.lin_objects.specs.Bags.{NeverFalls, bag_of, with_one, without_one}
 use Rattle.lin_objects.specs.Taking.{IsFirstAt}
 
 -- one of two numbers is at most the other
-ordered : (x y : ℤ) → (x ≤ℤ y) ⊎ (y <ℤ x)
+pub ordered : (x y : ℤ) → (x ≤ℤ y) ⊎ (y <ℤ x)
 ordered x y = split x y (λ e q. inl (omega (arith, ints))) (λ e q. inl (omega (arith, ints))) (λ e q. inr q)
 
-put_ahead : (x y : ℤ) (ys : List ℤ) → x ≤ℤ y → with_one x (y ∷ ys) ≡ x ∷ y ∷ ys
+pub put_ahead : (x y : ℤ) (ys : List ℤ) → x ≤ℤ y → with_one x (y ∷ ys) ≡ x ∷ y ∷ ys
 put_ahead x y ys h = split y x
     (λ e q. absurd (omega (arith, ints)))
     (λ e q. ap (λ o. match_ordering o (y ∷ with_one x ys) (x ∷ y ∷ ys) (x ∷ y ∷ ys)) e)
     (λ e q. ap (λ o. match_ordering o (y ∷ with_one x ys) (x ∷ y ∷ ys) (x ∷ y ∷ ys)) e)
 
-put_behind : (x y : ℤ) (ys : List ℤ) → y <ℤ x → with_one x (y ∷ ys) ≡ y ∷ with_one x ys
+pub put_behind : (x y : ℤ) (ys : List ℤ) → y <ℤ x → with_one x (y ∷ ys) ≡ y ∷ with_one x ys
 put_behind x y ys h = split y x
     (λ e q. ap (λ o. match_ordering o (y ∷ with_one x ys) (x ∷ y ∷ ys) (x ∷ y ∷ ys)) e)
     (λ e q. absurd (omega (arith, ints)))
@@ -36,7 +36,7 @@ all_with P x (y ∷ ys) p h = ⊎_elim
     (λ (q : y <ℤ x). subst (All P) (sym (put_behind x y ys q)) (All-cons P y (with_one x ys) (All-head P y ys h) (all_with P x ys p (All-tail P y ys h))))
     (ordered x y)
 
-at_most_all : (x y : ℤ) (ys : List ℤ) → x ≤ℤ y → All (λ z. y ≤ℤ z) ys → All (λ z. x ≤ℤ z) ys
+pub at_most_all : (x y : ℤ) (ys : List ℤ) → x ≤ℤ y → All (λ z. y ≤ℤ z) ys → All (λ z. x ≤ℤ z) ys
 at_most_all x y ys h all k d within = let next = all k d within in omega (arith, ints)
 
 pub falls_with : (x : ℤ) (xs : List ℤ) → NeverFalls xs → NeverFalls (with_one x xs)
@@ -50,7 +50,7 @@ pub bag_never_falls : (xs : List ℤ) → NeverFalls (bag_of xs)
 bag_never_falls [] = tt
 bag_never_falls (x ∷ xs) = falls_with x (bag_of xs) (bag_never_falls xs)
 
-put_first : (x : ℤ) (xs : List ℤ) → All (λ y. x ≤ℤ y) xs → with_one x xs ≡ x ∷ xs
+pub put_first : (x : ℤ) (xs : List ℤ) → All (λ y. x ≤ℤ y) xs → with_one x xs ≡ x ∷ xs
 put_first x [] h = refl
 put_first x (y ∷ ys) h = put_ahead x y ys (All-head (λ z. x ≤ℤ z) y ys h)
 

@@ -20,7 +20,6 @@ returns-clause-next g c functions h next covering =
       fail = c.members_after_events.ensures.fail;
       observer = c.members_after_ok.ensures.observer;
       update = c.members_after_ok.ensures.update;
-      commuting = c.members_after_ok.ensures.commuting;
       fewer = c.rounds_spell_members.ensures.fewer;
       places = c.rounds_take_operations.ensures.places;
       trail_invocation = c.rounds_after_events.ensures.invocation;

@@ -1,21 +1,18 @@
-use Rattle.std.proofs.Common.{◌≡◌, false, sym, ◌∙◌}
-use Rattle.std.proofs.lemmas.List.Elements.{All-more}
-use Rattle.lin_objects.specs.Commuting.{GoesFirst}
-use Rattle.lin_frontier.specs.declared.pending.Open.{Open}
-use Rattle.lin_frontier.specs.lemmas.Each.{all_end}
+use Rattle.std.proofs.Common.{ℕ, IfSome, subst, sym, ◌∙◌}
+use Rattle.lin_objects.specs.Ahead.{IsAhead}
+use Rattle.lin_members.specs.Searching.{AreHindering}
 use Rattle.lin_compressed.proofs.completions.Completion.goes_ahead.Goals as goal
 
-pub loop-other-preserved : goal.loop-other-preserved
-loop-other-preserved g c =
-    let same = c.as_slice-other-items.ensures in
-    All-more (λ (o : Open). (g.O.SeqObject.observing c.args.self.now.object.now o.call ≡ false) × GoesFirst (g.O.SeqObject.step c.args.self.now.object.now) c.args.self.now.operation.now.call o.call)
-    c.args.self.now.pending.now c.loop-other.other-index _ (rw same at c.loop-other-test.true) c.loop-other.invariant ((rw same at c.goes_ahead_of.ensures) c.if-not-goes_ahead_of.false)
-
-pub returns : goal.returns
-returns g c _ =
-    let same = c.as_slice-other-items.ensures in
+pub returns-in-Some : goal.returns-in-Some
+returns-in-Some g c first =
+    let object = c.args.self.now.object.now in
+    let operation = c.args.self.now.operation.now in
+    let reply = c.args.self.now.reply.now in
+    let h = subst (λ many. IfSome many (AreHindering (g.O.SeqObject.observing object) (g.O.SeqObject.hindered object) operation reply c.args.self.now.pending.now)) c.in-Some.is c.requires in
     record {
-      update = sym c.observes.ensures ∙ c.if-observes.false;
-      beside = all_end (λ (o : Open). (g.O.SeqObject.observing c.args.self.now.object.now o.call ≡ false) × GoesFirst (g.O.SeqObject.step c.args.self.now.object.now) c.args.self.now.operation.now.call o.call)
-          c.args.self.now.pending.now c.loop-other.other-index (rw same at c.loop-other-test.false) c.loop-other.invariant;
+      update = h.update;
+      quiet = h.quiet;
+      hinders = g.O.SeqObject.hindered object operation.call reply;
+      ahead = subst (λ (n : ℕ). IsAhead (g.O.SeqObject.step object) (g.O.SeqObject.hindered object operation.call reply) c.args.state.now operation.call reply n) h.counted
+          (g.O.SeqObject.ahead object c.args.state.now operation.call reply c.in-Some.many (sym c.goes_first.ensures ∙ first));
     }

@@ -14,21 +14,21 @@ loop-start-init g c = record {
 }
 
 pub returns-in_err-found-clause-grown : goal.returns-in_err-found-clause-grown
-returns-in_err-found-clause-grown g c = grown_grown _ _ _ c.loop-start.invariant.working.nodes_grown c.work_off.ensures.grown
+returns-in_err-found-clause-grown g c = grown_grown _ _ _ c.loop-start.invariant.working.nodes_grown c.take_up.ensures.grown
 
 pub returns-in_err-found-clause-tried : goal.returns-in_err-found-clause-tried
 returns-in_err-found-clause-tried g c =
     tried_turns (c.loop-start.start-index + 1) c.args.limit (2 * length c.args.self.now.pending.now + 1) _ _ (omega (arith, c.requires.within, c.loop-start-test.true))
-    (tried_turn c.loop-start.start-index (2 * length c.args.self.now.pending.now + 1) _ _ _ c.loop-start.invariant.tried c.work_off.ensures.tried)
+    (tried_turn c.loop-start.start-index (2 * length c.args.self.now.pending.now + 1) _ _ _ c.loop-start.invariant.tried c.take_up.ensures.tried)
 
 pub returns-in_err-visit_found-clause-grown : goal.returns-in_err-visit_found-clause-grown
 returns-in_err-visit_found-clause-grown g c =
-    grown_grown _ _ _ c.loop-start.invariant.working.nodes_grown (grown_grown _ _ _ c.work_off.ensures.grown c.visit_found.ensures.grown)
+    grown_grown _ _ _ c.loop-start.invariant.working.nodes_grown (grown_grown _ _ _ c.take_up.ensures.grown c.visit_found.ensures.grown)
 
 pub returns-in_err-visit_found-clause-tried : goal.returns-in_err-visit_found-clause-tried
 returns-in_err-visit_found-clause-tried g c =
     tried_turns (c.loop-start.start-index + 1) c.args.limit (2 * length c.args.self.now.pending.now + 1) _ _ (omega (arith, c.requires.within, c.loop-start-test.true))
-    (tried_turn c.loop-start.start-index (2 * length c.args.self.now.pending.now + 1) _ _ _ c.loop-start.invariant.tried c.work_off.ensures.tried)
+    (tried_turn c.loop-start.start-index (2 * length c.args.self.now.pending.now + 1) _ _ _ c.loop-start.invariant.tried c.take_up.ensures.tried)
 
 pub loop-start-preserved : goal.loop-start-preserved
 loop-start-preserved g c =
@@ -39,10 +39,10 @@ loop-start-preserved g c =
     record {
       within = omega (arith, c.loop-start-test.true);
       working = working_next (g.O.SeqObject.step c.args.self.now.object.now) (g.O.SeqObject.observing c.args.self.now.object.now) c.args.self.now.pending.now c.args.self.now.operation.now c.args.self.now.reply.now
-          starts c.args.nodes.now c.loop-start.nodes c.work_off.new.nodes c.loop-start.start-index (starts ++ c.loop-start.visited.items) c.loop-start.out.items c.work_off.new.out.items c.start-item.result.now here.0 here.1
-          e.grown e.found c.loop-start.invariant.working c.work_off.new.next.items c.in_ok-found.found c.path-path.result c.visit_found.new.nodes (starts ++ c.visit_found.new.visited.items) c.path-path.ensures
-          e.done e.passed e.offered e.placed v.grown (none_behind c.in_ok-found.found starts _ _ _ _ v.none) v.some;
-      tried = tried_turn c.loop-start.start-index (2 * length c.args.self.now.pending.now + 1) _ _ _ c.loop-start.invariant.tried c.work_off.ensures.tried;
+          starts c.args.nodes.now c.loop-start.nodes c.take_up.new.nodes c.loop-start.start-index (starts ++ c.loop-start.visited.items) c.loop-start.out.items c.take_up.new.out.items c.start-item.result.now here.0 here.1
+          e.grown e.found c.loop-start.invariant.working c.take_up.new.next.items c.in_ok-found.found c.path-path.result c.visit_found.new.nodes (starts ++ c.visit_found.new.visited.items) c.path-path.ensures
+          e.settled e.passed e.offered e.placed v.grown (none_behind c.in_ok-found.found starts _ _ _ _ v.none) v.some;
+      tried = tried_turn c.loop-start.start-index (2 * length c.args.self.now.pending.now + 1) _ _ _ c.loop-start.invariant.tried c.take_up.ensures.tried;
     }
 
 pub loop-member-init : goal.loop-member-init
@@ -60,21 +60,21 @@ pub returns-then-tried-limit-clause-tried : goal.returns-then-tried-limit-clause
 returns-then-tried-limit-clause-tried g c = tried_turns c.loop-member.tried c.args.limit (2 * length c.args.self.now.pending.now + 1) _ _ c.loop-member.invariant.within c.loop-member.invariant.tried
 
 pub returns-in_err-found-2-clause-grown : goal.returns-in_err-found-2-clause-grown
-returns-in_err-found-2-clause-grown g c = grown_grown _ _ _ c.loop-member.invariant.working.nodes_grown c.work_off-in-Some.ensures.grown
+returns-in_err-found-2-clause-grown g c = grown_grown _ _ _ c.loop-member.invariant.working.nodes_grown c.take_up-in-Some.ensures.grown
 
 pub returns-in_err-found-2-clause-tried : goal.returns-in_err-found-2-clause-tried
 returns-in_err-found-2-clause-tried g c =
     tried_turns (c.loop-member.tried + 1) c.args.limit (2 * length c.args.self.now.pending.now + 1) _ _ (omega (arith, c.if-tried-limit.false))
-    (tried_turn c.loop-member.tried (2 * length c.args.self.now.pending.now + 1) _ _ _ c.loop-member.invariant.tried c.work_off-in-Some.ensures.tried)
+    (tried_turn c.loop-member.tried (2 * length c.args.self.now.pending.now + 1) _ _ _ c.loop-member.invariant.tried c.take_up-in-Some.ensures.tried)
 
 pub returns-in_err-visit_found-2-clause-grown : goal.returns-in_err-visit_found-2-clause-grown
 returns-in_err-visit_found-2-clause-grown g c =
-    grown_grown _ _ _ c.loop-member.invariant.working.nodes_grown (grown_grown _ _ _ c.work_off-in-Some.ensures.grown c.visit_found-in-Some.ensures.grown)
+    grown_grown _ _ _ c.loop-member.invariant.working.nodes_grown (grown_grown _ _ _ c.take_up-in-Some.ensures.grown c.visit_found-in-Some.ensures.grown)
 
 pub returns-in_err-visit_found-2-clause-tried : goal.returns-in_err-visit_found-2-clause-tried
 returns-in_err-visit_found-2-clause-tried g c =
     tried_turns (c.loop-member.tried + 1) c.args.limit (2 * length c.args.self.now.pending.now + 1) _ _ (omega (arith, c.if-tried-limit.false))
-    (tried_turn c.loop-member.tried (2 * length c.args.self.now.pending.now + 1) _ _ _ c.loop-member.invariant.tried c.work_off-in-Some.ensures.tried)
+    (tried_turn c.loop-member.tried (2 * length c.args.self.now.pending.now + 1) _ _ _ c.loop-member.invariant.tried c.take_up-in-Some.ensures.tried)
 
 pub loop-member-preserved : goal.loop-member-preserved
 loop-member-preserved g c =
@@ -87,10 +87,10 @@ loop-member-preserved g c =
       counted = omega (arith, c.loop-member.invariant.counted);
       within = omega (arith, c.if-tried-limit.false);
       working = working_next (g.O.SeqObject.step c.args.self.now.object.now) (g.O.SeqObject.observing c.args.self.now.object.now) c.args.self.now.pending.now c.args.self.now.operation.now c.args.self.now.reply.now
-          starts c.args.nodes.now c.loop-member.nodes c.work_off-in-Some.new.nodes c.loop-member.tried (starts ++ c.loop-member.visited.items) c.loop-member.out.items c.work_off-in-Some.new.out.items c.in-Some.member.now here.0 here.1
-          e.grown e.found c.loop-member.invariant.working c.work_off-in-Some.new.next.items c.in_ok-found-2.found c.path-path-in-Some.result c.visit_found-in-Some.new.nodes (starts ++ c.visit_found-in-Some.new.visited.items) c.path-path-in-Some.ensures
-          e.done e.passed e.offered e.placed v.grown (none_behind c.in_ok-found-2.found starts _ _ _ _ v.none) v.some;
-      tried = tried_turn c.loop-member.tried (2 * length c.args.self.now.pending.now + 1) _ _ _ c.loop-member.invariant.tried c.work_off-in-Some.ensures.tried;
+          starts c.args.nodes.now c.loop-member.nodes c.take_up-in-Some.new.nodes c.loop-member.tried (starts ++ c.loop-member.visited.items) c.loop-member.out.items c.take_up-in-Some.new.out.items c.in-Some.member.now here.0 here.1
+          e.grown e.found c.loop-member.invariant.working c.take_up-in-Some.new.next.items c.in_ok-found-2.found c.path-path-in-Some.result c.visit_found-in-Some.new.nodes (starts ++ c.visit_found-in-Some.new.visited.items) c.path-path-in-Some.ensures
+          e.settled e.passed e.offered e.placed v.grown (none_behind c.in_ok-found-2.found starts _ _ _ _ v.none) v.some;
+      tried = tried_turn c.loop-member.tried (2 * length c.args.self.now.pending.now + 1) _ _ _ c.loop-member.invariant.tried c.take_up-in-Some.ensures.tried;
     }
 
 pub returns-clause-found : goal.returns-clause-found
