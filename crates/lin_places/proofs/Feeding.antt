@@ -1,9 +1,9 @@
 -- What a reader of places marks when a piece is taken in.
-use Rattle.std.proofs.Common.{◌≡◌, ℕ, suc, ◌+◌, ◌-◌, ◌<◌, ◌≤◌, ◌==◌, Bool, true, false, List, [], ◌∷◌, ◌++◌, Result, Err, Ok, drop, take, length, refl, sym, ap, subst, arith, ◌∙◌, append_assoc, length-append, length-drop}
+use Rattle.std.proofs.Common.{◌≡◌, ℕ, ◌+◌, ◌-◌, ◌<◌, ◌≤◌, ◌==◌, Bool, true, false, List, [], ◌∷◌, ◌++◌, Result, Err, Ok, drop, length, refl, sym, ap, subst, arith, ◌∙◌, length-append, length-drop}
 use Rattle.std.proofs.lemmas.Bool.{false≢true}
 use Rattle.std.proofs.lemmas.Bool.Decides.{nat_tests}
 use Rattle.std.proofs.lemmas.List.{drop-append-le, drop-drop}
-use Rattle.lin_edn.specs.Grammar.{Spells, ShortBlanks, Element, Frame, frame, Open, IsBlankText, IsUnfinished, nothing_more, no_blank_yet}
+use Rattle.lin_edn.specs.Grammar.{Spells, ShortBlanks, frame, Open, IsBlankText, IsUnfinished, nothing_more, no_blank_yet}
 use Rattle.lin_edn.specs.Reading.{Refuses}
 use Rattle.lin_edn.specs.Value.{Value}
 use Rattle.lin_edn.specs.declared.EdnCause.{EdnCause}
@@ -13,7 +13,7 @@ use Rattle.lin_events.specs.declared.events.Event.{Event}
 use Rattle.lin_history.specs.declared.follow.FollowFault.{FollowFault}
 use Rattle.lin_history.specs.declared.follow.FollowFault.TheVariants as fault
 use Rattle.lin_places.specs.Places.{place_at, Begins, alone, inside, ArePlaces, none, one_more, StopsAt, is_bad, Marked, Marks}
-use Rattle.lin_places.specs.Marks.{Fits, IsReadTo, Ends, IsResting}
+use Rattle.lin_places.specs.Marks.{IsReadTo, Ends, IsResting}
 use Rattle.lin_places.specs.declared.place.Place.{Place}
 use Rattle.lin_places.specs.declared.place.Stop.{Stop}
 use Rattle.lin_places.specs.declared.place.Stop.TheVariants as stop

@@ -1,9 +1,8 @@
 -- The element behind blanks at a place of a text is what a reader of the bytes from there on finds.
-use Rattle.std.proofs.Common.{◌≡◌, ◌≢◌, ℕ, zero, suc, ◌+◌, ◌-◌, ◌<◌, ◌≤◌, List, [], ◌∷◌, ◌++◌, length, take, drop, refl, sym, ap, subst, arith, ◌∙◌}
+use Rattle.std.proofs.Common.{◌≡◌, ◌≢◌, ℕ, zero, suc, ◌+◌, ◌-◌, ◌<◌, ◌≤◌, List, ◌∷◌, length, take, drop, refl, sym, subst, arith}
 use Rattle.std.proofs.lemmas.List.{length-drop, take_all}
-use Rattle.lin_edn.specs.Bytes.{class, white}
-use Rattle.lin_edn.specs.Grammar.{one, white_byte, Blanks, no_blank, one_more, Element, ShortBlanks, no_blank_yet, one_more_short, Spells, spells, longest}
-use Rattle.lin_edn.specs.Laws.{later, reading_later, ReadingsAreUnique, BlanksAreSkipped}
+use Rattle.lin_edn.specs.Grammar.{one, white_byte, Blanks, no_blank, one_more, ShortBlanks, no_blank_yet, one_more_short, Spells, spells, longest}
+use Rattle.lin_edn.specs.Laws.{reading_later, ReadingsAreUnique, BlanksAreSkipped}
 use Rattle.lin_edn.specs.Reading.{Reading, an_element, unfinished, blanks, refused, Allows, IsWantOfMemory}
 use Rattle.lin_edn.specs.Value.{Value}
 use Rattle.lin_edn.specs.declared.EdnCause.{EdnCause}

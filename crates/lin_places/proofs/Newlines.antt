@@ -1,6 +1,6 @@
 -- Lines of a text.
-use Rattle.std.proofs.Common.{◌≡◌, ℕ, suc, ◌+◌, ◌-◌, ◌≤◌, List, ◌++◌, length, take, drop, filter, refl, sym, ap, subst, arith, ◌∙◌, length-append}
-use Rattle.std.proofs.lemmas.List.{drop-take, take-append-drop, take-take, take-append-le, drop-drop, length-drop}
+use Rattle.std.proofs.Common.{◌≡◌, ℕ, suc, ◌+◌, ◌-◌, ◌≤◌, List, ◌++◌, length, take, drop, filter, sym, ap, arith, ◌∙◌, length-append}
+use Rattle.std.proofs.lemmas.List.{drop-take, take-append-drop, take-take, take-append-le, drop-drop}
 use Rattle.std.proofs.lemmas.List.Elements.{filter-append}
 use Rattle.lin_edn.specs.Bytes.{is_newline}
 use Rattle.lin_places.specs.Places.{newlines, place_at}

@@ -1,5 +1,5 @@
 -- A text that is read element by element.
-use Rattle.std.proofs.Common.{◌≡◌, ◌≢◌, ℕ, ◌+◌, ◌-◌, ◌<◌, ◌≤◌, Bool, true, false, List, ◌++◌, Ok, Err, drop, length, refl, sym, ap, subst, arith, ◌∙◌, append_assoc}
+use Rattle.std.proofs.Common.{◌≡◌, ◌≢◌, ℕ, ◌+◌, ◌-◌, ◌<◌, ◌≤◌, Bool, List, ◌++◌, Ok, Err, drop, length, refl, sym, ap, subst, arith, ◌∙◌}
 use Rattle.std.proofs.lemmas.Bool.{false≢true}
 use Rattle.std.proofs.lemmas.List.{drop-drop, length-drop}
 use Rattle.lin_edn.specs.Grammar.{Spells, ShortBlanks, IsBlankText, IsUnfinished}
@@ -9,8 +9,8 @@ use Rattle.lin_edn.specs.declared.EdnCause.{EdnCause}
 use Rattle.lin_edn.specs.declared.EdnCause.TheVariants as edn
 use Rattle.lin_history.specs.Stream.{told, Gives, blanks, element, blank, unfinished, no_element, no_event}
 use Rattle.lin_history.specs.declared.follow.FollowFault.TheVariants as fault
-use Rattle.lin_places.specs.Places.{place_at, ArePlaces}
-use Rattle.lin_places.specs.Marks.{Fits, IsPutBehind, AreMarked, IsReadTo, Ends, IsRead, IsFront}
+use Rattle.lin_places.specs.Places.{place_at}
+use Rattle.lin_places.specs.Marks.{Fits, IsPutBehind, AreMarked, IsReadTo, IsRead, IsFront}
 use Rattle.lin_places.specs.declared.place.Place.{Place}
 use Rattle.lin_places.specs.declared.place.Cursor.{Cursor}
 use Rattle.lin_places.specs.declared.place.Stop.TheVariants as stop

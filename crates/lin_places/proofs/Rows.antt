@@ -1,12 +1,12 @@
 -- Lists and vectors, element by element.
-use Rattle.std.proofs.Common.{◌≡◌, ℕ, ℤ, suc, ◌+◌, ◌<◌, ◌≤◌, Bool, true, false, List, [], ◌∷◌, ◌++◌, length, length-append, drop, Option, Some, None, option_map, if◌then◌else◌, codes, refl, sym, ap, subst, arith, ◌∙◌}
+use Rattle.std.proofs.Common.{◌≡◌, ℕ, ℤ, suc, ◌+◌, ◌<◌, ◌≤◌, Bool, true, false, List, [], ◌∷◌, ◌++◌, length, length-append, drop, Option, Some, None, option_map, if◌then◌else◌, codes, refl, sym, ap, subst, arith}
 use Rattle.std.proofs.lemmas.Bool.{false≢true}
 use Rattle.std.specs.Str.{bytes_eq}
 use Rattle.lin_edn.specs.Bytes.{Kind, a_list, a_vector, a_set, a_map, closing, is_stop}
-use Rattle.lin_edn.specs.Grammar.{One, one, Tag, first_of_tag, next_of_tag, Opens, bracket, set_bracket, Blank, Blanks, no_blank, one_more, Element, run, hash_alone, whole_text, tagged_element, collection, Row, empty, blank, element, Frame, frame, tagging, Open, within, awaits, longest}
+use Rattle.lin_edn.specs.Grammar.{one, Tag, first_of_tag, next_of_tag, Opens, bracket, set_bracket, Blank, Blanks, no_blank, one_more, Element, run, hash_alone, whole_text, tagged_element, collection, Row, empty, blank, element, frame, tagging, Open, within, awaits, longest}
 use Rattle.lin_edn.specs.Run.{run_value, of_number, is_keyword, integer}
-use Rattle.lin_edn.specs.Value.{Value, nil, bool, int, atom, keyword, list, vector, set, map, tagged, Values, values_of, made, Entries, pairs_from}
-use Rattle.lin_places.specs.Places.{row_of, is_row, AreTags}
+use Rattle.lin_edn.specs.Value.{Value, nil, bool, atom, keyword, list, vector, set, map, tagged, Values, values_of, made, Entries, pairs_from}
+use Rattle.lin_places.specs.Places.{row_of, is_row}
 use Rattle.lin_places.specs.Marks.{Follow, no_more, another, StandsAt, IsStanding, IsAmong}
 use Rattle.lin_places.proofs.Tails.{tail_is, tail_rises, blanks_tail, element_past, opens_past, tag_past}
 

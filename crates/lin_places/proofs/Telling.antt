@@ -1,8 +1,8 @@
 -- What maps tell, one after another, and where they stand.
-use Rattle.std.proofs.Common.{◌≡◌, ℕ, ◌+◌, Bool, true, List, [], ◌∷◌, ◌++◌, drop, Option, Some, None, Result, Ok, Err, refl, sym, ap, subst, ◌∙◌, append_assoc, append-nil}
-use Rattle.lin_edn.specs.Value.{Value, list, vector, set, map, nil, bool, int, atom, keyword, text, tagged, Values, no_values, value, values_of}
-use Rattle.lin_history.specs.Stream.{Told, before, told_by, told, maps_in, Gives}
-use Rattle.lin_history.specs.Table.{bare, event, event_in}
+use Rattle.std.proofs.Common.{◌≡◌, Bool, List, [], ◌∷◌, ◌++◌, Option, Some, None, Result, Ok, Err, refl, ap, ◌∙◌}
+use Rattle.lin_edn.specs.Value.{Value, list, vector, set, map, nil, bool, int, atom, keyword, text, tagged, Values, values_of}
+use Rattle.lin_history.specs.Stream.{Told, before, told_by, told, maps_in}
+use Rattle.lin_history.specs.Table.{bare, event}
 use Rattle.lin_events.specs.declared.events.Event.{Event}
 use Rattle.lin_history.specs.declared.table.EventFault.{EventFault}
 use Rattle.lin_places.specs.Places.{row_of}

@@ -1,9 +1,8 @@
 -- What the code marks while it reads: cited by the contracts of private functions alone.
 use Rattle.std.specs.Prelude.{◌≡◌, ℕ, suc, ◌+◌, ◌≤◌, Bool, true, false, List, [], ◌∷◌, ◌++◌, length, drop, Option, Some, None, Result, Ok, Err}
-use Rattle.lin_edn.specs.Bytes.{Kind, closing}
-use Rattle.lin_edn.specs.Grammar.{Frame, frame, Open, Blanks, Element, Spells, IsBlankText, IsUnfinished, longest}
-use Rattle.lin_edn.specs.Skimming.{HasSeen}
-use Rattle.lin_edn.specs.Value.{Value, Values}
+use Rattle.lin_edn.specs.Bytes.{Kind}
+use Rattle.lin_edn.specs.Grammar.{Frame, frame, Open, Blanks, Element, IsBlankText, IsUnfinished, longest}
+use Rattle.lin_edn.specs.Value.{Value}
 use Rattle.lin_history.specs.Sees.{most}
 use Rattle.lin_history.specs.Stream.{Told, Gives, IsStream}
 use Rattle.lin_history.specs.Table.{event}

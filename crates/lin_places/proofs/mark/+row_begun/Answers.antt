@@ -1,6 +1,6 @@
-use Rattle.std.proofs.Common.{◌≡◌, Some, ◌+◌, ◌<◌, ◌≤◌, ℕ, length, sym, subst, arith, ◌∙◌, ap}
+use Rattle.std.proofs.Common.{◌≡◌, ◌+◌, ◌<◌, ◌≤◌, ℕ, length, sym, subst, arith, ◌∙◌, ap}
 use Rattle.std.proofs.lemmas.Result.{IfOk-weaker}
-use Rattle.lin_edn.specs.Value.{Value, values_of, tagged}
+use Rattle.lin_edn.specs.Value.{Value, values_of}
 use Rattle.lin_edn.specs.View.{view}
 use Rattle.lin_places.specs.Marks.{IsStanding}
 use Rattle.lin_places.specs.Places.{row_of}

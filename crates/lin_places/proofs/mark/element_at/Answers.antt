@@ -1,4 +1,4 @@
-use Rattle.std.proofs.Common.{ℕ, drop}
+use Rattle.std.proofs.Common.{drop}
 use Rattle.lin_edn.specs.Grammar.{Spells, IsUnfinished, IsBlankText}
 use Rattle.lin_edn.specs.Reading.{an_element, unfinished, blanks, refused, Refuses}
 use Rattle.lin_edn.specs.View.{view}

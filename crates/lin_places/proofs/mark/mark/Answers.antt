@@ -1,7 +1,6 @@
-use Rattle.std.proofs.Common.{◌≡◌, ◌+◌, ◌≤◌, ℕ, List, [], drop, map, sym, subst, ap, ◌∙◌, arith}
-use Rattle.lin_edn.specs.Value.{Value, values_of}
+use Rattle.std.proofs.Common.{◌+◌, ◌≤◌, ℕ, [], map, sym, subst, ap, ◌∙◌, arith}
+use Rattle.lin_edn.specs.Value.{values_of}
 use Rattle.lin_edn.specs.View.{view}
-use Rattle.lin_history.specs.Stream.{told_by}
 use Rattle.lin_places.specs.Marks.{IsAmong}
 use Rattle.lin_places.specs.Places.{place_at}
 use Rattle.lin_places.proofs.Telling.{told_row}

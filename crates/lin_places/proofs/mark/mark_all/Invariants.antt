@@ -3,7 +3,6 @@ use Rattle.lin_edn.specs.Value.{values_of}
 use Rattle.lin_edn.specs.View.{view}
 use Rattle.lin_history.specs.Stream.{told_by}
 use Rattle.lin_places.specs.Marks.{Fits, IsAmong, IsPutBehind, IsSound}
-use Rattle.lin_places.proofs.Marking.{put_none}
 use Rattle.lin_places.proofs.mark.mark_all.Given as goal
 
 abbrev pub invariant-loop-item : goal.invariant-loop-item

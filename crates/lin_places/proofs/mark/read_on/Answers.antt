@@ -1,6 +1,6 @@
 use Rattle.std.proofs.Common.{refl, arith}
 use Rattle.lin_places.proofs.Found.{rest_is}
-use Rattle.lin_places.proofs.Marking.{put_again, put_none}
+use Rattle.lin_places.proofs.Marking.{put_none}
 use Rattle.lin_places.proofs.Reading.{one_front, the_end}
 use Rattle.lin_places.proofs.mark.read_on.Goals as goal
 

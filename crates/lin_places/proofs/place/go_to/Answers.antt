@@ -1,4 +1,4 @@
-use Rattle.std.proofs.Common.{◌≡◌, ◌+◌, ◌-◌, length, take, drop, length-take-le, length-drop, ap, sym, ◌∙◌, arith}
+use Rattle.std.proofs.Common.{◌≡◌, ◌-◌, length, take, drop, length-take-le, length-drop, arith}
 use Rattle.lin_places.proofs.Newlines.{place_behind}
 use Rattle.lin_places.proofs.place.go_to.Goals as goal
 

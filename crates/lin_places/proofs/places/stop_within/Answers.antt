@@ -1,4 +1,4 @@
-use Rattle.std.proofs.Common.{◌≡◌, ℕ, List, true, sym, subst, ◌∙◌}
+use Rattle.std.proofs.Common.{ℕ, List, sym, subst, ◌∙◌}
 use Rattle.lin_edn.specs.Skimming.{HasSeen, IsOpenText}
 use Rattle.lin_places.proofs.Feeding.{none_rests, is_zero, is_some}
 use Rattle.lin_places.proofs.places.stop_within.Goals as goal
@@ -7,7 +7,7 @@ use Rattle.lin_places.proofs.places.stop_within.Goals.{then-is_empty-via-then-is
 pub returns-then-is_empty-clause-rests : goal.returns-then-is_empty-clause-rests
 returns-then-is_empty-clause-rests c =
     let (text, is, known) = c.requires in
-    let seen : HasSeen c.go_on-rest.new.self c.args.held.now = subst (λ (l : List ℕ). HasSeen c.go_on-rest.new.self l) (sym is) (c.go_on-rest.ensures c.if-not-rest-2.false text (known c.if-not-rest.false)) in
+    let seen : HasSeen c.go_on-rest.new.self c.args.held.now = subst (λ (l : List ℕ). HasSeen c.go_on-rest.new.self l) (sym is) (c.go_on-rest.ensures.seen c.if-not-rest-2.false text (known c.if-not-rest.false)) in
     elim c.then-is_empty.branch [
       | then-is_empty-via-then-is_empty w ↦ none_rests c.args.held.now (is_zero _ (sym c.is_empty.ensures ∙ w.if-is_empty.true))
       | then-is_empty-via-else-is_empty+then-is_comment w ↦
