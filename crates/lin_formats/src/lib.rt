@@ -23,6 +23,6 @@ pub use integers::{integer, number};
 pub use orders::read_order;
 pub use parts::{Word, end_of_part, next_word};
 pub use runs::{Settings, verify};
-pub use texts::{put_integer, write_order, written_orders_are_read};
+pub use texts::{put_integer, put_members, write_order, written_orders_are_read};
 pub use verdict_laws::verdicts_are_unique;
 pub use writing::write_whole;
