@@ -25,7 +25,7 @@ abbrev Entries : Type 0
 Entries = List (Config × ℕ)
 
 -- a key is of an entry
-key_of_entry : (es : Entries) (c : Config) → Contains (keys_of es) c → (e : Config × ℕ) × Contains es e × (e.0 ≡ c)
+pub key_of_entry : (es : Entries) (c : Config) → Contains (keys_of es) c → (e : Config × ℕ) × Contains es e × (e.0 ≡ c)
 key_of_entry es c has =
     let place = get_from_contains (keys_of es) c has in
     by place.0 (slice_get es place.0) refl (sym (slice_get-map (λ (e : Config × ℕ). e.0) es place.0) ∙ place.1)

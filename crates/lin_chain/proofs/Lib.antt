@@ -5,3 +5,4 @@ pub mod Replaying
 pub mod Budgets
 pub mod Chaining
 pub mod ExactSets
+pub mod Showing

@@ -2,14 +2,12 @@
 use Rattle.std.specs.Prelude.{◌≡◌, ◌+◌, ℕ, List, Some, length, slice_get, take}
 use Rattle.std.specs.Global.{Vec}
 use Rattle.lin_events.specs.declared.events.Event.{Event}
-use Rattle.lin_objects.specs.Steps.{Step, start}
 use Rattle.lin_order.specs.Refutations.{AreConfigurations, Config}
-use Rattle.lin_frontier.specs.Frontiers.{IsFrontier, IsPending}
+use Rattle.lin_chain.specs.Exact.{IsExact}
 use Rattle.lin_chain.specs.declared.refuting.Builder.{Builder}
 
 -- of the first `n` events, and of each shorter beginning, all configurations are there; and what is needed to go on
 pub record AreBuilt (builder : Builder) (h : List Event) (n : ℕ) : Type 0 where
-  pub exact : IsFrontier (start builder.object.kind) (Step builder.object.kind) (take n h) builder.frontier builder.nodes
-  pub opened : IsPending (take n h) builder.pending.items
+  pub exact : IsExact builder.exact h n
   pub count : length builder.sets.items ≡ n + 1
-  pub sets : (i : ℕ) (set : Vec Config) → slice_get builder.sets.items i ≡ Some set → AreConfigurations builder.object.kind (take i h) set.items
+  pub sets : (i : ℕ) (set : Vec Config) → slice_get builder.sets.items i ≡ Some set → AreConfigurations builder.exact.object.kind (take i h) set.items

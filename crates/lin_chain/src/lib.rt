@@ -2,8 +2,11 @@
 #![tactic(auto)]
 
 mod chain;
+mod exact;
 mod pending;
+mod possible;
 mod refuting;
 mod replay;
 
 pub use chain::{Chain, End, RefuteFault};
+pub use possible::Possible;

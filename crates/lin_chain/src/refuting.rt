@@ -12,11 +12,10 @@ ghost use Rattle.lin_frontier.specs.Frontiers.{IsOver};
 ghost use Rattle.lin_orders.specs.Linearizable.{IsDeadAt, IsLinearizableAs};
 ghost use Rattle.lin_chain.specs.Refuting.{AreBuilt};
 
+use crate::exact::Exact;
 use crate::replay::Taken;
-use lin_events::{Event, Meter, OutOfMemory, Reply, beginnings_are_well_formed};
-use lin_frontier::{
-    Config, Frontier, Nodes, Open, Step, nothing_is_open_at_first, take_in as take_in_open,
-};
+use lin_events::{Event, OutOfMemory, Reply, beginnings_are_well_formed};
+use lin_frontier::{Config, Frontier};
 use lin_objects::{Any, Kind, SeqObject, State};
 use lin_order::{RefConfig, Refutation, exact_sets_refute};
 use lin_orders::prefixes_are_linearizable_by;
@@ -25,10 +24,7 @@ use std::alloc::Global;
 /// All configurations of each beginning of some events, so far.
 #[derive(Drop)]
 pub(crate) struct Builder {
-    object: Any,
-    nodes: Nodes,
-    pending: Vec<Open>,
-    frontier: Frontier<Any>,
+    exact: Exact,
     sets: Vec<Vec<RefConfig>>,
 }
 
@@ -72,25 +68,16 @@ fn set_of(
 impl Builder {
     /// Of no event.
     fn new(alloc: Global, kind: Kind) -> Result<Builder, OutOfMemory>
-        ensures kind { IfOk result (λ builder. builder.object.kind ≡ kind) }
+        ensures kind { IfOk result (λ builder. builder.exact.object.kind ≡ kind) }
         ensures built { IfOk result (λ builder. (h : List EventOf) → AreBuilt builder h 0) }
     {
-        nothing_is_open_at_first();
-        let object = Any { kind };
-        let mut nodes = Nodes::new(alloc);
-        let frontier = Frontier::start(alloc, &object, &mut nodes)?;
+        let exact = Exact::new(alloc, kind)?;
         let mut sets = Vec::new(alloc);
-        sets.push(set_of(alloc, &object, &frontier)?)?;
-        Ok(Builder {
-            object,
-            nodes,
-            pending: Vec::new(alloc),
-            frontier,
-            sets,
-        })
+        sets.push(set_of(alloc, &exact.object, &exact.frontier)?)?;
+        Ok(Builder { exact, sets })
     }
 
-    /// One more event.
+    /// One more event. Where there is no next set, what was built is of no use any more.
     fn take_in(
         &mut self,
         alloc: Global,
@@ -98,36 +85,20 @@ impl Builder {
         event: &Event,
         budget: u32,
     ) -> Result<Taken, OutOfMemory>
-        ensures kind { self.new.object.kind ≡ self.old.object.kind }
+        ensures kind { self.new.exact.object.kind ≡ self.old.exact.object.kind }
         ensures next { result ≡ Ok Taken.Next → (functions : ℤ → NameOf → Bool) (h : List EventOf) → IsWellFormed functions h → IsEvent h at event.now → AreBuilt self.old h at → AreBuilt self.new h (at + 1) }
         ensures empty { result ≡ Ok Taken.Empty → (functions : ℤ → NameOf → Bool) (h : List EventOf) → IsWellFormed functions h → IsEvent h at event.now → AreBuilt self.old h at
-            → IsLinearizableAs self.old.object.kind (take (at + 1) h) → ⊥ }
+            → IsLinearizableAs self.old.exact.object.kind (take (at + 1) h) → ⊥ }
         ensures over { result ≡ Ok Taken.Over → (functions : ℤ → NameOf → Bool) (h : List EventOf) → IsWellFormed functions h → IsEvent h at event.now → AreBuilt self.old h at
-            → IsOver (start_of self.old.object.kind) (StepOf self.old.object.kind) (take (at + 1) h) budget }
+            → IsOver (start_of self.old.exact.object.kind) (StepOf self.old.exact.object.kind) (take (at + 1) h) budget }
         ensures before { result ≡ Ok Taken.OverBefore → ⊥ }
     {
-        beginnings_are_well_formed();
-        let mut meter = Meter::new();
-        let step = self.frontier.advance_all(
-            alloc,
-            &self.object,
-            self.pending.as_slice(),
-            at,
-            event,
-            budget,
-            &mut self.nodes,
-            &mut meter,
-        )?;
-        match step {
-            Step::Next(next) => {
-                take_in_open(&mut self.pending, at, event)?;
-                self.sets.push(set_of(alloc, &self.object, &next)?)?;
-                self.frontier = next;
-                Ok(Taken::Next)
-            }
-            Step::Empty => Ok(Taken::Empty),
-            Step::Over => Ok(Taken::Over),
+        let taken = self.exact.take_in(alloc, at, event, budget)?;
+        if let Taken::Next = taken {
+            let set = set_of(alloc, &self.exact.object, &self.exact.frontier)?;
+            self.sets.push(set)?;
         }
+        Ok(taken)
     }
 }
 

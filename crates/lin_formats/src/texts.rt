@@ -21,7 +21,7 @@ pub fn put_integer(line: &mut Vec<u8>, number: i64) -> Result<(), AllocError>
 }
 
 /// Puts numbers last, with commas between them.
-fn put_members(line: &mut Vec<u8>, members: &[i64]) -> Result<(), AllocError>
+pub fn put_members(line: &mut Vec<u8>, members: &[i64]) -> Result<(), AllocError>
     ensures put { OnOk result (line.new.items ≡ line.old.items ++ join_by signed_decimal (codes ",") members.now) }
     ensures refused { OnErr result (HasFront line.old.items line.new.items) }
 {

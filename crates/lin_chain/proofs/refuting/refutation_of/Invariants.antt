@@ -4,4 +4,4 @@ use Rattle.lin_chain.specs.Refuting.{AreBuilt}
 use Rattle.lin_chain.proofs.refuting.refutation_of.Given as goal
 
 abbrev pub invariant-loop-at : goal.invariant-loop-at
-invariant-loop-at l = (l.builder.object.kind ≡ l.fn.kind) × AreBuilt l.builder (events_at l.events l.picks) l.at
+invariant-loop-at l = (l.builder.exact.object.kind ≡ l.fn.kind) × AreBuilt l.builder (events_at l.events l.picks) l.at

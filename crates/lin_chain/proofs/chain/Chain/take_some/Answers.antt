@@ -1,4 +1,4 @@
-use Rattle.std.proofs.Common.{◌≡◌, Result, Ok, Err, IsOk, length, arith}
+use Rattle.std.proofs.Common.{◌≡◌, Result, Ok, Err, IsOk, arith}
 use Rattle.lin_events.specs.declared.numbers.OutOfMemory.{OutOfMemory}
 use Rattle.lin_orders.specs.Parts.{events_at}
 use Rattle.lin_chain.proofs.Chaining.{length-events_at}

@@ -1,54 +1,29 @@
-use Rattle.std.proofs.Common.{ℤ, Bool, List, ◌+◌, ap, arith, length, length-append, sym, subst, take, ◌∙◌}
-use Rattle.lin_events.specs.declared.calls.Name.{Name}
-use Rattle.lin_events.specs.declared.events.Event.{Event}
-use Rattle.lin_events.specs.Operations.{IsEvent}
-use Rattle.lin_events.specs.WellFormed.{IsWellFormed}
-use Rattle.lin_objects.specs.Steps.{Step, start}
+use Rattle.std.proofs.Common.{◌+◌, ap, arith, length, length-append, refl, sym, subst, take, ◌∙◌}
 use Rattle.lin_order.specs.Refutations.{AreConfigurations}
-use Rattle.lin_frontier.specs.Frontiers.{IsFrontier, IsNextEvent, IsOver, IsPending}
-use Rattle.lin_chain.specs.Refuting.{AreBuilt}
-use Rattle.lin_orders.specs.Linearizable.{IsLinearizableAs}
-use Rattle.lin_chain.proofs.ExactSets.{exact_configurations, one_more_set}
-use Rattle.lin_chain.proofs.Replaying.{next_event, event_taken}
+use Rattle.lin_chain.proofs.ExactSets.{AreAll, exact_configurations, one_more_set}
+use Rattle.lin_chain.proofs.Showing.{ok_same}
 use Rattle.lin_chain.proofs.refuting.Builder.take_in.Goals as goal
-use Rattle.lin_chain.proofs.refuting.Builder.take_in.Goals.{In_ok-step}
 
-next : (c : In_ok-step) (functions : ℤ → Name → Bool) (h : List Event) → IsWellFormed functions h → IsEvent h c.args.at c.args.event.now → AreBuilt c.args.self.now h c.args.at
-    → IsNextEvent functions (take c.args.at h) c.args.self.now.pending.items c.args.at c.args.event.now
-next c functions h well there built = next_event c.beginnings_are_well_formed.ensures functions h c.args.at c.args.event.now c.args.self.now.pending.items well there built.opened
-
--- the same, of the slice that was passed on
-passed : (c : In_ok-step) (functions : ℤ → Name → Bool) (h : List Event) → IsWellFormed functions h → IsEvent h c.args.at c.args.event.now → AreBuilt c.args.self.now h c.args.at
-    → IsNextEvent functions (take c.args.at h) c.as_slice.result.now c.args.at c.args.event.now
-passed c functions h well there built = subst (λ l. IsNextEvent functions (take c.args.at h) l c.args.at c.args.event.now) (sym c.as_slice.ensures.value) (next c functions h well there built)
-
-pub returns-in_ok-push-in-Next-clause-next : goal.returns-in_ok-push-in-Next-clause-next
-returns-in_ok-push-in-Next-clause-next c = λ _ functions h well there built.
-    let self = c.args.self.now in
+pub returns-in_ok-push-clause-next : goal.returns-in_ok-push-clause-next
+returns-in_ok-push-clause-next c = λ is functions h well there built.
     let at = c.args.at in
-    let step = (goal.at.returns-in_ok-push-in-Next-clause-next c).In_ok-step in
-    let further = event_taken h at c.args.event.now there in
-    let exact : IsFrontier (start self.object.kind) (Step self.object.kind) (take (at + 1) h) c.in-Next.next c.advance_all.new.nodes =
-    subst (λ g. IsFrontier (start self.object.kind) (Step self.object.kind) g c.in-Next.next c.advance_all.new.nodes) (sym further)
-    (c.in_ok-step.ensures.next c.in-Next.next c.in-Next.is functions (take at h) (passed step functions h well there built) built.exact) in
-    let pushed = c.in_ok-push-in-Next.ensures.items in
-    let longer = ap length pushed ∙ length-append self.sets.items _ in
+    let exact = c.in_ok-taken.ensures.next is functions h well there built.exact in
+    let pushed = c.in_ok-push.ensures.items in
+    let longer = ap length pushed ∙ length-append c.args.self.now.sets.items _ in
+    let set = exact_configurations c.take_in.new.self.object.kind (take (at + 1) h) _ _ exact.configurations in
     record {
       exact = exact;
-      opened = subst (λ g. IsPending g c.take_in.new.pending.items) (sym further) (c.in_ok-take_in-in-Next.ensures.ok functions (take at h) (next step functions h well there built));
       count = omega (arith, built.count);
-      sets = one_more_set self.object.kind h (at + 1) self.sets.items c.push.new.self.items c.in_ok-set_of-in-Next.field-0 pushed built.count
-          (subst (AreConfigurations self.object.kind (take (at + 1) h)) (sym c.in_ok-set_of-in-Next.ensures) (exact_configurations self.object.kind (take (at + 1) h) _ _ exact)) built.sets;
+      sets = one_more_set c.take_in.new.self.object.kind h (at + 1) c.args.self.now.sets.items c.push.new.self.items c.in_ok-set.set pushed built.count
+          (subst (AreConfigurations c.take_in.new.self.object.kind (take (at + 1) h)) (sym c.in_ok-set.ensures) set)
+          (subst (λ k. AreAll k h c.args.self.now.sets.items) (sym c.in_ok-taken.ensures.kind) built.sets);
     }
 
-pub returns-in-Empty-clause-empty : goal.returns-in-Empty-clause-empty
-returns-in-Empty-clause-empty c = λ _ functions h well there built lin.
-    let self = c.args.self.now in
-    c.in_ok-step.ensures.empty c.in-Empty.is functions (take c.args.at h) (passed (goal.at.returns-in-Empty-clause-empty c).In_ok-step functions h well there built) built.exact
-    (subst (IsLinearizableAs self.object.kind) (event_taken h c.args.at c.args.event.now there) lin)
-
-pub returns-in-Over-clause-over : goal.returns-in-Over-clause-over
-returns-in-Over-clause-over c = λ _ functions h well there built.
-    let self = c.args.self.now in
-    subst (λ g. IsOver (start self.object.kind) (Step self.object.kind) g c.args.budget) (sym (event_taken h c.args.at c.args.event.now there))
-    (c.in_ok-step.ensures.over c.in-Over.is functions (take c.args.at h) (passed (goal.at.returns-in-Over-clause-over c).In_ok-step functions h well there built) built.exact)
+pub returns-in_default : goal.returns-in_default
+returns-in_default c = record {
+  kind = c.in_ok-taken.ensures.kind;
+  next = λ is. absurd (c.in_default.not-Next (ok_same refl refl is));
+  empty = λ is functions h well there built. c.in_ok-taken.ensures.empty is functions h well there built.exact;
+  over = λ is functions h well there built. c.in_ok-taken.ensures.over is functions h well there built.exact;
+  before = λ is. c.in_ok-taken.ensures.before is;
+}

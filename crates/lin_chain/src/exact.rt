@@ -1,0 +1,85 @@
+//! All configurations after the first events of an object.
+ghost use Rattle.std.specs.Prelude.{◌≡◌, ◌+◌, ℕ, ℤ, Bool, List, All, IfOk, IfNone, IfSome, Ok, None, Some, length, take};
+ghost use Rattle.lin_events.specs.declared.calls.Name.{Name as NameOf};
+ghost use Rattle.lin_events.specs.declared.events.Event.{Event as EventOf};
+ghost use Rattle.lin_events.specs.Operations.{IsEvent};
+ghost use Rattle.lin_events.specs.WellFormed.{IsWellFormed};
+ghost use Rattle.lin_objects.specs.Steps.{Step as StepOf, start as start_of};
+ghost use Rattle.lin_frontier.specs.Frontiers.{IsOver};
+ghost use Rattle.lin_orders.specs.Linearizable.{IsLinearizableAs};
+ghost use Rattle.lin_chain.specs.Exact.{IsExact};
+
+use crate::replay::Taken;
+use lin_events::{Event, Meter, OutOfMemory, beginnings_are_well_formed};
+use lin_frontier::{
+    Frontier, Nodes, Open, Step, nothing_is_open_at_first, take_in as take_in_open,
+};
+use lin_objects::{Any, Kind};
+use std::alloc::Global;
+
+/// All configurations after some events, and what is needed to go on.
+#[derive(Drop)]
+pub(crate) struct Exact {
+    pub(crate) object: Any,
+    pub(crate) nodes: Nodes,
+    pub(crate) frontier: Frontier<Any>,
+    pending: Vec<Open>,
+}
+
+impl Exact {
+    /// Before any event.
+    pub(crate) fn new(alloc: Global, kind: Kind) -> Result<Exact, OutOfMemory>
+        ensures kind { IfOk result (λ exact. exact.object.kind ≡ kind) }
+        ensures exact { IfOk result (λ exact. (h : List EventOf) → IsExact exact h 0) }
+    {
+        nothing_is_open_at_first();
+        let object = Any { kind };
+        let mut nodes = Nodes::new(alloc);
+        let frontier = Frontier::start(alloc, &object, &mut nodes)?;
+        Ok(Exact {
+            object,
+            nodes,
+            frontier,
+            pending: Vec::new(alloc),
+        })
+    }
+
+    /// One more event.
+    pub(crate) fn take_in(
+        &mut self,
+        alloc: Global,
+        at: usize,
+        event: &Event,
+        budget: u32,
+    ) -> Result<Taken, OutOfMemory>
+        ensures kind { self.new.object.kind ≡ self.old.object.kind }
+        ensures next { result ≡ Ok Taken.Next → (functions : ℤ → NameOf → Bool) (h : List EventOf) → IsWellFormed functions h → IsEvent h at event.now → IsExact self.old h at → IsExact self.new h (at + 1) }
+        ensures empty { result ≡ Ok Taken.Empty → (functions : ℤ → NameOf → Bool) (h : List EventOf) → IsWellFormed functions h → IsEvent h at event.now → IsExact self.old h at
+            → IsLinearizableAs self.old.object.kind (take (at + 1) h) → ⊥ }
+        ensures over { result ≡ Ok Taken.Over → (functions : ℤ → NameOf → Bool) (h : List EventOf) → IsWellFormed functions h → IsEvent h at event.now → IsExact self.old h at
+            → IsOver (start_of self.old.object.kind) (StepOf self.old.object.kind) (take (at + 1) h) budget }
+        ensures before { result ≡ Ok Taken.OverBefore → ⊥ }
+    {
+        beginnings_are_well_formed();
+        let mut meter = Meter::new();
+        let step = self.frontier.advance_all(
+            alloc,
+            &self.object,
+            self.pending.as_slice(),
+            at,
+            event,
+            budget,
+            &mut self.nodes,
+            &mut meter,
+        )?;
+        match step {
+            Step::Next(next) => {
+                take_in_open(&mut self.pending, at, event)?;
+                self.frontier = next;
+                Ok(Taken::Next)
+            }
+            Step::Empty => Ok(Taken::Empty),
+            Step::Over => Ok(Taken::Over),
+        }
+    }
+}
