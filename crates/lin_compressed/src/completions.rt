@@ -655,8 +655,7 @@ impl<'a, O: SeqObject> Completion<'a, O> {
         let mut out = found;
         for start in starts {
             let path = start.path();
-            let found =
-                self.take_up(hindering, start, &mut out, next, nodes, steps, meter, pool)?;
+            let found = self.take_up(hindering, start, &mut out, next, nodes, steps, meter, pool)?;
             let onward = Onward {
                 path,
                 offers: found,
@@ -670,8 +669,7 @@ impl<'a, O: SeqObject> Completion<'a, O> {
                 return Ok(None);
             }
             let path = member.path();
-            let found =
-                self.take_up(hindering, member, &mut out, next, nodes, steps, meter, pool)?;
+            let found = self.take_up(hindering, member, &mut out, next, nodes, steps, meter, pool)?;
             let onward = Onward {
                 path,
                 offers: found,

@@ -209,15 +209,7 @@ fn after_ok<O: SeqObject>(
     let starts = absent_ones(completion.alloc, members, process)?;
     // What is found, and then the members that placed the operation.
     let room = members.len().saturating_add(3);
-    let Some(mut found) = completion.found_from(
-        &starts,
-        room,
-        limit,
-        nodes,
-        meter,
-        scratch,
-    )?
-    else {
+    let Some(mut found) = completion.found_from(&starts, room, limit, nodes, meter, scratch)? else {
         return Ok(None);
     };
     push_all_taken_out(

@@ -182,10 +182,13 @@ module _ {S : Type 0} (start : S) (step : S → Call → S → Reply → Type 0)
         };
       };
       offered = λ x offer.
-          let o = f.widens.offered x (offer.0, elim offer.1 [
-            | inl old ↦ inl old
-            | inr e ↦ inr (e.0, e.1, f.has e.0 e.2, e.3, e.4, e.5)
-          ]) in
+          let o = f.widens.offered x (
+            offer.0,
+            elim offer.1 [
+              | inl old ↦ inl old
+              | inr e ↦ inr (e.0, e.1, f.has e.0 e.2, e.3, e.4, e.5)
+            ],
+          ) in
           (o.0, o.1, o.2);
     }
       where

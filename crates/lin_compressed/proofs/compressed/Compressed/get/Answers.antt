@@ -9,6 +9,6 @@ pub returns-clause-sound : goal.returns-clause-sound
 returns-clause-sound g c =
     let object = c.args.object.now in
     shown_holds _ c.args.self.now (λ m there functions h nodes well_formed is.
-        members_lead_within (g.O.SeqObject.starts object) (g.O.SeqObject.step object) (g.O.SeqObject.observing object) c.members_are_exact.ensures.sound c.overwritten_are_sound.ensures (g.O.SeqObject.unchanged object)
-        (g.O.SeqObject.overwriting object) (g.O.SeqObject.overwritten object) functions h well_formed c.args.self.now nodes is m there)
+    members_lead_within (g.O.SeqObject.starts object) (g.O.SeqObject.step object) (g.O.SeqObject.observing object) c.members_are_exact.ensures.sound c.overwritten_are_sound.ensures (g.O.SeqObject.unchanged object)
+    (g.O.SeqObject.overwriting object) (g.O.SeqObject.overwritten object) functions h well_formed c.args.self.now nodes is m there)
     c.args.i c.get.result (shown_at c.deref.result.now c.args.self.now (c.deref.ensures.value ∙ c.self.view_is) c.args.i c.get.result c.get.ensures.lookup)
