@@ -20,7 +20,7 @@ use Rattle.lin_members.specs.MemberLaws.{first_member, IsAheadOfAll, IsDominated
 use Rattle.lin_members.specs.lemmas.Choosing.{can_add}
 use Rattle.lin_members.specs.lemmas.Leading.{leads_to_itself}
 use Rattle.lin_members.specs.lemmas.Ways.{covers_from, way_kept, way_start}
-use Rattle.lin_members.proofs.TakenFirst.{TakenFirst, dominates_leads, taken_first}
+use Rattle.lin_members.proofs.TakenFirst.{dominates_leads, taken_first}
 use Rattle.lin_members.specs.lemmas.Crashes.{crashes_now, never_crashed, ok_no_info, passes_fail, passes_ok}
 use Rattle.lin_members.specs.lemmas.Exchanging.{both, exchange_all, exchanged_both, exchanged_itself, exchanged_update, fixed, fixed_from, no_exchange, only_itself}
 use Rattle.lin_members.specs.lemmas.Returning.{ok_observer, ok_update}

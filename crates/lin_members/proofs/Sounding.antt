@@ -11,8 +11,8 @@ use Rattle.lin_objects.specs.Observing.{IsObserving}
 use Rattle.lin_orders.specs.declared.placed.Placed.{Placed}
 use Rattle.lin_orders.specs.Configurations.{EndsIn, IsConfiguration, IsRising}
 use Rattle.lin_orders.specs.ConfigurationLaws.{PlacingIsLegal}
-use Rattle.lin_members.specs.Members.{Member, IsOnOffer, IsWatching, IsGiven, Way, here, more, IsOffered, IsReady, Leads}
-use Rattle.lin_members.specs.Rounds.{joined, put, begin_round, IsOfferedIn, IsTrail, IsTrailOf}
+use Rattle.lin_members.specs.Members.{IsOnOffer, IsWatching, IsGiven, Way, here, more, IsOffered, IsReady}
+use Rattle.lin_members.specs.Rounds.{joined, put, begin_round, IsOfferedIn, IsTrail}
 use Rattle.lin_members.specs.RoundLaws.{SoundLaw}
 use Rattle.lin_members.specs.lemmas.Choosing.{can_add, nothing_in, stands}
 use Rattle.lin_frontier.specs.lemmas.Inserting.{first_or_rest, rising_once}

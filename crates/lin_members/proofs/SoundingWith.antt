@@ -1,5 +1,5 @@
 -- All that a member with rounds leads to with early updates is true: these are rounds ahead of the last one.
-use Rattle.std.proofs.Common.{◌≡◌, ℕ, suc, ℤ, ◌<◌, Bool, true, List, [], ◌∷◌, ◌++◌, length, length-append, Contains, ◌⊎◌, inl, inr, refl, sym, ap, subst, ◌∙◌, arith}
+use Rattle.std.proofs.Common.{ℕ, suc, ℤ, ◌<◌, Bool, List, [], ◌∷◌, ◌++◌, length, length-append, Contains, inl, inr, refl, ap, subst, arith}
 use Rattle.std.proofs.lemmas.List.Elements.{Contains-append_right}
 use Rattle.lin_events.specs.declared.calls.Call.{Call}
 use Rattle.lin_events.specs.declared.calls.Name.{Name}

@@ -1,7 +1,7 @@
 -- What goes first of all that is open beside it can be placed first on each way.
-use Rattle.std.proofs.Common.{◌≡◌, ◌≢◌, ◌⊎◌, ◌≤◌, ◌+◌, ℕ, ℤ, suc, Bool, true, false, nat_eq, List, [], ◌∷◌, ◌++◌, AllPairs, Contains, IsPermutation, count_by, get_or, inl, inr, refl, sym, ap, subst, ◌∙◌, arith}
+use Rattle.std.proofs.Common.{◌≡◌, ◌≢◌, ◌⊎◌, ◌≤◌, ℕ, ℤ, suc, Bool, true, false, nat_eq, List, [], ◌∷◌, ◌++◌, AllPairs, Contains, IsPermutation, count_by, get_or, inl, inr, refl, sym, ap, subst, ◌∙◌, arith}
 use Rattle.std.proofs.lemmas.Bool.Decides.{Decides-eqb as Decides-nat_eq}
-use Rattle.std.proofs.lemmas.List.Elements.{Contains-append_left, Contains-append_right, Contains-get_or, Contains-push, Contains-push_cases}
+use Rattle.std.proofs.lemmas.List.Elements.{Contains-append_left, Contains-get_or, Contains-push, Contains-push_cases}
 use Rattle.std.proofs.lemmas.List.Quantifiers.{all_pairs_push}
 use Rattle.std.proofs.lemmas.List.Sorted.{Contains-permutation, IsPermutation-sym, sum_by-IsPermutation}
 use Rattle.lin_lists.specs.lemmas.Elements.{first_or_rest}
@@ -12,10 +12,10 @@ use Rattle.lin_events.specs.Operations.{IsOpen}
 use Rattle.lin_objects.specs.Ahead.{IsFirst, Takes}
 use Rattle.lin_objects.specs.GoingFirst.{takes_last}
 use Rattle.lin_objects.specs.lemmas.Counted.{count_no, count_yes, nothing_counted, some_counted}
-use Rattle.lin_orders.specs.Configurations.{IsAdded, IsRising}
+use Rattle.lin_orders.specs.Configurations.{IsRising}
 use Rattle.lin_members.specs.Covers.{HasCrashed}
 use Rattle.lin_members.specs.MemberLaws.{IsAheadOfOpen}
-use Rattle.lin_members.specs.Members.{Member, IsOnOffer, IsUpdate, LeadsToMember, DominatesAt, Way, here, more}
+use Rattle.lin_members.specs.Members.{Member, IsOnOffer, LeadsToMember, DominatesAt, Way, here, more}
 use Rattle.lin_members.specs.lemmas.Choosing.{can_add, head_pairs, tail_pairs}
 use Rattle.lin_members.specs.lemmas.Following.{Follows, follow}
 use Rattle.lin_members.specs.lemmas.Ways.{way_kept}

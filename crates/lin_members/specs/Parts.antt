@@ -2,11 +2,11 @@
 use Rattle.std.specs.Prelude.{◌≡◌, ◌⊎◌, ◌/◌, ◌^◌, ℕ, Bool, true, false, nat_eq, List, Contains}
 use Rattle.std.specs.List.{fold}
 use Rattle.std.specs.Hash as fed
-use Rattle.std.specs.Int.Bits.{bit_and, bit_or}
+use Rattle.std.specs.Int.Bits.{bit_and}
 use Rattle.std.specs.Hash.FoldHasher.{initial, write, finish}
 use Rattle.lin_events.specs.declared.calls.Reply.{Reply}
 use Rattle.lin_frontier.specs.declared.pending.Open.{Open}
-use Rattle.lin_frontier.specs.Masks.{mask_of, crashed_bits, bits_beside}
+use Rattle.lin_frontier.specs.Masks.{bits_beside}
 use Rattle.lin_members.specs.Members.{Member}
 
 -- the hash of what the state feeds, and of these bits

@@ -12,7 +12,7 @@ use Rattle.lin_events.specs.declared.events.Event.{Event}
 use Rattle.lin_objects.specs.declared.kinds.Kind.{Kind}
 use Rattle.lin_objects.specs.declared.kinds.Kind.TheVariants.{Register, CasRegister}
 use Rattle.lin_objects.specs.declared.states.State.{State}
-use Rattle.lin_objects.specs.declared.states.State.TheVariants.{Value, Queue, Members, Held, Bag}
+use Rattle.lin_objects.specs.declared.states.State.TheVariants.{Value}
 use Rattle.lin_objects.specs.Steps.{Step, start}
 use Rattle.lin_orders.specs.declared.placed.Placed.{Placed}
 use Rattle.lin_orders.specs.Linearizable.{IsLegalOrderBy, Runs}

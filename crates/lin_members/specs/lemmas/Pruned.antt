@@ -1,8 +1,6 @@
 -- What lists of pending operations tell of domination, and members with only the offers that somebody waits for.
-use Rattle.std.proofs.Common.{◌≡◌, ◌⊎◌, ◌&&◌, ◌||◌, ℕ, ℤ, suc, Bool, true, false, not, nat_eq, List, [], ◌∷◌, All, Contains, inl, inr, refl, sym, ap, subst, ◌∙◌, arith, get_or, true≢false}
-use Rattle.std.specs.List.{list_any}
+use Rattle.std.proofs.Common.{◌≡◌, ◌⊎◌, ◌&&◌, ℕ, ℤ, Bool, true, false, not, nat_eq, List, All, Contains, inl, inr, refl, sym, subst, get_or}
 use Rattle.std.proofs.lemmas.Bool.Decides.{Decides-eqb as Decides-nat_eq}
-use Rattle.std.proofs.lemmas.List.Folds.{list_any_at}
 use Rattle.std.proofs.lemmas.List.Elements.{All-contains, Contains-get_or}
 use Rattle.lin_events.specs.declared.calls.Call.{Call}
 use Rattle.lin_events.specs.declared.calls.Name.{Name}
