@@ -6,3 +6,4 @@ pub mod Budgets
 pub mod Chaining
 pub mod ExactSets
 pub mod Showing
+pub mod Counting

@@ -6,3 +6,4 @@ pub mod Refuting
 pub mod Possible
 pub mod After
 pub mod Gathering
+pub mod Worth

@@ -1,5 +1,5 @@
 //! One object's frontiers over its events, kept right while the events are edited.
-ghost use Rattle.std.specs.Prelude.{◌≡◌, ◌≢◌, ◌≤◌, ◌<◌, ◌+◌, ◌-◌, ◌*◌, ◌/◌, ◌⊎◌, ℕ, ℤ, Bool, List, All, AllPairs, IfOk, OnOk, IsOk, MatchOption, length, take, IsTrue, OnErr, ◌↔◌, Ok, Err, None, min, true};
+ghost use Rattle.std.specs.Prelude.{◌≡◌, ◌≢◌, ◌≤◌, ◌<◌, ◌+◌, ◌-◌, ◌*◌, ◌/◌, ◌⊎◌, ℕ, ℤ, Bool, List, All, AllPairs, IfOk, OnOk, IsOk, MatchOption, length, take, IsTrue, OnErr, ◌↔◌, Ok, Err, None, Some, min, nat_lt, true};
 ghost use Rattle.lin_events.specs.declared.calls.Name.{Name as NameOf};
 ghost use Rattle.lin_events.specs.declared.events.Event.{Event as EventOf};
 ghost use Rattle.lin_events.specs.Operations.{IsEvent};
@@ -7,9 +7,11 @@ ghost use Rattle.lin_events.specs.WellFormed.{IsWellFormed};
 ghost use Rattle.lin_objects.specs.Steps.{Step as StepOf, start as start_of};
 ghost use Rattle.lin_orders.specs.Parts.{events_at};
 ghost use Rattle.lin_order.specs.Refutations.{IsRefutation, sets_of};
-ghost use Rattle.lin_frontier.specs.Frontiers.{IsOver};
+ghost use Rattle.lin_frontier.specs.Frontiers.{IsOver, IsPending};
+ghost use Rattle.lin_frontier.specs.declared.pending.Open.{Open as OpenOf};
 ghost use Rattle.lin_chain.specs.Chains.{IsRight, end_before, end_in, end_under, kept_count, kind_in, ready_count, ready_under};
 ghost use Rattle.lin_chain.specs.Ends.{IsEndOf, IsFrom};
+ghost use Rattle.lin_chain.specs.Worth.{ways as ways_of};
 ghost use Rattle.lin_orders.specs.Linearizable.{IsLegalOrderAs};
 
 use crate::refuting::refutation_of;
@@ -201,6 +203,9 @@ impl Chain {
         ensures stays { end_under budget self.old ≢ End.Alive → end_in self.new ≡ end_under budget self.old }
         ensures steps { meter.new.steps ≤ meter.old.steps + (length picks.now - ready_under budget self.old) }
         ensures progress { OnOk result (meter.new.steps + ready_under budget self.old ≤ meter.old.steps + ready_count self.new) }
+        // It stops early only where the tries that are left aren't worth the next event.
+        ensures worth { OnOk result (end_in self.new ≡ End.Alive → (ready_count self.new ≡ length picks.now) ⊎ ((opened : List OpenOf)
+            → IsPending (take (ready_count self.new) (events_at events.now picks.now)) opened → tries - meter.new.tries ≤ ways_of (length opened))) }
         ensures scans { meter.new.scans ≡ meter.old.scans }
     {
         self.retry(budget);
@@ -251,6 +256,8 @@ impl Chain {
         ensures settled { ready_count self.old ≡ length picks.now → IsOk result }
         ensures steps { meter.new.steps ≤ meter.old.steps + (length picks.now - ready_count self.old) }
         ensures progress { OnOk result (meter.new.steps + ready_count self.old ≤ meter.old.steps + ready_count self.new) }
+        ensures worth { OnOk result ((most : ℕ) → tries ≡ Some most → end_in self.new ≡ End.Alive → (ready_count self.new ≡ length picks.now) ⊎ ((opened : List OpenOf)
+            → IsPending (take (ready_count self.new) (events_at events.now picks.now)) opened → most - meter.new.tries ≤ ways_of (length opened))) }
         ensures scans { meter.new.scans ≡ meter.old.scans }
     {
         while self.end.is_alive()
@@ -351,16 +358,21 @@ impl End {
     }
 }
 
-/// Whether one more event is worth the tries that are left, if there is a limit, while so many operations are open: each set of these may
-/// have been placed, and each other one may come next.
+/// In how many ways one more event may be tried while so many operations are open: each set of these may have been placed, and each other
+/// one may come next.
+fn ways(open: usize) -> u64
+    ensures { result ≡ ways_of «open» }
+{
+    (open as u64).saturating_mul(1 << open.min(32))
+}
+
+/// Whether one more event is worth the tries that are left, if there is a limit, while so many operations are open.
 fn is_worth(meter: &Meter, tries: Option<u64>, open: usize) -> bool
-    ensures { tries ≡ None → result ≡ true }
+    ensures all { tries ≡ None → result ≡ true }
+    ensures some { (most : ℕ) → tries ≡ Some most → result ≡ nat_lt (ways_of «open») (most - meter.now.tries) }
 {
     match tries {
         None => true,
-        Some(tries) => {
-            let ways = (open as u64).saturating_mul(1 << open.min(32));
-            ways < tries.saturating_sub(meter.tries())
-        }
+        Some(tries) => ways(open) < tries.saturating_sub(meter.tries()),
     }
 }

@@ -8,6 +8,7 @@ ghost use Rattle.lin_events.specs.WellFormed.{IsWellFormed};
 ghost use Rattle.lin_objects.specs.Steps.{Step as StepOf, start as start_of};
 ghost use Rattle.lin_orders.specs.declared.placed.Placed.{Placed as PlacedOf};
 ghost use Rattle.lin_orders.specs.ConfigurationLaws.{with_event};
+ghost use Rattle.lin_frontier.specs.declared.pending.Open.{Open as OpenOf};
 ghost use Rattle.lin_frontier.specs.Frontiers.{IsNextEvent, IsOver, IsPending};
 ghost use Rattle.lin_members.specs.Rounds.{joined, SpellsRounds};
 ghost use Rattle.lin_chain.specs.Replays.{IsCurrent, IsPrepared, IsReplay, Members, held_count};
@@ -104,10 +105,13 @@ impl Replay {
     }
 
     /// How many operations are open after the events that are known.
-    pub(crate) fn open(&self) -> usize {
+    pub(crate) fn open(&self) -> usize
+        ensures { (h : List EventOf) (opened : List OpenOf) → IsReplay self.now h → IsPending (take self.now.reached h) opened → result ≤ length opened }
+    {
         match (&self.present, self.checkpoints.last()) {
+            (Some(_), _) => self.pending.as_slice().len(),
             (None, Some(last)) => last.crashed.saturating_add(last.live.len()),
-            _ => self.pending.as_slice().len(),
+            (None, None) => 0,
         }
     }
 

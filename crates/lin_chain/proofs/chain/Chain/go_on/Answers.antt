@@ -1,4 +1,6 @@
-use Rattle.std.proofs.Common.{◌≡◌, ◌∙◌, arith}
+use Rattle.std.proofs.Common.{◌≡◌, ◌∙◌, arith, inl, inr, length, subst, sym, take}
+use Rattle.lin_frontier.specs.Frontiers.{IsPending}
+use Rattle.lin_chain.proofs.Counting.{not_less, ways_rise}
 use Rattle.lin_chain.specs.declared.chain.End.TheVariants.{Alive}
 use Rattle.lin_orders.specs.Parts.{events_at}
 use Rattle.lin_chain.specs.Chains.{IsRight, ready_count}
@@ -56,3 +58,21 @@ returns-after-loop-meter-clause-steps c =
     let was = c.loop-meter.invariant in
     let len = length-events_at c.args.events.now c.args.picks.now c.requires.inside in
     omega (arith, was.steps, was.grown, was.right.within, len)
+
+pub returns-else-is_worth-clause-worth : goal.returns-else-is_worth-clause-worth
+returns-else-is_worth-clause-worth c = λ most is alive'. inr (λ opened pending.
+    let h = events_at c.args.events.now c.args.picks.now in
+    let chain = c.loop-meter.self in
+    let known = reached_ready chain h alive' c.loop-meter.invariant.right in
+    let few = c.open.ensures h opened c.loop-meter.invariant.right.replay (subst (λ n. IsPending (take n h) opened) (sym known) pending) in
+    let stops = not_less _ _ (sym (c.if-is_worth.ensures.some most is)) in
+    let rise = ways_rise c.open.result (length opened) few in
+    omega (arith, stops, rise))
+
+pub returns-else-self-picks-clause-worth : goal.returns-else-self-picks-clause-worth
+returns-else-self-picks-clause-worth c = λ most is alive'.
+    let h = events_at c.args.events.now c.args.picks.now in
+    let was = c.loop-meter.invariant in
+    let len = length-events_at c.args.events.now c.args.picks.now c.requires.inside in
+    let known = reached_ready c.loop-meter.self h alive' was.right in
+    inl (omega (arith, was.right.within, len, known, c.if-self-picks.false))
