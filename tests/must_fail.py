@@ -40,7 +40,7 @@ from concurrent.futures import ThreadPoolExecutor
 ROOT = os.path.dirname(os.path.dirname(os.path.realpath(__file__)))
 COUNTED = re.compile(r'^\d+ passed, \d+ failed', re.M)
 HOLE = 'use Rattle.{0}.proofs.{1}.Statement.{{statement}}\n\npub {2}_spec : {{M : Type 1}} → statement M\n{2}_spec = ?\n'
-EACH = 6 << 30  # the memory that a check is taken to need
+EACH = 8 << 30  # the memory that a check is taken to need
 BESIDE = 7 << 30  # the free memory below which none begins beside rt ci, whose own checks still grow
 ITEM = re.compile(r'^( *)(?:pub(?:\([\w: ]+\))? )?(?:(?:const|unsafe|default|ghost) )*(fn|impl|trait|mod)\b(.*)', re.M)
 CALL = re.compile(r'(?:(\w+)\s*(\.|::)\s*|(\.)\s*)?(?<!fn )\b(\w+)\s*(?:::<[^()]*>)?\(')
