@@ -10,9 +10,8 @@ use Rattle.lin_events.specs.Operations.{IsEvent}
 use Rattle.lin_objects.specs.declared.kinds.Kind.{Kind}
 use Rattle.lin_objects.specs.Steps.{Step, start}
 use Rattle.lin_orders.specs.Laws.{EmptyIsLegal}
-use Rattle.lin_orders.specs.Configurations.{IsConfiguration}
+use Rattle.lin_orders.specs.Configurations.{IsConfiguration, IsOver}
 use Rattle.lin_orders.specs.Parts.{events_at}
-use Rattle.lin_frontier.specs.Frontiers.{IsOver}
 use Rattle.lin_chain.specs.declared.chain.Chain.{Chain}
 use Rattle.lin_chain.specs.declared.chain.End.{End}
 use Rattle.lin_chain.specs.declared.chain.End.TheVariants.{Alive, Dead, Over}

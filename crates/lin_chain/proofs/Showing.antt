@@ -28,7 +28,7 @@ use Rattle.lin_lists.specs.lemmas.Lists.{take_next}
 use Rattle.std.proofs.lemmas.List.{take_all}
 use Rattle.lin_chain.specs.declared.exact.Exact.{Exact}
 use Rattle.lin_chain.specs.Exact.{IsExact}
-use Rattle.lin_chain.specs.Gathering.{IsGathered, IsPut, IsTakenFrom}
+use Rattle.lin_chain.specs.inner.Gathering.{IsGathered, IsPut, IsTakenFrom}
 use Rattle.lin_chain.specs.Possible.{AreShown, Answers, LeavesIn}
 use Rattle.lin_chain.proofs.ExactSets.{key_of_entry}
 

@@ -3,7 +3,7 @@ use Rattle.std.specs.Prelude.{◌+◌, ◌<◌, ◌≤◌, ℕ, List, length, ta
 use Rattle.lin_events.specs.declared.events.Event.{Event}
 use Rattle.lin_objects.specs.declared.kinds.Kind.{Kind}
 use Rattle.lin_objects.specs.Steps.{Step, start}
-use Rattle.lin_frontier.specs.Frontiers.{IsOver}
+use Rattle.lin_orders.specs.Configurations.{IsOver}
 use Rattle.lin_chain.specs.declared.chain.End.{End}
 use Rattle.lin_chain.specs.declared.chain.End.TheVariants.{Alive, Dead, Over}
 use Rattle.lin_orders.specs.Linearizable.{IsDeadAt, IsLinearizableAs}

@@ -10,11 +10,12 @@ ghost use Rattle.lin_objects.specs.declared.states.State.{State as StateOf};
 ghost use Rattle.lin_orders.specs.declared.placed.Placed.{Placed as PlacedOf};
 ghost use Rattle.lin_orders.specs.Parts.{events_at};
 ghost use Rattle.lin_orders.specs.Linearizable.{IsLinearizableAs};
-ghost use Rattle.lin_frontier.specs.Frontiers.{IsFrontier, IsOver};
+ghost use Rattle.lin_frontier.specs.Frontiers.{IsFrontier};
+ghost use Rattle.lin_orders.specs.Configurations.{IsOver};
 ghost use Rattle.lin_frontier.specs.Nodes.{Spells};
 ghost use Rattle.lin_chain.specs.After.{IsAfter};
 ghost use Rattle.lin_chain.specs.Possible.{AreShown, Answers, LeavesIn};
-ghost use Rattle.lin_chain.specs.Gathering.{IsGathered, IsPut, IsTakenFrom};
+ghost use Rattle.lin_chain.specs.inner.Gathering.{IsGathered, IsPut, IsTakenFrom};
 
 use crate::exact::Exact;
 use crate::replay::Taken;

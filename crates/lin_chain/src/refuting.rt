@@ -8,9 +8,9 @@ ghost use Rattle.lin_events.specs.WellFormed.{IsWellFormed};
 ghost use Rattle.lin_objects.specs.Steps.{Step as StepOf, start as start_of};
 ghost use Rattle.lin_orders.specs.Parts.{events_at};
 ghost use Rattle.lin_order.specs.Refutations.{IsRefutation, sets_of};
-ghost use Rattle.lin_frontier.specs.Frontiers.{IsOver};
+ghost use Rattle.lin_orders.specs.Configurations.{IsOver};
 ghost use Rattle.lin_orders.specs.Linearizable.{IsDeadAt, IsLinearizableAs};
-ghost use Rattle.lin_chain.specs.Refuting.{AreBuilt};
+ghost use Rattle.lin_chain.specs.inner.Refuting.{AreBuilt};
 
 use crate::exact::Exact;
 use crate::replay::Taken;

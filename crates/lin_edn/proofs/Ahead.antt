@@ -4,11 +4,11 @@ use Rattle.std.proofs.lemmas.Bool.{cases_lt}
 use Rattle.std.specs.List.{slice_range}
 use Rattle.lin_edn.specs.Bytes.{a_map, Class, white, semicolon, opener, closer, quote, backslash, hash, inside, class, is_white, is_stop, is_newline, quoted, stays}
 use Rattle.lin_edn.specs.Grammar.{Frame, longest, outermost}
-use Rattle.lin_edn.specs.Machine.{Mode, between, in_run, in_tag, in_text, in_comment, go, run, begun}
+use Rattle.lin_edn.specs.inner.Machine.{Mode, between, in_run, in_tag, in_text, in_comment, go, run, begun}
 use Rattle.lin_edn.specs.Scans.{IsStopAt, IsAhead, is_dark, is_quoting, is_inside}
 use Rattle.lin_edn.specs.declared.reader.Mode.{Mode as CodeMode}
 use Rattle.lin_edn.specs.declared.reader.Mode.TheVariants as mode
-use Rattle.lin_edn.specs.Turns.{mode_of, IsBegun}
+use Rattle.lin_edn.specs.inner.Turns.{mode_of, IsBegun}
 use Rattle.lin_edn.proofs.Forth.{begins_run, run_goes, tag_goes, text_goes, comment_goes}
 use Rattle.lin_edn.proofs.Fronts.{positive}
 use Rattle.lin_edn.proofs.Runs.{range_more}

@@ -1,11 +1,11 @@
 -- What is unfinished or too long isn't whole.
 use Rattle.std.proofs.Common.{◌≡◌, ℕ, ◌+◌, ◌<◌, ◌≤◌, List, [], sym, ◌∙◌, arith, subst}
 use Rattle.lin_edn.specs.Grammar.{Blank, comment, discarded, longest, ShortBlanks, spells, Whole, an_element, a_discard, Thing, element_or_discard, a_comment}
-use Rattle.lin_edn.specs.Machine.{Answer, complete, partial, too_long, run, between}
+use Rattle.lin_edn.specs.inner.Machine.{Answer, complete, partial, too_long, run, between}
 use Rattle.lin_edn.specs.Value.{Value}
 use Rattle.lin_edn.proofs.Forth.{short_run, blank_run, spells_run}
 use Rattle.lin_edn.proofs.Order.{AnswerOrder, run_order}
-use Rattle.lin_edn.proofs.Rising.{blank_past}
+use Rattle.lin_edn.specs.lemmas.Rising.{blank_past}
 
 -- an answer that isn't complete, and tells a place
 data Open : Answer → ℕ → Type 0 where

@@ -3,10 +3,10 @@ use Rattle.std.proofs.Common.{◌≡◌, ℕ, ◌+◌, ◌≤◌, ◌<◌, ◌�
 use Rattle.std.proofs.lemmas.Bool.{cases_lt}
 use Rattle.lin_edn.specs.Bytes.{Class, semicolon, hash, class, is_newline}
 use Rattle.lin_edn.specs.Grammar.{one, Comment, starts, goes, Discard, discards, Blank, white_byte, comment, discarded, Blanks, Element, longest, ShortBlanks, no_blank_yet, one_more_short, tagging}
-use Rattle.lin_edn.specs.Machine.{complete, run, between}
+use Rattle.lin_edn.specs.inner.Machine.{complete, run, between}
 use Rattle.lin_edn.specs.Value.{Value, tagged}
 use Rattle.lin_edn.proofs.Forth.{blanks_run, element_run}
-use Rattle.lin_edn.proofs.Rising.{blank_past, comment_past, element_past}
+use Rattle.lin_edn.specs.lemmas.Rising.{blank_past, comment_past, element_past}
 use Rattle.lin_edn.proofs.Sizes.{same_tail}
 
 -- the first byte is of a class

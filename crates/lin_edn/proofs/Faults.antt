@@ -1,7 +1,7 @@
 -- A turn that faults, as an answer.
 use Rattle.std.proofs.Common.{◌≡◌, ℕ}
-use Rattle.lin_edn.specs.Machine.{Answer, Turn, stop, fault, too_long}
-use Rattle.lin_edn.specs.Turns.{FaultsIn, IsFault}
+use Rattle.lin_edn.specs.inner.Machine.{Answer, Turn, stop, fault, too_long}
+use Rattle.lin_edn.specs.inner.Turns.{FaultsIn, IsFault}
 use Rattle.lin_edn.specs.declared.EdnCause.{EdnCause}
 use Rattle.lin_edn.specs.declared.EdnCause.TheVariants.{Unbalanced, OddMap, TooDeep, TooLong, OutOfMemory}
 

@@ -10,7 +10,7 @@ use Rattle.lin_edn.specs.Simple.{IsSimple, FindsSimple}
 use Rattle.lin_edn.specs.Skimming.{brackets, closes}
 use Rattle.lin_edn.specs.Value.{Value, made}
 use Rattle.lin_edn.proofs.Ahead.{along_to, lit, white_class}
-use Rattle.lin_edn.proofs.Rising.{tail_rises, blank_past, blanks_tail, element_past, tag_past}
+use Rattle.lin_edn.specs.lemmas.Rising.{tail_rises, blank_past, blanks_tail, element_past, tag_past}
 use Rattle.lin_edn.proofs.Simple.{dark_class, IsSimpleHead, head, simple_at, simple_blank, one_white, element_dark, first_byte, tail_at, Sort, a_run, a_text, a_tag, a_collection, sort_of, only_collection, opens_one, tag_hash, tag_names}
 use Rattle.lin_edn.proofs.Standing.{one_element}
 

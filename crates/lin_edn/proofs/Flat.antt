@@ -3,7 +3,7 @@ use Rattle.std.proofs.Common.{◌≡◌, ℕ, List, [], ◌∷◌, ◌++◌, ref
 use Rattle.lin_edn.specs.Bytes.{a_map}
 use Rattle.lin_edn.specs.Value.{Value, map, entries_of, entry, pairs_from, made}
 use Rattle.lin_edn.specs.Grammar.{Frame, place_of, outermost}
-use Rattle.lin_edn.specs.Levels.{flat, frame_view, frames_of}
+use Rattle.lin_edn.specs.inner.Levels.{flat, frame_view, frames_of}
 use Rattle.lin_edn.specs.declared.levels.Frame.{Frame as CodeFrame}
 use Rattle.std.specs.List.{slice_get}
 use Rattle.std.proofs.lemmas.List.{reverse-append}

@@ -3,14 +3,14 @@ use Rattle.std.proofs.Common.{◌≡◌, ℕ, true, suc, ◌+◌, ◌-◌, ◌<�
 use Rattle.std.proofs.lemmas.List.{drop-drop}
 use Rattle.lin_edn.specs.Bytes.{Kind, hash, behind, discards as discards_next, is_stop, closing}
 use Rattle.lin_edn.specs.Grammar.{One, Tag, Opens, discards, Blank, discarded, Blanks, no_blank, one_more, Element, tagged_element, collection, Row, empty, blank, element, longest, Frame, frame, discarding, tagging, outermost}
-use Rattle.lin_edn.specs.Machine.{Answer, complete, blank as blank_answer, partial, fault, too_long, run, between, put}
+use Rattle.lin_edn.specs.inner.Machine.{Answer, complete, blank as blank_answer, partial, fault, too_long, run, between, put}
 use Rattle.lin_edn.specs.Rows.{IsElementAt, IsNoElementAt, levels_behind}
 use Rattle.lin_edn.specs.Scans.{waiting, IsWrapped, IsBehindTags, IsNoneBehindTags}
 use Rattle.lin_edn.specs.Value.{Value, tagged, made}
 use Rattle.lin_edn.proofs.Back.{AfterOn, Keeps, holds, bound_here}
 use Rattle.lin_edn.proofs.Chains.{end_of}
 use Rattle.lin_edn.proofs.Forth.{blanks_run, element_run}
-use Rattle.lin_edn.proofs.Rising.{blanks_tail, element_past, tail_rises, then}
+use Rattle.lin_edn.specs.lemmas.Rising.{blanks_tail, element_past, tail_rises, then}
 use Rattle.lin_edn.proofs.Sizes.{tail_drop}
 
 -- an element behind them

@@ -12,11 +12,9 @@ pub mod Inner
 pub mod Fronts
 pub mod Later
 pub mod Limit
-pub mod Longer
 pub mod Nesting
 pub mod Only
 pub mod Order
-pub mod Rising
 pub mod Rows
 pub mod Runs
 pub mod Simple
@@ -25,5 +23,4 @@ pub mod Skims
 pub mod Sound
 pub mod Standing
 pub mod Unique
-pub mod Untagged
 pub mod Wrong

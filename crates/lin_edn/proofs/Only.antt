@@ -4,7 +4,7 @@ use Rattle.std.proofs.lemmas.Bool.{cases_lt}
 use Rattle.std.proofs.lemmas.List.{get_or-take, get_or_append_left}
 use Rattle.lin_edn.specs.Bytes.{class, white, semicolon, hash, is_newline}
 use Rattle.lin_edn.specs.Grammar.{one, Comment, goes, Discard, Blank, white_byte, comment, discarded, Element, longest, ShortBlanks, spells, nothing_more, open_comment, Whole, an_element, a_discard, Thing, element_or_discard, a_comment, IsUnfinished, IsTooLong, IsInReach}
-use Rattle.lin_edn.specs.Machine.{Answer, complete, blank, partial, fault, too_long, run, between}
+use Rattle.lin_edn.specs.inner.Machine.{Answer, complete, blank, partial, fault, too_long, run, between}
 use Rattle.lin_edn.specs.Reading.{IsWrong}
 use Rattle.lin_edn.specs.Value.{Value}
 use Rattle.lin_edn.specs.declared.EdnCause.{EdnCause}
@@ -12,9 +12,9 @@ use Rattle.lin_edn.proofs.Back.{What, what}
 use Rattle.lin_edn.proofs.Chains.{Begins, begins_alike, begins_longer, comment_begins, discard_begins, next_blank}
 use Rattle.lin_edn.proofs.Forth.{short_run, long_run, blank_run, element_run}
 use Rattle.lin_edn.proofs.Fronts.{Facts, facts_of, long, positive}
-use Rattle.lin_edn.proofs.Longer.{blanks_stay, blank_longer, comment_longer, element_longer}
+use Rattle.lin_edn.specs.lemmas.Longer.{blanks_stay, blank_longer, comment_longer, element_longer}
 use Rattle.lin_edn.proofs.Order.{AnswerOrder, run_order, wider, run_more, fault_less}
-use Rattle.lin_edn.proofs.Rising.{blank_past, element_past}
+use Rattle.lin_edn.specs.lemmas.Rising.{blank_past, element_past}
 use Rattle.lin_edn.proofs.Sizes.{blanks_sized, comment_sized, least_inside, short_tail, same_tail, tail_byte}
 use Rattle.lin_edn.proofs.Sound.{too_long_of}
 use Rattle.lin_edn.proofs.Wrong.{faulty_run}

@@ -4,7 +4,7 @@ use Rattle.std.proofs.lemmas.List.{drop-append-le}
 use Rattle.std.proofs.lemmas.Bool.{cases_lt}
 use Rattle.lin_edn.specs.Bytes.{Kind, closing, is_white}
 use Rattle.lin_edn.specs.Grammar.{Opens, Blanks, no_blank, Row, empty, blank, element, longest, ShortBlanks, Spells, IsTagAt, Frame, frame, tagging, Open, none_open, awaits, within}
-use Rattle.lin_edn.specs.Machine.{run, between, complete, put}
+use Rattle.lin_edn.specs.inner.Machine.{run, between, complete, put}
 use Rattle.lin_edn.specs.Rows.{IsRow, IsRound, IsBehind, IsClosed, IsElementAt, IsAtNothing, bracket_of, value_in, IsBracketless, row_levels}
 use Rattle.lin_edn.specs.Scans.{IsStopAt, is_dark, IsWrapped, IsFound, waiting}
 use Rattle.lin_edn.specs.Value.{Value, tagged, made}
@@ -13,8 +13,8 @@ use Rattle.lin_edn.specs.declared.Edn.{Edn}
 use Rattle.lin_edn.specs.declared.series.Series.{Series}
 use Rattle.lin_edn.proofs.Ahead.{at_byte}
 use Rattle.lin_edn.proofs.Back.{AfterTurn, closed_holds}
-use Rattle.lin_edn.proofs.Longer.{open_longer}
-use Rattle.lin_edn.proofs.Rising.{blanks_tail, element_past, tail_rises, then, tail_size}
+use Rattle.lin_edn.specs.lemmas.Longer.{open_longer}
+use Rattle.lin_edn.specs.lemmas.Rising.{blanks_tail, element_past, tail_rises, then, tail_size}
 use Rattle.lin_edn.proofs.Standing.{with_blanks, white_blanks}
 
 -- more bytes behind the text

@@ -3,7 +3,7 @@ use Rattle.std.proofs.Common.{◌≡◌, ℕ, suc, ◌+◌, ◌-◌, ◌<◌, �
 use Rattle.std.proofs.lemmas.List.{take_more, drop_all}
 use Rattle.std.specs.List.{slice_range}
 use Rattle.lin_edn.specs.Grammar.{Frame}
-use Rattle.lin_edn.specs.Machine.{Mode, Answer, go, stop, run, step, on_turn, at_end}
+use Rattle.lin_edn.specs.inner.Machine.{Mode, Answer, go, stop, run, step, on_turn, at_end}
 
 pub run_at : (most : ℕ) (s : List ℕ) (at : ℕ) (st : List Frame) (m : Mode) → at < length s →
     run most at st m (drop at s) ≡ on_turn (step most at st m (get_or s at 0)) (λ st' m'. run most (at + 1) st' m' (drop (at + 1) s))

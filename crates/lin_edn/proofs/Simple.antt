@@ -6,12 +6,12 @@ use Rattle.lin_edn.specs.Bytes.{Kind, a_list, a_vector, a_map, Class, class, whi
 use Rattle.lin_edn.specs.Grammar.{one, Inside, first, joined, character, next, Tag, first_of_tag, next_of_tag, IsTagAt, Text, Escape, opened, opened_by_hash, plain, pair, escape, Comment, starts, goes, Opens, bracket, set_bracket, discards, Blank, white_byte, comment, discarded, Blanks, Element, run, hash_alone, whole_text, tagged_element, collection, Row}
 use Rattle.lin_edn.specs.Scans.{IsStopAt, is_dark, is_quoting}
 use Rattle.lin_edn.specs.Simple.{is_simple, is_simple_behind, IsSimple}
-use Rattle.lin_edn.specs.Turns.{behind_of}
+use Rattle.lin_edn.specs.inner.Turns.{behind_of}
 use Rattle.lin_edn.specs.Value.{Value, made}
 use Rattle.lin_edn.specs.declared.reader.Behind.{Behind as CodeBehind}
 use Rattle.lin_edn.specs.declared.reader.Behind.TheVariants as code
 use Rattle.lin_edn.proofs.Ahead.{stays_of}
-use Rattle.lin_edn.proofs.Rising.{Tail, tail_rises, tag_past, text_past, element_past}
+use Rattle.lin_edn.specs.lemmas.Rising.{Tail, tail_rises, tag_past, text_past, element_past}
 use Rattle.lin_edn.proofs.Sizes.{tail_drop}
 use Rattle.lin_edn.proofs.Standing.{hashes}
 

@@ -6,7 +6,7 @@ use Rattle.lin_edn.specs.Reading.{IsWrong, Refuses}
 use Rattle.lin_edn.specs.Value.{Value}
 use Rattle.lin_edn.specs.declared.EdnCause.{EdnCause}
 use Rattle.lin_edn.specs.declared.EdnCause.TheVariants.{Unbalanced, OddMap, TooDeep, TooLong, OutOfMemory}
-use Rattle.lin_edn.proofs.Rising.{Tail, all, last, then, tail_size, tail_rises, one_past, comment_past, blank_past, element_past}
+use Rattle.lin_edn.specs.lemmas.Rising.{Tail, all, last, then, tail_size, tail_rises, one_past, comment_past, blank_past, element_past}
 
 pub same_tail : {p q r : ℕ} {s t u : List ℕ} → Tail p s q t → Tail p s r u → q ≡ r → t ≡ u
 same_tail all all e = refl

@@ -3,7 +3,7 @@ use Rattle.std.proofs.Common.{◌≡◌, ℕ, zero, suc, ◌+◌, ◌<◌, Bool,
 use Rattle.std.proofs.lemmas.List.{length-map}
 use Rattle.lin_edn.specs.Bytes.{a_set, Class, class, white, semicolon, opener, closer, quote, backslash, hash, inside, is_stop, is_newline, closing, Behind, behind, opens_set, opens_text, discards, joins, stands_apart, names_tag, Quoted, quoted, ends, escapes, stays}
 use Rattle.lin_edn.specs.Grammar.{no_blank_yet, Open, none_open, Frame, frame, discarding, tagging, longest, IsUnfinished, IsBlankText, outermost}
-use Rattle.lin_edn.specs.Machine.{Mode, between, in_run, after_hash, after_backslash, in_tag, in_text, in_escape, in_comment, partial, blank, fault, too_long, Turn, go, stop, run, step, limited, ended, taken, begun, put, deeper, begins, goes_on, quotes, apart, close, closed, at_end}
+use Rattle.lin_edn.specs.inner.Machine.{Mode, between, in_run, after_hash, after_backslash, in_tag, in_text, in_escape, in_comment, partial, blank, fault, too_long, Turn, go, stop, run, step, limited, ended, taken, begun, put, deeper, begins, goes_on, quotes, apart, close, closed, at_end}
 use Rattle.lin_edn.specs.Run.{run_value}
 use Rattle.lin_edn.specs.Rows.{IsRow, IsRound, bracket_of, row_levels}
 use Rattle.lin_edn.specs.Skimming.{Shape, brackets, a_discard, a_tag, shape_of, still, put_shape, with_part, apart_shape, ended_shape, deeper_shape, close_shape, begins_shape, goes_on_shape, quotes_shape, taken_shape, IsIn, LeavesOpen, HasSeen, HasGone, IsMoreOf, is_more_of, shapes_of, row_shapes, IsOpenText}
@@ -15,7 +15,7 @@ use Rattle.lin_edn.specs.declared.skim.Part.TheVariants as part
 use Rattle.lin_edn.specs.declared.skim.Skim.{Skim}
 use Rattle.lin_edn.proofs.Back.{What, what, Stands, AfterTurn, step_holds}
 use Rattle.lin_edn.proofs.Fronts.{made_empty, made_grown}
-use Rattle.lin_edn.proofs.Longer.{one_longer, inside_longer, tag_longer, text_longer, escape_longer, comment_longer, open_longer}
+use Rattle.lin_edn.specs.lemmas.Longer.{one_longer, inside_longer, tag_longer, text_longer, escape_longer, comment_longer, open_longer}
 use Rattle.lin_edn.proofs.Sound.{unfinished_of}
 use Rattle.lin_edn.proofs.Wrong.{stands_run}
 use Rattle.lin_edn.proofs.Limit.{is_above}

@@ -4,9 +4,9 @@ use Rattle.lin_edn.proofs.Alone.{no_partial, no_long}
 use Rattle.lin_edn.proofs.Back.{What, what}
 use Rattle.lin_edn.proofs.Fronts.{Facts, facts_of}
 use Rattle.lin_edn.specs.Grammar.{longest, IsUnfinished, IsTooLong}
-use Rattle.lin_edn.specs.Machine.{partial, fault, too_long, run, between}
+use Rattle.lin_edn.specs.inner.Machine.{partial, fault, too_long, run, between}
 use Rattle.lin_edn.specs.Reading.{Says, Refuses, IsWrong}
-use Rattle.lin_edn.specs.Turns.{Answers, IsFault}
+use Rattle.lin_edn.specs.inner.Turns.{Answers, IsFault}
 use Rattle.lin_edn.specs.declared.EdnCause.{EdnCause}
 use Rattle.lin_edn.specs.declared.EdnCause.TheVariants.{Unbalanced, OddMap, TooDeep, TooLong, OutOfMemory}
 use Rattle.lin_edn.specs.declared.EdnFault.{EdnFault}

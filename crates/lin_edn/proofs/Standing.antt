@@ -7,7 +7,7 @@ use Rattle.lin_edn.specs.Run.{run_value}
 use Rattle.lin_edn.specs.Scans.{IsStopAt, is_dark, is_quoting, is_inside}
 use Rattle.lin_edn.specs.Value.{Value, text as text_value}
 use Rattle.lin_edn.proofs.Ahead.{along_to, at_byte, lit, white_class, inside_of, stays_of}
-use Rattle.lin_edn.specs.Machine.{complete}
+use Rattle.lin_edn.specs.inner.Machine.{complete}
 use Rattle.lin_edn.proofs.Forth.{element_run}
 use Rattle.lin_edn.proofs.Fronts.{positive}
 use Rattle.lin_edn.proofs.Runs.{range_more, range_one}

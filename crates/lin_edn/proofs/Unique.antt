@@ -2,14 +2,14 @@
 use Rattle.std.proofs.Common.{◌≡◌, ℕ, List, [], ◌++◌, refl, sym, ap, ◌∙◌, subst, add-zero, drop, arith}
 use Rattle.lin_edn.specs.Grammar.{longest, Faulty, unbalanced, odd_map, too_deep, hash_too_deep}
 use Rattle.lin_edn.specs.Laws.{reading_later, BlanksAreSkipped, ReadingsAreUnique, ValuesAreUnique}
-use Rattle.lin_edn.specs.Machine.{Answer, complete, blank, partial, fault, too_long, run, between}
+use Rattle.lin_edn.specs.inner.Machine.{Answer, complete, blank, partial, fault, too_long, run, between}
 use Rattle.lin_edn.specs.Reading.{Reading, an_element, unfinished, blanks, refused, Allows, IsWantOfMemory, Refuses, IsWrong}
 use Rattle.lin_edn.specs.declared.EdnCause.{EdnCause}
 use Rattle.lin_edn.specs.declared.EdnCause.TheVariants.{Unbalanced, OddMap, TooDeep, TooLong, OutOfMemory}
 use Rattle.lin_edn.proofs.Forth.{short_run, spells_run, blank_input}
 use Rattle.lin_edn.proofs.Back.{What, what}
 use Rattle.lin_edn.proofs.Later.{answer_later, run_later}
-use Rattle.lin_edn.proofs.Longer.{wrong_stays}
+use Rattle.lin_edn.specs.lemmas.Longer.{wrong_stays}
 use Rattle.lin_edn.proofs.Only.{unfinished_run, too_long_run, wrong_run}
 use Rattle.lin_edn.proofs.Order.{run_more}
 use Rattle.lin_edn.proofs.Sizes.{short_tail, tail_drop}

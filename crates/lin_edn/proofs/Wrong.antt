@@ -2,14 +2,14 @@
 use Rattle.std.proofs.Common.{◌≡◌, ℕ, suc, ◌+◌, ◌<◌, ◌≤◌, true, false, List, [], ◌∷◌, length, refl, sym, ap, ◌∙◌, arith, None, nat_le, if◌then◌else◌}
 use Rattle.lin_edn.specs.Bytes.{Kind, a_list, a_vector, a_set, a_map, hash, opener, closer, closing, Behind, behind, opens_set, opens_text, discards as discards_next, joins, stands_apart, names_tag}
 use Rattle.lin_edn.specs.Grammar.{longest, One, Frame, frame, discarding, tagging, Open, none_open, within, waits, awaits, fits, deepens, Faulty, unbalanced, odd_map, too_deep, hash_too_deep, outermost}
-use Rattle.lin_edn.specs.Machine.{Mode, in_run, after_hash, after_backslash, in_tag, in_text, in_escape, in_comment, go, run, between, Turn, stop, fault, deeper, close, closed}
+use Rattle.lin_edn.specs.inner.Machine.{Mode, in_run, after_hash, after_backslash, in_tag, in_text, in_escape, in_comment, go, run, between, Turn, stop, fault, deeper, close, closed}
 use Rattle.lin_edn.specs.Value.{Value, made}
 use Rattle.lin_edn.specs.declared.EdnCause.{EdnCause}
 use Rattle.lin_edn.specs.declared.EdnCause.TheVariants.{Unbalanced, OddMap, TooDeep}
 use Rattle.lin_edn.proofs.Back.{Stands, levels}
 use Rattle.lin_edn.proofs.Forth.{takes, begins_run, one_run, hash_run, inside_run, tag_run, text_run, escape_run, comment_run, hash_goes, opens_run, row_run, discard_opens, tag_opens, blanks_run, long_run}
 use Rattle.lin_edn.proofs.Fronts.{long}
-use Rattle.lin_edn.proofs.Rising.{blanks_tail, comment_past, escape_past, inside_past, one_past, opens_past, row_tail, tag_past, tail_rises, text_past}
+use Rattle.lin_edn.specs.lemmas.Rising.{blanks_tail, comment_past, escape_past, inside_past, one_past, opens_past, row_tail, tag_past, tail_rises, text_past}
 
 -- up to what is open
 pub open_run : (most : ℕ) {n p : ℕ} {s t : List ℕ} {st : List Frame} → Open s n st p t → p ≤ most → run most 0 [] between s ≡ run most p st between t

@@ -1,15 +1,13 @@
 pub mod Bytes
 pub mod Grammar
 pub mod Laws
-pub mod Levels
-pub mod Machine
-pub mod Numbers
 pub mod Reading
 pub mod Rows
 pub mod Run
 pub mod Scans
 pub mod Simple
 pub mod Skimming
-pub mod Turns
 pub mod Value
 pub mod View
+pub mod lemmas
+pub mod inner

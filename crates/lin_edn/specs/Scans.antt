@@ -3,8 +3,8 @@ use Rattle.std.specs.Prelude.{◌≡◌, ◌≢◌, ℕ, ◌<◌, ◌≤◌, Boo
 use Rattle.lin_edn.specs.Bytes.{is_white, Class, white, semicolon, opener, closer, quote, backslash, hash, inside}
 use Rattle.lin_edn.specs.Grammar.{Frame, tagging, longest}
 use Rattle.lin_edn.specs.Value.{Value, tagged}
-use Rattle.lin_edn.specs.Machine.{complete, run, between}
-use Rattle.lin_edn.specs.Turns.{mode_of, IsBegun}
+use Rattle.lin_edn.specs.inner.Machine.{complete, run, between}
+use Rattle.lin_edn.specs.inner.Turns.{mode_of, IsBegun}
 use Rattle.lin_edn.specs.View.{view}
 use Rattle.lin_edn.specs.declared.Edn.{Edn}
 use Rattle.lin_edn.specs.declared.EdnCause.TheVariants as cause

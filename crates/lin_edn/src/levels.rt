@@ -4,8 +4,8 @@ ghost use Rattle.std.specs.Prelude.{◌≡◌, ℕ, ◌+◌, List, ◌∷◌, �
 ghost use Rattle.lin_edn.specs.Bytes as bytes;
 ghost use Rattle.lin_edn.specs.Grammar.{frame};
 ghost use Rattle.lin_edn.specs.Grammar as grammar;
-ghost use Rattle.lin_edn.specs.Machine as machine;
-ghost use Rattle.lin_edn.specs.Levels.{IsPlaced, frame_view, frames_of, kind_of, flat};
+ghost use Rattle.lin_edn.specs.inner.Machine as machine;
+ghost use Rattle.lin_edn.specs.inner.Levels.{IsPlaced, frame_view, frames_of, kind_of, flat};
 ghost use Rattle.lin_edn.specs.Value as value;
 ghost use Rattle.lin_edn.specs.View.{view, entry_view};
 

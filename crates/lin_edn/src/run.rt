@@ -4,7 +4,7 @@ ghost use Rattle.std.specs.Prelude.{◌≡◌, ℕ, ◌≤◌, ◌<◌, ◌^◌,
 ghost use Rattle.lin_edn.specs.Run as run;
 ghost use Rattle.lin_edn.specs.Bytes as bytes;
 ghost use Rattle.lin_edn.specs.View.{view};
-ghost use Rattle.lin_edn.specs.Numbers.{capped};
+ghost use Rattle.lin_edn.specs.inner.Numbers.{capped};
 
 use crate::{Edn, Span};
 

@@ -3,11 +3,11 @@
 ghost use Rattle.std.specs.Prelude.{◌≡◌, ℕ, ◌+◌, ◌<◌, ◌≤◌, ◌++◌, [], List, IfOk, IfSome, IfNone, MatchOption, Ok, drop, length, slice_index};
 ghost use Rattle.lin_edn.specs.Bytes as bytes;
 ghost use Rattle.lin_edn.specs.Grammar.{longest, tagging, Opens, Row, ShortBlanks};
-ghost use Rattle.lin_edn.specs.Levels.{frame_view, frames_of};
-ghost use Rattle.lin_edn.specs.Machine.{Answer, complete};
+ghost use Rattle.lin_edn.specs.inner.Levels.{frame_view, frames_of};
+ghost use Rattle.lin_edn.specs.inner.Machine.{Answer, complete};
 ghost use Rattle.lin_edn.specs.Rows.{IsRow, IsNext, IsBracketless, bracket_of, row_begun, row_end, row_levels};
 ghost use Rattle.lin_edn.specs.Scans.{IsFound, IsWrapped, waiting};
-ghost use Rattle.lin_edn.specs.Turns.{Answers};
+ghost use Rattle.lin_edn.specs.inner.Turns.{Answers};
 ghost use Rattle.lin_edn.specs.Value.{Value, tagged};
 ghost use Rattle.lin_edn.specs.View.{view};
 

@@ -5,7 +5,6 @@ pub mod Devices
 pub mod Fronts
 pub mod Histories
 pub mod Inputs
-pub mod Intakes
 pub mod Integers
 pub mod Kinds
 pub mod OrderLaws
@@ -13,3 +12,4 @@ pub mod Texts
 pub mod Verdicts
 pub mod VerdictLaws
 pub mod lemmas
+pub mod inner

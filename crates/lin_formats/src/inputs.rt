@@ -4,7 +4,7 @@ ghost use Rattle.std.specs.Io.KnownBytes.{Consumes, IsAtEnd};
 ghost use Rattle.lin_events.specs.declared.events.Event.{Event as EventOf};
 ghost use Rattle.lin_history.specs.Sees.{is_fault, Sees};
 ghost use Rattle.lin_formats.specs.Devices.{device_of, failures_of, Counts};
-ghost use Rattle.lin_formats.specs.Intakes.{IsFed};
+ghost use Rattle.lin_formats.specs.inner.Intakes.{IsFed};
 ghost use Rattle.lin_formats.specs.Inputs.{limit, AreRefused, IsTooMany};
 ghost use Rattle.lin_formats.specs.Inputs as inputs_said;
 ghost use Rattle.lin_formats.specs.Verdicts.{IsReadTooFar};

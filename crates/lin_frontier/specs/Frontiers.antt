@@ -34,13 +34,6 @@ pub record IsFrontier {S : Type 0} (start : S) (step : S → Call → S → Repl
   pub complete : (c : S × List (ℕ × Reply)) → IsConfiguration start step h c → Contains (keys_of entries) c
   pub distinct : AllPairs (λ a b. a.0 ≢ b.0) entries
 
--- the history has more configurations than the budget
-pub record IsOver {S : Type 0} (start : S) (step : S → Call → S → Reply → Type 0) (h : List Event) (budget : ℕ) : Type 0 where
-  pub found : List (S × List (ℕ × Reply))
-  pub many : length found ≡ budget + 1
-  pub configurations : All (IsConfiguration start step h) found
-  pub distinct : AllPairs (λ c d. c ≢ d) found
-
 -- how many calls may be tried at an event: at an invocation, for each configuration within the budget and one more, each operation
 -- that is open then; at a completion none
 abbrev pub tries_within : ℕ → ℕ → Body → ℕ

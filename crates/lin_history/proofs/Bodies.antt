@@ -2,7 +2,7 @@
 use Rattle.std.proofs.Common.{◌≡◌, ℕ, ℤ, Bool, Option, Some, Result, Ok, Err, refl, ap, ◌∙◌}
 use Rattle.lin_edn.specs.Value.{Value}
 use Rattle.lin_history.specs.Table.{event_with, process_of, type_of, function_of, parts_of, body_of, or_fault, IsAnswer}
-use Rattle.lin_history.specs.Fields.{IsBody}
+use Rattle.lin_history.specs.inner.Fields.{IsBody}
 use Rattle.lin_events.specs.declared.calls.Name.{Name}
 use Rattle.lin_events.specs.declared.calls.Name.TheVariants.{Read}
 use Rattle.lin_events.specs.declared.calls.Reply.TheVariants.{Members}

@@ -4,7 +4,7 @@ use Rattle.std.proofs.lemmas.List.{drop-drop, drop-append-le}
 use Rattle.lin_edn.specs.Grammar.{nothing_more, no_blank_yet}
 use Rattle.lin_history.specs.Stream.{Gives, nothing, IsStream, blank}
 use Rattle.lin_history.specs.Sees.{Followed, Sees, is_fault, IsTakenIn, Feeds, most}
-use Rattle.lin_history.specs.Reads.{behind, IsReadTo}
+use Rattle.lin_history.specs.inner.Reads.{behind, IsReadTo}
 use Rattle.lin_events.specs.declared.events.Event.{Event}
 use Rattle.lin_history.specs.declared.follow.Read.{Read}
 use Rattle.lin_history.specs.declared.follow.FollowFault.{FollowFault}

@@ -6,7 +6,7 @@ use Rattle.lin_edn.specs.Reading.{Refuses}
 use Rattle.lin_edn.specs.declared.EdnCause.{EdnCause}
 use Rattle.lin_edn.specs.declared.EdnCause.TheVariants as edn
 use Rattle.lin_history.specs.Stream.{Told, told, Gives, nothing, blanks, blank, unfinished, no_element, no_event}
-use Rattle.lin_history.specs.Reads.{IsReadTo, IsTold}
+use Rattle.lin_history.specs.inner.Reads.{IsReadTo, IsTold}
 use Rattle.lin_events.specs.declared.events.Event.{Event}
 use Rattle.lin_history.specs.declared.table.EventFault.{EventFault}
 use Rattle.lin_history.specs.declared.table.EventFault.TheVariants as cause

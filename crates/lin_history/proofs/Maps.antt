@@ -8,7 +8,7 @@ use Rattle.lin_edn.specs.Grammar.{One, one, Element, Opens, collection, bracket,
 use Rattle.lin_edn.specs.Run.{run_value, of_number, is_keyword, integer}
 use Rattle.lin_edn.specs.Value.{Value, nil, bool, int, keyword, atom, vector, map, values_of, entry, entries_of, pairs_from}
 use Rattle.lin_history.specs.Table.{bare, is_word, here, under}
-use Rattle.lin_history.specs.Usual.{in_turn, IsPlaced, IsPut, IsAdded, IsValueAt, IsUpTo, IsMapAt}
+use Rattle.lin_history.specs.inner.Usual.{in_turn, IsPlaced, IsPut, IsAdded, IsValueAt, IsUpTo, IsMapAt}
 use Rattle.lin_history.specs.declared.usual.Place.{Place}
 use Rattle.lin_history.specs.declared.usual.Places.{Places}
 

@@ -7,7 +7,7 @@ use Rattle.lin_edn.specs.Reading.{Reading, an_element, unfinished as is_unfinish
 use Rattle.lin_edn.specs.Value.{Value}
 use Rattle.lin_edn.specs.declared.EdnCause.{EdnCause}
 use Rattle.lin_edn.specs.declared.EdnCause.TheVariants as edn
-use Rattle.lin_history.specs.Reads.{behind}
+use Rattle.lin_history.specs.inner.Reads.{behind}
 use Rattle.lin_history.specs.Stream.{Told, told, Gives, nothing, blanks, element, IsStream, blank, unfinished, no_element, no_event, StreamsAreUnique}
 use Rattle.lin_events.specs.declared.events.Event.{Event}
 use Rattle.lin_history.specs.declared.table.EventFault.{EventFault}

@@ -3,7 +3,7 @@ use Rattle.std.proofs.Common.{◌≡◌, ℕ, ◌+◌, ◌-◌, ◌≤◌, Bool,
 use Rattle.std.proofs.lemmas.List.{length-drop, take_all}
 use Rattle.lin_history.specs.Stream.{Gives, element}
 use Rattle.lin_history.specs.Sees.{is_fault}
-use Rattle.lin_history.specs.Reads.{behind, IsElement, IsReadTo}
+use Rattle.lin_history.specs.inner.Reads.{behind, IsElement, IsReadTo}
 use Rattle.lin_events.specs.declared.events.Event.{Event}
 use Rattle.lin_history.specs.declared.follow.Read.{Read}
 use Rattle.lin_history.specs.declared.follow.FollowFault.{FollowFault}

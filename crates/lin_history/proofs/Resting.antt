@@ -6,7 +6,7 @@ use Rattle.lin_edn.specs.Skimming.{HasSeen, IsOpenText}
 use Rattle.lin_history.specs.Rests.{GoesOn}
 use Rattle.lin_history.specs.declared.follow.Rest.{Rest}
 use Rattle.lin_history.specs.Stream.{nothing, blank, unfinished}
-use Rattle.lin_history.specs.Reads.{IsReadTo}
+use Rattle.lin_history.specs.inner.Reads.{IsReadTo}
 use Rattle.lin_events.specs.declared.events.Event.{Event}
 use Rattle.lin_history.specs.declared.follow.FollowFault.TheVariants as fault
 

@@ -7,7 +7,7 @@ use Rattle.lin_edn.specs.Reading.{Refuses}
 use Rattle.lin_edn.specs.declared.EdnCause.{EdnCause}
 use Rattle.lin_history.specs.Stream.{Gives, nothing, blanks, element, IsStream, blank, unfinished, no_element, no_event}
 use Rattle.lin_history.specs.Sees.{is_fault}
-use Rattle.lin_history.specs.Reads.{behind}
+use Rattle.lin_history.specs.inner.Reads.{behind}
 use Rattle.lin_events.specs.declared.events.Event.{Event}
 use Rattle.lin_history.specs.declared.follow.FollowFault.{FollowFault}
 use Rattle.lin_history.specs.declared.follow.FollowFault.TheVariants as fault

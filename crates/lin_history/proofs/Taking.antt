@@ -6,10 +6,10 @@ use Rattle.lin_edn.specs.Grammar.{Element, tagged_element, Row, empty, element, 
 use Rattle.lin_edn.specs.Rows.{IsRow, row_end, row_levels}
 use Rattle.lin_edn.specs.Value.{Value, map, tagged, Entries, values_of}
 use Rattle.lin_edn.specs.declared.series.Series.{Series}
-use Rattle.lin_history.specs.Reads.{IsTold, IsToldOn, IsElement}
+use Rattle.lin_history.specs.inner.Reads.{IsTold, IsToldOn, IsElement}
 use Rattle.lin_history.specs.Stream.{Told, before, told_by, maps_in}
 use Rattle.lin_history.specs.Table.{event, event_in, bare}
-use Rattle.lin_history.specs.Usual.{IsTaken, events_of}
+use Rattle.lin_history.specs.inner.Usual.{IsTaken, events_of}
 use Rattle.lin_events.specs.declared.events.Event.{Event}
 use Rattle.lin_events.specs.declared.numbers.OutOfMemory.{OutOfMemory}
 use Rattle.lin_history.specs.declared.table.EventFault.{EventFault}

@@ -7,7 +7,7 @@ use Rattle.lin_edn.specs.Laws.{ElementsAreUnique}
 use Rattle.lin_edn.specs.Run.{run_value}
 use Rattle.lin_edn.specs.Value.{Value, nil, bool, int, atom, keyword, text, list, vector, set, map, tagged, values_of, Entries}
 use Rattle.lin_history.specs.Table.{bare, under, body_of, or_fault, is_several, is_named, or_nil, event, event_under, event_with, parts_of, process_of, type_of, function_of}
-use Rattle.lin_history.specs.Usual.{IsPlaced, ArePlaced, AreParts, TellsWith}
+use Rattle.lin_history.specs.inner.Usual.{IsPlaced, ArePlaced, AreParts, TellsWith}
 use Rattle.lin_events.specs.declared.calls.Name.{Name}
 use Rattle.lin_events.specs.declared.events.Body.{Body}
 use Rattle.lin_events.specs.declared.events.Event.{Event}

@@ -1,8 +1,6 @@
 pub mod Table
-pub mod Fields
 pub mod Stream
 pub mod Next
 pub mod Sees
-pub mod Reads
 pub mod Rests
-pub mod Usual
+pub mod inner

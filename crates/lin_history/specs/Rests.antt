@@ -6,7 +6,7 @@ use Rattle.lin_edn.specs.Rows.{IsRow, row_begun}
 use Rattle.lin_edn.specs.Skimming.{HasSeen}
 use Rattle.lin_edn.specs.Value.{Value, values_of}
 use Rattle.lin_history.specs.Stream.{Told, told, told_by}
-use Rattle.lin_history.specs.Reads.{IsReadTo, IsPutBehind}
+use Rattle.lin_history.specs.inner.Reads.{IsReadTo, IsPutBehind}
 use Rattle.lin_events.specs.declared.events.Event.{Event}
 use Rattle.lin_history.specs.declared.follow.Read.{Read}
 use Rattle.lin_history.specs.declared.follow.Rest.{Rest}

@@ -4,10 +4,10 @@ ghost use Rattle.lin_edn.specs.Rows.{row_end, row_levels};
 ghost use Rattle.lin_edn.specs.Value.{Value, values_of};
 ghost use Rattle.lin_edn.specs.View.{view};
 ghost use Rattle.lin_history.specs.Stream.{told_by};
-ghost use Rattle.lin_history.specs.Reads.{IsTold, IsToldOn, IsPutBehind};
+ghost use Rattle.lin_history.specs.inner.Reads.{IsTold, IsToldOn, IsPutBehind};
 ghost use Rattle.lin_history.specs.Rests.{told_of, IsOpen, IsWaiting, IsFar, IsWhole};
 ghost use Rattle.lin_history.specs.Table.{event as told_in};
-ghost use Rattle.lin_history.specs.Usual.{IsTaken, events_of};
+ghost use Rattle.lin_history.specs.inner.Usual.{IsTaken, events_of};
 
 use crate::table::{EventFault, event_of};
 use crate::usual::{Taken, next_usual};

@@ -8,7 +8,7 @@ ghost use Rattle.lin_history.specs.Table as table;
 ghost use Rattle.lin_history.specs.Table.{bare as bare_value, is_word as says, under, is_several, event, IsAnswer};
 ghost use Rattle.lin_events.specs.declared.calls.Name.TheVariants.{Cas};
 ghost use Rattle.lin_events.specs.declared.calls.Reply.TheVariants.{Members};
-ghost use Rattle.lin_history.specs.Fields.{found, given_view, IsPut, IsKept, IsFields, IsReply, IsBody};
+ghost use Rattle.lin_history.specs.inner.Fields.{found, given_view, IsPut, IsKept, IsFields, IsReply, IsBody};
 
 use lin_edn::{Edn, Entry};
 use lin_events::{Body, Call, Event, IntSet, Name, OutOfMemory, Reply, Val};

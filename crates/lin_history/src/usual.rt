@@ -7,9 +7,9 @@ ghost use Rattle.lin_edn.specs.Run.{run_value};
 ghost use Rattle.lin_edn.specs.Value as value;
 ghost use Rattle.lin_edn.specs.Value.{Value, Entries};
 ghost use Rattle.lin_edn.specs.View.{view};
-ghost use Rattle.lin_history.specs.Fields.{given_view, value_of};
+ghost use Rattle.lin_history.specs.inner.Fields.{given_view, value_of};
 ghost use Rattle.lin_history.specs.Table.{body_of, event};
-ghost use Rattle.lin_history.specs.Usual.{AreParts, ArePlaced, IsAdded, IsPlaced, IsProcess, IsValueAt, IsUpTo, IsMapAt, IsTaken, TellsWith};
+ghost use Rattle.lin_history.specs.inner.Usual.{AreParts, ArePlaced, IsAdded, IsPlaced, IsProcess, IsValueAt, IsUpTo, IsMapAt, IsTaken, TellsWith};
 
 use crate::table::{
     EventType, Given, event_said, function_named, is_keyword, is_same, is_value_told,

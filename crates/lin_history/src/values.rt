@@ -6,9 +6,9 @@ ghost use Rattle.lin_edn.specs.Grammar.{Element, Opens, Row};
 ghost use Rattle.lin_edn.specs.Run.{run_value};
 ghost use Rattle.lin_edn.specs.Value.{Value, made, int, vector, values_of};
 ghost use Rattle.lin_edn.specs.View.{view};
-ghost use Rattle.lin_history.specs.Fields.{value_of};
+ghost use Rattle.lin_history.specs.inner.Fields.{value_of};
 ghost use Rattle.lin_history.specs.Table.{bare};
-ghost use Rattle.lin_history.specs.Usual.{kind_of};
+ghost use Rattle.lin_history.specs.inner.Usual.{kind_of};
 
 use crate::table::is_same;
 use lin_edn::{Edn, integer, nested_until, run_element, run_until, white_until};

@@ -14,9 +14,9 @@ use Rattle.lin_events.specs.Operations.{IsOpen}
 use Rattle.lin_events.specs.lemmas.OneMore.{one_open}
 use Rattle.lin_objects.specs.Total.{AreTotal, IsShown}
 use Rattle.lin_orders.specs.ConfigurationLaws.{PlacingIsLegal}
-use Rattle.lin_orders.specs.Configurations.{IsConfiguration}
-use Rattle.lin_listing.specs.Branches.{power, ArePicked, IsFree, IsUntold}
-use Rattle.lin_frontier.specs.Frontiers.{IsOver, IsPending}
+use Rattle.lin_orders.specs.Configurations.{IsConfiguration, IsOver}
+use Rattle.lin_listing.specs.inner.Branches.{power, ArePicked, IsFree, IsUntold}
+use Rattle.lin_frontier.specs.Frontiers.{IsPending}
 use Rattle.lin_frontier.specs.declared.pending.Open.{Open}
 use Rattle.lin_listing.proofs.Branching as branching
 use Rattle.lin_frontier.specs.lemmas.Inserting.{none_from}

@@ -11,7 +11,7 @@ use Rattle.lin_objects.specs.Total.{AreTotal, Reaches, stays, goes, IsShown}
 use Rattle.lin_orders.specs.ConfigurationLaws.{PlacingIsLegal}
 use Rattle.lin_orders.specs.Configurations.{IsAdded, IsConfiguration}
 use Rattle.lin_orders.specs.lemmas.Running.{runs_reach}
-use Rattle.lin_listing.specs.Branches.{power}
+use Rattle.lin_listing.specs.inner.Branches.{power}
 use Rattle.lin_frontier.specs.declared.pending.Open.{Open}
 use Rattle.lin_members.specs.lemmas.Choosing.{can_add}
 use Rattle.lin_frontier.specs.lemmas.Inserting.{rising_once}

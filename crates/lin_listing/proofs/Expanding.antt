@@ -14,11 +14,11 @@ use Rattle.lin_events.specs.WellFormed.{IsWellFormed}
 use Rattle.lin_events.specs.WellFormedLaws.{WellFormedIsAlternating}
 use Rattle.lin_objects.specs.Observing.{IsObserving}
 use Rattle.lin_orders.specs.declared.placed.Placed.{Placed}
-use Rattle.lin_orders.specs.Configurations.{IsAdded, IsConfiguration}
+use Rattle.lin_orders.specs.Configurations.{IsAdded, IsConfiguration, IsOver}
 use Rattle.lin_members.specs.declared.members.Path.{Path}
 use Rattle.lin_frontier.specs.declared.pending.Open.{Open}
 use Rattle.lin_members.specs.Compressed.{IsSpelled}
-use Rattle.lin_frontier.specs.Frontiers.{IsOver, IsPending}
+use Rattle.lin_frontier.specs.Frontiers.{IsPending}
 use Rattle.lin_members.specs.Listed.{member_at, with_offers, config_of, AreDifferent, AreWorkedOff, Continues, IsHeld, IsTakenIn, IsExtended, IsTakenAt, IsPlacedAt, placing_tries}
 use Rattle.lin_members.specs.Members.{Member}
 use Rattle.lin_frontier.specs.Nodes.{IsGrown}

@@ -1,3 +1,3 @@
-pub mod Branches
 pub mod Putting
 pub mod lemmas
+pub mod inner

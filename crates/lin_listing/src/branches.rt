@@ -4,9 +4,10 @@ ghost use Rattle.lin_events.specs.declared.calls.Name.{Name as NameOf};
 ghost use Rattle.lin_events.specs.declared.events.Event.{Event as EventOf};
 ghost use Rattle.lin_events.specs.WellFormed.{IsWellFormed};
 ghost use Rattle.lin_orders.specs.declared.placed.Placed.{Placed as PlacedOf};
-ghost use Rattle.lin_listing.specs.Branches.{power, ArePicked, IsFree, IsUntold};
+ghost use Rattle.lin_listing.specs.inner.Branches.{power, ArePicked, IsFree, IsUntold};
 ghost use Rattle.lin_members.specs.Compressed.{IsSpelled};
-ghost use Rattle.lin_frontier.specs.Frontiers.{IsOver, IsPending};
+ghost use Rattle.lin_frontier.specs.Frontiers.{IsPending};
+ghost use Rattle.lin_orders.specs.Configurations.{IsOver};
 
 use lin_events::{Call, OutOfMemory, Reply, well_formed_is_alternating};
 use lin_frontier::{Open, is_absent};

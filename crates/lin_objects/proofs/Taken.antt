@@ -12,8 +12,8 @@ use Rattle.lin_events.specs.declared.calls.Reply.TheVariants as Replied
 use Rattle.lin_events.specs.declared.calls.Val.TheVariants.{Int}
 use Rattle.lin_lists.specs.lemmas.Taken.{Contains-slice_get, slice_get-Contains}
 use Rattle.lin_objects.specs.Bags.{without_one}
-use Rattle.lin_objects.specs.OnlySteps.{AreAllSteps}
-use Rattle.lin_objects.specs.Taking.{IsAgainAt, IsFirstAt}
+use Rattle.lin_objects.specs.inner.OnlySteps.{AreAllSteps}
+use Rattle.lin_objects.specs.inner.Taking.{IsAgainAt, IsFirstAt}
 use Rattle.lin_objects.specs.declared.kinds.Kind.TheVariants.{Bag}
 use Rattle.lin_objects.specs.declared.states.State.{State}
 use Rattle.lin_objects.specs.declared.states.State.TheVariants.{Bag as Bagged}

@@ -7,8 +7,7 @@ pub mod Ahead
 pub mod Commuting
 pub mod GoingFirst
 pub mod Total
-pub mod OnlySteps
-pub mod Taking
 pub mod States
 pub mod Laws
 pub mod lemmas
+pub mod inner

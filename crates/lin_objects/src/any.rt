@@ -7,7 +7,7 @@ ghost use Rattle.lin_objects.specs.GoingFirst.{calls_go_first};
 ghost use Rattle.lin_objects.specs.Observing.{IsObserving, observes as observes_of, observers_keep};
 ghost use Rattle.lin_objects.specs.Overwriting.{IsOverwriting, overwrites as overwrites_of, registers_overwritten};
 ghost use Rattle.lin_objects.specs.States.{state_same};
-ghost use Rattle.lin_objects.specs.OnlySteps.{IsOnlyStep};
+ghost use Rattle.lin_objects.specs.inner.OnlySteps.{IsOnlyStep};
 ghost use Rattle.lin_objects.specs.declared.kinds.Kind.TheVariants.{Bag as BagKind};
 ghost use Rattle.lin_objects.specs.Total.{has_taken as has_taken_of, reads_show_adds, shown_by, shows as shows_of, total as total_of, totals_are_taken};
 

@@ -8,7 +8,7 @@ ghost use Rattle.std.specs.Hash.{same_Alike};
 ghost use Rattle.lin_events.specs.Numbers.{hashed};
 ghost use Rattle.lin_events.specs.Sameness.{numbers_Decides};
 ghost use Rattle.lin_objects.specs.Bags.{NeverFalls, bag_of, with_one, without_one};
-ghost use Rattle.lin_objects.specs.Taking.{IsAgainAt, IsFirstAt};
+ghost use Rattle.lin_objects.specs.inner.Taking.{IsAgainAt, IsFirstAt};
 
 use lin_events::{Numbers, OutOfMemory};
 use std::alloc::Global;

@@ -2,7 +2,7 @@
 ghost use Rattle.std.specs.Prelude.{◌≡◌, ◌<◌, [], IfNone, IfOk, IfSome, OnOk, length};
 ghost use Rattle.lin_events.specs.declared.calls.Call.TheVariants.{Dequeue};
 ghost use Rattle.lin_events.specs.declared.calls.Reply.TheVariants as Replied;
-ghost use Rattle.lin_objects.specs.OnlySteps.{AreAllSteps};
+ghost use Rattle.lin_objects.specs.inner.OnlySteps.{AreAllSteps};
 ghost use Rattle.lin_objects.specs.Steps.{Step};
 ghost use Rattle.lin_objects.specs.declared.kinds.Kind.TheVariants.{Bag as BagKind};
 ghost use Rattle.lin_objects.specs.declared.states.State.{State as StateOf};

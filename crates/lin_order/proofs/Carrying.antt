@@ -12,7 +12,7 @@ use Rattle.lin_objects.specs.declared.kinds.Kind.{Kind}
 use Rattle.lin_objects.specs.declared.states.State.{State}
 use Rattle.lin_orders.specs.Configurations.{IsAdded}
 use Rattle.lin_order.specs.Refutations.{Config, HoldsLeft, IsClosed, IsLeft}
-use Rattle.lin_order.specs.Checking.{AreOpen, AreSame, Follows, HoldsLeftOf, HoldsPlacing, HoldsSteps, HoldsWith}
+use Rattle.lin_order.specs.inner.Checking.{AreOpen, AreSame, Follows, HoldsLeftOf, HoldsPlacing, HoldsSteps, HoldsWith}
 use Rattle.lin_orders.specs.Sameness.{config_eq, config_Decides}
 use Rattle.lin_lists.specs.lemmas.Elements.{all_of, nothing_in}
 use Rattle.lin_orders.specs.lemmas.OneEnd.{one_event}

@@ -11,7 +11,7 @@ use Rattle.lin_events.specs.declared.events.Body.{Body}
 use Rattle.lin_events.specs.declared.events.Body.TheVariants.{Invoke, Ok, Fail, Info}
 use Rattle.lin_events.specs.declared.events.Event.{Event}
 use Rattle.lin_events.specs.Operations.{IsEvent, IsEnd, IsOpen, IsOperation}
-use Rattle.lin_order.specs.Checking.{AreOpen, IsOpenAt, IsReturning}
+use Rattle.lin_order.specs.inner.Checking.{AreOpen, IsOpenAt, IsReturning}
 use Rattle.lin_orders.specs.lemmas.Lists.{take_more}
 use Rattle.lin_lists.specs.lemmas.Elements.{nothing_in}
 use Rattle.lin_orders.specs.lemmas.OneEnd.{one_end, one_ending}

@@ -7,7 +7,7 @@ use Rattle.lin_events.specs.Operations.{IsEvent}
 use Rattle.lin_objects.specs.declared.kinds.Kind.{Kind}
 use Rattle.lin_objects.specs.Steps.{start}
 use Rattle.lin_order.specs.Refutations.{AreRising, Config, IsClosed, IsRefutation, IsSet, lists_of}
-use Rattle.lin_order.specs.Checking.{Follows, IsCarried, IsFramed}
+use Rattle.lin_order.specs.inner.Checking.{Follows, IsCarried, IsFramed}
 use Rattle.std.proofs.lemmas.List.Elements.{All-contains}
 use Rattle.lin_lists.specs.lemmas.Elements.{all_of}
 use Rattle.lin_orders.specs.lemmas.OneEnd.{one_event}

@@ -1,3 +1,3 @@
 pub mod Refutations
 pub mod RefutationLaws
-pub mod Checking
+pub mod inner

@@ -4,7 +4,7 @@ ghost use Rattle.lin_events.specs.declared.calls.Reply.{Reply as ReplyOf};
 ghost use Rattle.lin_events.specs.declared.events.Event.{Event as EventOf};
 ghost use Rattle.lin_events.specs.Operations.{IsEvent};
 ghost use Rattle.lin_objects.specs.Steps.{start};
-ghost use Rattle.lin_order.specs.Checking.{AreOpen, AreSame, Follows, HoldsLeftOf, HoldsPlacing, HoldsSteps, HoldsWith, IsCarried, IsFramed, IsOpenAt, IsReturning};
+ghost use Rattle.lin_order.specs.inner.Checking.{AreOpen, AreSame, Follows, HoldsLeftOf, HoldsPlacing, HoldsSteps, HoldsWith, IsCarried, IsFramed, IsOpenAt, IsReturning};
 ghost use Rattle.lin_orders.specs.Configurations.{IsRising};
 ghost use Rattle.lin_order.specs.RefutationLaws.{ExactSetsRefute, RefutationsExcludeOrders};
 ghost use Rattle.lin_order.specs.Refutations.{AreRising, HoldsLeft, IsClosed, IsRefutation, lists_of, sets_of};

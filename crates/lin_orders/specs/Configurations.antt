@@ -1,6 +1,6 @@
 -- Configurations of a history that has one object: where its legal orders end, and what they place of the open operations. They are
 -- defined by whole orders, not event by event.
-use Rattle.std.specs.Prelude.{◌≡◌, ◌⊎◌, ◌<◌, ℕ, ℤ, List, [], ◌∷◌, ◌++◌, AllPairs, Contains}
+use Rattle.std.specs.Prelude.{◌≡◌, ◌≢◌, ◌⊎◌, ◌+◌, ◌<◌, ℕ, ℤ, List, [], ◌∷◌, ◌++◌, length, All, AllPairs, Contains}
 use Rattle.lin_events.specs.declared.events.Event.{Event}
 use Rattle.lin_events.specs.declared.calls.Call.{Call}
 use Rattle.lin_events.specs.declared.calls.Reply.{Reply}
@@ -51,3 +51,10 @@ pub record IsPlacing {S : Type 0} (step : S → Call → S → Reply → Type 0)
 pub data IsPlacedOn {S : Type 0} (step : S → Call → S → Reply → Type 0) (h : List Event) (c : S × List (ℕ × Reply)) : List Placed → S × List (ℕ × Reply) → Type 0 where
   none : IsPlacedOn step h c [] c
   more : {order : List Placed} {d : S × List (ℕ × Reply)} {p : Placed} {e : S × List (ℕ × Reply)} → IsPlacedOn step h c order d → IsPlacing step h d p e → IsPlacedOn step h c (order ++ p ∷ []) e
+
+-- the history has more configurations than the budget
+pub record IsOver {S : Type 0} (start : S) (step : S → Call → S → Reply → Type 0) (h : List Event) (budget : ℕ) : Type 0 where
+  pub found : List (S × List (ℕ × Reply))
+  pub many : length found ≡ budget + 1
+  pub configurations : All (IsConfiguration start step h) found
+  pub distinct : AllPairs (λ c d. c ≢ d) found

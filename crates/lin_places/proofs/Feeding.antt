@@ -13,15 +13,16 @@ use Rattle.lin_events.specs.declared.events.Event.{Event}
 use Rattle.lin_history.specs.declared.follow.FollowFault.{FollowFault}
 use Rattle.lin_history.specs.declared.follow.FollowFault.TheVariants as fault
 use Rattle.lin_places.specs.Places.{place_at, Begins, alone, inside, ArePlaces, none, one_more, StopsAt, is_bad, Marked, Marks}
-use Rattle.lin_places.specs.Marks.{IsReadTo, Ends, IsResting}
+use Rattle.lin_places.specs.inner.Marks.{IsReadTo, Ends, IsResting}
 use Rattle.lin_places.specs.declared.place.Place.{Place}
 use Rattle.lin_places.specs.declared.place.Stop.{Stop}
 use Rattle.lin_places.specs.declared.place.Stop.TheVariants as stop
 use Rattle.lin_places.specs.declared.mark.Read.{Read}
 use Rattle.lin_places.specs.Rests.{IsTakenIn}
-use Rattle.lin_places.proofs.Tails.{tail_size, open_tail}
+use Rattle.lin_places.proofs.Tails.{open_tail}
+use Rattle.lin_edn.specs.lemmas.Rising.{tail_size}
 use Rattle.lin_places.proofs.Newlines.{place_stays}
-use Rattle.lin_places.proofs.Longer.{open_longer, element_longer}
+use Rattle.lin_edn.specs.lemmas.Longer.{open_longer, element_longer}
 
 abbrev pub SpelledStays : Type 0
 SpelledStays = (s x : List ℕ) (v : Value) (at used : ℕ) → Spells s v at used → Spells (s ++ x) v at used

@@ -7,8 +7,8 @@ use Rattle.lin_edn.specs.Reading.{Reading, an_element, unfinished, blanks, refus
 use Rattle.lin_edn.specs.Value.{Value}
 use Rattle.lin_edn.specs.declared.EdnCause.{EdnCause}
 use Rattle.lin_edn.specs.declared.EdnCause.TheVariants as edn
-use Rattle.lin_places.specs.Marks.{StandsAt}
-use Rattle.lin_places.proofs.Tails.{tail_rises, blanks_tail, blank_past, element_past}
+use Rattle.lin_places.specs.inner.Marks.{StandsAt}
+use Rattle.lin_edn.specs.lemmas.Rising.{tail_rises, blanks_tail, blank_past, element_past}
 use Rattle.lin_places.proofs.Levels.{element_at_top, blank_at_top}
 
 pub rest_is : (s : List ℕ) (n : ℕ) → take (length s - n) (drop n s) ≡ drop n s

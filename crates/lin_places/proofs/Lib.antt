@@ -1,9 +1,7 @@
 pub mod Tails
-pub mod Longer
 pub mod Levels
 pub mod Found
 pub mod Newlines
-pub mod Untagged
 pub mod Rows
 pub mod Telling
 pub mod Marking

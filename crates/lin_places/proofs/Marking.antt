@@ -11,13 +11,14 @@ use Rattle.lin_history.specs.Table.{event}
 use Rattle.lin_events.specs.declared.events.Event.{Event}
 use Rattle.lin_history.specs.declared.table.EventFault.{EventFault}
 use Rattle.lin_places.specs.Places.{place_at, row_of, Begins, alone, inside, ArePlaces, one_more}
-use Rattle.lin_places.specs.Marks.{IsPutBehind, IsMarkedOne, IsPut, StandsAt, Follow, another, IsAmong, IsStanding, IsSound, IsUnsound, AreMarked}
+use Rattle.lin_places.specs.inner.Marks.{IsPutBehind, IsMarkedOne, IsPut, StandsAt, Follow, another, IsAmong, IsStanding, IsSound, IsUnsound, AreMarked}
 use Rattle.lin_places.specs.declared.place.Place.{Place}
 use Rattle.lin_places.specs.declared.place.Cursor.{Cursor}
 use Rattle.lin_events.specs.declared.numbers.OutOfMemory.{OutOfMemory}
 use Rattle.lin_places.specs.declared.mark.Maps.{Maps}
 use Rattle.lin_places.specs.declared.mark.Maps.TheVariants as maps
-use Rattle.lin_places.proofs.Tails.{short_tail, tail_is, tail_rises, blanks_tail, element_past}
+use Rattle.lin_places.proofs.Tails.{short_tail, tail_is}
+use Rattle.lin_edn.specs.lemmas.Rising.{tail_rises, blanks_tail, element_past}
 use Rattle.lin_places.proofs.Rows.{follow_rises}
 use Rattle.lin_places.proofs.Telling.{behind_told, told_behind, lone_map}
 

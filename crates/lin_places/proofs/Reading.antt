@@ -10,7 +10,7 @@ use Rattle.lin_edn.specs.declared.EdnCause.TheVariants as edn
 use Rattle.lin_history.specs.Stream.{told, Gives, blanks, element, blank, unfinished, no_element, no_event}
 use Rattle.lin_history.specs.declared.follow.FollowFault.TheVariants as fault
 use Rattle.lin_places.specs.Places.{place_at}
-use Rattle.lin_places.specs.Marks.{Fits, IsPutBehind, AreMarked, IsReadTo, IsRead, IsFront}
+use Rattle.lin_places.specs.inner.Marks.{Fits, IsPutBehind, AreMarked, IsReadTo, IsRead, IsFront}
 use Rattle.lin_places.specs.declared.place.Place.{Place}
 use Rattle.lin_places.specs.declared.place.Cursor.{Cursor}
 use Rattle.lin_places.specs.declared.place.Stop.TheVariants as stop

@@ -7,8 +7,9 @@ use Rattle.lin_edn.specs.Grammar.{one, Tag, first_of_tag, next_of_tag, Opens, br
 use Rattle.lin_edn.specs.Run.{run_value, of_number, is_keyword, integer}
 use Rattle.lin_edn.specs.Value.{Value, nil, bool, atom, keyword, list, vector, set, map, tagged, Values, values_of, made, Entries, pairs_from}
 use Rattle.lin_places.specs.Places.{row_of, is_row}
-use Rattle.lin_places.specs.Marks.{Follow, no_more, another, StandsAt, IsStanding, IsAmong}
-use Rattle.lin_places.proofs.Tails.{tail_is, tail_rises, blanks_tail, element_past, opens_past, tag_past}
+use Rattle.lin_places.specs.inner.Marks.{Follow, no_more, another, StandsAt, IsStanding, IsAmong}
+use Rattle.lin_places.proofs.Tails.{tail_is}
+use Rattle.lin_edn.specs.lemmas.Rising.{tail_rises, blanks_tail, element_past, opens_past, tag_past}
 
 -- blanks behind blanks
 blanks_join : {n p q r : ℕ} {s t u : List ℕ} → Blanks n p s q t → Blanks n q t r u → Blanks n p s r u

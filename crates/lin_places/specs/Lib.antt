@@ -1,3 +1,3 @@
 pub mod Places
-pub mod Marks
 pub mod Rests
+pub mod inner

@@ -5,7 +5,7 @@ ghost use Rattle.lin_edn.specs.Value.{Value, tagged, values_of};
 ghost use Rattle.lin_edn.specs.View.{view};
 ghost use Rattle.lin_history.specs.Sees.{most};
 ghost use Rattle.lin_history.specs.Stream.{told, told_by};
-ghost use Rattle.lin_places.specs.Marks.{Fits, IsMarkedOne, StandsAt, IsStanding, IsAmong, AreMarked, IsFront, IsReadOn};
+ghost use Rattle.lin_places.specs.inner.Marks.{Fits, IsMarkedOne, StandsAt, IsStanding, IsAmong, AreMarked, IsFront, IsReadOn};
 ghost use Rattle.lin_places.specs.Places.{row_of};
 
 use crate::place::{Cursor, Place, Stop, go_to};

@@ -1,7 +1,7 @@
 //! Lines and bytes.
 ghost use Rattle.std.specs.Prelude.{◌≡◌, ℕ, ◌+◌, ◌≤◌, suc, length, take, drop, List};
 ghost use Rattle.lin_places.specs.Places.{newlines as count_newlines, place_at};
-ghost use Rattle.lin_places.specs.Marks.{Fits};
+ghost use Rattle.lin_places.specs.inner.Marks.{Fits};
 
 /// Where something stands in a byte text.
 #[derive(Clone, Copy, Debug, PartialEq, Eq)]

@@ -1,6 +1,6 @@
 //! The places of the events of a stream that comes in pieces.
 ghost use Rattle.std.specs.Prelude.{◌≡◌, ◌+◌, ◌≤◌, ◌++◌, [], false, Bool, ℕ, List, length, drop, IfSome, IsSome, IsNone};
-ghost use Rattle.lin_places.specs.Marks.{Fits, IsResting};
+ghost use Rattle.lin_places.specs.inner.Marks.{Fits, IsResting};
 ghost use Rattle.lin_places.specs.Places.{Marks, Feeds, bad_of, unfinished_of, is_bad as says_bad};
 ghost use Rattle.lin_places.specs.Rests.{IsSeen, IsTakenIn};
 

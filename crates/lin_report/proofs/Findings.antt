@@ -9,7 +9,7 @@ use Rattle.lin_session.specs.Answers.{IsVerdict, kinds_in}
 use Rattle.lin_session.specs.Edits.{Present}
 use Rattle.lin_session.specs.declared.answers.Scope.TheVariants.{Object, Whole}
 use Rattle.lin_session.specs.declared.answers.Verdict.{Verdict}
-use Rattle.lin_session.specs.Sessions.{AreKeys}
+use Rattle.lin_session.specs.Keys.{AreKeys}
 use Rattle.lin_formats.specs.declared.verdicts.Status.{Status}
 use Rattle.lin_report.specs.Reports.{AreFindings, Finding, IsReport, answer_status, answer_text, counts_text, is_ill_formed, line_text, name_text}
 

@@ -11,7 +11,7 @@ use Rattle.lin_orders.specs.Linearizable.{IsLinearizable, IsLinearizableFor}
 use Rattle.lin_orders.specs.Merging.{AbsentKeysAreLegal, IsLocal}
 use Rattle.lin_session.specs.Answers.{IsObjectVerdict, IsOverAt, IsVerdict, IsWholeVerdict, kinds_in}
 use Rattle.lin_session.specs.Edits.{Present}
-use Rattle.lin_session.specs.Sessions.{AreKeys}
+use Rattle.lin_session.specs.Keys.{AreKeys}
 use Rattle.lin_session.specs.declared.answers.Scope.TheVariants.{Object, Whole}
 use Rattle.lin_session.specs.declared.answers.Verdict.{Verdict}
 use Rattle.lin_session.specs.declared.answers.Verdict.TheVariants.{IllFormed, Yes, No, Undecided}

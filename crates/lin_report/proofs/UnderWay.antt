@@ -7,7 +7,7 @@ use Rattle.std.proofs.KnownBytes.{Appends-kept, Appends-trans, Consumes-nil, Con
 use Rattle.std.proofs.Math.Seq.{take-append-add}
 use Rattle.std.proofs.lemmas.List.Elements.{All-append}
 use Rattle.lin_history.specs.Sees.{Sees}
-use Rattle.lin_report.specs.Engines.{Holds, IsCarriedOut, IsCutOff, IsCutShort, IsFinished, IsUnderWay, ReadsPart}
+use Rattle.lin_report.specs.inner.Engines.{Holds, IsCarriedOut, IsCutOff, IsCutShort, IsFinished, IsUnderWay, ReadsPart}
 use Rattle.lin_report.specs.Runs.{AreCarriedOut, AreRead, IsDone, IsReply, AreReplies, IsEditRun, IsSaidDone, IsWritten, RunState, lines_of, start_of}
 use Rattle.lin_report.specs.Runs.AreReplies.{one_more}
 use Rattle.lin_formats.specs.Verdicts.{IsReadTooFar}

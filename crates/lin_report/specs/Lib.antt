@@ -1,9 +1,9 @@
 pub mod Commands
 pub mod CommandLaws
-pub mod Engines
 pub mod MapCommands
 pub mod Pulls
 pub mod Reports
 pub mod Runs
 pub mod Refusals
 pub mod Uniqueness
+pub mod inner

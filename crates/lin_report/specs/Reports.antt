@@ -8,7 +8,7 @@ use Rattle.lin_objects.specs.declared.kinds.Kind.{Kind}
 use Rattle.lin_objects.specs.Kinds.{same_for_all}
 use Rattle.lin_session.specs.Answers.{IsVerdict, kinds_in}
 use Rattle.lin_session.specs.Edits.{Present}
-use Rattle.lin_session.specs.Sessions.{AreKeys}
+use Rattle.lin_session.specs.Keys.{AreKeys}
 use Rattle.lin_session.specs.declared.answers.Scope.TheVariants.{Object, Whole}
 use Rattle.lin_session.specs.declared.answers.Verdict.{Verdict}
 use Rattle.lin_session.specs.declared.answers.Verdict.TheVariants.{IllFormed, Yes, No, Undecided}

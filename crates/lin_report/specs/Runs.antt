@@ -6,11 +6,10 @@ use Rattle.lin_events.specs.declared.events.Event.{Event}
 use Rattle.lin_history.specs.declared.follow.FollowFault.{FollowFault}
 use Rattle.lin_history.specs.declared.follow.FollowFault.TheVariants as fault
 use Rattle.lin_history.specs.Stream.{IsStream}
-use Rattle.lin_session.specs.Answers.{IsAnswer, IsVerdict, kinds_in, verdict_of}
+use Rattle.lin_session.specs.Answers.{IsAnswer, IsVerdict, kinds_in, verdict_of, IsOverSomewhere}
 use Rattle.lin_session.specs.Edits.{Present, IsRefused, edited}
 use Rattle.lin_session.specs.declared.answers.Answer.{Answer}
 use Rattle.lin_session.specs.declared.answers.Answer.TheVariants as answer
-use Rattle.lin_session.specs.Refuting.{IsOverSomewhere}
 use Rattle.lin_session.specs.declared.answers.Scope.TheVariants as scope
 use Rattle.lin_session.specs.declared.answers.Verdict.{Verdict}
 use Rattle.lin_session.specs.declared.answers.Verdict.TheVariants as verdict

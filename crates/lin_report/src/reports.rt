@@ -2,7 +2,7 @@
 ghost use Rattle.std.specs.Prelude.{◌≡◌, ◌++◌, ◌∷◌, [], if◌then◌else◌, ℕ, List, IfOk, IfSome, OnErr, OnOk, codes};
 ghost use Rattle.std.specs.List.{flat_map};
 ghost use Rattle.lin_session.specs.Answers.{IsVerdict, kinds_in};
-ghost use Rattle.lin_session.specs.Sessions.{AreKeys};
+ghost use Rattle.lin_session.specs.Keys.{AreKeys};
 ghost use Rattle.lin_session.specs.declared.answers.Scope.TheVariants as scope;
 ghost use Rattle.lin_session.specs.declared.answers.Verdict.{Verdict as VerdictOf};
 ghost use Rattle.lin_report.specs.Reports as said;

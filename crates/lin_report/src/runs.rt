@@ -3,7 +3,7 @@ ghost use Rattle.std.specs.Prelude.{◌≡◌, ◌+◌, ◌<◌, ◌≤◌, ◌+
 ghost use Rattle.std.specs.Io.KnownBytes.{IsAtEnd};
 ghost use Rattle.lin_report.specs.Commands.{longest_line};
 ghost use Rattle.lin_formats.specs.Devices.{device_of, failures_of, Counts};
-ghost use Rattle.lin_report.specs.Engines.{Holds, IsCarriedOut, IsCutOff, IsCutShort, IsFinished, IsUnderWay, Moves, ReadsPart};
+ghost use Rattle.lin_report.specs.inner.Engines.{Holds, IsCarriedOut, IsCutOff, IsCutShort, IsFinished, IsUnderWay, Moves, ReadsPart};
 ghost use Rattle.lin_formats.specs.Histories.{is_read_failed};
 ghost use Rattle.lin_report.specs.Pulls.{StandsAt};
 ghost use Rattle.lin_report.specs.Runs.{CountsOne, IsDone, IsEditRun, IsReply, RunState, pull_text, start_of};

@@ -13,7 +13,7 @@ use Rattle.lin_chain.specs.declared.chain.End.TheVariants.{Over}
 use Rattle.lin_chain.specs.Chains.{end_under, kind_in, ready_under, IsRight}
 use Rattle.lin_session.specs.declared.kept.Object.{Object}
 use Rattle.lin_session.specs.declared.kept.Objects.{Objects}
-use Rattle.lin_session.specs.Costs.{cost_of, cost_of_all}
+use Rattle.lin_session.specs.inner.Costs.{cost_of, cost_of_all}
 use Rattle.lin_session.specs.Objects.{AreKept, AreRight, IsObject, listed_marks, split_in}
 use Rattle.lin_session.specs.Work.{mark_of}
 use Rattle.lin_session.proofs.Asking.{IsObject-settled, length_spelled, picks_inside, right_spelled, spelled, well_formed_spelled}

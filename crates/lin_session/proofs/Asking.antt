@@ -13,7 +13,7 @@ use Rattle.lin_orders.specs.declared.placed.Placed.{Placed}
 use Rattle.lin_orders.specs.Linearizable.{IsLegalOrderFor, IsLinearizableFor, IsLegalOrderAs, IsLinearizableAs}
 use Rattle.lin_orders.specs.Parts.{ArePositionsOf, IsCut, events_at, part, renamed}
 use Rattle.lin_orders.specs.PartLaws.{PositionsSpellParts, PartsOfPrefixes, PartsUpToPositions, PartsAreWellFormed, RenamedOrdersAreLegal, OrdersCanBeRenamed, LinearizableByPart}
-use Rattle.lin_frontier.specs.Frontiers.{IsOver}
+use Rattle.lin_orders.specs.Configurations.{IsOver}
 use Rattle.lin_chain.specs.declared.chain.End.{End}
 use Rattle.lin_chain.specs.declared.chain.End.TheVariants.{Alive, Dead, Over}
 use Rattle.lin_chain.specs.Chains.{kind_in, IsRight}
@@ -24,7 +24,7 @@ use Rattle.lin_session.specs.declared.kept.Object.{Object}
 use Rattle.lin_session.specs.declared.marks.Mark.{Mark}
 use Rattle.lin_session.specs.Answers.{IsObjectVerdict}
 use Rattle.lin_session.specs.Objects.{IsMarkRight, IsObject, IsPlaceIn, Finds, IsOrderIn}
-use Rattle.lin_session.specs.Judgements.{IsFinding, IsTold}
+use Rattle.lin_session.specs.inner.Judgements.{IsFinding, IsTold}
 use Rattle.lin_session.proofs.Picks.{event_of_key}
 
 -- a place that an end tells is among the object's events

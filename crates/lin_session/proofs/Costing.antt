@@ -21,7 +21,7 @@ use Rattle.std.proofs.lemmas.Option.{slice_get-get_or}
 use Rattle.lin_session.proofs.Marking.{ready_at_most}
 use Rattle.lin_session.proofs.Sums.{in_keys, sum_head, sum_within}
 use Rattle.lin_session.specs.declared.kept.Object.{Object}
-use Rattle.lin_session.specs.Costs.{AreSettled, IsCost, IsSettled, cost_of, cost_of_all}
+use Rattle.lin_session.specs.inner.Costs.{AreSettled, IsCost, IsSettled, cost_of, cost_of_all}
 
 -- one more costs as much more
 pub cost-next : (budget : ℕ) (objects : List Object) (i : ℕ) (object : Object) → slice_get objects i ≡ Some object

@@ -7,7 +7,7 @@ use Rattle.std.proofs.lemmas.List.Elements.{Contains-append_left, Contains-push,
 use Rattle.std.proofs.lemmas.Map.Views.{Contains-from_any}
 use Rattle.indexmap.specs.IndexSet.{insert_key}
 use Rattle.lin_events.specs.declared.events.Event.{Event}
-use Rattle.lin_session.specs.Sessions.{Occurs}
+use Rattle.lin_session.specs.Keys.{Occurs}
 
 -- just the keys of the history, in any order, some more than once
 abbrev pub AreKeysIn : List Event → List ℤ → Type 0

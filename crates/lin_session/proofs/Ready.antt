@@ -16,7 +16,7 @@ use Rattle.lin_session.specs.declared.kept.Objects.{Objects}
 use Rattle.lin_session.specs.declared.marks.Mark.{Mark}
 use Rattle.lin_session.specs.Answers.{kinds_in, IsVerdict}
 use Rattle.lin_session.specs.Edits.{Present}
-use Rattle.lin_session.specs.Judgements.{AreAlive, IsAlive}
+use Rattle.lin_session.specs.inner.Judgements.{AreAlive, IsAlive}
 use Rattle.lin_session.specs.Marks.{IsNothingDue, IsOf, IsWithoutOrder}
 use Rattle.lin_session.specs.Objects.{AreRight, marks_in, split_in}
 use Rattle.lin_session.specs.Work.{AreSameMarks, settled_at}

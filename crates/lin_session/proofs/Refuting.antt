@@ -10,19 +10,19 @@ use Rattle.lin_objects.specs.Steps.{Step, start}
 use Rattle.lin_orders.specs.Parts.{ArePositionsOf, events_at, part}
 use Rattle.lin_orders.specs.PartLaws.{PositionsSpellParts, PartsUpToPositions}
 use Rattle.lin_order.specs.Refutations.{Config, IsRefutation}
-use Rattle.lin_frontier.specs.Frontiers.{IsOver}
+use Rattle.lin_orders.specs.Configurations.{IsOver}
 use Rattle.lin_chain.specs.declared.chain.End.TheVariants.{Dead}
 use Rattle.lin_chain.specs.declared.chain.RefuteFault.{RefuteFault}
 use Rattle.lin_chain.specs.declared.chain.RefuteFault.TheVariants.{NotDead, TooLarge, OutOfMemory}
 use Rattle.lin_chain.specs.Chains.{Stands, end_in, kind_in}
 use Rattle.lin_session.specs.declared.kept.Object.{Object}
-use Rattle.lin_session.specs.Judgements.{IsDead}
+use Rattle.lin_session.specs.inner.Judgements.{IsDead}
 use Rattle.lin_session.specs.Objects.{IsObject}
-use Rattle.lin_session.specs.Answers.{kinds_in, IsAnswer}
+use Rattle.lin_session.specs.Answers.{kinds_in, IsAnswer, IsOverSomewhere}
 use Rattle.lin_session.specs.Edits.{Present}
 use Rattle.lin_session.specs.declared.answers.Answer.TheVariants.{No}
 use Rattle.lin_session.specs.declared.answers.Scope.TheVariants.{Object as ObjectOf}
-use Rattle.lin_session.specs.Refuting.{IsOverSomewhere, IsUnrefuted}
+use Rattle.lin_session.specs.Refuting.{IsUnrefuted}
 use Rattle.lin_session.proofs.Asking.{length_spelled, spelled, whole_picked}
 
 -- a refusal that isn't for want of a dead event

@@ -11,7 +11,7 @@ use Rattle.lin_session.specs.declared.answers.Scope.{Scope}
 use Rattle.lin_session.specs.declared.answers.Scope.TheVariants.{Object, Whole}
 use Rattle.lin_session.specs.Answers.{kinds_in, IsAnswer, IsObjectVerdict, IsWholeVerdict, IsVerdict}
 use Rattle.lin_session.specs.Edits.{Present}
-use Rattle.lin_session.specs.Judgements.{IsOrderFor}
+use Rattle.lin_session.specs.inner.Judgements.{IsOrderFor}
 
 pub IsVerdict-object : (now : Present) (key : ℤ) (verdict : Verdict) → IsWellFormed (functions_of (kinds_in now)) now.history → IsObjectVerdict (kinds_in now) now.budget now.history key verdict
     → IsVerdict now (Object key) verdict

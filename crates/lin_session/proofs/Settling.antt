@@ -11,7 +11,7 @@ use Rattle.lin_chain.specs.Chains.{end_in}
 use Rattle.lin_session.specs.declared.answers.Scope.{Scope}
 use Rattle.lin_session.specs.declared.kept.Object.{Object}
 use Rattle.lin_session.specs.declared.marks.Mark.{Mark}
-use Rattle.lin_session.specs.Costs.{IsJudged}
+use Rattle.lin_session.specs.inner.Costs.{IsJudged}
 use Rattle.lin_session.specs.Marks.{AreMarked, IsOf}
 use Rattle.lin_session.specs.Objects.{AreKept, IsObject, listed_marks, settled_object}
 use Rattle.lin_session.specs.Work.{AreSameMarks, mark_of, settled_at}

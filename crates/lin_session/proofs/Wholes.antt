@@ -27,7 +27,7 @@ use Rattle.lin_orders.specs.Configurations.{IsConfiguration}
 use Rattle.lin_session.specs.declared.answers.Verdict.{Verdict}
 use Rattle.lin_session.specs.declared.answers.Verdict.TheVariants.{Yes, No, Undecided}
 use Rattle.lin_session.specs.Answers.{IsShortestWithout, IsOverAt, IsWholeVerdict}
-use Rattle.lin_session.specs.Judgements.{IsFinding, IsCovered, AreFound, IsTold}
+use Rattle.lin_session.specs.inner.Judgements.{IsFinding, IsCovered, AreFound, IsTold}
 use Rattle.lin_session.specs.Work.{least}
 use Rattle.lin_session.proofs.Around.{part-same}
 use Rattle.lin_lists.specs.lemmas.Lists.{get_taken, take_next}

@@ -9,7 +9,7 @@ use Rattle.lin_objects.specs.Kinds.{kind_of, functions_of}
 use Rattle.lin_objects.specs.Steps.{Step, start}
 use Rattle.lin_orders.specs.Linearizable.{IsLegalOrder, IsLegalOrderFor, IsLinearizable, IsLinearizableFor}
 use Rattle.lin_orders.specs.Parts.{part}
-use Rattle.lin_frontier.specs.Frontiers.{IsOver}
+use Rattle.lin_orders.specs.Configurations.{IsOver}
 use Rattle.lin_session.specs.declared.answers.Answer.{Answer}
 use Rattle.lin_session.specs.declared.answers.Answer.TheVariants.{IllFormed, Yes, No, Undecided}
 use Rattle.lin_session.specs.declared.answers.Verdict.{Verdict}
@@ -34,6 +34,10 @@ pub record IsOverAt (kinds : ℤ → Kind) (budget : ℕ) (h : List Event) (key 
   pub stands : IsEvent h at event
   pub same : event.key ≡ key
   pub over : IsOver (start (kinds key)) (Step (kinds key)) (part key (take (at + 1) h)) budget
+
+-- in some prefix of the history the object has more configurations than the budget
+abbrev pub IsOverSomewhere : (ℤ → Kind) → ℕ → List Event → ℤ → Type 0
+IsOverSomewhere kinds budget h key = (n : ℕ) × IsOver (start (kinds key)) (Step (kinds key)) (part key (take n h)) budget
 
 -- of a well-formed history the answer for one object
 abbrev pub IsObjectAnswer : (ℤ → Kind) → ℕ → List Event → ℤ → Answer → Type 0

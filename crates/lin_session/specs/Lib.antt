@@ -4,6 +4,6 @@ pub mod Marks
 pub mod Answers
 pub mod Objects
 pub mod Sessions
-pub mod Judgements
-pub mod Costs
 pub mod Refuting
+pub mod Keys
+pub mod inner

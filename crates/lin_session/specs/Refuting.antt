@@ -1,18 +1,14 @@
 -- What comes of refuting an object.
 use Rattle.std.specs.Prelude.{◌≢◌, ℕ, ℤ, List, take}
-use Rattle.lin_events.specs.declared.events.Event.{Event}
-use Rattle.lin_objects.specs.declared.kinds.Kind.{Kind}
-use Rattle.lin_objects.specs.Steps.{Step, start}
 use Rattle.lin_orders.specs.Parts.{part}
 use Rattle.lin_order.specs.Refutations.{Config, IsRefutation, sets_of}
-use Rattle.lin_frontier.specs.Frontiers.{IsOver}
 use Rattle.lin_chain.specs.declared.chain.RefuteFault.{RefuteFault}
 use Rattle.lin_chain.specs.declared.chain.RefuteFault.TheVariants.{NotDead, TooLarge, OutOfMemory}
 use Rattle.lin_session.specs.declared.answers.Answer.TheVariants as answer
 use Rattle.lin_session.specs.declared.answers.Refuted.{Refuted}
 use Rattle.lin_session.specs.declared.answers.Refuted.TheVariants.{No, Not}
 use Rattle.lin_session.specs.declared.answers.Scope.TheVariants.{Object}
-use Rattle.lin_session.specs.Answers.{kinds_in, IsAnswer}
+use Rattle.lin_session.specs.Answers.{kinds_in, IsAnswer, IsOverSomewhere}
 use Rattle.lin_session.specs.Edits.{Present}
 
 -- the sets show that the first so many events have no legal order for the object of the key
@@ -23,10 +19,6 @@ Refutes now key n sets = IsRefutation (part key (take n now.history)) (kinds_in 
 abbrev pub IsRefuted : Present → ℤ → Refuted → Type 0
 IsRefuted now key (No n refutation) = IsAnswer now (Object key) (answer.No n) × Refutes now key n (sets_of refutation)
 IsRefuted now key (Not found) = IsAnswer now (Object key) found × ((n : ℕ) → found ≢ answer.No n)
-
--- in some prefix of the history the object has more configurations than the budget
-abbrev pub IsOverSomewhere : (ℤ → Kind) → ℕ → List Event → ℤ → Type 0
-IsOverSomewhere kinds budget h key = (n : ℕ) × IsOver (start (kinds key)) (Step (kinds key)) (part key (take n h)) budget
 
 -- why nothing is given: the sets of a no would be larger than the budget, or memory was refused
 abbrev pub IsUnrefuted : Present → ℤ → RefuteFault → Type 0

@@ -1,8 +1,5 @@
 -- What contracts see of a session, and what is always true of one.
-use Rattle.std.specs.Prelude.{◌≡◌, ◌↔◌, ◌≤◌, ℕ, ℤ, List, Option, None, Some, Contains, length}
-use Rattle.std.specs.Ordering.{int_cmp}
-use Rattle.std.specs.List.Sorted.{IsStrictlySortedBy}
-use Rattle.lin_events.specs.declared.events.Event.{Event}
+use Rattle.std.specs.Prelude.{◌≡◌, ◌≤◌, ℕ, ℤ, List, Option, None, Some, length}
 use Rattle.lin_events.specs.declared.meter.Meter.{Meter}
 use Rattle.lin_events.specs.WellFormed.{IsWellFormed}
 use Rattle.lin_objects.specs.Kinds.{functions_of, kind_of}
@@ -20,15 +17,6 @@ pub record Standing : Type 0 where
   pub meter : Meter
   pub low : Option ℕ
   pub marks : List (ℤ × Mark)
-
--- an event of the history is of the key
-abbrev pub Occurs : List Event → ℤ → Type 0
-Occurs h key = (event : Event) × Contains h event × (event.key ≡ key)
-
--- just the keys of the history, rising
-pub record AreKeys (h : List Event) (keys : List ℤ) : Type 0 where
-  pub rising : IsStrictlySortedBy int_cmp keys
-  pub each : (key : ℤ) → Contains keys key ↔ Occurs h key
 
 -- of so many events, so many are taken in: all, or no fewer than the first that stand
 abbrev pub AreTakenIn : Option ℕ → ℕ → ℕ → Type 0

@@ -4,7 +4,7 @@ ghost use Rattle.lin_events.specs.WellFormed.{IsWellFormed};
 ghost use Rattle.lin_objects.specs.declared.kinds.Kind.{Kind as KindOf};
 ghost use Rattle.lin_objects.specs.Kinds.{functions_of, kind_of};
 ghost use Rattle.lin_session.specs.Answers.{IsVerdict};
-ghost use Rattle.lin_session.specs.Costs.{AreSettled, IsCost, IsSettled, cost_of, cost_of_all};
+ghost use Rattle.lin_session.specs.inner.Costs.{AreSettled, IsCost, IsSettled, cost_of, cost_of_all};
 ghost use Rattle.lin_session.specs.declared.kept.Object.{Object as ObjectOf};
 ghost use Rattle.lin_session.specs.Marks.{AreMarked, IsNothingDue};
 ghost use Rattle.lin_session.specs.Objects.{AreRight, marks_in, split_in};

@@ -3,7 +3,7 @@ ghost use Rattle.std.specs.Prelude.{◌≡◌, ◌<◌, ℤ, IfSome, Some, lengt
 ghost use Rattle.lin_events.specs.WellFormed.{IsWellFormed};
 ghost use Rattle.lin_objects.specs.Kinds.{functions_of, kind_of};
 ghost use Rattle.lin_session.specs.Answers.{IsObjectVerdict, IsVerdict, IsWholeVerdict};
-ghost use Rattle.lin_session.specs.Judgements.{AreFound, IsFinding};
+ghost use Rattle.lin_session.specs.inner.Judgements.{AreFound, IsFinding};
 ghost use Rattle.lin_session.specs.Objects.{AreRight, split_in};
 
 use crate::answers::{Scope, Verdict};

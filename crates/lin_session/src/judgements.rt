@@ -5,13 +5,13 @@ ghost use Rattle.lin_objects.specs.declared.kinds.Kind.{Kind as KindOf};
 ghost use Rattle.lin_objects.specs.Kinds.{functions_of, kind_of};
 ghost use Rattle.lin_orders.specs.Parts.{part};
 ghost use Rattle.lin_order.specs.Refutations.{IsRefutation, sets_of};
-ghost use Rattle.lin_session.specs.Answers.{IsAnswer, IsObjectVerdict, IsVerdict, IsWholeVerdict};
+ghost use Rattle.lin_session.specs.Answers.{IsAnswer, IsObjectVerdict, IsVerdict, IsWholeVerdict, IsOverSomewhere};
 ghost use Rattle.lin_session.specs.declared.kept.Object.{Object as ObjectOf};
 ghost use Rattle.lin_session.specs.Objects.{AreRight, marks_in, split_in};
-ghost use Rattle.lin_session.specs.Costs.{AreJudged, IsCost, IsJudged, IsSettled, cost_of, cost_of_all};
-ghost use Rattle.lin_session.specs.Judgements.{AreAlive, AreFound, IsAlive, IsDead, IsDeadFor, IsFinding, IsTold};
+ghost use Rattle.lin_session.specs.inner.Costs.{AreJudged, IsCost, IsJudged, IsSettled, cost_of, cost_of_all};
+ghost use Rattle.lin_session.specs.inner.Judgements.{AreAlive, AreFound, IsAlive, IsDead, IsDeadFor, IsFinding, IsTold};
 ghost use Rattle.lin_session.specs.Marks.{IsNothingDue, IsWithoutOrder};
-ghost use Rattle.lin_session.specs.Refuting.{IsOverSomewhere, IsRefuted, IsUnrefuted};
+ghost use Rattle.lin_session.specs.Refuting.{IsRefuted, IsUnrefuted};
 ghost use Rattle.lin_session.specs.Work.{AreSameMarks, cost_in};
 
 use crate::answers::{Answer, Refuted, Scope, Verdict};

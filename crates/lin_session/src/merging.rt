@@ -6,7 +6,7 @@ ghost use Rattle.lin_objects.specs.Kinds.{functions_of, kind_of};
 ghost use Rattle.lin_orders.specs.Linearizable.{IsLegalOrder, IsLegalOrderFor};
 ghost use Rattle.lin_orders.specs.Merging.{lists_of};
 ghost use Rattle.lin_session.specs.declared.kept.Object.{Object as ObjectOf};
-ghost use Rattle.lin_session.specs.Judgements.{AreAlive, IsAlive, IsOrderFor};
+ghost use Rattle.lin_session.specs.inner.Judgements.{AreAlive, IsAlive, IsOrderFor};
 ghost use Rattle.lin_session.specs.Objects.{AreRight, split_in};
 
 use crate::answers::Scope;

@@ -7,7 +7,7 @@ ghost use Rattle.lin_objects.specs.Kinds.{kind_of};
 ghost use Rattle.lin_orders.specs.Orders.{is_of_key};
 ghost use Rattle.lin_orders.specs.Parts.{part};
 ghost use Rattle.lin_session.specs.Objects.{AreRight, marks_in, split_in};
-ghost use Rattle.lin_session.specs.Costs.{AreJudged};
+ghost use Rattle.lin_session.specs.inner.Costs.{AreJudged};
 ghost use Rattle.lin_session.specs.Marks.{AreMarked};
 ghost use Rattle.lin_session.specs.Work.{AreSameMarks, AreTouched, raised, rounded, touched_at, unasked};
 

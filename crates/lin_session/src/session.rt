@@ -9,10 +9,10 @@ ghost use Rattle.lin_session.specs.Objects.{AreRight, marks_in, split_in};
 ghost use Rattle.lin_orders.specs.Orders.{is_of_key};
 ghost use Rattle.lin_orders.specs.Parts.{part};
 ghost use Rattle.lin_chain.specs.Ends.{IsEndOf};
-ghost use Rattle.lin_session.specs.Judgements.{IsOrderFor};
+ghost use Rattle.lin_session.specs.inner.Judgements.{IsOrderFor};
 ghost use Rattle.lin_session.specs.Marks.{AreMarked, IsNothingDue, IsWithoutOrder};
 ghost use Rattle.lin_session.specs.Refuting.{IsRefuted, IsUnrefuted};
-ghost use Rattle.lin_session.specs.Sessions.{AreKeys, Occurs};
+ghost use Rattle.lin_session.specs.Keys.{AreKeys, Occurs};
 ghost use Rattle.lin_session.specs.Work.{AreSameMarks, anew, cost_in, low_after, mark_after, mark_of, touched_at, truncated, unasked};
 
 use crate::answers::{Answer, Refuted, Scope, Verdict};

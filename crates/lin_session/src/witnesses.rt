@@ -7,8 +7,8 @@ ghost use Rattle.lin_chain.specs.Chains.{end_in, kind_in};
 ghost use Rattle.lin_chain.specs.Ends.{IsEndOf};
 ghost use Rattle.lin_session.specs.Answers.{IsVerdict, IsObjectVerdict, IsWholeVerdict};
 ghost use Rattle.lin_session.specs.declared.kept.Object.{Object as ObjectOf};
-ghost use Rattle.lin_session.specs.Costs.{AreJudged, IsJudged};
-ghost use Rattle.lin_session.specs.Judgements.{AreFound, IsFinding};
+ghost use Rattle.lin_session.specs.inner.Costs.{AreJudged, IsJudged};
+ghost use Rattle.lin_session.specs.inner.Judgements.{AreFound, IsFinding};
 ghost use Rattle.lin_session.specs.Objects.{AreRight, split_in};
 
 use crate::answers::{Scope, Verdict};

@@ -1,4 +1,4 @@
-use Rattle.lin_edn.proofs.Longer.{spelled_stays, blanks_stay}
+use Rattle.lin_edn.specs.lemmas.Longer.{spelled_stays, blanks_stay}
 use Rattle.lin_edn.proofs.Rows.{row_more}
 use Rattle.lin_edn.proofs.Unique.{fault_stays}
 use Rattle.lin_edn.proofs.more_bytes.Goals as goal

@@ -1,8 +1,8 @@
 use Rattle.std.proofs.Common.{◌≡◌, ℕ, Result, Ok, Err}
 use Rattle.lin_edn.proofs.Forth.{spells_run, blank_input}
-use Rattle.lin_edn.specs.Machine.{Answer, complete, blank, fault}
+use Rattle.lin_edn.specs.inner.Machine.{Answer, complete, blank, fault}
 use Rattle.lin_edn.specs.Reading.{IsRead, IsBlank, IsOutOfMemory}
-use Rattle.lin_edn.specs.Turns.{Answers, IsFault}
+use Rattle.lin_edn.specs.inner.Turns.{Answers, IsFault}
 use Rattle.lin_edn.specs.Value.{Value}
 use Rattle.lin_edn.specs.declared.EdnCause.{EdnCause}
 use Rattle.lin_edn.specs.declared.EdnCause.TheVariants.{Unbalanced, OddMap, TooDeep, TooLong, OutOfMemory}

@@ -13,10 +13,10 @@ use Rattle.lin_events.specs.Alternation.{IsAlternating}
 use Rattle.lin_events.specs.Operations.{IsOperation, IsOpen}
 use Rattle.lin_events.specs.WellFormedLaws.{WellFormedIsAlternating}
 use Rattle.lin_orders.specs.declared.placed.Placed.{Placed}
-use Rattle.lin_orders.specs.Configurations.{EndsIn, IsAdded, IsConfiguration, IsPlacing, IsPlacedOn, none, more as further}
+use Rattle.lin_orders.specs.Configurations.{EndsIn, IsAdded, IsConfiguration, IsPlacing, IsPlacedOn, none, more as further, IsOver}
 use Rattle.lin_orders.specs.ConfigurationLaws.{with_event, AfterInvocation, InvocationLaw, PlacingIsLegal}
 use Rattle.lin_frontier.specs.declared.pending.Open.{Open}
-use Rattle.lin_frontier.specs.Frontiers.{IsFrontier, IsNextEvent, IsOver}
+use Rattle.lin_frontier.specs.Frontiers.{IsFrontier, IsNextEvent}
 use Rattle.lin_frontier.specs.Nodes.{Spells}
 use Rattle.lin_frontier.specs.Placing.{IsAbsent, IsKept, IsKeeping, PlacesOne, PlacesNext, insert_pair}
 use Rattle.lin_frontier.specs.Walks.{Walk, here, more, IsBeyond, IsClosure, IsTraced}

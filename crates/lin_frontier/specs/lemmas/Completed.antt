@@ -14,9 +14,9 @@ use Rattle.lin_events.specs.declared.events.Event.{Event}
 use Rattle.lin_events.specs.WellFormed.{IsWellFormed}
 use Rattle.lin_orders.specs.declared.placed.Placed.{Placed}
 use Rattle.lin_orders.specs.Linearizable.{IsLinearizableBy}
-use Rattle.lin_orders.specs.Configurations.{EndsIn, IsAdded, IsConfiguration}
+use Rattle.lin_orders.specs.Configurations.{EndsIn, IsAdded, IsConfiguration, IsOver}
 use Rattle.lin_orders.specs.ConfigurationLaws.{with_event, AfterOk, AtStart, FailLaw, InfoLaw, LegalOrdersEnd, OkLaw}
-use Rattle.lin_frontier.specs.Frontiers.{IsFrontier, IsOver}
+use Rattle.lin_frontier.specs.Frontiers.{IsFrontier}
 use Rattle.lin_frontier.specs.Nodes.{root}
 use Rattle.lin_frontier.specs.Placing.{IsKeeping, without}
 use Rattle.lin_frontier.specs.Sameness.{pair_eq, placed_Decides}

@@ -10,7 +10,7 @@ use Rattle.std.proofs.lemmas.Bool.{cases_lt}
 use Rattle.std.proofs.lemmas.Option.{get_or_from_slice_get, slice_get-get_or, slice_get_within}
 use Rattle.lin_lists.specs.lemmas.Rising.{split}
 use Rattle.lin_objects.specs.Bags.{NeverFalls, bag_of, with_one, without_one}
-use Rattle.lin_objects.specs.Taking.{IsFirstAt}
+use Rattle.lin_objects.specs.inner.Taking.{IsFirstAt}
 
 -- one of two numbers is at most the other
 pub ordered : (x y : ℤ) → (x ≤ℤ y) ⊎ (y <ℤ x)

@@ -1,7 +1,7 @@
 use Rattle.std.proofs.Common.{◌≡◌, ◌∙◌, Some, ap, slice_get, subst, sym}
 use Rattle.std.proofs.lemmas.Option.{slice_get-get_or}
 use Rattle.std.proofs.lemmas.List.{take_all}
-use Rattle.lin_chain.specs.Gathering.{IsTakenFrom}
+use Rattle.lin_chain.specs.inner.Gathering.{IsTakenFrom}
 use Rattle.lin_chain.proofs.Showing.{AnswersIn, taken_begun, taken_next}
 use Rattle.lin_chain.proofs.possible.put_replies.Goals as goal
 

@@ -1,6 +1,6 @@
 use Rattle.std.proofs.Common.{ℕ, List, Contains, take}
 use Rattle.lin_events.specs.declared.calls.Reply.{Reply}
-use Rattle.lin_chain.specs.Gathering.{IsTakenFrom}
+use Rattle.lin_chain.specs.inner.Gathering.{IsTakenFrom}
 use Rattle.lin_chain.proofs.possible.put_replies.Given as goal
 
 -- those that the pairs so far say

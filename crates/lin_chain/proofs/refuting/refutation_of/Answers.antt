@@ -5,7 +5,7 @@ use Rattle.lin_objects.specs.Steps.{Step, start}
 use Rattle.lin_orders.specs.Parts.{events_at}
 use Rattle.lin_order.specs.Refutations.{IsRefutation, sets_of}
 use Rattle.lin_order.specs.declared.refutations.Refutation.{Refutation}
-use Rattle.lin_frontier.specs.Frontiers.{IsOver}
+use Rattle.lin_orders.specs.Configurations.{IsOver}
 use Rattle.lin_orders.specs.Linearizable.{IsLinearizableAs}
 use Rattle.lin_chain.proofs.Chaining.{event_there, length-events_at}
 use Rattle.lin_chain.proofs.ExactSets.{AreAll, sets_refute, take_within}

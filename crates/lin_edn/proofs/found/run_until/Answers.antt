@@ -1,5 +1,5 @@
 use Rattle.std.proofs.Common.{◌<◌, sym, ◌∙◌, arith}
-use Rattle.lin_edn.proofs.Rising.{element_past}
+use Rattle.lin_edn.specs.lemmas.Rising.{element_past}
 use Rattle.lin_edn.proofs.Simple.{run_found}
 use Rattle.lin_edn.proofs.Standing.{one_element, run_stands}
 use Rattle.lin_edn.proofs.found.run_until.Goals as goal

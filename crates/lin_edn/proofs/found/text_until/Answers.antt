@@ -1,5 +1,5 @@
 use Rattle.std.proofs.Common.{◌<◌, arith}
-use Rattle.lin_edn.proofs.Rising.{element_past}
+use Rattle.lin_edn.specs.lemmas.Rising.{element_past}
 use Rattle.lin_edn.proofs.Simple.{text_found, text_unescaped}
 use Rattle.lin_edn.proofs.Standing.{one_element, text_stands}
 use Rattle.lin_edn.proofs.found.text_until.Goals as goal

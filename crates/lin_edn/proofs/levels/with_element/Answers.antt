@@ -3,7 +3,7 @@ use Rattle.std.proofs.lemmas.List.{map-append}
 use Rattle.lin_edn.proofs.Flat.{flat_pair}
 use Rattle.lin_edn.specs.Bytes.{a_map}
 use Rattle.lin_edn.specs.Grammar.{frame}
-use Rattle.lin_edn.specs.Levels.{flat}
+use Rattle.lin_edn.specs.inner.Levels.{flat}
 use Rattle.lin_edn.specs.View.{view, entry_view}
 use Rattle.lin_edn.proofs.levels.with_element.Goals as goal
 

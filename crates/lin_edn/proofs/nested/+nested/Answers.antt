@@ -8,7 +8,7 @@ use Rattle.lin_edn.specs.Skimming.{level_view}
 use Rattle.lin_edn.specs.Value.{tagged, text as text_value}
 use Rattle.lin_edn.proofs.Filling.{here, run_here, text_here, tag_here, collection_here, opened_within, white_ends}
 use Rattle.lin_edn.proofs.Nesting.{none_filled, more_filled, closed_here, stuck, over}
-use Rattle.lin_edn.proofs.Rising.{tail_rises, blanks_tail, element_past}
+use Rattle.lin_edn.specs.lemmas.Rising.{tail_rises, blanks_tail, element_past}
 use Rattle.lin_edn.proofs.Simple.{tag_opens_none, tag_room}
 use Rattle.lin_edn.proofs.Standing.{one_element}
 use Rattle.lin_edn.proofs.nested.+nested.Goals as goal

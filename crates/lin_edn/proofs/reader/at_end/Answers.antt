@@ -1,8 +1,8 @@
 use Rattle.std.proofs.Common.{◌≡◌, ℕ, List, refl, sym, ap}
 use Rattle.lin_edn.specs.Grammar.{Frame}
-use Rattle.lin_edn.specs.Levels.{frames_of}
-use Rattle.lin_edn.specs.Machine.{partial, begun, at_end}
-use Rattle.lin_edn.specs.Turns.{mode_of}
+use Rattle.lin_edn.specs.inner.Levels.{frames_of}
+use Rattle.lin_edn.specs.inner.Machine.{partial, begun, at_end}
+use Rattle.lin_edn.specs.inner.Turns.{mode_of}
 use Rattle.lin_edn.specs.declared.reader.Mode.{Mode}
 use Rattle.lin_edn.specs.declared.reader.Mode.TheVariants as mode
 use Rattle.lin_edn.proofs.reader.at_end.Goals as goal

@@ -1,6 +1,6 @@
 use Rattle.lin_edn.specs.Grammar.{outermost}
 use Rattle.std.proofs.Common.{ap, ◌∙◌}
-use Rattle.lin_edn.specs.Levels.{frames_of}
+use Rattle.lin_edn.specs.inner.Levels.{frames_of}
 use Rattle.lin_edn.proofs.reader.begun_at.Goals as goal
 
 pub returns : goal.returns

@@ -1,9 +1,9 @@
 use Rattle.std.proofs.Common.{◌≡◌, ℕ, List, true, get_or, sym}
 use Rattle.std.specs.List.{slice_range}
-use Rattle.lin_edn.specs.Levels.{frames_of}
+use Rattle.lin_edn.specs.inner.Levels.{frames_of}
 use Rattle.lin_edn.specs.Bytes.{is_stop}
 use Rattle.lin_edn.specs.Grammar.{Frame}
-use Rattle.lin_edn.specs.Machine.{Turn, put, ended, in_run}
+use Rattle.lin_edn.specs.inner.Machine.{Turn, put, ended, in_run}
 use Rattle.lin_edn.specs.Run.{run_value}
 use Rattle.lin_edn.proofs.reader.end_run.Goals as goal
 

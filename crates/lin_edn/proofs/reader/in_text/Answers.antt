@@ -2,9 +2,9 @@ use Rattle.std.proofs.Common.{◌≡◌, ℕ, ◌+◌, ◌≤◌, ◌<◌, List,
 use Rattle.std.specs.List.{slice_range}
 use Rattle.lin_edn.specs.Bytes.{quoted}
 use Rattle.lin_edn.specs.Grammar.{Frame}
-use Rattle.lin_edn.specs.Levels.{frames_of}
-use Rattle.lin_edn.specs.Machine.{go, in_escape, put, quotes}
-use Rattle.lin_edn.specs.Turns.{IsMove}
+use Rattle.lin_edn.specs.inner.Levels.{frames_of}
+use Rattle.lin_edn.specs.inner.Machine.{go, in_escape, put, quotes}
+use Rattle.lin_edn.specs.inner.Turns.{IsMove}
 use Rattle.lin_edn.specs.Value.{text}
 use Rattle.lin_edn.proofs.Runs.{range_more}
 use Rattle.lin_edn.proofs.reader.in_text.Goals as goal

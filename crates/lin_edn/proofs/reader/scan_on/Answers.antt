@@ -2,9 +2,9 @@ use Rattle.std.proofs.Common.{◌≡◌, ◌≤◌, ◌<◌, ◌∙◌, sym, sub
 use Rattle.lin_edn.proofs.Faults.{fault_of}
 use Rattle.lin_edn.proofs.Runs.{ends, goes, stops}
 use Rattle.lin_edn.specs.Grammar.{longest}
-use Rattle.lin_edn.specs.Levels.{frames_of}
-use Rattle.lin_edn.specs.Machine.{Answer, at_end}
-use Rattle.lin_edn.specs.Turns.{Answers, mode_of}
+use Rattle.lin_edn.specs.inner.Levels.{frames_of}
+use Rattle.lin_edn.specs.inner.Machine.{Answer, at_end}
+use Rattle.lin_edn.specs.inner.Turns.{Answers, mode_of}
 use Rattle.lin_edn.specs.declared.Next.{Next}
 use Rattle.lin_edn.proofs.reader.scan_on.Goals as goal
 

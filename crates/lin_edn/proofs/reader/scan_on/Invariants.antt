@@ -1,8 +1,8 @@
 use Rattle.std.proofs.Common.{◌≡◌, ◌≤◌, drop, length, ◌-◌}
 use Rattle.lin_edn.specs.Grammar.{longest}
-use Rattle.lin_edn.specs.Levels.{frames_of}
-use Rattle.lin_edn.specs.Machine.{run, between}
-use Rattle.lin_edn.specs.Turns.{mode_of, IsBegun}
+use Rattle.lin_edn.specs.inner.Levels.{frames_of}
+use Rattle.lin_edn.specs.inner.Machine.{run, between}
+use Rattle.lin_edn.specs.inner.Turns.{mode_of, IsBegun}
 use Rattle.lin_edn.proofs.reader.scan_on.Given as goal
 
 abbrev pub invariant-loop-at : goal.invariant-loop-at

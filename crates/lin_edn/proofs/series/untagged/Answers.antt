@@ -1,7 +1,7 @@
 use Rattle.std.proofs.Common.{ap, sym, ◌∙◌}
 use Rattle.lin_edn.specs.Value.{tagged}
 use Rattle.lin_edn.specs.View.{view}
-use Rattle.lin_edn.proofs.Untagged.{tagged_view}
+use Rattle.lin_edn.specs.lemmas.Untagged.{tagged_view}
 use Rattle.lin_edn.proofs.series.untagged.Goals as goal
 
 pub returns-in-Tagged : goal.returns-in-Tagged

@@ -1,5 +1,5 @@
 use Rattle.std.proofs.lemmas.Result.{err_from_is_err_and}
-use Rattle.lin_history.specs.Fields.{given_view}
+use Rattle.lin_history.specs.inner.Fields.{given_view}
 use Rattle.lin_history.proofs.Bodies.{body_fails}
 use Rattle.lin_history.proofs.table.event_said.Goals as goal
 

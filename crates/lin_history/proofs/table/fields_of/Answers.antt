@@ -1,6 +1,6 @@
 use Rattle.std.proofs.Common.{codes}
 use Rattle.std.proofs.lemmas.Result.{err_from_is_err_and}
-use Rattle.lin_history.specs.Fields.{found}
+use Rattle.lin_history.specs.inner.Fields.{found}
 use Rattle.lin_history.proofs.Keys.{several_in_all, one_of_four}
 use Rattle.lin_history.proofs.table.fields_of.Goals as goal
 

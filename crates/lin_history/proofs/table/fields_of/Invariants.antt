@@ -2,7 +2,7 @@ use Rattle.std.proofs.Common.{◌≡◌, map, drop, ◌++◌, codes}
 use Rattle.lin_edn.specs.Value.{entries_of}
 use Rattle.lin_edn.specs.View.{entry_view}
 use Rattle.lin_history.specs.Table.{under}
-use Rattle.lin_history.specs.Fields.{found}
+use Rattle.lin_history.specs.inner.Fields.{found}
 use Rattle.lin_history.proofs.table.fields_of.Given as goal
 
 abbrev pub invariant-loop-entry : goal.invariant-loop-entry

@@ -2,7 +2,7 @@ use Rattle.std.proofs.Common.{ℕ, ◌≤◌, List, IfSome, rules, SFits, w64, s
 use Rattle.std.proofs.lemmas.Int.{to_z-of_z}
 use Rattle.lin_edn.specs.Value.{Value}
 use Rattle.lin_edn.specs.View.{view}
-use Rattle.lin_history.specs.Usual.{IsPlaced, AreParts, TellsWith}
+use Rattle.lin_history.specs.inner.Usual.{IsPlaced, AreParts, TellsWith}
 use Rattle.lin_history.proofs.usual.element_event.Goals as goal
 
 pub returns-then-not-is_value_told : goal.returns-then-not-is_value_told

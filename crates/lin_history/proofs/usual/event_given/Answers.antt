@@ -1,6 +1,6 @@
 use Rattle.std.proofs.Common.{◌≡◌, Some, rules, SFits, w64, sym, subst}
 use Rattle.std.proofs.lemmas.Int.{to_z-of_z}
-use Rattle.lin_history.specs.Fields.{given_view}
+use Rattle.lin_history.specs.inner.Fields.{given_view}
 use Rattle.lin_history.specs.Table.{or_nil, parts_of}
 use Rattle.lin_history.proofs.usual.event_given.Goals as goal
 

@@ -1,7 +1,7 @@
 use Rattle.std.proofs.Common.{pos, rules, SFits, w64, subst, sym}
 use Rattle.std.proofs.lemmas.Int.{to_z-of_z}
 use Rattle.lin_history.specs.Table.{bare, or_nil}
-use Rattle.lin_history.specs.Usual.{AreParts}
+use Rattle.lin_history.specs.inner.Usual.{AreParts}
 use Rattle.lin_history.proofs.Usuals.{key_parts, whole_parts}
 use Rattle.lin_history.proofs.usual.key_alone.Goals as goal
 

@@ -1,6 +1,6 @@
 use Rattle.std.proofs.Common.{pos, [], ◌∷◌, ap, sym, subst, ◌∙◌}
 use Rattle.lin_edn.specs.View.{view}
-use Rattle.lin_history.specs.Usual.{AreParts}
+use Rattle.lin_history.specs.inner.Usual.{AreParts}
 use Rattle.lin_history.proofs.Usuals.{word_parts}
 use Rattle.lin_history.proofs.usual.parts_at.Goals as goal
 

@@ -1,6 +1,6 @@
 use Rattle.std.proofs.Common.{pos, [], ◌∷◌, ap, sym, subst, ◌∙◌}
-use Rattle.lin_history.specs.Fields.{value_of}
-use Rattle.lin_history.specs.Usual.{IsPlaced, AreParts}
+use Rattle.lin_history.specs.inner.Fields.{value_of}
+use Rattle.lin_history.specs.inner.Usual.{IsPlaced, AreParts}
 use Rattle.lin_history.proofs.Usuals.{word_parts}
 use Rattle.lin_history.proofs.usual.plain_parts.Goals as goal
 

@@ -2,8 +2,8 @@ use Rattle.std.proofs.Common.{codes, sym, subst, rules, SFits, w64}
 use Rattle.std.proofs.lemmas.Int.{to_z-of_z}
 use Rattle.lin_edn.specs.Run.{run_value}
 use Rattle.lin_history.specs.Table.{under}
-use Rattle.lin_history.specs.Fields.{value_of}
-use Rattle.lin_history.specs.Usual.{AreParts, IsPlaced, IsProcess}
+use Rattle.lin_history.specs.inner.Fields.{value_of}
+use Rattle.lin_history.specs.inner.Usual.{AreParts, IsPlaced, IsProcess}
 use Rattle.lin_history.proofs.Usuals.{usual_told, usual_named}
 use Rattle.lin_history.proofs.usual.usual_event.Goals as goal
 

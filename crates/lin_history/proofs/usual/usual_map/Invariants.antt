@@ -1,5 +1,5 @@
 use Rattle.std.proofs.Common.{◌-◌, ◌<◌, ◌≤◌}
-use Rattle.lin_history.specs.Usual.{IsUpTo}
+use Rattle.lin_history.specs.inner.Usual.{IsUpTo}
 use Rattle.lin_history.proofs.usual.usual_map.Given as goal
 
 abbrev pub invariant-loop-at : goal.invariant-loop-at

@@ -1,7 +1,7 @@
 use Rattle.std.proofs.Common.{rules, SFits, w64, subst, sym}
 use Rattle.std.proofs.lemmas.Int.{to_z-of_z}
 use Rattle.lin_edn.specs.Value.{nil}
-use Rattle.lin_history.specs.Usual.{AreParts}
+use Rattle.lin_history.specs.inner.Usual.{AreParts}
 use Rattle.lin_history.proofs.Usuals.{tells_same, valueless, valueless_parts}
 use Rattle.lin_history.proofs.usual.valueless_event.Goals as goal
 

@@ -2,7 +2,7 @@ use Rattle.std.proofs.Common.{◌≡◌, suc, ◌-◌, [], ◌∷◌, ◌++◌, 
 use Rattle.lin_edn.specs.Bytes.{closing}
 use Rattle.lin_edn.specs.Grammar.{Element, collection, Row, empty, element}
 use Rattle.lin_edn.specs.View.{view}
-use Rattle.lin_history.specs.Usual.{kind_of}
+use Rattle.lin_history.specs.inner.Usual.{kind_of}
 use Rattle.lin_history.proofs.Maps.{row_ends}
 use Rattle.lin_history.proofs.values.+value.Goals as goal
 

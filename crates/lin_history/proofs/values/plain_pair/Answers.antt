@@ -2,7 +2,7 @@ use Rattle.std.proofs.Common.{◌+◌, [], ◌∷◌, drop, sym, subst, rules, S
 use Rattle.std.proofs.lemmas.Int.{to_z-of_z}
 use Rattle.lin_edn.specs.Grammar.{Element, element}
 use Rattle.lin_edn.specs.Value.{int, vector, values_of}
-use Rattle.lin_history.specs.Fields.{value_of}
+use Rattle.lin_history.specs.inner.Fields.{value_of}
 use Rattle.lin_history.proofs.Maps.{two_in}
 use Rattle.lin_history.proofs.values.plain_pair.Goals as goal
 

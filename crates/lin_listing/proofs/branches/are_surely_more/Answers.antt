@@ -1,6 +1,6 @@
 use Rattle.std.proofs.Common.{◌≡◌, Contains, List, length, subst, ap, arith}
 use Rattle.std.proofs.lemmas.List.Elements.{All-contains}
-use Rattle.lin_listing.specs.Branches.{ArePicked, IsFree, IsUntold}
+use Rattle.lin_listing.specs.inner.Branches.{ArePicked, IsFree, IsUntold}
 use Rattle.lin_frontier.specs.declared.pending.Open.{Open}
 use Rattle.lin_members.specs.Rounds.{joined}
 use Rattle.lin_listing.proofs.Branched.{ahead_or_behind, each_or_not}

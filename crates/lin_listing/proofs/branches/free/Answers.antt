@@ -1,6 +1,6 @@
 use Rattle.std.proofs.Common.{ap, ◌∙◌, arith}
 use Rattle.std.proofs.lemmas.Grind.{common_steps}
-use Rattle.lin_listing.specs.Branches.{IsFree}
+use Rattle.lin_listing.specs.inner.Branches.{IsFree}
 use Rattle.lin_listing.proofs.Branched.{picked_in, picked_out}
 use Rattle.lin_listing.proofs.branches.free.Goals.{then-is_free+in_ok-push, else-is_free}
 use Rattle.lin_listing.proofs.branches.free.Goals as goal

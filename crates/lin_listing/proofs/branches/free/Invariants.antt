@@ -1,5 +1,5 @@
 use Rattle.std.proofs.Common.{take}
-use Rattle.lin_listing.specs.Branches.{ArePicked, IsFree}
+use Rattle.lin_listing.specs.inner.Branches.{ArePicked, IsFree}
 use Rattle.lin_listing.proofs.branches.free.Given as goal
 
 abbrev pub invariant-loop-operation : goal.invariant-loop-operation

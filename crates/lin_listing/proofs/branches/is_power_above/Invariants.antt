@@ -1,5 +1,5 @@
 use Rattle.std.proofs.Common.{◌≤◌}
-use Rattle.lin_listing.specs.Branches.{power}
+use Rattle.lin_listing.specs.inner.Branches.{power}
 use Rattle.lin_listing.proofs.branches.is_power_above.Given as goal
 
 abbrev pub invariant-loop : goal.invariant-loop

@@ -1,7 +1,7 @@
 use Rattle.std.proofs.Common.{◌≢◌, AllPairs, subst, sym, ap, ◌∙◌, arith}
 use Rattle.std.proofs.lemmas.Grind.{common_steps}
 use Rattle.lin_frontier.specs.declared.pending.Open.{Open}
-use Rattle.lin_listing.specs.Branches.{IsUntold}
+use Rattle.lin_listing.specs.inner.Branches.{IsUntold}
 use Rattle.lin_listing.proofs.Branched.{differ_push, picked_in, picked_out}
 use Rattle.lin_listing.proofs.branches.untold.Goals.{then-is_untold+then-is_new+in_ok-push, else-is_untold}
 use Rattle.lin_listing.proofs.branches.untold.Goals as goal

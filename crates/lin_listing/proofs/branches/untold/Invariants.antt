@@ -1,5 +1,5 @@
 use Rattle.std.proofs.Common.{◌≢◌, AllPairs, take}
-use Rattle.lin_listing.specs.Branches.{ArePicked, IsUntold}
+use Rattle.lin_listing.specs.inner.Branches.{ArePicked, IsUntold}
 use Rattle.lin_listing.proofs.branches.untold.Given as goal
 
 abbrev pub invariant-loop-operation : goal.invariant-loop-operation

@@ -1,5 +1,5 @@
 use Rattle.std.proofs.Common.{◌≡◌, take}
-use Rattle.lin_listing.specs.Branches.{ArePicked}
+use Rattle.lin_listing.specs.inner.Branches.{ArePicked}
 use Rattle.lin_listing.proofs.branches.with_call.Given as goal
 
 abbrev pub invariant-loop-operation : goal.invariant-loop-operation

@@ -1,6 +1,6 @@
 use Rattle.std.proofs.Common.{sym, subst, ◌∙◌}
 use Rattle.lin_events.specs.Replies.{reply_Decides}
-use Rattle.lin_objects.specs.OnlySteps.{IsOnlyStep}
+use Rattle.lin_objects.specs.inner.OnlySteps.{IsOnlyStep}
 use Rattle.lin_objects.specs.Steps.{Step}
 use Rattle.lin_objects.proofs.any.only_next.Goals as goal
 

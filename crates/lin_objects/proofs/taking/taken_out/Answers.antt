@@ -4,7 +4,7 @@ use Rattle.std.specs.Prelude.{slice_get}
 use Rattle.std.proofs.lemmas.Int.{to_z-of_z}
 use Rattle.std.proofs.lemmas.Option.{slice_get-get_or}
 use mir.Syntax.{w64}
-use Rattle.lin_objects.specs.Taking.{IsAgainAt, IsFirstAt}
+use Rattle.lin_objects.specs.inner.Taking.{IsAgainAt, IsFirstAt}
 use Rattle.lin_objects.specs.Bags.{without_one}
 use Rattle.lin_objects.specs.declared.states.State.{State}
 use Rattle.lin_objects.specs.lemmas.Bags.{first_taken}

@@ -1,5 +1,5 @@
 use Rattle.std.proofs.Common.{All, take}
-use Rattle.lin_order.specs.Checking.{HoldsLeftOf}
+use Rattle.lin_order.specs.inner.Checking.{HoldsLeftOf}
 use Rattle.lin_order.proofs.refutations.holds_all_left.Given as goal
 
 abbrev pub invariant-loop-config : goal.invariant-loop-config

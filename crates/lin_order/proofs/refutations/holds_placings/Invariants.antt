@@ -1,5 +1,5 @@
 use Rattle.std.proofs.Common.{All, take}
-use Rattle.lin_order.specs.Checking.{HoldsPlacing}
+use Rattle.lin_order.specs.inner.Checking.{HoldsPlacing}
 use Rattle.lin_order.proofs.refutations.holds_placings.Given as goal
 
 abbrev pub invariant-loop-at : goal.invariant-loop-at

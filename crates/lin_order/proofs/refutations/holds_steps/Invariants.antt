@@ -1,6 +1,6 @@
 use Rattle.std.proofs.Common.{vec_len}
 use Rattle.lin_objects.specs.Steps.{Step}
-use Rattle.lin_order.specs.Checking.{HoldsWith}
+use Rattle.lin_order.specs.inner.Checking.{HoldsWith}
 use Rattle.lin_order.proofs.Carrying.{IsTaken}
 use Rattle.lin_order.proofs.refutations.holds_steps.Given as goal
 

@@ -1,5 +1,5 @@
 use Rattle.std.proofs.Common.{◌+◌, sym, subst, take, arith}
-use Rattle.lin_order.specs.Checking.{AreOpen}
+use Rattle.lin_order.specs.inner.Checking.{AreOpen}
 use Rattle.lin_order.specs.Refutations.{lists_of}
 use Rattle.lin_orders.specs.lemmas.Lists.{yes_since, no_since}
 use Rattle.lin_order.proofs.Opening.{none_open}

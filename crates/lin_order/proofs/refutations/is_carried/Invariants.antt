@@ -1,5 +1,5 @@
 use Rattle.std.proofs.Common.{take}
-use Rattle.lin_order.specs.Checking.{AreOpen}
+use Rattle.lin_order.specs.inner.Checking.{AreOpen}
 use Rattle.lin_order.specs.Refutations.{lists_of}
 use Rattle.lin_order.proofs.Sets.{IsCarriedTo}
 use Rattle.lin_order.proofs.refutations.is_carried.Given as goal

@@ -1,6 +1,6 @@
 use Rattle.std.proofs.Common.{All, ◌<◌, length}
 use Rattle.lin_order.specs.Refutations.{Config}
-use Rattle.lin_order.specs.Checking.{HoldsPlacing}
+use Rattle.lin_order.specs.inner.Checking.{HoldsPlacing}
 use Rattle.lin_orders.specs.lemmas.Lists.{yes_since, no_since}
 use Rattle.lin_lists.specs.lemmas.Elements.{all_of}
 use Rattle.lin_orders.specs.lemmas.Each.{all_more, at_end, contains_here}

@@ -1,6 +1,6 @@
 use Rattle.std.proofs.Common.{All, take}
 use Rattle.lin_order.specs.Refutations.{Config}
-use Rattle.lin_order.specs.Checking.{HoldsPlacing}
+use Rattle.lin_order.specs.inner.Checking.{HoldsPlacing}
 use Rattle.lin_order.proofs.refutations.is_closed.Given as goal
 
 abbrev pub invariant-loop-config : goal.invariant-loop-config

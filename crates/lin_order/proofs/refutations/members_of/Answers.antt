@@ -3,7 +3,7 @@ use Rattle.std.specs.Cmp.{decided}
 use Rattle.std.specs.HashSet as bag
 use Rattle.std.proofs.lemmas.Map.Views.{hash_set_contains_iff}
 use Rattle.lin_order.specs.Refutations.{Config}
-use Rattle.lin_order.specs.Checking.{AreSame}
+use Rattle.lin_order.specs.inner.Checking.{AreSame}
 use Rattle.lin_orders.specs.Sameness.{config_eq, config_Decides}
 use Rattle.lin_orders.specs.lemmas.Lists.{take_more}
 use Rattle.lin_orders.specs.lemmas.Each.{at_end}

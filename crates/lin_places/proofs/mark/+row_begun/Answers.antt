@@ -2,7 +2,7 @@ use Rattle.std.proofs.Common.{◌≡◌, ◌+◌, ◌<◌, ◌≤◌, ℕ, lengt
 use Rattle.std.proofs.lemmas.Result.{IfOk-weaker}
 use Rattle.lin_edn.specs.Value.{Value, values_of}
 use Rattle.lin_edn.specs.View.{view}
-use Rattle.lin_places.specs.Marks.{IsStanding}
+use Rattle.lin_places.specs.inner.Marks.{IsStanding}
 use Rattle.lin_places.specs.Places.{row_of}
 use Rattle.lin_places.proofs.Rows.{standing_behind, standing_row}
 use Rattle.lin_places.proofs.mark.+row_begun.Goals as goal

@@ -1,7 +1,7 @@
 use Rattle.std.proofs.Common.{◌+◌, ◌≤◌, ℕ, [], map, sym, subst, ap, ◌∙◌, arith}
 use Rattle.lin_edn.specs.Value.{values_of}
 use Rattle.lin_edn.specs.View.{view}
-use Rattle.lin_places.specs.Marks.{IsAmong}
+use Rattle.lin_places.specs.inner.Marks.{IsAmong}
 use Rattle.lin_places.specs.Places.{place_at}
 use Rattle.lin_places.proofs.Telling.{told_row}
 use Rattle.lin_places.proofs.Marking.{standing, marked_from, lone_sound, lone_unsound, marked_sound, marked_bad, put_of, among_ends}

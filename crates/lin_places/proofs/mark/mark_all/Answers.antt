@@ -3,7 +3,7 @@ use Rattle.std.proofs.lemmas.Result.{err_from_is_err_and}
 use Rattle.lin_edn.specs.Value.{Value, values_of}
 use Rattle.lin_edn.specs.View.{view}
 use Rattle.lin_history.specs.Stream.{told_by}
-use Rattle.lin_places.specs.Marks.{IsAmong, IsSound, IsUnsound}
+use Rattle.lin_places.specs.inner.Marks.{IsAmong, IsSound, IsUnsound}
 use Rattle.lin_places.specs.Places.{place_at}
 use Rattle.lin_places.proofs.Marking.{put_again, put_of, took, all_items, among_item, among_ends, marked_sound, marked_bad, sound_next, sound_later, unsound_next}
 use Rattle.lin_places.proofs.mark.mark_all.Goals as goal

@@ -2,7 +2,7 @@ use Rattle.std.proofs.Common.{map, take, drop}
 use Rattle.lin_edn.specs.Value.{values_of}
 use Rattle.lin_edn.specs.View.{view}
 use Rattle.lin_history.specs.Stream.{told_by}
-use Rattle.lin_places.specs.Marks.{Fits, IsAmong, IsPutBehind, IsSound}
+use Rattle.lin_places.specs.inner.Marks.{Fits, IsAmong, IsPutBehind, IsSound}
 use Rattle.lin_places.proofs.mark.mark_all.Given as goal
 
 abbrev pub invariant-loop-item : goal.invariant-loop-item

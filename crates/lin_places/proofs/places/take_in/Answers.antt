@@ -1,5 +1,5 @@
 use Rattle.std.proofs.Common.{ℕ, List, ◌++◌, subst, arith, ◌∙◌}
-use Rattle.lin_places.specs.Marks.{IsResting}
+use Rattle.lin_places.specs.inner.Marks.{IsResting}
 use Rattle.lin_places.proofs.Feeding.{ends_resting}
 use Rattle.lin_places.proofs.places.take_in.Goals as goal
 

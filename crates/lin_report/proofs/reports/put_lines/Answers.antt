@@ -1,6 +1,6 @@
 use Rattle.std.proofs.Common.{◌≡◌, ◌∷◌, ◌∙◌, [], ap, length, pos, rules, slice_index_or, subst, sym, to_z, of_z, w64}
 use Rattle.std.proofs.lemmas.Int.{to_z-of_z}
-use Rattle.lin_session.specs.Sessions.{AreKeys}
+use Rattle.lin_session.specs.Keys.{AreKeys}
 use Rattle.lin_report.proofs.OneObject.{one_listed}
 use Rattle.lin_report.proofs.reports.put_lines.Goals as goal
 

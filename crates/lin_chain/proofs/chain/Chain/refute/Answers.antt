@@ -1,7 +1,7 @@
 use Rattle.std.proofs.Common.{◌∙◌, Ok, ℕ, ap, arith, subst, take}
 use Rattle.lin_objects.specs.Steps.{Step, start}
 use Rattle.lin_orders.specs.Parts.{events_at}
-use Rattle.lin_frontier.specs.Frontiers.{IsOver}
+use Rattle.lin_orders.specs.Configurations.{IsOver}
 use Rattle.lin_chain.specs.Chains.{Stands}
 use Rattle.lin_chain.proofs.Chaining.{length-events_at}
 use Rattle.lin_chain.proofs.chain.Chain.refute.Goals as goal

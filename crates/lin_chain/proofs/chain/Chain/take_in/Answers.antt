@@ -3,7 +3,7 @@ use Rattle.std.proofs.lemmas.Option.{slice_get_within}
 use Rattle.lin_events.specs.declared.numbers.OutOfMemory.{OutOfMemory}
 use Rattle.lin_events.specs.Operations.{IsEvent}
 use Rattle.lin_objects.specs.Steps.{Step, start}
-use Rattle.lin_frontier.specs.Frontiers.{IsOver}
+use Rattle.lin_orders.specs.Configurations.{IsOver}
 use Rattle.lin_chain.specs.declared.chain.End.TheVariants.{Dead, Over}
 use Rattle.lin_chain.specs.declared.replay.Replay.{Replay}
 use Rattle.lin_chain.specs.declared.replay.Taken.{Taken}

@@ -4,7 +4,8 @@ use Rattle.lin_events.specs.declared.events.Event.{Event}
 use Rattle.lin_events.specs.Operations.{IsEvent}
 use Rattle.lin_events.specs.WellFormed.{IsWellFormed}
 use Rattle.lin_objects.specs.Steps.{Step, start}
-use Rattle.lin_frontier.specs.Frontiers.{IsFrontier, IsNextEvent, IsOver, IsPending}
+use Rattle.lin_frontier.specs.Frontiers.{IsFrontier, IsNextEvent, IsPending}
+use Rattle.lin_orders.specs.Configurations.{IsOver}
 use Rattle.lin_chain.specs.Exact.{IsExact}
 use Rattle.lin_orders.specs.Linearizable.{IsLinearizableAs}
 use Rattle.lin_chain.proofs.Replaying.{next_event, event_taken}

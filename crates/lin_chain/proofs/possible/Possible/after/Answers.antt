@@ -2,7 +2,7 @@ use Rattle.std.proofs.Common.{◌+◌, Ok, arith, sym, subst, take, ap, ◌∙�
 use Rattle.lin_events.specs.Operations.{IsEvent}
 use Rattle.lin_objects.specs.Steps.{Step, start}
 use Rattle.lin_orders.specs.Parts.{events_at}
-use Rattle.lin_frontier.specs.Frontiers.{IsOver}
+use Rattle.lin_orders.specs.Configurations.{IsOver}
 use Rattle.lin_orders.specs.Linearizable.{IsLinearizableAs}
 use Rattle.lin_chain.specs.Exact.{IsExact}
 use Rattle.lin_chain.proofs.Chaining.{event_there, length-events_at}

@@ -1,6 +1,6 @@
 use Rattle.std.proofs.Common.{◌≡◌, ◌≤◌, ◌∙◌, sym, subst}
 use Rattle.std.proofs.lemmas.List.{take_all}
-use Rattle.lin_chain.specs.Gathering.{IsGathered}
+use Rattle.lin_chain.specs.inner.Gathering.{IsGathered}
 use Rattle.lin_chain.proofs.Showing.{Config, all_end, all_events, gathered_next, states_shown, taken_put}
 use Rattle.lin_chain.proofs.possible.Possible.states.Goals as goal
 

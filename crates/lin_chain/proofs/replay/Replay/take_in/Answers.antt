@@ -5,7 +5,8 @@ use Rattle.lin_events.specs.declared.events.Event.{Event}
 use Rattle.lin_events.specs.Operations.{IsEvent}
 use Rattle.lin_events.specs.WellFormed.{IsWellFormed}
 use Rattle.lin_objects.specs.Steps.{Step, start}
-use Rattle.lin_frontier.specs.Frontiers.{IsNextEvent, IsOver}
+use Rattle.lin_frontier.specs.Frontiers.{IsNextEvent}
+use Rattle.lin_orders.specs.Configurations.{IsOver}
 use Rattle.lin_chain.specs.Replays.{IsCurrent, IsKnown, IsPrepared, IsReplay}
 use Rattle.lin_orders.specs.Linearizable.{IsLinearizableAs}
 use Rattle.lin_chain.proofs.Replaying.{next_event, event_taken, replay_advanced, replay_renamed}

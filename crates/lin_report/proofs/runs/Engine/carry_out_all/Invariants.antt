@@ -1,7 +1,7 @@
 use Rattle.std.proofs.Common.{◌≡◌, ◌≤◌, ◌^◌, ℕ, List, length}
 use Rattle.std.specs.Io.KnownBytes.{Consumes}
 use Rattle.lin_formats.specs.Devices.{device_of, failures_of}
-use Rattle.lin_report.specs.Engines.{IsUnderWay}
+use Rattle.lin_report.specs.inner.Engines.{IsUnderWay}
 use Rattle.lin_report.specs.Runs.{start_of}
 use Rattle.lin_report.proofs.runs.Engine.carry_out_all.Given as goal
 

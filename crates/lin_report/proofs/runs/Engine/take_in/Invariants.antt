@@ -1,6 +1,6 @@
 use Rattle.std.proofs.Common.{◌≡◌, ◌≤◌, ◌-◌, ◌++◌, ℕ, List, Option, length, take}
 use Rattle.lin_formats.specs.Devices.{device_of, failures_of}
-use Rattle.lin_report.specs.Engines.{IsUnderWay}
+use Rattle.lin_report.specs.inner.Engines.{IsUnderWay}
 use Rattle.lin_report.specs.Runs.{RunState}
 use Rattle.lin_report.proofs.runs.Engine.take_in.Given as goal
 

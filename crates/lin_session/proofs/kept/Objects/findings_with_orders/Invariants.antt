@@ -1,6 +1,6 @@
 use Rattle.std.proofs.Common.{take}
 use Rattle.lin_objects.specs.Kinds.{kind_of}
-use Rattle.lin_session.specs.Judgements.{AreFound}
+use Rattle.lin_session.specs.inner.Judgements.{AreFound}
 use Rattle.lin_session.proofs.kept.Objects.findings_with_orders.Given as goal
 
 abbrev pub invariant-loop-i : goal.invariant-loop-i

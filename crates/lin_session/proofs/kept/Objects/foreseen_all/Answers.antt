@@ -2,7 +2,7 @@ use Rattle.std.proofs.Common.{◌≡◌, ◌<◌, ℤ, pos, Some, length, slice_
 use Rattle.std.proofs.lemmas.List.{take_all}
 use Rattle.std.proofs.lemmas.Option.{slice_get-get_or}
 use Rattle.lin_objects.specs.Kinds.{kind_of}
-use Rattle.lin_session.specs.Judgements.{AreFound}
+use Rattle.lin_session.specs.inner.Judgements.{AreFound}
 use Rattle.lin_session.proofs.Wholes.{AreFound-next, AreFound-none}
 use Rattle.lin_session.proofs.kept.Objects.foreseen_all.Goals as goal
 

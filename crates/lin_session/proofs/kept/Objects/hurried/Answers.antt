@@ -1,7 +1,7 @@
 use Rattle.std.proofs.Common.{◌≤◌, ◌+◌, ℕ, ap, ◌∙◌, arith}
 use Rattle.std.proofs.lemmas.Result.{on_ok_weaker}
 use Rattle.lin_objects.specs.Kinds.{kind_of}
-use Rattle.lin_session.specs.Costs.{AreSettled, IsCost}
+use Rattle.lin_session.specs.inner.Costs.{AreSettled, IsCost}
 use Rattle.lin_session.specs.Marks.{IsNothingDue}
 use Rattle.lin_session.specs.Objects.{AreRight, marks_in}
 use Rattle.lin_session.specs.Work.{cost_in}

@@ -2,9 +2,9 @@ use Rattle.std.proofs.Common.{◌≡◌, ◌<◌, inl, inr, ℤ, pos, Some, leng
 use Rattle.std.proofs.lemmas.Bool.{cases_order}
 use Rattle.std.proofs.lemmas.List.{take_all}
 use Rattle.std.proofs.lemmas.Option.{slice_get-get_or, slice_get_within}
-use Rattle.lin_session.specs.Judgements.{AreFound}
+use Rattle.lin_session.specs.inner.Judgements.{AreFound}
 use Rattle.lin_session.specs.declared.kept.Object.{Object}
-use Rattle.lin_session.specs.Costs.{cost_of_all, IsSettled}
+use Rattle.lin_session.specs.inner.Costs.{cost_of_all, IsSettled}
 use Rattle.lin_session.proofs.Costing.{cost-next, cost-first}
 use Rattle.lin_session.proofs.Found.{not_ok}
 use Rattle.lin_lists.specs.lemmas.Taken.{element_at, All-at}

@@ -3,9 +3,9 @@ use Rattle.lin_events.specs.WellFormed.{IsWellFormed}
 use Rattle.lin_objects.specs.declared.kinds.Kind.{Kind}
 use Rattle.lin_objects.specs.Kinds.{functions_of}
 use Rattle.lin_session.specs.declared.kept.Object.{Object}
-use Rattle.lin_session.specs.Costs.{IsJudged, cost_of_all}
+use Rattle.lin_session.specs.inner.Costs.{IsJudged, cost_of_all}
 use Rattle.lin_session.specs.Work.{AreSameMarks}
-use Rattle.lin_session.specs.Judgements.{AreFound, IsAlive}
+use Rattle.lin_session.specs.inner.Judgements.{AreFound, IsAlive}
 use Rattle.lin_session.specs.Objects.{AreRight, marks_in, split_in}
 use Rattle.lin_session.proofs.kept.Objects.judge_all.Given as goal
 

@@ -5,8 +5,8 @@ use Rattle.lin_orders.specs.Parts.{events_at, part}
 use Rattle.lin_chain.specs.Chains.{end_in, end_under, kind_in}
 use Rattle.lin_chain.specs.Ends.{IsEndOf}
 use Rattle.lin_session.specs.Objects.{AreRight, IsObject, Finds}
-use Rattle.lin_session.specs.Costs.{cost_of, IsJudged, IsSettled}
-use Rattle.lin_session.specs.Judgements.{IsAlive}
+use Rattle.lin_session.specs.inner.Costs.{cost_of, IsJudged, IsSettled}
+use Rattle.lin_session.specs.inner.Judgements.{IsAlive}
 use Rattle.lin_session.proofs.Advancing.{after, fine_there, inside, marks_stay, object_there, one_object, others_stay, right_there, spelled_length}
 use Rattle.lin_session.proofs.Asking.{IsPlaceIn-end, spelled, finding_of, finds_alive}
 use Rattle.lin_session.proofs.Marking.{stays_over}

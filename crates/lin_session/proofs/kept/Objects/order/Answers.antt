@@ -4,7 +4,7 @@ use Rattle.std.proofs.lemmas.Result.{IfOk-weaker}
 use Rattle.std.proofs.lemmas.Option.{IfSome_then}
 use Rattle.lin_objects.specs.Kinds.{kind_of}
 use Rattle.lin_session.specs.declared.answers.Scope.TheVariants as scope
-use Rattle.lin_session.specs.Judgements.{AreAlive, IsOrderFor}
+use Rattle.lin_session.specs.inner.Judgements.{AreAlive, IsOrderFor}
 use Rattle.lin_session.proofs.kept.Objects.order.Goals as goal
 use Rattle.lin_session.proofs.kept.Objects.order.Goals.{In-Object}
 

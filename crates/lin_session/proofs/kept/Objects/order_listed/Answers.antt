@@ -2,7 +2,7 @@ use Rattle.std.proofs.Common.{◌≡◌, ◌≢◌, None, subst}
 use Rattle.std.proofs.lemmas.Result.{IfOk-weaker}
 use Rattle.std.proofs.lemmas.Option.{IfSome_then}
 use Rattle.lin_objects.specs.Kinds.{kind_of}
-use Rattle.lin_session.specs.Judgements.{IsAlive}
+use Rattle.lin_session.specs.inner.Judgements.{IsAlive}
 use Rattle.lin_session.proofs.Advancing.{object_there, one_object, right_there, spelled_length}
 use Rattle.lin_session.proofs.Asking.{order_told}
 use Rattle.lin_session.proofs.kept.Objects.order_listed.Goals as goal

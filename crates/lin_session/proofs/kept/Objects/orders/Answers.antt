@@ -8,7 +8,7 @@ use Rattle.lin_objects.specs.Kinds.{kind_of}
 use Rattle.lin_orders.specs.declared.placed.Placed.{Placed}
 use Rattle.lin_orders.specs.Linearizable.{IsLegalOrderFor}
 use Rattle.lin_orders.specs.Merging.{lists_of}
-use Rattle.lin_session.specs.Judgements.{IsAlive}
+use Rattle.lin_session.specs.inner.Judgements.{IsAlive}
 use Rattle.lin_lists.specs.lemmas.Taken.{All-at, element_at, zip_push}
 use Rattle.lin_session.proofs.kept.Objects.orders.Goals as goal
 

@@ -1,7 +1,7 @@
 use Rattle.std.proofs.Common.{◌∙◌, subst, w64, rules}
 use Rattle.std.proofs.lemmas.Int.{to_z-of_z}
 use Rattle.lin_objects.specs.Kinds.{kind_of}
-use Rattle.lin_session.specs.Costs.{AreJudged}
+use Rattle.lin_session.specs.inner.Costs.{AreJudged}
 use Rattle.lin_session.proofs.kept.Objects.reconsidered.Goals as goal
 
 pub object_with_order-requires-clause-judged : goal.object_with_order-requires-clause-judged

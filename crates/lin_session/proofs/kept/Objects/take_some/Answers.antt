@@ -3,7 +3,7 @@ use Rattle.std.proofs.lemmas.Int.{to_z-of_z}
 use Rattle.std.proofs.lemmas.Option.{same_Some, slice_get_within}
 use Rattle.std.proofs.lemmas.Result.{on_ok_weaker}
 use Rattle.lin_session.specs.declared.answers.Scope.TheVariants as scope
-use Rattle.lin_session.specs.Costs.{AreSettled, IsCost, cost_of, cost_of_all}
+use Rattle.lin_session.specs.inner.Costs.{AreSettled, IsCost, cost_of, cost_of_all}
 use Rattle.lin_lists.specs.lemmas.Taken.{element_at, one_place, there_at}
 use Rattle.lin_session.specs.declared.kept.Object.{Object}
 use Rattle.lin_session.proofs.kept.Objects.take_some.Goals as goal

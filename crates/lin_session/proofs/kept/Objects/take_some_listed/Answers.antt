@@ -1,7 +1,7 @@
 use Rattle.std.proofs.Common.{◌≡◌, ◌∙◌, sym, ap, subst, arith}
 use Rattle.lin_chain.specs.declared.chain.End.TheVariants.{Alive, Over}
 use Rattle.lin_chain.specs.Chains.{end_under}
-use Rattle.lin_session.specs.Costs.{cost_of, IsSettled}
+use Rattle.lin_session.specs.inner.Costs.{cost_of, IsSettled}
 use Rattle.lin_session.proofs.Advancing.{after, cost-set, fine_there, inside, marks_stay, object_set, old_at, one_object, others_stay, right_there}
 use Rattle.lin_session.proofs.Found.{not_ok}
 use Rattle.lin_session.proofs.kept.Objects.take_some_listed.Goals as goal

@@ -1,6 +1,6 @@
 use Rattle.std.proofs.Common.{◌≡◌, ◌<◌, Some, length, slice_get, ap, ◌∙◌, arith}
 use Rattle.lin_session.specs.declared.kept.Object.{Object}
-use Rattle.lin_session.specs.Costs.{IsSettled}
+use Rattle.lin_session.specs.inner.Costs.{IsSettled}
 use Rattle.lin_session.proofs.Advancing.{cost-within}
 use Rattle.lin_session.proofs.Found.{not_ok}
 use Rattle.lin_lists.specs.lemmas.Taken.{All-at, element_at}

@@ -4,7 +4,7 @@ use Rattle.std.proofs.lemmas.Result.{IfOk-weaker}
 use Rattle.lin_events.specs.WellFormed.{IsWellFormed}
 use Rattle.lin_objects.specs.Kinds.{functions_of, kind_of}
 use Rattle.lin_session.specs.Answers.{kinds_in}
-use Rattle.lin_session.specs.Judgements.{IsOrderFor}
+use Rattle.lin_session.specs.inner.Judgements.{IsOrderFor}
 use Rattle.lin_session.specs.Objects.{AreRight}
 use Rattle.lin_session.specs.Sessions.{Standing}
 use Rattle.lin_session.proofs.session.Session.found_order.Goals as goal

@@ -3,7 +3,7 @@ use Rattle.lin_events.specs.WellFormed.{IsWellFormed}
 use Rattle.lin_objects.specs.Kinds.{functions_of}
 use Rattle.lin_session.specs.Answers.{IsVerdict, kinds_in}
 use Rattle.lin_session.specs.Edits.{Present}
-use Rattle.lin_session.specs.Judgements.{IsOrderFor}
+use Rattle.lin_session.specs.inner.Judgements.{IsOrderFor}
 use Rattle.lin_session.proofs.Scopes.{IsAnswer-yes}
 use Rattle.lin_session.proofs.session.Session.order.Goals as goal
 use Rattle.lin_session.proofs.session.Session.order.Goals.{In-Yes}

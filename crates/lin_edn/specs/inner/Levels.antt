@@ -4,7 +4,7 @@ use Rattle.lin_edn.specs.Bytes.{Kind, a_list, a_vector, a_set, a_map}
 use Rattle.lin_edn.specs.Value.{Value}
 use Rattle.lin_edn.specs.View.{view, entry_view}
 use Rattle.lin_edn.specs.Grammar.{Frame, frame, discarding, tagging}
-use Rattle.lin_edn.specs.Machine.{Turn, go, stop, between, complete}
+use Rattle.lin_edn.specs.inner.Machine.{Turn, go, stop, between, complete}
 use Rattle.lin_edn.specs.declared.levels.Frame.{Frame as CodeFrame}
 use Rattle.lin_edn.specs.declared.levels.Frame.TheVariants.{Elements, Entries, Tag, Discard}
 use Rattle.lin_edn.specs.declared.levels.Sequence.{Sequence}

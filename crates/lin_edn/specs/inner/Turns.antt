@@ -2,7 +2,7 @@
 use Rattle.std.specs.Prelude.{◌≡◌, ℕ, ◌+◌, List, Result, Ok, Err, ◌≤◌}
 use Rattle.std.specs.List.{slice_range}
 use Rattle.lin_edn.specs.Grammar.{Frame}
-use Rattle.lin_edn.specs.Machine.{Mode, between, in_run, after_hash, after_backslash, in_tag, in_text, in_escape, in_comment, Turn, go, stop, Answer, complete, blank, partial, fault, too_long}
+use Rattle.lin_edn.specs.inner.Machine.{Mode, between, in_run, after_hash, after_backslash, in_tag, in_text, in_escape, in_comment, Turn, go, stop, Answer, complete, blank, partial, fault, too_long}
 use Rattle.lin_edn.specs.View.{view}
 use Rattle.lin_edn.specs.declared.EdnCause.{EdnCause}
 use Rattle.lin_edn.specs.declared.EdnCause.TheVariants.{Unbalanced, OddMap, TooDeep, TooLong, OutOfMemory}

@@ -1,0 +1,2 @@
+pub mod OnlySteps
+pub mod Taking
