@@ -7,7 +7,8 @@ use Rattle.lin_edn.specs.Bytes.{Kind, a_list, a_vector, a_set, a_map, class, whi
 use Rattle.lin_edn.specs.Grammar.{one, Tag, IsTagAt, Opens, bracket, set_bracket, Blank, Blanks, no_blank, one_more, Element, Row, empty, blank, element}
 use Rattle.lin_edn.specs.Scans.{IsStopAt, is_dark}
 use Rattle.lin_edn.specs.Simple.{IsSimple, FindsSimple}
-use Rattle.lin_edn.specs.Skimming.{brackets, closes}
+use Rattle.lin_edn.specs.Skimming.{brackets}
+use Rattle.lin_edn.specs.inner.Skimming.{closes}
 use Rattle.lin_edn.specs.Value.{Value, made}
 use Rattle.lin_edn.proofs.Ahead.{along_to, lit, white_class}
 use Rattle.lin_edn.specs.lemmas.Rising.{tail_rises, blank_past, blanks_tail, element_past, tag_past}

@@ -5,7 +5,7 @@ use Rattle.lin_edn.specs.Bytes.{Kind, hash, behind, discards as discards_next, i
 use Rattle.lin_edn.specs.Grammar.{One, Tag, Opens, discards, Blank, discarded, Blanks, no_blank, one_more, Element, tagged_element, collection, Row, empty, blank, element, longest, Frame, frame, discarding, tagging, outermost}
 use Rattle.lin_edn.specs.inner.Machine.{Answer, complete, blank as blank_answer, partial, fault, too_long, run, between, put}
 use Rattle.lin_edn.specs.Rows.{IsElementAt, IsNoElementAt, levels_behind}
-use Rattle.lin_edn.specs.Scans.{waiting, IsWrapped, IsBehindTags, IsNoneBehindTags}
+use Rattle.lin_edn.specs.inner.Scans.{waiting, IsWrapped, IsBehindTags, IsNoneBehindTags}
 use Rattle.lin_edn.specs.Value.{Value, tagged, made}
 use Rattle.lin_edn.proofs.Back.{AfterOn, Keeps, holds, bound_here}
 use Rattle.lin_edn.proofs.Chains.{end_of}

@@ -5,7 +5,8 @@ use Rattle.lin_edn.specs.Bytes.{Kind, a_list, a_vector, a_set, a_map, class, ope
 use Rattle.lin_edn.specs.Grammar.{One, Opens, bracket, set_bracket, Element, collection, Row, empty, element}
 use Rattle.lin_edn.specs.Scans.{IsStopAt, is_dark}
 use Rattle.lin_edn.specs.Simple.{IsSimple, FindsSimple}
-use Rattle.lin_edn.specs.Skimming.{Shape, brackets, closes, grown}
+use Rattle.lin_edn.specs.Skimming.{Shape, brackets}
+use Rattle.lin_edn.specs.inner.Skimming.{closes, grown}
 use Rattle.lin_edn.specs.Value.{Value, made}
 use Rattle.lin_edn.proofs.Ahead.{at_byte, opens_map}
 use Rattle.lin_edn.proofs.Filling.{IsLeft, none_left_out, more_left, none_there, none_behind}

@@ -6,7 +6,8 @@ use Rattle.lin_edn.specs.Bytes.{Kind, closing, is_white}
 use Rattle.lin_edn.specs.Grammar.{Opens, Blanks, no_blank, Row, empty, blank, element, longest, ShortBlanks, Spells, IsTagAt, Frame, frame, tagging, Open, none_open, awaits, within}
 use Rattle.lin_edn.specs.inner.Machine.{run, between, complete, put}
 use Rattle.lin_edn.specs.Rows.{IsRow, IsRound, IsBehind, IsClosed, IsElementAt, IsAtNothing, bracket_of, value_in, IsBracketless, row_levels}
-use Rattle.lin_edn.specs.Scans.{IsStopAt, is_dark, IsWrapped, IsFound, waiting}
+use Rattle.lin_edn.specs.Scans.{IsStopAt, is_dark}
+use Rattle.lin_edn.specs.inner.Scans.{IsWrapped, IsFound, waiting}
 use Rattle.lin_edn.specs.Value.{Value, tagged, made}
 use Rattle.lin_edn.specs.View.{view}
 use Rattle.lin_edn.specs.declared.Edn.{Edn}

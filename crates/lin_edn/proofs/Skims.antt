@@ -6,7 +6,8 @@ use Rattle.lin_edn.specs.Grammar.{no_blank_yet, Open, none_open, Frame, frame, d
 use Rattle.lin_edn.specs.inner.Machine.{Mode, between, in_run, after_hash, after_backslash, in_tag, in_text, in_escape, in_comment, partial, blank, fault, too_long, Turn, go, stop, run, step, limited, ended, taken, begun, put, deeper, begins, goes_on, quotes, apart, close, closed, at_end}
 use Rattle.lin_edn.specs.Run.{run_value}
 use Rattle.lin_edn.specs.Rows.{IsRow, IsRound, bracket_of, row_levels}
-use Rattle.lin_edn.specs.Skimming.{Shape, brackets, a_discard, a_tag, shape_of, still, put_shape, with_part, apart_shape, ended_shape, deeper_shape, close_shape, begins_shape, goes_on_shape, quotes_shape, taken_shape, IsIn, LeavesOpen, HasSeen, HasGone, IsMoreOf, is_more_of, shapes_of, row_shapes, IsOpenText}
+use Rattle.lin_edn.specs.Skimming.{Shape, brackets, a_discard, a_tag, shape_of, IsIn, LeavesOpen, HasSeen, IsMoreOf, is_more_of, shapes_of, IsOpenText}
+use Rattle.lin_edn.specs.inner.Skimming.{still, put_shape, with_part, apart_shape, ended_shape, deeper_shape, close_shape, begins_shape, goes_on_shape, quotes_shape, taken_shape, HasGone, row_shapes}
 use Rattle.lin_edn.specs.Value.{Value, atom, text as a_text, tagged, made}
 use Rattle.lin_edn.specs.declared.EdnCause.TheVariants.{Unbalanced, TooDeep}
 use Rattle.lin_edn.specs.declared.series.Series.{Series}

@@ -3,7 +3,8 @@
 ghost use Rattle.std.specs.Prelude.{◌≡◌, ℕ, ◌+◌, ◌<◌, ◌≤◌, Bool, List, true, IfSome, IfNone, length, drop, slice_index};
 ghost use Rattle.lin_edn.specs.Bytes.{Kind};
 ghost use Rattle.lin_edn.specs.Grammar.{Element, Opens};
-ghost use Rattle.lin_edn.specs.Skimming.{brackets, grown, level_view};
+ghost use Rattle.lin_edn.specs.Skimming.{brackets, level_view};
+ghost use Rattle.lin_edn.specs.inner.Skimming.{grown};
 ghost use Rattle.lin_edn.specs.Simple.{FindsSimple};
 ghost use Rattle.lin_edn.specs.Value.{Value};
 

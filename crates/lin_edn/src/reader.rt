@@ -7,7 +7,7 @@ ghost use Rattle.lin_edn.specs.Grammar.{longest};
 ghost use Rattle.lin_edn.specs.Grammar as grammar;
 ghost use Rattle.lin_edn.specs.inner.Levels.{frame_view, frames_of, flat};
 ghost use Rattle.lin_edn.specs.inner.Machine as machine;
-ghost use Rattle.lin_edn.specs.Scans.{IsAhead};
+ghost use Rattle.lin_edn.specs.inner.Scans.{IsAhead};
 ghost use Rattle.lin_edn.specs.inner.Turns.{IsMove, IsEnding, IsBegun, mode_of, behind_of, Answers};
 ghost use Rattle.lin_edn.specs.Value as value;
 ghost use Rattle.lin_edn.specs.View.{view, entry_view};

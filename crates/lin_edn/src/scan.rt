@@ -2,7 +2,8 @@
 
 ghost use Rattle.std.specs.Prelude.{◌≡◌, ◌≤◌, length};
 ghost use Rattle.lin_edn.specs.Bytes as bytes;
-ghost use Rattle.lin_edn.specs.Scans.{IsStopAt, is_dark, is_quoting, is_inside};
+ghost use Rattle.lin_edn.specs.Scans.{IsStopAt, is_dark, is_quoting};
+ghost use Rattle.lin_edn.specs.inner.Scans.{is_inside};
 
 // The classes of the bytes: PLAIN begins a run, 1 is `#`, from WHITE on a byte stops a run.
 const PLAIN: u8 = 0;

@@ -6,7 +6,7 @@ ghost use Rattle.lin_edn.specs.Grammar.{longest, tagging, Opens, Row, ShortBlank
 ghost use Rattle.lin_edn.specs.inner.Levels.{frame_view, frames_of};
 ghost use Rattle.lin_edn.specs.inner.Machine.{Answer, complete};
 ghost use Rattle.lin_edn.specs.Rows.{IsRow, IsNext, IsBracketless, bracket_of, row_begun, row_end, row_levels};
-ghost use Rattle.lin_edn.specs.Scans.{IsFound, IsWrapped, waiting};
+ghost use Rattle.lin_edn.specs.inner.Scans.{IsFound, IsWrapped, waiting};
 ghost use Rattle.lin_edn.specs.inner.Turns.{Answers};
 ghost use Rattle.lin_edn.specs.Value.{Value, tagged};
 ghost use Rattle.lin_edn.specs.View.{view};

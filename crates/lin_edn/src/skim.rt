@@ -6,7 +6,9 @@ ghost use Rattle.lin_edn.specs.Grammar.{longest};
 ghost use Rattle.lin_edn.specs.Rows.{IsRow, bracket_of};
 ghost use Rattle.lin_edn.specs.Scans.{is_quoting};
 ghost use Rattle.lin_edn.specs.Skimming as skimming;
-ghost use Rattle.lin_edn.specs.Skimming.{HasSeen, HasGone, IsMoreOf, is_more_of, IsOpenText, shapes_of, level_view, row_shapes};
+ghost use Rattle.lin_edn.specs.inner.Skimming as skimming;
+ghost use Rattle.lin_edn.specs.Skimming.{HasSeen, IsMoreOf, is_more_of, IsOpenText, shapes_of, level_view};
+ghost use Rattle.lin_edn.specs.inner.Skimming.{HasGone, row_shapes};
 ghost use Rattle.lin_edn.specs.Value.{Value};
 ghost use Rattle.lin_edn.specs.declared.skim.Part.TheVariants as part;
 

@@ -4,3 +4,4 @@ pub mod SetConflicts
 pub mod QueueConflicts
 pub mod BagConflicts
 pub mod lemmas
+pub mod inner

@@ -5,7 +5,8 @@ ghost use Rattle.lin_events.specs.declared.calls.Call.{Call as CallOf};
 ghost use Rattle.lin_events.specs.declared.events.Body.TheVariants.{Invoke};
 ghost use Rattle.lin_objects.specs.declared.kinds.Kind.{Kind as KindOf};
 ghost use Rattle.lin_orders.specs.Orders.{IsCall};
-ghost use Rattle.lin_failures.specs.Conflicts.{Holds, IsBlock, IsRegister, IsShown, Leaves};
+ghost use Rattle.lin_failures.specs.Conflicts.{IsRegister, Leaves};
+ghost use Rattle.lin_failures.specs.inner.Conflicts.{Holds, IsBlock, IsShown};
 ghost use Rattle.lin_orders.specs.Linearizable.{IsLinearizableAs};
 
 use lin_events::{Body, Call, Event, Reply, Val};

@@ -3,7 +3,7 @@ use Rattle.std.proofs.Common.{◌≡◌, ℕ, ◌+◌, ◌<◌, ◌==◌, Bool, 
 use Rattle.std.proofs.lemmas.Bool.Decides.{nat_tests}
 use Rattle.lin_edn.specs.Grammar.{IsBlankText, nothing_more, no_blank_yet}
 use Rattle.lin_edn.specs.Skimming.{HasSeen, IsOpenText}
-use Rattle.lin_history.specs.Rests.{GoesOn}
+use Rattle.lin_history.specs.inner.Rests.{GoesOn}
 use Rattle.lin_history.specs.declared.follow.Rest.{Rest}
 use Rattle.lin_history.specs.Stream.{nothing, blank, unfinished}
 use Rattle.lin_history.specs.inner.Reads.{IsReadTo}

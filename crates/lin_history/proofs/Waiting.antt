@@ -6,7 +6,7 @@ use Rattle.lin_edn.specs.Rows.{IsBehind, row_begun, value_in}
 use Rattle.lin_history.specs.Table.{event}
 use Rattle.lin_history.specs.Stream.{Told, before, told, told_by, Gives, nothing, element}
 use Rattle.lin_history.specs.inner.Reads.{IsElement, IsReadTo, IsTold, IsToldOn}
-use Rattle.lin_history.specs.Rests.{IsWhole}
+use Rattle.lin_history.specs.inner.Rests.{IsWhole}
 use Rattle.lin_events.specs.declared.events.Event.{Event}
 use Rattle.lin_history.specs.declared.follow.Read.{Read}
 use Rattle.lin_history.specs.declared.follow.FollowFault.TheVariants as fault

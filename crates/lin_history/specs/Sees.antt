@@ -14,15 +14,6 @@ pub record Followed : Type 0 where
   pub passed : ℕ
   pub held : List ℕ
 
-abbrev pub keyed_of : Followed → Bool
-keyed_of f = f.keyed
-
-abbrev pub ready_of : Followed → List Event
-ready_of f = f.ready
-
-abbrev pub outcome_of : Followed → Result (Unit {0}) FollowFault
-outcome_of f = f.outcome
-
 -- an outcome behind which nothing is read
 abbrev pub is_fault : Result (Unit {0}) FollowFault → Bool
 is_fault (Ok _) = false

@@ -1,3 +1,4 @@
 pub mod Fields
 pub mod Reads
 pub mod Usual
+pub mod Rests

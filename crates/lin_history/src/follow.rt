@@ -7,7 +7,8 @@ ghost use Rattle.lin_edn.specs.Skimming.{IsOpenText};
 ghost use Rattle.lin_history.specs.Stream.{told, told_by, StreamsAreUnique};
 ghost use Rattle.lin_history.specs.Sees.{Sees, Takes, TakesAll, Feeds, StaysFaulty, FaultsStay, most};
 ghost use Rattle.lin_history.specs.inner.Reads.{IsTold, IsReadOn, IsReadTo, IsFront, IsStanding, IsRead};
-ghost use Rattle.lin_history.specs.Rests.{IsOpen, IsWhole, IsSeen, Knows, IsUnaware, GoesOn, IsReadHeld};
+ghost use Rattle.lin_history.specs.Rests.{IsOpen, IsSeen, Knows};
+ghost use Rattle.lin_history.specs.inner.Rests.{IsWhole, IsUnaware, GoesOn, IsReadHeld};
 ghost use Rattle.lin_events.specs.declared.events.Event.{Event as TheEvent};
 ghost use Rattle.lin_history.specs.declared.follow.FollowFault.{FollowFault as TheFault};
 

@@ -5,7 +5,8 @@ ghost use Rattle.lin_edn.specs.Value.{Value, values_of};
 ghost use Rattle.lin_edn.specs.View.{view};
 ghost use Rattle.lin_history.specs.Stream.{told_by};
 ghost use Rattle.lin_history.specs.inner.Reads.{IsTold, IsToldOn, IsPutBehind};
-ghost use Rattle.lin_history.specs.Rests.{told_of, IsOpen, IsWaiting, IsFar, IsWhole};
+ghost use Rattle.lin_history.specs.Rests.{told_of, IsOpen, IsWaiting};
+ghost use Rattle.lin_history.specs.inner.Rests.{IsFar, IsWhole};
 ghost use Rattle.lin_history.specs.Table.{event as told_in};
 ghost use Rattle.lin_history.specs.inner.Usual.{IsTaken, events_of};
 

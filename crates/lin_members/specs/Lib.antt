@@ -14,3 +14,4 @@ pub mod OverwrittenLaws
 pub mod Compressed
 pub mod Listed
 pub mod lemmas
+pub mod inner

@@ -1,5 +1,5 @@
 -- Searching the ways of members for a reply: words of private contracts. The operations are those that are open beside the one that completes.
-use Rattle.std.specs.Prelude.{◌≡◌, ◌≢◌, ◌⊎◌, ◌&&◌, ℕ, zero, suc, ◌+◌, ◌≤◌, Bool, true, false, not, nat_eq, List, [], ◌∷◌, ◌++◌, All, AllPairs, Contains, IsTrue, Option, Some, None, slice_get, filter, count_by}
+use Rattle.std.specs.Prelude.{◌≡◌, ◌≢◌, ◌⊎◌, ◌&&◌, ℕ, suc, ◌+◌, ◌≤◌, Bool, true, false, not, nat_eq, List, [], ◌∷◌, ◌++◌, All, AllPairs, Contains, IsTrue, Option, Some, None, slice_get, filter, count_by}
 use Rattle.std.specs.List.{list_any}
 use Rattle.lin_events.specs.declared.calls.Call.{Call}
 use Rattle.lin_events.specs.declared.calls.Name.{Name}
@@ -102,11 +102,6 @@ pub record IsPruned {S : Type 0} (observes : Call → Bool) (pending : List Open
   pub from : (m : Member S × Path) → Contains kept m → Contains members m
   pub covered : (m : Member S × Path) → Contains members m → (n : Member S × Path) × Contains kept n × IsAboveIn observes pending n m
   pub apart : AllPairs (λ m n. (IsAboveIn observes pending m n → ⊥) × (IsAboveIn observes pending n m → ⊥)) kept
-
--- what a number tells of a round: 0 none, and each other one the round before it
-abbrev pub round_at : ℕ → Option ℕ
-round_at zero = None
-round_at (suc round) = Some round
 
 -- the rounds with each of the entries, first to last, placed in its round, or behind all where it names none
 abbrev pub in_rounds : List (List Placed) → List (Placed × Option ℕ) → List (List Placed)
@@ -232,19 +227,6 @@ pub record IsVisiting {S : Type 0} (observes : Call → Bool) (pending : List Op
 pub record IsFinding {S : Type 0} (step : S → Call → S → Reply → Type 0) (observes : Call → Bool) (operation : Open) (reply : Reply) (pending : List Open) (nodes : List (ℕ × (Placed × Option ℕ))) (m : Member S × Path) (old now : List (Member S × Path)) : Type 0 where
   pub kept : (n : Member S × Path) → Contains old n → Contains now n
   pub sound : (n : Member S × Path) → Contains now n → Contains old n ⊎ IsCompleted step observes operation reply pending nodes m n
-
--- the steps by the call from the state, with their replies
-pub record AreSteps {S : Type 0} (step : S → Call → S → Reply → Type 0) (state : S) (call : Call) (steps : List (S × Reply)) : Type 0 where
-  pub sound : All (λ a. step state call a.0 a.1) steps
-  pub complete : (a : S × Reply) → step state call a.0 a.1 → Contains steps a
-
--- of the call that is known these are the steps
-abbrev pub Knows : {S : Type 0} → (S → Call → S → Reply → Type 0) → S → Option Call → List (S × Reply) → Type 0
-Knows step state known steps = (call : Call) → known ≡ Some call → AreSteps step state call steps
-
--- one of the steps has the reply, for the process
-abbrev pub Told : {S : Type 0} → ℕ → List (S × Reply) → ℕ × Reply → Type 0
-Told {S} process steps x = (x.0 ≡ process) × (next : S) × Contains steps (next, x.1)
 
 -- what is on offer behind the member
 abbrev pub AreBehind : {S : Type 0} → (S → Call → S → Reply → Type 0) → (Call → Bool) → List Open → Member S × Path → List (ℕ × (ℕ × Reply)) → Type 0

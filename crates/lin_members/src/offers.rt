@@ -1,7 +1,8 @@
 //! What is on offer: the replies that observers may still be given, each with a round whose state gave it.
 ghost use Rattle.std.specs.Prelude.{◌≡◌, ◌&&◌, ◌↔◌, nat_eq, not, IsTrue, IsFalse, true, [], ◌∷◌, ◌++◌, ℕ, IfOk, IfSome, IfNone, OnOk, Contains, Some, length};
 ghost use Rattle.lin_events.specs.declared.calls.Reply.{Reply as ReplyOf};
-ghost use Rattle.lin_members.specs.Searching.{is_observing as is_observing_in, is_watching as is_watching_in, watched as watched_of, AreSteps, GivesOne, GivesAny, IsOffering, Knows, Told};
+ghost use Rattle.lin_members.specs.Searching.{is_observing as is_observing_in, is_watching as is_watching_in, watched as watched_of, GivesOne, GivesAny, IsOffering};
+ghost use Rattle.lin_members.specs.inner.Searching.{AreSteps, Knows, Told};
 ghost use Rattle.lin_frontier.specs.Placing.{IsAbsent};
 ghost use Rattle.lin_frontier.specs.Walks.{IsTriedAtMost};
 

@@ -30,7 +30,7 @@ struct Link {
 impl Model for Link {
     ghost use Rattle.std.specs.Prelude.{ℕ, Option};
     ghost use Rattle.lin_orders.specs.declared.placed.Placed.{Placed as PlacedOf};
-    ghost use Rattle.lin_members.specs.Searching.{round_at};
+    ghost use Rattle.lin_members.specs.inner.Searching.{round_at};
 
     ghost Value = { ℕ × (PlacedOf × Option ℕ) };
 

@@ -65,9 +65,6 @@ same_number e = cc
 no_number : {y : ℤ} → Replied.Value Nil ≡ Replied.Value (Int y) → ⊥
 no_number e = cc
 
-same_bag : {p q : List ℤ} → Bagged p ≡ Bagged q → p ≡ q
-same_bag e = cc
-
 -- behind an enqueue the others do as ahead of it, where a number is inside for each dequeue
 behind_enqueue : (x : ℤ) (given : Reply) (others : List (ℕ × Call × Reply)) (q : List ℤ) (mid : State) → count_by (λ o. hinders Bag (Enqueue x) given o.1) others ≤ length q → Takes (Step Bag) (Bagged q) others mid
     → (m : List ℤ) × (mid ≡ Bagged m) × Takes (Step Bag) (Bagged (bag_of (x ∷ q))) others (Bagged (bag_of (x ∷ m)))

@@ -2,7 +2,7 @@
 use Rattle.std.proofs.Common.{◌≡◌, ◌<◌, ◌+◌, ℕ, max, List, [], ◌∷◌, ◌++◌, length, get_or, map, take, append_assoc, refl, sym, ap, ◌∙◌}
 use Rattle.std.proofs.lemmas.List.{map-append}
 use Rattle.lin_orders.specs.declared.placed.Placed.{Placed}
-use Rattle.lin_orders.specs.Merging.{ranks_from}
+use Rattle.lin_orders.specs.inner.Merging.{ranks_from}
 use Rattle.lin_orders.specs.lemmas.Lists.{take_more}
 
 -- the greatest position, at least `base`

@@ -9,7 +9,7 @@ use Rattle.std.proofs.lemmas.List.Kept.{AllPairs-cons, AllPairs-filter}
 use Rattle.std.proofs.lemmas.List.Sums.{sum_by-cons}
 use Rattle.std.proofs.lemmas.List.Sorted.{IsNonDecreasingBy-from_all_adjacent, sum_by-IsPermutation}
 use Rattle.lin_orders.specs.declared.placed.Placed.{Placed}
-use Rattle.lin_orders.specs.Merging.{AreRanks, ranks_from}
+use Rattle.lin_orders.specs.inner.Merging.{AreRanks, ranks_from}
 use Rattle.lin_lists.specs.lemmas.Filters.{pairs_map}
 use Rattle.lin_orders.specs.lemmas.Lists.{take_more}
 

@@ -6,7 +6,8 @@ use Rattle.std.proofs.lemmas.Bool.Decides.{Decides-eqb}
 use Rattle.std.proofs.lemmas.List.{get_or-map, length-map, get_or_default}
 use Rattle.std.proofs.lemmas.List.Elements.{All-cons, All-nil, All-contains, Contains-get_or, Contains-append_cases, Contains-append_right, filter-append}
 use Rattle.lin_orders.specs.declared.placed.Placed.{Placed}
-use Rattle.lin_orders.specs.Merging.{IsMerged, ranks_from}
+use Rattle.lin_orders.specs.Merging.{IsMerged}
+use Rattle.lin_orders.specs.inner.Merging.{ranks_from}
 use Rattle.lin_lists.specs.lemmas.Elements.{in_filter, from_filter}
 use Rattle.lin_lists.specs.lemmas.Filters.{filter_of_map}
 

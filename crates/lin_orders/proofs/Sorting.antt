@@ -5,7 +5,8 @@ use Rattle.std.proofs.lemmas.Bool.Decides.{Decides-eqb}
 use Rattle.std.proofs.lemmas.List.Elements.{All-cons, All-tail, All-weaker, All-contains, All-contains_itself, filter-append}
 use Rattle.std.proofs.lemmas.List.Kept.{AllPairs-cons}
 use Rattle.lin_orders.specs.declared.placed.Placed.{Placed}
-use Rattle.lin_orders.specs.Merging.{IsMerged, ranks_from}
+use Rattle.lin_orders.specs.Merging.{IsMerged}
+use Rattle.lin_orders.specs.inner.Merging.{ranks_from}
 use Rattle.lin_lists.specs.lemmas.Elements.{in_filter}
 use Rattle.lin_lists.specs.lemmas.Filters.{map_pairs}
 use Rattle.lin_orders.proofs.RankSorting.{ranks_rise}

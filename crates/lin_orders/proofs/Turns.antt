@@ -8,7 +8,8 @@ use Rattle.std.proofs.lemmas.List.{get_or-map, get_or_past, length-map, length-r
 use Rattle.std.proofs.lemmas.List.Elements.{filter-append}
 use Rattle.std.proofs.lemmas.Slice.Zip.{firsts-zip, seconds-zip}
 use Rattle.lin_orders.specs.declared.placed.Placed.{Placed}
-use Rattle.lin_orders.specs.Merging.{AreRanks, IsMerged, IsTaken, lists_of, ranks_from}
+use Rattle.lin_orders.specs.Merging.{IsMerged, lists_of}
+use Rattle.lin_orders.specs.inner.Merging.{AreRanks, IsTaken, ranks_from}
 use Rattle.lin_lists.specs.lemmas.Filters.{filter_of_map, map_pairs}
 use Rattle.lin_orders.specs.lemmas.Lists.{take_more}
 use Rattle.lin_orders.proofs.Ranks.{map_twice, merged_by_ranks}

@@ -10,3 +10,4 @@ pub mod PartLaws
 pub mod Merging
 pub mod Sameness
 pub mod lemmas
+pub mod inner

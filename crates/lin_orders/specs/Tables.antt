@@ -2,7 +2,6 @@
 use Rattle.std.specs.Prelude.{◌≡◌, ◌≢◌, ◌<◌, ℕ, ℤ, List, Bool, true, false, length, Option, Some, None, All, AllPairs, slice_index_or, slice_get, unwrap_or}
 use Rattle.std.specs.Ordering.{int_eq}
 use Rattle.lin_events.specs.declared.events.Event.{Event}
-use Rattle.lin_events.specs.declared.events.Body.TheVariants.{Invoke}
 use Rattle.lin_events.specs.declared.calls.Call.{Call}
 use Rattle.lin_events.specs.declared.calls.Reply.{Reply}
 use Rattle.lin_events.specs.Operations.{IsOf, IsOperation, IsOk, IsFailed}
@@ -11,11 +10,6 @@ use Rattle.lin_objects.specs.declared.states.State.{State}
 use Rattle.lin_objects.specs.Steps.{Step, start}
 use Rattle.lin_orders.specs.declared.placed.Placed.{Placed}
 use Rattle.lin_orders.specs.Orders.{IsBefore, IsCall, Places}
-
--- what was found passes, or nothing does
-abbrev pub IsFound : {S : Type 0} → (S → Type 0) → Option S → Type 0
-IsFound {S} passes None = (other : S) → passes other → ⊥
-IsFound passes (Some found) = passes found
 
 -- the position is an operation on the key, with this call
 abbrev pub IsCallOn : List Event → ℕ → ℤ → Call → Type 0
@@ -73,11 +67,3 @@ state_of kinds listed key = unwrap_or (listed key) (start (kinds key))
 pub record Moves (kinds : ℤ → Kind) (old new : ℤ → Option State) (key : ℤ) (call : Call) (reply : Reply) : Type 0 where
   pub steps : Step (kinds key) (state_of kinds old key) call (state_of kinds new key) reply
   pub others : (other : ℤ) → int_eq key other ≡ false → new other ≡ old other
-
--- the object of the invocation took the step that gives this reply
-abbrev pub IsTaken : (ℤ → Kind) → (ℤ → Option State) → (ℤ → Option State) → Event → Reply → Type 0
-IsTaken kinds old new event reply = (call : Call) × (event.body ≡ Invoke call) × Moves kinds old new event.key call reply
-
--- the event is no invocation, or its object has no step that gives this reply
-abbrev pub IsRefused : (ℤ → Kind) → (ℤ → Option State) → Event → Reply → Type 0
-IsRefused kinds states event reply = (call : Call) (next : State) → event.body ≡ Invoke call → Step (kinds event.key) (state_of kinds states event.key) call next reply → ⊥

@@ -5,7 +5,8 @@ ghost use Rattle.std.specs.HashMap.{get};
 ghost use Rattle.lin_objects.specs.Kinds.{kind_of};
 ghost use Rattle.lin_objects.specs.Steps.{Step};
 ghost use Rattle.lin_orders.specs.Linearizable.{IsLegal};
-ghost use Rattle.lin_orders.specs.Tables.{IsFound, IsRefused, IsTaken, NamesOperations, state_of};
+ghost use Rattle.lin_orders.specs.Tables.{NamesOperations, state_of};
+ghost use Rattle.lin_orders.specs.inner.Tables.{IsFound, IsRefused, IsTaken};
 
 use crate::placed::Placed;
 use lin_events::{Body, Call, Event, OutOfMemory, Reply};

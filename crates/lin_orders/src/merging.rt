@@ -1,7 +1,8 @@
 //! Merging the orders for the objects of a history into one order of the whole (locality, Herlihy and Wing 1990,
 //! section 3).
 ghost use Rattle.std.specs.Prelude.{◌≡◌, ◌++◌, ◌≤◌, length, map, reverse, [], IfOk, OnOk, MatchResult, vec_capacity};
-ghost use Rattle.lin_orders.specs.Merging.{AreRanks, IsMerged, IsTaken, lists_of, ranks_from};
+ghost use Rattle.lin_orders.specs.Merging.{IsMerged, lists_of};
+ghost use Rattle.lin_orders.specs.inner.Merging.{AreRanks, IsTaken, ranks_from};
 
 use crate::placed::Placed;
 use lin_events::OutOfMemory;

@@ -23,7 +23,8 @@ use Rattle.lin_session.specs.declared.answers.Verdict.TheVariants.{Yes, No}
 use Rattle.lin_session.specs.declared.kept.Object.{Object}
 use Rattle.lin_session.specs.declared.marks.Mark.{Mark}
 use Rattle.lin_session.specs.Answers.{IsObjectVerdict}
-use Rattle.lin_session.specs.Objects.{IsMarkRight, IsObject, IsPlaceIn, Finds, IsOrderIn}
+use Rattle.lin_session.specs.Objects.{IsMarkRight, IsObject}
+use Rattle.lin_session.specs.inner.Objects.{IsPlaceIn, Finds, IsOrderIn}
 use Rattle.lin_session.specs.inner.Judgements.{IsFinding, IsTold}
 use Rattle.lin_session.proofs.Picks.{event_of_key}
 

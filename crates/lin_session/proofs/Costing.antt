@@ -11,7 +11,8 @@ use Rattle.lin_session.specs.declared.answers.Scope.{Scope}
 use Rattle.lin_session.specs.declared.answers.Scope.TheVariants as scope
 use Rattle.lin_session.specs.declared.marks.Mark.{Mark}
 use Rattle.lin_session.specs.Marks.{IsNothingDue, IsOf}
-use Rattle.lin_session.specs.Objects.{AreKept, AreRight, listed_marks, marks_in, split_in, stands_for}
+use Rattle.lin_session.specs.Objects.{AreKept, AreRight, listed_marks, split_in, stands_for}
+use Rattle.lin_session.specs.inner.Objects.{marks_in}
 use Rattle.lin_session.specs.declared.kept.Objects.{Objects}
 use Rattle.lin_session.specs.Work.{AreSameMarks, anew, cost, cost_in, keys_of, mark_of}
 use Rattle.lin_session.proofs.Asking.{whole_picked}

@@ -12,7 +12,8 @@ use Rattle.lin_session.specs.declared.marks.Mark.{Mark}
 use Rattle.lin_events.specs.declared.events.Event.{Event}
 use Rattle.lin_objects.specs.declared.kinds.Kind.{Kind}
 use Rattle.lin_orders.specs.Parts.{part}
-use Rattle.lin_session.specs.Objects.{AreKept, IsMarkRight, listed_marks, raised_object}
+use Rattle.lin_session.specs.Objects.{AreKept, IsMarkRight, listed_marks}
+use Rattle.lin_session.specs.inner.Objects.{raised_object}
 use Rattle.lin_session.specs.Work.{AreTouched, mark_of, raised, touched, unasked}
 use Rattle.lin_lists.specs.lemmas.Taken.{one_place, slice_get-Contains, Contains-slice_get}
 use Rattle.lin_session.proofs.Marking.{touched_unasked}

@@ -6,7 +6,8 @@ use Rattle.lin_events.specs.declared.events.Event.{Event}
 use Rattle.lin_objects.specs.declared.kinds.Kind.{Kind}
 use Rattle.lin_orders.specs.Parts.{part}
 use Rattle.lin_session.specs.declared.kept.Object.{Object}
-use Rattle.lin_session.specs.Objects.{AreKept, IsObject, raised_object}
+use Rattle.lin_session.specs.Objects.{AreKept, IsObject}
+use Rattle.lin_session.specs.inner.Objects.{raised_object}
 use Rattle.lin_session.proofs.Marking.{IsMarkRight-raised, IsMarkRight-smaller, raised_over}
 use Rattle.lin_session.proofs.Overs.{IsEndOf-smaller}
 

@@ -18,7 +18,8 @@ use Rattle.lin_session.specs.Answers.{kinds_in, IsVerdict}
 use Rattle.lin_session.specs.Edits.{Present}
 use Rattle.lin_session.specs.inner.Judgements.{AreAlive, IsAlive}
 use Rattle.lin_session.specs.Marks.{IsNothingDue, IsOf, IsWithoutOrder}
-use Rattle.lin_session.specs.Objects.{AreRight, marks_in, split_in}
+use Rattle.lin_session.specs.Objects.{AreRight, split_in}
+use Rattle.lin_session.specs.inner.Objects.{marks_in}
 use Rattle.lin_session.specs.Work.{AreSameMarks, settled_at}
 use Rattle.lin_session.proofs.Listed.{is_listed, mark_listed}
 use Rattle.lin_lists.specs.lemmas.Taken.{All-at, element_at, one_place}

@@ -13,7 +13,8 @@ use Rattle.lin_session.specs.declared.kept.Object.{Object}
 use Rattle.lin_session.specs.declared.marks.Mark.{Mark}
 use Rattle.lin_session.specs.inner.Costs.{IsJudged}
 use Rattle.lin_session.specs.Marks.{AreMarked, IsOf}
-use Rattle.lin_session.specs.Objects.{AreKept, IsObject, listed_marks, settled_object}
+use Rattle.lin_session.specs.Objects.{AreKept, IsObject, listed_marks}
+use Rattle.lin_session.specs.inner.Objects.{settled_object}
 use Rattle.lin_session.specs.Work.{AreSameMarks, mark_of, settled_at}
 use Rattle.lin_session.proofs.Asking.{whole_picked}
 use Rattle.lin_session.proofs.Listed.{is_listed, mark_listed, mark_unlisted}

@@ -1,18 +1,16 @@
 -- What is kept of the objects of a history.
-use Rattle.std.specs.Prelude.{Option, None, ◌+◌, slice_index, ◌≡◌, ◌≢◌, ◌≤◌, ◌<◌, ◌⊎◌, ℕ, ℤ, List, [], ◌∷◌, Some, AllPairs, Contains, length, min, nat_lt, take, slice_get, if◌then◌else◌}
+use Rattle.std.specs.Prelude.{Option, None, ◌≡◌, ◌≢◌, ◌≤◌, ◌<◌, ◌⊎◌, ℕ, ℤ, List, [], ◌∷◌, Some, AllPairs, Contains, length, min, take, slice_get}
 use Rattle.lin_events.specs.declared.events.Event.{Event}
 use Rattle.lin_events.specs.Operations.{IsEvent}
 use Rattle.lin_objects.specs.declared.kinds.Kind.{Kind}
-use Rattle.lin_orders.specs.Parts.{ArePositionsOf, part, renamed}
-use Rattle.lin_chain.specs.Chains.{end_in, end_under, kind_in, ready_under, IsRight}
+use Rattle.lin_orders.specs.Parts.{ArePositionsOf, part}
+use Rattle.lin_chain.specs.Chains.{end_under, kind_in, ready_under, IsRight}
 use Rattle.lin_chain.specs.Ends.{IsEndOf}
-use Rattle.lin_chain.specs.declared.chain.End.{End}
-use Rattle.lin_chain.specs.declared.chain.End.TheVariants.{Alive, Dead, Over}
-use Rattle.lin_orders.specs.declared.placed.Placed.{Placed}
+use Rattle.lin_chain.specs.declared.chain.End.TheVariants.{Over}
 use Rattle.lin_session.specs.declared.kept.Object.{Object}
 use Rattle.lin_session.specs.declared.kept.Objects.{Objects}
 use Rattle.lin_session.specs.declared.marks.Mark.{Mark}
-use Rattle.lin_session.specs.Work.{mark_of, raised, settled_at, unasked}
+use Rattle.lin_session.specs.Work.{settled_at, unasked}
 
 -- how many of so many events stand as they were found
 abbrev pub stands_for : Option ℕ → ℕ → ℕ
@@ -61,34 +59,6 @@ listed_marks (key ∷ keys) (object ∷ objects) = (key, object.mark) ∷ listed
 abbrev pub marked_keys : Objects → List (ℤ × Mark)
 marked_keys objects = listed_marks objects.keys.keys objects.objects.items
 
--- the mark of the key's object
-abbrev pub marks_in : Objects → ℤ → Mark
-marks_in objects key = mark_of (marked_keys objects) key
-
--- the object under a larger budget
-abbrev pub raised_object : Object → Object
-raised_object object = record object { mark = raised object.mark }
-
--- the object after a question, if it has an event
-abbrev pub settled_object : Object → Object
-settled_object object = record object { mark = if nat_lt 0 (length object.picks.items) then settled_at (end_in object.chain) else object.mark }
-
 -- what is kept is right for the history, the kinds and the budget
 abbrev pub AreRight : Objects → (ℤ → Kind) → ℕ → List Event → Type 0
 AreRight objects kinds budget h = AreKept kinds budget h objects.split objects.keys.keys objects.objects.items
-
--- the place that an end tells, if it tells one, is among so many
-abbrev pub IsPlaceIn : ℕ → End → Type 0
-IsPlaceIn count Alive = Unit {0}
-IsPlaceIn count (Dead i) = i < count
-IsPlaceIn count (Over i) = i < count
-
--- the prefix that fails the object, or the position where it is over, told by its end in places among its events
-abbrev pub Finds : List ℕ → End → Option ℕ × Option ℕ → Type 0
-Finds picks Alive found = found ≡ (None, None)
-Finds picks (Dead i) found = found ≡ (Some (slice_index picks i + 1), None)
-Finds picks (Over i) found = found ≡ (None, Some (slice_index picks i))
-
--- the order is, in positions of the history, a legal one in places among the object's events
-abbrev pub IsOrderIn : (List Placed → Type 0) → List ℕ → List Placed → Type 0
-IsOrderIn legal picks order = (inner : List Placed) × (order ≡ renamed picks inner) × legal inner

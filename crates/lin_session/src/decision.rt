@@ -7,7 +7,8 @@ ghost use Rattle.lin_session.specs.Answers.{IsVerdict};
 ghost use Rattle.lin_session.specs.inner.Costs.{AreSettled, IsCost, IsSettled, cost_of, cost_of_all};
 ghost use Rattle.lin_session.specs.declared.kept.Object.{Object as ObjectOf};
 ghost use Rattle.lin_session.specs.Marks.{AreMarked, IsNothingDue};
-ghost use Rattle.lin_session.specs.Objects.{AreRight, marks_in, split_in};
+ghost use Rattle.lin_session.specs.Objects.{AreRight, split_in};
+ghost use Rattle.lin_session.specs.inner.Objects.{marks_in};
 ghost use Rattle.lin_session.specs.Work.{AreSameMarks, cost_in};
 
 use crate::answers::{Scope, Verdict};

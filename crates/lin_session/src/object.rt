@@ -7,7 +7,7 @@ ghost use Rattle.lin_orders.specs.Parts.{events_at, part, renamed};
 ghost use Rattle.lin_chain.specs.Chains.{end_in, end_under, kind_in, ready_count, ready_under, IsRight as IsRightChain};
 ghost use Rattle.lin_chain.specs.Ends.{IsEndOf};
 ghost use Rattle.lin_orders.specs.Linearizable.{IsLegalOrderAs};
-ghost use Rattle.lin_session.specs.Objects.{Finds, IsOrderIn, IsPlaceIn, raised_object, settled_object};
+ghost use Rattle.lin_session.specs.inner.Objects.{Finds, IsOrderIn, IsPlaceIn, raised_object, settled_object};
 ghost use Rattle.lin_session.specs.inner.Costs.{IsSettled, cost_of};
 ghost use Rattle.lin_session.specs.inner.Judgements.{IsAlive};
 ghost use Rattle.lin_session.specs.Work.{rounded, touched, unasked};

@@ -20,7 +20,8 @@ use Rattle.lin_orders.specs.Orders.{IsBefore, IsCall}
 use Rattle.lin_lists.specs.lemmas.Elements.{first_or_rest, nothing_in}
 use Rattle.lin_orders.specs.lemmas.OneEnd.{one_call}
 use Rattle.lin_orders.specs.lemmas.Running.{runs_split}
-use Rattle.lin_failures.specs.Conflicts.{Holds, IsBlock, IsLeftBy, IsNeverLeft, IsRegister, IsShown, Leaves}
+use Rattle.lin_failures.specs.Conflicts.{IsRegister, Leaves}
+use Rattle.lin_failures.specs.inner.Conflicts.{Holds, IsBlock, IsLeftBy, IsNeverLeft, IsShown}
 
 pub value_is : (v w : Val) → Value v ≡ Value w → v ≡ w
 value_is v w e = cc

@@ -8,7 +8,8 @@ use Rattle.std.specs.declared.result.Result.TheVariants.{Ok, Err}
 use Rattle.lin_events.specs.declared.calls.Call.{Call}
 use Rattle.lin_events.specs.declared.calls.Reply.{Reply}
 use Rattle.lin_frontier.specs.declared.pending.Open.{Open}
-use Rattle.lin_members.specs.Searching.{AreSteps, Gives, IsOffering, Told}
+use Rattle.lin_members.specs.Searching.{Gives, IsOffering}
+use Rattle.lin_members.specs.inner.Searching.{AreSteps, Told}
 
 -- where there is nothing to offer
 pub offering_nothing : (Q : ℕ × Reply → Type 0) (round : ℕ) (now : List (ℕ × (ℕ × Reply))) → ((x : ℕ × Reply) → Q x → ⊥) → IsOffering Q round now now

@@ -1,7 +1,7 @@
 use Rattle.std.proofs.Common.{nat_eq, get_or, refl, arith}
 use Rattle.std.proofs.lemmas.Bool.{agree_below_at}
 use Rattle.lin_edn.specs.Bytes.{class}
-use Rattle.lin_edn.specs.Scans.{is_inside}
+use Rattle.lin_edn.specs.inner.Scans.{is_inside}
 use Rattle.lin_edn.specs.declared.scan.TheConstants.{CLASSES}
 use Rattle.lin_edn.proofs.scan.is_plain.Goals as goal
 

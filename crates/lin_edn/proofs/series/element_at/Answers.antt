@@ -1,7 +1,7 @@
 use Rattle.std.proofs.Common.{drop, Ok, subst}
 use Rattle.lin_edn.specs.Grammar.{longest}
 use Rattle.lin_edn.specs.inner.Machine.{run, between}
-use Rattle.lin_edn.specs.Scans.{waiting}
+use Rattle.lin_edn.specs.inner.Scans.{waiting}
 use Rattle.lin_edn.specs.inner.Turns.{Answers}
 use Rattle.lin_edn.proofs.Rows.{found_if}
 use Rattle.lin_edn.proofs.series.element_at.Goals as goal

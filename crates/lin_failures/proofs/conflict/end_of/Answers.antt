@@ -1,4 +1,4 @@
-use Rattle.lin_failures.specs.Conflicts.{IsBlock}
+use Rattle.lin_failures.specs.inner.Conflicts.{IsBlock}
 use Rattle.lin_failures.specs.lemmas.Conflicting.{no_nil, only_left}
 use Rattle.lin_failures.proofs.conflict.end_of.Goals as goal
 

@@ -1,6 +1,7 @@
 use Rattle.std.proofs.Common.{List, ℕ, ◌++◌, drop, sym, ◌∙◌, subst}
 use Rattle.lin_edn.specs.Rows.{IsRow}
-use Rattle.lin_history.specs.Rests.{IsWaiting, Knows, GoesOn}
+use Rattle.lin_history.specs.Rests.{IsWaiting, Knows}
+use Rattle.lin_history.specs.inner.Rests.{GoesOn}
 use Rattle.lin_history.proofs.Resting.{held_goes_on}
 use Rattle.lin_history.proofs.follow.read_held.Goals as goal
 

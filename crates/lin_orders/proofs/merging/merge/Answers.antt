@@ -1,5 +1,6 @@
 use Rattle.std.proofs.Common.{subst}
-use Rattle.lin_orders.specs.Merging.{AreRanks, IsTaken, lists_of}
+use Rattle.lin_orders.specs.Merging.{lists_of}
+use Rattle.lin_orders.specs.inner.Merging.{AreRanks, IsTaken}
 use Rattle.lin_orders.proofs.Turns.{taken_is_merged}
 use Rattle.lin_orders.proofs.merging.merge.Goals as goal
 

@@ -1,5 +1,5 @@
 use Rattle.std.proofs.Common.{◌≡◌, ◌++◌, map, take}
-use Rattle.lin_orders.specs.Merging.{ranks_from}
+use Rattle.lin_orders.specs.inner.Merging.{ranks_from}
 use Rattle.lin_orders.proofs.RankLists.{greatest}
 use Rattle.lin_orders.proofs.merging.push_ranks.Given as goal
 

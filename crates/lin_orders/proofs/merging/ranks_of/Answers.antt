@@ -1,6 +1,7 @@
 use Rattle.std.proofs.Common.{◌≡◌, ◌<◌, ◌++◌, map, length, get_or, take_all, sym, ap, subst, ◌∙◌, arith}
 use Rattle.std.proofs.lemmas.List.{get_or-map, length-map}
-use Rattle.lin_orders.specs.Merging.{lists_of, ranks_from}
+use Rattle.lin_orders.specs.Merging.{lists_of}
+use Rattle.lin_orders.specs.inner.Merging.{ranks_from}
 use Rattle.lin_orders.proofs.RankSorting.{HasRanks, ranks_along, ranks_sorted}
 use Rattle.lin_orders.proofs.merging.ranks_of.Goals as goal
 

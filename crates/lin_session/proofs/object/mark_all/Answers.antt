@@ -2,7 +2,7 @@ use Rattle.std.proofs.Common.{◌≡◌, ◌<◌, ◌+◌, ◌++◌, length, map
 use Rattle.std.proofs.lemmas.List.{get_or_default}
 use Rattle.std.proofs.lemmas.List.Edits.{map_over_more}
 use Rattle.lin_session.specs.declared.kept.Object.{Object}
-use Rattle.lin_session.specs.Objects.{settled_object}
+use Rattle.lin_session.specs.inner.Objects.{settled_object}
 use Rattle.lin_session.proofs.object.mark_all.Goals as goal
 
 pub loop-object-preserved : goal.loop-object-preserved

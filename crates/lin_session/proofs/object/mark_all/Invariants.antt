@@ -1,5 +1,5 @@
 use Rattle.std.proofs.Common.{◌≡◌, ◌++◌, map, take, drop}
-use Rattle.lin_session.specs.Objects.{settled_object}
+use Rattle.lin_session.specs.inner.Objects.{settled_object}
 use Rattle.lin_session.proofs.object.mark_all.Given as goal
 
 abbrev pub invariant-loop-object : goal.invariant-loop-object

@@ -1,7 +1,7 @@
 use Rattle.std.proofs.Common.{◌≡◌, ◌<◌, ◌≤◌, ◌-◌, ◌+◌, List, length, take, sym, ap, subst, ◌∙◌, arith, if◌then◌else◌}
 use Rattle.std.proofs.lemmas.List.{length-take, length-take-le, take-take}
 use Rattle.lin_orders.specs.Orders.{is_of_key}
-use Rattle.lin_session.specs.Objects.{marks_in}
+use Rattle.lin_session.specs.inner.Objects.{marks_in}
 use Rattle.std.proofs.Common.{inl, inr, nat_lt}
 use Rattle.std.proofs.lemmas.Bool.{cases_lt}
 use Rattle.std.proofs.lemmas.List.{take_all}

@@ -1,6 +1,7 @@
 use Rattle.std.proofs.Common.{◌≡◌, ◌≤◌, ℕ, ℤ, length, take}
 use Rattle.lin_objects.specs.declared.kinds.Kind.{Kind}
-use Rattle.lin_session.specs.Objects.{AreRight, marks_in, split_in}
+use Rattle.lin_session.specs.Objects.{AreRight, split_in}
+use Rattle.lin_session.specs.inner.Objects.{marks_in}
 use Rattle.lin_session.specs.Work.{truncated}
 use Rattle.lin_session.proofs.session.cut_back.Given as goal
 

@@ -4,7 +4,7 @@ use Rattle.lin_session.specs.Objects.{AreRight}
 use Rattle.lin_lists.specs.lemmas.Taken.{removed_last}
 use Rattle.std.proofs.Common.{◌≡◌, length, if◌then◌else◌}
 use Rattle.lin_orders.specs.Orders.{is_of_key}
-use Rattle.lin_session.specs.Objects.{marks_in}
+use Rattle.lin_session.specs.inner.Objects.{marks_in}
 use Rattle.lin_session.specs.Work.{touched_at}
 use Rattle.lin_session.proofs.session.drop_last.Goals as goal
 

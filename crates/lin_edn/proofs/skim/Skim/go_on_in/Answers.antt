@@ -1,7 +1,7 @@
 use Rattle.std.proofs.Common.{◌≡◌, ◌-◌, drop, length, refl, ap, ◌∙◌, subst, arith, length-drop}
 use Rattle.std.proofs.lemmas.List.{take_all}
 use Rattle.lin_edn.proofs.Skims.{seen_in}
-use Rattle.lin_edn.specs.Skimming.{HasGone}
+use Rattle.lin_edn.specs.inner.Skimming.{HasGone}
 use Rattle.lin_edn.specs.declared.skim.Part.TheVariants as part
 use Rattle.lin_edn.specs.declared.skim.Skim.{Skim}
 use Rattle.lin_edn.proofs.skim.Skim.go_on_in.Goals as goal

@@ -1,7 +1,7 @@
 use Rattle.std.proofs.Common.{◌<◌, ◌≤◌, ◌∷◌, [], length, take, get_or, refl, sym, subst, arith, ◌∙◌, true≢false}
 use Rattle.std.proofs.lemmas.List.{take_more, take_all}
 use Rattle.lin_edn.proofs.Skims.{nothing_gone, gone_twice, still_more, still_short}
-use Rattle.lin_edn.specs.Skimming.{HasGone}
+use Rattle.lin_edn.specs.inner.Skimming.{HasGone}
 use Rattle.lin_edn.proofs.skim.Skim.pass.Goals as goal
 
 pub loop-at-init : goal.loop-at-init

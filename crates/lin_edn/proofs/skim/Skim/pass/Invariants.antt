@@ -1,5 +1,6 @@
 use Rattle.std.proofs.Common.{◌≡◌, take}
-use Rattle.lin_edn.specs.Skimming.{HasGone, IsMoreOf}
+use Rattle.lin_edn.specs.Skimming.{IsMoreOf}
+use Rattle.lin_edn.specs.inner.Skimming.{HasGone}
 use Rattle.lin_edn.proofs.skim.Skim.pass.Given as goal
 
 abbrev pub invariant-loop-at : goal.invariant-loop-at

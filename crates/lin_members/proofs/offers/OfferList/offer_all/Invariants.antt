@@ -1,5 +1,6 @@
 use Rattle.std.proofs.Common.{take}
-use Rattle.lin_members.specs.Searching.{GivesOne, IsOffering, Knows}
+use Rattle.lin_members.specs.Searching.{GivesOne, IsOffering}
+use Rattle.lin_members.specs.inner.Searching.{Knows}
 use Rattle.lin_frontier.specs.Walks.{IsTriedAtMost}
 use Rattle.lin_members.specs.lemmas.Offering.{IsOver}
 use Rattle.lin_members.proofs.offers.OfferList.offer_all.Given as goal

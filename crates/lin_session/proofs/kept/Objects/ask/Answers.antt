@@ -3,7 +3,7 @@ use Rattle.lin_session.specs.Edits.{Present}
 use Rattle.lin_session.proofs.Scopes.{IsAnswer-yes}
 use Rattle.std.proofs.Common.{Ok, ap, subst, ◌∙◌}
 use Rattle.lin_session.specs.Answers.{IsVerdict}
-use Rattle.lin_session.specs.Objects.{marks_in}
+use Rattle.lin_session.specs.inner.Objects.{marks_in}
 use Rattle.lin_session.proofs.Ready.{no_order}
 use Rattle.lin_session.proofs.kept.Objects.ask.Goals as goal
 

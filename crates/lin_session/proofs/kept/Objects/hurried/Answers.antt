@@ -3,7 +3,8 @@ use Rattle.std.proofs.lemmas.Result.{on_ok_weaker}
 use Rattle.lin_objects.specs.Kinds.{kind_of}
 use Rattle.lin_session.specs.inner.Costs.{AreSettled, IsCost}
 use Rattle.lin_session.specs.Marks.{IsNothingDue}
-use Rattle.lin_session.specs.Objects.{AreRight, marks_in}
+use Rattle.lin_session.specs.Objects.{AreRight}
+use Rattle.lin_session.specs.inner.Objects.{marks_in}
 use Rattle.lin_session.specs.Work.{cost_in}
 use Rattle.lin_session.proofs.Costing.{scope_cost, scope_settled}
 use Rattle.lin_session.proofs.Found.{not_ok}

@@ -12,7 +12,7 @@ use Rattle.std.proofs.lemmas.Option.{slice_get_within}
 use Rattle.std.proofs.lemmas.Result.{on_ok_weaker}
 use Rattle.lin_session.specs.declared.answers.Scope.TheVariants as scope
 use Rattle.lin_session.specs.inner.Costs.{AreJudged, AreSettled, IsCost}
-use Rattle.lin_session.specs.Objects.{marks_in}
+use Rattle.lin_session.specs.inner.Objects.{marks_in}
 use Rattle.lin_session.specs.Marks.{IsNothingDue}
 use Rattle.lin_session.specs.Work.{cost_in}
 use Rattle.lin_session.proofs.Costing.{scope_cost, scope_settled}

@@ -6,7 +6,8 @@ use Rattle.lin_session.specs.declared.kept.Object.{Object}
 use Rattle.lin_session.specs.inner.Costs.{IsJudged, cost_of_all}
 use Rattle.lin_session.specs.Work.{AreSameMarks}
 use Rattle.lin_session.specs.inner.Judgements.{AreFound, IsAlive}
-use Rattle.lin_session.specs.Objects.{AreRight, marks_in, split_in}
+use Rattle.lin_session.specs.Objects.{AreRight, split_in}
+use Rattle.lin_session.specs.inner.Objects.{marks_in}
 use Rattle.lin_session.proofs.kept.Objects.judge_all.Given as goal
 
 abbrev pub invariant-loop-i : goal.invariant-loop-i

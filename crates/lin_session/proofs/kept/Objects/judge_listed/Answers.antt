@@ -4,7 +4,8 @@ use Rattle.lin_objects.specs.declared.kinds.Kind.{Kind}
 use Rattle.lin_orders.specs.Parts.{events_at, part}
 use Rattle.lin_chain.specs.Chains.{end_in, end_under, kind_in}
 use Rattle.lin_chain.specs.Ends.{IsEndOf}
-use Rattle.lin_session.specs.Objects.{AreRight, IsObject, Finds}
+use Rattle.lin_session.specs.Objects.{AreRight, IsObject}
+use Rattle.lin_session.specs.inner.Objects.{Finds}
 use Rattle.lin_session.specs.inner.Costs.{cost_of, IsJudged, IsSettled}
 use Rattle.lin_session.specs.inner.Judgements.{IsAlive}
 use Rattle.lin_session.proofs.Advancing.{after, fine_there, inside, marks_stay, object_there, one_object, others_stay, right_there, spelled_length}

@@ -4,7 +4,7 @@ use Rattle.std.proofs.lemmas.Int.{to_z-of_z}
 use Rattle.lin_events.specs.declared.events.Event.{Event}
 use Rattle.lin_session.specs.Objects.{AreRight, split_in}
 use Rattle.lin_lists.specs.lemmas.Taken.{split_at}
-use Rattle.lin_session.specs.Objects.{marks_in}
+use Rattle.lin_session.specs.inner.Objects.{marks_in}
 use Rattle.std.proofs.Common.{Some, slice_get, refl}
 use Rattle.std.proofs.lemmas.Option.{slice_get_read}
 use Rattle.lin_session.proofs.Touching.{AreTouched-since, touched_where}

@@ -1,7 +1,8 @@
 use Rattle.std.proofs.Common.{◌≡◌, ◌∙◌, length, map, set, ap, sym, subst, slice_get, Some, Contains, to_z, of_z, w64, rules}
 use Rattle.std.proofs.lemmas.Int.{to_z-of_z}
 use Rattle.std.proofs.lemmas.List.{length-set, length-map}
-use Rattle.lin_session.specs.Objects.{AreKept, listed_marks, settled_object}
+use Rattle.lin_session.specs.Objects.{AreKept, listed_marks}
+use Rattle.lin_session.specs.inner.Objects.{settled_object}
 use Rattle.lin_session.specs.Marks.{AreMarked}
 use Rattle.lin_session.specs.Work.{mark_of}
 use Rattle.lin_session.proofs.Found.{object_at}

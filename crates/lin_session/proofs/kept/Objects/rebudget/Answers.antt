@@ -1,6 +1,7 @@
 use Rattle.std.proofs.Common.{◌∙◌, ap, sym, subst, arith, if◌then◌else◌}
 use Rattle.std.proofs.lemmas.Bool.Decides.{Decides-ltb}
-use Rattle.lin_session.specs.Objects.{AreKept, listed_marks, marks_in}
+use Rattle.lin_session.specs.Objects.{AreKept, listed_marks}
+use Rattle.lin_session.specs.inner.Objects.{marks_in}
 use Rattle.lin_session.specs.Work.{mark_of, raised}
 use Rattle.lin_session.proofs.Listed.{mark_raised}
 use Rattle.lin_session.proofs.Raising.{AreKept-raised, AreKept-smaller}

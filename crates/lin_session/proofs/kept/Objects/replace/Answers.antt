@@ -6,7 +6,7 @@ use Rattle.lin_session.specs.Objects.{AreRight, split_in}
 use Rattle.std.specs.Prelude.{◌||◌, if◌then◌else◌}
 use Rattle.std.specs.Ordering.{int_eq}
 use Rattle.lin_orders.specs.Orders.{is_of_key}
-use Rattle.lin_session.specs.Objects.{marks_in}
+use Rattle.lin_session.specs.inner.Objects.{marks_in}
 use Rattle.lin_session.specs.Work.{touched_at}
 use Rattle.lin_session.proofs.Touching.{touched_twice}
 use Rattle.lin_session.proofs.kept.Objects.replace.Goals as goal

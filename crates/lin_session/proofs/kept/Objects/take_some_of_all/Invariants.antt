@@ -2,7 +2,8 @@ use Rattle.std.proofs.Common.{◌≡◌, ◌≤◌, ◌+◌, ℕ, ℤ, Some, sli
 use Rattle.lin_objects.specs.declared.kinds.Kind.{Kind}
 use Rattle.lin_session.specs.declared.kept.Object.{Object}
 use Rattle.lin_session.specs.inner.Costs.{cost_of_all}
-use Rattle.lin_session.specs.Objects.{AreRight, marks_in, split_in}
+use Rattle.lin_session.specs.Objects.{AreRight, split_in}
+use Rattle.lin_session.specs.inner.Objects.{marks_in}
 use Rattle.lin_session.specs.Work.{AreSameMarks}
 use Rattle.lin_session.proofs.kept.Objects.take_some_of_all.Given as goal
 

@@ -12,7 +12,7 @@ use Rattle.lin_session.proofs.Before.{AgreeBefore-events, take-appended}
 use Rattle.lin_objects.specs.Kinds.{kind_of}
 use Rattle.lin_orders.specs.Parts.{part}
 use Rattle.lin_session.specs.declared.edits.Edit.TheVariants.{Append}
-use Rattle.lin_session.specs.Objects.{marks_in}
+use Rattle.lin_session.specs.inner.Objects.{marks_in}
 use Rattle.lin_session.specs.Sessions.{Standing}
 use Rattle.lin_session.specs.Work.{AreTouched, mark_after, mark_of}
 use Rattle.lin_session.proofs.Touching.{touched_last}

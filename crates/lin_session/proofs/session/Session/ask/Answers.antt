@@ -9,7 +9,8 @@ use Rattle.std.proofs.Common.{List}
 use Rattle.lin_events.specs.declared.events.Event.{Event}
 use Rattle.lin_session.specs.Edits.{Present}
 use Rattle.lin_session.specs.Marks.{AreMarked, IsNothingDue, IsWithoutOrder}
-use Rattle.lin_session.specs.Objects.{AreRight, marks_in}
+use Rattle.lin_session.specs.Objects.{AreRight}
+use Rattle.lin_session.specs.inner.Objects.{marks_in}
 use Rattle.lin_session.specs.Work.{mark_of}
 use Rattle.lin_session.proofs.Settling.{AreMarked-since}
 use Rattle.lin_session.proofs.Scanned.{up_to_bad, up_to_date, up_to_end}

@@ -4,7 +4,8 @@ use Rattle.lin_objects.specs.Kinds.{functions_of, kind_of}
 use Rattle.lin_wellformed.specs.Scans.{IsRight, ready_count}
 use Rattle.lin_session.specs.Answers.{kinds_in}
 use Rattle.lin_session.specs.Marks.{AreMarked, IsNothingDue}
-use Rattle.lin_session.specs.Objects.{AreRight, marks_in}
+use Rattle.lin_session.specs.Objects.{AreRight}
+use Rattle.lin_session.specs.inner.Objects.{marks_in}
 use Rattle.lin_session.specs.Sessions.{AreTakenIn, Standing}
 use Rattle.lin_session.specs.Work.{AreSameMarks, mark_of}
 use Rattle.lin_session.proofs.Found.{not_ok}

@@ -6,7 +6,8 @@ use Rattle.lin_session.specs.Answers.{kinds_in}
 use Rattle.lin_session.specs.Sessions.{AreTakenIn, Standing}
 use Rattle.lin_session.proofs.Found.{not_ok}
 use Rattle.lin_session.specs.Marks.{AreMarked, IsNothingDue}
-use Rattle.lin_session.specs.Objects.{AreRight, marks_in}
+use Rattle.lin_session.specs.Objects.{AreRight}
+use Rattle.lin_session.specs.inner.Objects.{marks_in}
 use Rattle.lin_session.specs.Work.{mark_of}
 use Rattle.lin_session.proofs.Settling.{AreMarked-since}
 use Rattle.lin_session.proofs.Scanned.{up_to_bad, up_to_date, up_to_end}

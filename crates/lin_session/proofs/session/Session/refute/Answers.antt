@@ -8,7 +8,8 @@ use Rattle.lin_session.specs.Sessions.{Standing}
 use Rattle.lin_session.proofs.Found.{passed_on}
 use Rattle.lin_session.specs.declared.answers.Scope.TheVariants.{Object}
 use Rattle.lin_session.specs.Marks.{AreMarked}
-use Rattle.lin_session.specs.Objects.{AreRight, marks_in}
+use Rattle.lin_session.specs.Objects.{AreRight}
+use Rattle.lin_session.specs.inner.Objects.{marks_in}
 use Rattle.lin_session.specs.Work.{mark_of}
 use Rattle.lin_session.proofs.Settling.{AreMarked-since}
 use Rattle.lin_session.proofs.Scanned.{up_to_bad, up_to_end}
