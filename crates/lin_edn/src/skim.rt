@@ -6,7 +6,7 @@ ghost use Rattle.lin_edn.specs.Grammar.{longest};
 ghost use Rattle.lin_edn.specs.Rows.{IsRow, bracket_of};
 ghost use Rattle.lin_edn.specs.Scans.{is_quoting};
 ghost use Rattle.lin_edn.specs.Skimming as skimming;
-ghost use Rattle.lin_edn.specs.inner.Skimming as skimming;
+ghost use Rattle.lin_edn.specs.inner.Skimming as shapes;
 ghost use Rattle.lin_edn.specs.Skimming.{HasSeen, IsMoreOf, is_more_of, IsOpenText, shapes_of, level_view};
 ghost use Rattle.lin_edn.specs.inner.Skimming.{HasGone, row_shapes};
 ghost use Rattle.lin_edn.specs.Value.{Value};
@@ -203,7 +203,7 @@ fn pop(levels: &mut Vec<Level>) -> Option<Level>
 
 /// Opens a level, where one more can be open.
 fn enter(levels: &mut Vec<Level>, level: Level) -> Option<Part>
-    ensures { IfSome result (λ p. skimming.deeper_shape (shapes_of levels.old.items) (level_view level ∷ shapes_of levels.old.items, part.Between)
+    ensures { IfSome result (λ p. shapes.deeper_shape (shapes_of levels.old.items) (level_view level ∷ shapes_of levels.old.items, part.Between)
         ≡ Some (shapes_of levels.new.items, p)) }
 {
     if depth(levels) >= DEEPEST {
@@ -218,7 +218,7 @@ fn enter(levels: &mut Vec<Level>, level: Level) -> Option<Part>
 
 /// Puts an element into the innermost level; false where nothing is open any more.
 fn put(levels: &mut Vec<Level>) -> bool
-    ensures { result ≡ true → skimming.put_shape (shapes_of levels.old.items) ≡ Some (shapes_of levels.new.items) }
+    ensures { result ≡ true → shapes.put_shape (shapes_of levels.old.items) ≡ Some (shapes_of levels.new.items) }
 {
     match pop(levels) {
         None => false,
@@ -234,7 +234,7 @@ fn put(levels: &mut Vec<Level>) -> bool
 
 /// What is open behind an element that is put in.
 fn settle(levels: &mut Vec<Level>) -> Option<Part>
-    ensures { IfSome result (λ p. skimming.with_part part.Between (skimming.put_shape (shapes_of levels.old.items)) ≡ Some (shapes_of levels.new.items, p)) }
+    ensures { IfSome result (λ p. shapes.with_part part.Between (shapes.put_shape (shapes_of levels.old.items)) ≡ Some (shapes_of levels.new.items, p)) }
 {
     if put(levels) {
         Some(Part::Between)
@@ -245,7 +245,7 @@ fn settle(levels: &mut Vec<Level>) -> Option<Part>
 
 /// What is open behind a blank.
 fn pass(levels: &[Level]) -> Option<Part>
-    ensures { IfSome result (λ p. skimming.with_part part.Between (skimming.still (shapes_of levels.now)) ≡ Some (shapes_of levels.now, p)) }
+    ensures { IfSome result (λ p. shapes.with_part part.Between (shapes.still (shapes_of levels.now)) ≡ Some (shapes_of levels.now, p)) }
 {
     if is_empty(levels) {
         None
@@ -267,7 +267,7 @@ fn end_tag(levels: &mut Vec<Level>) -> Option<Part>
 
 /// What is open once a byte has ended what it ends before itself.
 fn end_before(levels: &mut Vec<Level>, part: Part, c: u8) -> Option<Part>
-    ensures ended { IfSome result (λ p. skimming.ended_shape part (shapes_of levels.old.items) c ≡ Some (shapes_of levels.new.items, p)) }
+    ensures ended { IfSome result (λ p. shapes.ended_shape part (shapes_of levels.old.items) c ≡ Some (shapes_of levels.new.items, p)) }
     ensures more { is_more_of part c ≡ true → result ≡ Some part }
 {
     match part {
@@ -286,7 +286,7 @@ fn end_before(levels: &mut Vec<Level>, part: Part, c: u8) -> Option<Part>
 
 /// What is open once a byte has ended a `#` that stands alone.
 fn end_hash(levels: &mut Vec<Level>, c: u8) -> Option<Part>
-    ensures { IfSome result (λ p. skimming.apart_shape (bytes.behind c) (shapes_of levels.old.items) ≡ Some (shapes_of levels.new.items, p)) }
+    ensures { IfSome result (λ p. shapes.apart_shape (bytes.behind c) (shapes_of levels.old.items) ≡ Some (shapes_of levels.new.items, p)) }
 {
     match behind_hash(c) {
         Behind::Apart => settle(levels),
@@ -300,7 +300,7 @@ fn end_hash(levels: &mut Vec<Level>, c: u8) -> Option<Part>
 
 /// Whether a byte closes a level.
 pub(crate) fn can_close(level: Level, c: u8) -> bool
-    ensures { result ≡ skimming.closes (level_view level) c }
+    ensures { result ≡ shapes.closes (level_view level) c }
 {
     match level {
         Level::List => c == b')',
@@ -315,7 +315,7 @@ pub(crate) fn can_close(level: Level, c: u8) -> bool
 
 /// Takes a closing byte.
 fn close(levels: &mut Vec<Level>, c: u8) -> Option<Part>
-    ensures { IfSome result (λ p. skimming.close_shape (shapes_of levels.old.items) c ≡ Some (shapes_of levels.new.items, p)) }
+    ensures { IfSome result (λ p. shapes.close_shape (shapes_of levels.old.items) c ≡ Some (shapes_of levels.new.items, p)) }
 {
     let level = pop(levels)?;
     if can_close(level, c) {
@@ -327,7 +327,7 @@ fn close(levels: &mut Vec<Level>, c: u8) -> Option<Part>
 
 /// Takes a byte where an element may begin.
 fn begin(levels: &mut Vec<Level>, c: u8) -> Option<Part>
-    ensures { IfSome result (λ p. skimming.begins_shape (bytes.class c) (shapes_of levels.old.items) c ≡ Some (shapes_of levels.new.items, p)) }
+    ensures { IfSome result (λ p. shapes.begins_shape (bytes.class c) (shapes_of levels.old.items) c ≡ Some (shapes_of levels.new.items, p)) }
 {
     match c {
         _ if is_white(c) => pass(levels),
@@ -345,7 +345,7 @@ fn begin(levels: &mut Vec<Level>, c: u8) -> Option<Part>
 
 /// Begins a tag, where one more level can be open.
 fn begin_tag(levels: &[Level]) -> Option<Part>
-    ensures { IfSome result (λ p. skimming.deeper_shape (shapes_of levels.now) (shapes_of levels.now, part.Tag) ≡ Some (shapes_of levels.now, p)) }
+    ensures { IfSome result (λ p. shapes.deeper_shape (shapes_of levels.now) (shapes_of levels.now, part.Tag) ≡ Some (shapes_of levels.now, p)) }
 {
     if depth(levels) >= DEEPEST {
         None
@@ -356,7 +356,7 @@ fn begin_tag(levels: &[Level]) -> Option<Part>
 
 /// Takes the byte behind a `#` that doesn't stand alone.
 fn go_on(levels: &mut Vec<Level>, c: u8) -> Option<Part>
-    ensures { IfSome result (λ p. skimming.goes_on_shape (bytes.behind c) (shapes_of levels.old.items) ≡ Some (shapes_of levels.new.items, p)) }
+    ensures { IfSome result (λ p. shapes.goes_on_shape (bytes.behind c) (shapes_of levels.old.items) ≡ Some (shapes_of levels.new.items, p)) }
 {
     match behind_hash(c) {
         Behind::Set => enter(levels, Level::Set),
@@ -370,7 +370,7 @@ fn go_on(levels: &mut Vec<Level>, c: u8) -> Option<Part>
 
 /// Takes a byte of a text.
 fn in_text(levels: &mut Vec<Level>, c: u8) -> Option<Part>
-    ensures quotes { IfSome result (λ p. skimming.quotes_shape (bytes.quoted c) (shapes_of levels.old.items) ≡ Some (shapes_of levels.new.items, p)) }
+    ensures quotes { IfSome result (λ p. shapes.quotes_shape (bytes.quoted c) (shapes_of levels.old.items) ≡ Some (shapes_of levels.new.items, p)) }
     ensures more { is_quoting c ≡ false → result ≡ Some part.Text }
 {
     match c {
@@ -382,7 +382,7 @@ fn in_text(levels: &mut Vec<Level>, c: u8) -> Option<Part>
 
 /// Takes a byte that ends nothing before itself.
 fn take_byte(levels: &mut Vec<Level>, part: Part, c: u8) -> Option<Part>
-    ensures taken { IfSome result (λ p. skimming.taken_shape part (shapes_of levels.old.items) c ≡ Some (shapes_of levels.new.items, p)) }
+    ensures taken { IfSome result (λ p. shapes.taken_shape part (shapes_of levels.old.items) c ≡ Some (shapes_of levels.new.items, p)) }
     ensures more { is_more_of part c ≡ true → result ≡ Some part }
 {
     match part {

@@ -5,7 +5,7 @@ use Rattle.lin_edn.specs.Laws.{later, later_values, later_entries}
 use Rattle.lin_edn.specs.Value.{Value, nil, bool, int, atom, keyword, text, list, vector, set, map, tagged, Values, no_values, value, Entries, no_entries, entry}
 use Rattle.lin_lists.specs.Sets.{members_of}
 use Rattle.lin_history.specs.Stream.{told, told_by, maps_in, before}
-use Rattle.lin_history.specs.Table.{bare, is_word, here, under, look_up, type_words, type_of, function_words, function_of, process_of, int_of, val_of, both_of, pair_of, ints_of, cas_of, call_of, members_in, seen, reply_of, body_of, parts_of, or_fault, event_with, is_several, or_nil, is_named, event_when_there, event_under, event_in, event}
+use Rattle.lin_history.specs.Table.{bare, is_word, here, under, look_up, type_words, type_of, function_words, function_of, process_of, int_of, val_of, both_of, pair_of, ints_of, cas_of, call_of, members_in, seen, reply_of, body_of, parts_of, or_fault, event_with, is_several, or_nil, is_by_keyword, event_when_there, event_under, event_in, event}
 use Rattle.lin_events.specs.declared.calls.Call.TheVariants as call
 use Rattle.lin_events.specs.declared.calls.Name.{Name}
 use Rattle.lin_events.specs.declared.calls.Name.TheVariants.{Read, Write, Cas, Enqueue, Dequeue, Add, Acquire, Release}
@@ -247,7 +247,7 @@ nil_later : (n : ℕ) (vs : List Value) → or_nil (each (later n) vs) ≡ later
 nil_later n [] = refl
 nil_later n (v ∷ vs) = refl
 
-first_named : (n : ℕ) (v : Value) (vs ws : List Value) → is_named (later n v ∷ vs) ≡ is_named (v ∷ ws)
+first_named : (n : ℕ) (v : Value) (vs ws : List Value) → is_by_keyword (later n v ∷ vs) ≡ is_by_keyword (v ∷ ws)
 first_named n nil us ws = refl
 first_named n (bool b) us ws = refl
 first_named n (int i) us ws = refl
@@ -260,7 +260,7 @@ first_named n (set vs) us ws = refl
 first_named n (map es) us ws = refl
 first_named n (tagged at w v) us ws = refl
 
-named_later : (n : ℕ) (vs : List Value) → is_named (each (later n) vs) ≡ is_named vs
+named_later : (n : ℕ) (vs : List Value) → is_by_keyword (each (later n) vs) ≡ is_by_keyword vs
 named_later n [] = refl
 named_later n (v ∷ vs) = first_named n v (each (later n) vs) vs
 
@@ -277,10 +277,10 @@ under_if several named e = if several then Err DuplicateKey else (if named then 
 under_event : (n : ℕ) (keyed : Bool) (process type function v : List Value) →
     event_under keyed (each (later n) process) (each (later n) type) (each (later n) function) (each (later n) v) ≡ event_under keyed process type function v
 under_event n keyed process type function v =
-    ap (λ b. under_if b (is_named (each (later n) process)) (there (each (later n) process) (each (later n) type) (each (later n) function) (or_nil (each (later n) v)))) some_several
+    ap (λ b. under_if b (is_by_keyword (each (later n) process)) (there (each (later n) process) (each (later n) type) (each (later n) function) (or_nil (each (later n) v)))) some_several
     ∙ ap (λ b. under_if several b (there (each (later n) process) (each (later n) type) (each (later n) function) (or_nil (each (later n) v)))) (named_later n process)
-    ∙ ap (λ w. under_if several (is_named process) (there (each (later n) process) (each (later n) type) (each (later n) function) w)) (nil_later n v)
-    ∙ ap (under_if several (is_named process)) (there_later n keyed process type function (or_nil v))
+    ∙ ap (λ w. under_if several (is_by_keyword process) (there (each (later n) process) (each (later n) type) (each (later n) function) w)) (nil_later n v)
+    ∙ ap (under_if several (is_by_keyword process)) (there_later n keyed process type function (or_nil v))
   where
     there : List Value → List Value → List Value → Value → Result (Option Event) EventFault
     there = event_when_there keyed

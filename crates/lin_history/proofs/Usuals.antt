@@ -6,7 +6,7 @@ use Rattle.lin_edn.specs.Grammar.{Element}
 use Rattle.lin_edn.specs.Laws.{ElementsAreUnique}
 use Rattle.lin_edn.specs.Run.{run_value}
 use Rattle.lin_edn.specs.Value.{Value, nil, bool, int, atom, keyword, text, list, vector, set, map, tagged, values_of, Entries}
-use Rattle.lin_history.specs.Table.{bare, under, body_of, or_fault, is_several, is_named, or_nil, event, event_under, event_with, parts_of, process_of, type_of, function_of}
+use Rattle.lin_history.specs.Table.{bare, under, body_of, or_fault, is_several, is_by_keyword, or_nil, event, event_under, event_with, parts_of, process_of, type_of, function_of}
 use Rattle.lin_history.specs.inner.Usual.{IsPlaced, ArePlaced, AreParts, TellsWith}
 use Rattle.lin_events.specs.declared.calls.Name.{Name}
 use Rattle.lin_events.specs.declared.events.Body.{Body}
@@ -48,7 +48,7 @@ pub value_parts : ElementsAreUnique → (s : List ℕ) (levels : ℕ) (vs : List
 value_parts unique s levels vs p v used few there whole here = parts_alone false vs v (pos 0) v (alone unique s levels vs p v used few there whole here) refl
 
 -- a number is no name
-numbered : (v : Value) (n : ℕ) → process_of v ≡ Some n → is_named (v ∷ []) ≡ false
+numbered : (v : Value) (n : ℕ) → process_of v ≡ Some n → is_by_keyword (v ∷ []) ≡ false
 numbered nil n h = refl
 numbered (bool b) n h = refl
 numbered (int i) n h = refl
@@ -78,13 +78,13 @@ pub usual_told : (keyed : Bool) (es : Entries) (a b d : Value) (n : ℕ) (t : Ev
 usual_told keyed es a b d n t f told first second third process type function tells =
     usual_event_is keyed es a b d n told first second third tells.0 process (tells.1 a b d process type function)
 
-named_under : (keyed : Bool) (v : Value) (ts fs vs : List Value) → is_named (v ∷ []) ≡ true → is_several ts ≡ false → is_several fs ≡ false → is_several vs ≡ false →
+named_under : (keyed : Bool) (v : Value) (ts fs vs : List Value) → is_by_keyword (v ∷ []) ≡ true → is_several ts ≡ false → is_several fs ≡ false → is_several vs ≡ false →
     event_under keyed (v ∷ []) ts fs vs ≡ Ok None
 named_under keyed v ts fs vs h a b c = rw (a, b, c, h) refl
 
 -- a usual map of the nemesis
 pub usual_named : (keyed : Bool) (s : List ℕ) (levels : ℕ) (es : Entries) (ps : Places) (v : Value) → ArePlaced s levels es ps →
-    under (codes ":process") es ≡ v ∷ [] → is_named (v ∷ []) ≡ true → event keyed (map es) ≡ Ok None
+    under (codes ":process") es ≡ v ∷ [] → is_by_keyword (v ∷ []) ≡ true → event keyed (map es) ≡ Ok None
 usual_named keyed s levels es ps v are first named =
     rw first (named_under keyed v (under (codes ":type") es) (under (codes ":f") es) (under (codes ":value") es) named
     (few s levels (under (codes ":type") es) ps.event_type are.types) (few s levels (under (codes ":f") es) ps.function are.function)

@@ -177,10 +177,10 @@ abbrev pub or_nil : List Value → Value
 or_nil [] = nil
 or_nil (v ∷ vs) = v
 
--- an operation of a process that a keyword names, as the nemesis, is no event
-abbrev pub is_named : List Value → Bool
-is_named (keyword at w ∷ vs) = true
-is_named _ = false
+-- a process that a keyword names, as the nemesis: its operations are no events
+abbrev pub is_by_keyword : List Value → Bool
+is_by_keyword (keyword at w ∷ vs) = true
+is_by_keyword _ = false
 
 abbrev pub event_when_there : Bool → List Value → List Value → List Value → Value → Result (Option Event) EventFault
 event_when_there keyed (process ∷ _) (type ∷ _) (function ∷ _) v = event_with keyed process type function v
@@ -189,7 +189,7 @@ event_when_there keyed _ _ _ v = Err Missing
 abbrev pub event_under : Bool → List Value → List Value → List Value → List Value → Result (Option Event) EventFault
 event_under keyed process type function v =
     if is_several process || is_several type || is_several function || is_several v then Err DuplicateKey else
-    (if is_named process then Ok None else event_when_there keyed process type function (or_nil v))
+    (if is_by_keyword process then Ok None else event_when_there keyed process type function (or_nil v))
 
 abbrev pub event_in : Bool → Value → Result (Option Event) EventFault
 event_in keyed (map es) = event_under keyed (under (codes ":process") es) (under (codes ":type") es) (under (codes ":f") es) (under (codes ":value") es)

@@ -496,7 +496,7 @@ pub(crate) fn event_said(
 }
 
 pub(crate) fn is_keyword(element: &Edn) -> bool
-    ensures { result ≡ table.is_named (view element.now ∷ []) }
+    ensures { result ≡ table.is_by_keyword (view element.now ∷ []) }
 {
     match element {
         Edn::Keyword(_) => true,

@@ -5,7 +5,7 @@ use Rattle.std.specs.List.{slice_range}
 use Rattle.lin_edn.specs.Bytes.{Kind, a_set, a_vector}
 use Rattle.lin_edn.specs.Run.{run_value}
 use Rattle.lin_edn.specs.Value.{Value, map, Entries, entries_of}
-use Rattle.lin_history.specs.Table.{bare, is_word, under, process_of, type_of, function_of, parts_of, or_nil, is_several, is_named, event, event_with}
+use Rattle.lin_history.specs.Table.{bare, is_word, under, process_of, type_of, function_of, parts_of, or_nil, is_several, is_by_keyword, event, event_with}
 use Rattle.lin_events.specs.declared.calls.Name.{Name}
 use Rattle.lin_history.specs.declared.table.EventType.{EventType}
 use Rattle.lin_history.specs.declared.usual.Place.{Place}
@@ -41,7 +41,7 @@ TellsWith keyed n t f vs told = (is_several vs ≡ false) × ((process type func
 -- a value says the process: its number, or a name
 abbrev pub IsProcess : Value → Process → Type 0
 IsProcess v (Number n) = process_of v ≡ Some n
-IsProcess v Named = is_named (v ∷ []) ≡ true
+IsProcess v Named = is_by_keyword (v ∷ []) ≡ true
 
 -- the places of the values under the four keys of a map are kept
 pub record ArePlaced (s : List ℕ) (levels : ℕ) (es : Entries) (ps : Places) : Type 0 where
