@@ -12,4 +12,4 @@ pub mod Texts
 pub mod Verdicts
 pub mod VerdictLaws
 pub mod lemmas
-pub mod inner
+pub mod Intakes

@@ -4,7 +4,7 @@ ghost use Rattle.std.specs.Io.KnownBytes.{Consumes, IsAtEnd};
 ghost use Rattle.lin_events.specs.declared.events.Event.{Event as EventOf};
 ghost use Rattle.lin_history.specs.Sees.{is_fault, Sees};
 ghost use Rattle.lin_formats.specs.Devices.{device_of, failures_of, Counts};
-ghost use Rattle.lin_formats.specs.inner.Intakes.{IsFed};
+ghost use Rattle.lin_formats.specs.Intakes.{IsFed};
 ghost use Rattle.lin_formats.specs.Inputs.{limit, AreRefused, IsTooMany};
 ghost use Rattle.lin_formats.specs.Inputs as inputs_said;
 ghost use Rattle.lin_formats.specs.Verdicts.{IsReadTooFar};
@@ -66,7 +66,7 @@ fn take_ready(follow: &mut Follow, events: &mut Vec<Event>) -> Result<bool, OutO
 }
 
 /// Takes in one more piece of the file, or tells why it is refused.
-fn take_in(
+pub fn take_piece(
     follow: &mut Follow,
     events: &mut Vec<Event>,
     piece: &[u8],
@@ -93,7 +93,7 @@ fn take_in(
 }
 
 /// What a file says whose bytes all were taken in.
-fn finish(follow: &Follow, events: Vec<Event>) -> Result<History, RunFault>
+pub fn finish_history(follow: &Follow, events: Vec<Event>) -> Result<History, RunFault>
     ensures { (bytes : List ℕ) → IsFed follow.now bytes events.items → MatchResult result (IsHistory follow.now.keyed bytes) (λ _. ⊥) }
 {
     match follow.finish() {
@@ -128,9 +128,9 @@ pub fn read_history<R: Read>(
             return Err(RunFault::ReadFailed);
         };
         if count == 0 {
-            return finish(&follow, events);
+            return finish_history(&follow, events);
         }
-        if let Some(refusal) = take_in(&mut follow, &mut events, &piece[..count])? {
+        if let Some(refusal) = take_piece(&mut follow, &mut events, &piece[..count])? {
             return Ok(History::Refused(refusal));
         }
     }

@@ -17,7 +17,7 @@ mod writing;
 
 pub use counted::Counted;
 pub use faults::{OrderFault, RunFault};
-pub use inputs::{History, read_history};
+pub use inputs::{History, finish_history, read_history, take_piece};
 pub use integers::{integer, number};
 pub use kinds::{kind_named, kind_word, kind_words, kind_words_are_read};
 pub use orders::read_order;

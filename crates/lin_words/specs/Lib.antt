@@ -1,3 +1,4 @@
 pub mod Values
 pub mod Operations
 pub mod Tables
+pub mod Spots

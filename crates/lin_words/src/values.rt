@@ -23,7 +23,7 @@ pub fn put_value(line: &mut Vec<u8>, value: Val) -> Result<(), AllocError>
 }
 
 /// Puts numbers last, with commas between them; of more than eight the first eight, and how many there are.
-fn put_items(line: &mut Vec<u8>, numbers: &[i64]) -> Result<(), AllocError>
+pub fn put_items(line: &mut Vec<u8>, numbers: &[i64]) -> Result<(), AllocError>
     ensures { OnOk result (line.new.items ≡ line.old.items ++ items_text numbers.now) }
 {
     if numbers.len() <= TOLD {

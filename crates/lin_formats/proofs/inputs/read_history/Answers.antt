@@ -7,10 +7,10 @@ pub returns-then-count-eq0-clause-read : goal.returns-then-count-eq0-clause-read
 returns-then-count-eq0-clause-read g c =
     let v = c.pieces.invariant in
     let read = c.in-Ok.ensures.bytes in
-    said_at_end c.finish.result _ _ _ c.args.keyed v.bytes v.keyed v.within
+    said_at_end c.finish_history.result _ _ _ c.args.keyed v.bytes v.keyed v.within
     (consumed_end _ _ _ v.bytes c.read.new.buf c.in-Ok.count v.consumed read.0 c.if-count-eq0.true)
     (read.1 c.if-count-eq0.true (omega arith))
-    (c.finish.ensures v.bytes v.taken)
+    (c.finish_history.ensures v.bytes v.taken)
 
 pub returns-in_err-refusal-clause-too_much : goal.returns-in_err-refusal-clause-too_much
 returns-in_err-refusal-clause-too_much g c = λ e.

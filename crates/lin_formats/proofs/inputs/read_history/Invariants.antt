@@ -2,7 +2,7 @@ use Rattle.std.proofs.Common.{◌≡◌, ◌<◌, ◌≤◌, ◌^◌, ℕ, List,
 use Rattle.lin_history.specs.Sees.{is_fault}
 use Rattle.std.specs.Io.KnownBytes.{Consumes}
 use Rattle.lin_formats.specs.Devices.{device_of, failures_of}
-use Rattle.lin_formats.specs.inner.Intakes.{IsFed}
+use Rattle.lin_formats.specs.Intakes.{IsFed}
 use Rattle.lin_formats.proofs.inputs.read_history.Given as goal
 
 abbrev pub invariant-pieces : goal.invariant-pieces

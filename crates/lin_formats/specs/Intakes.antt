@@ -1,4 +1,4 @@
--- What is taken in of a file so far: cited by the contracts of private functions alone.
+-- What is taken in of a file so far.
 use Rattle.std.specs.Prelude.{◌≡◌, ◌≤◌, ℕ, List, [], length}
 use Rattle.lin_events.specs.declared.events.Event.{Event}
 use Rattle.lin_history.specs.Sees.{Followed, Sees}
