@@ -1,0 +1,4 @@
+pub mod Passing
+pub mod Quieting
+pub mod Marking
+pub mod Choices

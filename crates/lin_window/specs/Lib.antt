@@ -1,0 +1,4 @@
+pub mod Operations
+pub mod Tables
+pub mod Choices
+pub mod lemmas
