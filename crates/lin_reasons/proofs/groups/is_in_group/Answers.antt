@@ -1,0 +1,6 @@
+use Rattle.std.proofs.Common.{◌↔◌, IsTrue, subst, sym}
+use Rattle.lin_reasons.specs.Groups.{IsInGroup}
+use Rattle.lin_reasons.proofs.groups.is_in_group.Goals as goal
+
+pub returns-in-Between : goal.returns-in-Between
+returns-in-Between c = subst (λ group. IsTrue c.is_between.result ↔ IsInGroup c.args.events.now group c.args.at) (sym c.in-Between.is) c.is_between.ensures

@@ -1,0 +1,29 @@
+use Rattle.std.proofs.Common.{OnOk, subst, sym, rules, w64}
+use mir.Val.{SFits}
+use Rattle.lin_failures.specs.lemmas.SetConflicting.{as_held}
+use Rattle.lin_reasons.specs.Reasons.{ArePut, IsReasonOfRegister}
+use Rattle.lin_reasons.proofs.Premises.{nothing_put, overwritten_of}
+use Rattle.lin_reasons.proofs.registers.put_register_reason.Goals as goal
+
+pub put_overwritten-requires-clause-holds : goal.put_overwritten-requires-clause-holds
+put_overwritten-requires-clause-holds c =
+    overwritten_of c.args.told.now.events.now c.args.certificate.now c.in-Overwritten.operation c.in-Overwritten.value c.in-Overwritten.is c.requires.holds
+
+pub returns-in-Unwritten : goal.returns-in-Unwritten
+returns-in-Unwritten c =
+    let told = c.args.told.now in
+    let fits : SFits w64 c.in-Unwritten.number = search rules in
+    let number = as_held c.in-Unwritten.number fits in
+    subst (λ x. OnOk c.put_unwritten.result (ArePut (IsReasonOfRegister told x) c.args.text.now.items c.put_unwritten.new.text.items c.args.names.now.items c.put_unwritten.new.names.items))
+    (sym c.in-Unwritten.is) (rw number at c.put_unwritten.ensures)
+
+pub returns-in-Overwritten : goal.returns-in-Overwritten
+returns-in-Overwritten c =
+    let told = c.args.told.now in
+    subst (λ x. OnOk c.put_overwritten.result (ArePut (IsReasonOfRegister told x) c.args.text.now.items c.put_overwritten.new.text.items c.args.names.now.items c.put_overwritten.new.names.items))
+    (sym c.in-Overwritten.is) c.put_overwritten.ensures
+
+pub returns-in_default : goal.returns-in_default
+returns-in_default c =
+    let a = c.in_default in
+    nothing_put c.args.told.now c.args.certificate.now c.args.text.now.items c.args.names.now.items a.not-Shape a.not-Unwritten a.not-Overwritten a.not-Crossed

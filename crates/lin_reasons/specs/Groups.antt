@@ -1,0 +1,53 @@
+-- Groups of operations that the lines of a certificate list.
+use Rattle.std.specs.Prelude.{◌≡◌, ◌≢◌, ◌<◌, ◌↔◌, ℕ, List, AllPairs, Contains}
+use Rattle.lin_events.specs.declared.calls.Call.{Call}
+use Rattle.lin_events.specs.declared.calls.Call.TheVariants.{Acquire, Release}
+use Rattle.lin_events.specs.declared.calls.Reply.{Reply}
+use Rattle.lin_events.specs.declared.events.Event.{Event}
+use Rattle.lin_events.specs.Operations.{IsFailed}
+use Rattle.lin_orders.specs.Orders.{IsBefore, IsCall}
+use Rattle.lin_failures.specs.Adding.{Adds}
+use Rattle.lin_failures.specs.Conflicts.{Leaves}
+use Rattle.lin_failures.specs.QueueConflicts.{Takes}
+use Rattle.lin_certificates.specs.Certificates.{Overwrites}
+use Rattle.lin_certificates.specs.Words.{Counts, Returned, Updates}
+use Rattle.lin_reasons.specs.declared.groups.Calls.{Calls}
+use Rattle.lin_reasons.specs.declared.groups.Calls.TheVariants as Called
+use Rattle.lin_reasons.specs.declared.groups.Answers.{Answers}
+use Rattle.lin_reasons.specs.declared.groups.Answers.TheVariants as Answered
+use Rattle.lin_reasons.specs.declared.groups.Group.{Group}
+use Rattle.lin_reasons.specs.declared.groups.Group.TheVariants as Chosen
+
+-- the list has just those that are such, rising
+abbrev pub IsListing : (ℕ → Type 0) → List ℕ → Type 0
+IsListing P list = AllPairs ◌<◌ list × ((at : ℕ) → P at ↔ Contains list at)
+
+-- the operation failed, and its call is such
+abbrev pub Fails : List Event → (Call → Type 0) → ℕ → Type 0
+Fails h P at = (call : Call) × IsCall h at call × IsFailed h at × P call
+
+-- between the one operation and the other stands an ok one that leaves some value
+abbrev pub IsBetween : List Event → ℕ → ℕ → ℕ → Type 0
+IsBetween h first last over = Overwrites h last over × IsBefore h first over
+
+-- the call is of this sort
+abbrev pub IsOfCalls : Calls → Call → Type 0
+IsOfCalls (Called.Leaves v) call = Leaves call v
+IsOfCalls Called.Updates call = Updates call
+IsOfCalls (Called.Adds n) call = Adds call n
+IsOfCalls Called.Acquires call = call ≡ Acquire
+IsOfCalls Called.Releases call = call ≡ Release
+
+-- the call with this reply is of this sort
+abbrev pub IsOfAnswers : Answers → Call → Reply → Type 0
+IsOfAnswers (Answered.Called calls) call reply = IsOfCalls calls call
+IsOfAnswers (Answered.Takes n) call reply = Takes call reply n
+
+-- the operation is one of the group
+abbrev pub IsInGroup : List Event → Group → ℕ → Type 0
+IsInGroup h (Chosen.Counts calls) at = Counts h (IsOfCalls calls) at
+IsInGroup h (Chosen.CountsBut calls but) at = (at ≢ but) × Counts h (IsOfCalls calls) at
+IsInGroup h (Chosen.Fails calls) at = Fails h (IsOfCalls calls) at
+IsInGroup h (Chosen.Returned answers) at = Returned h (IsOfAnswers answers) at
+IsInGroup h (Chosen.Overwrites place) at = Overwrites h place at
+IsInGroup h (Chosen.Between first last) at = IsBetween h first last at

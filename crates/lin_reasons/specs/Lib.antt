@@ -1,0 +1,6 @@
+pub mod Telling
+pub mod Series
+pub mod Lines
+pub mod Groups
+pub mod Sides
+pub mod Reasons

@@ -1,0 +1,229 @@
+//! Groups of operations that the lines of a certificate list.
+ghost use Rattle.std.specs.Prelude.{◌↔◌, ◌<◌, IsTrue, length};
+ghost use Rattle.lin_orders.specs.Orders.{IsBefore};
+ghost use Rattle.lin_orders.specs.Tables.{IsNextTable};
+ghost use Rattle.lin_failures.specs.Adding.{Adds};
+ghost use Rattle.lin_failures.specs.Conflicts.{Leaves};
+ghost use Rattle.lin_failures.specs.QueueConflicts.{Takes};
+ghost use Rattle.lin_certificates.specs.Certificates.{Overwrites};
+ghost use Rattle.lin_certificates.specs.Words.{Counts, Returned, Updates};
+ghost use Rattle.lin_reasons.specs.Groups.{Fails, IsBetween, IsInGroup, IsOfAnswers, IsOfCalls};
+
+use lin_events::{Call, Event, Reply, Val};
+use lin_orders::{call_at, is_failed, ok_end};
+
+/// A sort of calls.
+#[derive(Clone, Copy, Debug, PartialEq, Eq)]
+pub(crate) enum Calls {
+    /// It leaves the value in a register.
+    Leaves(Val),
+    /// It leaves some value in a register.
+    Updates,
+    /// It adds the number to a set, or puts it into a queue.
+    Adds(i64),
+    Acquires,
+    Releases,
+}
+
+/// A sort of calls with their replies.
+#[derive(Clone, Copy, Debug, PartialEq, Eq)]
+pub(crate) enum Answers {
+    /// The call is of the sort.
+    Called(Calls),
+    /// It took the number out of a queue.
+    Takes(i64),
+}
+
+/// A group of operations.
+#[derive(Clone, Copy, Debug, PartialEq, Eq)]
+pub(crate) enum Group {
+    /// Those that aren't failed.
+    Counts(Calls),
+    /// Those that aren't failed, but for this one.
+    CountsBut(Calls, usize),
+    /// Those that failed.
+    Fails(Calls),
+    /// Those that are ok.
+    Returned(Answers),
+    /// Those that are ok, leave some value in a register, and are before this one.
+    Overwrites(usize),
+    /// Those of them that stand between the two.
+    Between(usize, usize),
+}
+
+/// Whether the call leaves the value in the register.
+fn leaves(call: &Call, value: Val) -> bool
+    ensures { IsTrue result ↔ Leaves call.now value }
+{
+    match call {
+        Call::Write(left) => *left == value,
+        Call::Cas(_, left) => *left == value,
+        _ => false,
+    }
+}
+
+/// Whether the call leaves some value in the register.
+fn updates(call: &Call) -> bool
+    ensures { IsTrue result ↔ Updates call.now }
+{
+    match call {
+        Call::Write(_) => true,
+        Call::Cas(_, _) => true,
+        _ => false,
+    }
+}
+
+/// Whether the call adds the number to a set, or puts it into a queue.
+fn adds(call: &Call, number: i64) -> bool
+    ensures { IsTrue result ↔ Adds call.now number }
+{
+    match call {
+        Call::Add(added) => *added == number,
+        Call::Enqueue(added) => *added == number,
+        _ => false,
+    }
+}
+
+/// Whether the call with this reply takes the number out.
+fn takes(call: &Call, reply: &Reply, number: i64) -> bool
+    ensures { IsTrue result ↔ Takes call.now reply.now number }
+{
+    match call {
+        Call::Dequeue => match reply {
+            Reply::Value(Val::Int(found)) => *found == number,
+            _ => false,
+        },
+        _ => false,
+    }
+}
+
+/// Whether the call is of the sort.
+fn is_of_calls(call: &Call, calls: &Calls) -> bool
+    ensures { IsTrue result ↔ IsOfCalls calls.now call.now }
+{
+    match calls {
+        Calls::Leaves(value) => leaves(call, *value),
+        Calls::Updates => updates(call),
+        Calls::Adds(number) => adds(call, *number),
+        Calls::Acquires => matches!(call, Call::Acquire),
+        Calls::Releases => matches!(call, Call::Release),
+    }
+}
+
+/// Whether the call with this reply is of the sort.
+fn is_of_answers(call: &Call, reply: &Reply, answers: &Answers) -> bool
+    ensures { IsTrue result ↔ IsOfAnswers answers.now call.now reply.now }
+{
+    match answers {
+        Answers::Called(calls) => is_of_calls(call, calls),
+        Answers::Takes(number) => takes(call, reply, *number),
+    }
+}
+
+/// Whether the operation at the place counts, and its call is of the sort.
+fn counts(events: &[Event], ends: &[Option<usize>], at: usize, calls: &Calls) -> bool
+    requires table { IsNextTable events.now ends.now }
+    requires within { at < length events.now }
+    ensures { IsTrue result ↔ Counts events.now (IsOfCalls calls.now) at }
+{
+    let Some(call) = call_at(events, at) else {
+        return false;
+    };
+    is_of_calls(call, calls) && !is_failed(events, ends, at)
+}
+
+/// Whether the operation at the place failed, and its call is of the sort.
+fn fails(events: &[Event], ends: &[Option<usize>], at: usize, calls: &Calls) -> bool
+    requires table { IsNextTable events.now ends.now }
+    requires within { at < length events.now }
+    ensures { IsTrue result ↔ Fails events.now (IsOfCalls calls.now) at }
+{
+    let Some(call) = call_at(events, at) else {
+        return false;
+    };
+    is_of_calls(call, calls) && is_failed(events, ends, at)
+}
+
+/// Whether the operation at the place is ok, and its call with its reply is of the sort.
+fn returned(events: &[Event], ends: &[Option<usize>], at: usize, answers: &Answers) -> bool
+    requires table { IsNextTable events.now ends.now }
+    requires within { at < length events.now }
+    ensures { IsTrue result ↔ Returned events.now (IsOfAnswers answers.now) at }
+{
+    let Some(call) = call_at(events, at) else {
+        return false;
+    };
+    match ok_end(events, ends, at) {
+        Some((_, reply)) => is_of_answers(call, reply, answers),
+        None => false,
+    }
+}
+
+/// Whether the one operation, which stands in the history, is before the other in real time.
+fn is_before(events: &[Event], ends: &[Option<usize>], earlier: usize, later: usize) -> bool
+    requires table { IsNextTable events.now ends.now }
+    requires within { earlier < length events.now }
+    ensures { IsTrue result ↔ IsBefore events.now earlier later }
+{
+    match ok_end(events, ends, earlier) {
+        Some((end, _)) => end < later,
+        None => false,
+    }
+}
+
+/// Whether the one operation is before the other in real time.
+fn comes_before(events: &[Event], ends: &[Option<usize>], earlier: usize, later: usize) -> bool
+    requires { IsNextTable events.now ends.now }
+    ensures { IsTrue result ↔ IsBefore events.now earlier later }
+{
+    earlier < events.len() && is_before(events, ends, earlier, later)
+}
+
+/// Whether the operation at the place is ok, leaves some value, and is before the last one.
+fn overwrites(events: &[Event], ends: &[Option<usize>], at: usize, last: usize) -> bool
+    requires table { IsNextTable events.now ends.now }
+    requires within { at < length events.now }
+    ensures { IsTrue result ↔ Overwrites events.now last at }
+{
+    let made = returned(events, ends, at, &Answers::Called(Calls::Updates));
+    let before = is_before(events, ends, at, last);
+    made & before
+}
+
+/// Whether the operation at the place is ok, leaves some value, and stands between the two.
+fn is_between(
+    events: &[Event],
+    ends: &[Option<usize>],
+    at: usize,
+    first: usize,
+    last: usize,
+) -> bool
+    requires table { IsNextTable events.now ends.now }
+    requires within { at < length events.now }
+    ensures { IsTrue result ↔ IsBetween events.now first last at }
+{
+    let over = overwrites(events, ends, at, last);
+    let before = comes_before(events, ends, first, at);
+    over & before
+}
+
+/// Whether the operation at the place, which stands in the history, is one of the group.
+pub(crate) fn is_in_group(
+    events: &[Event],
+    ends: &[Option<usize>],
+    at: usize,
+    group: &Group,
+) -> bool
+    requires table { IsNextTable events.now ends.now }
+    requires within { at < length events.now }
+    ensures { IsTrue result ↔ IsInGroup events.now group.now at }
+{
+    match group {
+        Group::Counts(calls) => counts(events, ends, at, calls),
+        Group::CountsBut(calls, but) => at != *but && counts(events, ends, at, calls),
+        Group::Fails(calls) => fails(events, ends, at, calls),
+        Group::Returned(answers) => returned(events, ends, at, answers),
+        Group::Overwrites(last) => overwrites(events, ends, at, *last),
+        Group::Between(first, last) => is_between(events, ends, at, *first, *last),
+    }
+}

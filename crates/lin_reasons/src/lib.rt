@@ -1,0 +1,19 @@
+//! The lines of an explanation that tell a certificate in words.
+#![tactic(auto)]
+
+mod groups;
+mod listing;
+mod locks;
+mod naming;
+mod queues;
+mod reasons;
+mod registers;
+#[cfg(test)]
+mod rows;
+mod series;
+mod sets;
+mod sides;
+mod told;
+
+pub use reasons::put_reason;
+pub use told::{Told, put_called, put_failed, put_op, put_returned};

@@ -1,0 +1,51 @@
+//! The lines that tell a certificate.
+ghost use Rattle.std.specs.Prelude.{IfOk, OnOk};
+ghost use Rattle.lin_orders.specs.Tables.{IsNextTable};
+ghost use Rattle.lin_reasons.specs.Reasons.{ArePut, IsCertified, IsReason, IsTold};
+
+use crate::locks::{put_counted, put_twice};
+use crate::naming::{in_order, name_pair};
+use crate::sets::put_set_reason;
+use crate::told::Told;
+use lin_certificates::Certificate;
+use std::alloc::{AllocError, Global};
+
+/// Puts the lines of the certificate last, and behind the names the operations that they name.
+fn put_any_reason(
+    text: &mut Vec<u8>,
+    names: &mut Vec<usize>,
+    told: &Told,
+    certificate: &Certificate,
+    alloc: Global,
+) -> Result<(), AllocError>
+    requires table { IsNextTable told.now.events.now told.now.ends.now }
+    requires holds { IsCertified told.now.events.now certificate.now }
+    ensures { OnOk result (ArePut (IsReason told.now certificate.now) text.old.items text.new.items names.old.items names.new.items) }
+{
+    match certificate {
+        Certificate::Twice { first, second } => {
+            put_twice(text, told, *first, *second)?;
+            name_pair(names, (*first, *second))?;
+            Ok(())
+        }
+        Certificate::Counted => put_counted(text, names, told, alloc),
+        _ => put_set_reason(text, names, told, certificate, alloc),
+    }
+}
+
+/// Puts the lines of a certificate last that holds of the events, each with its end. Gives the operations that the lines name, as places of
+/// their invocations among the object's own events, rising, each once.
+pub fn put_reason(
+    text: &mut Vec<u8>,
+    told: &Told,
+    certificate: &Certificate,
+    alloc: Global,
+) -> Result<Vec<usize>, AllocError>
+    requires table { IsNextTable told.now.events.now told.now.ends.now }
+    requires holds { IsCertified told.now.events.now certificate.now }
+    ensures { IfOk result (λ named. IsTold told.now certificate.now text.old.items text.new.items named.items) }
+{
+    let mut names = Vec::new(alloc);
+    put_any_reason(text, &mut names, told, certificate, alloc)?;
+    Ok(in_order(names))
+}
