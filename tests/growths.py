@@ -1,5 +1,5 @@
 #!/usr/bin/env python3
-"""Refuses each growth of memory of `edit`, `check` and `verify` in turn, and compares what is written with the undisturbed run.
+"""Refuses each growth of memory of `edit`, `check`, `explain` and `verify` in turn, and compares what is written with the undisturbed run.
 
 For each session below, growth 1, 2, 3 and so on of the built program is refused, one in each run, until a run meets no refusal.
 A refused run has to write whole replies to some first commands, just those of the undisturbed run, then the fault for want of
@@ -80,6 +80,9 @@ RUNS = [
         ["pull", "report", "refute 0", "refute 1", "ask 1", "budget 13", "ask 1", "ask", "order 1", "order", "budget 8", "ask 1", "truncate 7", "order 0", "report"],
     ),
     (["check", "--keyed", FILE], TWO_KEYS, []),
+    (["explain", "--keyed", "--order", FILE], TWO_KEYS, []),
+    (["explain", FILE], "p0 invoke write 5; p0 info write; p1 invoke read; p2 invoke read; p1 ok read 5; p2 ok read nil; p1 invoke read; p1 ok read nil", []),
+    (["explain", FILE], "p0 invoke write 5; p0 info write; p0 invoke read", []),
     (["verify", "--keyed", FILE, "0=done 2=done 4=7 6=3"], TWO_KEYS, []),
 ]
 

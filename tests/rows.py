@@ -12,6 +12,7 @@ A file of tests/rows/ is a topic. Its lines:
     WORDS => STATUS: LINE      a row: the words of the command line, the exit status and the line wanted on standard output
     WORDS => STATUS:           a row that prints nothing, or what the lines below say, which are indented by two spaces:
       LINE                       a line wanted on standard output; `...` is any text, but some
+      = LINE                     the same, where the line begins with a mark of the lines below
       < COMMAND                  a line of standard input; one that ends with `\\c` ends without byte 10
       <parts TEXT COUNT ..       a line of standard input, each text so many times
       + EVENT; EVENT             `append MAP` on standard input for each event, and `ok LEN` wanted, one more than the last such LEN
@@ -97,7 +98,9 @@ class Row:
     def read(self, line):
         """Reads one of the lines below the row."""
         mark, _, rest = line.partition(' ')
-        if mark == '<':
+        if mark == '=':
+            self.steps.append(('wanted', rest.encode() + b'\n'))
+        elif mark == '<':
             self.steps.append(('told', unescaped(rest[:-2] if rest.endswith('\\c') else rest + '\n')))
         elif mark == '<parts':
             self.steps.append(('told', repeated(rest) + b'\n'))

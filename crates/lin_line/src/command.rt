@@ -1,11 +1,11 @@
 //! The command line as `clap` knows it.
-ghost use Rattle.std.specs.Prelude.{◌≡◌, ◌⊎◌, ℕ, None, codes, IfOk, IfSome, IfNone, true, false, option_map};
+ghost use Rattle.std.specs.Prelude.{◌≡◌, ◌⊎◌, ℕ, ℤ, None, codes, IfOk, IfSome, IfNone, true, false, option_map};
 ghost use Rattle.clap.specs.Words.{app_of, first_of, found_of, rows_of, rule_of};
 ghost use Rattle.clap.specs.declared.builder.value_parser.ValueParser.{ValueParser as ParserOf};
 ghost use Rattle.clap.specs.declared.builder.value_parser.ValueParser.TheVariants.{Names};
 ghost use Rattle.clap.specs.declared.builder.command.Command.TheViews.{out-Command as fields_of};
 ghost use Rattle.lin_line.specs.declared.words.Line.{Line as LineOf};
-ghost use Rattle.lin_line.specs.CommandLine.{budget_rule, check_app, edit_app, file_rule, keyed_rule, kind_rule, optional_file_rule, order_rule, program_app, verify_app, is_given as given, with_options as options_of, GivesText, HasSettings, SpellsBudget, IsKindParser, LacksSettings, Says};
+ghost use Rattle.lin_line.specs.CommandLine.{budget_rule, check_app, edit_app, explain_app, file_rule, key_rule, keyed_rule, kind_rule, optional_file_rule, order_rule, program_app, verify_app, order_flag_rule, is_given as given, with_options as options_of, GivesText, HasSettings, SpellsBudget, SpellsKey, IsKindParser, LacksKey, LacksSettings, Says};
 
 use crate::words::Line;
 use clap::builder::ValueParser;
@@ -84,6 +84,28 @@ fn order_argument<'a>(alloc: Global) -> Arg<'a>
         .action(ArgAction::Set)
 }
 
+fn key_option<'a>(alloc: Global) -> Arg<'a>
+    ensures rule { rule_of result ≡ key_rule }
+    ensures local { (result.required ≡ false) × (result.global ≡ false) }
+{
+    Arg::new(alloc, "key")
+        .long("key")
+        .value_name("KEY")
+        .help("Explain this object, not the whole; one below zero as --key=-1")
+        .action(ArgAction::Set)
+        .value_parser(ValueParser::signed(i64::MIN, i64::MAX))
+}
+
+fn order_flag<'a>(alloc: Global) -> Arg<'a>
+    ensures rule { rule_of result ≡ order_flag_rule }
+    ensures local { (result.required ≡ false) × (result.global ≡ false) }
+{
+    Arg::new(alloc, "order")
+        .long("order")
+        .help("End a yes with a legal order")
+        .action(ArgAction::SetTrue)
+}
+
 /// The command with the options that each command has.
 fn with_options<'a>(
     alloc: Global,
@@ -120,6 +142,18 @@ fn check_command<'a>(alloc: Global, kinds: &'a [&'a str]) -> Result<Command<'a>,
     with_options(alloc, kinds, command)
 }
 
+fn explain_command<'a>(alloc: Global, kinds: &'a [&'a str]) -> Result<Command<'a>, AllocError>
+    ensures app { IfOk result (λ command. app_of command ≡ explain_app (Names kinds.entry)) }
+    ensures local { IfOk result (λ command. (fields_of command).has_globals ≡ false) }
+{
+    let command = Command::new(alloc, "explain")
+        .about("Tells why the history in FILE is linearizable, or why it isn't")
+        .arg(file_argument(alloc))?
+        .arg(key_option(alloc))?
+        .arg(order_flag(alloc))?;
+    with_options(alloc, kinds, command)
+}
+
 fn edit_command<'a>(alloc: Global, kinds: &'a [&'a str]) -> Result<Command<'a>, AllocError>
     ensures app { IfOk result (λ command. app_of command ≡ edit_app (Names kinds.entry)) }
     ensures local { IfOk result (λ command. (fields_of command).has_globals ≡ false) }
@@ -142,6 +176,7 @@ pub fn program<'a>(alloc: Global) -> Result<Command<'a>, AllocError>
         .subcommand_required(true)
         .subcommand(verify_command(alloc, kinds)?)?
         .subcommand(check_command(alloc, kinds)?)?
+        .subcommand(explain_command(alloc, kinds)?)?
         .subcommand(edit_command(alloc, kinds)?)
 }
 
@@ -170,6 +205,17 @@ fn budget_of(text: &str) -> Option<u32>
     match text.parse::<u32>() {
         Ok(budget) if 1 <= budget && budget <= MOST_BUDGET => Some(budget),
         _ => None,
+    }
+}
+
+/// The key that a text spells, where it is one.
+fn key_of(text: &str) -> Option<i64>
+    ensures some { IfSome result (SpellsKey text.now) }
+    ensures none { IfNone result ((key : ℤ) → SpellsKey text.now key → ⊥) }
+{
+    match text.parse::<i64>() {
+        Ok(key) => Some(key),
+        Err(_) => None,
     }
 }
 
@@ -222,6 +268,31 @@ fn check_line<'a>(settings: Settings, matches: &ArgMatches<'a>) -> Option<Line<'
     Some(Line::Check(settings, file))
 }
 
+/// What the arguments of `explain` say; none where `clap` found no file, which it requires, or a word for a key that is none.
+fn explain_line<'a>(settings: Settings, matches: &ArgMatches<'a>) -> Option<Line<'a>>
+    ensures some { HasSettings (rows_of (found_of matches.now)) settings → IfSome result (Says (codes "explain", rows_of (found_of matches.now))) }
+    ensures none { IfNone result (GivesText (rows_of (found_of matches.now)) (codes "file") None ⊎ LacksKey (rows_of (found_of matches.now))) }
+{
+    let Some(file) = text_of(matches, "file") else {
+        return None;
+    };
+    let key = match text_of(matches, "key") {
+        Some(text) => {
+            let Some(key) = key_of(text) else {
+                return None;
+            };
+            Some(key)
+        }
+        None => None,
+    };
+    Some(Line::Explain {
+        settings,
+        key,
+        with_order: is_given(text_of(matches, "order")),
+        file,
+    })
+}
+
 /// What a command and its arguments say; none where they say no line.
 pub fn line_of<'a>(command: &str, matches: &ArgMatches<'a>) -> Option<Line<'a>>
     ensures some { IfSome result (Says (command.now, rows_of (found_of matches.now))) }
@@ -233,6 +304,7 @@ pub fn line_of<'a>(command: &str, matches: &ArgMatches<'a>) -> Option<Line<'a>>
     match command {
         "verify" => verify_line(settings, matches),
         "check" => check_line(settings, matches),
+        "explain" => explain_line(settings, matches),
         "edit" => Some(Line::Edit(settings, text_of(matches, "file"))),
         _ => None,
     }

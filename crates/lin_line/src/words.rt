@@ -11,6 +11,17 @@ pub enum Line<'a> {
     Verify(Settings, &'a str, &'a str),
     /// Decide whether a file's history is linearizable: the file's name.
     Check(Settings, &'a str),
+    /// Tell why the answer about a file's history is what it is.
+    Explain {
+        /// The kind of the objects, how the file is read, and the budget.
+        settings: Settings,
+        /// The object that is asked about, if not the whole.
+        key: Option<i64>,
+        /// Whether a yes ends with a legal order.
+        with_order: bool,
+        /// The file's name.
+        file: &'a str,
+    },
     /// Carry out commands on a history: the name of the file that is pulled from, if there is one.
     Edit(Settings, Option<&'a str>),
 }
@@ -22,6 +33,7 @@ impl<'a> Line<'a> {
     {
         match self {
             Line::Verify(_, path, _) | Line::Check(_, path) => Some(*path),
+            Line::Explain { file, .. } => Some(*file),
             Line::Edit(_, path) => *path,
         }
     }

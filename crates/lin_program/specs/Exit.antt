@@ -4,6 +4,7 @@ use Rattle.std.specs.declared.io.ErrorKind.{ErrorKind as IoKind}
 use Rattle.std.specs.declared.io.ErrorKind.TheVariants as io_kind
 use Rattle.clap.specs.declared.error.kind.ErrorKind.{ErrorKind}
 use Rattle.clap.specs.declared.error.kind.ErrorKind.TheVariants as kind
+use Rattle.lin_report.specs.Explanations.{IsExplainRun}
 use Rattle.lin_report.specs.Reports.{IsCheckRun}
 use Rattle.lin_report.specs.Runs.{IsEditRun}
 use Rattle.lin_formats.specs.Verdicts.{IsVerifyRun}
@@ -14,7 +15,7 @@ use Rattle.lin_formats.specs.declared.faults.RunFault.TheVariants.{ReadFailed, W
 use Rattle.lin_formats.specs.declared.settings.Settings.{Settings}
 use Rattle.lin_line.specs.CommandLine.{file_of}
 use Rattle.lin_line.specs.declared.words.Line.{Line}
-use Rattle.lin_line.specs.declared.words.Line.TheVariants.{Verify, Check, Edit}
+use Rattle.lin_line.specs.declared.words.Line.TheVariants.{Verify, Check, Explain, Edit}
 use Rattle.lin_program.specs.declared.endings.Ending.{Ending}
 use Rattle.lin_program.specs.declared.system.Message.{Message}
 use Rattle.lin_program.specs.declared.system.Message.TheVariants.{NotOpened, Fault, OutOfMemory as NoMemory, NoText}
@@ -44,6 +45,7 @@ HasBudget settings = (1 ≤ settings.budget) × (settings.budget ≤ 1000000)
 abbrev pub IsRunnable : Line → Type 0
 IsRunnable (Verify settings file order) = HasBudget settings
 IsRunnable (Check settings file) = HasBudget settings
+IsRunnable (Explain settings key with_order file) = HasBudget settings
 IsRunnable (Edit settings file) = HasBudget settings
 
 -- What the line says is done, with its settings: what is left of the file and of the commands goes from the one to the other, and
@@ -51,6 +53,7 @@ IsRunnable (Edit settings file) = HasBudget settings
 abbrev pub IsRunOf : Line → Option (List ℕ) → Option (List ℕ) → Option (List ℕ) → Option (List ℕ) → Option (List ℕ) → Option (List ℕ) → Result Status RunFault → Type 0
 IsRunOf (Verify settings file order) old new commands commands' before after outcome = IsVerifyRun settings order.now old new before after outcome
 IsRunOf (Check settings file) old new commands commands' before after outcome = IsCheckRun settings old new before after outcome
+IsRunOf (Explain settings key with_order file) old new commands commands' before after outcome = IsExplainRun settings key with_order old new before after outcome
 IsRunOf (Edit settings file) old new commands commands' before after outcome = IsEditRun settings old new commands commands' before after outcome
 
 abbrev pub fault_of_run : Result Status RunFault → Option RunFault

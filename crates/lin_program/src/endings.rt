@@ -8,7 +8,7 @@ use clap::Error;
 use clap::error::ErrorKind;
 use lin_formats::{Counted, RunFault, Status, verify};
 use lin_line::Line;
-use lin_report::{check, run as edit};
+use lin_report::{check, explain, run as edit};
 use std::alloc::Global;
 use std::io::{Read, Write};
 
@@ -63,6 +63,12 @@ pub fn run<R: Read, C: Read, W: Write>(
     let outcome = match line {
         Line::Verify(settings, _, order) => verify(alloc, settings, file, order.as_bytes(), out),
         Line::Check(settings, _) => check(alloc, settings, file, out),
+        Line::Explain {
+            settings,
+            key,
+            with_order,
+            ..
+        } => explain(alloc, settings, key, with_order, file, out),
         Line::Edit(settings, _) => edit(alloc, settings, file, commands, out),
     };
     Ending {

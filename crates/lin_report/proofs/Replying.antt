@@ -9,7 +9,7 @@ use Rattle.lin_report.specs.Runs.{IsCommandReply, IsDone, IsReply, RunState}
 use Rattle.lin_report.specs.Refusals.{fault_text}
 use Rattle.lin_formats.specs.declared.verdicts.Status.{Status}
 use Rattle.lin_report.specs.declared.commands.Command.{Command}
-use Rattle.lin_report.specs.declared.commands.Command.TheVariants.{Edit, Skipped, Ask, Order, Report, Pull, Refute}
+use Rattle.lin_report.specs.declared.commands.Command.TheVariants.{Edit, Skipped, Ask, Order, Report, Pull, Refute, Explain}
 use Rattle.lin_report.specs.declared.commands.CommandFault.{CommandFault}
 use Rattle.lin_report.specs.declared.commands.CommandFault.TheVariants.{OutOfMemory}
 use Rattle.lin_report.proofs.CommandLines.{kept_says}
@@ -53,6 +53,7 @@ done_by keyed (Ask scope) before now new text status same reply = (new, subst (�
 done_by keyed (Order scope) before now new text status same reply = (new, subst (λ p. IsCommandReply (Order scope) p new text status) same reply, refl)
 done_by keyed Report before now new text status same reply = (new, subst (λ p. IsCommandReply Report p new text status) same reply, refl)
 done_by keyed (Refute key) before now new text status same reply = (new, subst (λ p. IsCommandReply (Refute key) p new text status) same reply, refl)
+done_by keyed (Explain scope) before now new text status same reply = (new, subst (λ p. IsCommandReply (Explain scope) p new text status) same reply, refl)
 done_by keyed Pull before now new text status same reply = elim reply [ ]
 
 pub plainly_said : (keyed : Bool) (held line : List ℕ) (before : RunState) (now new : Present) (follow : Followed) (left : Option (List ℕ)) (text : List ℕ) (status : Option Status) (command : Command)

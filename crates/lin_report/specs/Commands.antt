@@ -18,7 +18,7 @@ use Rattle.lin_formats.specs.Integers.{integer_of, number_of}
 use Rattle.lin_formats.specs.Kinds.{kind_named}
 use Rattle.lin_formats.specs.Parts.{Part, words_from}
 use Rattle.lin_report.specs.declared.commands.Command.{Command}
-use Rattle.lin_report.specs.declared.commands.Command.TheVariants.{Edit, Skipped, Ask, Order, Report, Pull, Refute}
+use Rattle.lin_report.specs.declared.commands.Command.TheVariants.{Edit, Skipped, Ask, Order, Report, Pull, Refute, Explain}
 use Rattle.lin_report.specs.declared.commands.CommandFault.{CommandFault}
 use Rattle.lin_report.specs.declared.commands.CommandFault.TheVariants.{UnknownCommand, BadWords, BadNumber, BadKind, NotOneMap, LineTooLong, Edn, Event, OutOfMemory}
 use Rattle.lin_report.specs.declared.senses.Sense.{Sense}
@@ -46,7 +46,8 @@ verb_of = stands_for (
     (codes "order", verb.Order) ∷
     (codes "report", verb.Report) ∷
     (codes "pull", verb.Pull) ∷
-    (codes "refute", verb.Refute) ∷ [])
+    (codes "refute", verb.Refute) ∷
+    (codes "explain", verb.Explain) ∷ [])
 
 -- one test after another: what is none has its fault
 abbrev pub or_refused : {A B : Type 0} → CommandFault → Option A → (A → Result B CommandFault) → Result B CommandFault
@@ -123,6 +124,7 @@ sense_behind verb.Order end words = plain Order (scope_in words)
 sense_behind verb.Report end words = plain (λ nothing. Report) (no_more words)
 sense_behind verb.Pull end words = plain (λ nothing. Pull) (no_more words)
 sense_behind verb.Refute end words = plain Refute (key_in words)
+sense_behind verb.Explain end words = plain Explain (scope_in words)
 
 -- what the words of a line say
 abbrev pub sense_of : List Part → Result Sense CommandFault

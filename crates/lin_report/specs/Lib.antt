@@ -3,6 +3,7 @@ pub mod CommandLaws
 pub mod MapCommands
 pub mod Pulls
 pub mod Reports
+pub mod Explanations
 pub mod Runs
 pub mod Refusals
 pub mod Uniqueness

@@ -96,18 +96,28 @@ IsRightReport settings bytes left text status =
     ((refusal : Refusal) × AreRefused settings.keyed bytes refusal × StopsFor refusal left × (text ≡ refusal_text refusal ++ codes "\n") × (status ≡ ends.Refused))
     ⊎ ((events : List Event) × IsWhole settings.keyed bytes events × IsAtEnd left × IsReport (opened settings events) text status)
 
+-- what is right to print of bytes, of which so much is left, and the status
+abbrev pub Printing : Type 1
+Printing = List ℕ → Option (List ℕ) → List ℕ → Status → Type 0
+
 -- what is left of a file went from the one to the other, the bytes between are not too many, and this is right to print of them
+abbrev pub IsPrinted : Printing → Option (List ℕ) → Option (List ℕ) → List ℕ → Status → Type 0
+IsPrinted is_right old new text status =
+    (bytes : List ℕ) × Consumes old new bytes × (length bytes ≤ 2 ^ 40) × is_right bytes new text status
+
 abbrev pub IsChecked : Settings → Option (List ℕ) → Option (List ℕ) → List ℕ → Status → Type 0
-IsChecked settings old new text status =
-    (bytes : List ℕ) × Consumes old new bytes × (length bytes ≤ 2 ^ 40) × IsRightReport settings bytes new text status
+IsChecked settings old new text status = IsPrinted (IsRightReport settings) old new text status
 
 -- What a run reads and writes, and how it ends: with what is right to print written, and its status; or early. After a fault of
 -- the writer a beginning of what is right to print is written, after any other fault nothing.
+abbrev pub IsPrintRun : Printing → Option (List ℕ) → Option (List ℕ) → Option (List ℕ) → Option (List ℕ) → Result Status RunFault → Type 0
+IsPrintRun is_right old new before after (Ok status) =
+    (text : List ℕ) × IsPrinted is_right old new text status × Appends before after text
+IsPrintRun is_right old new before after (Err ReadFailed) = Keeps before after
+IsPrintRun is_right old new before after (Err OutOfMemory) = Keeps before after
+IsPrintRun is_right old new before after (Err TooMuch) = Keeps before after × IsReadTooFar old new
+IsPrintRun is_right old new before after (Err WriteFailed) =
+    (text : List ℕ) × (status : Status) × IsPrinted is_right old new text status × ((n : ℕ) × Appends before after (take n text))
+
 abbrev pub IsCheckRun : Settings → Option (List ℕ) → Option (List ℕ) → Option (List ℕ) → Option (List ℕ) → Result Status RunFault → Type 0
-IsCheckRun settings old new before after (Ok status) =
-    (text : List ℕ) × IsChecked settings old new text status × Appends before after text
-IsCheckRun settings old new before after (Err ReadFailed) = Keeps before after
-IsCheckRun settings old new before after (Err OutOfMemory) = Keeps before after
-IsCheckRun settings old new before after (Err TooMuch) = Keeps before after × IsReadTooFar old new
-IsCheckRun settings old new before after (Err WriteFailed) =
-    (text : List ℕ) × (status : Status) × IsChecked settings old new text status × ((n : ℕ) × Appends before after (take n text))
+IsCheckRun settings old new before after result = IsPrintRun (IsRightReport settings) old new before after result

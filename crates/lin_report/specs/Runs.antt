@@ -18,6 +18,7 @@ use Rattle.lin_session.specs.declared.edits.EditFault.{EditFault}
 use Rattle.lin_session.specs.declared.edits.EditFault.TheVariants as edit_fault
 use Rattle.lin_formats.specs.VerdictTexts.{refusal_text}
 use Rattle.lin_report.specs.Commands.{IsCommand}
+use Rattle.lin_report.specs.Explanations.{IsExplainReply}
 use Rattle.lin_formats.specs.Inputs.{limit}
 use Rattle.lin_report.specs.Reports.{IsReport, answer_status, answer_text, opened}
 use Rattle.lin_formats.specs.Texts.{order_text}
@@ -27,7 +28,7 @@ use Rattle.lin_formats.specs.declared.verdicts.Refusal.TheVariants as refusal
 use Rattle.lin_formats.specs.declared.verdicts.Status.{Status}
 use Rattle.lin_formats.specs.declared.verdicts.Status.TheVariants as status_of
 use Rattle.lin_report.specs.declared.commands.Command.{Command}
-use Rattle.lin_report.specs.declared.commands.Command.TheVariants.{Edit, Skipped, Ask, Order, Report, Pull, Refute}
+use Rattle.lin_report.specs.declared.commands.Command.TheVariants.{Edit, Skipped, Ask, Order, Report, Pull, Refute, Explain}
 use Rattle.lin_report.specs.declared.commands.CommandFault.{CommandFault}
 use Rattle.lin_formats.specs.declared.faults.RunFault.{RunFault}
 use Rattle.lin_formats.specs.declared.faults.RunFault.TheVariants.{ReadFailed, WriteFailed, OutOfMemory, TooMuch}
@@ -96,6 +97,7 @@ IsCommandReply (Order scope) before after text status = (after ≡ before) × (a
     × (text ≡ order_answer_text answer ++ codes "\n") × (status ≡ Some (answer_status (verdict_of answer)))
 IsCommandReply Report before after text status = (after ≡ before) × (whole : Status) × IsReport before text whole × (status ≡ Some whole)
 IsCommandReply (Refute key) before after text status = (after ≡ before) × IsRefuteReply before key text status
+IsCommandReply (Explain scope) before after text status = (after ≡ before) × IsExplainReply before scope text status
 IsCommandReply Pull before after text status = ⊥
 
 -- why the file is refused, if it is; an element that is unfinished waits

@@ -18,9 +18,9 @@ use std::io::{Read, Write};
 
 /// What is printed of a file, and the status of a run that prints it.
 #[derive(Drop)]
-struct Answered {
-    text: Vec<u8>,
-    status: Status,
+pub struct Answered {
+    pub text: Vec<u8>,
+    pub status: Status,
 }
 
 /// A report of these events.

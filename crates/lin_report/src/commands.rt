@@ -36,6 +36,8 @@ pub enum Command {
     Pull,
     /// A refutation of one object.
     Refute(i64),
+    /// Why the answer is what it is, for the whole or for one object.
+    Explain(Scope),
 }
 
 /// Why a line is refused: the first of these that holds.

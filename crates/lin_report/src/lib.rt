@@ -4,6 +4,7 @@
 mod answers;
 mod checks;
 mod commands;
+mod explaining;
 mod laws;
 mod pulls;
 mod refused;
@@ -17,6 +18,7 @@ mod sessions;
 pub use answers::write_answer;
 pub use checks::check;
 pub use commands::{Command, CommandFault, commands_are_unique, read_command};
+pub use explaining::explain;
 pub use laws::answers_agree;
 pub use lin_formats::{
     Counted, OrderFault, RunFault, Settings, Status, read_order, verdicts_are_unique, verify,

@@ -7,6 +7,7 @@ ghost use Rattle.lin_report.specs.Refusals.{edit_fault_text, fault_text};
 
 use crate::answers::{status_of, verdict_of, verdict_words, write_answer};
 use crate::commands::{Command, CommandFault};
+use crate::explaining::explain_reply;
 use crate::refused::{put_edit_fault, put_fault};
 use crate::refuting::refute;
 use crate::reports::write_report;
@@ -153,6 +154,7 @@ fn report(alloc: Global, session: &mut Session) -> Result<Reply, OutOfMemory>
 /// Does what a command says that reads no file.
 pub fn reply_to(
     alloc: Global,
+    keyed: bool,
     session: &mut Session,
     command: Command,
 ) -> Result<Reply, OutOfMemory>
@@ -166,6 +168,7 @@ pub fn reply_to(
         Command::Order(scope) => order(alloc, session, scope),
         Command::Report => report(alloc, session),
         Command::Refute(key) => refute(alloc, session, key),
+        Command::Explain(scope) => explain_reply(alloc, keyed, session, scope, PATIENCE),
         Command::Pull => unreachable!(),
     }
 }

@@ -94,7 +94,7 @@ fn reply<R: Read>(
     match read_command(alloc, held, keyed) {
         Ok(None) => Ok(Reply::plain(Vec::new(alloc))),
         Ok(Some(Command::Pull)) => Ok(reply_to_pull(alloc, session, follow, file)?),
-        Ok(Some(command)) => Ok(reply_to(alloc, session, command)?),
+        Ok(Some(command)) => Ok(reply_to(alloc, keyed, session, command)?),
         Err(fault) => Ok(reply_to_fault(alloc, fault)?),
     }
 }

@@ -24,6 +24,7 @@ pub enum Verb {
     Report,
     Pull,
     Refute,
+    Explain,
 }
 
 /// Where the event of a map is put.
@@ -92,6 +93,9 @@ fn verb_of(word: &[u8]) -> Option<Verb>
     }
     if word == b"refute".as_slice() {
         return Some(Verb::Refute);
+    }
+    if word == b"explain".as_slice() {
+        return Some(Verb::Explain);
     }
     None
 }
@@ -225,6 +229,7 @@ fn command_behind(line: &[u8], verb: Verb, end: usize) -> Result<Sense, CommandF
             Command::Pull
         }
         Verb::Refute => Command::Refute(key_in(line, end)?),
+        Verb::Explain => Command::Explain(scope_in(line, end)?),
     };
     Ok(Sense::Plain(command))
 }

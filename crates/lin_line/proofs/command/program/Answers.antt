@@ -10,7 +10,9 @@ returns c =
     let begun : app_of c.subcommand_required.result ≡ required (new_app (codes "lincheck")) = ap app_of_fields c.subcommand_required.ensures ∙ ap required (ap app_of_fields c.about.ensures ∙ c.new.ensures.app) in
     let verifies = c.in_ok-verify_command.ensures in
     let checks = c.in_ok-check_command.ensures in
+    let explains = c.in_ok-explain_command.ensures in
     let edits = c.in_ok-edit_command.ensures in
     let first = c.in_ok-subcommand.ensures.shape verifies.local ∙ ap₂ with_subcommand begun (ap (λ (a : App). a.top) verifies.app) in
     let second = c.in_ok-subcommand-2.ensures.shape checks.local ∙ ap₂ with_subcommand first (ap (λ (a : App). a.top) checks.app) in
-    IfOk-weaker c.subcommand-3.result _ _ (λ command h. (_, c.kind_words-kinds.ensures, h.shape edits.local ∙ ap₂ with_subcommand second (ap (λ (a : App). a.top) edits.app))) c.subcommand-3.ensures
+    let third = c.in_ok-subcommand-3.ensures.shape explains.local ∙ ap₂ with_subcommand second (ap (λ (a : App). a.top) explains.app) in
+    IfOk-weaker c.subcommand-4.result _ _ (λ command h. (_, c.kind_words-kinds.ensures, h.shape edits.local ∙ ap₂ with_subcommand third (ap (λ (a : App). a.top) edits.app))) c.subcommand-4.ensures

@@ -1,0 +1,5 @@
+pub mod Answered
+pub mod Before
+pub mod Counting
+pub mod Parting
+pub mod Texts

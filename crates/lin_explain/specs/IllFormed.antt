@@ -1,0 +1,83 @@
+-- What is told of a history that isn't well-formed.
+use Rattle.std.specs.Prelude.{◌≡◌, ◌<◌, ℕ, ℤ, List, [], ◌++◌, Option, Some, None, codes}
+use Rattle.std.specs.Fmt.{signed_decimal}
+use Rattle.lin_events.specs.declared.calls.Name.{Name}
+use Rattle.lin_events.specs.declared.calls.Name.TheVariants.{Read, Write, Cas, Enqueue, Dequeue, Add, Acquire, Release}
+use Rattle.lin_events.specs.declared.events.Event.{Event}
+use Rattle.lin_events.specs.declared.events.Body.{Body}
+use Rattle.lin_events.specs.declared.events.Body.TheVariants.{Invoke, Ok, Fail, Info}
+use Rattle.lin_events.specs.declared.shapes.Cause.{Cause}
+use Rattle.lin_events.specs.declared.shapes.Cause.TheVariants.{RetiredProcess, BusyProcess, NotOfKind, NoInvocation, OtherCall, OtherKey}
+use Rattle.lin_events.specs.Names.{name_of}
+use Rattle.lin_events.specs.Operations.{IsEvent, IsOf}
+use Rattle.lin_objects.specs.declared.kinds.Kind.{Kind}
+use Rattle.lin_formats.specs.Kinds.{kind_text}
+use Rattle.lin_places.specs.declared.place.Place.{Place}
+use Rattle.lin_words.specs.Operations.{event_text, name_text}
+use Rattle.lin_words.specs.Spots.{event_spot_text}
+
+-- where the last event of the process before the position stands, if there is one
+abbrev pub IsLastPlace : List Event → ℕ → ℕ → Option ℕ → Type 0
+IsLastPlace h process at None = (k : ℕ) → k < at → IsOf h process k → ⊥
+IsLastPlace h process at (Some earlier) = (earlier < at) × IsOf h process earlier × ((k : ℕ) → earlier < k → k < at → IsOf h process k → ⊥)
+
+-- that event, and where it stands
+abbrev pub IsLastBefore : List Event → ℕ → ℕ → ℕ → Option Event → Type 0
+IsLastBefore h process at earlier None = (k : ℕ) → k < at → IsOf h process k → ⊥
+IsLastBefore h process at earlier (Some event) = (earlier < at) × IsEvent h earlier event × (event.process ≡ process)
+    × ((k : ℕ) → earlier < k → k < at → IsOf h process k → ⊥)
+
+abbrev pub stood_text : Option (List Place) → ℕ → Event → List ℕ
+stood_text places at event = event_text event ++ codes " at " ++ event_spot_text places at ++ codes "\n"
+
+-- the line on the event before
+abbrev pub before_text : Option (List Place) → ℕ → Option Event → List ℕ
+before_text places at None = codes "before it nothing of this process\n"
+before_text places at (Some event) = codes "before it " ++ stood_text places at event
+
+-- the words for the kinds that know calls of the function, in the order of the kinds
+abbrev pub kinds_text : Name → List ℕ
+kinds_text Read = codes "register, cas-register, set"
+kinds_text Write = codes "register, cas-register"
+kinds_text Cas = codes "cas-register"
+kinds_text Enqueue = codes "fifo, unordered-queue"
+kinds_text Dequeue = codes "fifo, unordered-queue"
+kinds_text Add = codes "set"
+kinds_text Acquire = codes "mutex"
+kinds_text Release = codes "mutex"
+
+abbrev pub function_text : Kind → Name → List ℕ
+function_text kind name = name_text name ++ codes " is no call of kind " ++ kind_text kind ++ codes "; it is one of " ++ kinds_text name ++ codes "\n"
+
+abbrev pub not_of_kind_text : Kind → Body → List ℕ
+not_of_kind_text kind (Invoke call) = function_text kind (name_of call)
+not_of_kind_text kind (Ok name reply) = []
+not_of_kind_text kind (Fail name) = []
+not_of_kind_text kind (Info name) = []
+
+abbrev pub keys_text : Option Event → ℤ → List ℕ
+keys_text None key = []
+keys_text (Some event) key = codes "a completion has the key of its invocation: " ++ signed_decimal event.key ++ codes " and " ++ signed_decimal key ++ codes "\n"
+
+-- what is asked of histories
+abbrev pub sentence_text : Kind → Event → Option Event → Cause → List ℕ
+sentence_text kind event before RetiredProcess = codes "a process isn't used again after an :info: its client goes on under a new number\n"
+sentence_text kind event before BusyProcess = codes "a process calls again only when its call has ended with :ok, :fail or :info\n"
+sentence_text kind event before NotOfKind = not_of_kind_text kind event.body
+sentence_text kind event before NoInvocation = codes "a completion stands behind an invocation of its process\n"
+sentence_text kind event before OtherCall = codes "a completion has the :f of its invocation\n"
+sentence_text kind event before OtherKey = keys_text before event.key
+
+-- the line on the event before, but where the cause has nothing to do with it
+abbrev pub before_line : Option (List Place) → ℕ → Option Event → Cause → List ℕ
+before_line places at before RetiredProcess = before_text places at before
+before_line places at before BusyProcess = before_text places at before
+before_line places at before NotOfKind = []
+before_line places at before NoInvocation = before_text places at before
+before_line places at before OtherCall = before_text places at before
+before_line places at before OtherKey = before_text places at before
+
+-- the lines: the event, the last one of its process before it, and what is asked of histories
+abbrev pub IsIllFormedText : List Event → (ℤ → Kind) → Option (List Place) → ℕ → Cause → List ℕ → Type 0
+IsIllFormedText h kinds places at cause lines = (event : Event) × IsEvent h at event × (earlier : ℕ) × (before : Option Event) × IsLastBefore h event.process at earlier before
+    × (lines ≡ stood_text places at event ++ before_line places earlier before cause ++ sentence_text (kinds event.key) event before cause)

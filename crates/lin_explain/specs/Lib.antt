@@ -1,0 +1,9 @@
+pub mod Counts
+pub mod Failures
+pub mod Heads
+pub mod IllFormed
+pub mod Own
+pub mod Refused
+pub mod Undecided
+pub mod Yes
+pub mod Explained

@@ -1,0 +1,62 @@
+-- What is told where more configurations would have to be kept than the budget allows.
+use Rattle.std.specs.Prelude.{◌≡◌, ◌+◌, ◌-◌, ◌++◌, ◌||◌, ℕ, nat_lt, not, Bool, true, false, List, [], Option, codes, decimal, take}
+use Rattle.lin_events.specs.declared.events.Event.{Event}
+use Rattle.lin_events.specs.Operations.{IsCrashed, IsEvent}
+use Rattle.lin_objects.specs.declared.kinds.Kind.{Kind}
+use Rattle.lin_places.specs.declared.place.Place.{Place}
+use Rattle.lin_session.specs.Answers.{kinds_in}
+use Rattle.lin_session.specs.Edits.{Present}
+use Rattle.lin_window.specs.Operations.{Exactly, IsOpenAt}
+use Rattle.lin_window.specs.Tables.{IsTable, Told, open_ones}
+use Rattle.lin_words.specs.Operations.{event_text}
+use Rattle.lin_words.specs.Spots.{event_spot_text}
+use Rattle.lin_explain.specs.Heads.{object_text}
+use Rattle.lin_explain.specs.Own.{IsStretch}
+
+-- the event with which there are too many
+abbrev pub event_line : Kind → ℕ → Option (List Place) → ℕ → Event → List ℕ
+event_line kind budget places at event = object_text event.key kind ++ codes "more than " ++ decimal budget ++ codes " configurations after "
+    ++ event_spot_text places at ++ codes ": " ++ event_text event ++ codes "\n"
+
+abbrev pub open_line : ℕ → ℕ → List ℕ
+open_line running crashed = codes "operations open then: " ++ decimal running ++ codes ", crashed of them: " ++ decimal crashed ++ codes "\n"
+
+abbrev pub front_text : Bool → List ℕ
+front_text false = codes "what may help: "
+front_text true = codes "; "
+
+-- one more thing that may help, if it may, behind others or none
+abbrev pub help_text : Bool → Bool → List ℕ → List ℕ
+help_text false others words = []
+help_text true others words = front_text others ++ words
+
+abbrev pub end_text : Bool → List ℕ
+end_text false = []
+end_text true = codes "\n"
+
+-- what may help: a larger budget, keys, fewer operations that crash, and fewer clients
+abbrev pub helps_text : Bool → Bool → Bool → Bool → List ℕ
+helps_text larger keys crashes clients = (((help_text larger false (codes "a larger --budget (up to 1000000)")
+    ++ help_text keys larger (codes "--keyed, if values are pairs of a key and a value"))
+    ++ help_text crashes (larger || keys) (codes "fewer operations that crash"))
+    ++ help_text clients ((larger || keys) || crashes) (codes "fewer clients at once"))
+    ++ end_text (((larger || keys) || crashes) || clients)
+
+-- a larger budget where there is one; keys where none are read; and fewer operations that are open
+abbrev pub helps : ℕ → Bool → ℕ → ℕ → List ℕ
+helps budget keyed running crashed = helps_text (nat_lt budget 1000000) (not keyed) (nat_lt 0 crashed) (nat_lt 1 (running - crashed))
+
+-- The lines: the event with which there are too many, how many operations of its object are open behind it and how many of these crashed, a table of
+-- them, and what may help.
+pub record IsUndecidedText (now : Present) (keyed : Bool) (places : Option (List Place)) (at : ℕ) (lines : List ℕ) : Type 0 where
+  pub event : Event
+  pub stretch : Told
+  pub running : ℕ
+  pub crashed : ℕ
+  pub table : List ℕ
+  pub stands : IsEvent now.history at event
+  pub own : IsStretch event.key (take (at + 1) now.history) places stretch
+  pub are_open : Exactly running (IsOpenAt stretch.events)
+  pub did_crash : Exactly crashed (IsCrashed stretch.events)
+  pub is_table : IsTable stretch open_ones table
+  pub says : lines ≡ event_line (kinds_in now event.key) now.budget places at event ++ (open_line running crashed ++ table ++ helps now.budget keyed running crashed)

@@ -1,0 +1,70 @@
+//! How many operations a history has, and how they ended.
+ghost use Rattle.std.specs.Prelude.{◌≡◌};
+ghost use Rattle.lin_explain.specs.Counts.{count_in, counts, is_within as within, open_in, says as sort_says};
+
+use lin_events::{Body, Event};
+use lin_session::Session;
+
+/// What an event says.
+#[derive(Clone, Copy)]
+pub(crate) enum Sort {
+    Invoked,
+    Ok,
+    Failed,
+    Crashed,
+}
+
+/// Whether a body is of the sort.
+fn says(sort: Sort, body: &Body) -> bool
+    ensures { result ≡ sort_says sort body.now }
+{
+    match (sort, body) {
+        (Sort::Invoked, Body::Invoke(_)) => true,
+        (Sort::Ok, Body::Ok(_, _)) => true,
+        (Sort::Failed, Body::Fail(_)) => true,
+        (Sort::Crashed, Body::Info(_)) => true,
+        _ => false,
+    }
+}
+
+/// Whether the event is of the key, if one is asked for.
+fn is_within(key: Option<i64>, event: &Event) -> bool
+    ensures { result ≡ within key event.now }
+{
+    match key {
+        Some(key) => event.key == key,
+        None => true,
+    }
+}
+
+/// Whether the event is of the sort, and of the key, if one is asked for.
+fn is_counted(key: Option<i64>, sort: Sort, event: &Event) -> bool
+    ensures { result ≡ counts key sort event.now }
+{
+    is_within(key, event) && says(sort, &event.body)
+}
+
+/// How many events of the sort the history has, or the object of the key.
+pub(crate) fn count(session: &Session, key: Option<i64>, sort: Sort) -> usize
+    ensures { result ≡ count_in key sort session.now.present.history }
+{
+    let mut found = 0;
+    for at in 0..session.len() {
+        let Some(event) = session.event(at) else {
+            unreachable!()
+        };
+        if is_counted(key, sort, event) {
+            found += 1;
+        }
+    }
+    found
+}
+
+/// How many operations are neither ok nor failed.
+pub(crate) fn count_open(session: &Session, key: Option<i64>) -> usize
+    ensures { result ≡ open_in key session.now.present.history }
+{
+    count(session, key, Sort::Invoked)
+        .saturating_sub(count(session, key, Sort::Ok))
+        .saturating_sub(count(session, key, Sort::Failed))
+}

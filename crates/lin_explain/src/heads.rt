@@ -1,0 +1,36 @@
+//! Words that several answers begin with, and what they need of an event.
+ghost use Rattle.std.specs.Prelude.{◌≡◌, ◌++◌, OnOk, codes};
+ghost use Rattle.std.specs.Fmt.{signed_decimal};
+ghost use Rattle.lin_session.specs.Answers.{kinds_in};
+ghost use Rattle.lin_explain.specs.Heads.{object_text};
+
+use lin_events::Event;
+use lin_formats::{kind_word, put_integer};
+use lin_objects::Kind;
+use lin_session::Session;
+use std::alloc::AllocError;
+
+/// Puts the key of an event last.
+pub(crate) fn put_key(text: &mut Vec<u8>, event: &Event) -> Result<(), AllocError>
+    ensures { OnOk result (text.new.items ≡ text.old.items ++ signed_decimal event.now.key) }
+{
+    put_integer(text, event.key)
+}
+
+/// The kind of an event's object.
+pub(crate) fn kind_for(session: &Session, event: &Event) -> Kind
+    ensures { result ≡ kinds_in session.now.present event.now.key }
+{
+    session.kind_of(event.key)
+}
+
+/// Puts the word object, the key of an event's object, its kind and a colon last.
+pub(crate) fn put_object(text: &mut Vec<u8>, event: &Event, kind: Kind) -> Result<(), AllocError>
+    ensures { OnOk result (text.new.items ≡ text.old.items ++ object_text event.now.key kind) }
+{
+    text.extend_from_slice(b"object ")?;
+    put_key(text, event)?;
+    text.extend_from_slice(b" ")?;
+    text.extend_from_slice(kind_word(kind).as_bytes())?;
+    text.extend_from_slice(b": ")
+}

@@ -1,0 +1,193 @@
+//! What is told of a history that isn't well-formed.
+ghost use Rattle.std.specs.Prelude.{◌≡◌, ◌<◌, ◌++◌, ℕ, List, None, Some, OnOk, IfNone, IfSome, codes, length, option_map};
+ghost use Rattle.lin_session.specs.Answers.{kinds_in};
+ghost use Rattle.lin_explain.specs.IllFormed.{IsIllFormedText, IsLastBefore, IsLastPlace, before_line, before_text, function_text, keys_text, kinds_text, not_of_kind_text, sentence_text, stood_text};
+
+use crate::heads::{kind_for, put_key};
+use lin_events::{Body, Cause, Event, Name, OutOfMemory};
+use lin_formats::kind_word;
+use lin_objects::Kind;
+use lin_places::Place;
+use lin_session::Session;
+use lin_words::{name_word, put_event, put_event_spot};
+use std::alloc::AllocError;
+
+/// Puts the words of an event last, and where it stands.
+fn put_stood(
+    text: &mut Vec<u8>,
+    places: Option<&[Place]>,
+    at: usize,
+    event: &Event,
+) -> Result<(), AllocError>
+    ensures { OnOk result (text.new.items ≡ text.old.items ++ stood_text (option_map (λ p. p.now) places.entry) at event.now) }
+{
+    put_event(text, event)?;
+    text.extend_from_slice(b" at ")?;
+    put_event_spot(text, places, at)?;
+    text.extend_from_slice(b"\n")
+}
+
+/// Where the last event of the process before a position stands.
+fn last_before(session: &Session, process: u64, at: usize) -> Option<usize>
+    requires { at < length session.now.present.history }
+    ensures { IsLastPlace session.now.present.history process at result }
+{
+    let mut found = None;
+    for earlier in 0..at {
+        let Some(event) = session.event(earlier) else {
+            unreachable!()
+        };
+        if event.process == process {
+            found = Some(earlier);
+        }
+    }
+    found
+}
+
+/// The last event of the process before a position, behind where it stands, if there is one.
+fn event_before(session: &Session, process: u64, at: usize) -> (usize, Option<&Event>)
+    requires { at < length session.now.present.history }
+    ensures { IsLastBefore session.now.present.history process at result.0 (option_map (λ e. e.now) result.1) }
+{
+    match last_before(session, process, at) {
+        Some(earlier) => (earlier, session.event(earlier)),
+        None => (0, None),
+    }
+}
+
+/// Puts the line that tells the last earlier event of the same process last.
+fn put_before(
+    text: &mut Vec<u8>,
+    places: Option<&[Place]>,
+    at: usize,
+    before: Option<&Event>,
+) -> Result<(), AllocError>
+    ensures { OnOk result (text.new.items ≡ text.old.items ++ before_text (option_map (λ p. p.now) places.entry) at (option_map (λ e. e.now) before.entry)) }
+{
+    let Some(event) = before else {
+        return text.extend_from_slice(b"before it nothing of this process\n");
+    };
+    text.extend_from_slice(b"before it ")?;
+    put_stood(text, places, at, event)
+}
+
+/// The words for the kinds that know calls of the function.
+fn kinds_words(name: Name) -> &'static str
+    ensures { result.now ≡ kinds_text name }
+{
+    match name {
+        Name::Read => "register, cas-register, set",
+        Name::Write => "register, cas-register",
+        Name::Cas => "cas-register",
+        Name::Enqueue => "fifo, unordered-queue",
+        Name::Dequeue => "fifo, unordered-queue",
+        Name::Add => "set",
+        Name::Acquire => "mutex",
+        Name::Release => "mutex",
+    }
+}
+
+/// Puts the sentence on a function that objects of the kind don't know last.
+fn put_function(text: &mut Vec<u8>, kind: Kind, name: Name) -> Result<(), AllocError>
+    ensures { OnOk result (text.new.items ≡ text.old.items ++ function_text kind name) }
+{
+    text.extend_from_slice(name_word(name).as_bytes())?;
+    text.extend_from_slice(b" is no call of kind ")?;
+    text.extend_from_slice(kind_word(kind).as_bytes())?;
+    text.extend_from_slice(b"; it is one of ")?;
+    text.extend_from_slice(kinds_words(name).as_bytes())?;
+    text.extend_from_slice(b"\n")
+}
+
+/// Puts the sentence on a call that objects of the kind don't know last.
+fn put_not_of_kind(text: &mut Vec<u8>, kind: Kind, body: &Body) -> Result<(), AllocError>
+    ensures { OnOk result (text.new.items ≡ text.old.items ++ not_of_kind_text kind body.now) }
+{
+    match body {
+        Body::Invoke(call) => put_function(text, kind, call.name()),
+        _ => Ok(()),
+    }
+}
+
+/// Puts the sentence on a completion of another key last.
+fn put_keys(text: &mut Vec<u8>, before: Option<&Event>, event: &Event) -> Result<(), AllocError>
+    ensures { OnOk result (text.new.items ≡ text.old.items ++ keys_text (option_map (λ e. e.now) before.entry) event.now.key) }
+{
+    let Some(invocation) = before else {
+        return Ok(());
+    };
+    text.extend_from_slice(b"a completion has the key of its invocation: ")?;
+    put_key(text, invocation)?;
+    text.extend_from_slice(b" and ")?;
+    put_key(text, event)?;
+    text.extend_from_slice(b"\n")?;
+    Ok(())
+}
+
+/// Puts what is asked of histories last.
+fn put_sentence(
+    text: &mut Vec<u8>,
+    kind: Kind,
+    event: &Event,
+    before: Option<&Event>,
+    cause: Cause,
+) -> Result<(), AllocError>
+    ensures { OnOk result (text.new.items ≡ text.old.items ++ sentence_text kind event.now (option_map (λ e. e.now) before.entry) cause) }
+{
+    match cause {
+        Cause::RetiredProcess => text.extend_from_slice(
+            b"a process isn't used again after an :info: its client goes on under a new number\n",
+        ),
+        Cause::BusyProcess => text.extend_from_slice(
+            b"a process calls again only when its call has ended with :ok, :fail or :info\n",
+        ),
+        Cause::NotOfKind => put_not_of_kind(text, kind, &event.body),
+        Cause::NoInvocation => {
+            text.extend_from_slice(b"a completion stands behind an invocation of its process\n")
+        }
+        Cause::OtherCall => {
+            text.extend_from_slice(b"a completion has the :f of its invocation\n")
+        }
+        Cause::OtherKey => put_keys(text, before, event),
+    }
+}
+
+/// Puts the line on the event before last, but where the cause has nothing to do with it.
+fn put_before_line(
+    text: &mut Vec<u8>,
+    places: Option<&[Place]>,
+    at: usize,
+    before: Option<&Event>,
+    cause: Cause,
+) -> Result<(), AllocError>
+    ensures { OnOk result (text.new.items ≡ text.old.items ++ before_line (option_map (λ p. p.now) places.entry) at (option_map (λ e. e.now) before.entry) cause) }
+{
+    match cause {
+        Cause::NotOfKind => Ok(()),
+        _ => put_before(text, places, at, before),
+    }
+}
+
+/// Puts what is told of a history last whose first bad position this is: the event, the one before it of the same process, and what is
+/// asked of histories.
+pub(crate) fn put_ill_formed(
+    text: &mut Vec<u8>,
+    session: &Session,
+    at: usize,
+    cause: Cause,
+    places: Option<&[Place]>,
+) -> Result<(), OutOfMemory>
+    requires { at < length session.now.present.history }
+    ensures { OnOk result ((lines : List ℕ) × IsIllFormedText session.now.present.history (kinds_in session.now.present) (option_map (λ p. p.now) places.entry) at cause lines
+        × (text.new.items ≡ text.old.items ++ lines)) }
+{
+    let Some(event) = session.event(at) else {
+        unreachable!()
+    };
+    let (earlier, before) = event_before(session, event.process, at);
+    put_stood(text, places, at, event)?;
+    put_before_line(text, places, earlier, before, cause)?;
+    let kind = kind_for(session, event);
+    put_sentence(text, kind, event, before, cause)?;
+    Ok(())
+}

@@ -1,0 +1,58 @@
+//! The events of one object.
+ghost use Rattle.std.specs.Prelude.{◌≡◌, ◌≤◌, ◌∷◌, ◌++◌, [], IfOk, OnOk, length, take};
+ghost use Rattle.std.specs.Ordering.{int_eq};
+ghost use Rattle.lin_explain.specs.Own.{IsOwn};
+
+use lin_events::{Event, OutOfMemory};
+use lin_orders::parts_grow;
+use lin_session::Session;
+use std::alloc::Global;
+
+/// The events of an object among the first so many of a history, and their positions in it.
+#[derive(Drop)]
+pub(crate) struct Own {
+    pub(crate) events: Vec<Event>,
+    pub(crate) picks: Vec<usize>,
+}
+
+/// Takes in one more event of the object, and where it stands.
+fn take_in(alloc: Global, own: &mut Own, event: &Event, at: usize) -> Result<(), OutOfMemory>
+    ensures { OnOk result ((own.new.events.items ≡ own.old.events.items ++ event.now ∷ []) × (own.new.picks.items ≡ own.old.picks.items ++ at ∷ [])) }
+{
+    own.events.push(event.copy(alloc)?)?;
+    own.picks.push(at)?;
+    Ok(())
+}
+
+/// Whether two events are of one object.
+fn is_beside(event: &Event, other: &Event) -> bool
+    ensures { result ≡ int_eq event.now.key other.now.key }
+{
+    event.key == other.key
+}
+
+/// The events of the object of an event among the first so many of the history.
+pub(crate) fn own_of(
+    alloc: Global,
+    session: &Session,
+    of: &Event,
+    count: usize,
+) -> Result<Own, OutOfMemory>
+    requires within { count ≤ length session.now.present.history }
+    ensures { IfOk result (IsOwn of.now.key (take count session.now.present.history)) }
+{
+    parts_grow();
+    let mut own = Own {
+        events: Vec::new(alloc),
+        picks: Vec::new(alloc),
+    };
+    for at in 0..count {
+        let Some(event) = session.event(at) else {
+            unreachable!()
+        };
+        if is_beside(event, of) {
+            take_in(alloc, &mut own, event, at)?;
+        }
+    }
+    Ok(own)
+}

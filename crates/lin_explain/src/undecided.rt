@@ -1,0 +1,192 @@
+//! What is told where more configurations would have to be kept than the budget allows.
+ghost use Rattle.std.specs.Prelude.{◌≡◌, ◌<◌, ◌++◌, ℕ, List, OnOk, length, option_map};
+ghost use Rattle.lin_events.specs.Operations.{IsCrashed};
+ghost use Rattle.lin_orders.specs.Tables.{IsNextTable};
+ghost use Rattle.lin_window.specs.Operations.{Exactly, IsOpenAt};
+ghost use Rattle.lin_window.specs.Tables.{IsTable, open_ones, told_of};
+ghost use Rattle.lin_explain.specs.Undecided.{IsUndecidedText, end_text, event_line, front_text, help_text, helps, helps_text, open_line};
+
+use crate::heads::{kind_for, put_object};
+use crate::own::own_of;
+use lin_events::{Event, OutOfMemory};
+use lin_formats::put_number;
+use lin_objects::Kind;
+use lin_orders::ends_of;
+use lin_places::Place;
+use lin_session::Session;
+use lin_window::{Listed, Stretch, open_counts, put_operations};
+use lin_words::{put_event, put_event_spot};
+use std::alloc::{AllocError, Global};
+
+/// The greatest budget.
+const MOST: u32 = 1_000_000;
+
+/// Puts the line last that names the event with which there are too many.
+fn put_event_line(
+    text: &mut Vec<u8>,
+    kind: Kind,
+    budget: u32,
+    places: Option<&[Place]>,
+    at: usize,
+    event: &Event,
+) -> Result<(), AllocError>
+    ensures { OnOk result (text.new.items ≡ text.old.items ++ event_line kind budget (option_map (λ p. p.now) places.entry) at event.now) }
+{
+    put_object(text, event, kind)?;
+    text.extend_from_slice(b"more than ")?;
+    put_number(text, u64::from(budget))?;
+    text.extend_from_slice(b" configurations after ")?;
+    put_event_spot(text, places, at)?;
+    text.extend_from_slice(b": ")?;
+    put_event(text, event)?;
+    text.extend_from_slice(b"\n")?;
+    Ok(())
+}
+
+/// Puts the line that counts open operations last.
+fn put_open_line(text: &mut Vec<u8>, running: usize, crashed: usize) -> Result<(), AllocError>
+    ensures { OnOk result (text.new.items ≡ text.old.items ++ open_line running crashed) }
+{
+    text.extend_from_slice(b"operations open then: ")?;
+    put_number(text, running as u64)?;
+    text.extend_from_slice(b", crashed of them: ")?;
+    put_number(text, crashed as u64)?;
+    text.extend_from_slice(b"\n")?;
+    Ok(())
+}
+
+/// Puts the words in front of one more thing that may help last.
+fn put_front(text: &mut Vec<u8>, has_others: bool) -> Result<(), AllocError>
+    ensures { OnOk result (text.new.items ≡ text.old.items ++ front_text has_others) }
+{
+    if has_others {
+        text.extend_from_slice(b"; ")?;
+    } else {
+        text.extend_from_slice(b"what may help: ")?;
+    }
+    Ok(())
+}
+
+/// Puts one more thing that may help last, if it may, behind others or none.
+fn put_help(
+    text: &mut Vec<u8>,
+    is_wanted: bool,
+    has_others: bool,
+    words: &str,
+) -> Result<(), AllocError>
+    ensures { OnOk result (text.new.items ≡ text.old.items ++ help_text is_wanted has_others words.now) }
+{
+    if !is_wanted {
+        return Ok(());
+    }
+    put_front(text, has_others)?;
+    text.extend_from_slice(words.as_bytes())?;
+    Ok(())
+}
+
+/// Ends the line on what may help, if there is one.
+fn put_end(text: &mut Vec<u8>, has_some: bool) -> Result<(), AllocError>
+    ensures { OnOk result (text.new.items ≡ text.old.items ++ end_text has_some) }
+{
+    if has_some {
+        text.extend_from_slice(b"\n")?;
+    }
+    Ok(())
+}
+
+/// Puts the line on what may help last, if something may.
+fn put_helps(
+    text: &mut Vec<u8>,
+    larger: bool,
+    keys: bool,
+    crashes: bool,
+    clients: bool,
+) -> Result<(), AllocError>
+    ensures { OnOk result (text.new.items ≡ text.old.items ++ helps_text larger keys crashes clients) }
+{
+    put_help(text, larger, false, "a larger --budget (up to 1000000)")?;
+    put_help(
+        text,
+        keys,
+        larger,
+        "--keyed, if values are pairs of a key and a value",
+    )?;
+    put_help(text, crashes, larger | keys, "fewer operations that crash")?;
+    put_help(
+        text,
+        clients,
+        larger | keys | crashes,
+        "fewer clients at once",
+    )?;
+    put_end(text, larger | keys | crashes | clients)?;
+    Ok(())
+}
+
+/// Puts the line on what may help last, for so many open operations under a budget.
+fn put_help_line(
+    text: &mut Vec<u8>,
+    budget: u32,
+    keyed: bool,
+    running: usize,
+    crashed: usize,
+) -> Result<(), AllocError>
+    ensures { OnOk result (text.new.items ≡ text.old.items ++ helps budget keyed running crashed) }
+{
+    put_helps(
+        text,
+        budget < MOST,
+        !keyed,
+        0 < crashed,
+        1 < running.saturating_sub(crashed),
+    )
+}
+
+/// Puts the operations that are open last, how many they are, and what may help.
+fn put_open(
+    alloc: Global,
+    text: &mut Vec<u8>,
+    stretch: &Stretch,
+    budget: u32,
+    keyed: bool,
+) -> Result<(), OutOfMemory>
+    requires { IsNextTable stretch.now.events.now stretch.now.ends.now }
+    ensures { OnOk result ((running : ℕ) × (crashed : ℕ) × (table : List ℕ) × Exactly running (IsOpenAt stretch.now.events.now)
+        × Exactly crashed (IsCrashed stretch.now.events.now) × IsTable (told_of stretch.now) open_ones table
+        × (text.new.items ≡ text.old.items ++ (open_line running crashed ++ table ++ helps budget keyed running crashed))) }
+{
+    let (running, crashed) = open_counts(stretch.events, stretch.ends);
+    put_open_line(text, running, crashed)?;
+    put_operations(alloc, text, stretch, &Listed::Open)?;
+    put_help_line(text, budget, keyed, running, crashed)?;
+    Ok(())
+}
+
+/// Puts what is told last where the events up to and with a position are too many for the budget.
+pub(crate) fn put_undecided(
+    alloc: Global,
+    text: &mut Vec<u8>,
+    session: &Session,
+    at: usize,
+    places: Option<&[Place]>,
+    keyed: bool,
+) -> Result<(), OutOfMemory>
+    requires { at < length session.now.present.history }
+    ensures { OnOk result ((lines : List ℕ) × IsUndecidedText session.now.present keyed (option_map (λ p. p.now) places.entry) at lines
+        × (text.new.items ≡ text.old.items ++ lines)) }
+{
+    let Some(event) = session.event(at) else {
+        unreachable!()
+    };
+    let kind = kind_for(session, event);
+    let _count = session.len();
+    put_event_line(text, kind, session.budget(), places, at, event)?;
+    let own = own_of(alloc, session, event, at + 1)?;
+    let ends = ends_of(alloc, own.events.as_slice())?;
+    let stretch = Stretch {
+        events: own.events.as_slice(),
+        ends: ends.as_slice(),
+        picks: own.picks.as_slice(),
+        places,
+    };
+    put_open(alloc, text, &stretch, session.budget(), keyed)
+}

@@ -1,0 +1,137 @@
+//! What is told of a yes.
+ghost use Rattle.std.specs.Prelude.{◌≡◌, ◌-◌, ◌++◌, ℕ, List, IfOk, OnOk, decimal, length};
+ghost use Rattle.lin_explain.specs.Yes.{AreObjects, IsYesText, counts_text, open_counts_text, order_line, placed_in, places_text};
+ghost use Rattle.lin_explain.specs.Counts.{count_in, open_in};
+
+use crate::counts::{Sort, count, count_open};
+use crate::telling::Asked;
+use lin_events::OutOfMemory;
+use lin_formats::{put_number, write_order};
+use lin_orders::Placed;
+use lin_session::Session;
+use std::alloc::{AllocError, Global};
+
+/// Puts how many events of the sort there are last.
+fn put_count(
+    text: &mut Vec<u8>,
+    session: &Session,
+    key: Option<i64>,
+    sort: Sort,
+) -> Result<(), AllocError>
+    ensures { OnOk result (text.new.items ≡ text.old.items ++ decimal (count_in key sort session.now.present.history)) }
+{
+    put_number(text, count(session, key, sort) as u64)
+}
+
+/// Puts how many operations are open last.
+fn put_open(text: &mut Vec<u8>, session: &Session, key: Option<i64>) -> Result<(), AllocError>
+    ensures { OnOk result (text.new.items ≡ text.old.items ++ decimal (open_in key session.now.present.history)) }
+{
+    put_number(text, count_open(session, key) as u64)
+}
+
+/// Puts how many open operations an order places last.
+#[tactic(auto, unfolding(crate::specs::Yes::placed_in))]
+fn put_placed(
+    text: &mut Vec<u8>,
+    session: &Session,
+    key: Option<i64>,
+    order: &[Placed],
+) -> Result<(), AllocError>
+    ensures { OnOk result (text.new.items ≡ text.old.items ++ decimal (placed_in key session.now.present.history order.now)) }
+{
+    let placed = order.len().saturating_sub(count(session, key, Sort::Ok));
+    put_number(text, placed as u64)
+}
+
+/// Puts the line that counts operations last.
+fn put_counts(
+    text: &mut Vec<u8>,
+    session: &Session,
+    key: Option<i64>,
+    objects: usize,
+) -> Result<(), AllocError>
+    ensures { OnOk result (text.new.items ≡ text.old.items ++ counts_text key session.now.present.history objects) }
+{
+    text.extend_from_slice(b"operations ")?;
+    put_count(text, session, key, Sort::Invoked)?;
+    text.extend_from_slice(b": ok ")?;
+    put_count(text, session, key, Sort::Ok)?;
+    text.extend_from_slice(b", failed ")?;
+    put_count(text, session, key, Sort::Failed)?;
+    put_open_counts(text, session, key, objects)
+}
+
+/// Puts the end of that line last.
+fn put_open_counts(
+    text: &mut Vec<u8>,
+    session: &Session,
+    key: Option<i64>,
+    objects: usize,
+) -> Result<(), AllocError>
+    ensures { OnOk result (text.new.items ≡ text.old.items ++ open_counts_text key session.now.present.history objects) }
+{
+    text.extend_from_slice(b", open ")?;
+    put_open(text, session, key)?;
+    text.extend_from_slice(b" (crashed ")?;
+    put_count(text, session, key, Sort::Crashed)?;
+    text.extend_from_slice(b"); objects ")?;
+    put_number(text, objects as u64)?;
+    text.extend_from_slice(b"\n")
+}
+
+/// Puts the line that tells how many open operations an order places last.
+fn put_places(
+    text: &mut Vec<u8>,
+    session: &Session,
+    key: Option<i64>,
+    order: &[Placed],
+) -> Result<(), AllocError>
+    ensures { OnOk result (text.new.items ≡ text.old.items ++ places_text key session.now.present.history order.now) }
+{
+    text.extend_from_slice(b"a legal order places ")?;
+    put_placed(text, session, key, order)?;
+    text.extend_from_slice(b" of the ")?;
+    put_open(text, session, key)?;
+    text.extend_from_slice(b" open ones\n")?;
+    Ok(())
+}
+
+/// How many objects are spoken of.
+fn objects_of(alloc: Global, session: &Session, key: Option<i64>) -> Result<usize, OutOfMemory>
+    ensures { IfOk result (AreObjects key session.now.present.history) }
+{
+    match key {
+        Some(_) => Ok(1),
+        None => Ok(session.objects(alloc)?.len()),
+    }
+}
+
+/// Puts the line of the order last, if it is wanted.
+fn put_order_line(text: &mut Vec<u8>, with_order: bool, order: &[Placed]) -> Result<(), OutOfMemory>
+    ensures { OnOk result (text.new.items ≡ text.old.items ++ order_line with_order order.now) }
+{
+    if with_order {
+        text.extend_from_slice(b"order ")?;
+        write_order(order, text)?;
+        text.push(b'\n')?;
+    }
+    Ok(())
+}
+
+/// Puts what is told of a yes last: how many operations there are, how many open ones the order places, and the order if it is wanted.
+pub(crate) fn put_yes(
+    alloc: Global,
+    text: &mut Vec<u8>,
+    session: &Session,
+    order: &[Placed],
+    asked: Asked,
+) -> Result<(), OutOfMemory>
+    ensures { OnOk result ((lines : List ℕ) × IsYesText asked.key asked.with_order session.now.present.history order.now lines
+        × (text.new.items ≡ text.old.items ++ lines)) }
+{
+    let objects = objects_of(alloc, session, asked.key)?;
+    put_counts(text, session, asked.key, objects)?;
+    put_places(text, session, asked.key, order)?;
+    put_order_line(text, asked.with_order, order)
+}

@@ -1,0 +1,22 @@
+use Rattle.std.proofs.Common.{ap, ap₂, codes, ◌||◌, ◌≡◌, ◌∙◌}
+use Rattle.std.proofs.lemmas.Result.{IfOk-weaker}
+use Rattle.clap.specs.Words.{app_of, new_app, with_rule}
+use Rattle.clap.specs.Simple.{app_of_fields}
+use Rattle.lin_line.specs.CommandLine.{with_options}
+use Rattle.clap.specs.declared.builder.value_parser.ValueParser.TheVariants.{Names}
+use Rattle.lin_line.proofs.command.explain_command.Goals as goal
+
+pub returns : goal.returns
+returns c =
+    let begun : app_of c.about.result ≡ new_app (codes "explain") = ap app_of_fields c.about.ensures ∙ c.new.ensures.app in
+    let filed = c.in_ok-arg.ensures.shape c.file_argument.ensures.local ∙ ap₂ with_rule begun c.file_argument.ensures.rule in
+    let keyed = c.in_ok-arg-2.ensures.shape c.key_option.ensures.local.1 ∙ ap₂ with_rule filed c.key_option.ensures.rule in
+    let ordered = c.in_ok-command.ensures.shape c.order_flag.ensures.local.1 ∙ ap₂ with_rule keyed c.order_flag.ensures.rule in
+    let begun_local = ap (λ f. f.has_globals) c.about.ensures ∙ c.new.ensures.local in
+    let filed_local = c.in_ok-arg.ensures.globals ∙ ap₂ (λ a b. a || b) begun_local c.file_argument.ensures.local in
+    let keyed_local = c.in_ok-arg-2.ensures.globals ∙ ap₂ (λ a b. a || b) filed_local c.key_option.ensures.local.1 in
+    let local = c.in_ok-command.ensures.globals ∙ ap₂ (λ a b. a || b) keyed_local c.order_flag.ensures.local.1 in
+    record {
+      app = IfOk-weaker c.with_options.result _ _ (λ command h. h ∙ ap (with_options (Names c.args.kinds)) ordered) c.with_options.ensures.app;
+      local = IfOk-weaker c.with_options.result _ _ (λ command h. h ∙ local) c.with_options.ensures.local;
+    }
