@@ -18,3 +18,4 @@ pub mod Parting
 pub mod Aboves
 pub mod LastingWith
 pub mod SoundingWith
+pub mod Chaining

@@ -2,6 +2,7 @@
 //! dominate others.
 #![tactic(auto)]
 
+mod chains;
 mod domination;
 mod member_examples;
 mod member_laws;

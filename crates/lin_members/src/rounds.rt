@@ -2,9 +2,9 @@
 ghost use Rattle.std.specs.Prelude.{◌≡◌, ◌+◌, ◌-◌, ◌<◌, ◌∷◌, ◌++◌, [], ℕ, List, Option, Some, length, take, slice_get, reverse, IfOk, IfSome, IfNone, OnOk, OnErr};
 ghost use Rattle.lin_orders.specs.declared.placed.Placed.{Placed as PlacedOf};
 ghost use Rattle.lin_frontier.specs.Nodes.{Spells};
-ghost use Rattle.lin_members.specs.Rounds.{joined as joined_of, ahead as ahead_of, place as place_in, begin_round, SpellsRounds};
-ghost use Rattle.lin_members.specs.Searching.{in_rounds as in_rounds_of};
+ghost use Rattle.lin_members.specs.Rounds.{joined as joined_of, SpellsRounds};
 
+use crate::chains::Chains;
 use lin_events::OutOfMemory;
 use lin_frontier::NodeId;
 use lin_orders::Placed;
@@ -169,142 +169,13 @@ impl RoundNodes {
 
     /// The order that the node spells, round by round; for a number that is no node's, some list.
     ///
-    /// Takes time and memory linear in the order.
+    /// Takes time and memory linear in the order, and its vectors grow a few times, however many rounds there are.
     pub fn order(&self, alloc: Global, id: NodeId) -> Result<Vec<Placed>, OutOfMemory>
         ensures { IfOk result (λ found. (rounds : List (List PlacedOf)) → SpellsRounds self.now id rounds → found.items ≡ joined_of rounds) }
     {
         let entries = self.entries(alloc, id)?;
-        let rounds = in_rounds(alloc, entries)?;
-        let order = joined(alloc, &rounds)?;
+        let rounds = Chains::of(alloc, entries)?;
+        let order = rounds.joined(alloc)?;
         Ok(order)
     }
-}
-
-/// Operations in the order in which they were put.
-#[derive(Drop)]
-struct Round {
-    items: Vec<Placed>,
-}
-
-impl Model for Round {
-    ghost use Rattle.std.specs.Prelude.{List};
-    ghost use Rattle.lin_orders.specs.declared.placed.Placed.{Placed as PlacedOf};
-
-    ghost Value = { List PlacedOf };
-
-    ghost view = { λ r. r.items.items };
-}
-
-impl Round {
-    fn new(alloc: Global) -> Self
-        ensures { result ≡ [] }
-    {
-        Round {
-            items: Vec::new(alloc),
-        }
-    }
-
-    fn as_slice(&self) -> &[Placed]
-        ensures { result.now ≡ self.now }
-    {
-        self.items.as_slice()
-    }
-
-    #[inline(always)]
-    fn push(&mut self, placed: Placed) -> Result<(), OutOfMemory>
-        ensures { OnOk result (self.new ≡ self.old ++ placed ∷ []) }
-    {
-        match self.items.push(placed) {
-            Ok(()) => Ok(()),
-            Err(_) => Err(OutOfMemory),
-        }
-    }
-}
-
-/// A round of its own for the operation.
-fn begin(alloc: Global, rounds: &mut Vec<Round>, placed: Placed) -> Result<(), OutOfMemory>
-    ensures { OnOk result (rounds.new.items ≡ begin_round placed rounds.old.items) }
-{
-    let mut round = Round::new(alloc);
-    round.push(placed)?;
-    match rounds.push(round) {
-        Ok(()) => Ok(()),
-        Err(_) => Err(OutOfMemory),
-    }
-}
-
-/// A round of its own for the operation, ahead of the last one.
-fn insert(alloc: Global, rounds: &mut Vec<Round>, placed: Placed) -> Result<(), OutOfMemory>
-    ensures { OnOk result (rounds.new.items ≡ ahead_of placed rounds.old.items) }
-{
-    let Some(last) = rounds.pop() else {
-        return Ok(());
-    };
-    begin(alloc, rounds, placed)?;
-    match rounds.push(last) {
-        Ok(()) => Ok(()),
-        Err(_) => Err(OutOfMemory),
-    }
-}
-
-/// Puts the operation last in the round, or, where there is no such round, ahead of the last one.
-fn place(
-    alloc: Global,
-    rounds: &mut Vec<Round>,
-    round: usize,
-    placed: Placed,
-) -> Result<(), OutOfMemory>
-    ensures { OnOk result (rounds.new.items ≡ place_in round placed rounds.old.items) }
-{
-    if round < rounds.len() {
-        return rounds[round].push(placed);
-    }
-    insert(alloc, rounds, placed)
-}
-
-/// The rounds that come of putting the operations, which stand last to first.
-fn in_rounds(
-    alloc: Global,
-    entries: Vec<(Placed, Option<usize>)>,
-) -> Result<Vec<Round>, OutOfMemory>
-    ensures { IfOk result (λ rounds. rounds.items ≡ in_rounds_of ([] ∷ []) (reverse entries.items)) }
-{
-    let mut rest = entries;
-    let mut rounds = Vec::new(alloc);
-    match rounds.push(Round::new(alloc)) {
-        Ok(()) => {}
-        Err(_) => return Err(OutOfMemory),
-    }
-    while let Some((placed, spot)) = rest.pop() {
-        match spot {
-            Some(round) => place(alloc, &mut rounds, round, placed)?,
-            None => begin(alloc, &mut rounds, placed)?,
-        }
-    }
-    Ok(rounds)
-}
-
-/// Puts copies of the operations last.
-fn append(alloc: Global, order: &mut Vec<Placed>, round: &[Placed]) -> Result<(), OutOfMemory>
-    ensures { OnOk result (order.new.items ≡ order.old.items ++ round.now) }
-{
-    for placed in round {
-        let copy = Placed {
-            at: placed.at,
-            reply: placed.reply.copy(alloc)?,
-        };
-        order.push(copy)?;
-    }
-    Ok(())
-}
-
-/// The rounds one after the other.
-fn joined(alloc: Global, rounds: &[Round]) -> Result<Vec<Placed>, OutOfMemory>
-    ensures { IfOk result (λ order. order.items ≡ joined_of rounds.now) }
-{
-    let mut order = Vec::new(alloc);
-    for round in rounds {
-        append(alloc, &mut order, round.as_slice())?;
-    }
-    Ok(order)
 }

@@ -1,8 +1,8 @@
 -- The rounds of a node as what comes of its entries.
-use Rattle.std.proofs.Common.{◌≡◌, ℕ, zero, suc, ◌<◌, List, [], ◌∷◌, ◌++◌, length, refl, sym, ap, ◌∙◌, arith, Option, Some, None, get_or, set}
+use Rattle.std.proofs.Common.{◌≡◌, ℕ, zero, List, [], ◌∷◌, ◌++◌, refl, sym, ap, ◌∙◌, Option, Some, None}
 use Rattle.lin_orders.specs.declared.placed.Placed.{Placed}
 use Rattle.lin_frontier.specs.Nodes.{Spells, root, node}
-use Rattle.lin_members.specs.Rounds.{begin_round, place, put, SpellsRounds, root as one_round, begins, puts}
+use Rattle.lin_members.specs.Rounds.{begin_round, place, SpellsRounds, root as one_round, begins, puts}
 use Rattle.lin_members.specs.Searching.{in_rounds}
 use Rattle.lin_frontier.specs.lemmas.Spelling.{one_spelled}
 
@@ -34,9 +34,3 @@ one_rounds nodes id a b s t =
     let e = entries_of nodes id a s in
     let f = entries_of nodes id b t in
     sym e.2 ∙ ap (in_rounds ([] ∷ [])) (one_spelled nodes id e.0 f.0 e.1 f.1) ∙ f.2
-
--- putting is writing at the place
-pub put_set : (k : ℕ) (p : Placed) (rounds : List (List Placed)) (d : List Placed) → k < length rounds → set rounds k (get_or rounds k d ++ p ∷ []) ≡ put k p rounds
-put_set k p [] d inside = absurd (omega arith)
-put_set zero p (r ∷ rounds) d inside = refl
-put_set (suc k) p (r ∷ rounds) d inside = ap (λ l. r ∷ l) (put_set k p rounds d (omega arith))
