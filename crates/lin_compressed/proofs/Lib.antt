@@ -17,3 +17,4 @@ pub mod Invoked
 pub mod Advancing
 pub mod ReturningAll
 pub mod Shown
+pub mod Tries

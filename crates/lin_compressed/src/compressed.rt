@@ -330,6 +330,7 @@ fn next_members<O: SeqObject>(
         → IsNextWith (O.step arrival.now.object.now) (O.observing arrival.now.object.now) arrival.now.event.now.process arrival.now.event.now.body arrival.now.pending.now pending.now nodes.new arrival.now.at members.now out.items)) }
     ensures oks { IfOk result (λ found. IfNone found ((alone ≡ true) × (name : NameOf) × (reply : ReplyOf) × (arrival.now.event.now.body ≡ BodyOf.Ok name reply))) }
     ensures tried { IsTriedAtMost (limit * (2 * length pending.now + 1) + length members.now * (2 * ((length pending.now + 1) * (length pending.now + 1)))) meter.old meter.new }
+    ensures searched { alone ≡ true → IsTriedAtMost (limit * (2 * length pending.now + 1)) meter.old meter.new }
 {
     match &arrival.event.body {
         Body::Invoke(_) => Ok(Some(all_copied(
@@ -416,6 +417,7 @@ fn advanced<O: SeqObject>(
         → IsCompressed (O.starts arrival.now.object.now) (O.step arrival.now.object.now) (O.observing arrival.now.object.now) (O.overwriting arrival.now.object.now) (with_event h arrival.now.event.now) out.items nodes.new)) }
     ensures oks { IfOk result (λ found. IfNone found ((alone ≡ true) × (name : NameOf) × (reply : ReplyOf) × (arrival.now.event.now.body ≡ BodyOf.Ok name reply))) }
     ensures tried { IsTriedAtMost (limit * (2 * length arrival.now.pending.now + 3) + length members.now * (2 * ((length arrival.now.pending.now + 2) * (length arrival.now.pending.now + 2)))) meter.old meter.new }
+    ensures searched { alone ≡ true → IsTriedAtMost (limit * (2 * length arrival.now.pending.now + 3)) meter.old meter.new }
 {
     well_formed_is_alternating();
     ends_are_unique();
@@ -504,6 +506,7 @@ impl<O: SeqObject> Compressed<O> {
         ensures refused { OnErr result (nodes.new ≡ nodes.old) }
         ensures steps { meter.new.steps ≡ ticked meter.old.steps 1 }
         ensures tries { meter.new.tries ≤ meter.old.tries + (limit * (2 * length arrival.now.pending.now + 3) + length self.now * (2 * ((length arrival.now.pending.now + 2) * (length arrival.now.pending.now + 2)))) }
+        ensures searched { alone ≡ true → meter.new.tries ≤ meter.old.tries + limit * (2 * length arrival.now.pending.now + 3) }
         ensures scans { meter.new.scans ≡ meter.old.scans }
     {
         legal_orders_end(arrival.object);

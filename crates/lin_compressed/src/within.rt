@@ -229,6 +229,9 @@ impl<O: SeqObject> Compressed<O> {
         ensures refused { OnErr result (nodes.new ≡ nodes.old) }
         ensures steps { meter.new.steps ≡ ticked meter.old.steps 1 }
         ensures tries { meter.new.tries ≤ meter.old.tries + (budget * (4 * length pending.now + 4) + length self.now * (2 * ((length pending.now + 2) * (length pending.now + 2)))) }
+        // Members count only where the object is overwritten.
+        ensures searched { O.overwriting object.now ≡ false → meter.new.tries ≤ meter.old.tries + budget * (4 * length pending.now + 4) }
+        ensures within { length self.now ≤ budget → meter.new.tries ≤ meter.old.tries + budget * (3 * ((length pending.now + 2) * (length pending.now + 2))) }
         ensures scans { meter.new.scans ≡ meter.old.scans }
     {
         let arrival = Arrival {
@@ -324,6 +327,7 @@ impl<O: SeqObject> Compressed<O> {
         ensures grown { IsGrown nodes.old nodes.new }
         ensures steps { meter.new.steps ≡ ticked meter.old.steps 1 }
         ensures tries { meter.new.tries ≤ meter.old.tries + (budget * (4 * length arrival.now.pending.now + 4) + length self.now * (2 * ((length arrival.now.pending.now + 2) * (length arrival.now.pending.now + 2)))) }
+        ensures searched { O.overwriting arrival.now.object.now ≡ false → meter.new.tries ≤ meter.old.tries + budget * (4 * length arrival.now.pending.now + 4) }
         ensures scans { meter.new.scans ≡ meter.old.scans }
     {
         well_formed_is_alternating();

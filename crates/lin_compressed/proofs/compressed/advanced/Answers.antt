@@ -1,7 +1,7 @@
-use Rattle.std.proofs.Common.{◌∙◌, ap, arith, inl, inr, length}
+use Rattle.std.proofs.Common.{◌+◌, ◌*◌, ◌∙◌, ap, arith, inl, inr, length}
 use Rattle.std.proofs.lemmas.Bool.{cases_Bool}
 use Rattle.lin_frontier.specs.lemmas.Answered.{from_some}
-use Rattle.lin_frontier.specs.lemmas.Counting.{tried_within}
+use Rattle.lin_frontier.specs.lemmas.Counting.{tried_longer, tried_within}
 use Rattle.lin_compressed.proofs.Advancing.{advances_with, alone_advances}
 use Rattle.lin_compressed.proofs.Compressing.{Laws, completes_open, covering_stays}
 use Rattle.lin_compressed.proofs.compressed.advanced.Goals as goal
@@ -72,3 +72,19 @@ returns-clause-tried g c =
 pub returns-in_err-kept-clause-tried : goal.returns-in_err-kept-clause-tried
 returns-in_err-kept-clause-tried g c =
     tried_within c.args.limit (length c.args.members.now) (length c.of-pending.result) (length c.args.arrival.now.pending.now) _ _ (omega (arith, c.in_ok-after.ensures.len, ap length (c.of-pending.ensures ∙ c.deref.ensures.value))) c.next_members.ensures.tried
+
+pub returns-in_err-found-clause-searched : goal.returns-in_err-found-clause-searched
+returns-in_err-found-clause-searched g c alone =
+    tried_longer c.args.limit (2 * length c.of-pending.result + 1) (2 * length c.args.arrival.now.pending.now + 3) _ _ (omega (arith, c.in_ok-after.ensures.len, ap length (c.of-pending.ensures ∙ c.deref.ensures.value))) (c.next_members.ensures.searched alone)
+
+pub returns-in_default-clause-searched : goal.returns-in_default-clause-searched
+returns-in_default-clause-searched g c alone =
+    tried_longer c.args.limit (2 * length c.of-pending.result + 1) (2 * length c.args.arrival.now.pending.now + 3) _ _ (omega (arith, c.in_ok-after.ensures.len, ap length (c.of-pending.ensures ∙ c.deref.ensures.value))) (c.next_members.ensures.searched alone)
+
+pub returns-clause-searched : goal.returns-clause-searched
+returns-clause-searched g c alone =
+    tried_longer c.args.limit (2 * length c.of-pending.result + 1) (2 * length c.args.arrival.now.pending.now + 3) _ _ (omega (arith, c.in_ok-after.ensures.len, ap length (c.of-pending.ensures ∙ c.deref.ensures.value))) (c.next_members.ensures.searched alone)
+
+pub returns-in_err-kept-clause-searched : goal.returns-in_err-kept-clause-searched
+returns-in_err-kept-clause-searched g c alone =
+    tried_longer c.args.limit (2 * length c.of-pending.result + 1) (2 * length c.args.arrival.now.pending.now + 3) _ _ (omega (arith, c.in_ok-after.ensures.len, ap length (c.of-pending.ensures ∙ c.deref.ensures.value))) (c.next_members.ensures.searched alone)

@@ -1,7 +1,8 @@
-use Rattle.std.proofs.Common.{rules, ◌≡◌, ◌∙◌, ap, take}
+use Rattle.std.proofs.Common.{rules, ◌≡◌, ◌∙◌, ap, length, take}
 use Rattle.lin_compressed.specs.declared.within.Advance.TheVariants.{Next}
 use Rattle.lin_frontier.specs.lemmas.Closing.{cut_back}
 use Rattle.lin_compressed.proofs.Compressing.{cut_grown}
+use Rattle.lin_compressed.proofs.Tries.{tried_few}
 use Rattle.lin_compressed.proofs.compressed.Compressed.advance.Goals as goal
 
 pub returns-in-Ok-Next-clause-next : goal.returns-in-Ok-Next-clause-next
@@ -22,5 +23,13 @@ returns-in-Ok g c = record {
   refused = tt;
   steps = c.in-Ok.ensures.steps;
   tries = c.in-Ok.ensures.tries;
+  searched = c.in-Ok.ensures.searched;
+  within = λ few. tried_few c.args.meter.now c.step.new.meter c.args.budget (length c.args.self.now) (length c.args.pending.now) few c.step.ensures.tries;
   scans = c.in-Ok.ensures.scans;
 }
+
+pub returns-in-Ok-Next-clause-within : goal.returns-in-Ok-Next-clause-within
+returns-in-Ok-Next-clause-within g c few = tried_few c.args.meter.now c.step.new.meter c.args.budget (length c.args.self.now) (length c.args.pending.now) few c.step.ensures.tries
+
+pub returns-in-Err-clause-within : goal.returns-in-Err-clause-within
+returns-in-Err-clause-within g c few = tried_few c.args.meter.now c.step.new.meter c.args.budget (length c.args.self.now) (length c.args.pending.now) few c.step.ensures.tries

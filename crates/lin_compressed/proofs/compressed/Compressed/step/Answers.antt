@@ -4,6 +4,7 @@ use Rattle.lin_orders.specs.ConfigurationLaws.{with_event}
 use Rattle.lin_members.specs.Compressed.{IsCompressed}
 use Rattle.lin_frontier.specs.lemmas.Answered.{if_ok_weaker}
 use Rattle.lin_compressed.proofs.Compressing.{compressed_stays, well_formed_before}
+use Rattle.lin_compressed.proofs.Tries.{goes_alone, searched_both, searched_up}
 use Rattle.lin_frontier.specs.lemmas.Counting.{tried_both, tried_up}
 use Rattle.lin_compressed.proofs.compressed.Compressed.step.Goals as goal
 
@@ -74,3 +75,23 @@ returns-in-TooMany-clause-tries g c =
     let len = length c.args.arrival.now.pending.now in
     tried_both c.args.meter.now c.advance_up_to.new.meter c.from_listing.new.meter c.longest_search-limit.result c.args.budget len (length c.args.self.now * (2 * ((len + 2) * (len + 2)))) c.longest_search-limit.ensures
     c.advance_up_to.ensures.tries (tried_up (c.args.budget * len) (c.args.budget * (2 * len + 1)) _ _ (mul-le c.args.budget len c.args.budget (2 * len + 1) (omega arith) (omega arith)) c.from_listing.ensures.tried)
+
+pub returns-in_err-advance_up_to-clause-searched : goal.returns-in_err-advance_up_to-clause-searched
+returns-in_err-advance_up_to-clause-searched g c plain =
+    searched_up c.args.meter.now c.advance_up_to.new.meter c.longest_search-limit.result c.args.budget (length c.args.arrival.now.pending.now) c.longest_search-limit.ensures (c.advance_up_to.ensures.searched (goes_alone _ _ c.is_alone-alone.ensures.goes plain))
+
+pub returns-in-Empty-clause-searched : goal.returns-in-Empty-clause-searched
+returns-in-Empty-clause-searched g c plain =
+    searched_up c.args.meter.now c.advance_up_to.new.meter c.longest_search-limit.result c.args.budget (length c.args.arrival.now.pending.now) c.longest_search-limit.ensures (c.advance_up_to.ensures.searched (goes_alone _ _ c.is_alone-alone.ensures.goes plain))
+
+pub returns-after-not-alone-clause-searched : goal.returns-after-not-alone-clause-searched
+returns-after-not-alone-clause-searched g c plain =
+    searched_both c.args.meter.now c.advance_up_to.new.meter c.next_within.new.meter c.longest_search-limit.result c.args.budget (length c.args.arrival.now.pending.now) c.longest_search-limit.ensures
+    (c.advance_up_to.ensures.searched (goes_alone _ _ c.is_alone-alone.ensures.goes plain)) c.next_within.ensures.tried
+
+pub returns-in-TooMany-clause-searched : goal.returns-in-TooMany-clause-searched
+returns-in-TooMany-clause-searched g c plain =
+    let len = length c.args.arrival.now.pending.now in
+    searched_both c.args.meter.now c.advance_up_to.new.meter c.from_listing.new.meter c.longest_search-limit.result c.args.budget len c.longest_search-limit.ensures
+    (c.advance_up_to.ensures.searched (goes_alone _ _ c.is_alone-alone.ensures.goes plain))
+    (tried_up (c.args.budget * len) (c.args.budget * (2 * len + 1)) _ _ (mul-le c.args.budget len c.args.budget (2 * len + 1) (omega arith) (omega arith)) c.from_listing.ensures.tried)
