@@ -5,8 +5,13 @@ Each script goes through `lincheck edit`: edits of all six kinds, refused ones a
 The model below shares no code with the program. It keeps the history as a list, looks back for well-formedness, and tries every
 order of every prefix, so histories stay small.
 
+For each 15 of these there is a wide script, with a budget of 1,024 or more and so many open operations that an object is often over it.
+Its model lists the configurations of each prefix, an event at a time.
+
 usage: tests/edits.py [SCRIPTS] [SEED] [PROGRAM]   (the program has to be built; the last line counts the replies)
 """
+import functools
+import operator
 import os
 import random
 import subprocess
@@ -16,6 +21,9 @@ KINDS = ['register', 'cas-register', 'fifo', 'set', 'mutex', 'unordered-queue']
 NAMES = {'register': ['read', 'write'], 'cas-register': ['read', 'write', 'cas'], 'fifo': ['enqueue', 'dequeue'],
          'set': ['read', 'add'], 'mutex': ['acquire', 'release'], 'unordered-queue': ['enqueue', 'dequeue']}
 CAUSES = ['RetiredProcess', 'BusyProcess', 'NotOfKind', 'NoInvocation', 'OtherCall', 'OtherKey']
+WIDE_KINDS = [kind for kind in KINDS if kind != 'mutex']
+# So many configurations of an object are listed. Wide scripts make no edit that leads to more, and their budgets are far below.
+LARGE = 30000
 START = {'register': None, 'cas-register': None, 'fifo': (), 'set': frozenset(), 'mutex': False, 'unordered-queue': ()}
 
 
@@ -128,6 +136,74 @@ def configurations(kind, events):
     return ends
 
 
+class TooMany(Exception):
+    """More configurations than are listed."""
+
+
+class Beginning:
+    """The first events of an object, and their configurations: to each state the ways to place open operations that lead to it.
+
+    A way is a number, with a bit for each process whose operation is placed, and one for this with its reply.
+    """
+
+    def __init__(self, kind, bits, ends, calls):
+        self.kind, self.bits, self.ends, self.calls, self.longer = kind, bits, ends, calls, {}
+
+    def __len__(self):
+        """How many configurations there are."""
+        return sum(len(ways) for ways in self.ends.values())
+
+    def bit(self, process, reply=None):
+        return self.bits.setdefault((process, reply), 1 << len(self.bits))
+
+    def replies(self, process):
+        """With which the open operation of the process is placed."""
+        bits = functools.reduce(operator.or_, set().union(*self.ends.values()), 0)
+        return [reply for (it, reply), bit in self.bits.items() if it == process and reply and bits & bit]
+
+    def next(self, event):
+        """With one more event."""
+        name = event.text(False)
+        if name not in self.longer:
+            self.longer[name] = self.opened(event) if event.type == 'invoke' else self if event.type == 'info' else self.returned(event)
+        return self.longer[name]
+
+    def returned(self, event):
+        """What placed the operation with its reply stays, or where it failed what didn't place it."""
+        process = event.process
+        placed = self.bit(process) | self.bit(process, event.reply()) if event.type == 'ok' else 0
+        bits = placed | self.bit(process)
+        ends = {state: {way - placed for way in ways if way & bits == placed} for state, ways in self.ends.items()}
+        calls = {it: call for it, call in self.calls.items() if it != process}
+        return Beginning(self.kind, self.bits, {state: ways for state, ways in ends.items() if ways}, calls)
+
+    def opened(self, event):
+        """What is new places the operation, and maybe others behind it."""
+        call = {event.process: (event.name, event.value)}
+        calls, ends, count = {**self.calls, **call}, {state: set(ways) for state, ways in self.ends.items()}, len(self)
+        new = self.placing(self.ends, call, ends)
+        while new:
+            for state, ways in new.items():
+                ends.setdefault(state, set()).update(ways)
+                count += len(ways)
+            if count > LARGE:
+                raise TooMany
+            new = self.placing(new, calls, ends)
+        return Beginning(self.kind, self.bits, ends, calls)
+
+    def placing(self, ends, calls, known):
+        """What comes of these by placing one more of the calls, and isn't known."""
+        found = {}
+        for process, (name, value) in calls.items():
+            bit = self.bit(process)
+            for state, ways in ends.items():
+                free = [way for way in ways if not way & bit]
+                for after, reply in steps(self.kind, state, name, value) if free else []:
+                    placed = bit | self.bit(process, reply)
+                    found.setdefault(after, set()).update([way | placed for way in free])
+        return {state: new for state, ways in found.items() for new in [ways - known.get(state, set())] if new}
+
+
 def is_legal_order(kinds, events, order):
     """Whether pairs of positions and replies are a legal order of the events."""
     ops = {o[0]: o for o in operations(events)}
@@ -168,6 +244,10 @@ class Model:
         if name not in self.known:
             self.known[name] = configurations(self.kinds(key), events)
         return self.known[name]
+
+    def replies(self, process, key):
+        """With which the open operation of the process can be placed."""
+        return {reply for _, replies in self.ends_of(key, len(self.events)) for it, reply in replies if it == process}
 
     def is_linearizable(self, keys, count):
         return all(self.ends_of(key, count) for key in keys)
@@ -226,15 +306,36 @@ class Model:
         return is_legal_order(self.kinds, [e for _, e in part], [(places[at], reply) for at, reply in pairs])
 
 
+class WideModel(Model):
+    def ends_of(self, key, count):
+        kind = self.kinds(key)
+        beginning = self.known.setdefault(kind, Beginning(kind, {}, {START[kind]: {0}}, {}))
+        for _, event in self.part(key, count):
+            beginning = beginning.next(event)
+        return beginning
+
+    def replies(self, process, key):
+        return self.ends_of(key, len(self.events)).replies(process)
+
+
 class Script:
     """Random commands with what the model says of each reply."""
 
     def __init__(self, draw):
         # few clients leave few operations open, so longer histories can be enumerated
         self.draw, (self.clients, self.longest) = draw, draw.choice([(1, 16), (2, 14), (4, 10)])
-        self.model = Model(draw.random() < 0.5, draw.choice(KINDS), draw.choice([1, 2, 3, 5, 8, 20, 65536]))
-        self.words = ['edit', '--kind', self.model.default, '--budget', str(self.model.budget)] + (['--keyed'] if self.model.keyed else [])
-        self.lines, self.checks = [], []
+        self.budgets, self.others = [0, 1, 2, 3, 5, 8, 13, 50, 65536, 1000001], KINDS
+        self.start(Model(draw.random() < 0.5, draw.choice(KINDS), draw.choice([1, 2, 3, 5, 8, 20, 65536])))
+
+    def start(self, model):
+        self.model, self.lines, self.checks = model, [], []
+        self.words = ['edit', '--kind', model.default, '--budget', str(model.budget)] + (['--keyed'] if model.keyed else [])
+
+    def process(self):
+        return self.draw.randrange(self.clients)
+
+    def place(self, places):
+        return self.draw.randrange(places)
 
     def value(self, kind, name, type_):
         draw = self.draw
@@ -253,7 +354,7 @@ class Script:
     def event(self):
         """Mostly an event that leaves the history well-formed, at times any."""
         draw, model = self.draw, self.model
-        process = draw.randrange(self.clients)
+        process = self.process()
         last = next((e for e in reversed(model.events) if e.process == process), None)
         if last is not None and last.type == 'info' and draw.random() < 0.9:
             process += self.clients
@@ -267,7 +368,7 @@ class Script:
         value = self.value(model.kinds(key), name, type_)
         if type_ == 'ok' and name == 'dequeue' and draw.random() < 0.7:
             # a reply that some order gives, so that queues go on, and get members
-            given = {reply[1] for _, replies in model.ends_of(key, len(model.events)) for p, reply in replies if p == process and reply != 'done'}
+            given = {reply[1] for reply in model.replies(process, key) if reply != 'done'}
             value = draw.choice(sorted(given, key=repr) or [value])
         return Event(process, key, type_, name, value)
 
@@ -293,7 +394,7 @@ class Script:
             events.append(event)
             self.edit('append ' + event.text(model.keyed))
         elif what < 0.62:
-            at = draw.randrange(count + 2)
+            at = self.place(count + 2)
             event = self.event()
             if at < count and draw.random() < 0.8:
                 # the same event with another value, as a recording is corrected
@@ -303,21 +404,21 @@ class Script:
                 events[at] = event
             self.edit('replace %d %s' % (at, event.text(model.keyed)), None if at < count else 'refused edit 1 BadPosition')
         elif what < 0.68:
-            at = draw.randrange(count + 2)
+            at = self.place(count + 2)
             if at < count:
                 del events[at]
             self.edit('remove %d' % at, None if at < count else 'refused edit 1 BadPosition')
         elif what < 0.72:
-            keep = draw.randrange(count + 2)
+            keep = self.place(count + 2)
             if keep <= count:
                 del events[keep:]
             self.edit('truncate %d' % keep, None if keep <= count else 'refused edit 1 BadPosition')
         elif what < 0.76:
-            key, kind = draw.randrange(2) if model.keyed else 0, model.default if draw.random() < 0.7 else draw.choice(KINDS)
+            key, kind = draw.randrange(2) if model.keyed else 0, model.default if draw.random() < 0.7 else draw.choice(self.others)
             model.named[key] = kind
             self.edit('kind %d %s' % (key, kind))
         elif what < 0.80:
-            budget = draw.choice([0, 1, 2, 3, 5, 8, 13, 50, 65536, 1000001])
+            budget = draw.choice(self.budgets)
             if 1 <= budget <= 1000000:
                 model.budget = budget
             self.edit('budget %d' % budget, None if 1 <= budget <= 1000000 else 'refused edit 3 BadBudget')
@@ -327,7 +428,7 @@ class Script:
     def question(self):
         """Judged at once, on a copy of what the model holds now."""
         draw, model = self.draw, self.model
-        now = Model(model.keyed, model.default, model.budget)
+        now = type(model)(model.keyed, model.default, model.budget)
         now.events, now.named, now.known = list(model.events), dict(model.named), model.known
         scope = None if draw.random() < 0.6 else draw.randrange(3)
         name = '' if scope is None else ' %d' % scope
@@ -349,14 +450,87 @@ class Script:
             self.checks.append(('report', lambda reply: reply.startswith('whole: ') and now.is_right(None, reply[len('whole: '):])))
 
 
+class WideScript(Script):
+    """Commands of a few clients, with updates between them that mostly stay open, so that there are many configurations."""
+
+    def __init__(self, draw, kind):
+        self.draw, self.clients, self.longest = draw, draw.choice([1, 2, 3]), 80
+        self.budgets = [0, 1024, 1024, 1100, 2000, 1000001]
+        # kinds that take the same updates
+        self.others = [other for other in KINDS if set(NAMES[kind]) & set(NAMES[other]) - {'read'}]
+        self.start(WideModel(draw.random() < 0.25, kind, draw.choice(self.budgets[1:-1])))
+        self.updates, self.last, self.few, self.faithful = 0, 0, draw.choice([2, 3, None]), draw.choice([0.6, 0.8, 1])
+
+    def command(self):
+        """Undone where it leads to more configurations than are listed."""
+        model = self.model
+        before, lines, checks = (list(model.events), dict(model.named), model.budget), len(self.lines), len(self.checks)
+        try:
+            if self.draw.random() < 0.06:
+                self.widen()
+            super().command()
+            if bad_event(model.events, model.kinds) is None:
+                # each prefix of each object, so that all that is asked about is known
+                for key in model.keys():
+                    model.ends_of(key, len(model.events))
+            for _ in range(self.draw.choice([0, 0, 0, 1, 2])):
+                self.question()
+        except TooMany:
+            model.events, model.named, model.budget = before
+            del self.lines[lines:], self.checks[checks:]
+
+    def widen(self):
+        """More open updates, until there are more configurations than drawn."""
+        draw, model = self.draw, self.model
+        most, crashing = draw.choice([200, 600, 1024, 1024]), draw.choice([0, 0.5, 1])
+        kind = model.kinds(0)
+        while bad_event(model.events, model.kinds) is None and 0 < len(model.ends_of(0, len(model.events))) <= most:
+            name = draw.choice([name for name in NAMES[kind] if name not in ('read', 'dequeue')])
+            for type_ in ['invoke', 'info'] if draw.random() < crashing else ['invoke']:
+                model.events.append(Event(100 + self.updates, 0, type_, name, self.value(kind, name, type_)))
+                self.edit('append ' + model.events[-1].text(model.keyed))
+            self.updates += 1
+
+    def process(self):
+        """At times that of an update between."""
+        draw = self.draw
+        return 100 + draw.randrange(self.updates) if self.updates and draw.random() < 0.1 else super().process()
+
+    def place(self, places):
+        """Mostly among the last."""
+        return max(places - 1 - int(self.draw.expovariate(1 / self.draw.choice([3, 3, 3, 20]))), 0)
+
+    def value(self, kind, name, type_):
+        """Of an update one of a few values, or one that no other has."""
+        draw = self.draw
+        if name in ('read', 'dequeue', 'acquire', 'release'):
+            return super().value(kind, name, type_)
+        self.last += 1
+        value = draw.randint(1, self.few) if self.few else self.last
+        return (max(value - draw.choice([0, 1, 2]), 0) or None, value) if name == 'cas' else value
+
+    def event(self):
+        """As above, but what returns mostly does so as in some order."""
+        event = super().event()
+        if event.type == 'ok' and self.draw.random() < self.faithful:
+            replies = self.model.replies(event.process, event.key)
+            values = [tuple(sorted(reply[1])) if reply[0] == 'members' else reply[1] for reply in replies if reply != 'done']
+            if values:
+                event.value = self.draw.choice(sorted(values, key=repr))
+            elif not replies:
+                event.type = 'fail'
+        return event
+
+
 def main():
     given = sys.argv[1:]
     scripts, seed = int(given[0]) if given else 600, int(given[1]) if given[1:] else 1
     program = given[2] if given[2:] else os.path.join(os.path.dirname(os.path.abspath(__file__)), '../crates/lincheck/out/lincheck')
     right = wrong = 0
-    for number in range(scripts):
-        script = Script(random.Random(seed * 1000003 + number))
-        for _ in range(30):
+    for number in range(scripts + scripts // 15):
+        draw = random.Random(seed * 1000003 + number)
+        script = Script(draw) if number < scripts else WideScript(draw, WIDE_KINDS[number % len(WIDE_KINDS)])
+        for _ in range(30 if number < scripts else 60):
             script.command()
         said = subprocess.run([program] + script.words, input='\n'.join(script.lines) + '\n', capture_output=True, text=True).stdout.splitlines()
         if len(said) != len(script.checks):

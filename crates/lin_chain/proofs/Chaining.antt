@@ -1,6 +1,8 @@
 -- Chains that are right, and stay so.
-use Rattle.std.proofs.Common.{◌≡◌, ◌≢◌, ◌+◌, ◌*◌, ◌/◌, ◌<◌, ◌≤◌, ℕ, zero, suc, List, [], ◌∷◌, length, ◌⊎◌, Some, inl, inr, refl, sym, ap, ◌∙◌, subst, arith, get_or, slice_get, take, All}
+use Rattle.std.proofs.Common.{Bool, true, false, nat_le, nat_lt, nat_eq, if◌then◌else◌, Option, None, ◌≡◌, ◌≢◌, ◌+◌, ◌*◌, ◌/◌, ◌<◌, ◌≤◌, ℕ, zero, suc, List, [], ◌∷◌, length, ◌⊎◌, Some, inl, inr, refl, sym, ap, ◌∙◌, subst, arith, get_or, slice_get, take, All}
 use Rattle.std.specs.List.{cons_option}
+use Rattle.std.proofs.lemmas.Bool.{leb-true}
+use Rattle.std.proofs.lemmas.Bool.Decides.{Decides-eqb, Decides-ltb}
 use Rattle.std.proofs.lemmas.List.{length-take, length-take-le, take_all}
 use Rattle.std.proofs.lemmas.List.Elements.{All-take, All-tail, All-head}
 use Rattle.std.proofs.lemmas.Option.{slice_get_within, slice_get-get_or, slice_get_read}
@@ -16,9 +18,12 @@ use Rattle.lin_chain.specs.declared.chain.Chain.{Chain}
 use Rattle.lin_chain.specs.declared.chain.End.{End}
 use Rattle.lin_chain.specs.declared.chain.End.TheVariants.{Alive, Dead, Over}
 use Rattle.lin_chain.specs.declared.replay.Replay.{Replay}
-use Rattle.lin_chain.specs.Chains.{IsRight, Stands, kind_in, ready_count}
+use Rattle.lin_chain.specs.Chains.{IsAnswered, IsFor, IsRight, Stands, kind_in, ready_count, told_in}
+use Rattle.lin_chain.specs.Founds.{IsFound, found_before, told_by, told_or}
+use Rattle.lin_chain.specs.declared.found.Found.{Found}
+use Rattle.lin_chain.specs.declared.found.Found.TheVariants.{Nothing, Order, Failure}
 use Rattle.lin_chain.specs.Ends.{IsEndOf, IsFrom, IsOverAt}
-use Rattle.lin_orders.specs.Linearizable.{IsDeadAt, IsLinearizableAs}
+use Rattle.lin_orders.specs.Linearizable.{IsDeadAt, IsLegalOrderAs, IsLinearizableAs}
 use Rattle.lin_chain.specs.Replays.{IsReplay}
 use Rattle.lin_chain.proofs.Replaying.{SpellsOrders, checkpoint_kept, known_same, pairs_take, replay_linearizable, take_alike}
 
@@ -52,12 +57,34 @@ over_alike kind budget h edited local at below same over = record {
   over = subst (λ l. IsOver (start kind) (Step kind) l budget) (take_alike (at + 1) local h edited (omega arith) same) over.over;
 }
 
+-- what was found of events ahead of the place holds of any events that agree on these
+pub found_alike : (kind : Kind) (h edited : List Event) (local : ℕ) (found : Found) → take local h ≡ take local edited → IsFound kind h found → IsFound kind edited (found_before local found)
+found_alike kind h edited local Nothing same is = tt
+found_alike kind h edited local (Order order of) same is = by (nat_le of local) refl
+  where
+    by : (b : Bool) → nat_le of local ≡ b → IsFound kind edited (found_before local (Order order of))
+    by true e =
+        let below = leb-true of local e in
+        subst (λ b. IsFound kind edited (if b then Order order of else Nothing)) (sym e)
+        (longer h edited local of below is.0 same, subst (λ l. IsLegalOrderAs kind l order.items) (take_alike of local h edited below same) is.1)
+    by false e = subst (λ b. IsFound kind edited (if b then Order order of else Nothing)) (sym e) tt
+found_alike kind h edited local (Failure at) same is = by (nat_lt at local) refl
+  where
+    by : (b : Bool) → nat_lt at local ≡ b → IsFound kind edited (found_before local (Failure at))
+    by true e =
+        let below = (Decides-ltb at local).0 e in
+        subst (λ b. IsFound kind edited (if b then Failure at else Nothing)) (sym e)
+        ((let all = longer h edited local (at + 1) (omega (arith, below)) (omega (arith, is.0)) same in omega (arith, all)), dead_alike kind h edited local at below same is.1)
+    by false e = subst (λ b. IsFound kind edited (if b then Failure at else Nothing)) (sym e) tt
+
 -- a chain is right for what agrees with the events that it took in
-pub right_alike : (chain : Chain) (h edited : List Event) (local : ℕ) → ready_count chain ≤ local → take local h ≡ take local edited → IsRight chain h → IsRight chain edited
+pub right_alike : (chain : Chain) (h edited : List Event) (local : ℕ) → ready_count chain ≤ local → take local h ≡ take local edited → IsRight chain h
+    → IsRight (record chain { found = found_before local chain.found }) edited
 right_alike chain h edited local below same right = record {
   within = longer h edited local chain.ready below right.within same;
   replay = replay_alike chain.replay h edited local (reached chain.end right.stands) same right.replay;
   stands = stands chain.end right.stands;
+  found = found_alike (kind_in chain) h edited local chain.found same right.found;
 }
   where
     reached : (end : End) → Stands chain h end → chain.replay.reached ≤ local
@@ -72,11 +99,12 @@ right_alike chain h edited local below same right = record {
 
 -- behind a dead or over event, fewer may be taken in
 pub right_fewer : (chain : Chain) (h edited : List Event) (local at : ℕ) → local < ready_count chain → at < local → take local h ≡ take local edited → (chain.end ≡ Dead at) ⊎ (chain.end ≡ Over at) → IsRight chain h
-    → IsRight (record chain { ready = local }) edited
+    → IsRight (record chain { ready = local; found = found_before local chain.found }) edited
 right_fewer chain h edited local at below before same is right = record {
   within = longer h edited local local (omega arith) (omega (arith, right.within)) same;
   replay = replay_alike chain.replay h edited local (omega (arith, known is, before)) same right.replay;
   stands = stands is;
+  found = found_alike (kind_in chain) h edited local chain.found same right.found;
 }
   where
     known : (chain.end ≡ Dead at) ⊎ (chain.end ≡ Over at) → chain.replay.reached ≤ at + 1
@@ -102,21 +130,24 @@ checkpoint_before chain h local below behind right = by chain.end refl
     by (Over at) is = let was = subst (Stands chain h) is right.stands in omega (arith, was.3, behind at (inr is))
 
 -- a chain that is alive has taken in what is known
-pub right_alive : (r : Replay) (count budget : ℕ) (h : List Event) → r.reached ≡ count → IsReplay r h → IsRight (record { replay = r; ready = count; end = Alive; budget = budget }) h
-right_alive r count budget h all replay = record { within = omega (arith, all, replay.within); replay = replay; stands = all }
+pub right_alive : (r : Replay) (count budget : ℕ) (found : Found) (h : List Event) → r.reached ≡ count → IsReplay r h → IsFound r.object.kind h found
+    → IsRight (record { replay = r; ready = count; end = Alive; budget = budget; found = found }) h
+right_alive r count budget found h all replay is = record { within = omega (arith, all, replay.within); replay = replay; stands = all; found = is }
 
-pub right_dead : EmptyIsLegal → SpellsOrders → (r : Replay) (n budget : ℕ) (h : List Event) → n ≡ r.reached → IsReplay r h → n < 64 * length r.checkpoints.items → n < length h → (IsLinearizableAs r.object.kind (take (n + 1) h) → ⊥)
-    → IsRight (record { replay = r; ready = n + 1; end = Dead n; budget = budget }) h
-right_dead law orders r n budget h here replay before inside failing = record {
+pub right_dead : EmptyIsLegal → SpellsOrders → (r : Replay) (n budget : ℕ) (found : Found) (h : List Event) → n ≡ r.reached → IsReplay r h → IsFound r.object.kind h found → n < 64 * length r.checkpoints.items → n < length h
+    → (IsLinearizableAs r.object.kind (take (n + 1) h) → ⊥) → IsRight (record { replay = r; ready = n + 1; end = Dead n; budget = budget; found = found }) h
+right_dead law orders r n budget found h here replay is before inside failing = record {
+  found = is;
   within = omega arith;
   replay = replay;
   stands = (here, (let l : n < n + 1 = omega arith in l), before, record { before = subst (λ m. IsLinearizableAs r.object.kind (take m h)) (sym here) (replay_linearizable law orders r h replay); failing = failing });
 }
 
 -- it is found to be over with the event that is told, or with the next one
-pub right_over : (r : Replay) (n count budget : ℕ) (h : List Event) → n ≤ r.reached → r.reached ≤ n + 1 → n < count → count ≤ length h → IsReplay r h → n < 64 * length r.checkpoints.items
-    → IsOver (start r.object.kind) (Step r.object.kind) (take (n + 1) h) budget → IsRight (record { replay = r; ready = count; end = Over n; budget = budget }) h
-right_over r n count budget h before after below inside replay held over = record {
+pub right_over : (r : Replay) (n count budget : ℕ) (found : Found) (h : List Event) → n ≤ r.reached → r.reached ≤ n + 1 → n < count → count ≤ length h → IsReplay r h → IsFound r.object.kind h found
+    → n < 64 * length r.checkpoints.items → IsOver (start r.object.kind) (Step r.object.kind) (take (n + 1) h) budget → IsRight (record { replay = r; ready = count; end = Over n; budget = budget; found = found }) h
+right_over r n count budget found h before after below inside replay is held over = record {
+  found = is;
   within = inside;
   replay = replay;
   stands = (before, after, below, held, record { inside = omega (arith, below, inside); over = over });
@@ -144,12 +175,59 @@ right_end law orders chain h budget all over right = by chain.end refl
         let was = (subst (Stands chain h) is right.stands).4 in
         record { inside = was.inside; over = over_smaller (kind_in chain) (take (at + 1) h) chain.budget budget (over at is) was.over }
 
+-- what is told of all events is true of them
+pub right_answer : EmptyIsLegal → SpellsOrders → (chain : Chain) (h : List Event) (budget count : ℕ) → count ≡ length h → IsAnswered chain count → IsFor budget chain → IsRight chain h → IsEndOf (kind_in chain) budget h (told_in chain count)
+right_answer law orders chain h budget count all answered over right = by chain.found refl
+  where
+    frontier : told_by chain.found count ≡ None → IsEndOf (kind_in chain) budget h chain.end
+    frontier none = elim answered [ inl ready ↦ right_end law orders chain h budget (ready ∙ all) over right | inr some ↦ absurd (some none) ]
+
+    by : (found : Found) → chain.found ≡ found → IsEndOf (kind_in chain) budget h (told_or chain.end (told_by found count))
+    by Nothing is = frontier (ap (λ f. told_by f count) is)
+    by (Order order of) is = by_count (nat_eq of count) refl
+      where
+        by_count : (b : Bool) → nat_eq of count ≡ b → IsEndOf (kind_in chain) budget h (told_or chain.end (told_by (Order order of) count))
+        by_count true e =
+            let known = subst (IsFound (kind_in chain) h) is right.found in
+            let same : of ≡ count = (Decides-eqb of count).0 e in
+            subst (λ b. IsEndOf (kind_in chain) budget h (told_or chain.end (if b then Some Alive else None))) (sym e)
+            (order.items, subst (λ l. IsLegalOrderAs (kind_in chain) l order.items) (take_all of h (omega (arith, same, all))) known.1)
+        by_count false e =
+            subst (λ b. IsEndOf (kind_in chain) budget h (told_or chain.end (if b then Some Alive else None))) (sym e)
+            (frontier (ap (λ f. told_by f count) is ∙ ap (λ b. if b then Some Alive else None) e))
+    by (Failure at) is = (subst (IsFound (kind_in chain) h) is right.found).1
+
+-- the place at which events are told to be dead is one of theirs
+pub dead_within : (chain : Chain) (h : List Event) (count at : ℕ) → count ≡ length h → told_in chain count ≡ Dead at → IsRight chain h → at < count
+dead_within chain h count at all dead right = by chain.found refl
+  where
+    frontier : told_by chain.found count ≡ None → at < count
+    frontier none =
+        let stands = subst (Stands chain h) (ap (told_or chain.end) (sym none) ∙ dead) right.stands in
+        omega (arith, stands.1, right.within, all)
+
+    one_place : (i : ℕ) → Dead i ≡ Dead at → i ≡ at
+    one_place i e = cc e
+
+    by : (found : Found) → chain.found ≡ found → at < count
+    by Nothing e = frontier (ap (λ f. told_by f count) e)
+    by (Order order of) e = by_count (nat_eq of count) refl
+      where
+        by_count : (b : Bool) → nat_eq of count ≡ b → at < count
+        by_count true f = absurd (cc (sym (ap (told_or chain.end) (ap (λ k. told_by k count) e ∙ ap (λ b. if b then Some Alive else None) f)) ∙ dead))
+        by_count false f = frontier (ap (λ k. told_by k count) e ∙ ap (λ b. if b then Some Alive else None) f)
+    by (Failure i) e =
+        let inside = (subst (IsFound (kind_in chain) h) e right.found).0 in
+        let same : i ≡ at = one_place i (sym (ap (told_or chain.end) (ap (λ k. told_by k count) e)) ∙ dead) in
+        omega (arith, inside, same, all)
+
 -- behind a dead or over event, all events may be taken in
 pub right_all : (chain : Chain) (h : List Event) (count : ℕ) → count ≡ length h → (chain.end ≡ Alive → ready_count chain ≡ count) → IsRight chain h → IsRight (record chain { ready = count }) h
 right_all chain h count is all right = record {
   within = omega (arith, is);
   replay = right.replay;
   stands = by chain.end refl;
+  found = right.found;
 }
   where
     by : (end : End) → chain.end ≡ end → Stands (record chain { ready = count }) h end
@@ -193,6 +271,8 @@ pub record IsGoing (h : List Event) (first now : Chain) (budget : ℕ) (before m
   pub over : (at : ℕ) → now.end ≡ Over at → (now.budget ≡ budget) × (ready_count first ≤ now.replay.reached)
   pub steps : meter.steps + ready_count first ≤ before.steps + ready_count now
   pub scans : meter.scans ≡ before.scans
+  pub kept : now.found ≡ first.found
+  pub idle : ready_count first ≡ length h → (meter ≡ before) × (now.end ≡ first.end)
 
 pub from_fewer : (end : End) (m n : ℕ) → n ≤ m → IsFrom m end → IsFrom n end
 from_fewer Alive m n below from = from

@@ -6,4 +6,3 @@ pub mod Budgets
 pub mod Chaining
 pub mod ExactSets
 pub mod Showing
-pub mod Counting

@@ -1,11 +1,12 @@
 -- What a chain knows of its object's history: its first events, as many as the chain took in.
-use Rattle.std.specs.Prelude.{◌≡◌, ◌+◌, ◌*◌, ◌<◌, ◌≤◌, ℕ, List, length, if◌then◌else◌, nat_lt}
+use Rattle.std.specs.Prelude.{◌≡◌, ◌≢◌, ◌+◌, ◌*◌, ◌<◌, ◌≤◌, ◌⊎◌, ℕ, List, None, length, if◌then◌else◌, nat_lt}
 use Rattle.lin_events.specs.declared.events.Event.{Event}
 use Rattle.lin_objects.specs.declared.kinds.Kind.{Kind}
 use Rattle.lin_chain.specs.declared.chain.Chain.{Chain}
 use Rattle.lin_chain.specs.declared.chain.End.{End}
 use Rattle.lin_chain.specs.declared.chain.End.TheVariants.{Alive, Dead, Over}
 use Rattle.lin_chain.specs.Ends.{IsOverAt}
+use Rattle.lin_chain.specs.Founds.{IsFound, told_by, told_or}
 use Rattle.lin_orders.specs.Linearizable.{IsDeadAt}
 use Rattle.lin_chain.specs.Replays.{IsReplay, held_count}
 
@@ -21,9 +22,21 @@ kind_in chain = chain.replay.object.kind
 abbrev pub kept_count : Chain → ℕ
 kept_count chain = held_count chain.replay
 
--- where it stands
+-- where its frontiers stand
 abbrev pub end_in : Chain → End
 end_in chain = chain.end
+
+-- how the first so many events end: by what a search found of them, or else by where the frontiers stand
+abbrev pub told_in : Chain → ℕ → End
+told_in chain count = told_or chain.end (told_by chain.found count)
+
+-- that is known: they were taken in, or a search tells
+abbrev pub IsAnswered : Chain → ℕ → Type 0
+IsAnswered chain count = (ready_count chain ≡ count) ⊎ (told_by chain.found count ≢ None)
+
+-- it isn't over for a smaller budget than this
+abbrev pub IsFor : ℕ → Chain → Type 0
+IsFor budget chain = (at : ℕ) → chain.end ≡ Over at → budget ≤ chain.budget
 
 -- where it stands under a budget: one that is over for a smaller budget is alive again
 abbrev pub end_under : ℕ → Chain → End
@@ -62,3 +75,4 @@ pub record IsRight (chain : Chain) (h : List Event) : Type 0 where
   pub within : ready_count chain ≤ length h
   pub replay : IsReplay chain.replay h
   pub stands : Stands chain h chain.end
+  pub found : IsFound (kind_in chain) h chain.found

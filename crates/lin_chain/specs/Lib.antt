@@ -1,8 +1,8 @@
 pub mod Replays
 pub mod Ends
+pub mod Founds
 pub mod Chains
 pub mod Exact
 pub mod Possible
 pub mod After
-pub mod Worth
 pub mod inner

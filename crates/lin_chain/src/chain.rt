@@ -1,5 +1,5 @@
 //! One object's frontiers over its events, kept right while the events are edited.
-ghost use Rattle.std.specs.Prelude.{◌≡◌, ◌≢◌, ◌≤◌, ◌<◌, ◌+◌, ◌-◌, ◌*◌, ◌/◌, ◌⊎◌, ℕ, ℤ, Bool, List, All, AllPairs, IfOk, OnOk, IsOk, MatchOption, length, take, IsTrue, OnErr, ◌↔◌, Ok, Err, None, Some, min, nat_lt, true};
+ghost use Rattle.std.specs.Prelude.{◌≡◌, ◌≢◌, ◌≤◌, ◌<◌, ◌+◌, ◌-◌, ◌*◌, ◌/◌, ◌⊎◌, ℕ, ℤ, Bool, List, All, AllPairs, IfOk, OnOk, IsOk, MatchOption, length, take, IsTrue, OnErr, ◌↔◌, Ok, Err, None, Some, min, true, false, if◌then◌else◌};
 ghost use Rattle.lin_events.specs.declared.calls.Name.{Name as NameOf};
 ghost use Rattle.lin_events.specs.declared.events.Event.{Event as EventOf};
 ghost use Rattle.lin_events.specs.Operations.{IsEvent};
@@ -7,17 +7,17 @@ ghost use Rattle.lin_events.specs.WellFormed.{IsWellFormed};
 ghost use Rattle.lin_objects.specs.Steps.{Step as StepOf, start as start_of};
 ghost use Rattle.lin_orders.specs.Parts.{events_at};
 ghost use Rattle.lin_order.specs.Refutations.{IsRefutation, sets_of};
-ghost use Rattle.lin_frontier.specs.Frontiers.{IsPending};
 ghost use Rattle.lin_orders.specs.Configurations.{IsOver};
-ghost use Rattle.lin_frontier.specs.declared.pending.Open.{Open as OpenOf};
-ghost use Rattle.lin_chain.specs.Chains.{IsRight, end_before, end_in, end_under, kept_count, kind_in, ready_count, ready_under};
+ghost use Rattle.lin_chain.specs.Chains.{IsAnswered, IsFor, IsRight, end_before, end_in, end_under, kept_count, kind_in, ready_count, ready_under, told_in};
+ghost use Rattle.lin_chain.specs.declared.chain.End.{End as EndOf};
 ghost use Rattle.lin_chain.specs.Ends.{IsEndOf, IsFrom};
-ghost use Rattle.lin_chain.specs.Worth.{ways as ways_of};
+ghost use Rattle.lin_chain.specs.Founds.{found_before, told_by};
 ghost use Rattle.lin_orders.specs.Linearizable.{IsLegalOrderAs};
 
+use crate::found::Found;
 use crate::refuting::refutation_of;
 use crate::replay::{Replay, SPACING, Taken};
-use lin_compressed::{Scratch, members_spell_legal_orders};
+use lin_compressed::{Scratch, is_counted, members_spell_legal_orders};
 use lin_events::{Event, Meter, OutOfMemory};
 use lin_objects::{Any, Kind};
 use lin_order::Refutation;
@@ -46,6 +46,43 @@ pub enum RefuteFault {
     OutOfMemory,
 }
 
+/// Under a budget up to this frontiers are soon at their end, or over: where a search told, they may then go on.
+const SMALL_BUDGET: u32 = 4_096;
+
+/// How much work the next events are worth.
+#[derive(Clone, Copy)]
+struct Patience {
+    /// So many tries are counted at most, when an event is begun.
+    tries: u64,
+    /// An event may be tried in so many ways at most.
+    ways: u64,
+}
+
+impl Patience {
+    /// Few tries, for what comes before a search of so many events: configurations that would fill the budget aren't made.
+    fn little(meter: &Meter, events: usize) -> Patience {
+        let more = (events as u64 / 8).saturating_add(1_024);
+        Patience {
+            tries: meter.tries().saturating_add(more),
+            ways: 1_024,
+        }
+    }
+
+    /// What is enough for most objects under a small budget to come to their end, or to be over.
+    fn enough(meter: &Meter, budget: u32) -> Patience {
+        let more = (budget as u64).saturating_mul(128);
+        Patience {
+            tries: meter.tries().saturating_add(more),
+            ways: more,
+        }
+    }
+
+    /// Whether an event that may be tried in so many ways is worth it.
+    fn allows(self, meter: &Meter, ways: u64) -> bool {
+        ways <= self.ways && ways < self.tries.saturating_sub(meter.tries())
+    }
+}
+
 /// What is known of the first events of one object, and whether they have a legal order.
 #[derive(Drop)]
 pub struct Chain {
@@ -55,6 +92,7 @@ pub struct Chain {
     end: End,
     /// The budget for which it is over, where it is.
     budget: u32,
+    found: Found,
 }
 
 impl Chain {
@@ -70,6 +108,7 @@ impl Chain {
             ready: 0,
             end: End::Alive,
             budget: 0,
+            found: Found::Nothing,
         }
     }
 
@@ -80,11 +119,21 @@ impl Chain {
         self.ready
     }
 
-    /// Where it stands.
+    /// Where its frontiers stand.
     pub fn end(&self) -> End
         ensures { result ≡ end_in self.now }
     {
         self.end
+    }
+
+    /// How the first so many events end, as far as it is known: by what a search found of them, or else by where its frontiers stand.
+    pub fn told(&self, count: usize) -> End
+        ensures { result ≡ told_in self.now count }
+    {
+        match self.found.told(count) {
+            Some(end) => end,
+            None => self.end,
+        }
     }
 
     /// Of which kind the object is.
@@ -112,6 +161,7 @@ impl Chain {
         self.replay.restart(kind);
         self.ready = 0;
         self.end = End::Alive;
+        self.found = Found::Nothing;
     }
 
     /// Forgets what depends on the events from the place on: they are about to change.
@@ -119,13 +169,15 @@ impl Chain {
     /// It goes back to the checkpoint at or before the place, and needs no memory. Where an earlier event is dead or over, that stays.
     pub fn cut(&mut self, local: usize)
         ensures kind { kind_in self.new ≡ kind_in self.old }
-        ensures same { ready_count self.old ≤ local → self.new ≡ self.old }
+        ensures same { ready_count self.old ≤ local → self.new ≡ record self.old { found = self.new.found } }
+        ensures found { self.new.found ≡ found_before local self.old.found }
         ensures back { local < ready_count self.old → ready_count self.new ≤ local }
         ensures near { local < ready_count self.old → local / 64 * 64 ≤ ready_count self.new }
         ensures end { local < ready_count self.old → end_in self.new ≡ end_before local (end_in self.old) }
         ensures left { (budget : ℕ) → min (local / 64 * 64) (ready_under budget self.old) ≤ ready_under budget self.new }
         ensures right { (h edited : List EventOf) → IsRight self.old h → take local h ≡ take local edited → IsRight self.new edited }
     {
+        self.found.cut(local);
         if self.ready <= local {
             return;
         }
@@ -139,16 +191,20 @@ impl Chain {
         }
     }
 
-    /// Takes in the rest of the object's events, which stand at the picks, and answers whether they have a legal order.
+    /// Answers whether the object's events, which stand at the picks, have a legal order.
     ///
-    /// Asks that the chain is right for the first `ready()` of them, and that they are well-formed. Each event past these that is taken in
-    /// counts as one step; those behind a dead or over one aren't. A chain that is over for a smaller budget counts as cut there.
+    /// Asks that the chain is right for the first `ready()` of them, and that they are well-formed. What was found of all of them is told
+    /// again. Else the rest is taken in: each event past those that were counts as one step; those behind a dead or over one aren't taken in.
+    /// A chain that is over for a smaller budget counts as cut there. Where a search may be made, all events are searched for a legal order,
+    /// and then for a failure, if the chain is over, or, for a kind whose frontiers get large, not at its end after few tries; what is
+    /// found is kept, and the chain may then stay behind. Under a budget for which all configurations are counted nothing is searched.
     /// Where memory is refused, the events before the refusal are taken in.
     pub fn settle(
         &mut self,
         events: &[Event],
         picks: &[usize],
         budget: u32,
+        search: bool,
         meter: &mut Meter,
     ) -> Result<End, OutOfMemory>
         requires right { IsRight self.old (events_at events.now picks.now) }
@@ -156,64 +212,208 @@ impl Chain {
         requires well_formed { (functions : ℤ → NameOf → Bool) × IsWellFormed functions (events_at events.now picks.now) }
         ensures kind { kind_in self.new ≡ kind_in self.old }
         ensures end { IfOk result (IsEndOf (kind_in self.old) budget (events_at events.now picks.now)) }
-        ensures told { IfOk result (λ end. end_in self.new ≡ end) }
-        ensures all { OnOk result (ready_count self.new ≡ length picks.now) }
+        ensures told { IfOk result (λ end. told_in self.new (length picks.now) ≡ end) }
+        ensures answered { OnOk result (IsAnswered self.new (length picks.now)) }
+        ensures again { (end : EndOf) → told_by self.old.found (length picks.now) ≡ Some end → (result ≡ Ok end) × (meter.new ≡ meter.old) × (end_in self.new ≡ end_under budget self.old) }
         ensures right { IsRight self.new (events_at events.now picks.now) }
         ensures under { (end_under budget self.new ≡ end_in self.new) × (ready_under budget self.new ≡ ready_count self.new) }
         ensures no_less { ready_under budget self.old ≤ ready_count self.new }
         ensures remains { (other : ℕ) → min (ready_under budget self.old) (ready_under other self.old) ≤ ready_under other self.new }
-        ensures settled { ready_under budget self.old ≡ length picks.now → IsOk result }
-        ensures stays { end_under budget self.old ≢ End.Alive → result ≡ Ok (end_under budget self.old) }
-        ensures found { end_under budget self.old ≡ End.Alive → IfOk result (IsFrom (ready_under budget self.old)) }
-        ensures steps { meter.new.steps ≤ meter.old.steps + (length picks.now - ready_under budget self.old) }
+        ensures settled { ready_under budget self.old ≡ length picks.now → search ≡ false → IsOk result }
+        ensures idle { ready_under budget self.old ≡ length picks.now → search ≡ false → (meter.new ≡ meter.old) × (end_in self.new ≡ end_under budget self.old) }
+        ensures all { OnOk result (search ≡ false → told_by self.old.found (length picks.now) ≡ None → ready_count self.new ≡ length picks.now) }
+        ensures steps { meter.new.steps ≤ meter.old.steps + (length picks.now - ready_under budget self.old) + (if search then 6 * length picks.now else 0) }
         ensures scans { meter.new.scans ≡ meter.old.scans }
     {
         empty_is_legal();
         members_spell_legal_orders::<Any>();
         self.retry(budget);
-        if self.end.is_alive() {
-            let mut scratch = self.replay.scratch();
-            self.go_on(events, picks, budget, None, meter, &mut scratch)?;
+        if let Some(end) = self.found.told(picks.len()) {
+            return Ok(end);
         }
-        self.ready = picks.len();
-        Ok(self.end)
+        if search && !is_counted(budget as usize) {
+            self.search(events, picks, budget, meter)?;
+        } else {
+            self.take_all(events, picks, budget, meter)?;
+        }
+        Ok(self.told(picks.len()))
     }
 
-    /// Takes in some more of the object's events, as long as the meter counts fewer tries than these, and so few operations are open that
-    /// the next event seldom takes more than what is left of them.
-    ///
-    /// Asks what `settle` asks, and counts steps as it does. What it leaves `settle` takes in later. So whoever can do without frontiers
-    /// takes in no more events than these tries are worth.
-    pub fn take_some(
+    /// Takes the rest of the events in, up to one at which the chain is dead or over.
+    fn take_all(
         &mut self,
         events: &[Event],
         picks: &[usize],
         budget: u32,
-        tries: u64,
         meter: &mut Meter,
     ) -> Result<(), OutOfMemory>
         requires right { IsRight self.old (events_at events.now picks.now) }
         requires inside { All (λ at. at < length events.now) picks.now }
         requires well_formed { (functions : ℤ → NameOf → Bool) × IsWellFormed functions (events_at events.now picks.now) }
+        requires retried { IsFor budget self.old }
         ensures kind { kind_in self.new ≡ kind_in self.old }
         ensures right { IsRight self.new (events_at events.now picks.now) }
-        ensures under { (end_under budget self.new ≡ end_in self.new) × (ready_under budget self.new ≡ ready_count self.new) }
-        ensures no_less { ready_under budget self.old ≤ ready_count self.new }
-        ensures remains { (other : ℕ) → min (ready_under budget self.old) (ready_under other self.old) ≤ ready_under other self.new }
-        ensures settled { ready_under budget self.old ≡ length picks.now → IsOk result }
-        ensures stays { end_under budget self.old ≢ End.Alive → end_in self.new ≡ end_under budget self.old }
-        ensures steps { meter.new.steps ≤ meter.old.steps + (length picks.now - ready_under budget self.old) }
-        ensures progress { OnOk result (meter.new.steps + ready_under budget self.old ≤ meter.old.steps + ready_count self.new) }
-        // It stops early only where the tries that are left aren't worth the next event.
-        ensures worth { OnOk result (end_in self.new ≡ End.Alive → (ready_count self.new ≡ length picks.now) ⊎ ((opened : List OpenOf)
-            → IsPending (take (ready_count self.new) (events_at events.now picks.now)) opened → tries - meter.new.tries ≤ ways_of (length opened))) }
+        ensures all { OnOk result (ready_count self.new ≡ length picks.now) }
+        ensures retried { IsFor budget self.new }
+        ensures no_less { ready_count self.old ≤ ready_count self.new }
+        ensures remains { (other : ℕ) → ready_under other self.old ≤ ready_under other self.new }
+        ensures settled { ready_count self.old ≡ length picks.now → IsOk result }
+        ensures idle { ready_count self.old ≡ length picks.now → (meter.new ≡ meter.old) × (end_in self.new ≡ end_in self.old) }
+        ensures found { self.new.found ≡ self.old.found }
+        ensures steps { meter.new.steps + ready_count self.old ≤ meter.old.steps + length picks.now }
         ensures scans { meter.new.scans ≡ meter.old.scans }
     {
-        self.retry(budget);
         if self.end.is_alive() {
             let mut scratch = self.replay.scratch();
-            self.go_on(events, picks, budget, Some(tries), meter, &mut scratch)?;
+            self.go_on(events, picks, budget, None, meter, &mut scratch)?;
         }
+        self.ready = picks.len();
+        Ok(())
+    }
+
+    /// Takes some more of the events in, as long as they are worth it.
+    fn take_some(
+        &mut self,
+        events: &[Event],
+        picks: &[usize],
+        budget: u32,
+        patience: Patience,
+        meter: &mut Meter,
+    ) -> Result<(), OutOfMemory>
+        requires right { IsRight self.old (events_at events.now picks.now) }
+        requires inside { All (λ at. at < length events.now) picks.now }
+        requires well_formed { (functions : ℤ → NameOf → Bool) × IsWellFormed functions (events_at events.now picks.now) }
+        requires retried { IsFor budget self.old }
+        ensures kind { kind_in self.new ≡ kind_in self.old }
+        ensures right { IsRight self.new (events_at events.now picks.now) }
+        ensures retried { IsFor budget self.new }
+        ensures no_less { ready_count self.old ≤ ready_count self.new }
+        ensures remains { (other : ℕ) → ready_under other self.old ≤ ready_under other self.new }
+        ensures found { self.new.found ≡ self.old.found }
+        ensures steps { meter.new.steps + ready_count self.old ≤ meter.old.steps + length picks.now }
+        ensures progress { OnOk result (meter.new.steps + ready_count self.old ≤ meter.old.steps + ready_count self.new) }
+        ensures scans { meter.new.scans ≡ meter.old.scans }
+    {
+        if self.end.is_alive() {
+            let mut scratch = self.replay.scratch();
+            self.go_on(events, picks, budget, Some(patience), meter, &mut scratch)?;
+        }
+        Ok(())
+    }
+
+    /// Takes events in, and searches all of them, once: where the chain is over, or stays behind after few tries.
+    fn search(
+        &mut self,
+        events: &[Event],
+        picks: &[usize],
+        budget: u32,
+        meter: &mut Meter,
+    ) -> Result<(), OutOfMemory>
+        requires right { IsRight self.old (events_at events.now picks.now) }
+        requires inside { All (λ at. at < length events.now) picks.now }
+        requires well_formed { (functions : ℤ → NameOf → Bool) × IsWellFormed functions (events_at events.now picks.now) }
+        requires retried { IsFor budget self.old }
+        ensures kind { kind_in self.new ≡ kind_in self.old }
+        ensures right { IsRight self.new (events_at events.now picks.now) }
+        ensures answered { OnOk result (IsAnswered self.new (length picks.now)) }
+        ensures retried { IsFor budget self.new }
+        ensures no_less { ready_count self.old ≤ ready_count self.new }
+        ensures remains { (other : ℕ) → ready_under other self.old ≤ ready_under other self.new }
+        ensures steps { meter.new.steps + ready_count self.old ≤ meter.old.steps + 7 * length picks.now }
+        ensures scans { meter.new.scans ≡ meter.old.scans }
+    {
+        if self.is_slow(events, picks, budget, meter)? {
+            self.look(events, picks, meter)?;
+            if self.found.told(picks.len()).is_some() {
+                return self.catch_up(events, picks, budget, meter);
+            }
+            return self.take_all(events, picks, budget, meter);
+        }
+        self.take_all(events, picks, budget, meter)?;
+        if let End::Over(_) = self.end {
+            self.look(events, picks, meter)?;
+        }
+        Ok(())
+    }
+
+    /// Takes more events in behind a search that told, where the budget is small: an object that is at its end, or over, takes less work
+    /// after an edit.
+    fn catch_up(
+        &mut self,
+        events: &[Event],
+        picks: &[usize],
+        budget: u32,
+        meter: &mut Meter,
+    ) -> Result<(), OutOfMemory>
+        requires right { IsRight self.old (events_at events.now picks.now) }
+        requires inside { All (λ at. at < length events.now) picks.now }
+        requires well_formed { (functions : ℤ → NameOf → Bool) × IsWellFormed functions (events_at events.now picks.now) }
+        requires retried { IsFor budget self.old }
+        ensures kind { kind_in self.new ≡ kind_in self.old }
+        ensures right { IsRight self.new (events_at events.now picks.now) }
+        ensures retried { IsFor budget self.new }
+        ensures no_less { ready_count self.old ≤ ready_count self.new }
+        ensures remains { (other : ℕ) → ready_under other self.old ≤ ready_under other self.new }
+        ensures found { self.new.found ≡ self.old.found }
+        ensures steps { meter.new.steps + ready_count self.old ≤ meter.old.steps + length picks.now }
+        ensures scans { meter.new.scans ≡ meter.old.scans }
+    {
+        if SMALL_BUDGET < budget {
+            return Ok(());
+        }
+        let patience = Patience::enough(meter, budget);
+        self.take_some(events, picks, budget, patience, meter)?;
+        if self.end.is_alive() {
+            return Ok(());
+        }
+        self.take_all(events, picks, budget, meter)
+    }
+
+    /// Whether the chain, of a kind whose frontiers get large, isn't at its end after few tries.
+    fn is_slow(
+        &mut self,
+        events: &[Event],
+        picks: &[usize],
+        budget: u32,
+        meter: &mut Meter,
+    ) -> Result<bool, OutOfMemory>
+        requires right { IsRight self.old (events_at events.now picks.now) }
+        requires inside { All (λ at. at < length events.now) picks.now }
+        requires well_formed { (functions : ℤ → NameOf → Bool) × IsWellFormed functions (events_at events.now picks.now) }
+        requires retried { IsFor budget self.old }
+        ensures kind { kind_in self.new ≡ kind_in self.old }
+        ensures right { IsRight self.new (events_at events.now picks.now) }
+        ensures retried { IsFor budget self.new }
+        ensures no_less { ready_count self.old ≤ ready_count self.new }
+        ensures remains { (other : ℕ) → ready_under other self.old ≤ ready_under other self.new }
+        ensures steps { meter.new.steps + ready_count self.old ≤ meter.old.steps + length picks.now }
+        ensures progress { OnOk result (meter.new.steps + ready_count self.old ≤ meter.old.steps + ready_count self.new) }
+        ensures scans { meter.new.scans ≡ meter.old.scans }
+    {
+        if !is_searched_first(self.replay.kind()) {
+            return Ok(false);
+        }
+        let patience = Patience::little(meter, picks.len());
+        self.take_some(events, picks, budget, patience, meter)?;
+        Ok(self.end.is_alive() && self.ready < picks.len())
+    }
+
+    /// Keeps what a search of all events finds.
+    fn look(
+        &mut self,
+        events: &[Event],
+        picks: &[usize],
+        meter: &mut Meter,
+    ) -> Result<(), OutOfMemory>
+        requires right { IsRight self.old (events_at events.now picks.now) }
+        requires inside { All (λ at. at < length events.now) picks.now }
+        ensures others { self.new ≡ record self.old { found = self.new.found } }
+        ensures right { IsRight self.new (events_at events.now picks.now) }
+        ensures steps { meter.new.steps ≤ meter.old.steps + 6 * length picks.now }
+        ensures scans { meter.new.scans ≡ meter.old.scans }
+    {
+        let alloc = self.replay.alloc();
+        self.found = Found::search(alloc, self.replay.kind(), events, picks, meter)?;
         Ok(())
     }
 
@@ -224,7 +424,8 @@ impl Chain {
         ensures ready { (h : List EventOf) → IsRight self.old h → ready_under budget self.old ≤ ready_count self.new }
         ensures remains { (other : ℕ) (h : List EventOf) → IsRight self.old h → min (ready_under budget self.old) (ready_under other self.old) ≤ ready_under other self.new }
         ensures right { (h : List EventOf) → IsRight self.old h → IsRight self.new h }
-        ensures over { (at : ℕ) → end_in self.new ≡ End.Over at → budget ≤ self.new.budget }
+        ensures over { IsFor budget self.new }
+        ensures kept { self.new.found ≡ self.old.found }
     {
         if let End::Over(_) = self.end
             && self.budget < budget
@@ -234,13 +435,13 @@ impl Chain {
         }
     }
 
-    /// Takes in the rest of the events, up to one at which the chain is dead or over, or those that so many tries are worth.
+    /// Takes in the rest of the events, up to one at which the chain is dead or over, or those that are worth it.
     fn go_on(
         &mut self,
         events: &[Event],
         picks: &[usize],
         budget: u32,
-        tries: Option<u64>,
+        patience: Option<Patience>,
         meter: &mut Meter,
         scratch: &mut Scratch<Any>,
     ) -> Result<(), OutOfMemory>
@@ -251,19 +452,19 @@ impl Chain {
         ensures kind { kind_in self.new ≡ kind_in self.old }
         ensures right { IsRight self.new (events_at events.now picks.now) }
         ensures no_less { ready_count self.old ≤ ready_count self.new }
-        ensures all { OnOk result (tries ≡ None → end_in self.new ≡ End.Alive → ready_count self.new ≡ length picks.now) }
+        ensures all { OnOk result (patience ≡ None → end_in self.new ≡ End.Alive → ready_count self.new ≡ length picks.now) }
         ensures found { IsFrom (ready_count self.old) (end_in self.new) }
         ensures over { (at : ℕ) → end_in self.new ≡ End.Over at → (self.new.budget ≡ budget) × (ready_count self.old ≤ self.new.replay.reached) }
+        ensures kept { self.new.found ≡ self.old.found }
         ensures settled { ready_count self.old ≡ length picks.now → IsOk result }
+        ensures idle { ready_count self.old ≡ length picks.now → (meter.new ≡ meter.old) × (end_in self.new ≡ end_in self.old) }
         ensures steps { meter.new.steps ≤ meter.old.steps + (length picks.now - ready_count self.old) }
         ensures progress { OnOk result (meter.new.steps + ready_count self.old ≤ meter.old.steps + ready_count self.new) }
-        ensures worth { OnOk result ((most : ℕ) → tries ≡ Some most → end_in self.new ≡ End.Alive → (ready_count self.new ≡ length picks.now) ⊎ ((opened : List OpenOf)
-            → IsPending (take (ready_count self.new) (events_at events.now picks.now)) opened → most - meter.new.tries ≤ ways_of (length opened))) }
         ensures scans { meter.new.scans ≡ meter.old.scans }
     {
         while self.end.is_alive()
             && self.replay.reached < picks.len()
-            && is_worth(meter, tries, self.replay.open())
+            && is_worth(meter, patience, &self.replay, budget)
         {
             let event = &events[picks[self.replay.reached]];
             self.take_in(event, budget, meter, scratch)?;
@@ -289,6 +490,7 @@ impl Chain {
         ensures found { IsFrom self.old.replay.reached (end_in self.new) }
         ensures known { self.old.replay.reached ≤ self.new.replay.reached }
         ensures over { OnOk result (self.new.budget ≡ budget) }
+        ensures kept { self.new.found ≡ self.old.found }
         ensures steps { meter.new.steps ≤ meter.old.steps + 1 }
         ensures scans { meter.new.scans ≡ meter.old.scans }
     {
@@ -307,24 +509,28 @@ impl Chain {
         Ok(())
     }
 
-    /// A legal order of the events that were taken in, in places among the object's events, or none where the chain is dead or over.
+    /// A legal order of the first so many events, in places among the object's events, or none where it isn't told that they have one.
     ///
-    /// Asks that the chain is right for some history.
-    pub fn order(&self, alloc: Global) -> Result<Option<Vec<Placed>>, OutOfMemory>
-        requires { (h : List EventOf) × IsRight self.now h }
-        ensures { IfOk result (λ found. MatchOption found (end_in self.now ≢ End.Alive) (λ order. (end_in self.now ≡ End.Alive)
-            × ((h : List EventOf) → IsRight self.now h → IsLegalOrderAs (kind_in self.now) (take (ready_count self.now) h) order.items))) }
+    /// Asks that the chain is right for some history, and tells how these events end.
+    pub fn order(&self, alloc: Global, count: usize) -> Result<Option<Vec<Placed>>, OutOfMemory>
+        requires right { (h : List EventOf) × IsRight self.now h }
+        requires answered { IsAnswered self.now count }
+        ensures { IfOk result (λ found. MatchOption found (told_in self.now count ≢ End.Alive) (λ order. (told_in self.now count ≡ End.Alive)
+            × ((h : List EventOf) → IsRight self.now h → IsLegalOrderAs (kind_in self.now) (take count h) order.items))) }
     {
-        if !self.end.is_alive() {
+        let End::Alive = self.told(count) else {
             return Ok(None);
+        };
+        match self.found.order(count) {
+            Some(order) => Ok(Some(copied(alloc, order)?)),
+            None => Ok(Some(self.replay.order(alloc)?)),
         }
-        Ok(Some(self.replay.order(alloc)?))
     }
 
-    /// Sets that refute the object's events up to and with the one at which the chain is dead: all configurations of each beginning.
+    /// Sets that refute the object's events up to and with the one at which they are told to be dead: all configurations of each beginning.
     ///
-    /// Asks what `settle` asks. `NotDead` exactly where the chain is dead nowhere; `TooLarge` only where some beginning has more
-    /// configurations than the budget.
+    /// Asks what `settle` asks. `NotDead` exactly where that isn't told; `TooLarge` only where some beginning has more configurations than
+    /// the budget.
     pub fn refute(
         &self,
         alloc: Global,
@@ -335,11 +541,11 @@ impl Chain {
         requires right { IsRight self.now (events_at events.now picks.now) }
         requires inside { All (λ at. at < length events.now) picks.now }
         requires well_formed { (functions : ℤ → NameOf → Bool) × IsWellFormed functions (events_at events.now picks.now) }
-        ensures refuted { IfOk result (λ refutation. (at : ℕ) × (end_in self.now ≡ End.Dead at) × IsRefutation (take (at + 1) (events_at events.now picks.now)) (kind_in self.now) (sets_of refutation)) }
-        ensures not_dead { (result ≡ Err RefuteFault.NotDead) ↔ ((at : ℕ) → end_in self.now ≡ End.Dead at → ⊥) }
+        ensures refuted { IfOk result (λ refutation. (at : ℕ) × (told_in self.now (length picks.now) ≡ End.Dead at) × IsRefutation (take (at + 1) (events_at events.now picks.now)) (kind_in self.now) (sets_of refutation)) }
+        ensures not_dead { (result ≡ Err RefuteFault.NotDead) ↔ ((at : ℕ) → told_in self.now (length picks.now) ≡ End.Dead at → ⊥) }
         ensures too_large { result ≡ Err RefuteFault.TooLarge → (n : ℕ) × IsOver (start_of (kind_in self.now)) (StepOf (kind_in self.now)) (take n (events_at events.now picks.now)) budget }
     {
-        let End::Dead(at) = self.end else {
+        let End::Dead(at) = self.told(picks.len()) else {
             return Err(RefuteFault::NotDead);
         };
         match refutation_of(alloc, self.replay.kind(), events, picks, at, budget) {
@@ -359,21 +565,49 @@ impl End {
     }
 }
 
-/// In how many ways one more event may be tried while so many operations are open: each set of these may have been placed, and each other
-/// one may come next.
-fn ways(open: usize) -> u64
-    ensures { result ≡ ways_of «open» }
-{
-    (open as u64).saturating_mul(1 << open.min(32))
+/// Whether searches come before frontiers for an object of the kind: of the others, frontiers have fewer members.
+fn is_searched_first(kind: Kind) -> bool {
+    matches!(kind, Kind::Fifo | Kind::Bag | Kind::Set)
 }
 
-/// Whether one more event is worth the tries that are left, if there is a limit, while so many operations are open.
-fn is_worth(meter: &Meter, tries: Option<u64>, open: usize) -> bool
-    ensures all { tries ≡ None → result ≡ true }
-    ensures some { (most : ℕ) → tries ≡ Some most → result ≡ nat_lt (ways_of «open») (most - meter.now.tries) }
-{
-    match tries {
-        None => true,
-        Some(tries) => ways(open) < tries.saturating_sub(meter.tries()),
+/// In how many orders some of so many operations may stand.
+fn arrangements(count: usize) -> u64 {
+    let mut found: u64 = 1;
+    for chosen in 1..=count {
+        found = found.saturating_mul(chosen as u64).saturating_add(1);
     }
+    found
+}
+
+/// In how many ways one more event may be tried while so many operations are open: some of these may have been placed, in any order where
+/// that makes different states, and each other one may come next; but there are no more members than the budget.
+fn ways(kind: Kind, open: usize, budget: u32) -> u64 {
+    let placed = match kind {
+        Kind::Fifo => arrangements(open),
+        _ => 1 << open.min(32),
+    };
+    placed.min(budget as u64).saturating_mul(open as u64)
+}
+
+/// Whether one more event is worth it, if there is a limit.
+fn is_worth(meter: &Meter, patience: Option<Patience>, replay: &Replay, budget: u32) -> bool
+    ensures { patience ≡ None → result ≡ true }
+{
+    match patience {
+        None => true,
+        Some(patience) => patience.allows(meter, ways(replay.kind(), replay.open(), budget)),
+    }
+}
+
+fn copied(alloc: Global, order: &[Placed]) -> Result<Vec<Placed>, OutOfMemory>
+    ensures { IfOk result (λ copy. copy.items ≡ order.now) }
+{
+    let mut copy = Vec::with_capacity(alloc, order.len())?;
+    for placed in order {
+        copy.push(Placed {
+            at: placed.at,
+            reply: placed.reply.copy(alloc)?,
+        })?;
+    }
+    Ok(copy)
 }

@@ -3,6 +3,7 @@
 
 mod chain;
 mod exact;
+mod found;
 mod pending;
 mod possible;
 mod refuting;

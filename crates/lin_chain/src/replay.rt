@@ -8,7 +8,6 @@ ghost use Rattle.lin_events.specs.WellFormed.{IsWellFormed};
 ghost use Rattle.lin_objects.specs.Steps.{Step as StepOf, start as start_of};
 ghost use Rattle.lin_orders.specs.declared.placed.Placed.{Placed as PlacedOf};
 ghost use Rattle.lin_orders.specs.ConfigurationLaws.{with_event};
-ghost use Rattle.lin_frontier.specs.declared.pending.Open.{Open as OpenOf};
 ghost use Rattle.lin_frontier.specs.Frontiers.{IsNextEvent, IsPending};
 ghost use Rattle.lin_orders.specs.Configurations.{IsOver};
 ghost use Rattle.lin_members.specs.Rounds.{joined, SpellsRounds};
@@ -106,14 +105,17 @@ impl Replay {
     }
 
     /// How many operations are open after the events that are known.
-    pub(crate) fn open(&self) -> usize
-        ensures { (h : List EventOf) (opened : List OpenOf) → IsReplay self.now h → IsPending (take self.now.reached h) opened → result ≤ length opened }
-    {
+    pub(crate) fn open(&self) -> usize {
         match (&self.present, self.checkpoints.last()) {
             (Some(_), _) => self.pending.as_slice().len(),
             (None, Some(last)) => last.crashed.saturating_add(last.live.len()),
             (None, None) => 0,
         }
+    }
+
+    /// Where its memory comes from.
+    pub(crate) fn alloc(&self) -> Global {
+        self.alloc
     }
 
     /// Forgets all events, for an object of another kind.

@@ -1,5 +1,5 @@
 //! Drawn histories of one object; whether they have a legal order, by trying all lists of operations; what is found without frontiers.
-use lin_events::{Body, Call, Event, IntSet, Name, Reply, Val};
+use lin_events::{Body, Call, Event, IntSet, Meter, Name, Reply, Val};
 use lin_objects::{Any, Kind, Kinds, SeqObject};
 use lin_orders::{Placed, check_order};
 use lin_search::{finds_failure, finds_order};
@@ -299,7 +299,15 @@ fn places(rt: &impl Abort, alloc: Global, events: &[Event]) -> Vec<usize> {
 
 /// Whether an order of the events is found.
 pub(crate) fn is_found(rt: &impl Abort, alloc: Global, kind: Kind, events: &[Event]) -> bool {
-    finds_order(alloc, kind, events, &places(rt, alloc, events)).is_some()
+    finds_order(
+        alloc,
+        kind,
+        events,
+        &places(rt, alloc, events),
+        &mut Meter::new(),
+    )
+    .expect(rt, "memory")
+    .is_some()
 }
 
 /// The place of the event at which the object fails, as far as it is found.
@@ -309,5 +317,12 @@ pub(crate) fn failing(
     kind: Kind,
     events: &[Event],
 ) -> Option<usize> {
-    finds_failure(alloc, kind, events, &places(rt, alloc, events))
+    finds_failure(
+        alloc,
+        kind,
+        events,
+        &places(rt, alloc, events),
+        &mut Meter::new(),
+    )
+    .expect(rt, "memory")
 }

@@ -4,7 +4,6 @@ use crate::drawn::{Draw, failing};
 use crate::events::{info, invoke, ok, write};
 use lin_events::{Call, Event, Name, Reply, Val};
 use lin_objects::Kind;
-use lin_search::finds_failure;
 use std::alloc::Global;
 use std::process::Abort;
 
@@ -110,7 +109,7 @@ fn a_value_that_was_written_twice(rt: HostRuntime) {
 #[test]
 fn none_is_looked_for_of_a_lock(rt: HostRuntime) {
     let events = [invoke(0, Call::Release), ok(0, Name::Release, Reply::Done)];
-    assert!(rt; finds_failure(rt.alloc(), Kind::Mutex, &events, &[0, 1]) == None);
+    assert!(rt; failing(&rt, rt.alloc(), Kind::Mutex, &events) == None);
 }
 
 /// What a client of a register is about.

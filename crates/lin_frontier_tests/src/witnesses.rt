@@ -3,7 +3,6 @@ use crate::drawn::{Draw, is_found};
 use crate::events::{fail, info, invoke, ok, write};
 use lin_events::{Call, Event, Name, Reply, Val};
 use lin_objects::Kind;
-use lin_search::finds_order;
 use std::alloc::Global;
 use std::process::Abort;
 
@@ -132,13 +131,13 @@ fn none_is_found_for_a_value_that_nobody_wrote(rt: HostRuntime) {
         invoke(1, Call::Read),
         ok(1, Name::Read, Reply::Value(Val::Int(2))),
     ];
-    assert!(rt; finds_order(rt.alloc(), Kind::Register, &events, &[0, 1, 2]).is_none());
-    assert!(rt; finds_order(rt.alloc(), Kind::Register, &events, &[0, 1]).is_some());
+    assert!(rt; !is_found(&rt, rt.alloc(), Kind::Register, &events));
+    assert!(rt; is_found(&rt, rt.alloc(), Kind::Register, &events[..2]));
 }
 
 /// Orders are looked for of registers alone.
 #[test]
 fn none_is_looked_for_of_a_lock(rt: HostRuntime) {
     let events = [invoke(0, Call::Acquire), ok(0, Name::Acquire, Reply::Done)];
-    assert!(rt; finds_order(rt.alloc(), Kind::Mutex, &events, &[0, 1]).is_none());
+    assert!(rt; !is_found(&rt, rt.alloc(), Kind::Mutex, &events));
 }

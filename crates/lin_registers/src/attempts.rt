@@ -1,9 +1,12 @@
 //! A search for a legal order of a register's operations that keeps a few beginnings. It puts off what doesn't show: a write that
 //! another write hid is placed when it returns, before that one. Whatever it finds is checked; that it finds one isn't promised.
+ghost use Rattle.std.specs.Prelude.{◌≡◌, ◌≤◌};
+ghost use Rattle.lin_events.specs.Meters.{ticked};
+
 use crate::acts::{Act, Acts};
 use crate::drafts::{Draft, Gap, Spot, Step};
 use crate::lines::Line;
-use lin_events::{Event, OutOfMemory, Val};
+use lin_events::{Event, Meter, OutOfMemory, Val};
 use lin_orders::Placed;
 use std::alloc::Global;
 
@@ -83,14 +86,18 @@ impl<'a> Attempt<'a> {
         Ok(())
     }
 
-    /// Puts the operation in the order.
+    /// Puts the operation in the order, unless there are more steps than can be named.
     fn place(
         &mut self,
         draft: &mut Draft,
         operation: usize,
         spot: Spot,
     ) -> Result<(), OutOfMemory> {
-        let (Some(act), Ok(name)) = (self.acts.act(operation), u32::try_from(operation)) else {
+        let (Some(act), Ok(name), Ok(step)) = (
+            self.acts.act(operation),
+            u32::try_from(operation),
+            u32::try_from(self.steps.len().saturating_add(1)),
+        ) else {
             return Ok(());
         };
         self.steps.push(Step {
@@ -98,9 +105,6 @@ impl<'a> Attempt<'a> {
             operation: name,
             spot,
         })?;
-        let Ok(step) = u32::try_from(self.steps.len()) else {
-            return Err(OutOfMemory);
-        };
         draft.step = step;
         draft.note(operation, act)
     }
@@ -417,11 +421,32 @@ fn placed(alloc: Global, acts: &Acts, operations: &[usize]) -> Result<Vec<Placed
     Ok(order)
 }
 
-/// An order of the events of a register, if the search finds one.
-pub fn register_order(alloc: Global, events: &[Event]) -> Result<Option<Vec<Placed>>, OutOfMemory> {
+/// So many calls more were tried.
+fn tick_tries(meter: &mut Meter, count: usize)
+    ensures counted { meter.new ≡ record meter.old { tries = ticked meter.old.tries count } }
+    ensures risen { meter.old.tries ≤ meter.new.tries }
+{
+    let before = meter.tries();
+    for _ in 0..count {
+        meter.tick_try();
+    }
+    prove!(before <= meter.tries());
+}
+
+/// An order of the events of a register, if the search finds one. A try is counted for each operation that it places in a beginning.
+pub fn register_order(
+    alloc: Global,
+    events: &[Event],
+    meter: &mut Meter,
+) -> Result<Option<Vec<Placed>>, OutOfMemory>
+    ensures tries { meter.old.tries ≤ meter.new.tries }
+    ensures others { meter.new ≡ record meter.old { tries = meter.new.tries } }
+{
     let acts = Acts::of(alloc, events)?;
     let mut attempt = Attempt::new(alloc, &acts);
-    match attempt.run()? {
+    let found = attempt.run();
+    tick_tries(meter, attempt.steps.len());
+    match found? {
         Some(operations) => Ok(Some(placed(alloc, &acts, &operations)?)),
         None => Ok(None),
     }

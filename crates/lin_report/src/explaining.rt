@@ -52,12 +52,11 @@ fn explanation(
     session: &mut Session,
     asked: Asked,
     places: Option<&[Place]>,
-    patience: u64,
 ) -> Result<Answered, OutOfMemory>
     ensures explained { IfOk result (λ answered. IsExplanation session.old.present asked (option_map (λ p. p.now) places.entry) answered.text.items answered.status) }
     ensures present { session.new.present ≡ session.old.present }
 {
-    let answer = session.order(alloc, scope_of(asked.key), patience)?;
+    let answer = session.order(alloc, scope_of(asked.key))?;
     let verdict = verdict_of(&answer);
     let lines = lines_of(alloc, session, &answer, asked, places)?;
     let mut text = verdict_words(alloc, verdict)?;
@@ -88,7 +87,6 @@ pub fn explain_reply(
     keyed: bool,
     session: &mut Session,
     scope: Scope,
-    patience: u64,
 ) -> Result<Reply, OutOfMemory>
     ensures { IfOk result (λ reply. IsCommandReply (command.Explain scope) session.old.present session.new.present reply.text.items reply.status) }
 {
@@ -97,7 +95,7 @@ pub fn explain_reply(
         with_order: false,
         keyed,
     };
-    let answered = explanation(alloc, session, asked, None, patience)?;
+    let answered = explanation(alloc, session, asked, None)?;
     let mut text = Vec::from_slice(alloc, b"explained ")?;
     put_number(&mut text, line_count(answered.text.as_slice()) as u64)?;
     text.push(b'\n')?;
@@ -122,7 +120,7 @@ fn explanation_of(
 {
     let mut session = session_of(alloc, settings, events)?;
     let places = Some(places.as_slice());
-    explanation(alloc, &mut session, asked, places, 0)
+    explanation(alloc, &mut session, asked, places)
 }
 
 /// What is told of a file that is refused.

@@ -96,15 +96,11 @@ pub fn answered(alloc: Global, verdict: Verdict) -> Result<Reply, OutOfMemory>
     })
 }
 
-/// How many calls are tried for each event that a chain has still to take in, before an order of a queue or a set is looked for. What was
-/// taken in stays so for the next question.
-const PATIENCE: u64 = 1;
-
 /// What is found for the scope.
 fn ask(alloc: Global, session: &mut Session, scope: Scope) -> Result<Reply, OutOfMemory>
     ensures { IfOk result (λ reply. IsCommandReply (Command.Ask scope) session.old.present session.new.present reply.text.items reply.status) }
 {
-    let verdict = session.decide(alloc, scope, PATIENCE)?;
+    let verdict = session.ask(alloc, scope)?;
     answered(alloc, verdict)
 }
 
@@ -130,7 +126,7 @@ fn order_words(alloc: Global, answer: &Answer) -> Result<Vec<u8>, OutOfMemory>
 fn order(alloc: Global, session: &mut Session, scope: Scope) -> Result<Reply, OutOfMemory>
     ensures { IfOk result (λ reply. IsCommandReply (Command.Order scope) session.old.present session.new.present reply.text.items reply.status) }
 {
-    let answer = session.order(alloc, scope, PATIENCE)?;
+    let answer = session.order(alloc, scope)?;
     let mut text = order_words(alloc, &answer)?;
     text.push(b'\n')?;
     Ok(Reply {
@@ -168,7 +164,7 @@ pub fn reply_to(
         Command::Order(scope) => order(alloc, session, scope),
         Command::Report => report(alloc, session),
         Command::Refute(key) => refute(alloc, session, key),
-        Command::Explain(scope) => explain_reply(alloc, keyed, session, scope, PATIENCE),
+        Command::Explain(scope) => explain_reply(alloc, keyed, session, scope),
         Command::Pull => unreachable!(),
     }
 }

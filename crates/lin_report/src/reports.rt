@@ -55,7 +55,7 @@ fn object_line(
     let kind = session.kind_of(key);
     let verdict = match known {
         Some(verdict) => verdict,
-        None => session.decide(alloc, Scope::Object(key), 0)?,
+        None => session.ask(alloc, Scope::Object(key))?,
     };
     let mut line = name_words(alloc, key, kind)?;
     line.extend_from_slice(verdict_words(alloc, verdict)?.as_slice())?;
@@ -142,7 +142,7 @@ fn report(alloc: Global, session: &mut Session) -> Result<(Vec<u8>, Status), Out
     ensures present { session.new.present ≡ session.old.present }
 {
     let keys = session.objects(alloc)?;
-    let whole = session.decide(alloc, Scope::Whole, 0)?;
+    let whole = session.ask(alloc, Scope::Whole)?;
     let mut text = counts_line(alloc, session.len(), keys.len())?;
     put_lines(alloc, session, keys.as_slice(), whole, &mut text)?;
     text.extend_from_slice(whole_line(alloc, whole)?.as_slice())?;

@@ -1,12 +1,18 @@
 //! A legal order, or operations that conflict, as a witness: found by a search that promises nothing, and checked.
-ghost use Rattle.std.specs.Prelude.{◌≡◌, ◌∷◌, ◌++◌, [], ℤ, All, IfOk, IfSome, IsTrue, OnOk};
+//!
+//! What goes through events counts a step for each of them: the search for an order, the check of it, the search for a failure, and the
+//! check of the conflict that it found. The check of an order counts a try for each operation of it.
+ghost use Rattle.std.specs.Prelude.{◌≡◌, ◌≢◌, ◌≤◌, ◌+◌, ◌*◌, ◌∷◌, ◌++◌, [], ℤ, None, Ok, All, IfOk, IfSome, IsTrue, OnOk, length};
+ghost use Rattle.lin_events.specs.Meters.{ticked};
+ghost use Rattle.lin_objects.specs.declared.kinds.Kind.TheVariants.{Mutex};
+ghost use Rattle.lin_objects.specs.Kinds.{kind_of, same_for_all};
+ghost use Rattle.lin_orders.specs.Linearizable.{IsDeadAt, IsLegalOrder, IsLegalOrderAs, IsLinearizableAs};
 ghost use Rattle.lin_orders.specs.Parts.{events_at};
-ghost use Rattle.lin_orders.specs.Linearizable.{IsDeadAt, IsLegalOrderAs, IsLinearizableAs};
 
 use crate::bags::bag_order;
 use crate::queues::queue_order;
 use crate::sets::set_order;
-use lin_events::{Event, OutOfMemory};
+use lin_events::{Event, Meter, OutOfMemory};
 use lin_failures::{
     BagConflict, Conflict, QueueConflict, SetConflict, bag_failure, is_bag_refuted,
     is_queue_refuted, is_refuted, is_set_refuted, queue_failure, set_failure,
@@ -15,6 +21,31 @@ use lin_objects::{Kind, Kinds};
 use lin_orders::{Placed, check_order};
 use lin_registers::{register_failure, register_order};
 use std::alloc::Global;
+
+/// So many events more were gone through.
+fn tick_steps(meter: &mut Meter, count: usize)
+    ensures counted { meter.new ≡ record meter.old { steps = ticked meter.old.steps count } }
+    ensures least { meter.old.steps ≤ meter.new.steps }
+    ensures most { meter.new.steps ≤ meter.old.steps + count }
+{
+    let before = meter.steps();
+    for _ in 0..count {
+        meter.tick_step();
+    }
+    prove!(before <= meter.steps());
+}
+
+/// So many calls more were tried.
+fn tick_tries(meter: &mut Meter, count: usize)
+    ensures counted { meter.new ≡ record meter.old { tries = ticked meter.old.tries count } }
+    ensures risen { meter.old.tries ≤ meter.new.tries }
+{
+    let before = meter.tries();
+    for _ in 0..count {
+        meter.tick_try();
+    }
+    prove!(before <= meter.tries());
+}
 
 /// Puts the event at the place last, if there is one.
 fn append_at(
@@ -31,25 +62,38 @@ fn append_at(
     Ok(())
 }
 
-/// The events at the places, on their own memory.
-fn picked(alloc: Global, events: &[Event], picks: &[usize]) -> Result<Vec<Event>, OutOfMemory>
-    ensures { IfOk result (λ own. own.items ≡ events_at events.now picks.now) }
+/// The events at the places, on their own memory, for a search to go through. A step is counted for each.
+fn picked(
+    alloc: Global,
+    events: &[Event],
+    picks: &[usize],
+    meter: &mut Meter,
+) -> Result<Vec<Event>, OutOfMemory>
+    ensures own { IfOk result (λ own. own.items ≡ events_at events.now picks.now) }
+    ensures counted { IfOk result (λ _. meter.new.steps ≡ ticked meter.old.steps (length picks.now)) }
+    ensures steps { meter.new.steps ≤ meter.old.steps + length picks.now }
+    ensures others { meter.new ≡ record meter.old { steps = meter.new.steps } }
 {
     let mut own = Vec::with_capacity(alloc, picks.len())?;
     for pick in picks {
+        meter.tick_step();
         append_at(alloc, &mut own, events, *pick)?;
     }
     Ok(own)
 }
 
-/// An order of the events of an object of the kind, if a search finds one.
+/// An order of the events of an object of the kind, if a search finds one. The steps of the search aren't counted here.
 fn attempted(
     alloc: Global,
     kind: Kind,
     events: &[Event],
-) -> Result<Option<Vec<Placed>>, OutOfMemory> {
+    meter: &mut Meter,
+) -> Result<Option<Vec<Placed>>, OutOfMemory>
+    ensures tries { meter.old.tries ≤ meter.new.tries }
+    ensures others { meter.new ≡ record meter.old { tries = meter.new.tries } }
+{
     match kind {
-        Kind::Register | Kind::CasRegister => register_order(alloc, events),
+        Kind::Register | Kind::CasRegister => register_order(alloc, events, meter),
         Kind::Fifo => queue_order(alloc, events),
         Kind::Bag => bag_order(alloc, events),
         Kind::Set => set_order(alloc, events),
@@ -69,55 +113,100 @@ fn are_of(events: &[Event], key: i64) -> bool
     true
 }
 
-/// A legal order of the events of an object of the kind, which all are of one key, if a search finds one.
-fn shown(alloc: Global, kind: Kind, events: &[Event]) -> Result<Option<Vec<Placed>>, OutOfMemory>
-    ensures { IfOk result (λ found. IfSome found (λ order. IsLegalOrderAs kind events.now order.items)) }
+/// Whether the order is a legal one of the events.
+fn is_legal_order(
+    alloc: Global,
+    kind: Kind,
+    events: &[Event],
+    order: &[Placed],
+    meter: &mut Meter,
+) -> Result<bool, OutOfMemory>
+    ensures legal { IfOk result (λ legal. IsTrue legal → IsLegalOrder (kind_of (same_for_all kind)) events.now order.now) }
+    ensures counted { meter.new ≡ record meter.old { steps = ticked meter.old.steps (length events.now); tries = ticked meter.old.tries (length order.now) } }
+    ensures least { meter.old.steps ≤ meter.new.steps }
+    ensures most { meter.new.steps ≤ meter.old.steps + length events.now }
+{
+    tick_steps(meter, events.len());
+    tick_tries(meter, order.len());
+    check_order(alloc, events, &Kinds::new(alloc, kind), order)
+}
+
+/// A legal order of the events of an object of the kind, which all are of one key, if a search finds one. Of the steps those of the check
+/// are counted, if there is one.
+fn shown(
+    alloc: Global,
+    kind: Kind,
+    events: &[Event],
+    meter: &mut Meter,
+) -> Result<Option<Vec<Placed>>, OutOfMemory>
+    ensures legal { IfOk result (λ found. IfSome found (λ order. IsLegalOrderAs kind events.now order.items)) }
+    ensures counted { IfOk result (λ found. IfSome found (λ order. meter.new.steps ≡ ticked meter.old.steps (length events.now))) }
+    ensures tried { IfOk result (λ found. IfSome found (λ order. ticked meter.old.tries (length order.items) ≤ meter.new.tries)) }
+    ensures least { meter.old.steps ≤ meter.new.steps }
+    ensures most { meter.new.steps ≤ meter.old.steps + length events.now }
+    ensures scans { meter.new.scans ≡ meter.old.scans }
 {
     let key = events.first().map_or(0, |event| event.key);
     if !are_of(events, key) {
         return Ok(None);
     }
-    let Some(order) = attempted(alloc, kind, events)? else {
+    let Some(order) = attempted(alloc, kind, events, meter)? else {
         return Ok(None);
     };
-    let is_legal = check_order(alloc, events, &Kinds::new(alloc, kind), &order)?;
+    let is_legal = is_legal_order(alloc, kind, events, &order, meter)?;
     if !is_legal {
         return Ok(None);
     }
     Ok(Some(order))
 }
 
-/// The same of the events at the places.
+/// The same of the events at the places, with all steps counted.
 fn shown_of(
     alloc: Global,
     kind: Kind,
     events: &[Event],
     picks: &[usize],
+    meter: &mut Meter,
 ) -> Result<Option<Vec<Placed>>, OutOfMemory>
-    ensures { IfOk result (λ found. IfSome found (λ order. IsLegalOrderAs kind (events_at events.now picks.now) order.items)) }
+    ensures legal { IfOk result (λ found. IfSome found (λ order. IsLegalOrderAs kind (events_at events.now picks.now) order.items)) }
+    ensures counted { IfOk result (λ found. IfSome found (λ order. meter.new.steps ≡ ticked meter.old.steps (length picks.now + length (events_at events.now picks.now)))) }
+    ensures tried { IfOk result (λ found. IfSome found (λ order. ticked meter.old.tries (length order.items) ≤ meter.new.tries)) }
+    ensures searched { IfOk result (λ found. ticked meter.old.steps (length picks.now) ≤ meter.new.steps) }
+    ensures steps { meter.new.steps ≤ meter.old.steps + 2 * length picks.now }
+    ensures scans { meter.new.scans ≡ meter.old.scans }
 {
-    let own = picked(alloc, events, picks)?;
-    shown(alloc, kind, own.as_slice())
+    let own = picked(alloc, events, picks, meter)?;
+    shown(alloc, kind, own.as_slice(), meter)
 }
 
 /// A legal order of the events at the places, which all are of one key, if one is found. Of events of several keys none is.
 ///
 /// Orders of registers, of sets, of bags, and of queues in which no number is put twice, are looked for. Takes time and memory linear in
-/// the events, apart from how many operations are open at a time, from the time to sort them, and from what reads of sets found. Where
-/// memory is refused none is found. The order names operations by their places among these events.
+/// the events, apart from how many operations are open at a time, from the time to sort them, and from what reads of sets found.
+/// `OutOfMemory` is answered only where memory was refused. The order names operations by their places among these events.
+///
+/// The search counts a step for each place, and the check of the order that it found one more for each event there. A call is tried for
+/// each operation that is placed in a beginning of an order of a register, and for each operation of an order that is checked.
 pub fn finds_order(
     alloc: Global,
     kind: Kind,
     events: &[Event],
     picks: &[usize],
-) -> Option<Vec<Placed>>
-    ensures { IfSome result (λ order. IsLegalOrderAs kind (events_at events.now picks.now) order.items) }
+    meter: &mut Meter,
+) -> Result<Option<Vec<Placed>>, OutOfMemory>
+    ensures legal { IfOk result (λ found. IfSome found (λ order. IsLegalOrderAs kind (events_at events.now picks.now) order.items)) }
+    ensures counted { IfOk result (λ found. IfSome found (λ order. meter.new.steps ≡ ticked meter.old.steps (length picks.now + length (events_at events.now picks.now)))) }
+    ensures tried { IfOk result (λ found. IfSome found (λ order. ticked meter.old.tries (length order.items) ≤ meter.new.tries)) }
+    ensures searched { kind ≢ Mutex → IfOk result (λ found. ticked meter.old.steps (length picks.now) ≤ meter.new.steps) }
+    ensures unsearched { kind ≡ Mutex → (result ≡ Ok None) × (meter.new ≡ meter.old) }
+    ensures steps { meter.new.steps ≤ meter.old.steps + 2 * length picks.now }
+    ensures scans { meter.new.scans ≡ meter.old.scans }
 {
     match kind {
         Kind::Register | Kind::CasRegister | Kind::Fifo | Kind::Bag | Kind::Set => {
-            shown_of(alloc, kind, events, picks).unwrap_or(None)
+            shown_of(alloc, kind, events, picks, meter)
         }
-        Kind::Mutex => None,
+        Kind::Mutex => Ok(None),
     }
 }
 
@@ -182,9 +271,18 @@ fn is_refuted_as(kind: Kind, events: &[Event], reason: &Reason) -> bool
 }
 
 /// The event at which an object of the kind fails, if operations that conflict are found in the events up to it, and a legal order of those
-/// before it.
-fn failing(alloc: Global, kind: Kind, events: &[Event]) -> Result<Option<usize>, OutOfMemory>
-    ensures { IfOk result (λ found. IfSome found (λ at. IsDeadAt kind events.now at)) }
+/// before it. The steps of the search for the failure aren't counted here.
+fn failing(
+    alloc: Global,
+    kind: Kind,
+    events: &[Event],
+    meter: &mut Meter,
+) -> Result<Option<usize>, OutOfMemory>
+    ensures dead { IfOk result (λ found. IfSome found (λ at. IsDeadAt kind events.now at)) }
+    ensures counted { IfOk result (λ found. IfSome found (λ at. meter.new.steps ≡ ticked meter.old.steps (3 * at + 1))) }
+    ensures least { meter.old.steps ≤ meter.new.steps }
+    ensures most { meter.new.steps ≤ meter.old.steps + 3 * length events.now }
+    ensures scans { meter.new.scans ≡ meter.old.scans }
 {
     let Some((at, reason)) = sought_as(alloc, kind, events)? else {
         return Ok(None);
@@ -192,40 +290,61 @@ fn failing(alloc: Global, kind: Kind, events: &[Event]) -> Result<Option<usize>,
     if at >= events.len() {
         return Ok(None);
     }
+    tick_steps(meter, at + 1);
     if !is_refuted_as(kind, &events[..at + 1], &reason) {
         return Ok(None);
     }
-    let Some(_) = shown(alloc, kind, &events[..at])? else {
+    tick_steps(meter, at);
+    let Some(_) = shown(alloc, kind, &events[..at], meter)? else {
         return Ok(None);
     };
     Ok(Some(at))
 }
 
-/// The same of the events at the places.
+/// The same of the events at the places, with all steps counted.
 fn failing_of(
     alloc: Global,
     kind: Kind,
     events: &[Event],
     picks: &[usize],
+    meter: &mut Meter,
 ) -> Result<Option<usize>, OutOfMemory>
-    ensures { IfOk result (λ found. IfSome found (λ at. IsDeadAt kind (events_at events.now picks.now) at)) }
+    ensures dead { IfOk result (λ found. IfSome found (λ at. IsDeadAt kind (events_at events.now picks.now) at)) }
+    ensures counted { IfOk result (λ found. IfSome found (λ at. meter.new.steps ≡ ticked meter.old.steps (length picks.now + (3 * at + 1)))) }
+    ensures searched { IfOk result (λ found. ticked meter.old.steps (length picks.now) ≤ meter.new.steps) }
+    ensures steps { meter.new.steps ≤ meter.old.steps + 4 * length picks.now }
+    ensures scans { meter.new.scans ≡ meter.old.scans }
 {
-    let own = picked(alloc, events, picks)?;
-    failing(alloc, kind, own.as_slice())
+    let own = picked(alloc, events, picks, meter)?;
+    failing(alloc, kind, own.as_slice(), meter)
 }
 
 /// Which of the events at the places is the one at which the shortest beginning without a legal order ends, if one is found.
 ///
 /// Looked at are registers, where values are left by one update each, queues, where numbers are put in once each, bags, and sets. Takes
-/// time and memory linear in the events, apart from how many operations are open at a time, and from what reads of sets found. Where
-/// memory is refused none is found.
-pub fn finds_failure(alloc: Global, kind: Kind, events: &[Event], picks: &[usize]) -> Option<usize>
-    ensures { IfSome result (λ at. IsDeadAt kind (events_at events.now picks.now) at) }
+/// time and memory linear in the events, apart from how many operations are open at a time, and from what reads of sets found.
+/// `OutOfMemory` is answered only where memory was refused.
+///
+/// The search counts a step for each place. Where it finds operations that conflict, their check counts one for each event up to the one
+/// where they do, and the order of those before it two for each: one for its search, and one for its check.
+pub fn finds_failure(
+    alloc: Global,
+    kind: Kind,
+    events: &[Event],
+    picks: &[usize],
+    meter: &mut Meter,
+) -> Result<Option<usize>, OutOfMemory>
+    ensures dead { IfOk result (λ found. IfSome found (λ at. IsDeadAt kind (events_at events.now picks.now) at)) }
+    ensures counted { IfOk result (λ found. IfSome found (λ at. meter.new.steps ≡ ticked meter.old.steps (length picks.now + (3 * at + 1)))) }
+    ensures searched { kind ≢ Mutex → IfOk result (λ found. ticked meter.old.steps (length picks.now) ≤ meter.new.steps) }
+    ensures unsearched { kind ≡ Mutex → (result ≡ Ok None) × (meter.new ≡ meter.old) }
+    ensures steps { meter.new.steps ≤ meter.old.steps + 4 * length picks.now }
+    ensures scans { meter.new.scans ≡ meter.old.scans }
 {
     match kind {
         Kind::Register | Kind::CasRegister | Kind::Fifo | Kind::Bag | Kind::Set => {
-            failing_of(alloc, kind, events, picks).unwrap_or(None)
+            failing_of(alloc, kind, events, picks, meter)
         }
-        Kind::Mutex => None,
+        Kind::Mutex => Ok(None),
     }
 }

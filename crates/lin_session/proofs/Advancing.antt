@@ -1,5 +1,5 @@
 -- The object that is listed at a place, while its chain takes events in.
-use Rattle.std.proofs.Common.{◌≡◌, ◌≢◌, ◌<◌, ◌≤◌, ◌+◌, ℕ, zero, suc, min, ℤ, pos, Bool, List, [], ◌∷◌, Some, length, slice_get, get_or, set, inl, inr, refl, sym, ap, subst, ◌∙◌, arith}
+use Rattle.std.proofs.Common.{None, ◌≡◌, ◌≢◌, ◌<◌, ◌≤◌, ◌+◌, ℕ, zero, suc, min, ℤ, pos, Bool, List, [], ◌∷◌, Some, length, slice_get, get_or, set, inl, inr, refl, sym, ap, subst, ◌∙◌, arith}
 use Rattle.std.proofs.lemmas.List.{length-set}
 use Rattle.std.proofs.lemmas.Option.{slice_get-get_or, slice_get_within, same_Some}
 use Rattle.lin_events.specs.declared.calls.Name.{Name}
@@ -9,12 +9,11 @@ use Rattle.lin_objects.specs.declared.kinds.Kind.{Kind}
 use Rattle.lin_objects.specs.Kinds.{functions_of}
 use Rattle.lin_orders.specs.Parts.{events_at, part}
 use Rattle.lin_orders.specs.PartLaws.{PartsAreWellFormed, PositionsSpellParts}
-use Rattle.lin_chain.specs.declared.chain.End.TheVariants.{Over}
-use Rattle.lin_chain.specs.Chains.{end_under, kind_in, ready_under, IsRight}
+use Rattle.lin_chain.specs.Chains.{end_in, end_under, kind_in, ready_under, IsRight}
 use Rattle.lin_session.specs.declared.kept.Object.{Object}
 use Rattle.lin_session.specs.declared.kept.Objects.{Objects}
 use Rattle.lin_session.specs.inner.Costs.{cost_of, cost_of_all}
-use Rattle.lin_session.specs.Objects.{AreKept, AreRight, IsObject, listed_marks, split_in}
+use Rattle.lin_session.specs.Objects.{AreKept, AreRight, IsKnownUnder, IsObject, listed_marks, split_in}
 use Rattle.lin_session.specs.Work.{mark_of}
 use Rattle.lin_session.proofs.Asking.{IsObject-settled, length_spelled, picks_inside, right_spelled, spelled, well_formed_spelled}
 use Rattle.lin_session.proofs.Changes.{AreKept-one}
@@ -83,21 +82,22 @@ module _ (s : Objects) (i : ℕ) (listed : i < length s.keys.keys) (old : Object
     -- what is kept once the chain took some in
     pub after : (object : Object) → object.picks ≡ old.picks → object.count ≡ length old.picks.items → kind_in object.chain ≡ kind_in old.chain → IsRight object.chain (events_at h old.picks.items)
         → object.mark ≡ old.mark → ((other : ℕ) → min (ready_under budget old.chain) (ready_under other old.chain) ≤ ready_under other object.chain)
-        → ((at : ℕ) → end_under budget old.chain ≡ Over at → end_under budget object.chain ≡ Over at) → AreKept kinds budget h s.split s.keys.keys (set s.objects.items i object)
-    after object picks count kind right mark remains stays =
+        → (end_under budget object.chain ≡ end_in object.chain)
+        → (old.mark.due ≡ None → IsKnownUnder budget (length old.picks.items) object.chain × (end_in object.chain ≡ end_under budget old.chain)) → AreKept kinds budget h s.split s.keys.keys (set s.objects.items i object)
+    after object picks count kind right mark remains under known =
         AreKept-one kinds kinds budget budget h h s.split s.split s.keys.keys s.objects.items kept kept.within i key_there object key_is kept.known old old_at
-        (λ is. IsObject-settled spell kinds budget h s.split key_there old all is object picks count kind right
-        (IsMarkRight-kept budget (length (part key_there h)) old object is.marked mark
-        (count ∙ sym (length_spelled spell kinds budget h s.split key_there old all is) ∙ ap length (spelled spell kinds budget h s.split key_there old all is))
-        remains stays) mark) (λ x o other is. is)
+        (λ is. let long = sym (length_spelled spell kinds budget h s.split key_there old all is) ∙ ap length (spelled spell kinds budget h s.split key_there old all is) in
+        IsObject-settled spell kinds budget h s.split key_there old all is object picks count kind right
+        (IsMarkRight-kept budget (length (part key_there h)) old object is.marked mark (count ∙ long) remains under
+        (λ none. let k = known none in (subst (λ n. IsKnownUnder budget n object.chain) long k.0, k.1))) mark) (λ x o other is. is)
 
--- where one object costs another number of steps, all do
-pub cost-set : (budget : ℕ) (objects : List Object) (i : ℕ) (old new : Object) → slice_get objects i ≡ Some old → cost_of_all budget (set objects i new) + cost_of budget old ≡ cost_of_all budget objects + cost_of budget new
-cost-set budget [] i old new old_at = cc
-cost-set budget (o ∷ objects) zero old new old_at = let same : o ≡ old = cc in omega (arith, ap (cost_of budget) same)
-cost-set budget (o ∷ objects) (suc i) old new old_at = omega (arith, cost-set budget objects i old new old_at)
+    -- what is known of one of which nothing is due
+    pub known_there : old.mark.due ≡ None → IsKnownUnder budget (length old.picks.items) old.chain
+    known_there none =
+        let long = sym (length_spelled spell kinds budget h s.split key_there old all is_there) ∙ ap length (spelled spell kinds budget h s.split key_there old all is_there) in
+        subst (λ n. IsKnownUnder budget n old.chain) (sym long) (is_there.marked.known none)
 
--- and one costs no more than all
+-- one object costs no more than all
 pub cost-within : (budget : ℕ) (objects : List Object) (i : ℕ) (o : Object) → slice_get objects i ≡ Some o → cost_of budget o ≤ cost_of_all budget objects
 cost-within budget [] i o at = cc
 cost-within budget (x ∷ objects) zero o at = let same : x ≡ o = cc in omega (arith, ap (cost_of budget) same)

@@ -1,5 +1,5 @@
 -- From where the chain of an object stands to the answer for the object.
-use Rattle.std.proofs.Common.{◌≡◌, ◌<◌, ◌-◌, ◌+◌, ℕ, ℤ, List, length, slice_get, slice_index, get_or, take, AllPairs, Option, None, Some, inl, inr, refl, sym, ap, subst, ◌∙◌, arith}
+use Rattle.std.proofs.Common.{Bool, true, false, nat_eq, if◌then◌else◌, ◌≡◌, ◌<◌, ◌-◌, ◌+◌, ℕ, ℤ, List, length, slice_get, slice_index, get_or, take, AllPairs, Option, None, Some, inl, inr, refl, sym, ap, subst, ◌∙◌, arith}
 use Rattle.std.proofs.lemmas.Bool.{cases_order, cases_lt}
 use Rattle.std.proofs.lemmas.List.{take_all}
 use Rattle.std.proofs.lemmas.Option.{none-some, same_Some, slice_get_within, slice_get-get_or, get_or_from_slice_get}
@@ -16,10 +16,14 @@ use Rattle.lin_orders.specs.PartLaws.{PositionsSpellParts, PartsOfPrefixes, Part
 use Rattle.lin_orders.specs.Configurations.{IsOver}
 use Rattle.lin_chain.specs.declared.chain.End.{End}
 use Rattle.lin_chain.specs.declared.chain.End.TheVariants.{Alive, Dead, Over}
-use Rattle.lin_chain.specs.Chains.{kind_in, IsRight}
+use Rattle.lin_chain.specs.declared.chain.Chain.{Chain}
+use Rattle.lin_chain.specs.declared.found.Found.{Found}
+use Rattle.lin_chain.specs.declared.found.Found.TheVariants.{Nothing, Order, Failure}
+use Rattle.lin_chain.specs.Chains.{end_in, kind_in, told_in, IsRight}
+use Rattle.lin_chain.specs.Founds.{told_by, told_or}
 use Rattle.lin_chain.specs.Ends.{IsEndOf}
 use Rattle.lin_session.specs.declared.answers.Verdict.{Verdict}
-use Rattle.lin_session.specs.declared.answers.Verdict.TheVariants.{Yes, No}
+use Rattle.lin_session.specs.declared.answers.Verdict.TheVariants.{Yes, No, Undecided}
 use Rattle.lin_session.specs.declared.kept.Object.{Object}
 use Rattle.lin_session.specs.declared.marks.Mark.{Mark}
 use Rattle.lin_session.specs.Answers.{IsObjectVerdict}
@@ -38,7 +42,7 @@ IsPlaceIn-end kind budget h n len (Dead i) is = elim (cases_lt i n) [
 IsPlaceIn-end kind budget h n len (Over i) is = omega (arith, is.inside)
 
 -- the positions ahead of one of them are those below it
-cut_at : (picks : List ℕ) (i at : ℕ) → AllPairs (λ x y. x < y) picks → slice_get picks i ≡ Some at → IsCut picks i at
+pub cut_at : (picks : List ℕ) (i at : ℕ) → AllPairs (λ x y. x < y) picks → slice_get picks i ≡ Some at → IsCut picks i at
 cut_at picks i at rising here k p there =
     let within_i = slice_get_within picks i at here in
     let within_k = slice_get_within picks k p there in
@@ -152,6 +156,25 @@ finds_dead picks Alive found n told failing = absurd (none-some n (sym (ap (λ (
 finds_dead picks (Dead i) found n told failing = (i, refl, same_Some n (slice_index picks i + 1) (sym failing ∙ ap (λ (r : Option ℕ × Option ℕ). r.0) told))
 finds_dead picks (Over i) found n told failing = absurd (none-some n (sym (ap (λ (r : Option ℕ × Option ℕ). r.0) told) ∙ failing))
 
+-- an end that tells a place where the object is over is over there
+pub finds_over : (picks : List ℕ) (end : End) (found : Option ℕ × Option ℕ) (at : ℕ) → Finds picks end found → found.1 ≡ Some at → (i : ℕ) × (end ≡ Over i) × (at ≡ slice_index picks i)
+finds_over picks Alive found at told over = absurd (none-some at (sym (ap (λ (r : Option ℕ × Option ℕ). r.1) told) ∙ over))
+finds_over picks (Dead i) found at told over = absurd (none-some at (sym (ap (λ (r : Option ℕ × Option ℕ). r.1) told) ∙ over))
+finds_over picks (Over i) found at told over = (i, refl, same_Some at (slice_index picks i) (sym over ∙ ap (λ (r : Option ℕ × Option ℕ). r.1) told))
+
+-- what a search found is never over
+pub told_over : (chain : Chain) (count i : ℕ) → told_in chain count ≡ Over i → end_in chain ≡ Over i
+told_over chain count i told = by chain.found refl
+  where
+    by : (found : Found) → chain.found ≡ found → end_in chain ≡ Over i
+    by Nothing e = sym (ap (λ f. told_or chain.end (told_by f count)) e) ∙ told
+    by (Order order of) e = by_count (nat_eq of count) refl
+      where
+        by_count : (b : Bool) → nat_eq of count ≡ b → end_in chain ≡ Over i
+        by_count true f = absurd (cc (sym (ap (λ k. told_or chain.end (told_by k count)) e ∙ ap (λ b. told_or chain.end (if b then Some Alive else None)) f) ∙ told))
+        by_count false f = sym (ap (λ k. told_or chain.end (told_by k count)) e ∙ ap (λ b. told_or chain.end (if b then Some Alive else None)) f) ∙ told
+    by (Failure at) e = absurd (cc (sym (ap (λ f. told_or chain.end (told_by f count)) e) ∙ told))
+
 -- the verdict for one object
 pub verdict_told : (kinds : ℤ → Kind) (budget : ℕ) (h : List Event) (key : ℤ) (failing over : Option ℕ) (told : Verdict) → IsFinding kinds budget h key failing over → IsTold failing over told
     → IsObjectVerdict kinds budget h key told
@@ -167,6 +190,14 @@ told_failing None (Some at) told n t is_no = absurd (cc (sym t ∙ is_no))
 told_failing (Some m) None told n t is_no = cc (sym t ∙ is_no)
 told_failing (Some m) (Some at) told n (inl t) is_no = cc (sym t.1 ∙ is_no)
 told_failing (Some m) (Some at) told n (inr t) is_no = absurd (cc (sym t.1 ∙ is_no))
+
+-- findings that tell an undecided have its place
+pub told_undecided : (failing over : Option ℕ) (told : Verdict) (at : ℕ) → IsTold failing over told → told ≡ Undecided at → over ≡ Some at
+told_undecided None None told at t is_over = absurd (cc (sym t ∙ is_over))
+told_undecided None (Some i) told at t is_over = cc (sym t ∙ is_over)
+told_undecided (Some m) None told at t is_over = absurd (cc (sym t ∙ is_over))
+told_undecided (Some m) (Some i) told at (inl t) is_over = absurd (cc (sym t.1 ∙ is_over))
+told_undecided (Some m) (Some i) told at (inr t) is_over = cc (sym t.1 ∙ is_over)
 
 -- findings that tell a yes are none
 pub untold : (failing over : Option ℕ) (told : Verdict) → IsTold failing over told → told ≡ Yes → (failing ≡ None) × (over ≡ None)

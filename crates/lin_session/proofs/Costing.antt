@@ -1,25 +1,24 @@
 -- What it costs to judge the first of some objects.
-use Rattle.std.proofs.Common.{◌≡◌, ◌+◌, ◌-◌, ◌≤◌, ℕ, zero, suc, ℤ, List, [], ◌∷◌, Option, None, Some, length, slice_get, get_or, take, inl, inr, refl, sym, ◌∙◌, arith, ap}
+use Rattle.std.proofs.Common.{Bool, true, false, nat_le, if◌then◌else◌, ◌*◌, ◌≡◌, ◌+◌, ◌≤◌, ℕ, zero, suc, ℤ, List, [], ◌∷◌, Option, None, Some, length, slice_get, get_or, take, inl, inr, refl, sym, ◌∙◌, arith, ap}
 use Rattle.std.specs.List.{sum_by}
 use Rattle.std.proofs.lemmas.Bool.{cases_lt}
 use Rattle.lin_events.specs.declared.events.Event.{Event}
 use Rattle.lin_objects.specs.declared.kinds.Kind.{Kind}
 use Rattle.lin_orders.specs.PartLaws.{PositionsSpellParts}
 use Rattle.lin_orders.specs.Parts.{part}
-use Rattle.lin_chain.specs.Chains.{ready_under}
 use Rattle.lin_session.specs.declared.answers.Scope.{Scope}
 use Rattle.lin_session.specs.declared.answers.Scope.TheVariants as scope
 use Rattle.lin_session.specs.declared.marks.Mark.{Mark}
 use Rattle.lin_session.specs.Marks.{IsNothingDue, IsOf}
-use Rattle.lin_session.specs.Objects.{AreKept, AreRight, listed_marks, split_in, stands_for}
+use Rattle.lin_session.specs.Objects.{AreKept, AreRight, IsMarkRight, listed_marks, split_in}
 use Rattle.lin_session.specs.inner.Objects.{marks_in}
 use Rattle.lin_session.specs.declared.kept.Objects.{Objects}
-use Rattle.lin_session.specs.Work.{AreSameMarks, anew, cost, cost_in, keys_of, mark_of}
+use Rattle.lin_session.specs.Work.{AreSameMarks, anew, cost, cost_in, keys_of, least, mark_of, searched, stands_for, taken_in}
 use Rattle.lin_session.proofs.Asking.{whole_picked}
 use Rattle.lin_session.proofs.Listed.{mark_listed}
 use Rattle.lin_lists.specs.lemmas.Taken.{element_at, one_place}
 use Rattle.std.proofs.lemmas.Option.{slice_get-get_or}
-use Rattle.lin_session.proofs.Marking.{ready_at_most}
+use Rattle.lin_session.proofs.Marking.{least_none}
 use Rattle.lin_session.proofs.Sums.{in_keys, sum_head, sum_within}
 use Rattle.lin_session.specs.declared.kept.Object.{Object}
 use Rattle.lin_session.specs.inner.Costs.{AreSettled, IsCost, IsSettled, cost_of, cost_of_all}
@@ -39,13 +38,27 @@ cost-first budget (o ∷ objects) zero = omega arith
 cost-first budget (o ∷ objects) (suc n) = omega (arith, cost-first budget objects n)
 
 -- where no more is taken in than stands
-behind_due : (due : Option ℕ) (count ready : ℕ) → stands_for due count ≤ ready → count - ready ≤ anew due count
-behind_due None count ready l = omega (arith, l)
-behind_due (Some first) count ready l = omega (arith, l)
+cost_due : (budget : ℕ) (o : Object) (count : ℕ) → length o.picks.items ≡ count → IsMarkRight budget count o → cost_of budget o ≤ anew o.mark.due count + searched o.mark.due count
+cost_due budget o count picks is = by o.mark.due refl
+  where
+    by : (due : Option ℕ) → o.mark.due ≡ due → cost_of budget o ≤ anew o.mark.due count + searched o.mark.due count
+    by None e = omega (arith, ap (λ (d : Option ℕ). cost_of budget (record o { mark = record o.mark { due = d } })) e)
+    by (Some first) e =
+        let costs = ap (λ (d : Option ℕ). cost_of budget (record o { mark = record o.mark { due = d } })) e in
+        let wanted = ap (λ (d : Option ℕ). anew d count + searched d count) e in
+        let alone : taken_in o.mark ≡ Some first = ap (λ b. least o.mark.due b) (is.apart first e) ∙ least_none o.mark.due ∙ e in
+        let ready = is.ready in
+        let stands = ap (λ t. stands_for t count) alone in
+        let twice = ap (searched (Some first)) picks in
+        omega (arith, costs, wanted, ready, stands, picks, twice)
 
-anew_none : (due : Option ℕ) → anew due 0 ≡ 0
-anew_none None = refl
-anew_none (Some first) = omega arith
+nothing_anew : (due : Option ℕ) → anew due 0 + searched due 0 ≡ 0
+nothing_anew None = refl
+nothing_anew (Some first) = by (nat_le (2 * first) 0) refl
+  where
+    by : (b : Bool) → nat_le (2 * first) 0 ≡ b → anew (Some first) 0 + searched (Some first) 0 ≡ 0
+    by true e = omega (arith, ap (λ b. if b then 6 * 0 else 0) e)
+    by false e = omega (arith, ap (λ b. if b then 6 * 0 else 0) e)
 
 -- objects that cost no more than their keys do
 sum_listed : (budget : ℕ) (f : ℤ → ℕ) (keys : List ℤ) (objects : List Object) → length objects ≡ length keys
@@ -68,7 +81,7 @@ module _ (spell : PositionsSpellParts) (kinds : ℤ → Kind) (budget : ℕ) (h 
   listed_cost i key o key_at o_at =
       let is = (kept.each i key o key_at o_at).marked in
       let picks = number_of_picks i key o key_at o_at in
-      omega (arith, picks, behind_due o.mark.due (length (part key h)) (ready_under budget o.chain) is.ready, ap (λ (m : Mark). anew m.due (length (part key h))) (mark_there i key o key_at o_at))
+      omega (arith, cost_due budget o (length (part key h)) picks is, ap (λ (m : Mark). anew m.due (length (part key h)) + searched m.due (length (part key h))) (mark_there i key o key_at o_at))
 
   pub whole_cost : cost_of_all budget objects ≤ cost_in marks h scope.Whole
   whole_cost =
@@ -77,23 +90,17 @@ module _ (spell : PositionsSpellParts) (kinds : ℤ → Kind) (budget : ℕ) (h 
         | inl some ↦ inr (in_keys h x some)
         | inr none ↦
             let zero_events : length (part x h) ≡ 0 = omega (arith, none) in
-            inl (ap (anew (marks x).due) zero_events ∙ anew_none (marks x).due)
+            inl (ap (λ n. anew (marks x).due n + searched (marks x).due n) zero_events ∙ nothing_anew (marks x).due)
       ]) in
       omega (arith, listed, within)
 
   -- where nothing is due, all was taken in
   pub settled_there : (asked : Scope) → IsNothingDue h asked marks → (i : ℕ) (key : ℤ) (o : Object) → IsOf asked key → slice_get keys i ≡ Some key → slice_get objects i ≡ Some o → IsSettled budget o
   settled_there asked nothing i key o of_scope key_at o_at =
-      let is = kept.each i key o key_at o_at in
       let picks = number_of_picks i key o key_at o_at in
-      let most = ready_at_most o.chain (part key h) is.right budget in
       elim (cases_lt 0 (length (part key h))) [
-        | inl some ↦
-            let none : o.mark.due ≡ None = ap (λ (m : Mark). m.due) (sym (mark_there i key o key_at o_at)) ∙ nothing key (of_scope, some) in
-            let ready = is.marked.ready in
-            let due = ap (λ d. stands_for d (length (part key h))) none in
-            omega (arith, picks, most, is.right.within, ready, due)
-        | inr none ↦ omega (arith, picks, most, is.right.within, none)
+        | inl some ↦ inl (ap (λ (m : Mark). m.due) (sym (mark_there i key o key_at o_at)) ∙ nothing key (of_scope, some))
+        | inr none ↦ inr (omega (arith, picks, none))
       ]
 
 -- so a question costs no more than what is due, and nothing where nothing is

@@ -16,7 +16,6 @@ pub mod Costing
 pub mod Occurring
 pub mod Settling
 pub mod Raising
-pub mod Ready
 pub mod Refuting
 pub mod Marking
 pub mod Overs

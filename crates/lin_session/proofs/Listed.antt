@@ -129,7 +129,7 @@ AreTouched-unlisted keys objects key place left absent x = by (int_eq key x) ref
     by false e = refl
 
 raised_unasked : raised unasked ≡ unasked
-raised_unasked = ap (λ n. record { due = Some n; over = None }) (omega arith)
+raised_unasked = ap (λ n. record { due = Some n; over = None; behind = None }) (omega arith)
 
 pub mark_raised : (keys : List ℤ) (objects : List Object) (x : ℤ) → mark_of (listed_marks keys (map raised_object objects)) x ≡ raised (mark_of (listed_marks keys objects) x)
 mark_raised [] objects x = sym raised_unasked

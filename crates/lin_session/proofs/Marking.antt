@@ -1,6 +1,5 @@
 -- Marks of objects, and how much their chains took in.
-use Rattle.std.proofs.Common.{Result, Ok, ◌≡◌, ◌≢◌, ◌+◌, ◌<◌, ◌≤◌, ◌⊎◌, ℕ, Bool, true, false, nat_lt, min, Option, None, Some, List, length, inl, inr, refl, sym, ap, subst, ◌∙◌, arith, if◌then◌else◌}
-use Rattle.std.specs.Prelude.{IfOk}
+use Rattle.std.proofs.Common.{◌≡◌, ◌≢◌, ◌+◌, ◌<◌, ◌≤◌, ◌⊎◌, ℕ, Bool, true, false, nat_lt, min, Option, None, Some, List, length, inl, inr, refl, sym, ap, subst, ◌∙◌, arith, if◌then◌else◌}
 use Rattle.std.proofs.lemmas.Bool.Decides.{Decides-ltb}
 use Rattle.std.proofs.lemmas.Bool.{cases_lt}
 use Rattle.std.proofs.lemmas.Option.{none-some, same_Some}
@@ -8,12 +7,14 @@ use Rattle.lin_events.specs.declared.events.Event.{Event}
 use Rattle.lin_chain.specs.declared.chain.Chain.{Chain}
 use Rattle.lin_chain.specs.declared.chain.End.{End}
 use Rattle.lin_chain.specs.declared.chain.End.TheVariants.{Alive, Dead, Over}
-use Rattle.lin_chain.specs.Chains.{Stands, end_in, end_under, ready_count, ready_under, IsRight}
+use Rattle.lin_chain.specs.Chains.{IsAnswered, Stands, end_in, end_under, kind_in, ready_count, ready_under, IsRight}
 use Rattle.lin_session.specs.declared.kept.Object.{Object}
 use Rattle.lin_session.specs.declared.marks.Mark.{Mark}
-use Rattle.lin_session.specs.Objects.{IsMarkRight, stands_for, up_to}
+use Rattle.lin_session.specs.Objects.{IsKnownUnder, IsMarkRight, up_to}
+use Rattle.lin_chain.specs.Ends.{IsEndOf}
 use Rattle.lin_session.proofs.Low.{rounded_below}
-use Rattle.lin_session.specs.Work.{ahead_of, least, raised, rounded, rounded_too, settled_at, touched, unasked}
+use Rattle.lin_session.proofs.Overs.{IsEndOf-smaller}
+use Rattle.lin_session.specs.Work.{ahead_of, answered_at, least, over_in, raised, rounded, rounded_too, stands_for, taken_in, touched, unasked}
 
 -- what a chain took in, and where it stands, under one budget and another
 module _ (chain : Chain) (h : List Event) (right : IsRight chain h) where
@@ -74,10 +75,10 @@ module _ (chain : Chain) (h : List Event) (right : IsRight chain h) where
       ]
 
   -- what all its events are under one budget, they are under each up to where it is over
-  pub ready_after : (count other : ℕ) → count ≤ ready_count chain → up_to count (settled_at (end_in chain)).over ≤ ready_under other chain
+  pub ready_after : (count other : ℕ) → count ≤ ready_count chain → up_to count (over_in (end_in chain)) ≤ ready_under other chain
   ready_after count other all = by chain.end refl
     where
-      by : (end : End) → chain.end ≡ end → up_to count (settled_at end).over ≤ ready_under other chain
+      by : (end : End) → chain.end ≡ end → up_to count (over_in end) ≤ ready_under other chain
       by Alive is = omega (arith, ready_is other Alive is, all)
       by (Dead at) is = omega (arith, ready_is other (Dead at) is, all)
       by (Over at) is = elim (at_over other at is) [
@@ -109,41 +110,77 @@ module _ (chain : Chain) (h : List Event) (right : IsRight chain h) where
         | inr a ↦ a.2
       ]
 
+  -- where it stands under a budget it stands under each smaller one
+  pub stands_smaller : (budget smaller : ℕ) → smaller ≤ budget → end_under budget chain ≡ end_in chain → end_under smaller chain ≡ end_in chain
+  stands_smaller budget smaller less under = by chain.end refl
+    where
+      by : (end : End) → chain.end ≡ end → end_under smaller chain ≡ end_in chain
+      by Alive is = end_is smaller Alive is ∙ sym is
+      by (Dead at) is = end_is smaller (Dead at) is ∙ sym is
+      by (Over at) is = over_smaller budget smaller at less (under ∙ is) ∙ sym is
+
+  -- and one that isn't over, under any other one
+  pub stands_other : (budget other : ℕ) → over_in (end_in chain) ≡ None → (end_under other chain ≡ end_in chain) × (ready_under other chain ≡ ready_under budget chain)
+  stands_other budget other none = by chain.end refl
+    where
+      by : (end : End) → chain.end ≡ end → (end_under other chain ≡ end_in chain) × (ready_under other chain ≡ ready_under budget chain)
+      by Alive is = (end_is other Alive is ∙ sym is, ready_is other Alive is ∙ sym (ready_is budget Alive is))
+      by (Dead at) is = (end_is other (Dead at) is ∙ sym is, ready_is other (Dead at) is ∙ sym (ready_is budget (Dead at) is))
+      by (Over at) is = absurd (none-some at (sym none ∙ ap over_in is))
+
+  -- and where it is over under a budget, its events are
+  pub over_true : (budget at : ℕ) → end_under budget chain ≡ Over at → IsEndOf (kind_in chain) budget h (Over at)
+  over_true budget at under =
+      let for = over_for budget at under in
+      let was = subst (Stands chain h) for.0 right.stands in
+      IsEndOf-smaller (kind_in chain) chain.budget budget h at for.1 was.4
+
+-- the place where it stands over
+pub over_at : (end : End) (at : ℕ) → over_in end ≡ Some at → end ≡ Over at
+over_at Alive at e = absurd (none-some at e)
+over_at (Dead i) at e = absurd (none-some at e)
+over_at (Over i) at e = ap Over (same_Some i at e)
+
+-- the lesser of a number and none
+pub least_none : (n : Option ℕ) → least n None ≡ n
+least_none None = refl
+least_none (Some n) = refl
+
 -- a mark of which something is due
-some_due : (due : Option ℕ) (left : ℕ) (mark : Option ℕ) → least due (Some left) ≡ None → ⊥
-some_due None left mark e = none-some left (sym e)
-some_due (Some n) left mark e = none-some (min n left) (sym e)
+some_due : (due : Option ℕ) (left : ℕ) → least due (Some left) ≡ None → ⊥
+some_due None left e = none-some left (sym e)
+some_due (Some n) left e = none-some (min n left) (sym e)
 
-due_of : (mark : Mark) (at : ℕ) → mark ≡ settled_at (Over at) → mark.due ≡ None
-due_of mark at e = ap (λ (m : Mark). m.due) e
-
-over_of : (mark : Mark) (at : ℕ) → mark ≡ settled_at (Over at) → mark.over ≡ Some at
-over_of mark at e = ap (λ (m : Mark). m.over) e
-
-none_of_unasked : (at : ℕ) → unasked ≡ settled_at (Over at) → ⊥
-none_of_unasked at e = none-some 0 (sym (due_of unasked at e))
+due_in : {mark old : Mark} → mark ≡ old → mark.due ≡ None → old.due ≡ None
+due_in same none = ap (λ (m : Mark). m.due) (sym same) ∙ none
 
 -- an object that no question was about
 pub IsMarkRight-unasked : (budget count : ℕ) (object : Object) → object.mark ≡ unasked → IsMarkRight budget count object
 IsMarkRight-unasked budget count object is = record {
   exact = inl is;
-  ready = subst (λ (m : Mark). stands_for m.due count ≤ ready_under budget object.chain) (sym is) (omega arith);
-  ready_too = λ other. subst (λ (m : Mark). up_to (stands_for m.due count) m.over ≤ ready_under other object.chain) (sym is) (omega arith);
-  over = λ at settled. absurd (none_of_unasked at (sym is ∙ settled));
+  ready = subst (λ (m : Mark). stands_for (taken_in m) count ≤ ready_under budget object.chain) (sym is) (omega arith);
+  ready_too = λ other. subst (λ (m : Mark). up_to (stands_for (taken_in m) count) m.over ≤ ready_under other object.chain) (sym is) (omega arith);
+  apart = λ first e. ap (λ (m : Mark). m.behind) is;
+  known = λ none. absurd (none-some 0 (sym (due_in is none)));
+  stands = λ none. absurd (none-some 0 (sym (due_in is none)));
+  over = λ none. absurd (none-some 0 (sym (due_in is none)));
 }
 
 -- an object of which nothing but its picks changes
 pub IsMarkRight-same : (budget count : ℕ) (old object : Object) → object.count ≡ old.count → object.chain ≡ old.chain → object.mark ≡ old.mark → IsMarkRight budget count old → IsMarkRight budget count object
 IsMarkRight-same budget count old object same_count same_chain same_mark is = record {
   exact = elim is.exact [ inl new ↦ inl (same_mark ∙ new) | inr all ↦ inr (same_count ∙ all) ];
-  ready = subst (λ (m : Mark). stands_for m.due count ≤ ready_under budget object.chain) (sym same_mark) (subst (λ k. stands_for old.mark.due count ≤ ready_under budget k) (sym same_chain) is.ready);
-  ready_too = λ other. subst (λ (m : Mark). up_to (stands_for m.due count) m.over ≤ ready_under other object.chain) (sym same_mark)
-      (subst (λ k. up_to (stands_for old.mark.due count) old.mark.over ≤ ready_under other k) (sym same_chain) (is.ready_too other));
-  over = λ at settled. ap (λ k. end_under budget k) same_chain ∙ is.over at (sym same_mark ∙ settled);
+  ready = subst (λ (m : Mark). stands_for (taken_in m) count ≤ ready_under budget object.chain) (sym same_mark) (subst (λ k. stands_for (taken_in old.mark) count ≤ ready_under budget k) (sym same_chain) is.ready);
+  ready_too = λ other. subst (λ (m : Mark). up_to (stands_for (taken_in m) count) m.over ≤ ready_under other object.chain) (sym same_mark)
+      (subst (λ k. up_to (stands_for (taken_in old.mark) count) old.mark.over ≤ ready_under other k) (sym same_chain) (is.ready_too other));
+  apart = λ first e. ap (λ (m : Mark). m.behind) same_mark ∙ is.apart first (ap (λ (m : Mark). m.due) (sym same_mark) ∙ e);
+  known = λ none. subst (IsKnownUnder budget count) (sym same_chain) (is.known (due_in same_mark none));
+  stands = λ none. subst (λ k. end_under budget k ≡ end_in k) (sym same_chain) (is.stands (due_in same_mark none));
+  over = λ none. ap (λ (m : Mark). m.over) same_mark ∙ is.over (due_in same_mark none) ∙ ap (λ k. over_in (end_in k)) (sym same_chain);
 }
 
 pub touched_unasked : (place left : ℕ) → touched place left unasked ≡ unasked
-touched_unasked place left = ap (λ n. record { due = Some n; over = None }) (omega arith)
+touched_unasked place left = ap (λ n. record { due = Some n; over = None; behind = None }) (omega arith)
 
 -- what stands after an edit stood before it
 left_of : (due : Option ℕ) (left count after : ℕ) → left ≤ count → (stands_for (least due (Some left)) after ≤ left) × (stands_for (least due (Some left)) after ≤ stands_for due count)
@@ -175,110 +212,181 @@ pub IsMarkRight-touched : (budget count after place left : ℕ) (old object : Ob
     → IsTouched place left old object → (old.count ≡ count → object.count ≡ after)
     → IsMarkRight budget after object
 IsMarkRight-touched budget count after place left old object is before inside touch counted =
-    let l = left_of old.mark.due left count after (omega (arith, before, inside)) in
+    let l = left_of (taken_in old.mark) left count after (omega (arith, before, inside)) in
     let t = touched place left old.mark in
+    let stands : stands_for (taken_in t) after ≡ stands_for (least (taken_in old.mark) (Some left)) after = ap (λ d. stands_for d after) (least_none (least (taken_in old.mark) (Some left))) in
     record {
       exact = elim is.exact [
         | inl new ↦ inl (touch.mark ∙ ap (touched place left) new ∙ touched_unasked place left)
         | inr all ↦ inr (counted all)
       ];
-      ready = subst (λ (m : Mark). stands_for m.due after ≤ ready_under budget object.chain) (sym touch.mark) (omega (arith, l.0, l.1, is.ready, touch.kept budget));
+      ready = subst (λ (m : Mark). stands_for (taken_in m) after ≤ ready_under budget object.chain) (sym touch.mark) (omega (arith, stands, l.0, l.1, is.ready, touch.kept budget));
       ready_too = λ other.
-          let u = up_to_ahead (stands_for t.due after) (stands_for old.mark.due count) left place old.mark.over l.1 l.0 before in
-          subst (λ (m : Mark). up_to (stands_for m.due after) m.over ≤ ready_under other object.chain) (sym touch.mark) (omega (arith, u.0, u.1, is.ready_too other, touch.kept other));
-      over = λ at settled. absurd (some_due old.mark.due left old.mark.over (due_of t at (sym touch.mark ∙ settled)));
+          let u = up_to_ahead (stands_for (taken_in t) after) (stands_for (taken_in old.mark) count) left place old.mark.over (omega (arith, stands, l.1)) (omega (arith, stands, l.0)) before in
+          subst (λ (m : Mark). up_to (stands_for (taken_in m) after) m.over ≤ ready_under other object.chain) (sym touch.mark) (omega (arith, u.0, u.1, is.ready_too other, touch.kept other));
+      apart = λ first e. ap (λ (m : Mark). m.behind) touch.mark;
+      known = λ none. absurd (some_due (taken_in old.mark) left (due_in touch.mark none));
+      stands = λ none. absurd (some_due (taken_in old.mark) left (due_in touch.mark none));
+      over = λ none. absurd (some_due (taken_in old.mark) left (due_in touch.mark none));
     }
 
 -- an object that was settled, before its mark says so
 pub IsMarkRight-kept : (budget count : ℕ) (old object : Object) → IsMarkRight budget count old → object.mark ≡ old.mark → object.count ≡ count
     → ((other : ℕ) → min (ready_under budget old.chain) (ready_under other old.chain) ≤ ready_under other object.chain)
-    → ((at : ℕ) → end_under budget old.chain ≡ Over at → end_under budget object.chain ≡ Over at) → IsMarkRight budget count object
-IsMarkRight-kept budget count old object is mark counted remains stays = record {
+    → (end_under budget object.chain ≡ end_in object.chain) → (old.mark.due ≡ None → IsKnownUnder budget count object.chain × (end_in object.chain ≡ end_under budget old.chain)) → IsMarkRight budget count object
+IsMarkRight-kept budget count old object is mark counted remains under known = record {
   exact = inr counted;
-  ready = subst (λ (m : Mark). stands_for m.due count ≤ ready_under budget object.chain) (sym mark) (omega (arith, is.ready, remains budget));
-  ready_too = λ other. subst (λ (m : Mark). up_to (stands_for m.due count) m.over ≤ ready_under other object.chain) (sym mark)
-      (omega (arith, up_to_less (stands_for old.mark.due count) old.mark.over, is.ready, is.ready_too other, remains other));
-  over = λ at settled. stays at (is.over at (sym mark ∙ settled));
+  ready = subst (λ (m : Mark). stands_for (taken_in m) count ≤ ready_under budget object.chain) (sym mark) (omega (arith, is.ready, remains budget));
+  ready_too = λ other. subst (λ (m : Mark). up_to (stands_for (taken_in m) count) m.over ≤ ready_under other object.chain) (sym mark)
+      (omega (arith, up_to_less (stands_for (taken_in old.mark) count) old.mark.over, is.ready, is.ready_too other, remains other));
+  apart = λ first e. ap (λ (m : Mark). m.behind) mark ∙ is.apart first (ap (λ (m : Mark). m.due) (sym mark) ∙ e);
+  known = λ none. (known (due_in mark none)).0;
+  stands = λ none. under;
+  over = λ none. ap (λ (m : Mark). m.over) mark ∙ is.over (due_in mark none) ∙ ap over_in (sym (is.stands (due_in mark none))) ∙ ap over_in (sym (known (due_in mark none)).1);
 }
   where
     up_to_less : (n : ℕ) (over : Option ℕ) → up_to n over ≤ n
     up_to_less n None = omega arith
     up_to_less n (Some at) = omega arith
 
--- an object whose mark says that it was settled
-pub IsMarkRight-settled : (budget count : ℕ) (h : List Event) (object : Object) → IsRight object.chain h → length h ≡ count → end_under budget object.chain ≡ end_in object.chain → ready_under budget object.chain ≡ count
-    → object.count ≡ count → object.mark ≡ settled_at (end_in object.chain) → IsMarkRight budget count object
-IsMarkRight-settled budget count h object right all stands ready counted mark = record {
-  exact = inr counted;
-  ready = subst (λ (m : Mark). stands_for m.due count ≤ ready_under budget object.chain) (sym mark) (omega (arith, ap (λ d. stands_for d count) (nothing (end_in object.chain)), ready));
-  ready_too = λ other. subst (λ (m : Mark). up_to (stands_for m.due count) m.over ≤ ready_under other object.chain) (sym mark)
-      (subst (λ d. up_to (stands_for d count) (settled_at (end_in object.chain)).over ≤ ready_under other object.chain) (sym (nothing (end_in object.chain)))
-      (ready_after object.chain h right count other (omega (arith, ready, ready_at_most object.chain h right budget))));
-  over = λ at settled. stands ∙ over_end (end_in object.chain) at (over_of (settled_at (end_in object.chain)) at (sym mark ∙ settled));
-}
+-- what a mark says that its chain took in
+pub answered_stands : (end : End) (ready count : ℕ) → ready ≤ count → stands_for (taken_in (answered_at end ready count)) count ≡ ready
+answered_stands end ready count within = by (nat_lt ready count) refl
   where
-    nothing : (end : End) → (settled_at end).due ≡ None
-    nothing Alive = refl
-    nothing (Dead at) = refl
-    nothing (Over at) = refl
+    by : (b : Bool) → nat_lt ready count ≡ b → stands_for (taken_in (answered_at end ready count)) count ≡ ready
+    by true e = ap (λ b. stands_for (least None (if b then Some ready else None)) count) e
+    by false e = ap (λ b. stands_for (least None (if b then Some ready else None)) count) e ∙ elim (cases_lt ready count) [
+      | inl less ↦ absurd (cc (sym e ∙ (Decides-ltb ready count).1 less))
+      | inr more ↦ omega (arith, more, within)
+    ]
 
-    over_end : (end : End) (at : ℕ) → (settled_at end).over ≡ Some at → end ≡ Over at
-    over_end Alive at e = absurd (none-some at e)
-    over_end (Dead i) at e = absurd (none-some at e)
-    over_end (Over i) at e = ap Over (same_Some i at e)
+-- an object whose mark says that it was settled
+pub IsMarkRight-settled : (budget count : ℕ) (h : List Event) (object : Object) → IsRight object.chain h → length h ≡ count → end_under budget object.chain ≡ end_in object.chain → ready_under budget object.chain ≡ ready_count object.chain
+    → IsAnswered object.chain count → object.count ≡ count → object.mark ≡ answered_at (end_in object.chain) (ready_count object.chain) count → IsMarkRight budget count object
+IsMarkRight-settled budget count h object right all stands taken known counted mark =
+    let ready = ready_count object.chain in
+    let end = end_in object.chain in
+    let says = answered_stands end ready count (omega (arith, right.within, all)) in
+    record {
+      exact = inr counted;
+      ready = subst (λ (m : Mark). stands_for (taken_in m) count ≤ ready_under budget object.chain) (sym mark) (omega (arith, says, taken));
+      ready_too = λ other. subst (λ (m : Mark). up_to (stands_for (taken_in m) count) m.over ≤ ready_under other object.chain) (sym mark)
+          (subst (λ n. up_to n (over_in end) ≤ ready_under other object.chain) (sym says) (ready_after object.chain h right ready other (omega arith)));
+      apart = λ first e. absurd (none-some first (ap (λ (m : Mark). m.due) (sym mark) ∙ e));
+      known = λ none. elim known [ inl there ↦ inl (taken ∙ there) | inr told ↦ inr told ];
+      stands = λ none. stands;
+      over = λ none. ap (λ (m : Mark). m.over) mark;
+    }
 
 -- under a smaller budget a mark stays right
-pub IsMarkRight-smaller : (budget smaller count : ℕ) (h : List Event) (object : Object) → IsRight object.chain h → smaller ≤ budget → IsMarkRight budget count object → IsMarkRight smaller count object
-IsMarkRight-smaller budget smaller count h object right less is = record {
+pub IsMarkRight-smaller : (budget smaller count : ℕ) (h : List Event) (object : Object) → IsRight object.chain h → length h ≡ count → smaller ≤ budget → IsMarkRight budget count object → IsMarkRight smaller count object
+IsMarkRight-smaller budget smaller count h object right all less is = record {
   exact = is.exact;
   ready = omega (arith, is.ready, ready_under_smaller object.chain h right budget smaller less);
   ready_too = is.ready_too;
-  over = λ at settled. over_smaller object.chain h right budget smaller at less (is.over at settled);
+  apart = is.apart;
+  known = λ none. elim (is.known none) [
+    | inl there ↦ inl (omega (arith, there, ready_under_smaller object.chain h right budget smaller less, ready_at_most object.chain h right smaller, right.within, all))
+    | inr told ↦ inr told
+  ];
+  stands = λ none. stands_smaller object.chain h right budget smaller less (is.stands none);
+  over = is.over;
 }
 
 -- under a larger budget it is right once it is raised
 pub IsMarkRight-raised : (budget larger count : ℕ) (h : List Event) (old object : Object) → IsRight old.chain h → length h ≡ count → object.chain ≡ old.chain → object.count ≡ old.count → object.mark ≡ raised old.mark
     → IsMarkRight budget count old → IsMarkRight larger count object
-IsMarkRight-raised budget larger count h old object right all chain counted mark is = record {
-  exact = elim is.exact [
-    | inl new ↦ inl (mark ∙ ap raised new ∙ ap (λ n. record { due = Some n; over = None }) zero_rounded)
-    | inr same ↦ inr (counted ∙ same)
-  ];
-  ready = subst (λ (m : Mark). stands_for m.due count ≤ ready_under larger object.chain) (sym mark) (subst (λ k. stands_for (raised old.mark).due count ≤ ready_under larger k) (sym chain) (at_most larger));
-  ready_too = λ other. subst (λ (m : Mark). up_to (stands_for m.due count) m.over ≤ ready_under other object.chain) (sym mark) (subst (λ k. stands_for (raised old.mark).due count ≤ ready_under other k) (sym chain) (at_most other));
-  over = λ at settled. absurd (none-some at (over_of (raised old.mark) at (sym mark ∙ settled)));
-}
+IsMarkRight-raised budget larger count h old object right all chain counted mark is = by old.mark.over refl
   where
     zero_rounded : rounded 0 ≡ 0
     zero_rounded = omega arith
 
-    -- what stands once it is raised is ahead of the place where it was over
-    by : (due over : Option ℕ) (other : ℕ) → up_to (stands_for due count) over ≤ ready_under other old.chain → ((at : ℕ) → due ≡ None → over ≡ Some at → at ≤ count) → stands_for (rounded_too (least due (rounded_too over))) count ≤ ready_under other old.chain
-    by None None other ready inside = omega (arith, ready)
-    by (Some n) None other ready inside = omega (arith, ready, rounded_below n)
-    by None (Some at) other ready inside = omega (arith, ready, rounded_below at, rounded_below (rounded at), inside at refl refl)
-    by (Some n) (Some at) other ready inside = omega (arith, ready, rounded_below at, rounded_below (min n (rounded at)))
+    raised_is : (over : Option ℕ) → old.mark.over ≡ over → raised old.mark ≡ raised (record old.mark { over = over })
+    raised_is over e = ap (λ (o : Option ℕ). raised (record old.mark { over = o })) e
 
-    at_most : (other : ℕ) → stands_for (raised old.mark).due count ≤ ready_under other old.chain
-    at_most other = by old.mark.due old.mark.over other (is.ready_too other) (λ at none some.
-        let due : old.mark ≡ record { due = None; over = old.mark.over } = ap (λ (d : Option ℕ). record { due = d; over = old.mark.over }) none in
-        let settled : old.mark ≡ settled_at (Over at) = due ∙ ap (λ (o : Option ℕ). record { due = None; over = o }) some in
-        omega (arith, over_inside old.chain h right at (over_from old.chain h right budget at (is.over at settled)), right.within, all))
+    exact : (object.mark ≡ unasked) ⊎ (object.count ≡ count)
+    exact = elim is.exact [
+      | inl new ↦ inl (mark ∙ ap raised new ∙ ap (λ n. record { due = Some n; over = None; behind = None }) zero_rounded)
+      | inr same ↦ inr (counted ∙ same)
+    ]
+
+    -- one that isn't over stands as it does
+    lower : (due behind : Option ℕ) (m : ℕ) → stands_for (least due behind) count ≤ m → stands_for (least (rounded_too due) behind) count ≤ m
+    lower None behind m less = less
+    lower (Some n) None m less = omega (arith, less, rounded_below n)
+    lower (Some n) (Some r) m less = omega (arith, less, rounded_below n)
+
+    none_due : (due : Option ℕ) → rounded_too due ≡ None → due ≡ None
+    none_due None e = refl
+    none_due (Some n) e = absurd (none-some (rounded n) (sym e))
+
+    some_of : (due : Option ℕ) (first : ℕ) → rounded_too due ≡ Some first → (n : ℕ) × (due ≡ Some n)
+    some_of None first e = absurd (none-some first e)
+    some_of (Some n) first e = (n, refl)
+
+    -- what stands of one that is over is ahead of the place where it was over
+    ahead : (taken : Option ℕ) (at m : ℕ) → up_to (stands_for taken count) (Some at) ≤ m → (taken ≡ None → at ≤ count) → stands_for (least (rounded_too (least taken (Some (rounded at)))) None) count ≤ m
+    ahead None at m ready inside = omega (arith, ready, rounded_below at, rounded_below (rounded at), inside refl)
+    ahead (Some n) at m ready inside = omega (arith, ready, rounded_below at, rounded_below (min n (rounded at)))
+
+    no_due : (due behind : Option ℕ) → least due behind ≡ None → due ≡ None
+    no_due None behind e = refl
+    no_due (Some n) None e = absurd (none-some n (sym e))
+    no_due (Some n) (Some r) e = absurd (none-some (min n r) (sym e))
+
+    by : (over : Option ℕ) → old.mark.over ≡ over → IsMarkRight larger count object
+    by None e =
+        let m : object.mark ≡ record { due = rounded_too old.mark.due; over = None; behind = old.mark.behind } = mark ∙ raised_is None e in
+        let low = λ (other : ℕ). lower old.mark.due old.mark.behind (ready_under other old.chain) (subst (λ (o : Option ℕ). up_to (stands_for (taken_in old.mark) count) o ≤ ready_under other old.chain) e (is.ready_too other)) in
+        let due_none : object.mark.due ≡ None → old.mark.due ≡ None = λ none. none_due old.mark.due (due_in m none) in
+        let not_over : object.mark.due ≡ None → over_in (end_in old.chain) ≡ None = λ none. sym (is.over (due_none none)) ∙ e in
+        record {
+          exact = exact;
+          ready = subst (λ (k : Mark). stands_for (taken_in k) count ≤ ready_under larger object.chain) (sym m) (subst (λ k. stands_for (least (rounded_too old.mark.due) old.mark.behind) count ≤ ready_under larger k) (sym chain) (low larger));
+          ready_too = λ other. subst (λ (k : Mark). up_to (stands_for (taken_in k) count) k.over ≤ ready_under other object.chain) (sym m)
+              (subst (λ k. stands_for (least (rounded_too old.mark.due) old.mark.behind) count ≤ ready_under other k) (sym chain) (low other));
+          apart = λ first f. ap (λ (k : Mark). k.behind) m ∙ (let some = some_of old.mark.due first (ap (λ (k : Mark). k.due) (sym m) ∙ f) in is.apart some.0 some.1);
+          known = λ none. subst (IsKnownUnder larger count) (sym chain) (elim (is.known (due_none none)) [
+            | inl there ↦ inl ((stands_other old.chain h right budget larger (not_over none)).1 ∙ there)
+            | inr told ↦ inr told
+          ]);
+          stands = λ none. subst (λ k. end_under larger k ≡ end_in k) (sym chain) (stands_other old.chain h right budget larger (not_over none)).0;
+          over = λ none. ap (λ (k : Mark). k.over) m ∙ sym (not_over none) ∙ ap (λ k. over_in (end_in k)) (sym chain);
+        }
+    by (Some at) e =
+        let taken = taken_in old.mark in
+        let m : object.mark ≡ record { due = rounded_too (least taken (Some (rounded at))); over = None; behind = None } = mark ∙ raised_is (Some at) e in
+        let inside : taken ≡ None → at ≤ count = λ none.
+        let over = over_at (end_in old.chain) at (sym (is.over (no_due old.mark.due old.mark.behind none)) ∙ e) in
+        omega (arith, over_inside old.chain h right at over, right.within, all) in
+        let low = λ (other : ℕ). ahead taken at (ready_under other old.chain) (subst (λ (o : Option ℕ). up_to (stands_for taken count) o ≤ ready_under other old.chain) e (is.ready_too other)) inside in
+        let some : object.mark.due ≡ None → ⊥ = λ none. some_due taken (rounded at) (none_due (least taken (Some (rounded at))) (due_in m none)) in
+        record {
+          exact = exact;
+          ready = subst (λ (k : Mark). stands_for (taken_in k) count ≤ ready_under larger object.chain) (sym m) (subst (λ k. stands_for (least (rounded_too (least taken (Some (rounded at)))) None) count ≤ ready_under larger k) (sym chain) (low larger));
+          ready_too = λ other. subst (λ (k : Mark). up_to (stands_for (taken_in k) count) k.over ≤ ready_under other object.chain) (sym m)
+              (subst (λ k. stands_for (least (rounded_too (least taken (Some (rounded at)))) None) count ≤ ready_under other k) (sym chain) (low other));
+          apart = λ first f. ap (λ (k : Mark). k.behind) m;
+          known = λ none. absurd (some none);
+          stands = λ none. absurd (some none);
+          over = λ none. absurd (some none);
+        }
 
 -- an object whose chain keeps all that it took in, since the event that comes is the last one
-pub IsMarkRight-last : (budget count : ℕ) (h : List Event) (old object : Object) → IsRight old.chain h → length h ≡ count → old.count ≤ count → (ready_count old.chain ≤ old.count → object.chain ≡ old.chain)
+pub IsMarkRight-last : (budget count : ℕ) (h : List Event) (old object : Object) → IsRight old.chain h → length h ≡ count → old.count ≤ count → (ready_count old.chain ≤ old.count → (other : ℕ) → ready_under other object.chain ≡ ready_under other old.chain)
     → object.mark ≡ touched old.count old.count old.mark → object.count ≡ old.count + 1 → IsMarkRight budget count old → IsMarkRight budget (count + 1) object
 IsMarkRight-last budget count h old object right all few chain mark counted is = elim is.exact [
   | inl new ↦ IsMarkRight-unasked budget (count + 1) object (mark ∙ ap (touched old.count old.count) new ∙ touched_unasked old.count old.count)
   | inr exact ↦
       let same = chain (omega (arith, exact, right.within, all)) in
       IsMarkRight-touched budget count (count + 1) old.count old.count old object is (omega arith) few
-      (record { mark = mark; kept = λ other. subst (λ k. min old.count (ready_under other old.chain) ≤ ready_under other k) (sym same) (omega arith) }) (λ e. omega (arith, counted, e))
+      (record { mark = mark; kept = λ other. omega (arith, same other) }) (λ e. omega (arith, counted, e))
 ]
 
 -- an object that is touched at its start
 pub touched_at_start : (mark : Mark) → touched 0 0 mark ≡ unasked
-touched_at_start mark = ap (λ (d : Option ℕ). record { due = d; over = ahead_of 0 mark.over }) (nothing mark.due) ∙ ap (λ (o : Option ℕ). record { due = Some 0; over = o }) (nowhere mark.over)
+touched_at_start mark =
+    ap (λ (d : Option ℕ). record { due = d; over = ahead_of 0 mark.over; behind = None }) (nothing (taken_in mark)) ∙ ap (λ (o : Option ℕ). record { due = Some 0; over = o; behind = None }) (nowhere mark.over)
   where
     nothing : (due : Option ℕ) → least due (Some 0) ≡ Some 0
     nothing None = refl
@@ -292,14 +400,11 @@ touched_at_start mark = ap (λ (d : Option ℕ). record { due = d; over = ahead_
         by true e = absurd (let below = (Decides-ltb at 0).0 e in omega (arith, below))
         by false e = ap (λ b. if b then Some at else None) e
 
--- an end that stays is over where it was
-pub stays_over : {E : Type 0} (r : Result End E) (before after under : End) → (before ≢ Alive → r ≡ Ok before) → IfOk r (λ end. after ≡ end) → under ≡ after → (at : ℕ) → before ≡ Over at → under ≡ Over at
-stays_over r before after under stays told same at is = same ∙ (let ok = stays (λ alive. cc (sym is ∙ alive)) in subst (λ x. IfOk x (λ end. after ≡ end)) ok told ∙ is)
-
 -- what an edit leaves, another one at an earlier place leaves too
 pub touched_lower : (p q left more : ℕ) (mark : Mark) → p ≤ q → left ≤ more → touched p left (touched q more mark) ≡ touched p left mark
 touched_lower p q left more mark less fewer =
-    ap (λ (d : Option ℕ). record { due = d; over = ahead_of p (ahead_of q mark.over) }) (due mark.due) ∙ ap (λ (o : Option ℕ). record { due = least mark.due (Some left); over = o }) (over mark.over)
+    ap (λ (d : Option ℕ). record { due = d; over = ahead_of p (ahead_of q mark.over); behind = None }) (ap (λ d. least d (Some left)) (least_none (least (taken_in mark) (Some more))) ∙ due (taken_in mark))
+    ∙ ap (λ (o : Option ℕ). record { due = least (taken_in mark) (Some left); over = o; behind = None }) (over mark.over)
   where
     due : (d : Option ℕ) → least (least d (Some more)) (Some left) ≡ least d (Some left)
     due None = ap Some (omega (arith, fewer))
@@ -340,12 +445,11 @@ pub unasked_over : (mark : Mark) (at : ℕ) → mark ≡ unasked → mark.over �
 unasked_over mark at same e = none-some at (same_over unasked mark at same e)
 
 pub raised_over : (mark : Mark) (at : ℕ) → (raised mark).over ≡ Some at → ⊥
-raised_over mark at e = none-some at e
-
-pub settled_over : (end : End) (mark : Mark) (at : ℕ) → mark ≡ settled_at end → mark.over ≡ Some at → end ≡ Over at
-settled_over end mark at same e = by end (same_over (settled_at end) mark at same e)
+raised_over mark at e = by mark.over refl
   where
-    by : (x : End) → (settled_at x).over ≡ Some at → x ≡ Over at
-    by Alive f = absurd (none-some at f)
-    by (Dead i) f = absurd (none-some at f)
-    by (Over i) f = ap Over (same_Some i at f)
+    by : (over : Option ℕ) → mark.over ≡ over → ⊥
+    by None f = none-some at (sym (ap (λ (o : Option ℕ). (raised (record mark { over = o })).over) f) ∙ e)
+    by (Some i) f = none-some at (sym (ap (λ (o : Option ℕ). (raised (record mark { over = o })).over) f) ∙ e)
+
+pub answered_over : (end : End) (ready count : ℕ) (mark : Mark) (at : ℕ) → mark ≡ answered_at end ready count → mark.over ≡ Some at → end ≡ Over at
+answered_over end ready count mark at same e = over_at end at (same_over (answered_at end ready count) mark at same e)

@@ -51,7 +51,7 @@ AreKept-smaller kinds budget smaller h split keys objects less kept = record {
         kind = is.kind;
         right = is.right;
         counted = is.counted;
-        marked = IsMarkRight-smaller budget smaller (length (part key h)) (part key h) o is.right less is.marked;
+        marked = IsMarkRight-smaller budget smaller (length (part key h)) (part key h) o is.right refl less is.marked;
         over = λ at e. IsEndOf-smaller (kinds key) budget smaller (part key h) at less (is.over at e);
       };
 }

@@ -202,3 +202,14 @@ pub least_none : (a b : Option ℕ) → least a b ≡ None → (a ≡ None) × (
 least_none None b e = (refl, e)
 least_none (Some m) None e = absurd (none-some m (sym e))
 least_none (Some m) (Some n) e = absurd (none-some (min m n) (sym e))
+
+-- the lesser of two numbers is one of them
+pub least_is : (a b : Option ℕ) (at : ℕ) → least a b ≡ Some at → (a ≡ Some at) ⊎ (b ≡ Some at)
+least_is None b at e = inr e
+least_is (Some m) None at e = inl e
+least_is (Some m) (Some n) at e =
+    let is = same_Some (min m n) at e in
+    elim (cases_lt m n) [
+      | inl less ↦ inl (ap Some (omega (arith, is, less)))
+      | inr more ↦ inr (ap Some (omega (arith, is, more)))
+    ]

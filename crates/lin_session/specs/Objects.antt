@@ -4,31 +4,35 @@ use Rattle.lin_events.specs.declared.events.Event.{Event}
 use Rattle.lin_events.specs.Operations.{IsEvent}
 use Rattle.lin_objects.specs.declared.kinds.Kind.{Kind}
 use Rattle.lin_orders.specs.Parts.{ArePositionsOf, part}
-use Rattle.lin_chain.specs.Chains.{end_under, kind_in, ready_under, IsRight}
+use Rattle.lin_chain.specs.declared.chain.Chain.{Chain}
+use Rattle.lin_chain.specs.Chains.{end_in, end_under, kind_in, ready_under, IsRight}
+use Rattle.lin_chain.specs.Founds.{told_by}
 use Rattle.lin_chain.specs.Ends.{IsEndOf}
 use Rattle.lin_chain.specs.declared.chain.End.TheVariants.{Over}
 use Rattle.lin_session.specs.declared.kept.Object.{Object}
 use Rattle.lin_session.specs.declared.kept.Objects.{Objects}
 use Rattle.lin_session.specs.declared.marks.Mark.{Mark}
-use Rattle.lin_session.specs.Work.{settled_at, unasked}
-
--- how many of so many events stand as they were found
-abbrev pub stands_for : Option ℕ → ℕ → ℕ
-stands_for None count = count
-stands_for (Some first) count = first
+use Rattle.lin_session.specs.Work.{over_in, stands_for, taken_in, unasked}
 
 -- those of them that are ahead of a place, if there is one
 abbrev pub up_to : ℕ → Option ℕ → ℕ
 up_to count None = count
 up_to count (Some at) = min count at
 
--- The mark of an object that has so many events is right: its chain took in what stands, and what stands before the place where it is over under each
--- other budget too. Where nothing is due, it is over where its chain is.
+-- how all its events end is known under the budget: its frontiers took them in, or a search tells
+abbrev pub IsKnownUnder : ℕ → ℕ → Chain → Type 0
+IsKnownUnder budget count chain = (ready_under budget chain ≡ count) ⊎ (told_by chain.found count ≢ None)
+
+-- The mark of an object that has so many events is right: its frontiers took in what stands, and what stands before the place where they are over under
+-- each other budget too. Where nothing is due it is known how all its events end, and it is over where its frontiers are.
 pub record IsMarkRight (budget count : ℕ) (object : Object) : Type 0 where
   pub exact : (object.mark ≡ unasked) ⊎ (object.count ≡ count)
-  pub ready : stands_for object.mark.due count ≤ ready_under budget object.chain
-  pub ready_too : (other : ℕ) → up_to (stands_for object.mark.due count) object.mark.over ≤ ready_under other object.chain
-  pub over : (at : ℕ) → object.mark ≡ settled_at (Over at) → end_under budget object.chain ≡ Over at
+  pub ready : stands_for (taken_in object.mark) count ≤ ready_under budget object.chain
+  pub ready_too : (other : ℕ) → up_to (stands_for (taken_in object.mark) count) object.mark.over ≤ ready_under other object.chain
+  pub apart : (first : ℕ) → object.mark.due ≡ Some first → object.mark.behind ≡ None
+  pub known : object.mark.due ≡ None → IsKnownUnder budget count object.chain
+  pub stands : object.mark.due ≡ None → end_under budget object.chain ≡ end_in object.chain
+  pub over : object.mark.due ≡ None → object.mark.over ≡ over_in (end_in object.chain)
 
 -- the object of the key, after a history whose first `split` events are told apart by their keys
 pub record IsObject (kinds : ℤ → Kind) (budget : ℕ) (h : List Event) (split : ℕ) (key : ℤ) (object : Object) : Type 0 where

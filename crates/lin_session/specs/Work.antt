@@ -1,5 +1,5 @@
 -- What a question costs after edits: how many of the first events still stand as they were found.
-use Rattle.std.specs.Prelude.{◌≡◌, ◌-◌, ◌*◌, ◌/◌, ◌||◌, ℕ, ℤ, min, not, nat_lt, List, [], ◌∷◌, Option, None, Some, filter, length, take, if◌then◌else◌}
+use Rattle.std.specs.Prelude.{◌≡◌, ◌+◌, ◌-◌, ◌*◌, ◌/◌, ◌||◌, ℕ, ℤ, min, not, nat_le, nat_lt, List, [], ◌∷◌, Option, None, Some, filter, length, take, if◌then◌else◌}
 use Rattle.std.specs.List.{sum_by}
 use Rattle.std.specs.Ordering.{int_eq}
 use Rattle.lin_events.specs.declared.events.Event.{Event}
@@ -42,18 +42,31 @@ low_after (Remove at) now low = least low (Some (rounded at))
 low_after (SetKind key kind) now low = Some 0
 low_after (SetBudget budget) now low = low
 
--- A mark says how much of what was found of an object stands: for how many of its first events (`due`), none where for all; and the place among its
--- events where it stands over the budget (`over`), if it does.
+-- A mark says how much of what was found of an object stands: for how many of its first events (`due`), none where for all; the place among its
+-- events where its frontiers stand over the budget (`over`), if they do; and where a search told of all its events, how many of the first ones its
+-- frontiers took in (`behind`), none where all.
 
 -- of an object that no question was about yet
 abbrev pub unasked : Mark
-unasked = record { due = Some 0; over = None }
+unasked = record { due = Some 0; over = None; behind = None }
 
--- of an object whose events were found to end so
-abbrev pub settled_at : End → Mark
-settled_at Alive = record { due = None; over = None }
-settled_at (Dead at) = record { due = None; over = None }
-settled_at (Over at) = record { due = None; over = Some at }
+abbrev pub over_in : End → Option ℕ
+over_in Alive = None
+over_in (Dead at) = None
+over_in (Over at) = Some at
+
+-- of an object that was asked about, whose frontiers took so many of its events in and end so
+abbrev pub answered_at : End → ℕ → ℕ → Mark
+answered_at end ready count = record { due = None; over = over_in end; behind = if nat_lt ready count then Some ready else None }
+
+-- how many of the first events its frontiers took in that stand; none where all
+abbrev pub taken_in : Mark → Option ℕ
+taken_in mark = least mark.due mark.behind
+
+-- how many of so many events stand as they were found
+abbrev pub stands_for : Option ℕ → ℕ → ℕ
+stands_for None count = count
+stands_for (Some first) count = first
 
 -- a place, if it is ahead of the other one
 abbrev pub ahead_of : ℕ → Option ℕ → Option ℕ
@@ -62,11 +75,15 @@ ahead_of place (Some over) = if nat_lt over place then Some over else None
 
 -- an edit touches the object at the place, and leaves so many of its events as they were found
 abbrev pub touched : ℕ → ℕ → Mark → Mark
-touched place left mark = record { due = least mark.due (Some left); over = ahead_of place mark.over }
+touched place left mark = record { due = least (taken_in mark) (Some left); over = ahead_of place mark.over; behind = None }
 
--- a larger budget touches an object that is over where it is over, and what stands of any is a multiple of 64
+-- a larger budget touches an object whose frontiers are over where they are over, and what stands of any is a multiple of 64
 abbrev pub raised : Mark → Mark
-raised mark = record { due = rounded_too (least mark.due (rounded_too mark.over)); over = None }
+raised mark = by mark.over
+  where
+    by : Option ℕ → Mark
+    by None = record { due = rounded_too mark.due; over = None; behind = mark.behind }
+    by (Some at) = record { due = rounded_too (least (taken_in mark) (Some (rounded at))); over = None; behind = None }
 
 -- how many of the first events are of the key
 abbrev pub count_before : List Event → ℤ → ℕ → ℕ
@@ -95,9 +112,14 @@ abbrev pub keys_of : List Event → List ℤ
 keys_of [] = []
 keys_of (event ∷ h) = event.key ∷ filter (λ key. not (int_eq event.key key)) (keys_of h)
 
--- what a question about the object costs: as many steps as it has events behind those that stand
+-- where at least half of the events are due, all may be searched besides, once: six steps for each
+abbrev pub searched : Option ℕ → ℕ → ℕ
+searched None count = 0
+searched (Some first) count = if nat_le (2 * first) count then 6 * count else 0
+
+-- what a question about the object costs: as many steps as it has events behind those that stand, and those of a search
 abbrev pub cost : (ℤ → Mark) → List Event → ℤ → ℕ
-cost marks h key = anew (marks key).due (length (part key h))
+cost marks h key = anew (marks key).due (length (part key h)) + searched (marks key).due (length (part key h))
 
 -- and one about the scope
 abbrev pub cost_in : (ℤ → Mark) → List Event → Scope → ℕ

@@ -9,9 +9,9 @@ ghost use Rattle.lin_session.specs.Answers.{IsAnswer, IsObjectVerdict, IsVerdict
 ghost use Rattle.lin_session.specs.declared.kept.Object.{Object as ObjectOf};
 ghost use Rattle.lin_session.specs.Objects.{AreRight, split_in};
 ghost use Rattle.lin_session.specs.inner.Objects.{marks_in};
-ghost use Rattle.lin_session.specs.inner.Costs.{AreJudged, IsCost, IsJudged, IsSettled, cost_of, cost_of_all};
-ghost use Rattle.lin_session.specs.inner.Judgements.{AreAlive, AreFound, IsAlive, IsDead, IsDeadFor, IsFinding, IsTold};
-ghost use Rattle.lin_session.specs.Marks.{IsNothingDue, IsWithoutOrder};
+ghost use Rattle.lin_session.specs.inner.Costs.{AreJudged, AreSettled, IsJudged, IsSettled, cost_of, cost_of_all};
+ghost use Rattle.lin_session.specs.inner.Judgements.{AreAlive, AreFound, IsAlive, IsDead, IsDeadFor, IsFinding, IsOverFor, IsTold, StandsOver};
+ghost use Rattle.lin_session.specs.Marks.{IsNothingDue};
 ghost use Rattle.lin_session.specs.Refuting.{IsRefuted, IsUnrefuted};
 ghost use Rattle.lin_session.specs.Work.{AreSameMarks, cost_in};
 
@@ -30,7 +30,7 @@ use std::alloc::Global;
 
 impl Objects {
     /// Whether the history is linearizable for the scope, with a legal order if it is. Its events are well-formed.
-    pub(crate) fn ask(
+    pub(crate) fn answer(
         &mut self,
         alloc: Global,
         scope: Scope,
@@ -45,19 +45,20 @@ impl Objects {
         ensures apart { split_in self.old ≡ length present.now.history.now → split_in self.new ≡ length present.now.history.now }
         ensures answer { IfOk result (IsAnswer (record { history = present.now.history.now; kinds = present.now.kinds.now; budget = present.now.budget }) scope) }
         ensures dead { (n : ℕ) → result ≡ Ok (Answer.No n) → IsDeadFor self.new scope n }
+        ensures over { (at : ℕ) → result ≡ Ok (Answer.Undecided at) → IsOverFor self.new scope at }
         ensures scans { meter.new.scans ≡ meter.old.scans }
         ensures marks { AreSameMarks (marks_in self.old) (marks_in self.new) }
-        ensures judged { OnOk result (AreJudged (kind_of present.now.kinds.now) present.now.budget present.now.history.now self.new scope) }
+        ensures judged { OnOk result (AreJudged present.now.budget self.new scope) }
         ensures steps { meter.new.steps ≤ meter.old.steps + cost_in (marks_in self.old) present.now.history.now scope }
         ensures ready { split_in self.old ≡ length present.now.history.now → IsNothingDue present.now.history.now scope (marks_in self.old)
-            → IsWithoutOrder (record { history = present.now.history.now; kinds = present.now.kinds.now; budget = present.now.budget }) scope (marks_in self.old) → IsOk result }
+            → (IsVerdict (record { history = present.now.history.now; kinds = present.now.kinds.now; budget = present.now.budget }) scope Verdict.Yes → ⊥) → IsOk result }
+        ensures idle { split_in self.old ≡ length present.now.history.now → IsNothingDue present.now.history.now scope (marks_in self.old) → meter.new ≡ meter.old }
     {
-        linearizability_is_local();
         match self.judge(alloc, scope, present, meter)? {
-            Verdict::Yes => match self.order(alloc, scope, present.history, present.kinds)? {
-                Some(order) => Ok(Answer::Yes(order)),
-                None => unreachable!(),
-            },
+            Verdict::Yes => {
+                let order = self.order(alloc, scope, present.history, present.kinds)?;
+                Ok(Answer::Yes(order))
+            }
             Verdict::No { prefix } => Ok(Answer::No { prefix }),
             Verdict::Undecided { at } => Ok(Answer::Undecided { at }),
             Verdict::IllFormed { at, cause } => Ok(Answer::IllFormed { at, cause }),
@@ -82,10 +83,11 @@ impl Objects {
         ensures unrefuted { IfErr result (IsUnrefuted (record { history = present.now.history.now; kinds = present.now.kinds.now; budget = present.now.budget }) key) }
         ensures scans { meter.new.scans ≡ meter.old.scans }
         ensures marks { AreSameMarks (marks_in self.old) (marks_in self.new) }
-        ensures judged { OnOk result (AreJudged (kind_of present.now.kinds.now) present.now.budget present.now.history.now self.new (Scope.Object key)) }
+        ensures judged { OnOk result (AreJudged present.now.budget self.new (Scope.Object key)) }
         ensures steps { meter.new.steps ≤ meter.old.steps + cost_in (marks_in self.old) present.now.history.now (Scope.Object key) }
+        ensures idle { split_in self.old ≡ length present.now.history.now → IsNothingDue present.now.history.now (Scope.Object key) (marks_in self.old) → meter.new ≡ meter.old }
     {
-        match self.ask(alloc, Scope::Object(key), present, meter) {
+        match self.answer(alloc, Scope::Object(key), present, meter) {
             Ok(Answer::No { prefix }) => {
                 let refutation = self.refutation(alloc, key, present.history, present.budget)?;
                 Ok(Refuted::No { prefix, refutation })
@@ -137,11 +139,12 @@ impl Objects {
         ensures verdict { IfOk result (IsVerdict (record { history = present.now.history.now; kinds = present.now.kinds.now; budget = present.now.budget }) scope) }
         ensures alive { result ≡ Ok Verdict.Yes → AreAlive self.new scope }
         ensures dead { (n : ℕ) → result ≡ Ok (Verdict.No n) → IsDeadFor self.new scope n }
+        ensures over { (at : ℕ) → result ≡ Ok (Verdict.Undecided at) → IsOverFor self.new scope at }
         ensures scans { meter.new.scans ≡ meter.old.scans }
         ensures marks { AreSameMarks (marks_in self.old) (marks_in self.new) }
-        ensures judged { OnOk result (AreJudged (kind_of present.now.kinds.now) present.now.budget present.now.history.now self.new scope) }
+        ensures judged { OnOk result (AreJudged present.now.budget self.new scope) }
         ensures steps { meter.new.steps ≤ meter.old.steps + cost_in (marks_in self.old) present.now.history.now scope }
-        ensures left { split_in self.old ≡ length present.now.history.now → (n : ℕ) → IsCost present.now.budget self.old scope n → meter.new.steps ≤ meter.old.steps + n }
+        ensures idle { split_in self.old ≡ length present.now.history.now → IsNothingDue present.now.history.now scope (marks_in self.old) → meter.new ≡ meter.old }
         ensures ready { split_in self.old ≡ length present.now.history.now → IsNothingDue present.now.history.now scope (marks_in self.old) → IsOk result }
     {
         positions_spell_parts();
@@ -168,12 +171,14 @@ impl Objects {
         ensures verdict { IfOk result (λ verdict. (kinds : ℤ → KindOf) → AreRight self.old kinds budget events.now → IsWellFormed (functions_of kinds) events.now → IsObjectVerdict kinds budget events.now key verdict) }
         ensures alive { result ≡ Ok Verdict.Yes → AreAlive self.new (Scope.Object key) }
         ensures dead { (n : ℕ) → result ≡ Ok (Verdict.No n) → IsDeadFor self.new (Scope.Object key) n }
+        ensures over { (at : ℕ) → result ≡ Ok (Verdict.Undecided at) → IsOverFor self.new (Scope.Object key) at }
         ensures scans { meter.new.scans ≡ meter.old.scans }
         ensures steps { (i : ℕ) (object : ObjectOf) → slice_get self.old.keys.keys i ≡ Some key → slice_get self.old.objects.items i ≡ Some object → meter.new.steps ≤ meter.old.steps + cost_of budget object }
         ensures idle { (Contains self.old.keys.keys key → ⊥) → meter.new ≡ meter.old }
-        ensures settled { ((i : ℕ) (object : ObjectOf) → slice_get self.old.keys.keys i ≡ Some key → slice_get self.old.objects.items i ≡ Some object → IsSettled budget object) → IsOk result }
+        ensures settled { AreSettled budget self.old (Scope.Object key) → IsOk result }
+        ensures rests { AreSettled budget self.old (Scope.Object key) → meter.new ≡ meter.old }
         ensures marks { AreSameMarks (marks_in self.old) (marks_in self.new) }
-        ensures judged { OnOk result ((kinds : ℤ → KindOf) → AreRight self.old kinds budget events.now → AreJudged kinds budget events.now self.new (Scope.Object key)) }
+        ensures judged { OnOk result (AreJudged budget self.new (Scope.Object key)) }
     {
         absent_keys_are_legal();
         match self.find(key) {
@@ -199,11 +204,13 @@ impl Objects {
         ensures right { (kinds : ℤ → KindOf) → AreRight self.old kinds budget events.now → AreRight self.new kinds budget events.now }
         ensures verdict { IfOk result (λ verdict. (kinds : ℤ → KindOf) → AreRight self.old kinds budget events.now → IsWellFormed (functions_of kinds) events.now → IsWholeVerdict kinds budget events.now verdict) }
         ensures alive { result ≡ Ok Verdict.Yes → AreAlive self.new Scope.Whole }
+        ensures over { (at : ℕ) → result ≡ Ok (Verdict.Undecided at) → IsOverFor self.new Scope.Whole at }
         ensures scans { meter.new.scans ≡ meter.old.scans }
         ensures steps { meter.new.steps ≤ meter.old.steps + cost_of_all budget self.old.objects.items }
         ensures settled { All (IsSettled budget) self.old.objects.items → IsOk result }
+        ensures rests { All (IsSettled budget) self.old.objects.items → meter.new ≡ meter.old }
         ensures marks { AreSameMarks (marks_in self.old) (marks_in self.new) }
-        ensures judged { OnOk result ((kinds : ℤ → KindOf) → AreRight self.old kinds budget events.now → AreJudged kinds budget events.now self.new Scope.Whole) }
+        ensures judged { OnOk result (AreJudged budget self.new Scope.Whole) }
     {
         absent_keys_are_legal();
         prefixes_are_linearizable();
@@ -229,11 +236,13 @@ impl Objects {
         ensures right { (kinds : ℤ → KindOf) → AreRight self.old kinds budget events.now → AreRight self.new kinds budget events.now }
         ensures found { IfOk result (λ r. (kinds : ℤ → KindOf) → AreRight self.old kinds budget events.now → IsWellFormed (functions_of kinds) events.now → AreFound kinds budget events.now self.old.keys.keys r.0 r.1) }
         ensures alive { IfOk result (λ r. r.0 ≡ None → r.1 ≡ None → All IsAlive self.new.objects.items) }
+        ensures over { IfOk result (λ r. (at : ℕ) → r.1 ≡ Some at → IsOverFor self.new Scope.Whole at) }
         ensures scans { meter.new.scans ≡ meter.old.scans }
         ensures steps { meter.new.steps ≤ meter.old.steps + cost_of_all budget self.old.objects.items }
         ensures settled { All (IsSettled budget) self.old.objects.items → IsOk result }
+        ensures rests { All (IsSettled budget) self.old.objects.items → meter.new ≡ meter.old }
         ensures marks { AreSameMarks (marks_in self.old) (marks_in self.new) }
-        ensures judged { OnOk result ((kinds : ℤ → KindOf) → AreRight self.old kinds budget events.now → AreJudged kinds budget events.now self.new Scope.Whole) }
+        ensures judged { OnOk result (AreJudged budget self.new Scope.Whole) }
     {
         let mut failing = None;
         let mut over = None;
@@ -263,13 +272,14 @@ impl Objects {
         ensures found { IfOk result (λ r. (kinds : ℤ → KindOf) (key : ℤ) → slice_get self.old.keys.keys i ≡ Some key → AreRight self.old kinds budget events.now → IsWellFormed (functions_of kinds) events.now → IsFinding kinds budget events.now key r.0 r.1) }
         ensures alive { IfOk result (λ r. r.0 ≡ None → r.1 ≡ None → (object : ObjectOf) → slice_get self.new.objects.items i ≡ Some object → IsAlive object) }
         ensures dead { IfOk result (λ r. (n : ℕ) (object : ObjectOf) → r.0 ≡ Some n → slice_get self.new.objects.items i ≡ Some object → IsDead n object) }
+        ensures over { IfOk result (λ r. (at : ℕ) (object : ObjectOf) → r.1 ≡ Some at → slice_get self.new.objects.items i ≡ Some object → StandsOver at object) }
         ensures others { (j : ℕ) (object : ObjectOf) → j ≢ i → slice_get self.new.objects.items j ≡ Some object → slice_get self.old.objects.items j ≡ Some object }
         ensures scans { meter.new.scans ≡ meter.old.scans }
         ensures steps { (object : ObjectOf) → slice_get self.old.objects.items i ≡ Some object → meter.new.steps ≤ meter.old.steps + cost_of budget object }
         ensures settled { (object : ObjectOf) → slice_get self.old.objects.items i ≡ Some object → IsSettled budget object → IsOk result }
+        ensures rests { (object : ObjectOf) → slice_get self.old.objects.items i ≡ Some object → IsSettled budget object → meter.new ≡ meter.old }
         ensures marks { AreSameMarks (marks_in self.old) (marks_in self.new) }
-        ensures judged { OnOk result ((kinds : ℤ → KindOf) (key : ℤ) (object : ObjectOf) → slice_get self.old.keys.keys i ≡ Some key → AreRight self.old kinds budget events.now
-            → slice_get self.new.objects.items i ≡ Some object → IsJudged kinds budget events.now key object) }
+        ensures judged { OnOk result ((object : ObjectOf) → slice_get self.new.objects.items i ≡ Some object → IsJudged budget object) }
     {
         positions_spell_parts();
         parts_of_prefixes();

@@ -2,9 +2,7 @@
 #![tactic(auto)]
 
 mod answers;
-mod decision;
 mod edits;
-mod foresight;
 mod judgements;
 mod kept;
 mod marks;
@@ -13,7 +11,6 @@ mod object;
 mod parts;
 mod present;
 mod session;
-mod witnesses;
 
 pub use answers::{Answer, Refuted, Scope, Verdict, answers_are_verdicts};
 pub use edits::{Edit, EditFault};

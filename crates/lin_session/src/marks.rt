@@ -1,6 +1,6 @@
 //! How much of what was found stands after an edit.
-ghost use Rattle.std.specs.Prelude.{◌≡◌};
-ghost use Rattle.lin_session.specs.Work.{ahead_of, least, raised, rounded, rounded_too, settled_at, touched, unasked};
+ghost use Rattle.std.specs.Prelude.{◌≡◌, ◌<◌, ◌*◌, None, true, false};
+ghost use Rattle.lin_session.specs.Work.{ahead_of, answered_at, least, raised, rounded, rounded_too, searched, touched, unasked};
 
 use lin_chain::End;
 
@@ -12,8 +12,10 @@ const SPACING: usize = 64;
 pub(crate) struct Mark {
     /// For how many of its first events; none, where for all.
     pub(crate) due: Option<usize>,
-    /// The place among its events where it stands over the budget, if it does.
+    /// The place among its events where its frontiers stand over the budget, if they do.
     pub(crate) over: Option<usize>,
+    /// Where a search told of all its events, how many of the first ones its frontiers took in; none, where all.
+    pub(crate) behind: Option<usize>,
 }
 
 impl Mark {
@@ -24,34 +26,60 @@ impl Mark {
         Mark {
             due: Some(0),
             over: None,
+            behind: None,
         }
     }
 
-    /// All events of the object were found to end so.
-    pub(crate) fn settled(end: End) -> Mark
-        ensures { result ≡ settled_at end }
+    /// It is known how all events of the object end, of which its frontiers took so many in, and end so.
+    pub(crate) fn answered(end: End, ready: usize, count: usize) -> Mark
+        ensures { result ≡ answered_at end ready count }
     {
         let over = match end {
             End::Over(at) => Some(at),
             _ => None,
         };
-        Mark { due: None, over }
+        let behind = if ready < count { Some(ready) } else { None };
+        Mark {
+            due: None,
+            over,
+            behind,
+        }
+    }
+
+    /// Whether so many of its events are due, of so many, that all may be searched.
+    pub(crate) fn is_mostly_due(&self, count: usize) -> bool
+        ensures due { result ≡ true → (0 < count) × (searched self.now.due count ≡ 6 * count) }
+        ensures none { self.now.due ≡ None → result ≡ false }
+        ensures empty { count ≡ 0 → result ≡ false }
+    {
+        match self.due {
+            Some(first) => 0 < count && first <= count / 2,
+            None => false,
+        }
     }
 
     /// An edit touches the object at the place, and leaves so many of its events as they were found.
     pub(crate) fn touch(&mut self, place: usize, left: usize)
         ensures { self.new ≡ touched place left self.old }
     {
-        self.due = least_of(self.due, Some(left));
+        self.due = least_of(least_of(self.due, self.behind), Some(left));
         self.over = ahead(place, self.over);
+        self.behind = None;
     }
 
     /// The budget is larger now.
     pub(crate) fn raise(&mut self)
         ensures { self.new ≡ raised self.old }
     {
-        self.due = round_down_too(least_of(self.due, round_down_too(self.over)));
-        self.over = None;
+        match self.over {
+            None => self.due = round_down_too(self.due),
+            Some(at) => {
+                let taken_in = least_of(self.due, self.behind);
+                self.due = round_down_too(least_of(taken_in, Some(round_down(at))));
+                self.over = None;
+                self.behind = None;
+            }
+        }
     }
 }
 

@@ -20,19 +20,19 @@ use lin_orders::{
 use std::alloc::Global;
 
 impl Objects {
-    /// A legal order for the scope, if each of its objects has one that is told. All events are told apart, and are well-formed.
+    /// A legal order for the scope, of which it is known that there is one. All events are told apart, and are well-formed.
     pub(crate) fn order(
         &self,
         alloc: Global,
         scope: Scope,
         events: &[Event],
         kinds: &Kinds,
-    ) -> Result<Option<Vec<Placed>>, OutOfMemory>
+    ) -> Result<Vec<Placed>, OutOfMemory>
+        requires alive { AreAlive self.now scope }
         requires split { split_in self.now ≡ length events.now }
         requires right { (budget : ℕ) × AreRight self.now (kind_of kinds.now) budget events.now }
         requires well_formed { IsWellFormed (functions_of (kind_of kinds.now)) events.now }
-        ensures legal { IfOk result (λ found. IfSome found (λ order. IsOrderFor (kind_of kinds.now) events.now scope order.items)) }
-        ensures told { IfOk result (λ found. AreAlive self.now scope → found ≢ None) }
+        ensures { IfOk result (λ order. IsOrderFor (kind_of kinds.now) events.now scope order.items) }
     {
         match scope {
             Scope::Object(key) => self.order_of(alloc, key, events, kinds),
@@ -40,90 +40,86 @@ impl Objects {
         }
     }
 
-    /// A legal order of the history, if each object has one that is told.
+    /// A legal order of the history, whose objects each have one.
     fn merged_order(
         &self,
         alloc: Global,
         events: &[Event],
         kinds: &Kinds,
-    ) -> Result<Option<Vec<Placed>>, OutOfMemory>
+    ) -> Result<Vec<Placed>, OutOfMemory>
+        requires alive { All IsAlive self.now.objects.items }
         requires split { split_in self.now ≡ length events.now }
         requires right { (budget : ℕ) × AreRight self.now (kind_of kinds.now) budget events.now }
         requires well_formed { IsWellFormed (functions_of (kind_of kinds.now)) events.now }
-        ensures legal { IfOk result (λ found. IfSome found (λ order. IsLegalOrder (kind_of kinds.now) events.now order.items)) }
-        ensures told { IfOk result (λ found. All IsAlive self.now.objects.items → found ≢ None) }
+        ensures { IfOk result (λ order. IsLegalOrder (kind_of kinds.now) events.now order.items) }
     {
         merged_orders_are_legal();
-        let Some(parts) = self.orders(alloc, events, kinds)? else {
-            return Ok(None);
-        };
+        let parts = self.orders(alloc, events, kinds)?;
         match merge(alloc, parts) {
-            Ok(order) => Ok(Some(order)),
+            Ok(order) => Ok(order),
             Err((_, refused)) => Err(refused),
         }
     }
 
-    /// Legal orders of all objects, as they are listed, if each has one that is told.
+    /// Legal orders of all objects, as they are listed.
     fn orders(
         &self,
         alloc: Global,
         events: &[Event],
         kinds: &Kinds,
-    ) -> Result<Option<Vec<Vec<Placed>>>, OutOfMemory>
+    ) -> Result<Vec<Vec<Placed>>, OutOfMemory>
+        requires alive { All IsAlive self.now.objects.items }
         requires split { split_in self.now ≡ length events.now }
         requires right { (budget : ℕ) × AreRight self.now (kind_of kinds.now) budget events.now }
         requires well_formed { IsWellFormed (functions_of (kind_of kinds.now)) events.now }
-        ensures legal { IfOk result (λ found. IfSome found (λ parts. AllZip (λ key order. IsLegalOrderFor (kind_of kinds.now) key events.now order) self.now.keys.keys (lists_of parts.items))) }
-        ensures told { IfOk result (λ found. All IsAlive self.now.objects.items → found ≢ None) }
+        ensures { IfOk result (λ parts. AllZip (λ key order. IsLegalOrderFor (kind_of kinds.now) key events.now order) self.now.keys.keys (lists_of parts.items)) }
     {
         let mut parts = Vec::new(alloc);
         for i in 0..self.objects.len() {
-            let Some(order) = self.order_listed(alloc, i, events, kinds)? else {
-                return Ok(None);
-            };
+            let order = self.order_listed(alloc, i, events, kinds)?;
             parts.push(order)?;
         }
-        Ok(Some(parts))
+        Ok(parts)
     }
 
-    /// A legal order for the object of the key, if one is told or it is not listed.
+    /// A legal order for the object of the key, which has one or is not listed.
     fn order_of(
         &self,
         alloc: Global,
         key: i64,
         events: &[Event],
         kinds: &Kinds,
-    ) -> Result<Option<Vec<Placed>>, OutOfMemory>
+    ) -> Result<Vec<Placed>, OutOfMemory>
+        requires alive { AreAlive self.now (Scope.Object key) }
         requires split { split_in self.now ≡ length events.now }
         requires right { (budget : ℕ) × AreRight self.now (kind_of kinds.now) budget events.now }
         requires well_formed { IsWellFormed (functions_of (kind_of kinds.now)) events.now }
-        ensures legal { IfOk result (λ found. IfSome found (λ order. IsLegalOrderFor (kind_of kinds.now) key events.now order.items)) }
-        ensures told { IfOk result (λ found. AreAlive self.now (Scope.Object key) → found ≢ None) }
+        ensures { IfOk result (λ order. IsLegalOrderFor (kind_of kinds.now) key events.now order.items) }
     {
         absent_keys_are_legal();
         match self.find(key) {
             Some(i) => self.order_listed(alloc, i, events, kinds),
-            None => Ok(Some(Vec::new(alloc))),
+            None => Ok(Vec::new(alloc)),
         }
     }
 
-    /// A legal order for the object that is listed here, if one is told.
+    /// A legal order for the object that is listed here.
     fn order_listed(
         &self,
         alloc: Global,
         i: usize,
         events: &[Event],
         kinds: &Kinds,
-    ) -> Result<Option<Vec<Placed>>, OutOfMemory>
+    ) -> Result<Vec<Placed>, OutOfMemory>
         requires listed { i < length self.now.keys.keys }
+        requires alive { (object : ObjectOf) → slice_get self.now.objects.items i ≡ Some object → IsAlive object }
         requires split { split_in self.now ≡ length events.now }
         requires right { (budget : ℕ) × AreRight self.now (kind_of kinds.now) budget events.now }
         requires well_formed { IsWellFormed (functions_of (kind_of kinds.now)) events.now }
-        ensures legal { IfOk result (λ found. IfSome found (λ order. (key : ℤ) → slice_get self.now.keys.keys i ≡ Some key → IsLegalOrderFor (kind_of kinds.now) key events.now order.items)) }
-        ensures told { IfOk result (λ found. (object : ObjectOf) → slice_get self.now.objects.items i ≡ Some object → IsAlive object → found ≢ None) }
+        ensures { IfOk result (λ order. (key : ℤ) → slice_get self.now.keys.keys i ≡ Some key → IsLegalOrderFor (kind_of kinds.now) key events.now order.items) }
     {
         positions_spell_parts();
         parts_keep_orders();
-        self.objects[i].order(alloc, events)
+        self.objects[i].order(alloc)
     }
 }

@@ -4,9 +4,10 @@ ghost use Rattle.lin_events.specs.declared.calls.Name.{Name as NameOf};
 ghost use Rattle.lin_events.specs.declared.events.Event.{Event as EventOf};
 ghost use Rattle.lin_events.specs.WellFormed.{IsWellFormed};
 ghost use Rattle.lin_orders.specs.Parts.{events_at, part, renamed};
-ghost use Rattle.lin_chain.specs.Chains.{end_in, end_under, kind_in, ready_count, ready_under, IsRight as IsRightChain};
+ghost use Rattle.lin_chain.specs.Chains.{IsAnswered, end_in, end_under, kind_in, ready_count, ready_under, told_in, IsRight as IsRightChain};
 ghost use Rattle.lin_chain.specs.Ends.{IsEndOf};
 ghost use Rattle.lin_orders.specs.Linearizable.{IsLegalOrderAs};
+ghost use Rattle.lin_session.specs.Objects.{IsKnownUnder};
 ghost use Rattle.lin_session.specs.inner.Objects.{Finds, IsOrderIn, IsPlaceIn, raised_object, settled_object};
 ghost use Rattle.lin_session.specs.inner.Costs.{IsSettled, cost_of};
 ghost use Rattle.lin_session.specs.inner.Judgements.{IsAlive};
@@ -18,7 +19,6 @@ use lin_chain::{Chain, End};
 use lin_events::{Event, Meter, OutOfMemory};
 use lin_objects::Kind;
 use lin_orders::Placed;
-use lin_search::finds_order;
 use std::alloc::Global;
 
 impl Object {
@@ -32,60 +32,28 @@ impl Object {
         requires right { IsRightChain self.old.chain (events_at events.now self.old.picks.items) }
         requires inside { All (λ at. at < length events.now) self.old.picks.items }
         requires well_formed { (functions : ℤ → NameOf → Bool) × IsWellFormed functions (events_at events.now self.old.picks.items) }
+        requires known { self.old.mark.due ≡ None → IsKnownUnder budget (length self.old.picks.items) self.old.chain }
         ensures picks { self.new.picks ≡ self.old.picks }
         ensures count { self.new.count ≡ length self.old.picks.items }
         ensures mark { self.new.mark ≡ self.old.mark }
         ensures kind { kind_in self.new.chain ≡ kind_in self.old.chain }
         ensures right { IsRightChain self.new.chain (events_at events.now self.old.picks.items) }
         ensures end { IfOk result (IsEndOf (kind_in self.old.chain) budget (events_at events.now self.old.picks.items)) }
-        ensures told { IfOk result (λ end. end_in self.new.chain ≡ end) }
-        ensures all { OnOk result (ready_count self.new.chain ≡ length self.old.picks.items) }
+        ensures told { IfOk result (λ end. told_in self.new.chain (length self.old.picks.items) ≡ end) }
+        ensures answered { OnOk result (IsAnswered self.new.chain (length self.old.picks.items)) }
         ensures scans { meter.new.scans ≡ meter.old.scans }
         ensures steps { meter.new.steps ≤ meter.old.steps + cost_of budget self.old }
         ensures settled { IsSettled budget self.old → IsOk result }
-        ensures stays { end_under budget self.old.chain ≢ End.Alive → result ≡ Ok (end_under budget self.old.chain) }
+        ensures idle { IsSettled budget self.old → meter.new ≡ meter.old }
+        ensures known { self.old.mark.due ≡ None → IsKnownUnder budget (length self.old.picks.items) self.new.chain × (end_in self.new.chain ≡ end_under budget self.old.chain) }
         ensures under { (end_under budget self.new.chain ≡ end_in self.new.chain) × (ready_under budget self.new.chain ≡ ready_count self.new.chain) }
+        ensures no_less { ready_under budget self.old.chain ≤ ready_count self.new.chain }
         ensures remains { (other : ℕ) → min (ready_under budget self.old.chain) (ready_under other self.old.chain) ≤ ready_under other self.new.chain }
     {
         self.count = self.picks.len();
-        self.chain.settle(events, &self.picks, budget, meter)
-    }
-
-    /// Lets its chain take some more events in, while they are worth it if the meter may count so many tries in all.
-    pub(crate) fn take_some(
-        &mut self,
-        events: &[Event],
-        budget: u32,
-        tries: u64,
-        meter: &mut Meter,
-    ) -> Result<(), OutOfMemory>
-        requires right { IsRightChain self.old.chain (events_at events.now self.old.picks.items) }
-        requires inside { All (λ at. at < length events.now) self.old.picks.items }
-        requires well_formed { (functions : ℤ → NameOf → Bool) × IsWellFormed functions (events_at events.now self.old.picks.items) }
-        ensures picks { self.new.picks ≡ self.old.picks }
-        ensures count { self.new.count ≡ length self.old.picks.items }
-        ensures mark { self.new.mark ≡ self.old.mark }
-        ensures kind { kind_in self.new.chain ≡ kind_in self.old.chain }
-        ensures right { IsRightChain self.new.chain (events_at events.now self.old.picks.items) }
-        ensures scans { meter.new.scans ≡ meter.old.scans }
-        ensures steps { meter.new.steps ≤ meter.old.steps + cost_of budget self.old }
-        ensures left { OnOk result (meter.new.steps + cost_of budget self.new ≤ meter.old.steps + cost_of budget self.old) }
-        ensures settled { IsSettled budget self.old → IsOk result }
-        ensures stays { end_under budget self.old.chain ≢ End.Alive → end_in self.new.chain ≡ end_under budget self.old.chain }
-        ensures under { (end_under budget self.new.chain ≡ end_in self.new.chain) × (ready_under budget self.new.chain ≡ ready_count self.new.chain) }
-        ensures remains { (other : ℕ) → min (ready_under budget self.old.chain) (ready_under other self.old.chain) ≤ ready_under other self.new.chain }
-    {
-        self.count = self.picks.len();
+        let search = self.mark.is_mostly_due(self.picks.len());
         self.chain
-            .take_some(events, &self.picks, budget, tries, meter)
-    }
-
-    /// How many events its chain has still to take in, if it comes to them.
-    pub(crate) fn behind(&self) -> usize {
-        match self.chain.end() {
-            End::Alive => self.picks.len().saturating_sub(self.chain.ready()),
-            _ => 0,
-        }
+            .settle(events, &self.picks, budget, search, meter)
     }
 
     /// In positions of the history what its chain tells in places among its events.
@@ -101,50 +69,17 @@ impl Object {
         }
     }
 
-    /// A legal order of its events, in positions of the history: its chain's, where that took all of them in and is alive, or else one that
-    /// a search finds, if it does.
-    pub(crate) fn order(
-        &self,
-        alloc: Global,
-        events: &[Event],
-    ) -> Result<Option<Vec<Placed>>, OutOfMemory>
-        requires right { IsRightChain self.now.chain (events_at events.now self.now.picks.items) }
-        requires all { length (events_at events.now self.now.picks.items) ≡ length self.now.picks.items }
-        ensures legal { IfOk result (λ found. IfSome found (λ order. IsOrderIn (IsLegalOrderAs (kind_in self.now.chain) (events_at events.now self.now.picks.items)) self.now.picks.items order.items)) }
-        ensures told { IfOk result (λ found. IsAlive self.now → found ≢ None) }
+    /// A legal order of its events, in positions of the history. It is known that they have one.
+    pub(crate) fn order(&self, alloc: Global) -> Result<Vec<Placed>, OutOfMemory>
+        requires right { (h : List EventOf) × (length h ≡ length self.now.picks.items) × IsRightChain self.now.chain h }
+        requires alive { IsAlive self.now }
+        ensures { IfOk result (λ order. (h : List EventOf) → length h ≡ length self.now.picks.items → IsRightChain self.now.chain h → IsOrderIn (IsLegalOrderAs (kind_in self.now.chain) h) self.now.picks.items order.items) }
     {
-        match self.own_order(alloc, events)? {
-            Some(mut order) => {
-                rename(&mut order, &self.picks);
-                Ok(Some(order))
-            }
-            None => Ok(None),
-        }
-    }
-
-    /// The same in places among its events.
-    fn own_order(&self, alloc: Global, events: &[Event]) -> Result<Option<Vec<Placed>>, OutOfMemory>
-        requires right { IsRightChain self.now.chain (events_at events.now self.now.picks.items) }
-        requires all { length (events_at events.now self.now.picks.items) ≡ length self.now.picks.items }
-        ensures legal { IfOk result (λ found. IfSome found (λ order. IsLegalOrderAs (kind_in self.now.chain) (events_at events.now self.now.picks.items) order.items)) }
-        ensures told { IfOk result (λ found. IsAlive self.now → found ≢ None) }
-    {
-        if !self.is_alive() {
-            let kind = self.chain.kind();
-            return Ok(finds_order(alloc, kind, events, &self.picks));
-        }
-        self.chain.order(alloc)
-    }
-
-    /// Whether its chain took all its events in, and is alive.
-    fn is_alive(&self) -> bool
-        ensures alive { IsTrue result → IsAlive self.now }
-        ensures not_alive { IsAlive self.now → IsTrue result }
-    {
-        match self.chain.end() {
-            End::Alive => self.chain.ready() == self.picks.len(),
-            _ => false,
-        }
+        let Some(mut order) = self.chain.order(alloc, self.picks.len())? else {
+            unreachable!()
+        };
+        rename(&mut order, &self.picks);
+        Ok(order)
     }
 
     /// Nothing is known of an object of the kind.
@@ -207,7 +142,7 @@ impl Object {
         ensures count { self.new.count ≡ self.old.count }
         ensures kind { kind_in self.new.chain ≡ kind_in self.old.chain }
         ensures right { (h edited : List EventOf) → take self.old.count h ≡ take self.old.count edited → IsRightChain self.old.chain h → IsRightChain self.new.chain edited }
-        ensures same { ready_count self.old.chain ≤ self.old.count → self.new.chain ≡ self.old.chain }
+        ensures same { ready_count self.old.chain ≤ self.old.count → (other : ℕ) → ready_under other self.new.chain ≡ ready_under other self.old.chain }
         ensures mark { self.new.mark ≡ touched self.old.count self.old.count self.old.mark }
     {
         self.chain.cut(self.count);
@@ -219,7 +154,7 @@ impl Object {
         ensures { self.new ≡ settled_object self.old }
     {
         if 0 < self.picks.len() {
-            self.mark = Mark::settled(self.chain.end());
+            self.mark = Mark::answered(self.chain.end(), self.chain.ready(), self.picks.len());
         }
     }
 }

@@ -9,7 +9,8 @@ ghost use Rattle.lin_orders.specs.Parts.{part};
 ghost use Rattle.lin_session.specs.Objects.{AreRight, split_in};
 ghost use Rattle.lin_session.specs.inner.Objects.{marks_in};
 ghost use Rattle.lin_session.specs.inner.Costs.{AreJudged};
-ghost use Rattle.lin_session.specs.Marks.{AreMarked};
+ghost use Rattle.lin_session.specs.inner.Judgements.{IsOverFor};
+ghost use Rattle.lin_session.specs.Marks.{AreMarked, IsMarkedOver};
 ghost use Rattle.lin_session.specs.Work.{AreSameMarks, AreTouched, raised, rounded, touched_at, unasked};
 
 use crate::answers::Scope;
@@ -190,12 +191,15 @@ impl Objects {
     /// All objects of the scope that have an event were judged, and what was asked of them is answered.
     pub(crate) fn mark(&mut self, scope: Scope)
         ensures split { split_in self.new ≡ split_in self.old }
-        ensures right { (kinds : ℤ → KindOf) (budget : ℕ) (h : List EventOf) → split_in self.old ≡ length h → AreRight self.old kinds budget h → AreJudged kinds budget h self.old scope
+        ensures right { (kinds : ℤ → KindOf) (budget : ℕ) (h : List EventOf) → split_in self.old ≡ length h → AreRight self.old kinds budget h → AreJudged budget self.old scope
             → AreRight self.new kinds budget h }
-        ensures marks { (kinds : ℤ → KindOf) (budget : ℕ) (h : List EventOf) → split_in self.old ≡ length h → AreRight self.old kinds budget h → AreJudged kinds budget h self.old scope
+        ensures marks { (kinds : ℤ → KindOf) (budget : ℕ) (h : List EventOf) → split_in self.old ≡ length h → AreRight self.old kinds budget h → AreJudged budget self.old scope
             → AreMarked kinds budget h scope (marks_in self.old) (marks_in self.new) }
+        ensures told { (kinds : ℤ → KindOf) (budget : ℕ) (h : List EventOf) → split_in self.old ≡ length h → AreRight self.old kinds budget h → AreJudged budget self.old scope
+            → (at : ℕ) → IsOverFor self.old scope at → IsMarkedOver h scope (marks_in self.new) at }
     {
         positions_spell_parts();
+        parts_of_prefixes();
         match scope {
             Scope::Object(key) => {
                 if let Some(i) = self.find(key) {

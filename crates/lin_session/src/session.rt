@@ -1,5 +1,5 @@
 //! A history that is edited, with what was found of it kept up to date.
-ghost use Rattle.std.specs.Prelude.{◌≡◌, ◌≢◌, ◌↔◌, ◌<◌, ◌≤◌, ◌⊎◌, ◌+◌, ◌-◌, ◌∷◌, ◌++◌, [], ℕ, ℤ, true, false, Contains, Err, None, Some, IfOk, IfErr, IfSome, IfNone, IsOk, OnOk, OnErr, length, slice_get, slice_set, remove, take, if◌then◌else◌};
+ghost use Rattle.std.specs.Prelude.{◌≡◌, ◌≢◌, ◌↔◌, ◌<◌, ◌≤◌, ◌⊎◌, ◌+◌, ◌-◌, ◌∷◌, ◌++◌, [], ℕ, ℤ, true, false, Contains, Err, None, Ok, Some, IfOk, IfErr, IfSome, IfNone, IsOk, OnOk, OnErr, length, slice_get, slice_set, remove, take, if◌then◌else◌};
 ghost use Rattle.lin_events.specs.WellFormed.{IsWellFormed};
 ghost use Rattle.lin_objects.specs.declared.kinds.Kind.{Kind as KindOf};
 ghost use Rattle.lin_objects.specs.Kinds.{functions_of, is_named, kind_of, named_count, same_for_all, with_kind};
@@ -10,8 +10,7 @@ ghost use Rattle.lin_session.specs.inner.Objects.{marks_in};
 ghost use Rattle.lin_orders.specs.Orders.{is_of_key};
 ghost use Rattle.lin_orders.specs.Parts.{part};
 ghost use Rattle.lin_chain.specs.Ends.{IsEndOf};
-ghost use Rattle.lin_session.specs.inner.Judgements.{IsOrderFor};
-ghost use Rattle.lin_session.specs.Marks.{AreMarked, IsNothingDue, IsWithoutOrder};
+ghost use Rattle.lin_session.specs.Marks.{AreMarked, IsMarkedOver, IsNothingDue};
 ghost use Rattle.lin_session.specs.Refuting.{IsRefuted, IsUnrefuted};
 ghost use Rattle.lin_session.specs.Keys.{AreKeys, Occurs};
 ghost use Rattle.lin_session.specs.Work.{AreSameMarks, anew, cost_in, low_after, mark_after, mark_of, touched_at, truncated, unasked};
@@ -25,7 +24,6 @@ use indexmap::IndexSet;
 use lin_chain::{End, RefuteFault};
 use lin_events::{Event, Meter, OutOfMemory, Shape};
 use lin_objects::{Kind, Kinds, KindsFault};
-use lin_orders::Placed;
 use lin_wellformed::Scan;
 use std::alloc::Global;
 use std::marker::Model;
@@ -170,13 +168,14 @@ impl Session {
 
     /// Whether the present history is linearizable, for the scope.
     ///
-    /// An event of the scope's objects is a step, unless it stands as it was found. Where nothing changed since a question
-    /// of the scope, and there is no order to be made, no memory is taken.
+    /// An event of the scope's objects that is looked at anew is a step: those behind what stands as it was found; and where at least half
+    /// of an object's events do, a search may look at each six times more. What no edit touched since a question takes no step, no try and
+    /// no memory, whatever was answered, and time linear in the number of objects of the scope.
     ///
-    /// `OutOfMemory` is answered only where memory was refused; then the next question is answered as if this one had not been
-    /// asked.
-    pub fn ask(&mut self, alloc: Global, scope: Scope) -> Result<Answer, OutOfMemory>
-        ensures answer { IfOk result (IsAnswer self.old.present scope) }
+    /// `OutOfMemory` is answered only where memory was refused; then the next question is answered as if this one had not been asked.
+    pub fn ask(&mut self, alloc: Global, scope: Scope) -> Result<Verdict, OutOfMemory>
+        ensures verdict { IfOk result (IsVerdict self.old.present scope) }
+        ensures told { (at : ℕ) → result ≡ Ok (Verdict.Undecided at) → IsMarkedOver self.old.present.history scope (mark_of self.new.marks) at }
         ensures present { self.new.present ≡ self.old.present }
         ensures settled { OnOk result (self.new.low ≡ None) }
         ensures unsettled { OnErr result (self.new.low ≡ self.old.low) }
@@ -186,7 +185,8 @@ impl Session {
         ensures unmarked { OnErr result (AreSameMarks (mark_of self.old.marks) (mark_of self.new.marks)) }
         ensures ill_formed { (IsWellFormed (functions_of (kinds_in self.old.present)) self.old.present.history → ⊥) → AreSameMarks (mark_of self.old.marks) (mark_of self.new.marks) }
         ensures steps { self.new.meter.steps ≤ self.old.meter.steps + cost_in (mark_of self.old.marks) self.old.present.history scope }
-        ensures ready { self.old.low ≡ None → IsNothingDue self.old.present.history scope (mark_of self.old.marks) → IsWithoutOrder self.old.present scope (mark_of self.old.marks) → IsOk result }
+        ensures idle { self.old.low ≡ None → IsNothingDue self.old.present.history scope (mark_of self.old.marks) → (self.new.meter.steps ≡ self.old.meter.steps) × (self.new.meter.tries ≡ self.old.meter.tries) }
+        ensures ready { self.old.low ≡ None → IsNothingDue self.old.present.history scope (mark_of self.old.marks) → IsOk result }
     {
         match self
             .scan
@@ -198,140 +198,56 @@ impl Session {
                     kinds: &self.kinds,
                     budget: self.budget,
                 };
-                let answer = self.objects.ask(alloc, scope, &present, &mut self.meter)?;
+                let found = self.objects.judge(alloc, scope, &present, &mut self.meter)?;
                 self.objects.mark(scope);
                 self.low = None;
-                Ok(answer)
+                Ok(found)
+            }
+            Shape::Bad { at, cause } => {
+                self.low = None;
+                Ok(Verdict::IllFormed { at, cause })
+            }
+        }
+    }
+
+    /// As `ask`, with a legal order for a yes: the only memory that is taken where no edit touched anything.
+    pub fn order(&mut self, alloc: Global, scope: Scope) -> Result<Answer, OutOfMemory>
+        ensures answer { IfOk result (IsAnswer self.old.present scope) }
+        ensures told { (at : ℕ) → result ≡ Ok (Answer.Undecided at) → IsMarkedOver self.old.present.history scope (mark_of self.new.marks) at }
+        ensures present { self.new.present ≡ self.old.present }
+        ensures settled { OnOk result (self.new.low ≡ None) }
+        ensures unsettled { OnErr result (self.new.low ≡ self.old.low) }
+        ensures scans { self.new.meter.scans ≤ self.old.meter.scans + anew self.old.low (length self.old.present.history) }
+        ensures known { self.old.low ≡ None → (IsWellFormed (functions_of (kinds_in self.old.present)) self.old.present.history → ⊥) → IsOk result }
+        ensures marked { OnOk result (IsWellFormed (functions_of (kinds_in self.old.present)) self.old.present.history → AreMarked (kinds_in self.old.present) self.old.present.budget self.old.present.history scope (mark_of self.old.marks) (mark_of self.new.marks)) }
+        ensures unmarked { OnErr result (AreSameMarks (mark_of self.old.marks) (mark_of self.new.marks)) }
+        ensures ill_formed { (IsWellFormed (functions_of (kinds_in self.old.present)) self.old.present.history → ⊥) → AreSameMarks (mark_of self.old.marks) (mark_of self.new.marks) }
+        ensures steps { self.new.meter.steps ≤ self.old.meter.steps + cost_in (mark_of self.old.marks) self.old.present.history scope }
+        ensures idle { self.old.low ≡ None → IsNothingDue self.old.present.history scope (mark_of self.old.marks) → (self.new.meter.steps ≡ self.old.meter.steps) × (self.new.meter.tries ≡ self.old.meter.tries) }
+        ensures ready { self.old.low ≡ None → IsNothingDue self.old.present.history scope (mark_of self.old.marks) → (IsVerdict self.old.present scope Verdict.Yes → ⊥) → IsOk result }
+    {
+        match self
+            .scan
+            .settle(&self.events, &self.kinds, &mut self.meter)?
+        {
+            Shape::Good => {
+                let present = Present {
+                    history: &self.events,
+                    kinds: &self.kinds,
+                    budget: self.budget,
+                };
+                let found = self
+                    .objects
+                    .answer(alloc, scope, &present, &mut self.meter)?;
+                self.objects.mark(scope);
+                self.low = None;
+                Ok(found)
             }
             Shape::Bad { at, cause } => {
                 self.low = None;
                 Ok(Answer::IllFormed { at, cause })
             }
         }
-    }
-
-    /// As `ask`, but without making an order: where nothing changed since a question of the scope, no memory is taken, and
-    /// the time is linear in the number of objects of the scope.
-    ///
-    /// But where the verdict would be undecided, and the budget isn't so small that all configurations are counted, a legal order
-    /// of each object that is over is looked for, each time. If one is found, the object is a yes, though `ask` and `refute` say undecided.
-    pub fn judge(&mut self, alloc: Global, scope: Scope) -> Result<Verdict, OutOfMemory>
-        ensures verdict { IfOk result (IsVerdict self.old.present scope) }
-        ensures present { self.new.present ≡ self.old.present }
-        ensures settled { OnOk result (self.new.low ≡ None) }
-        ensures unsettled { OnErr result (self.new.low ≡ self.old.low) }
-        ensures scans { self.new.meter.scans ≤ self.old.meter.scans + anew self.old.low (length self.old.present.history) }
-        ensures known { self.old.low ≡ None → (IsWellFormed (functions_of (kinds_in self.old.present)) self.old.present.history → ⊥) → IsOk result }
-        ensures marked { OnOk result (IsWellFormed (functions_of (kinds_in self.old.present)) self.old.present.history → AreMarked (kinds_in self.old.present) self.old.present.budget self.old.present.history scope (mark_of self.old.marks) (mark_of self.new.marks)) }
-        ensures unmarked { OnErr result (AreSameMarks (mark_of self.old.marks) (mark_of self.new.marks)) }
-        ensures ill_formed { (IsWellFormed (functions_of (kinds_in self.old.present)) self.old.present.history → ⊥) → AreSameMarks (mark_of self.old.marks) (mark_of self.new.marks) }
-        ensures steps { self.new.meter.steps ≤ self.old.meter.steps + cost_in (mark_of self.old.marks) self.old.present.history scope }
-        ensures ready { self.old.low ≡ None → IsNothingDue self.old.present.history scope (mark_of self.old.marks) → IsOk result }
-    {
-        match self
-            .scan
-            .settle(&self.events, &self.kinds, &mut self.meter)?
-        {
-            Shape::Good => {
-                let present = Present {
-                    history: &self.events,
-                    kinds: &self.kinds,
-                    budget: self.budget,
-                };
-                let verdict = self.objects.judge(alloc, scope, &present, &mut self.meter)?;
-                let reconsidered = self.objects.reconsidered(alloc, scope, &present, verdict);
-                self.objects.mark(scope);
-                self.low = None;
-                Ok(reconsidered)
-            }
-            Shape::Bad { at, cause } => {
-                self.low = None;
-                Ok(Verdict::IllFormed { at, cause })
-            }
-        }
-    }
-
-    /// As `judge`, but of queues and sets a legal order is looked for first, and operations that conflict, unless their chains come to
-    /// the end after few tries: so many as the patience, for each event that a chain has still to take in, and for 1,024 more. Where these
-    /// searches tell of all objects of the scope, the chains stay where they came to, and nothing is marked. So the next question
-    /// may cost what this one did. Where the patience is 0, as for a question that is asked once, no call is tried before the searches.
-    pub fn decide(
-        &mut self,
-        alloc: Global,
-        scope: Scope,
-        patience: u64,
-    ) -> Result<Verdict, OutOfMemory>
-        ensures verdict { IfOk result (IsVerdict self.old.present scope) }
-        ensures present { self.new.present ≡ self.old.present }
-        ensures settled { OnOk result (self.new.low ≡ None) }
-        ensures unsettled { OnErr result (self.new.low ≡ self.old.low) }
-        ensures scans { self.new.meter.scans ≤ self.old.meter.scans + anew self.old.low (length self.old.present.history) }
-        ensures marked { OnOk result (AreSameMarks (mark_of self.old.marks) (mark_of self.new.marks) ⊎ (IsWellFormed (functions_of (kinds_in self.old.present)) self.old.present.history → AreMarked (kinds_in self.old.present) self.old.present.budget self.old.present.history scope (mark_of self.old.marks) (mark_of self.new.marks))) }
-        ensures unmarked { OnErr result (AreSameMarks (mark_of self.old.marks) (mark_of self.new.marks)) }
-        ensures steps { self.new.meter.steps ≤ self.old.meter.steps + cost_in (mark_of self.old.marks) self.old.present.history scope }
-        ensures known { self.old.low ≡ None → (IsWellFormed (functions_of (kinds_in self.old.present)) self.old.present.history → ⊥) → IsOk result }
-        ensures ready { self.old.low ≡ None → IsNothingDue self.old.present.history scope (mark_of self.old.marks) → IsOk result }
-    {
-        match self
-            .scan
-            .settle(&self.events, &self.kinds, &mut self.meter)?
-        {
-            Shape::Good => {
-                let present = Present {
-                    history: &self.events,
-                    kinds: &self.kinds,
-                    budget: self.budget,
-                };
-                let verdict = self
-                    .objects
-                    .decide(alloc, scope, patience, &present, &mut self.meter)?;
-                self.low = None;
-                Ok(verdict)
-            }
-            Shape::Bad { at, cause } => {
-                self.low = None;
-                Ok(Verdict::IllFormed { at, cause })
-            }
-        }
-    }
-
-    /// As `ask`, but with the verdict of `decide`, and for a yes with the order that a chain has, or that is found. So there may be one where
-    /// `ask` is undecided.
-    pub fn order(
-        &mut self,
-        alloc: Global,
-        scope: Scope,
-        patience: u64,
-    ) -> Result<Answer, OutOfMemory>
-        ensures answer { IfOk result (IsAnswer self.old.present scope) }
-        ensures present { self.new.present ≡ self.old.present }
-        ensures settled { OnOk result (self.new.low ≡ None) }
-        ensures low { (self.new.low ≡ self.old.low) ⊎ (self.new.low ≡ None) }
-        ensures scans { self.new.meter.scans ≤ self.old.meter.scans + anew self.old.low (length self.old.present.history) }
-        ensures marked { AreSameMarks (mark_of self.old.marks) (mark_of self.new.marks) ⊎ (IsWellFormed (functions_of (kinds_in self.old.present)) self.old.present.history → AreMarked (kinds_in self.old.present) self.old.present.budget self.old.present.history scope (mark_of self.old.marks) (mark_of self.new.marks)) }
-        ensures steps { self.new.meter.steps ≤ self.old.meter.steps + cost_in (mark_of self.old.marks) self.old.present.history scope }
-        ensures known { self.old.low ≡ None → (IsWellFormed (functions_of (kinds_in self.old.present)) self.old.present.history → ⊥) → IsOk result }
-        ensures ready { self.old.low ≡ None → IsNothingDue self.old.present.history scope (mark_of self.old.marks) → (IsVerdict self.old.present scope Verdict.Yes → ⊥) → IsOk result }
-    {
-        match self.decide(alloc, scope, patience)? {
-            Verdict::Yes => match self.found_order(alloc, scope)? {
-                Some(order) => Ok(Answer::Yes(order)),
-                // One was found for the verdict, so memory was refused.
-                None => Err(OutOfMemory),
-            },
-            Verdict::No { prefix } => Ok(Answer::No { prefix }),
-            Verdict::Undecided { at } => Ok(Answer::Undecided { at }),
-            Verdict::IllFormed { at, cause } => Ok(Answer::IllFormed { at, cause }),
-        }
-    }
-
-    /// A legal order for the scope, if chains have one or searches find one. All events are scanned, and are well-formed.
-    fn found_order(&self, alloc: Global, scope: Scope) -> Result<Option<Vec<Placed>>, OutOfMemory>
-        requires settled { self.now.low ≡ None }
-        requires well_formed { IsWellFormed (functions_of (kinds_in self.now.present)) self.now.present.history }
-        ensures { IfOk result (λ found. IfSome found (λ order. IsOrderFor (kinds_in self.now.present) self.now.present.history scope order.items)) }
-    {
-        self.objects.order(alloc, scope, &self.events, &self.kinds)
     }
 
     /// A refutation of the key's object, or its answer where that isn't a no.
@@ -350,6 +266,7 @@ impl Session {
         ensures unmarked { OnErr result (AreSameMarks (mark_of self.old.marks) (mark_of self.new.marks)) }
         ensures ill_formed { (IsWellFormed (functions_of (kinds_in self.old.present)) self.old.present.history → ⊥) → AreSameMarks (mark_of self.old.marks) (mark_of self.new.marks) }
         ensures steps { self.new.meter.steps ≤ self.old.meter.steps + cost_in (mark_of self.old.marks) self.old.present.history (Scope.Object key) }
+        ensures idle { self.old.low ≡ None → IsNothingDue self.old.present.history (Scope.Object key) (mark_of self.old.marks) → (self.new.meter.steps ≡ self.old.meter.steps) × (self.new.meter.tries ≡ self.old.meter.tries) }
     {
         let Ok(shape) = self.scan.settle(&self.events, &self.kinds, &mut self.meter) else {
             return Err(RefuteFault::OutOfMemory);

@@ -99,9 +99,6 @@ fn answer_question(
 ) -> Option<()> {
     match command {
         "ask" => questions::ask(alloc, board, rest, out),
-        "decide" => questions::decide(alloc, board, rest, out),
-        "is-over" => questions::is_over(alloc, board, rest, out),
-        "judge" => questions::judge(alloc, board, rest, out),
         "order" => questions::order(alloc, board, rest, out),
         "refute" => questions::refute(alloc, board, rest, out),
         _ => None,

@@ -3,48 +3,19 @@ use crate::board::Board;
 use crate::shown::put_verdict;
 use crate::words;
 use lin_order::{Refutation, check_refutation};
-use lin_session::{Refuted, Scope, Verdict};
+use lin_session::{Refuted, Scope};
 use std::alloc::Global;
 
-/// `ask SCOPE`: what is answered. The order of a yes is kept.
+/// `ask SCOPE`: what is answered.
 pub fn ask(alloc: Global, board: &mut Board, rest: &str, out: &mut String) -> Option<()> {
-    let answer = board.session.ask(alloc, words::scope(rest)?).ok()?;
-    put_verdict(out, board.keep(answer))
-}
-
-/// `is-over SCOPE`: whether what is answered is undecided.
-pub fn is_over(alloc: Global, board: &mut Board, rest: &str, out: &mut String) -> Option<()> {
-    let answer = board.session.ask(alloc, words::scope(rest)?).ok()?;
-    let is_over = matches!(board.keep(answer), Verdict::Undecided { at: _ });
-    write!(out, "over: {is_over}").ok()
-}
-
-/// `judge SCOPE`: what is judged.
-pub fn judge(alloc: Global, board: &mut Board, rest: &str, out: &mut String) -> Option<()> {
-    let verdict = board.session.judge(alloc, words::scope(rest)?).ok()?;
+    let verdict = board.session.ask(alloc, words::scope(rest)?).ok()?;
     put_verdict(out, verdict)
 }
 
-/// A scope, and how many tries there are for each event.
-fn patient(text: &str) -> Option<(Scope, u64)> {
-    let (word, patience) = words::first_word(text);
-    let scope = words::scope(word)?;
-    Some((scope, patience.parse::<u64>().ok()?))
-}
-
-/// `decide SCOPE PATIENCE`: what is decided with so many tries for each event.
-pub fn decide(alloc: Global, board: &mut Board, rest: &str, out: &mut String) -> Option<()> {
-    let (scope, patience) = patient(rest)?;
-    let verdict = board.session.decide(alloc, scope, patience).ok()?;
-    put_verdict(out, verdict)
-}
-
-/// `order SCOPE PATIENCE`: whether an order is told, with so many tries for each event. It is kept.
+/// `order SCOPE`: what is answered. The order of a yes is kept.
 pub fn order(alloc: Global, board: &mut Board, rest: &str, out: &mut String) -> Option<()> {
-    let (scope, patience) = patient(rest)?;
-    let answer = board.session.order(alloc, scope, patience).ok()?;
-    let is_told = board.keep(answer) == Verdict::Yes;
-    write!(out, "told: {is_told}").ok()
+    let answer = board.session.order(alloc, words::scope(rest)?).ok()?;
+    put_verdict(out, board.keep(answer))
 }
 
 /// The prefix that is refuted, and whether the sets show it of the object's events there.

@@ -1,47 +1,48 @@
 -- What it costs to judge objects whose events are told apart.
-use Rattle.std.specs.Prelude.{◌≡◌, ◌+◌, ◌-◌, ◌≤◌, ℕ, ℤ, List, [], ◌∷◌, All, Some, length, slice_get}
-use Rattle.lin_events.specs.declared.events.Event.{Event}
-use Rattle.lin_objects.specs.declared.kinds.Kind.{Kind}
-use Rattle.lin_orders.specs.Parts.{part}
-use Rattle.lin_chain.specs.Chains.{end_in, end_under, ready_under}
-use Rattle.lin_chain.specs.Ends.{IsEndOf}
+use Rattle.std.specs.Prelude.{◌≡◌, ◌+◌, ◌-◌, ◌≤◌, ◌⊎◌, ℕ, ℤ, List, [], ◌∷◌, All, Option, None, Some, length, slice_get}
+use Rattle.lin_chain.specs.Chains.{IsAnswered, end_in, end_under, ready_count, ready_under}
 use Rattle.lin_session.specs.declared.answers.Scope.{Scope}
 use Rattle.lin_session.specs.declared.answers.Scope.TheVariants as scope
 use Rattle.lin_session.specs.declared.kept.Object.{Object}
 use Rattle.lin_session.specs.declared.kept.Objects.{Objects}
 use Rattle.lin_session.specs.Marks.{IsOf}
+use Rattle.lin_session.specs.Work.{searched}
 
--- how many of the object's events its chain has still to take in
+-- how many steps it takes to settle the object: none where nothing is due; else one for each event that its chain has still to take in, and those of a
+-- search, if one may be made
 abbrev pub cost_of : ℕ → Object → ℕ
-cost_of budget object = length object.picks.items - ready_under budget object.chain
+cost_of budget object = by object.mark.due
+  where
+    by : Option ℕ → ℕ
+    by None = 0
+    by (Some first) = length object.picks.items - ready_under budget object.chain + searched (Some first) (length object.picks.items)
 
 -- all of the objects together
 abbrev pub cost_of_all : ℕ → List Object → ℕ
 cost_of_all budget [] = 0
 cost_of_all budget (object ∷ objects) = cost_of budget object + cost_of_all budget objects
 
--- the object's chain took in all its events
+-- nothing is due of the object, or it has no event
 abbrev pub IsSettled : ℕ → Object → Type 0
-IsSettled budget object = ready_under budget object.chain ≡ length object.picks.items
+IsSettled budget object = (object.mark.due ≡ None) ⊎ (length object.picks.items ≡ 0)
 
 -- to judge the objects of the scope takes at most so many steps
 abbrev pub IsCost : ℕ → Objects → Scope → ℕ → Type 0
 IsCost budget objects (scope.Object key) n = (i : ℕ) (object : Object) → slice_get objects.keys.keys i ≡ Some key → slice_get objects.objects.items i ≡ Some object → cost_of budget object ≤ n
 IsCost budget objects scope.Whole n = cost_of_all budget objects.objects.items ≤ n
 
--- their chains took in all events
+-- nothing is due of them
 abbrev pub AreSettled : ℕ → Objects → Scope → Type 0
 AreSettled budget objects (scope.Object key) = (i : ℕ) (object : Object) → slice_get objects.keys.keys i ≡ Some key → slice_get objects.objects.items i ≡ Some object → IsSettled budget object
 AreSettled budget objects scope.Whole = All (IsSettled budget) objects.objects.items
 
--- the object was judged: its chain took in all its events, and tells how they end
-pub record IsJudged (kinds : ℤ → Kind) (budget : ℕ) (h : List Event) (key : ℤ) (object : Object) : Type 0 where
-  pub settled : IsSettled budget object
+-- the object was judged: it is known how all its events end, under this budget
+pub record IsJudged (budget : ℕ) (object : Object) : Type 0 where
+  pub known : IsAnswered object.chain (length object.picks.items)
   pub stands : end_under budget object.chain ≡ end_in object.chain
+  pub taken : ready_under budget object.chain ≡ ready_count object.chain
   pub counted : object.count ≡ length object.picks.items
-  pub ended : IsEndOf (kinds key) budget (part key h) (end_in object.chain)
 
 -- those of the scope were
-abbrev pub AreJudged : (ℤ → Kind) → ℕ → List Event → Objects → Scope → Type 0
-AreJudged kinds budget h objects scope = (i : ℕ) (key : ℤ) (object : Object) → IsOf scope key → slice_get objects.keys.keys i ≡ Some key → slice_get objects.objects.items i ≡ Some object
-    → IsJudged kinds budget h key object
+abbrev pub AreJudged : ℕ → Objects → Scope → Type 0
+AreJudged budget objects scope = (i : ℕ) (key : ℤ) (object : Object) → IsOf scope key → slice_get objects.keys.keys i ≡ Some key → slice_get objects.objects.items i ≡ Some object → IsJudged budget object

@@ -4,8 +4,8 @@ use Rattle.lin_events.specs.declared.events.Event.{Event}
 use Rattle.lin_objects.specs.declared.kinds.Kind.{Kind}
 use Rattle.lin_orders.specs.Linearizable.{IsLegalOrder, IsLegalOrderFor, IsLinearizableFor}
 use Rattle.lin_orders.specs.declared.placed.Placed.{Placed}
-use Rattle.lin_chain.specs.declared.chain.End.TheVariants.{Alive, Dead}
-use Rattle.lin_chain.specs.Chains.{end_in, ready_count}
+use Rattle.lin_chain.specs.declared.chain.End.TheVariants.{Alive, Dead, Over}
+use Rattle.lin_chain.specs.Chains.{IsAnswered, end_in, told_in}
 use Rattle.lin_session.specs.declared.answers.Scope.{Scope}
 use Rattle.lin_session.specs.declared.answers.Scope.TheVariants as scope
 use Rattle.lin_session.specs.declared.answers.Verdict.{Verdict}
@@ -13,6 +13,7 @@ use Rattle.lin_session.specs.declared.answers.Verdict.TheVariants.{Yes, No, Unde
 use Rattle.lin_session.specs.declared.kept.Object.{Object}
 use Rattle.lin_session.specs.declared.kept.Objects.{Objects}
 use Rattle.lin_session.specs.Answers.{IsShortestWithout, IsOverAt}
+use Rattle.lin_session.specs.Marks.{IsOf}
 
 -- what was found of one object: the prefix that fails it, or the place where it is over, or that it is linearizable
 abbrev pub IsFinding : (ℤ → Kind) → ℕ → List Event → ℤ → Option ℕ → Option ℕ → Type 0
@@ -32,16 +33,27 @@ pub record AreFound (kinds : ℤ → Kind) (budget : ℕ) (h : List Event) (keys
   pub stands_over : (at : ℕ) → over ≡ Some at → (key : ℤ) × IsOverAt kinds budget h key at
   pub each : (key : ℤ) → Contains keys key → IsCovered kinds budget h failing over key
 
--- the object's chain took in all its events, and is alive
+-- it is known that all events of the object have a legal order
 pub record IsAlive (object : Object) : Type 0 where
-  pub alive : end_in object.chain ≡ Alive
-  pub all : ready_count object.chain ≡ length object.picks.items
+  pub alive : told_in object.chain (length object.picks.items) ≡ Alive
+  pub known : IsAnswered object.chain (length object.picks.items)
 
--- the object's chain is dead at the last event of a prefix
+-- it is told to be dead at the last event of a prefix
 pub record IsDead (n : ℕ) (object : Object) : Type 0 where
   pub at : ℕ
-  pub dead : end_in object.chain ≡ Dead at
+  pub dead : told_in object.chain (length object.picks.items) ≡ Dead at
   pub last : n ≡ slice_index object.picks.items at + 1
+
+-- its frontiers stand over at the event at the position
+pub record StandsOver (at : ℕ) (object : Object) : Type 0 where
+  pub place : ℕ
+  pub over : end_in object.chain ≡ Over place
+  pub inside : place < length object.picks.items
+  pub there : at ≡ slice_index object.picks.items place
+
+-- those of an object of the scope do
+abbrev pub IsOverFor : Objects → Scope → ℕ → Type 0
+IsOverFor objects scope at = (i : ℕ) × (key : ℤ) × (object : Object) × IsOf scope key × (slice_get objects.keys.keys i ≡ Some key) × (slice_get objects.objects.items i ≡ Some object) × StandsOver at object
 
 -- the object of the key is listed, and dead at the last event of a prefix
 abbrev pub IsDeadFor : Objects → Scope → ℕ → Type 0

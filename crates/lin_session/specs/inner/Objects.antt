@@ -1,14 +1,14 @@
 -- What is found of objects that are kept, and what is left of their marks.
 use Rattle.std.specs.Prelude.{Option, None, ◌+◌, slice_index, ◌≡◌, ◌<◌, ℕ, ℤ, List, Some, length, nat_lt, if◌then◌else◌}
 use Rattle.lin_orders.specs.Parts.{renamed}
-use Rattle.lin_chain.specs.Chains.{end_in}
+use Rattle.lin_chain.specs.Chains.{end_in, ready_count}
 use Rattle.lin_chain.specs.declared.chain.End.{End}
 use Rattle.lin_chain.specs.declared.chain.End.TheVariants.{Alive, Dead, Over}
 use Rattle.lin_orders.specs.declared.placed.Placed.{Placed}
 use Rattle.lin_session.specs.declared.kept.Object.{Object}
 use Rattle.lin_session.specs.declared.kept.Objects.{Objects}
 use Rattle.lin_session.specs.declared.marks.Mark.{Mark}
-use Rattle.lin_session.specs.Work.{mark_of, raised, settled_at}
+use Rattle.lin_session.specs.Work.{answered_at, mark_of, raised}
 use Rattle.lin_session.specs.Objects.{marked_keys}
 
 -- the mark of the key's object
@@ -21,7 +21,9 @@ raised_object object = record object { mark = raised object.mark }
 
 -- the object after a question, if it has an event
 abbrev pub settled_object : Object → Object
-settled_object object = record object { mark = if nat_lt 0 (length object.picks.items) then settled_at (end_in object.chain) else object.mark }
+settled_object object = record object {
+  mark = if nat_lt 0 (length object.picks.items) then answered_at (end_in object.chain) (ready_count object.chain) (length object.picks.items) else object.mark;
+}
 
 -- the place that an end tells, if it tells one, is among so many
 abbrev pub IsPlaceIn : ℕ → End → Type 0

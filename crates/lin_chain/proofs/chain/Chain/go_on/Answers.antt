@@ -1,6 +1,4 @@
-use Rattle.std.proofs.Common.{◌≡◌, ◌∙◌, arith, inl, inr, length, subst, sym, take}
-use Rattle.lin_frontier.specs.Frontiers.{IsPending}
-use Rattle.lin_chain.proofs.Counting.{not_less, ways_rise}
+use Rattle.std.proofs.Common.{◌≡◌, ◌∙◌, arith, length, sym}
 use Rattle.lin_chain.specs.declared.chain.End.TheVariants.{Alive}
 use Rattle.lin_orders.specs.Parts.{events_at}
 use Rattle.lin_chain.specs.Chains.{IsRight, ready_count}
@@ -35,6 +33,10 @@ loop-meter-preserved c =
       over = λ at is. (c.in_ok-take_in.ensures.over, omega (arith, was.grown, known, c.take_in.ensures.known));
       steps = omega (arith, was.steps, known, ready, c.take_in.ensures.steps);
       scans = c.take_in.ensures.scans ∙ was.scans;
+      kept = c.take_in.ensures.kept ∙ was.kept;
+      idle = λ all.
+          let len = length-events_at c.args.events.now c.args.picks.now c.requires.inside in
+          absurd (omega (arith, all, len, known, was.grown, c.if-self-picks.true));
     }
 
 pub returns-in_err-take_in-clause-right : goal.returns-in_err-take_in-clause-right
@@ -59,20 +61,10 @@ returns-after-loop-meter-clause-steps c =
     let len = length-events_at c.args.events.now c.args.picks.now c.requires.inside in
     omega (arith, was.steps, was.grown, was.right.within, len)
 
-pub returns-else-is_worth-clause-worth : goal.returns-else-is_worth-clause-worth
-returns-else-is_worth-clause-worth c = λ most is alive'. inr (λ opened pending.
-    let h = events_at c.args.events.now c.args.picks.now in
-    let chain = c.loop-meter.self in
-    let known = reached_ready chain h alive' c.loop-meter.invariant.right in
-    let few = c.open.ensures h opened c.loop-meter.invariant.right.replay (subst (λ n. IsPending (take n h) opened) (sym known) pending) in
-    let stops = not_less _ _ (sym (c.if-is_worth.ensures.some most is)) in
-    let rise = ways_rise c.open.result (length opened) few in
-    omega (arith, stops, rise))
+pub returns-else-self-picks-clause-idle : goal.returns-else-self-picks-clause-idle
+returns-else-self-picks-clause-idle c = λ all.
+    c.loop-meter.invariant.idle (all ∙ sym (length-events_at c.args.events.now c.args.picks.now c.requires.inside))
 
-pub returns-else-self-picks-clause-worth : goal.returns-else-self-picks-clause-worth
-returns-else-self-picks-clause-worth c = λ most is alive'.
-    let h = events_at c.args.events.now c.args.picks.now in
-    let was = c.loop-meter.invariant in
-    let len = length-events_at c.args.events.now c.args.picks.now c.requires.inside in
-    let known = reached_ready c.loop-meter.self h alive' was.right in
-    inl (omega (arith, was.right.within, len, known, c.if-self-picks.false))
+pub returns-after-loop-meter-clause-idle : goal.returns-after-loop-meter-clause-idle
+returns-after-loop-meter-clause-idle c = λ all.
+    c.loop-meter.invariant.idle (all ∙ sym (length-events_at c.args.events.now c.args.picks.now c.requires.inside))

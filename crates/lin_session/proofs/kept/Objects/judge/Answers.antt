@@ -12,6 +12,7 @@ use Rattle.std.proofs.lemmas.Option.{slice_get_within}
 use Rattle.std.proofs.lemmas.Result.{on_ok_weaker}
 use Rattle.lin_session.specs.declared.answers.Scope.TheVariants as scope
 use Rattle.lin_session.specs.inner.Costs.{AreJudged, AreSettled, IsCost}
+use Rattle.lin_session.specs.inner.Judgements.{AreAlive, IsDeadFor, IsOverFor}
 use Rattle.lin_session.specs.inner.Objects.{marks_in}
 use Rattle.lin_session.specs.Marks.{IsNothingDue}
 use Rattle.lin_session.specs.Work.{cost_in}
@@ -65,18 +66,16 @@ returns-in_err-split-clause-right c = c.split.ensures.right c.args.present.now.b
 
 pub returns-in-Object-clause-judged : goal.returns-in-Object-clause-judged
 returns-in-Object-clause-judged c =
-    let K = kind_of c.args.present.now.kinds.now in
     let key = c.in-Object.key in
     let is_key : to_z w64 (of_z w64 key) ≡ key = to_z-of_z w64 key (search rules) in
     on_ok_weaker c.judge_object.result
-    (λ judged. subst (AreJudged K c.args.present.now.budget c.args.present.now.history.now c.judge_object.new.self) (ap scope.Object is_key ∙ sym c.in-Object.is) (judged K (c.split.ensures.right c.args.present.now.budget c.requires.right)))
+    (λ judged. subst (AreJudged c.args.present.now.budget c.judge_object.new.self) (ap scope.Object is_key ∙ sym c.in-Object.is) judged)
     c.judge_object.ensures.judged
 
 pub returns-in-Whole-clause-judged : goal.returns-in-Whole-clause-judged
 returns-in-Whole-clause-judged c =
-    let K = kind_of c.args.present.now.kinds.now in
     on_ok_weaker c.judge_whole.result
-    (λ judged. subst (AreJudged K c.args.present.now.budget c.args.present.now.history.now c.judge_whole.new.self) (sym c.in-Whole.is) (judged K (c.split.ensures.right c.args.present.now.budget c.requires.right)))
+    (λ judged. subst (AreJudged c.args.present.now.budget c.judge_whole.new.self) (sym c.in-Whole.is) judged)
     c.judge_whole.ensures.judged
 
 -- the events are told apart, so a question costs what is due
@@ -115,13 +114,37 @@ returns-in-Object-clause-steps c = let at = goal.at.returns-in-Object-clause-ste
 pub returns-in-Whole-clause-steps : goal.returns-in-Whole-clause-steps
 returns-in-Whole-clause-steps c = let at = goal.at.returns-in-Whole-clause-steps c in whole_steps at.After-judge_whole _ (cost at.In_ok-split)
 
-pub returns-in-Object-clause-left : goal.returns-in-Object-clause-left
-returns-in-Object-clause-left c = λ apart n most.
-    object_steps (goal.at.returns-in-Object-clause-left c).After-judge_object n (subst (λ o. IsCost c.args.present.now.budget o c.args.scope n) (sym (c.split.ensures.same apart)) most)
+pub returns-in-Object-clause-dead : goal.returns-in-Object-clause-dead
+returns-in-Object-clause-dead c = λ n is_no.
+    let key = c.in-Object.key in
+    let is_key : to_z w64 (of_z w64 key) ≡ key = to_z-of_z w64 key (search rules) in
+    subst (λ q. IsDeadFor c.judge_object.new.self q n) (ap scope.Object is_key ∙ sym c.in-Object.is) (c.judge_object.ensures.dead n is_no)
 
-pub returns-in-Whole-clause-left : goal.returns-in-Whole-clause-left
-returns-in-Whole-clause-left c = λ apart n most.
-    whole_steps (goal.at.returns-in-Whole-clause-left c).After-judge_whole n (subst (λ o. IsCost c.args.present.now.budget o c.args.scope n) (sym (c.split.ensures.same apart)) most)
+pub returns-in-Object-clause-alive : goal.returns-in-Object-clause-alive
+returns-in-Object-clause-alive c = λ is_yes.
+    let key = c.in-Object.key in
+    let is_key : to_z w64 (of_z w64 key) ≡ key = to_z-of_z w64 key (search rules) in
+    subst (AreAlive c.judge_object.new.self) (ap scope.Object is_key ∙ sym c.in-Object.is) (c.judge_object.ensures.alive is_yes)
+
+pub returns-in-Object-clause-over : goal.returns-in-Object-clause-over
+returns-in-Object-clause-over c = λ at is_over.
+    let key = c.in-Object.key in
+    let is_key : to_z w64 (of_z w64 key) ≡ key = to_z-of_z w64 key (search rules) in
+    subst (λ q. IsOverFor c.judge_object.new.self q at) (ap scope.Object is_key ∙ sym c.in-Object.is) (c.judge_object.ensures.over at is_over)
+
+pub returns-in-Whole-clause-over : goal.returns-in-Whole-clause-over
+returns-in-Whole-clause-over c = λ at is_over. subst (λ q. IsOverFor c.judge_whole.new.self q at) (sym c.in-Whole.is) (c.judge_whole.ensures.over at is_over)
+
+pub returns-in-Object-clause-idle : goal.returns-in-Object-clause-idle
+returns-in-Object-clause-idle c = λ apart nothing.
+    let key = c.in-Object.key in
+    let is_key : to_z w64 (of_z w64 key) ≡ key = to_z-of_z w64 key (search rules) in
+    let all = subst (AreSettled c.args.present.now.budget c.split.new.self) c.in-Object.is (settled (goal.at.returns-in-Object-clause-idle c).In_ok-split nothing) in
+    c.judge_object.ensures.rests (λ i o key_at o_at. all i o (key_at ∙ ap Some is_key) o_at)
+
+pub returns-in-Whole-clause-idle : goal.returns-in-Whole-clause-idle
+returns-in-Whole-clause-idle c = λ apart nothing.
+    c.judge_whole.ensures.rests (subst (AreSettled c.args.present.now.budget c.split.new.self) c.in-Whole.is (settled (goal.at.returns-in-Whole-clause-idle c).In_ok-split nothing))
 
 pub returns-in-Object-clause-ready : goal.returns-in-Object-clause-ready
 returns-in-Object-clause-ready c = λ apart nothing.

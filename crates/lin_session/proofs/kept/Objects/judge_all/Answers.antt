@@ -1,14 +1,14 @@
-use Rattle.std.proofs.Common.{◌≡◌, ◌<◌, inl, inr, ℤ, pos, Some, length, slice_get, get_or, take, sym, ap, subst, ◌∙◌, arith, add-one, suc}
+use Rattle.std.proofs.Common.{◌≡◌, ◌<◌, inl, inr, ◌+◌, ℕ, ℤ, pos, Some, length, slice_get, get_or, take, sym, ap, subst, ◌∙◌, arith, add-one, suc}
 use Rattle.std.proofs.lemmas.Bool.{cases_order}
 use Rattle.std.proofs.lemmas.List.{take_all}
-use Rattle.std.proofs.lemmas.Option.{slice_get-get_or, slice_get_within}
-use Rattle.lin_session.specs.inner.Judgements.{AreFound}
+use Rattle.std.proofs.lemmas.Option.{same_Some, slice_get-get_or, slice_get_within}
+use Rattle.lin_session.specs.inner.Judgements.{AreFound, StandsOver}
 use Rattle.lin_session.specs.declared.kept.Object.{Object}
 use Rattle.lin_session.specs.inner.Costs.{cost_of_all, IsSettled}
 use Rattle.lin_session.proofs.Costing.{cost-next, cost-first}
 use Rattle.lin_session.proofs.Found.{not_ok}
 use Rattle.lin_lists.specs.lemmas.Taken.{element_at, All-at}
-use Rattle.lin_session.proofs.Wholes.{AreFound-next, least_none}
+use Rattle.lin_session.proofs.Wholes.{AreFound-next, least_is, least_none}
 use Rattle.lin_session.proofs.kept.Objects.judge_all.Goals as goal
 use Rattle.lin_session.proofs.kept.Objects.judge_all.Goals.{In_ok-found, In-loop-i}
 
@@ -56,11 +56,26 @@ loop-i-preserved c =
           AreFound-next kinds c.args.budget h keys i c.loop-i.failing c.loop-i.over c.in_ok-found.found.0 c.in_ok-found.found.1 c.least_of-failing.result c.least_of-over.result key key_at
           (inv.found kinds kept fine) finding c.least_of-failing.ensures c.least_of-over.ensures;
       marks = λ x. c.judge_listed.ensures.marks x ∙ inv.marks x;
-      judged = λ kinds kept j x object below x_at object_at. elim (cases_order j i) [
-        | inl here ↦ c.in_ok-found.ensures.judged kinds x object (subst (λ k. slice_get k.keys i ≡ Some x) (sym inv.keys) (ap (slice_get keys) (sym here) ∙ x_at)) (inv.right kinds kept)
-            (ap (slice_get c.judge_listed.new.self.objects.items) (sym here) ∙ object_at)
+      over = λ at is.
+          let listed : (j : ℕ) → j < i + 1 → (o' : Object) × (slice_get c.judge_listed.new.self.objects.items j ≡ Some o') = λ j below.
+          let same = ap (λ k. length k.keys) (c.judge_listed.ensures.keys ∙ inv.keys) in
+          element_at c.judge_listed.new.self.objects.items j (omega (arith, below, within, same, c.judge_listed.new.self.aligned)) in
+          elim (least_is o c.in_ok-found.found.1 at (sym c.least_of-over.ensures ∙ is)) [
+            | inl before ↦
+                let was = inv.over at before in
+                let now = listed was.0 (omega (arith, was.2)) in
+                let there = c.judge_listed.ensures.others was.0 now.0 (λ e. omega (arith, e, was.2)) now.1 in
+                (was.0, now.0, omega (arith, was.2), now.1, subst (StandsOver at) (same_Some was.1 now.0 (sym was.3 ∙ there)) was.4)
+            | inr new ↦
+                let now = listed i (omega arith) in
+                (i, now.0, omega arith, now.1, c.in_ok-found.ensures.over at now.0 new now.1)
+          ];
+      rests = λ all. let n = next (goal.at.loop-i-preserved c).In-loop-i in
+          c.judge_listed.ensures.rests n.0 n.1 (All-at (IsSettled c.args.budget) c.args.self.now.objects.items all i n.0 n.2) ∙ inv.rests all;
+      judged = λ j object below object_at. elim (cases_order j i) [
+        | inl here ↦ c.in_ok-found.ensures.judged object (ap (slice_get c.judge_listed.new.self.objects.items) (sym here) ∙ object_at)
         | inr rest ↦ elim rest [
-          | inl before ↦ inv.judged kinds kept j x object before x_at (c.judge_listed.ensures.others j object (λ e. omega (arith, e, before)) object_at)
+          | inl before ↦ inv.judged j object before (c.judge_listed.ensures.others j object (λ e. omega (arith, e, before)) object_at)
           | inr after ↦ absurd (omega (arith, after, below))
         ]
       ];
@@ -118,9 +133,23 @@ pub returns-clause-marks : goal.returns-clause-marks
 returns-clause-marks c = c.loop-i.invariant.marks
 
 pub returns-clause-judged : goal.returns-clause-judged
-returns-clause-judged c = λ kinds kept j key object of_scope key_at object_at.
+returns-clause-judged c = λ j key object of_scope key_at object_at.
     let same = ap (λ k. length k.keys) c.loop-i.invariant.keys in
     let within = slice_get_within c.loop-i.self.objects.items j object object_at in
-    c.loop-i.invariant.judged kinds kept j key object
-    (omega (arith, within, same, c.loop-i.self.aligned, c.loop-i-test.false, c.len-i-end.ensures, c.args.self.now.objects.ok.0, c.args.self.now.aligned))
-    (subst (λ k. slice_get k.keys j ≡ Some key) c.loop-i.invariant.keys key_at) object_at
+    c.loop-i.invariant.judged j object
+    (omega (arith, within, same, c.loop-i.self.aligned, c.loop-i-test.false, c.len-i-end.ensures, c.args.self.now.objects.ok.0, c.args.self.now.aligned)) object_at
+
+pub returns-clause-over : goal.returns-clause-over
+returns-clause-over c = λ at is.
+    let was = c.loop-i.invariant.over at is in
+    let within = slice_get_within c.loop-i.self.objects.items was.0 was.1 was.3 in
+    let key = element_at c.loop-i.self.keys.keys was.0 (omega (arith, within, c.loop-i.self.aligned)) in
+    (was.0, key.0, was.1, tt, key.1, was.3, was.4)
+
+pub returns-clause-rests : goal.returns-clause-rests
+returns-clause-rests c = c.loop-i.invariant.rests
+
+pub returns-in_err-found-clause-rests : goal.returns-in_err-found-clause-rests
+returns-in_err-found-clause-rests c = λ all.
+    let n = next (goal.at.returns-in_err-found-clause-rests c).In-loop-i in
+    c.judge_listed.ensures.rests n.0 n.1 (All-at (IsSettled c.args.budget) c.args.self.now.objects.items all c.loop-i.i n.0 n.2) ∙ c.loop-i.invariant.rests all

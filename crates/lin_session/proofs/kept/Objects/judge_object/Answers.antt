@@ -1,8 +1,8 @@
-use Rattle.std.proofs.Common.{◌≡◌, ℕ, Contains, Some, [], slice_get, subst, sym, ap, ◌∙◌, arith, to_z, of_z, w64}
+use Rattle.std.proofs.Common.{◌≡◌, ℕ, Contains, Some, [], slice_get, refl, subst, sym, ap, ◌∙◌, arith, to_z, of_z, w64}
 use Rattle.std.proofs.lemmas.Int.{to_z-of_z}
 use Rattle.std.proofs.lemmas.Option.{slice_get_within}
-use Rattle.lin_session.specs.declared.answers.Verdict.TheVariants.{Yes, No}
-use Rattle.lin_session.proofs.Asking.{told_failing, verdict_told, untold}
+use Rattle.lin_session.specs.declared.answers.Verdict.TheVariants.{Undecided, Yes, No}
+use Rattle.lin_session.proofs.Asking.{told_failing, told_undecided, verdict_told, untold}
 use Rattle.lin_lists.specs.lemmas.Taken.{element_at, one_place, there_at}
 use Rattle.lin_session.proofs.Found.{not_ok}
 use Rattle.lin_session.specs.declared.kept.Object.{Object}
@@ -91,15 +91,43 @@ returns-in_err-failing-in-Some-clause-settled c = λ all.
     let o = element_at s.objects.items c.in-Some.i (omega (arith, within, s.aligned)) in
     absurd (not_ok c.judge_listed.result c.in_err-failing-in-Some.field-0.0 c.in_err-failing-in-Some.was (c.judge_listed.ensures.settled o.0 o.1 (all c.in-Some.i o.0 key_at o.1)))
 
+-- where nothing is due of the object, it rests
+listed_there : (c : In-Some) → (o : Object) × (slice_get c.args.self.now.objects.items c.in-Some.i ≡ Some o)
+listed_there c =
+    let s = c.args.self.now in
+    let within = slice_get_within s.keys.keys c.in-Some.i c.args.key (listed_at c) in
+    element_at s.objects.items c.in-Some.i (omega (arith, within, s.aligned))
+
+pub returns-in_ok-failing-in-Some-clause-rests : goal.returns-in_ok-failing-in-Some-clause-rests
+returns-in_ok-failing-in-Some-clause-rests c = λ all.
+    let b = (goal.at.returns-in_ok-failing-in-Some-clause-rests c).In-Some in
+    let o = listed_there b in
+    c.judge_listed.ensures.rests o.0 o.1 (all c.in-Some.i o.0 (listed_at b) o.1)
+
+pub returns-in_err-failing-in-Some-clause-rests : goal.returns-in_err-failing-in-Some-clause-rests
+returns-in_err-failing-in-Some-clause-rests c = λ all.
+    let b = (goal.at.returns-in_err-failing-in-Some-clause-rests c).In-Some in
+    let o = listed_there b in
+    c.judge_listed.ensures.rests o.0 o.1 (all c.in-Some.i o.0 (listed_at b) o.1)
+
 pub returns-in_ok-failing-in-Some-clause-judged : goal.returns-in_ok-failing-in-Some-clause-judged
-returns-in_ok-failing-in-Some-clause-judged c = λ kinds kept i key object same key_at object_at.
+returns-in_ok-failing-in-Some-clause-judged c = λ i key object same key_at object_at.
     let found_at = listed_at (goal.at.returns-in_ok-failing-in-Some-clause-judged c).In-Some in
     let key_now = subst (λ k. slice_get k.keys i ≡ Some key) c.judge_listed.ensures.keys key_at in
     let here = one_place c.args.self.now.keys.keys c.requires.right.1.distinct i c.in-Some.i key key_now (found_at ∙ ap Some (sym same)) in
-    c.in_ok-failing-in-Some.ensures.judged kinds key object (ap (slice_get c.args.self.now.keys.keys) (sym here) ∙ key_now) kept
-    (ap (slice_get c.judge_listed.new.self.objects.items) (sym here) ∙ object_at)
+    c.in_ok-failing-in-Some.ensures.judged object (ap (slice_get c.judge_listed.new.self.objects.items) (sym here) ∙ object_at)
 
 pub returns-in-None-clause-judged : goal.returns-in-None-clause-judged
-returns-in-None-clause-judged c = λ kinds kept i key object same key_at object_at.
+returns-in-None-clause-judged c = λ i key object same key_at object_at.
     let is_key : to_z w64 (of_z w64 c.args.key) ≡ c.args.key = to_z-of_z w64 c.args.key c.ranges.key in
     absurd (c.in-None.ensures.none (subst (Contains c.args.self.now.keys.keys) (same ∙ sym is_key) (there_at c.args.self.now.keys.keys i key key_at)))
+
+pub returns-in_ok-failing-in-Some-clause-over : goal.returns-in_ok-failing-in-Some-clause-over
+returns-in_ok-failing-in-Some-clause-over c = λ at is_over.
+    let found_at = listed_at (goal.at.returns-in_ok-failing-in-Some-clause-over c).In-Some in
+    let told : c.told.result ≡ Undecided at = cc is_over in
+    let over = told_undecided c.in_ok-failing-in-Some.failing c.in_ok-failing-in-Some.over c.told.result at c.told.ensures told in
+    let key_now = subst (λ k. slice_get k.keys c.in-Some.i ≡ Some c.args.key) (sym c.judge_listed.ensures.keys) found_at in
+    let within = slice_get_within c.judge_listed.new.self.keys.keys c.in-Some.i c.args.key key_now in
+    let o = element_at c.judge_listed.new.self.objects.items c.in-Some.i (omega (arith, within, c.judge_listed.new.self.aligned)) in
+    (c.in-Some.i, c.args.key, o.0, refl, key_now, o.1, c.in_ok-failing-in-Some.ensures.over at o.0 over o.1)

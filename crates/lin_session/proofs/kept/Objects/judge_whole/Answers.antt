@@ -1,8 +1,8 @@
 use Rattle.std.proofs.Common.{◌≡◌, arith}
 use Rattle.std.proofs.lemmas.Option.{slice_get_within}
 use Rattle.lin_session.proofs.Wholes.{told_is}
-use Rattle.lin_session.specs.declared.answers.Verdict.TheVariants.{Yes}
-use Rattle.lin_session.proofs.Asking.{untold}
+use Rattle.lin_session.specs.declared.answers.Verdict.TheVariants.{Undecided, Yes}
+use Rattle.lin_session.proofs.Asking.{told_undecided, untold}
 use Rattle.lin_session.proofs.kept.Objects.judge_whole.Goals as goal
 
 pub returns-clause-verdict : goal.returns-clause-verdict
@@ -18,3 +18,8 @@ returns-clause-alive c = λ is_yes.
     let told_yes : c.told.result ≡ Yes = cc is_yes in
     let none = untold c.in_ok-failing.failing c.in_ok-failing.over c.told.result c.told.ensures told_yes in
     c.in_ok-failing.ensures.alive none.0 none.1
+
+pub returns-clause-over : goal.returns-clause-over
+returns-clause-over c = λ at is_over.
+    let told : c.told.result ≡ Undecided at = cc is_over in
+    c.in_ok-failing.ensures.over at (told_undecided c.in_ok-failing.failing c.in_ok-failing.over c.told.result at c.told.ensures told)

@@ -3,10 +3,10 @@ use Rattle.std.proofs.lemmas.Int.{to_z-of_z}
 use Rattle.std.proofs.lemmas.List.{length-set, length-map}
 use Rattle.lin_session.specs.Objects.{AreKept, listed_marks}
 use Rattle.lin_session.specs.inner.Objects.{settled_object}
-use Rattle.lin_session.specs.Marks.{AreMarked}
+use Rattle.lin_session.specs.Marks.{AreMarked, IsMarkedOver}
 use Rattle.lin_session.specs.Work.{mark_of}
 use Rattle.lin_session.proofs.Found.{object_at}
-use Rattle.lin_session.proofs.Settling.{AreSet, AreKept-marked, AreMarked-set, AreSet-all, AreSet-none, AreSet-one}
+use Rattle.lin_session.proofs.Settling.{AreSet, AreKept-marked, AreMarked-set, AreSet-all, AreSet-none, AreSet-one, marked_over}
 use Rattle.lin_session.proofs.kept.Objects.mark.Goals as goal
 use Rattle.lin_session.proofs.kept.Objects.mark.Goals.{After-mark}
 
@@ -62,3 +62,27 @@ returns-in-Whole-clause-marks c = λ kinds budget h all kept judged.
     (AreMarked-set c.positions_spell_parts.ensures kinds budget h s.split s.keys.keys s.objects.items (map settled_object s.objects.items) c.args.scope all kept s.aligned
     (length-map s.objects.items settled_object ∙ s.aligned)
     (subst (λ q. AreSet q s.keys.keys s.objects.items (map settled_object s.objects.items)) (sym c.in-Whole.is) (AreSet-all s.keys.keys s.objects.items)) judged)
+
+pub returns-in-Some-clause-told : goal.returns-in-Some-clause-told
+returns-in-Some-clause-told c = λ kinds budget h all kept judged at over.
+    let b = (goal.at.returns-in-Some-clause-told c).After-mark in
+    let s = c.args.self.now in
+    let are = AreSet-one s.keys.keys s.objects.items kept.distinct s.aligned c.in-Some.i c.in-Object.key c.index_mut.result.now c.mark.new.self (key_at b) (old_at b) c.mark.ensures in
+    marked_over c.positions_spell_parts.ensures kinds budget h s.split s.keys.keys s.objects.items _ c.args.scope all kept s.aligned (long b)
+    (subst (λ q. AreSet q s.keys.keys s.objects.items (set s.objects.items c.in-Some.i c.mark.new.self)) (sym c.in-Object.is) are) judged c.parts_of_prefixes.ensures.prefixes at over.0 over.1 over.2 over.3 over.4 over.5 over.6
+
+pub returns-in_default-clause-told : goal.returns-in_default-clause-told
+returns-in_default-clause-told c = λ kinds budget h all kept judged at over.
+    let s = c.args.self.now in
+    let is_key : to_z w64 (of_z w64 c.in-Object.key) ≡ c.in-Object.key = to_z-of_z w64 c.in-Object.key (search rules) in
+    let are = AreSet-none s.keys.keys s.objects.items c.in-Object.key (λ there. c.in_default.ensures.none (subst (Contains s.keys.keys) (sym is_key) there)) in
+    marked_over c.positions_spell_parts.ensures kinds budget h s.split s.keys.keys s.objects.items s.objects.items c.args.scope all kept s.aligned s.aligned
+    (subst (λ q. AreSet q s.keys.keys s.objects.items s.objects.items) (sym c.in-Object.is) are) judged c.parts_of_prefixes.ensures.prefixes at over.0 over.1 over.2 over.3 over.4 over.5 over.6
+
+pub returns-in-Whole-clause-told : goal.returns-in-Whole-clause-told
+returns-in-Whole-clause-told c = λ kinds budget h all kept judged at over.
+    let s = c.args.self.now in
+    subst (λ l. IsMarkedOver h c.args.scope (mark_of (listed_marks s.keys.keys l)) at) (sym c.mark_all.ensures)
+    (marked_over c.positions_spell_parts.ensures kinds budget h s.split s.keys.keys s.objects.items (map settled_object s.objects.items) c.args.scope all kept s.aligned
+    (length-map s.objects.items settled_object ∙ s.aligned)
+    (subst (λ q. AreSet q s.keys.keys s.objects.items (map settled_object s.objects.items)) (sym c.in-Whole.is) (AreSet-all s.keys.keys s.objects.items)) judged c.parts_of_prefixes.ensures.prefixes at over.0 over.1 over.2 over.3 over.4 over.5 over.6)

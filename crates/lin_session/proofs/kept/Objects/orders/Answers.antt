@@ -20,9 +20,8 @@ loop-i-preserved c =
     let within : i < length s.keys.keys = omega (arith, c.loop-i-test.true, c.len-i-end.ensures, s.objects.ok.0, s.aligned) in
     let key : ℤ = get_or s.keys.keys i (pos 0) in
     let key_at : slice_get s.keys.keys i ≡ Some key = slice_get-get_or s.keys.keys i (pos 0) within in
-    let order = c.in-Some.order in
-    let told = rw c.in-Some.is at c.in_ok-order.ensures.legal in
-    let legal = told key key_at in
+    let order = c.in_ok-order.order in
+    let legal = c.in_ok-order.ensures key key_at in
     let R : ℤ → List Placed → Type 0 = λ k p. IsLegalOrderFor (kind_of c.args.kinds.now) k h p in
     let more = zip_push R (take i s.keys.keys) (lists_of c.loop-i.parts.items) key order.items c.loop-i.invariant legal in
     let keys_are : take i s.keys.keys ++ key ∷ [] ≡ take (i + 1) s.keys.keys = sym (take_next i s.keys.keys key key_at) ∙ ap (λ n. take n s.keys.keys) (sym (add-one i)) in
@@ -30,15 +29,11 @@ loop-i-preserved c =
     sym (ap lists_of c.in_ok-push.ensures.items ∙ map_push (λ (p : Vec Placed). p.items) c.loop-i.parts.items order) in
     subst (λ k. AllZip R k (lists_of c.push.new.self.items)) keys_are (subst (AllZip R (take i s.keys.keys ++ key ∷ [])) lists_are more)
 
-pub returns-in_default-clause-told : goal.returns-in_default-clause-told
-returns-in_default-clause-told c = λ all none.
-    let s = c.args.self.now in
-    let within : c.loop-i.i < length s.objects.items = omega (arith, c.loop-i-test.true, c.len-i-end.ensures, s.objects.ok.0) in
-    let o = element_at s.objects.items c.loop-i.i within in
-    c.in_ok-order.ensures.told o.0 o.1 (All-at IsAlive s.objects.items all c.loop-i.i o.0 o.1) c.in_default.is
+pub order_listed-requires-clause-alive : goal.order_listed-requires-clause-alive
+order_listed-requires-clause-alive c = λ object object_at. All-at IsAlive c.args.self.now.objects.items c.requires.alive c.loop-i.i object object_at
 
-pub returns-clause-legal : goal.returns-clause-legal
-returns-clause-legal c =
+pub returns : goal.returns
+returns c =
     let s = c.args.self.now in
     let whole : take c.loop-i.i s.keys.keys ≡ s.keys.keys = take_all c.loop-i.i s.keys.keys (omega (arith, c.loop-i-test.false, c.len-i-end.ensures, s.objects.ok.0, s.aligned)) in
     subst (λ k. AllZip (λ key order. IsLegalOrderFor (kind_of c.args.kinds.now) key c.args.events.now order) k (lists_of c.loop-i.parts.items)) whole c.loop-i.invariant

@@ -2,7 +2,8 @@ use Rattle.std.proofs.Common.{◌≡◌, ℕ, ℤ, Bool, Some, slice_get, sym, s
 use Rattle.std.proofs.lemmas.Int.{to_z-of_z}
 use Rattle.std.proofs.lemmas.Result.{IfOk-weaker}
 use Rattle.lin_objects.specs.Kinds.{functions_of}
-use Rattle.lin_chain.specs.Chains.{IsRight}
+use Rattle.lin_chain.specs.declared.chain.End.TheVariants.{Dead}
+use Rattle.lin_chain.specs.Chains.{IsRight, told_in}
 use Rattle.lin_events.specs.declared.calls.Name.{Name}
 use Rattle.lin_events.specs.WellFormed.{IsWellFormed}
 use Rattle.lin_orders.specs.Parts.{events_at}
@@ -63,7 +64,7 @@ returns-clause-unrefuted c =
     let b = (goal.at.returns-clause-unrefuted c).After-deref in
     let o = c.index-object.result.now in
     let dead = c.requires.dead.1.1 c.in-Some.i o (key_at b) (stands b) in
-    refused_for c.refute.result _ (λ is. (c.refute.ensures.not_dead.0 is) dead.at dead.dead)
+    refused_for c.refute.result _ (λ is. (c.refute.ensures.not_dead.0 is) dead.at (subst (λ l. told_in o.chain (length l) ≡ Dead dead.at) (sym c.deref.ensures.value) dead.dead))
     (λ is kinds kept.
     over_in c.positions_spell_parts.ensures c.parts_of_prefixes.ensures.up_to kinds c.args.budget c.args.events.now c.args.self.now.split c.args.key o c.requires.split
     (kept.each c.in-Some.i c.args.key o (key_at b) (stands b)) (rw (← c.deref.ensures.value) (c.refute.ensures.too_large is)))

@@ -21,7 +21,7 @@ returns-in_err-refutation-in-Ok-No-clause-unrefuted c =
     let refused = c.in_err-refutation-in-Ok-No.ensures.unrefuted in
     passed_on c.from_residual.result fault (IsUnrefuted now c.args.key) c.from_residual.ensures.1
     (subst (λ key. IsUnrefuted now key fault) is_key
-    (IsUnrefuted-fault now (to_z w64 (of_z w64 c.args.key)) c.in-Ok-No.prefix answer fault refused.0 (λ large. refused.1 large (kind_of c.args.present.now.kinds.now) c.ask.ensures.right)))
+    (IsUnrefuted-fault now (to_z w64 (of_z w64 c.args.key)) c.in-Ok-No.prefix answer fault refused.0 (λ large. refused.1 large (kind_of c.args.present.now.kinds.now) c.answer.ensures.right)))
 
 pub returns-in_ok-refutation-in-Ok-No-clause-refuted : goal.returns-in_ok-refutation-in-Ok-No-clause-refuted
 returns-in_ok-refutation-in-Ok-No-clause-refuted c =
@@ -30,8 +30,8 @@ returns-in_ok-refutation-in-Ok-No-clause-refuted c =
     let K = kind_of c.args.present.now.kinds.now in
     let n = c.in-Ok-No.prefix in
     let answer = rw c.in-Ok-No.field-0-is at c.in-Ok-No.ensures.answer in
-    let dead = c.ask.ensures.dead n (c.in-Ok-No.is ∙ ap Ok c.in-Ok-No.field-0-is) in
-    let refutes = c.in_ok-refutation-in-Ok-No.ensures.refuted K n c.ask.ensures.right dead in (
+    let dead = c.answer.ensures.dead n (c.in-Ok-No.is ∙ ap Ok c.in-Ok-No.field-0-is) in
+    let refutes = c.in_ok-refutation-in-Ok-No.ensures.refuted K n c.answer.ensures.right dead in (
       subst (λ key. IsAnswer now (Object key) (No n)) is_key answer,
       subst (λ key. IsRefutation (part key (take n c.args.present.now.history.now)) (K key) (sets_of c.in_ok-refutation-in-Ok-No.refutation)) is_key refutes,
     )

@@ -1,5 +1,6 @@
-use Rattle.std.proofs.Common.{◌≡◌, sym, ap, length, subst, ◌∙◌, to_z, of_z, w64}
+use Rattle.std.proofs.Common.{◌≡◌, None, sym, ap, length, subst, ◌∙◌, to_z, of_z, w64}
 use Rattle.std.proofs.lemmas.Int.{to_z-of_z}
+use Rattle.lin_events.specs.declared.meter.Meter.{Meter}
 use Rattle.lin_events.specs.WellFormed.{IsShape, IsWellFormed}
 use Rattle.lin_objects.specs.Kinds.{functions_of, kind_of}
 use Rattle.lin_session.specs.Answers.{kinds_in}
@@ -7,7 +8,7 @@ use Rattle.lin_session.specs.Refuting.{IsUnrefuted}
 use Rattle.lin_session.specs.Sessions.{Standing}
 use Rattle.lin_session.proofs.Found.{passed_on}
 use Rattle.lin_session.specs.declared.answers.Scope.TheVariants.{Object}
-use Rattle.lin_session.specs.Marks.{AreMarked}
+use Rattle.lin_session.specs.Marks.{AreMarked, IsNothingDue}
 use Rattle.lin_session.specs.Objects.{AreRight}
 use Rattle.lin_session.specs.inner.Objects.{marks_in}
 use Rattle.lin_session.specs.Work.{mark_of}
@@ -81,3 +82,39 @@ returns-in-Bad-clause-marked c = λ fine.
     let bad = subst (IsShape F c.self.inside.events.items) c.in-Bad.is (subst (λ l. IsShape F l c.in-Ok.shape) c.deref.ensures.value c.in-Ok.ensures.shape) in
     let fine_inside = subst (λ (s : Standing). IsWellFormed (functions_of (kinds_in s.present)) s.present.history) (sym c.self.view_is) fine in
     absurd (fine_inside c.in-Bad.at c.in-Bad.cause bad.0)
+
+pub returns-in_ok-refuted-in-Good-clause-idle : goal.returns-in_ok-refuted-in-Good-clause-idle
+returns-in_ok-refuted-in-Good-clause-idle c = λ none nothing.
+    let is_key : to_z w64 (of_z w64 c.args.key) ≡ c.args.key = to_z-of_z w64 c.args.key c.ranges.key in
+    let F = functions_of (kind_of c.self.inside.kinds) in
+    let h = c.self.inside.events.items in
+    let old = marks_in c.self.inside.objects in
+    let low : c.self.inside.low ≡ None = ap (λ (s : Standing). s.low) c.self.view_is ∙ none in
+    let fine = subst (IsShape F h) c.in-Good.is (subst (λ l. IsShape F l c.in-Ok.shape) c.deref.ensures.value c.in-Ok.ensures.shape) in
+    let there = sym c.deref-in-Good.ensures.value in
+    let apart = c.self.invariant.apart low fine ∙ ap length there in
+    let nothing_named = subst (λ k. IsNothingDue (c.deref-in-Good.result.now) (Object k) old) (sym is_key)
+    (subst (λ l. IsNothingDue l (Object c.args.key) old) there (subst (λ (s : Standing). IsNothingDue s.present.history (Object c.args.key) (mark_of s.marks)) (sym c.self.view_is) nothing)) in
+    let same = c.refute.ensures.idle apart nothing_named in
+    let meter = ap (λ (s : Standing). s.meter) c.self.view_is in (
+      ap (λ (m : Meter). m.steps) same ∙ c.settle.ensures.others.0 ∙ ap (λ (m : Meter). m.steps) meter,
+      ap (λ (m : Meter). m.tries) same ∙ c.settle.ensures.others.1 ∙ ap (λ (m : Meter). m.tries) meter,
+    )
+
+pub returns-in_err-refuted-in-Good-clause-idle : goal.returns-in_err-refuted-in-Good-clause-idle
+returns-in_err-refuted-in-Good-clause-idle c = λ none nothing.
+    let is_key : to_z w64 (of_z w64 c.args.key) ≡ c.args.key = to_z-of_z w64 c.args.key c.ranges.key in
+    let F = functions_of (kind_of c.self.inside.kinds) in
+    let h = c.self.inside.events.items in
+    let old = marks_in c.self.inside.objects in
+    let low : c.self.inside.low ≡ None = ap (λ (s : Standing). s.low) c.self.view_is ∙ none in
+    let fine = subst (IsShape F h) c.in-Good.is (subst (λ l. IsShape F l c.in-Ok.shape) c.deref.ensures.value c.in-Ok.ensures.shape) in
+    let there = sym c.deref-in-Good.ensures.value in
+    let apart = c.self.invariant.apart low fine ∙ ap length there in
+    let nothing_named = subst (λ k. IsNothingDue (c.deref-in-Good.result.now) (Object k) old) (sym is_key)
+    (subst (λ l. IsNothingDue l (Object c.args.key) old) there (subst (λ (s : Standing). IsNothingDue s.present.history (Object c.args.key) (mark_of s.marks)) (sym c.self.view_is) nothing)) in
+    let same = c.refute.ensures.idle apart nothing_named in
+    let meter = ap (λ (s : Standing). s.meter) c.self.view_is in (
+      ap (λ (m : Meter). m.steps) same ∙ c.settle.ensures.others.0 ∙ ap (λ (m : Meter). m.steps) meter,
+      ap (λ (m : Meter). m.tries) same ∙ c.settle.ensures.others.1 ∙ ap (λ (m : Meter). m.tries) meter,
+    )

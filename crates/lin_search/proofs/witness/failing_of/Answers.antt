@@ -1,0 +1,20 @@
+use Rattle.std.proofs.Common.{◌≡◌, ◌≤◌, ◌+◌, ◌*◌, length, ap, arith, ◌∙◌}
+use Rattle.std.proofs.lemmas.Option.{IfSome_then}
+use Rattle.std.proofs.lemmas.Result.{IfOk-weaker}
+use Rattle.lin_orders.specs.Parts.{events_at}
+use Rattle.lin_search.proofs.Ticks.{events_most, then_ticked}
+use Rattle.lin_search.proofs.witness.failing_of.Goals as goal
+
+pub returns-clause-counted : goal.returns-clause-counted
+returns-clause-counted c =
+    IfOk-weaker c.failing.result _ _
+    (λ found checked. IfSome_then found checked (λ at counted. then_ticked c.args.meter.now.steps (length c.args.picks.now) (3 * at + 1) c.picked.new.meter.steps c.failing.new.meter.steps c.in_ok-own.ensures.counted counted))
+    c.failing.ensures.counted
+
+pub returns-clause-steps : goal.returns-clause-steps
+returns-clause-steps c =
+    let first : c.picked.new.meter.steps ≤ c.args.meter.now.steps + length c.args.picks.now = c.picked.ensures.steps in
+    let more : c.failing.new.meter.steps ≤ c.picked.new.meter.steps + 3 * length c.as_slice.result.now = c.failing.ensures.most in
+    let same : length c.as_slice.result.now ≡ length (events_at c.args.events.now c.args.picks.now) = ap length (c.as_slice.ensures.value ∙ c.in_ok-own.ensures.own) in
+    let few = events_most c.args.events.now c.args.picks.now in
+    omega arith
