@@ -1,4 +1,5 @@
 pub mod Tails
+pub mod Begun
 pub mod Levels
 pub mod Found
 pub mod Newlines

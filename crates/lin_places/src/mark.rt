@@ -1,20 +1,21 @@
 //! The places of the events in a text.
-ghost use Rattle.std.specs.Prelude.{◌≡◌, ◌≢◌, ◌+◌, ◌≤◌, suc, [], ℕ, List, Some, None, Ok, map, length, IfOk, IfSome, MatchOption};
+ghost use Rattle.std.specs.Prelude.{◌≡◌, ◌≢◌, ◌+◌, ◌≤◌, suc, [], ℕ, Bool, List, Some, None, Ok, map, length, IfOk, IfSome, MatchOption};
 ghost use Rattle.lin_edn.specs.Grammar.{Spells};
 ghost use Rattle.lin_edn.specs.Value.{Value, tagged, values_of};
 ghost use Rattle.lin_edn.specs.View.{view};
 ghost use Rattle.lin_history.specs.Sees.{most};
 ghost use Rattle.lin_history.specs.Stream.{told, told_by};
+ghost use Rattle.lin_history.specs.Table.{event, IsAnswer};
 ghost use Rattle.lin_places.specs.inner.Marks.{Fits, IsMarkedOne, StandsAt, IsStanding, IsAmong, AreMarked, IsFront, IsReadOn};
 ghost use Rattle.lin_places.specs.Places.{row_of};
 
 use crate::place::{Cursor, Place, Stop, go_to};
 use lin_edn::{
     Edn, EdnCause, Next, Span, blanks_are_skipped, blanks_in_front, next_element,
-    places as places_lie_within, readings_are_unique,
+    places as places_lie_within, readings_are_unique, tag_until, white_until,
 };
 use lin_events::OutOfMemory;
-use lin_history::{EventFault, event_of};
+use lin_history::{Event, EventFault, NextEvent, event_of, next_event};
 use std::alloc::Global;
 
 /// What was read of a text: so far, and so it stops.
@@ -42,6 +43,33 @@ enum Maps {
     Bad(Place),
 }
 
+/// A map in front of a text, with tags or none: where it begins and ends, and what it says.
+#[derive(Drop)]
+struct Map {
+    at: usize,
+    used: usize,
+    said: Result<Option<Event>, EventFault>,
+}
+
+/// Marks the place of a map that says this, if it is an event. False where it is faulty.
+fn mark_said(
+    said: Result<Option<Event>, EventFault>,
+    place: Place,
+    places: &mut Vec<Place>,
+) -> Result<bool, OutOfMemory>
+    ensures { (keyed : Bool) (v : Value) → IsAnswer (event keyed v) said → IsMarkedOne keyed v place places.old.items places.new.items result }
+{
+    match said {
+        Ok(None) => Ok(true),
+        Ok(Some(_)) => {
+            places.push(place)?;
+            Ok(true)
+        }
+        Err(EventFault::OutOfMemory) => Err(OutOfMemory),
+        Err(_) => Ok(false),
+    }
+}
+
 /// Marks the place of a map, if it says an event. False where it is faulty.
 fn mark_one(
     alloc: Global,
@@ -52,15 +80,7 @@ fn mark_one(
 ) -> Result<bool, OutOfMemory>
     ensures { IsMarkedOne keyed (view element.now) place places.old.items places.new.items result }
 {
-    match event_of(alloc, element, keyed) {
-        Ok(None) => Ok(true),
-        Ok(Some(_)) => {
-            places.push(place)?;
-            Ok(true)
-        }
-        Err(EventFault::OutOfMemory) => Err(OutOfMemory),
-        Err(_) => Ok(false),
-    }
+    mark_said(event_of(alloc, element, keyed), place, places)
 }
 
 /// Where the element behind blanks at a place begins and ends.
@@ -186,8 +206,71 @@ fn mark(
     }
 }
 
+/// Where a map begins that stands in front of a text behind white alone, with a tag directly in front of it or none.
+fn map_begins(text: &[u8]) -> Option<usize>
+    ensures { IfSome result (λ at. (v : Value) (begun : ℕ) (used : ℕ) → Spells text.now v begun used → (begun ≡ at) × (row_of v ≡ None)) }
+{
+    let end = text.len();
+    let at = white_until(text, 0, end);
+    let begun = tag_until(text, at, end);
+    if begun == end {
+        return None;
+    }
+    if text[begun] == b'{' { Some(at) } else { None }
+}
+
+/// The map in front of a text, if one is whole there behind white alone. A usual one is read without building its elements.
+fn next_map(alloc: Global, keyed: bool, text: &[u8]) -> Option<Map>
+    ensures { IfSome result (λ map. (v : Value) × Spells text.now v map.at map.used × (row_of v ≡ None) × IsAnswer (event keyed v) map.said) }
+{
+    let at = map_begins(text)?;
+    match next_event(alloc, text, keyed) {
+        Ok(NextEvent::Complete { said, used }) => Some(Map { at, used, said }),
+        _ => None,
+    }
+}
+
+/// Reads the map in front of a text, which has a place in a longer one.
+fn read_map(
+    text: &[u8],
+    place: Place,
+    map: Map,
+    places: &mut Vec<Place>,
+) -> Result<Front, OutOfMemory>
+    requires fits { Fits text.now (record { at = 0; place = place }) }
+    requires spelled { (v : Value) × Spells text.now v map.at map.used }
+    ensures { (keyed : Bool) (v : Value) → Spells text.now v map.at map.used → row_of v ≡ None → IsAnswer (event keyed v) map.said →
+        IsFront keyed text.now place places.old.items places.new.items result }
+{
+    places_lie_within();
+    let front = Cursor { at: 0, place };
+    let begun = go_to(text, front, map.at);
+    if mark_said(map.said, begun.place, places)? {
+        Ok(Front::Element(go_to(text, begun, map.used)))
+    } else {
+        Ok(ends(front, Stop::Bad(begun.place)))
+    }
+}
+
 /// Reads what stands in front of a text, which has a place in a longer one.
 fn read_front(
+    alloc: Global,
+    keyed: bool,
+    text: &[u8],
+    place: Place,
+    places: &mut Vec<Place>,
+) -> Result<Front, OutOfMemory>
+    requires fits { Fits text.now (record { at = 0; place = place }) }
+    ensures { IsFront keyed text.now place places.old.items places.new.items result }
+{
+    match next_map(alloc, keyed, text) {
+        Some(map) => read_map(text, place, map, places),
+        None => read_element(alloc, keyed, text, place, places),
+    }
+}
+
+/// Reads what stands in front of a text with its elements, whatever they are.
+fn read_element(
     alloc: Global,
     keyed: bool,
     text: &[u8],

@@ -1,7 +1,5 @@
-use Rattle.std.proofs.Common.{[], sym, ◌∙◌, append-nil}
-use Rattle.std.proofs.lemmas.Result.{err_from_is_err_and}
+use Rattle.lin_edn.specs.View.{view}
 use Rattle.lin_places.proofs.mark.mark_one.Goals as goal
 
-pub returns-in_err-push-in-Ok-Some : goal.returns-in_err-push-in-Ok-Some
-returns-in_err-push-in-Ok-Some c =
-    rw (err_from_is_err_and c.from_residual.result c.from_residual.ensures.1).1 ([], c.in_err-push-in-Ok-Some.ensures.items ∙ sym (append-nil c.args.places.now.items))
+pub returns : goal.returns
+returns c = c.mark_said.ensures c.args.keyed (view c.args.element.now) c.event_of.ensures
