@@ -24,7 +24,7 @@ trap 'kill "$edits" 2> /dev/null; wait; rm -rf "$room"' EXIT
 
 RT_JOBS=${RT_JOBS:-$checks} rt ci | tee "$log"
 [ "${PIPESTATUS[0]}" = 0 ] || exit 1
-for script in tests/imports.py tests/closure.py tests/rows.py tests/readme.sh tests/generated.sh tests/edits.py tests/growths.py tests/refutations.py tests/explain.py; do
+for script in tests/imports.py tests/closure.py tests/rows.py tests/readme.sh tests/generated.sh tests/edits.py tests/growths.py tests/refutations.py tests/explain.py tests/pictures.py; do
     echo "== $script"
     "$script" | tee -a "$log"
     [ "${PIPESTATUS[0]}" = 0 ] || exit 1

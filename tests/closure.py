@@ -23,7 +23,7 @@ HERE = os.path.join(os.path.dirname(os.path.abspath(__file__)), "..")
 PROOF = f"{HERE}/docs/PROOF.md"
 MARKS = ("<!-- what tests/closure.py finds: -->", "<!-- to here -->")
 # What the program promises of its runs, and of how it ends.
-ROOTS = {"lin_formats": ["verify"], "lin_report": ["check", "run"], "lin_program": ["run_words", "end_without_words"]}
+ROOTS = {"lin_formats": ["verify"], "lin_report": ["check", "explain", "draw", "run"], "lin_program": ["run_words", "end_without_words"]}
 # That a list of events is linearizable.
 CORE = ("lin_orders.specs.Linearizable", "IsLinearizable")
 USE = re.compile(r"(?:ghost )?use Rattle\.([\w.]+?)(?:\.\{(.*)\}| as (\S+?))?;?\s*(?:--.*)?$")

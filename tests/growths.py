@@ -85,7 +85,7 @@ def over(kind, recording, opened, wrong):
         ["edit", "--kind", kind, "--budget", "1024", FILE],
         recording,
         ["pull", "ask", "ask", "order", "report", "refute 0", "append " + opened, "ask", "order", f"truncate {count}",
-         f"replace {count - 1} " + wrong, "ask 0", "report", "refute 0", "budget 65536", "order", "explain"],
+         f"replace {count - 1} " + wrong, "ask 0", "report", "refute 0", "explain", "budget 65536", "order"],
     )
 
 

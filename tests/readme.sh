@@ -1,7 +1,8 @@
 #!/usr/bin/env bash
 # Runs every command of the console blocks of README.md, docs/*.md and tests/pages/*.md that calls the program, on the files of examples/,
 # and compares what is printed. A line `$ COMMAND` of such a block is run; the lines behind it are what it has to print. `$ echo $?` is the
-# status of the command before it in its block. Of each page with such blocks the commands are counted; the last line counts all.
+# status of the command before it in its block. A python block is run too, and has to end well. Of each page with such blocks the commands are
+# counted; the last line counts all.
 # usage: tests/readme.sh [PAGE ..]   (the program has to be built)
 set -u
 cd "$(dirname "$0")/.."
@@ -23,12 +24,26 @@ finish() { # runs the command that was read, and compares
     command='' wanted=''
 }
 
+run_script() { # runs a python block
+    local said
+    if said=$(python3 -c "$wanted" 2>&1 < /dev/null); then
+        passed=$((passed + 1))
+    else
+        failed=$((failed + 1))
+        printf '%s: a python block fails:\n%s\n' "$page" "$said"
+    fi
+    wanted=''
+}
+
 run_page() { # page
     local inside=no line before=$((passed + failed))
     page=$1
     while IFS= read -r line; do
         case $inside:$line in
             no:'```console') inside=yes last=0 ;;
+            no:'```python') inside=python ;;
+            python:'```') run_script; inside=no ;;
+            python:*) wanted+=$line$'\n' ;;
             yes:'```') finish; inside=no ;;
             yes:'$ '*) finish; command=${line#'$ '} ;;
             yes:*) wanted+=$line$'\n' ;;

@@ -1,5 +1,5 @@
 -- Exact frontiers give the sets of all configurations, and these refute a history that has no legal order.
-use Rattle.std.proofs.Common.{◌≡◌, ℕ, ℤ, zero, suc, ◌+◌, ◌<◌, ◌≤◌, Bool, List, [], ◌∷◌, ◌++◌, Contains, length, length-append, option_map, Option, Some, None, slice_get, take, inl, inr, refl, sym, ap, subst, ◌∙◌, arith}
+use Rattle.std.proofs.Common.{Result, Ok, ◌≡◌, ℕ, ℤ, zero, suc, ◌+◌, ◌<◌, ◌≤◌, Bool, List, [], ◌∷◌, ◌++◌, Contains, length, length-append, option_map, Option, Some, None, slice_get, take, inl, inr, refl, sym, ap, subst, ◌∙◌, arith}
 use Rattle.std.specs.Global.{Vec}
 use Rattle.std.specs.Map.{keys_of}
 use Rattle.std.proofs.lemmas.Option.{slice_get-map, slice_get_within}
@@ -20,12 +20,16 @@ use Rattle.lin_orders.specs.Linearizable.{IsLinearizableAs}
 use Rattle.lin_lists.specs.lemmas.Lists.{get_cases}
 use Rattle.lin_chain.proofs.Lists.{contains_from_get, get_from_contains}
 
+-- two answers that are one have one value
+pub ok_same : {T E : Type 0} {x y : T} {a b : Result T E} → a ≡ Ok x → b ≡ Ok y → a ≡ b → x ≡ y
+ok_same p q e = cc
+
 -- what an exact frontier holds
 abbrev Entries : Type 0
 Entries = List (Config × ℕ)
 
 -- a key is of an entry
-pub key_of_entry : (es : Entries) (c : Config) → Contains (keys_of es) c → (e : Config × ℕ) × Contains es e × (e.0 ≡ c)
+key_of_entry : (es : Entries) (c : Config) → Contains (keys_of es) c → (e : Config × ℕ) × Contains es e × (e.0 ≡ c)
 key_of_entry es c has =
     let place = get_from_contains (keys_of es) c has in
     by place.0 (slice_get es place.0) refl (sym (slice_get-map (λ (e : Config × ℕ). e.0) es place.0) ∙ place.1)

@@ -5,4 +5,3 @@ pub mod Replaying
 pub mod Budgets
 pub mod Chaining
 pub mod ExactSets
-pub mod Showing

@@ -5,9 +5,7 @@ mod chain;
 mod exact;
 mod found;
 mod pending;
-mod possible;
 mod refuting;
 mod replay;
 
 pub use chain::{Chain, End, RefuteFault};
-pub use possible::Possible;

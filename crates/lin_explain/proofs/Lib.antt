@@ -1,5 +1,8 @@
 pub mod Answered
 pub mod Before
 pub mod Counting
+pub mod Failing
+pub mod Noes
 pub mod Parting
 pub mod Texts
+pub mod ValuePairs

@@ -1,5 +1,5 @@
 -- How many operations a history has, and how they ended: in a well-formed history each operation has one invocation and at most one end.
-use Rattle.std.specs.Prelude.{◌≡◌, ◌-◌, ◌&&◌, ℕ, ℤ, Bool, true, false, List, Option, Some, None, count_by, length}
+use Rattle.std.specs.Prelude.{◌-◌, ◌&&◌, ℕ, ℤ, Bool, true, false, List, Option, Some, None, count_by}
 use Rattle.std.specs.Ordering.{int_eq}
 use Rattle.lin_events.specs.declared.events.Event.{Event}
 use Rattle.lin_events.specs.declared.events.Body.{Body}

@@ -1,5 +1,5 @@
 -- What is told of a no. All is said of the object's own events in the shortest failing prefix.
-use Rattle.std.specs.Prelude.{◌≡◌, ◌⊎◌, ◌-◌, ◌++◌, ℕ, ℤ, List, [], Option, Some, None, codes, decimal, take}
+use Rattle.std.specs.Prelude.{◌≡◌, ◌-◌, ◌++◌, ℕ, List, [], Option, Some, None, codes, decimal, take}
 use Rattle.lin_events.specs.declared.calls.Reply.{Reply}
 use Rattle.lin_events.specs.declared.events.Event.{Event}
 use Rattle.lin_events.specs.declared.events.Body.{Body}
@@ -10,12 +10,20 @@ use Rattle.lin_orders.specs.Parts.{IsNth}
 use Rattle.lin_places.specs.declared.place.Place.{Place}
 use Rattle.lin_session.specs.Answers.{kinds_in}
 use Rattle.lin_session.specs.Edits.{Present}
-use Rattle.lin_window.specs.Operations.{IsFailing, IsLastQuiet}
-use Rattle.lin_window.specs.Tables.{IsTable, Told, around}
+use Rattle.lin_window.specs.Operations.{IsFailing}
+use Rattle.lin_window.specs.Tables.{Told}
 use Rattle.lin_words.specs.Operations.{operation_text}
 use Rattle.lin_words.specs.Spots.{event_spot_text}
 use Rattle.lin_explain.specs.Heads.{object_text}
-use Rattle.lin_explain.specs.Own.{IsStretch}
+use Rattle.lin_outcomes.specs.Outcomes.{Failing}
+use Rattle.lin_explain.specs.Own.{IsStretch, without_last}
+use Rattle.lin_explain.specs.Parts.{IsSpot}
+use Rattle.lin_explain.specs.Possible.{IsPossibleText}
+use Rattle.lin_explain.specs.Since.{IsSinceText}
+use Rattle.lin_explain.specs.Whys.{IsWhyText}
+use Rattle.lin_explain.specs.declared.parts.Failed.{Failed}
+use Rattle.lin_explain.specs.declared.parts.Spot.{Spot}
+use Rattle.lin_explain.specs.declared.parts.Why.{Why}
 
 -- the reply that an event records, if it does
 abbrev pub reply_in : Body → Option Reply
@@ -47,36 +55,48 @@ operation_line kind places at n invocation ending = object_text ending.key kind 
 abbrev pub prefix_line : ℕ → List ℕ
 prefix_line n = codes "its events among the first " ++ decimal (n - 1) ++ codes " have a legal order, among the first " ++ decimal n ++ codes " they have none\n"
 
-abbrev pub since_head : ℕ → List ℕ
-since_head at = codes "since event " ++ decimal at ++ codes ", before which nothing ran (! fails, ~ ran beside it):\n"
+abbrev pub head_text : Kind → Option (List Place) → ℕ → ℕ → Event → Event → List ℕ
+head_text kind places at n invocation ending = operation_line kind places at n invocation ending ++ prefix_line n
 
--- the stretch since nothing else ran: it begins with the last quiet event that isn't after the failing operation, and a table tells what ran
-pub record IsSinceText (stretch : Told) (call : ℕ) (text : List ℕ) : Type 0 where
-  pub from : ℕ
-  pub at : ℕ
-  pub table : List ℕ
-  pub quiet : IsLastQuiet stretch.events call from
-  pub stands : IsNth stretch.picks from at
-  pub is_table : IsTable stretch (around call from []) table
-  pub says : text ≡ since_head at ++ table
+-- the end and the invocation of the failing operation
+pub record AreSpots (places : Option (List Place)) (at n : ℕ) (invocation ending : Event) (spots : Spot × Spot) : Type 0 where
+  pub end_spot : IsSpot places (n - 1) ending spots.0
+  pub call_spot : IsSpot places at invocation spots.1
 
--- the failing operation, with where it was called and how it ended; and what ran since the object was quiet
-pub record IsFailureText (kind : Kind) (stretch : Told) (n call : ℕ) (ending : Event) (lines : List ℕ) : Type 0 where
+-- the events before the end of the operation, and what the end records
+abbrev pub failing_in : Kind → List Event → ℕ → Event → Failing
+failing_in kind h call ending = record { kind = kind; events = without_last h; call = call; process = ending.process; recorded = reply_in ending.body }
+
+-- why there is no legal order, if a certificate says it; and what ran since the object was quiet, with the operations marked that the certificate names
+pub record AreReasons (kind : Kind) (budget : ℕ) (stretch : Told) (call : ℕ) (lines : List ℕ) (told : Option Why) (from : ℕ) : Type 0 where
+  pub why : List ℕ
+  pub named : List ℕ
+  pub since : List ℕ
+  pub is_why : IsWhyText kind stretch why named told
+  pub is_since : IsSinceText kind budget stretch call named since from
+  pub says : lines ≡ why ++ since
+
+-- the failing operation, with where it was called and how it ended; what was possible before its end; and why there is no legal order
+pub record IsFailureText (kind : Kind) (budget : ℕ) (stretch : Told) (n call : ℕ) (ending : Event) (lines : List ℕ) (failed : Failed) : Type 0 where
   pub invocation : Event
   pub at : ℕ
-  pub since : List ℕ
+  pub possible : List ℕ
+  pub reasons : List ℕ
   pub failing : IsFailing stretch.events call
   pub called : IsEvent stretch.events call invocation
   pub stands : IsNth stretch.picks call at
-  pub is_since : IsSinceText stretch call since
-  pub says : lines ≡ (operation_line kind stretch.places at n invocation ending ++ prefix_line n) ++ since
+  pub is_possible : IsPossibleText (failing_in kind stretch.events call ending) n budget possible failed.replies failed.states
+  pub are_reasons : AreReasons kind budget stretch call reasons failed.why failed.from
+  pub says : lines ≡ (head_text kind stretch.places at n invocation ending ++ possible) ++ reasons
+  pub key_of : failed.key ≡ ending.key
+  pub kind_of : failed.kind ≡ kind
+  pub spots : AreSpots stretch.places at n invocation ending (failed.event, failed.call)
 
--- What is told of a no, of the object whose event is the last one of the shortest failing prefix: where that is the end of an operation, ok or
--- failed, as it is in each well-formed history.
-pub record IsNoText (now : Present) (places : Option (List Place)) (n : ℕ) (lines : List ℕ) : Type 0 where
+-- What is told of a no, of the object whose event is the last one of the shortest failing prefix. That is the ok or the fail of an operation.
+pub record IsNoText (now : Present) (places : Option (List Place)) (n : ℕ) (lines : List ℕ) (failed : Failed) : Type 0 where
   pub ending : Event
   pub stretch : Told
+  pub call : ℕ
   pub stands : IsEvent now.history (n - 1) ending
   pub own : IsStretch ending.key (take n now.history) places stretch
-  pub told : (((call : ℕ) → IsFailing stretch.events call → ⊥) × (lines ≡ []))
-      ⊎ ((call : ℕ) × IsFailureText (kinds_in now ending.key) stretch n call ending lines)
+  pub told : IsFailureText (kinds_in now ending.key) now.budget stretch n call ending lines failed

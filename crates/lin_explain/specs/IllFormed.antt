@@ -15,6 +15,10 @@ use Rattle.lin_formats.specs.Kinds.{kind_text}
 use Rattle.lin_places.specs.declared.place.Place.{Place}
 use Rattle.lin_words.specs.Operations.{event_text, name_text}
 use Rattle.lin_words.specs.Spots.{event_spot_text}
+use Rattle.lin_explain.specs.Parts.{IsSpot}
+use Rattle.lin_explain.specs.declared.parts.Parts.{Parts}
+use Rattle.lin_explain.specs.declared.parts.Parts.TheVariants as Part
+use Rattle.lin_explain.specs.declared.parts.Spot.{Spot}
 
 -- where the last event of the process before the position stands, if there is one
 abbrev pub IsLastPlace : List Event → ℕ → ℕ → Option ℕ → Type 0
@@ -77,7 +81,17 @@ before_line places at before NoInvocation = before_text places at before
 before_line places at before OtherCall = before_text places at before
 before_line places at before OtherKey = before_text places at before
 
--- the lines: the event, the last one of its process before it, and what is asked of histories
-abbrev pub IsIllFormedText : List Event → (ℤ → Kind) → Option (List Place) → ℕ → Cause → List ℕ → Type 0
-IsIllFormedText h kinds places at cause lines = (event : Event) × IsEvent h at event × (earlier : ℕ) × (before : Option Event) × IsLastBefore h event.process at earlier before
-    × (lines ≡ stood_text places at event ++ before_line places earlier before cause ++ sentence_text (kinds event.key) event before cause)
+abbrev pub bad_text : Kind → Option (List Place) → ℕ → Event → ℕ → Option Event → Cause → List ℕ
+bad_text kind places at event earlier before cause = (stood_text places at event ++ before_line places earlier before cause) ++ sentence_text kind event before cause
+
+-- the lines: the event, the last one of its process before it, and what is asked of histories. The parts have the event
+pub record IsIllFormedText (h : List Event) (kinds : ℤ → Kind) (places : Option (List Place)) (at : ℕ) (cause : Cause) (lines : List ℕ) (parts : Parts) : Type 0 where
+  pub event : Event
+  pub earlier : ℕ
+  pub before : Option Event
+  pub spot : Spot
+  pub stands : IsEvent h at event
+  pub is_before : IsLastBefore h event.process at earlier before
+  pub says : lines ≡ bad_text (kinds event.key) places at event earlier before cause
+  pub is_spot : IsSpot places at event spot
+  pub told : parts ≡ Part.IllFormed spot

@@ -1,9 +1,15 @@
 pub mod Counts
 pub mod Failures
 pub mod Heads
+pub mod Hints
 pub mod IllFormed
 pub mod Own
+pub mod Parts
+pub mod Possible
 pub mod Refused
+pub mod Since
 pub mod Undecided
+pub mod Whys
 pub mod Yes
 pub mod Explained
+pub mod inner

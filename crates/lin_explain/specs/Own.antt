@@ -1,18 +1,16 @@
 -- The events of one object.
-use Rattle.std.specs.Prelude.{◌≡◌, ℤ, List, Option}
+use Rattle.std.specs.Prelude.{◌≡◌, ◌-◌, ℤ, List, Option, length, take}
 use Rattle.lin_events.specs.declared.events.Event.{Event}
 use Rattle.lin_orders.specs.Parts.{ArePositionsOf, part}
 use Rattle.lin_places.specs.declared.place.Place.{Place}
 use Rattle.lin_window.specs.Tables.{Told}
-use Rattle.lin_explain.specs.declared.own.Own.{Own}
-
--- just the events of the key in the history, and where they stand
-pub record IsOwn (key : ℤ) (h : List Event) (own : Own) : Type 0 where
-  pub events_of : own.events.items ≡ part key h
-  pub positions : ArePositionsOf key h own.picks.items
 
 -- the events of the key in the history, with where they stand and are found
 pub record IsStretch (key : ℤ) (h : List Event) (places : Option (List Place)) (stretch : Told) : Type 0 where
   pub events_of : stretch.events ≡ part key h
   pub positions : ArePositionsOf key h stretch.picks
   pub places_of : stretch.places ≡ places
+
+-- all events but the last one
+abbrev pub without_last : List Event → List Event
+without_last h = take (length h - 1) h

@@ -12,6 +12,10 @@ use Rattle.lin_words.specs.Operations.{event_text}
 use Rattle.lin_words.specs.Spots.{event_spot_text}
 use Rattle.lin_explain.specs.Heads.{object_text}
 use Rattle.lin_explain.specs.Own.{IsStretch}
+use Rattle.lin_explain.specs.Parts.{IsSpot}
+use Rattle.lin_explain.specs.declared.parts.Parts.{Parts}
+use Rattle.lin_explain.specs.declared.parts.Parts.TheVariants as Part
+use Rattle.lin_explain.specs.declared.parts.Spot.{Spot}
 
 -- the event with which there are too many
 abbrev pub event_line : Kind → ℕ → Option (List Place) → ℕ → Event → List ℕ
@@ -46,17 +50,25 @@ helps_text larger keys crashes clients = (((help_text larger false (codes "a lar
 abbrev pub helps : ℕ → Bool → ℕ → ℕ → List ℕ
 helps budget keyed running crashed = helps_text (nat_lt budget 1000000) (not keyed) (nat_lt 0 crashed) (nat_lt 1 (running - crashed))
 
--- The lines: the event with which there are too many, how many operations of its object are open behind it and how many of these crashed, a table of
--- them, and what may help.
-pub record IsUndecidedText (now : Present) (keyed : Bool) (places : Option (List Place)) (at : ℕ) (lines : List ℕ) : Type 0 where
-  pub event : Event
-  pub stretch : Told
+-- how many operations of the object are open, how many of these crashed, a table of them, and what may help
+pub record IsOpenText (stretch : Told) (budget : ℕ) (keyed : Bool) (lines : List ℕ) : Type 0 where
   pub running : ℕ
   pub crashed : ℕ
   pub table : List ℕ
-  pub stands : IsEvent now.history at event
-  pub own : IsStretch event.key (take (at + 1) now.history) places stretch
   pub are_open : Exactly running (IsOpenAt stretch.events)
   pub did_crash : Exactly crashed (IsCrashed stretch.events)
   pub is_table : IsTable stretch open_ones table
-  pub says : lines ≡ event_line (kinds_in now event.key) now.budget places at event ++ (open_line running crashed ++ table ++ helps now.budget keyed running crashed)
+  pub says : lines ≡ (open_line running crashed ++ table) ++ helps budget keyed running crashed
+
+-- The lines: the event with which there are too many, and which operations of its object are open behind it. The parts have the object and the event.
+pub record IsUndecidedText (now : Present) (keyed : Bool) (places : Option (List Place)) (at : ℕ) (lines : List ℕ) (parts : Parts) : Type 0 where
+  pub event : Event
+  pub stretch : Told
+  pub back : List ℕ
+  pub spot : Spot
+  pub stands : IsEvent now.history at event
+  pub own : IsStretch event.key (take (at + 1) now.history) places stretch
+  pub is_open : IsOpenText stretch now.budget keyed back
+  pub says : lines ≡ event_line (kinds_in now event.key) now.budget places at event ++ back
+  pub is_spot : IsSpot places at event spot
+  pub parts_told : parts ≡ Part.Undecided event.key (kinds_in now event.key) spot

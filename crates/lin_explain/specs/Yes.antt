@@ -1,10 +1,14 @@
 -- What is told of a yes.
-use Rattle.std.specs.Prelude.{◌≡◌, ◌-◌, ◌++◌, ℕ, ℤ, Bool, true, false, List, [], Option, Some, None, codes, decimal, length, if◌then◌else◌}
+use Rattle.std.specs.Prelude.{◌≡◌, ◌-◌, ◌++◌, ℕ, ℤ, Bool, true, false, List, [], Option, Some, None, codes, decimal, length}
 use Rattle.lin_events.specs.declared.events.Event.{Event}
 use Rattle.lin_orders.specs.declared.placed.Placed.{Placed}
+use Rattle.lin_session.specs.Edits.{Present}
 use Rattle.lin_session.specs.Keys.{AreKeys}
 use Rattle.lin_formats.specs.Texts.{order_text}
 use Rattle.lin_explain.specs.Counts.{count_in, open_in}
+use Rattle.lin_explain.specs.Parts.{object_in}
+use Rattle.lin_explain.specs.declared.parts.Parts.{Parts}
+use Rattle.lin_explain.specs.declared.parts.Parts.TheVariants as Part
 use Rattle.lin_explain.specs.declared.counts.Sort.TheVariants.{Invoked, Ok, Failed, Crashed}
 
 -- of one object, or of all that the history has
@@ -32,7 +36,13 @@ abbrev pub order_line : Bool → List Placed → List ℕ
 order_line false order = []
 order_line true order = codes "order " ++ order_text order ++ codes "\n"
 
--- the lines: operations by how they ended, how many open ones the order places, and the order, if it is wanted
-abbrev pub IsYesText : Option ℤ → Bool → List Event → List Placed → List ℕ → Type 0
-IsYesText key with_order h order lines = (objects : ℕ) × AreObjects key h objects
-    × (lines ≡ counts_text key h objects ++ places_text key h order ++ order_line with_order order)
+abbrev pub yes_text : Option ℤ → Bool → List Event → ℕ → List Placed → List ℕ
+yes_text key with_order h objects order = (counts_text key h objects ++ places_text key h order) ++ order_line with_order order
+
+-- the lines: operations by how they ended, how many open ones the order places, and the order, if it is wanted. The parts have the object that was
+-- asked about
+pub record IsYesText (now : Present) (key : Option ℤ) (with_order : Bool) (order : List Placed) (lines : List ℕ) (parts : Parts) : Type 0 where
+  pub objects : ℕ
+  pub are_objects : AreObjects key now.history objects
+  pub says : lines ≡ yes_text key with_order now.history objects order
+  pub told : parts ≡ Part.Yes (object_in now key)

@@ -1,32 +1,48 @@
 //! What is told of a no.
-ghost use Rattle.std.specs.Prelude.{◌≡◌, ◌<◌, ◌≤◌, ◌-◌, ◌++◌, ℕ, List, OnOk, decimal, length, option_map};
+ghost use Rattle.std.specs.Prelude.{◌≡◌, ◌-◌, ◌++◌, ℕ, List, IfOk, OnOk, decimal, length, option_map};
 ghost use Rattle.lin_orders.specs.Tables.{IsNextTable};
+ghost use Rattle.lin_session.specs.Answers.{IsAnswer, kinds_in};
+ghost use Rattle.lin_session.specs.declared.answers.Answer.{Answer as AnswerOf};
+ghost use Rattle.lin_session.specs.declared.answers.Scope.{Scope as ScopeOf};
 ghost use Rattle.lin_window.specs.Operations.{IsFailing, IsInvoked};
 ghost use Rattle.lin_window.specs.Tables.{told_of};
-ghost use Rattle.lin_explain.specs.Failures.{IsFailureText, IsNoText, IsSinceText, ends_text, failing_text, operation_line, prefix_line, reply_in, since_head};
+ghost use Rattle.lin_explain.specs.Failures.{AreReasons, AreSpots, IsFailureText, IsNoText, ends_text, failing_in, failing_text, head_text, operation_line, prefix_line, reply_in};
+ghost use Rattle.lin_explain.specs.inner.Laws.{IsFailure, IsLegalHistory};
+ghost use Rattle.lin_explain.specs.Own.{without_last as all_but_last};
+ghost use Rattle.lin_explain.specs.inner.Own.{stretch_of};
+ghost use Rattle.lin_explain.specs.Possible.{IsPossibleText};
 
 use crate::heads::{kind_for, put_object};
-use crate::own::own_of;
+use crate::laws::noes_fail;
+use crate::own::{Own, own_of};
+use crate::parts::{Failed, Spot, Why};
+use crate::possible::{Possibilities, put_possible};
+use crate::since::put_since;
+use crate::spots::spot_of;
+use crate::whys::put_why;
 use lin_events::{Body, Event, OutOfMemory, Reply};
 use lin_formats::put_number;
 use lin_objects::Kind;
 use lin_orders::{ends_of, positions_spell_parts};
+use lin_outcomes::Before;
 use lin_places::Place;
 use lin_session::Session;
-use lin_window::{Listed, Stretch, Window, failing_operation, put_operations, quiet_before};
+use lin_window::{Stretch, failing_operation};
 use lin_words::{put_event_spot, put_operation};
 use std::alloc::{AllocError, Global};
 
 /// A failure: the object's events up to the one at which its legal orders end, and the operation that fails.
 #[derive(Clone, Copy)]
-struct Failure<'a, 'p> {
-    kind: Kind,
+pub(crate) struct Failure<'a, 'p> {
+    pub(crate) kind: Kind,
+    /// How many configurations may be kept.
+    pub(crate) budget: u32,
     /// The object's own events.
-    stretch: Stretch<'a, 'p>,
+    pub(crate) stretch: Stretch<'a, 'p>,
     /// How many events the shortest failing prefix has.
-    prefix: usize,
+    pub(crate) prefix: usize,
     /// Where the failing operation was invoked, among the object's own events.
-    call: usize,
+    pub(crate) call: usize,
 }
 
 /// The reply that an event records, if it does.
@@ -103,41 +119,82 @@ fn put_prefix_line(text: &mut Vec<u8>, prefix: usize) -> Result<(), AllocError>
     text.extend_from_slice(b" they have none\n")
 }
 
-/// Puts the line on where the stretch begins last.
-fn put_since_head(text: &mut Vec<u8>, at: usize) -> Result<(), AllocError>
-    ensures { OnOk result (text.new.items ≡ text.old.items ++ since_head at) }
+/// The end and the invocation of the failing operation, which stands at the position.
+fn spots_of(
+    alloc: Global,
+    failure: &Failure,
+    at: usize,
+    invocation: &Event,
+    ending: &Event,
+) -> Result<(Spot, Spot), OutOfMemory>
+    ensures { IfOk result (AreSpots (option_map (λ p. p.now) failure.now.stretch.places) at failure.now.prefix invocation.now ending.now) }
 {
-    text.extend_from_slice(b"since event ")?;
-    put_number(text, at as u64)?;
-    text.extend_from_slice(b", before which nothing ran (! fails, ~ ran beside it):\n")?;
-    Ok(())
+    let end = failure.prefix.saturating_sub(1);
+    let event = spot_of(alloc, failure.stretch.places, end, ending)?;
+    let call = spot_of(alloc, failure.stretch.places, at, invocation)?;
+    Ok((event, call))
 }
 
-/// Puts the stretch that holds the failure last.
-fn put_since(
+/// Puts the lines last that name the failing operation and the failing prefix.
+fn put_head(
+    text: &mut Vec<u8>,
+    failure: &Failure,
+    at: usize,
+    invocation: &Event,
+    ending: &Event,
+) -> Result<(), AllocError>
+    ensures { OnOk result (text.new.items ≡ text.old.items
+        ++ head_text failure.now.kind (option_map (λ p. p.now) failure.now.stretch.places) at failure.now.prefix invocation.now ending.now) }
+{
+    put_operation_line(text, failure, at, invocation, ending)?;
+    put_prefix_line(text, failure.prefix)
+}
+
+/// All events but the last one.
+fn without_last(events: &[Event]) -> &[Event]
+    ensures { result.now ≡ all_but_last events.now }
+{
+    &events[..events.len().saturating_sub(1)]
+}
+
+/// Puts the lines on what was possible before the failure last.
+fn put_before_failure(
     alloc: Global,
     text: &mut Vec<u8>,
-    stretch: &Stretch,
-    call: usize,
-) -> Result<(), OutOfMemory>
-    requires table { IsNextTable stretch.now.events.now stretch.now.ends.now }
-    requires begins { IsInvoked stretch.now.events.now call }
-    requires picks { length stretch.now.picks.now ≡ length stretch.now.events.now }
-    ensures { OnOk result ((since : List ℕ) × IsSinceText (told_of stretch.now) call since × (text.new.items ≡ text.old.items ++ since)) }
+    failure: &Failure,
+    ending: &Event,
+) -> Result<Possibilities, OutOfMemory>
+    requires { IsFailure failure.now.kind failure.now.stretch.events.now ending.now }
+    ensures { IfOk result (λ told. (lines : List ℕ)
+        × IsPossibleText (failing_in failure.now.kind failure.now.stretch.events.now failure.now.call ending.now) failure.now.prefix failure.now.budget lines told.replies told.states
+        × (text.new.items ≡ text.old.items ++ lines)) }
 {
-    let from = quiet_before(stretch.events, stretch.ends, call);
-    let Some(at) = stretch.picks.get(from) else {
-        unreachable!()
+    let before = Before {
+        kind: failure.kind,
+        events: without_last(failure.stretch.events),
+        call: failure.call,
+        process: ending.process,
+        recorded: reply_of(&ending.body),
     };
-    put_since_head(text, *at)?;
-    let window = Window {
-        call,
-        from,
-        named: &[],
-    };
-    let listed = Listed::Around(window);
-    put_operations(alloc, text, stretch, &listed)?;
-    Ok(())
+    put_possible(alloc, text, &before, failure.prefix, failure.budget)
+}
+
+/// Puts the lines last on why there is no legal order, and since when nothing else ran. Gives that position in the whole history.
+fn put_reasons(
+    alloc: Global,
+    text: &mut Vec<u8>,
+    failure: &Failure,
+) -> Result<(Option<Why>, usize), OutOfMemory>
+    requires table { IsNextTable failure.now.stretch.events.now failure.now.stretch.ends.now }
+    requires begins { IsInvoked failure.now.stretch.events.now failure.now.call }
+    requires picks { length failure.now.stretch.picks.now ≡ length failure.now.stretch.events.now }
+    requires legal { IsLegalHistory failure.now.kind (all_but_last failure.now.stretch.events.now) }
+    ensures { IfOk result (λ told. (lines : List ℕ)
+        × AreReasons failure.now.kind failure.now.budget (told_of failure.now.stretch) failure.now.call lines told.0 told.1 × (text.new.items ≡ text.old.items ++ lines)) }
+{
+    let reason = put_why(alloc, text, failure.kind, &failure.stretch, failure.call)?;
+    let from = put_since(alloc, text, failure, reason.named.as_slice())?;
+    Ok((reason.why, from))
 }
 
 /// Puts all lines on a failure last.
@@ -146,12 +203,14 @@ fn put_failure(
     text: &mut Vec<u8>,
     failure: &Failure,
     ending: &Event,
-) -> Result<(), OutOfMemory>
+) -> Result<Failed, OutOfMemory>
     requires table { IsNextTable failure.now.stretch.events.now failure.now.stretch.ends.now }
     requires begins { IsInvoked failure.now.stretch.events.now failure.now.call }
-    requires fails { IsFailing failure.now.stretch.events.now failure.now.call }
     requires picks { length failure.now.stretch.picks.now ≡ length failure.now.stretch.events.now }
-    ensures { OnOk result ((lines : List ℕ) × IsFailureText failure.now.kind (told_of failure.now.stretch) failure.now.prefix failure.now.call ending.now lines
+    requires fails { IsFailing failure.now.stretch.events.now failure.now.call }
+    requires failure { IsFailure failure.now.kind failure.now.stretch.events.now ending.now }
+    ensures { IfOk result (λ failed. (lines : List ℕ)
+        × IsFailureText failure.now.kind failure.now.budget (told_of failure.now.stretch) failure.now.prefix failure.now.call ending.now lines failed
         × (text.new.items ≡ text.old.items ++ lines)) }
 {
     let (Some(invocation), Some(at)) = (
@@ -160,35 +219,45 @@ fn put_failure(
     ) else {
         unreachable!()
     };
-    put_operation_line(text, failure, *at, invocation, ending)?;
-    put_prefix_line(text, failure.prefix)?;
-    put_since(alloc, text, &failure.stretch, failure.call)
+    put_head(text, failure, *at, invocation, ending)?;
+    let told = put_before_failure(alloc, text, failure, ending)?;
+    let (why, from) = put_reasons(alloc, text, failure)?;
+    let (event, call) = spots_of(alloc, failure, *at, invocation, ending)?;
+    Ok(Failed {
+        key: ending.key,
+        kind: failure.kind,
+        event,
+        call,
+        replies: told.replies,
+        states: told.states,
+        why,
+        from,
+    })
 }
 
-/// Puts what is told of a no last: the failing operation, and what ran since the object was quiet last.
-pub(crate) fn put_no(
+/// Puts all lines last on the failure of the object's events with the last one.
+fn put_own(
     alloc: Global,
     text: &mut Vec<u8>,
     session: &Session,
+    own: &Own,
+    ending: &Event,
     prefix: usize,
     places: Option<&[Place]>,
-) -> Result<(), OutOfMemory>
-    requires some { 0 < prefix }
-    requires within { prefix ≤ length session.now.present.history }
-    ensures { OnOk result ((lines : List ℕ) × IsNoText session.now.present (option_map (λ p. p.now) places.entry) prefix lines
+) -> Result<Failed, OutOfMemory>
+    requires failure { IsFailure (kinds_in session.now.present ending.now.key) own.now.events.items ending.now }
+    requires picks { length own.now.picks.items ≡ length own.now.events.items }
+    ensures { IfOk result (λ failed. (lines : List ℕ) × (call : ℕ)
+        × IsFailureText (kinds_in session.now.present ending.now.key) session.now.present.budget (stretch_of own.now (option_map (λ p. p.now) places.entry)) prefix call ending.now lines failed
         × (text.new.items ≡ text.old.items ++ lines)) }
 {
-    let Some(ending) = session.event(prefix - 1) else {
-        unreachable!()
-    };
-    positions_spell_parts();
-    let own = own_of(alloc, session, ending, prefix)?;
     let ends = ends_of(alloc, own.events.as_slice())?;
     let Some(call) = failing_operation(own.events.as_slice(), ends.as_slice()) else {
-        return Ok(());
+        unreachable!()
     };
     let failure = Failure {
         kind: kind_for(session, ending),
+        budget: session.budget(),
         stretch: Stretch {
             events: own.events.as_slice(),
             ends: ends.as_slice(),
@@ -199,4 +268,26 @@ pub(crate) fn put_no(
         call,
     };
     put_failure(alloc, text, &failure, ending)
+}
+
+/// Puts what is told of a no last: the failing operation, what was possible before its end, why there is no legal order, and what ran
+/// since the object was quiet last.
+pub(crate) fn put_no(
+    alloc: Global,
+    text: &mut Vec<u8>,
+    session: &Session,
+    prefix: usize,
+    places: Option<&[Place]>,
+) -> Result<Failed, OutOfMemory>
+    requires { (scope : ScopeOf) × IsAnswer session.now.present scope (AnswerOf.No prefix) }
+    ensures { IfOk result (λ failed. (lines : List ℕ) × IsNoText session.now.present (option_map (λ p. p.now) places.entry) prefix lines failed
+        × (text.new.items ≡ text.old.items ++ lines)) }
+{
+    let Some(ending) = session.event(prefix - 1) else {
+        unreachable!()
+    };
+    positions_spell_parts();
+    noes_fail(kind_for(session, ending));
+    let own = own_of(alloc, session, ending, prefix)?;
+    put_own(alloc, text, session, &own, ending, prefix, places)
 }

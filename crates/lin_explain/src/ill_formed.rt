@@ -1,16 +1,19 @@
 //! What is told of a history that isn't well-formed.
-ghost use Rattle.std.specs.Prelude.{◌≡◌, ◌<◌, ◌++◌, ℕ, List, None, Some, OnOk, IfNone, IfSome, codes, length, option_map};
+ghost use Rattle.std.specs.Prelude.{◌≡◌, ◌<◌, ◌++◌, ℕ, List, None, Some, Option, IfOk, OnOk, IfNone, IfSome, codes, length, option_map};
+ghost use Rattle.lin_events.specs.declared.events.Event.{Event as EventOf};
 ghost use Rattle.lin_session.specs.Answers.{kinds_in};
-ghost use Rattle.lin_explain.specs.IllFormed.{IsIllFormedText, IsLastBefore, IsLastPlace, before_line, before_text, function_text, keys_text, kinds_text, not_of_kind_text, sentence_text, stood_text};
+ghost use Rattle.lin_explain.specs.IllFormed.{IsIllFormedText, IsLastBefore, IsLastPlace, bad_text, before_line, before_text, function_text, keys_text, kinds_text, not_of_kind_text, sentence_text, stood_text};
 
 use crate::heads::{kind_for, put_key};
+use crate::parts::Parts;
+use crate::spots::spot_of;
 use lin_events::{Body, Cause, Event, Name, OutOfMemory};
 use lin_formats::kind_word;
 use lin_objects::Kind;
 use lin_places::Place;
 use lin_session::Session;
 use lin_words::{name_word, put_event, put_event_spot};
-use std::alloc::AllocError;
+use std::alloc::{AllocError, Global};
 
 /// Puts the words of an event last, and where it stands.
 fn put_stood(
@@ -168,26 +171,44 @@ fn put_before_line(
     }
 }
 
-/// Puts what is told of a history last whose first bad position this is: the event, the one before it of the same process, and what is
-/// asked of histories.
+/// Puts the lines on a bad event last: the event, the one before it of the same process, and what is asked of histories.
+fn put_bad(
+    text: &mut Vec<u8>,
+    session: &Session,
+    at: usize,
+    event: &Event,
+    cause: Cause,
+    places: Option<&[Place]>,
+) -> Result<(), AllocError>
+    requires { at < length session.now.present.history }
+    ensures { OnOk result ((earlier : ℕ) × (before : Option EventOf) × IsLastBefore session.now.present.history event.now.process at earlier before
+        × (text.new.items ≡ text.old.items ++ bad_text (kinds_in session.now.present event.now.key) (option_map (λ p. p.now) places.entry) at event.now earlier before cause)) }
+{
+    let (earlier, before) = event_before(session, event.process, at);
+    put_stood(text, places, at, event)?;
+    put_before_line(text, places, earlier, before, cause)?;
+    let kind = kind_for(session, event);
+    put_sentence(text, kind, event, before, cause)
+}
+
+/// Puts what is told of a history last whose first bad position this is.
 pub(crate) fn put_ill_formed(
+    alloc: Global,
     text: &mut Vec<u8>,
     session: &Session,
     at: usize,
     cause: Cause,
     places: Option<&[Place]>,
-) -> Result<(), OutOfMemory>
+) -> Result<Parts, OutOfMemory>
     requires { at < length session.now.present.history }
-    ensures { OnOk result ((lines : List ℕ) × IsIllFormedText session.now.present.history (kinds_in session.now.present) (option_map (λ p. p.now) places.entry) at cause lines
+    ensures { IfOk result (λ parts. (lines : List ℕ)
+        × IsIllFormedText session.now.present.history (kinds_in session.now.present) (option_map (λ p. p.now) places.entry) at cause lines parts
         × (text.new.items ≡ text.old.items ++ lines)) }
 {
     let Some(event) = session.event(at) else {
         unreachable!()
     };
-    let (earlier, before) = event_before(session, event.process, at);
-    put_stood(text, places, at, event)?;
-    put_before_line(text, places, earlier, before, cause)?;
-    let kind = kind_for(session, event);
-    put_sentence(text, kind, event, before, cause)?;
-    Ok(())
+    put_bad(text, session, at, event, cause, places)?;
+    let event = spot_of(alloc, places, at, event)?;
+    Ok(Parts::IllFormed { event })
 }

@@ -1,17 +1,26 @@
-//! Why the answer is what it is: the lines of an explanation, behind the answer's own.
+//! Why the answer is what it is: the lines of an explanation, behind the answer's own, and what they say in parts.
 #![tactic(auto)]
 
 mod counts;
 mod failures;
 mod heads;
 mod ill_formed;
+mod laws;
 mod own;
+mod pairs;
+mod parts;
+mod possible;
 mod reading;
 mod refused;
+mod since;
+mod spots;
+mod tails;
 mod telling;
 mod undecided;
+mod whys;
 mod yes;
 
-pub use reading::read_placed;
+pub use parts::{Choices, Explanation, Failed, Parts, Spot, Why};
+pub use reading::{Placed, read_placed};
 pub use refused::refusal_lines;
-pub use telling::{Asked, lines_of};
+pub use telling::{Asked, explanation_of};

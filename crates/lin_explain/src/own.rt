@@ -1,7 +1,7 @@
 //! The events of one object.
 ghost use Rattle.std.specs.Prelude.{◌≡◌, ◌≤◌, ◌∷◌, ◌++◌, [], IfOk, OnOk, length, take};
 ghost use Rattle.std.specs.Ordering.{int_eq};
-ghost use Rattle.lin_explain.specs.Own.{IsOwn};
+ghost use Rattle.lin_explain.specs.inner.Own.{IsOwn};
 
 use lin_events::{Event, OutOfMemory};
 use lin_orders::parts_grow;

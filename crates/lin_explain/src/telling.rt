@@ -1,10 +1,11 @@
 //! The lines of an explanation.
-ghost use Rattle.std.specs.Prelude.{IfOk, option_map};
+ghost use Rattle.std.specs.Prelude.{◌≡◌, ◌++◌, ℕ, List, IfOk, option_map};
 ghost use Rattle.lin_session.specs.Answers.{IsAnswer};
 ghost use Rattle.lin_explain.specs.Explained.{Explains, scope_of};
 
 use crate::failures::put_no;
 use crate::ill_formed::put_ill_formed;
+use crate::parts::{Explanation, Parts};
 use crate::undecided::put_undecided;
 use crate::yes::put_yes;
 use lin_events::OutOfMemory;
@@ -23,27 +24,44 @@ pub struct Asked {
     pub keyed: bool,
 }
 
-/// The lines of an explanation that follow the answer's own line.
-pub fn lines_of(
+/// Puts what explains the answer last, and gives the same in parts.
+fn put_answer(
+    alloc: Global,
+    text: &mut Vec<u8>,
+    session: &Session,
+    answer: &Answer,
+    asked: Asked,
+    places: Option<&[Place]>,
+) -> Result<Parts, OutOfMemory>
+    requires { IsAnswer session.now.present (scope_of asked.key) answer.now }
+    ensures { IfOk result (λ parts. (lines : List ℕ) × Explains session.now.present asked (option_map (λ p. p.now) places.entry) answer.now lines parts
+        × (text.new.items ≡ text.old.items ++ lines)) }
+{
+    match answer {
+        Answer::IllFormed { at, cause } => {
+            put_ill_formed(alloc, text, session, *at, *cause, places)
+        }
+        Answer::Yes(order) => put_yes(alloc, text, session, order.as_slice(), asked),
+        Answer::No { prefix } => {
+            let failed = put_no(alloc, text, session, *prefix, places)?;
+            Ok(Parts::No(failed))
+        }
+        Answer::Undecided { at } => put_undecided(alloc, text, session, *at, places, asked.keyed),
+    }
+}
+
+/// An explanation of the answer: the lines that follow the answer's own, and what they say in parts.
+pub fn explanation_of(
     alloc: Global,
     session: &Session,
     answer: &Answer,
     asked: Asked,
     places: Option<&[Place]>,
-) -> Result<Vec<u8>, OutOfMemory>
+) -> Result<Explanation, OutOfMemory>
     requires { IsAnswer session.now.present (scope_of asked.key) answer.now }
-    ensures { IfOk result (λ lines. Explains session.now.present asked (option_map (λ p. p.now) places.entry) answer.now lines.items) }
+    ensures { IfOk result (λ told. Explains session.now.present asked (option_map (λ p. p.now) places.entry) answer.now told.lines.items told.parts) }
 {
-    let mut text = Vec::new(alloc);
-    match answer {
-        Answer::IllFormed { at, cause } => {
-            put_ill_formed(&mut text, session, *at, *cause, places)?;
-        }
-        Answer::Yes(order) => put_yes(alloc, &mut text, session, order.as_slice(), asked)?,
-        Answer::No { prefix } => put_no(alloc, &mut text, session, *prefix, places)?,
-        Answer::Undecided { at } => {
-            put_undecided(alloc, &mut text, session, *at, places, asked.keyed)?;
-        }
-    }
-    Ok(text)
+    let mut lines = Vec::new(alloc);
+    let parts = put_answer(alloc, &mut lines, session, answer, asked, places)?;
+    Ok(Explanation { lines, parts })
 }

@@ -1,13 +1,14 @@
 //! What is told where more configurations would have to be kept than the budget allows.
-ghost use Rattle.std.specs.Prelude.{◌≡◌, ◌<◌, ◌++◌, ℕ, List, OnOk, length, option_map};
-ghost use Rattle.lin_events.specs.Operations.{IsCrashed};
+ghost use Rattle.std.specs.Prelude.{◌≡◌, ◌<◌, ◌+◌, ◌++◌, ℕ, List, IfOk, OnOk, length, option_map, take};
 ghost use Rattle.lin_orders.specs.Tables.{IsNextTable};
-ghost use Rattle.lin_window.specs.Operations.{Exactly, IsOpenAt};
-ghost use Rattle.lin_window.specs.Tables.{IsTable, open_ones, told_of};
-ghost use Rattle.lin_explain.specs.Undecided.{IsUndecidedText, end_text, event_line, front_text, help_text, helps, helps_text, open_line};
+ghost use Rattle.lin_window.specs.Tables.{Told, told_of};
+ghost use Rattle.lin_explain.specs.Own.{IsStretch};
+ghost use Rattle.lin_explain.specs.Undecided.{IsOpenText, IsUndecidedText, end_text, event_line, front_text, help_text, helps, helps_text, open_line};
 
 use crate::heads::{kind_for, put_object};
 use crate::own::own_of;
+use crate::parts::Parts;
+use crate::spots::spot_of;
 use lin_events::{Event, OutOfMemory};
 use lin_formats::put_number;
 use lin_objects::Kind;
@@ -150,15 +151,39 @@ fn put_open(
     keyed: bool,
 ) -> Result<(), OutOfMemory>
     requires { IsNextTable stretch.now.events.now stretch.now.ends.now }
-    ensures { OnOk result ((running : ℕ) × (crashed : ℕ) × (table : List ℕ) × Exactly running (IsOpenAt stretch.now.events.now)
-        × Exactly crashed (IsCrashed stretch.now.events.now) × IsTable (told_of stretch.now) open_ones table
-        × (text.new.items ≡ text.old.items ++ (open_line running crashed ++ table ++ helps budget keyed running crashed))) }
+    ensures { OnOk result ((lines : List ℕ) × IsOpenText (told_of stretch.now) budget keyed lines × (text.new.items ≡ text.old.items ++ lines)) }
 {
     let (running, crashed) = open_counts(stretch.events, stretch.ends);
     put_open_line(text, running, crashed)?;
     put_operations(alloc, text, stretch, &Listed::Open)?;
     put_help_line(text, budget, keyed, running, crashed)?;
     Ok(())
+}
+
+/// Puts what is told of the object's operations last, which are open behind the event at the position.
+fn put_object_open(
+    alloc: Global,
+    text: &mut Vec<u8>,
+    session: &Session,
+    at: usize,
+    event: &Event,
+    places: Option<&[Place]>,
+    keyed: bool,
+) -> Result<(), OutOfMemory>
+    requires { at < length session.now.present.history }
+    ensures { OnOk result ((stretch : Told) × (lines : List ℕ) × IsStretch event.now.key (take (at + 1) session.now.present.history) (option_map (λ p. p.now) places.entry) stretch
+        × IsOpenText stretch session.now.present.budget keyed lines × (text.new.items ≡ text.old.items ++ lines)) }
+{
+    let _count = session.len();
+    let own = own_of(alloc, session, event, at + 1)?;
+    let ends = ends_of(alloc, own.events.as_slice())?;
+    let stretch = Stretch {
+        events: own.events.as_slice(),
+        ends: ends.as_slice(),
+        picks: own.picks.as_slice(),
+        places,
+    };
+    put_open(alloc, text, &stretch, session.budget(), keyed)
 }
 
 /// Puts what is told last where the events up to and with a position are too many for the budget.
@@ -169,24 +194,20 @@ pub(crate) fn put_undecided(
     at: usize,
     places: Option<&[Place]>,
     keyed: bool,
-) -> Result<(), OutOfMemory>
+) -> Result<Parts, OutOfMemory>
     requires { at < length session.now.present.history }
-    ensures { OnOk result ((lines : List ℕ) × IsUndecidedText session.now.present keyed (option_map (λ p. p.now) places.entry) at lines
+    ensures { IfOk result (λ parts. (lines : List ℕ) × IsUndecidedText session.now.present keyed (option_map (λ p. p.now) places.entry) at lines parts
         × (text.new.items ≡ text.old.items ++ lines)) }
 {
     let Some(event) = session.event(at) else {
         unreachable!()
     };
     let kind = kind_for(session, event);
-    let _count = session.len();
     put_event_line(text, kind, session.budget(), places, at, event)?;
-    let own = own_of(alloc, session, event, at + 1)?;
-    let ends = ends_of(alloc, own.events.as_slice())?;
-    let stretch = Stretch {
-        events: own.events.as_slice(),
-        ends: ends.as_slice(),
-        picks: own.picks.as_slice(),
-        places,
-    };
-    put_open(alloc, text, &stretch, session.budget(), keyed)
+    put_object_open(alloc, text, session, at, event, places, keyed)?;
+    Ok(Parts::Undecided {
+        key: event.key,
+        kind,
+        event: spot_of(alloc, places, at, event)?,
+    })
 }

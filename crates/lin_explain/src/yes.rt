@@ -1,12 +1,15 @@
 //! What is told of a yes.
 ghost use Rattle.std.specs.Prelude.{◌≡◌, ◌-◌, ◌++◌, ℕ, List, IfOk, OnOk, decimal, length};
-ghost use Rattle.lin_explain.specs.Yes.{AreObjects, IsYesText, counts_text, open_counts_text, order_line, placed_in, places_text};
+ghost use Rattle.lin_explain.specs.Parts.{object_in};
+ghost use Rattle.lin_explain.specs.Yes.{AreObjects, IsYesText, counts_text, open_counts_text, order_line, placed_in, places_text, yes_text};
 ghost use Rattle.lin_explain.specs.Counts.{count_in, open_in};
 
 use crate::counts::{Sort, count, count_open};
+use crate::parts::Parts;
 use crate::telling::Asked;
 use lin_events::OutOfMemory;
 use lin_formats::{put_number, write_order};
+use lin_objects::Kind;
 use lin_orders::Placed;
 use lin_session::Session;
 use std::alloc::{AllocError, Global};
@@ -119,19 +122,46 @@ fn put_order_line(text: &mut Vec<u8>, with_order: bool, order: &[Placed]) -> Res
     Ok(())
 }
 
-/// Puts what is told of a yes last: how many operations there are, how many open ones the order places, and the order if it is wanted.
-pub(crate) fn put_yes(
+/// Puts the lines on a yes last: how many operations there are, how many open ones the order places, and the order if it is wanted.
+fn put_lines(
     alloc: Global,
     text: &mut Vec<u8>,
     session: &Session,
     order: &[Placed],
     asked: Asked,
 ) -> Result<(), OutOfMemory>
-    ensures { OnOk result ((lines : List ℕ) × IsYesText asked.key asked.with_order session.now.present.history order.now lines
-        × (text.new.items ≡ text.old.items ++ lines)) }
+    ensures { OnOk result ((objects : ℕ) × AreObjects asked.key session.now.present.history objects
+        × (text.new.items ≡ text.old.items ++ yes_text asked.key asked.with_order session.now.present.history objects order.now)) }
 {
     let objects = objects_of(alloc, session, asked.key)?;
     put_counts(text, session, asked.key, objects)?;
     put_places(text, session, asked.key, order)?;
     put_order_line(text, asked.with_order, order)
+}
+
+/// The object of the key with its kind, if one is named.
+fn object_of(session: &Session, key: Option<i64>) -> Option<(i64, Kind)>
+    ensures { result ≡ object_in session.now.present key }
+{
+    match key {
+        Some(key) => Some((key, session.kind_of(key))),
+        None => None,
+    }
+}
+
+/// Puts what is told of a yes last.
+pub(crate) fn put_yes(
+    alloc: Global,
+    text: &mut Vec<u8>,
+    session: &Session,
+    order: &[Placed],
+    asked: Asked,
+) -> Result<Parts, OutOfMemory>
+    ensures { IfOk result (λ parts. (lines : List ℕ) × IsYesText session.now.present asked.key asked.with_order order.now lines parts
+        × (text.new.items ≡ text.old.items ++ lines)) }
+{
+    put_lines(alloc, text, session, order, asked)?;
+    Ok(Parts::Yes {
+        object: object_of(session, asked.key),
+    })
 }

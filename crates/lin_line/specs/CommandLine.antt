@@ -1,22 +1,46 @@
 -- The command line, as `clap` defines it for this program.
-use Rattle.std.specs.Prelude.{◌≡◌, ◌⊎◌, ℕ, ℤ, pos, negsuc, Bool, List, [], ◌∷◌, Some, None, Option, option_and_then, option_map, map, true, false, codes}
+use Rattle.std.specs.Prelude.{◌≡◌, ◌⊎◌, ◌<◌, ◌+◌, ℕ, ℤ, pos, negsuc, Bool, List, [], ◌∷◌, ◌++◌, Some, None, Option, ⊤, is_ok, nat_lt, option_and_then, option_map, unwrap_or, count_by, length, map, true, false, codes, if◌then◌else◌}
 use Rattle.std.specs.Str.{bytes_eq}
 use Rattle.std.specs.Str.Parse.{digits_value, signed_digits_value, without_leading_plus}
-use Rattle.clap.specs.Words.{App, Rule, Row, Text, new_app, new_rule, with_rule, with_subcommand, first_of, subcommand_of, HasKind, fault_of, kind_of, IsSignedIn, IsUnsignedIn}
-use Rattle.clap.specs.declared.builder.action.ArgAction.TheVariants.{Set, SetTrue}
+use Rattle.clap.specs.Lexer.{usize_max}
+use Rattle.clap.specs.Words.{App, Rule, Row, Text, all_of, new_app, new_rule, with_rule, with_subcommand, first_of, subcommand_of, HasKind, fault_of, kind_of, IsSignedIn, IsUnsignedIn}
+use Rattle.clap.specs.declared.builder.action.ArgAction.TheVariants.{Set, SetTrue, Append}
 use Rattle.clap.specs.declared.builder.value_parser.ValueParser.{ValueParser}
 use Rattle.clap.specs.declared.builder.value_parser.ValueParser.TheVariants.{Names, Signed, Unsigned}
 use Rattle.clap.specs.declared.error.Error.{Error}
-use Rattle.clap.specs.declared.error.kind.ErrorKind.TheVariants.{OutOfMemory}
+use Rattle.clap.specs.declared.error.kind.ErrorKind.{ErrorKind}
+use Rattle.clap.specs.declared.error.kind.ErrorKind.TheVariants.{ArgumentConflict, MissingRequiredArgument, OutOfMemory}
 use Rattle.lin_formats.specs.Kinds.{kind_named, kind_words}
+use Rattle.lin_formats.specs.Orders.{order_of}
 use Rattle.lin_formats.specs.declared.settings.Settings.{Settings}
+use Rattle.lin_line.specs.declared.misuse.NoLine.{NoLine}
+use Rattle.lin_line.specs.declared.misuse.NoLine.TheVariants.{NoOrder, TwoOrders, InputTwice, Unsaid}
+use Rattle.lin_line.specs.declared.words.Format.{Format}
+use Rattle.lin_line.specs.declared.words.Format.TheVariants as format
+use Rattle.lin_line.specs.declared.words.Order.{Order}
+use Rattle.lin_line.specs.declared.words.Order.TheVariants.{Given, InFile}
 use Rattle.lin_line.specs.declared.words.Line.{Line}
-use Rattle.lin_line.specs.declared.words.Line.TheVariants.{Verify, Check, Explain, Edit}
+use Rattle.lin_line.specs.declared.words.Line.TheVariants.{Verify, Check, Explain, Draw, Edit}
 
--- just the words for kinds pass
-abbrev pub IsKindParser : ValueParser → Type 0
-IsKindParser (Names names) = map (λ name. name.now) names.now ≡ kind_words
-IsKindParser _ = ⊥
+-- the words for the ways in which an answer is printed
+abbrev pub format_words : List Text
+format_words = codes "text" ∷ codes "json" ∷ []
+
+abbrev pub format_named : Text → Option Format
+format_named word = if bytes_eq word (codes "text") then Some format.Text else (if bytes_eq word (codes "json") then Some format.Json else None)
+
+-- just these words pass
+abbrev pub AreNames : List Text → ValueParser → Type 0
+AreNames words (Names names) = map (λ name. name.now) names.now ≡ words
+AreNames words _ = ⊥
+
+-- what is known to pass as a kind, and as a way of printing
+pub record Parsers : Type 0 where
+  pub kinds : ValueParser
+  pub formats : ValueParser
+
+abbrev pub AreParsers : Parsers → Type 0
+AreParsers parsers = AreNames kind_words parsers.kinds × AreNames format_words parsers.formats
 
 -- the option that names a kind; its parser knows the words
 abbrev pub kind_rule : ValueParser → Rule
@@ -28,11 +52,15 @@ keyed_rule = record (new_rule (codes "keyed")) { long = Some (codes "keyed"); ac
 abbrev pub file_rule : Rule
 file_rule = record (new_rule (codes "file")) { value_names = 1; action = Some Set; required = true }
 
+-- one word or more, in any number of places among the options
+abbrev pub files_rule : Rule
+files_rule = record (new_rule (codes "file")) { value_names = 1; action = Some Append; required = true; range = Some (record { start_inclusive = 1; end_inclusive = usize_max }) }
+
 abbrev pub optional_file_rule : Rule
 optional_file_rule = record (new_rule (codes "file")) { value_names = 1; action = Some Set }
 
-abbrev pub order_rule : Rule
-order_rule = record (new_rule (codes "order")) { value_names = 1; action = Some Set; required = true }
+abbrev pub order_file_rule : Rule
+order_file_rule = record (new_rule (codes "order-file")) { value_names = 1; long = Some (codes "order-file"); action = Some Set }
 
 -- the number that the text spells, with or without a `+` before its digits, where it is 1 to 1,000,000
 abbrev pub SpellsBudget : Text → ℕ → Type 0
@@ -51,28 +79,37 @@ key_rule = record (new_rule (codes "key")) { value_names = 1; long = Some (codes
 abbrev pub order_flag_rule : Rule
 order_flag_rule = record (new_rule (codes "order")) { long = Some (codes "order"); action = Some SetTrue }
 
+-- the option that names a way of printing; its parser knows the words
+abbrev pub format_rule : ValueParser → Rule
+format_rule parser = record (new_rule (codes "format")) { value_names = 1; long = Some (codes "format"); action = Some Set; defaults = codes "text" ∷ []; parser = Some parser }
+
 -- a command with the options that each command has
 abbrev pub with_options : ValueParser → App → App
 with_options parser app = with_rule (with_rule (with_rule app (kind_rule parser)) keyed_rule) budget_rule
 
+abbrev pub check_app : Parsers → App
+check_app parsers = with_options parsers.kinds (with_rule (with_rule (new_app (codes "check")) files_rule) (format_rule parsers.formats))
+
+abbrev pub explain_app : Parsers → App
+explain_app parsers = with_options parsers.kinds (with_rule (with_rule (with_rule (with_rule (new_app (codes "explain")) file_rule) key_rule) order_flag_rule) (format_rule parsers.formats))
+
+abbrev pub draw_app : ValueParser → App
+draw_app parser = with_options parser (with_rule (with_rule (new_app (codes "draw")) file_rule) key_rule)
+
 abbrev pub verify_app : ValueParser → App
-verify_app parser = with_options parser (with_rule (with_rule (new_app (codes "verify")) file_rule) order_rule)
-
-abbrev pub check_app : ValueParser → App
-check_app parser = with_options parser (with_rule (new_app (codes "check")) file_rule)
-
-abbrev pub explain_app : ValueParser → App
-explain_app parser = with_options parser (with_rule (with_rule (with_rule (new_app (codes "explain")) file_rule) key_rule) order_flag_rule)
+verify_app parser = with_options parser (with_rule (with_rule (new_app (codes "verify")) files_rule) order_file_rule)
 
 abbrev pub edit_app : ValueParser → App
 edit_app parser = with_options parser (with_rule (new_app (codes "edit")) optional_file_rule)
 
-abbrev pub required : App → App
-required a = record a { top = record a.top { subcommand_required = true } }
+-- without a command, a program of this name with a version
+abbrev pub lincheck_app : App
+lincheck_app = let bare = new_app (codes "lincheck") in record bare { top = record bare.top { subcommand_required = true; has_version = true } }
 
--- the program, with its four commands
-abbrev pub program_app : ValueParser → App
-program_app parser = with_subcommand (with_subcommand (with_subcommand (with_subcommand (required (new_app (codes "lincheck"))) (verify_app parser).top) (check_app parser).top) (explain_app parser).top) (edit_app parser).top
+-- the program, with its five commands
+abbrev pub program_app : Parsers → App
+program_app parsers = with_subcommand (with_subcommand (with_subcommand (with_subcommand (with_subcommand lincheck_app (check_app parsers).top) (explain_app parsers).top)
+    (draw_app parsers.kinds).top) (verify_app parsers.kinds).top) (edit_app parsers.kinds).top
 
 -- the flag's value is the word for yes
 abbrev pub is_given : Option Text → Bool
@@ -89,20 +126,68 @@ HasSettings rows settings =
 abbrev pub GivesText : List Row → Text → Option Text → Type 0
 GivesText rows name text = first_of name rows ≡ text
 
+-- all texts that the matches give for the name, in their order
+abbrev pub texts_of : Text → List Row → List Text
+texts_of name rows = unwrap_or (all_of name rows) []
+
 -- the matches give no word for a key, or one that spells this key
 abbrev pub GivesKey : List Row → Option ℤ → Type 0
 GivesKey rows None = GivesText rows (codes "key") None
 GivesKey rows (Some key) = (text : Text) × GivesText rows (codes "key") (Some text) × SpellsKey text key
 
--- The line is what a command and its matches say: `verify` with a file and an order, `check` with a file, `explain` with a file, a key or
--- none, and whether an order is wanted, or `edit`, with a file or none; each with its settings.
+-- the matches name this way of printing
+abbrev pub GivesFormat : List Row → Format → Type 0
+GivesFormat rows format = option_and_then format_named (first_of (codes "format") rows) ≡ Some format
+
+-- how many of the names are that of standard input
+abbrev pub input_count : List Text → ℕ
+input_count names = count_by (λ name. bytes_eq name (codes "-")) names
+
+-- more than one of the words that may name a file names standard input
+abbrev pub names_input_twice : List Row → Bool
+names_input_twice rows = nat_lt 1 (input_count (texts_of (codes "file") rows) + input_count (texts_of (codes "order-file") rows))
+
+-- the words are one or more, and then the text of an order
+abbrev pub EndInOrder : List Text → Type 0
+EndInOrder words = (names : List Text) × (text : Text) × (words ≡ names ++ text ∷ []) × (0 < length names) × (is_ok (order_of text) ≡ true)
+
+-- The order and the names of files that words say: where an order file is named, each word names a file, and the last of several isn't the
+-- text of an order; else the last word is the order.
+abbrev pub SayOrder : List Text → Option Text → Order → List Text → Type 0
+SayOrder words (Some name) (InFile path) files = (path.now ≡ name) × (files ≡ words) × (EndInOrder words → ⊥)
+SayOrder words None (Given order) files = words ≡ files ++ order.now ∷ []
+SayOrder words _ _ files = ⊥
+
+-- these are the names of files, one at least, and standard input isn't named twice
+abbrev pub AreFiles : List Row → List Text → Type 0
+AreFiles rows files = (0 < length files) × (names_input_twice rows ≡ false)
+
+-- The line is what a command and its matches say: `check` with files and a way of printing; `explain` with a file, a key or none, whether an
+-- order is wanted, and a way of printing; `draw` with a file and a key or none; `verify` with files and an order; or `edit`, with a file or
+-- none; each with its settings.
 abbrev pub Says : Text × List Row → Line → Type 0
-Says found (Verify settings file order) =
-    (found.0 ≡ codes "verify") × GivesText found.1 (codes "file") (Some file.now) × GivesText found.1 (codes "order") (Some order.now) × HasSettings found.1 settings
-Says found (Check settings file) = (found.0 ≡ codes "check") × GivesText found.1 (codes "file") (Some file.now) × HasSettings found.1 settings
-Says found (Explain settings key with_order file) =
-    (found.0 ≡ codes "explain") × GivesText found.1 (codes "file") (Some file.now) × GivesKey found.1 key × (with_order ≡ is_given (first_of (codes "order") found.1)) × HasSettings found.1 settings
+Says found (Check settings format files) =
+    (found.0 ≡ codes "check") × (map (λ name. name.now) files.items ≡ texts_of (codes "file") found.1) × AreFiles found.1 (texts_of (codes "file") found.1) × GivesFormat found.1 format × HasSettings found.1 settings
+Says found (Explain settings key with_order format file) =
+    (found.0 ≡ codes "explain") × GivesText found.1 (codes "file") (Some file.now) × GivesKey found.1 key × (with_order ≡ is_given (first_of (codes "order") found.1)) × GivesFormat found.1 format × HasSettings found.1 settings
+Says found (Draw settings key file) = (found.0 ≡ codes "draw") × GivesText found.1 (codes "file") (Some file.now) × GivesKey found.1 key × HasSettings found.1 settings
+Says found (Verify settings order files) =
+    (found.0 ≡ codes "verify") × SayOrder (texts_of (codes "file") found.1) (first_of (codes "order-file") found.1) order (map (λ name. name.now) files.items)
+    × AreFiles found.1 (map (λ name. name.now) files.items) × HasSettings found.1 settings
 Says found (Edit settings file) = (found.0 ≡ codes "edit") × GivesText found.1 (codes "file") (option_map (λ name. name.now) file) × HasSettings found.1 settings
+
+-- Why a command and its matches say no line: `verify` has neither an order nor an order file, or both; or standard input is named twice.
+abbrev pub IsUnsaid : Text × List Row → NoLine → Type 0
+IsUnsaid found NoOrder = (found.0 ≡ codes "verify") × GivesText found.1 (codes "order-file") None × (length (texts_of (codes "file") found.1) < 2)
+IsUnsaid found TwoOrders = (found.0 ≡ codes "verify") × ((name : Text) × GivesText found.1 (codes "order-file") (Some name)) × EndInOrder (texts_of (codes "file") found.1)
+IsUnsaid found InputTwice = names_input_twice found.1 ≡ true
+IsUnsaid found Unsaid = ⊤
+
+abbrev pub refusal_kind : NoLine → ErrorKind
+refusal_kind NoOrder = MissingRequiredArgument
+refusal_kind TwoOrders = ArgumentConflict
+refusal_kind InputTwice = ArgumentConflict
+refusal_kind Unsaid = OutOfMemory
 
 -- the matches name no kind or lack a budget
 abbrev pub LacksSettings : List Row → Type 0
@@ -112,18 +197,17 @@ LacksSettings rows = (option_and_then kind_named (first_of (codes "kind") rows) 
 abbrev pub LacksKey : List Row → Type 0
 LacksKey rows = (text : Text) × GivesText rows (codes "key") (Some text) × ((key : ℤ) → SpellsKey text key → ⊥)
 
--- memory ran out, or the error is one that `clap` defines for the program at these words
+-- the words have no fault, and this is the command that they name, with its matches
+abbrev pub Finds : Parsers → List Text → Text × List Row → Type 0
+Finds parsers words found = (fault_of (program_app parsers) words ≡ []) × (subcommand_of (program_app parsers) words ≡ Some found)
+
+-- Memory ran out; or the error is one that `clap` defines for the program at these words; or `clap` takes them, and they say no line for
+-- this reason.
 abbrev pub IsRefusalOf : List Text → Error → Type 0
-IsRefusalOf words e = (kind_of e ≡ OutOfMemory) ⊎ ((parser : ValueParser) × IsKindParser parser × HasKind (fault_of (program_app parser) words) e)
+IsRefusalOf words e = (kind_of e ≡ OutOfMemory)
+    ⊎ ((parsers : Parsers) × AreParsers parsers × HasKind (fault_of (program_app parsers) words) e)
+    ⊎ ((parsers : Parsers) × AreParsers parsers × (found : Text × List Row) × Finds parsers words found × (why : NoLine) × IsUnsaid found why × (kind_of e ≡ refusal_kind why))
 
 -- the line is what `clap` defines for the program from these words, the program's name first, and they have no fault there
 abbrev pub IsLineOf : List Text → Line → Type 0
-IsLineOf words line = (parser : ValueParser) × IsKindParser parser × (fault_of (program_app parser) words ≡ [])
-    × (found : Text × List Row) × (subcommand_of (program_app parser) words ≡ Some found) × Says found line
-
--- the name of the line's file, if there is one
-abbrev pub file_of : Line → Option (List ℕ)
-file_of (Verify settings file order) = Some file.now
-file_of (Check settings file) = Some file.now
-file_of (Explain settings key with_order file) = Some file.now
-file_of (Edit settings file) = option_map (λ name. name.now) file
+IsLineOf words line = (parsers : Parsers) × AreParsers parsers × (found : Text × List Row) × Finds parsers words found × Says found line

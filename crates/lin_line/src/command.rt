@@ -1,20 +1,26 @@
 //! The command line as `clap` knows it.
-ghost use Rattle.std.specs.Prelude.{◌≡◌, ◌⊎◌, ℕ, ℤ, None, codes, IfOk, IfSome, IfNone, true, false, option_map};
-ghost use Rattle.clap.specs.Words.{app_of, first_of, found_of, rows_of, rule_of};
-ghost use Rattle.clap.specs.declared.builder.value_parser.ValueParser.{ValueParser as ParserOf};
+ghost use Rattle.std.specs.Prelude.{◌≡◌, Some, IfOk, map, true, false};
+ghost use Rattle.clap.specs.Words.{app_of, kind_of, rule_of};
 ghost use Rattle.clap.specs.declared.builder.value_parser.ValueParser.TheVariants.{Names};
 ghost use Rattle.clap.specs.declared.builder.command.Command.TheViews.{out-Command as fields_of};
-ghost use Rattle.lin_line.specs.declared.words.Line.{Line as LineOf};
-ghost use Rattle.lin_line.specs.CommandLine.{budget_rule, check_app, edit_app, explain_app, file_rule, key_rule, keyed_rule, kind_rule, optional_file_rule, order_rule, program_app, verify_app, order_flag_rule, is_given as given, with_options as options_of, GivesText, HasSettings, SpellsBudget, SpellsKey, IsKindParser, LacksKey, LacksSettings, Says};
+ghost use Rattle.lin_line.specs.CommandLine.{budget_rule, check_app, draw_app, edit_app, explain_app, file_rule, files_rule, format_rule, key_rule, keyed_rule, kind_rule, optional_file_rule, order_file_rule, order_flag_rule, program_app, refusal_kind, verify_app, with_options as options_of, AreParsers, Parsers};
+ghost use Rattle.lin_line.specs.CommandLine as said;
 
-use crate::words::Line;
+use crate::misuse::NoLine;
+use crate::version::VERSION;
 use clap::builder::ValueParser;
-use clap::{Arg, ArgAction, ArgMatches, Command};
-use lin_formats::{Settings, kind_named, kind_words};
+use clap::{Arg, ArgAction, Command, Error};
+use lin_formats::kind_words;
 use std::alloc::{AllocError, Global};
 
-/// The greatest budget.
-const MOST_BUDGET: u32 = 1_000_000;
+/// The words for the ways in which an answer is printed.
+const FORMATS: [&str; 2] = ["text", "json"];
+
+fn format_words<'a>() -> &'a [&'a str]
+    ensures { map (λ word. word.now) result.now ≡ said.format_words }
+{
+    FORMATS.as_slice()
+}
 
 fn kind_option<'a>(alloc: Global, kinds: &'a [&'a str]) -> Arg<'a>
     ensures rule { rule_of result ≡ kind_rule (Names kinds.entry) }
@@ -36,7 +42,7 @@ fn budget_option<'a>(alloc: Global) -> Arg<'a>
     Arg::new(alloc, "budget")
         .long("budget")
         .value_name("N")
-        .help("How many configurations are kept for one object")
+        .help("How many configurations are kept for one object, 1 to 1000000")
         .action(ArgAction::Set)
         .value_parser(ValueParser::unsigned(1, 1_000_000))
         .default_value("65536")
@@ -58,9 +64,21 @@ fn file_argument<'a>(alloc: Global) -> Arg<'a>
 {
     Arg::new(alloc, "file")
         .value_name("FILE")
-        .help("A recorded history: operation maps in EDN")
+        .help("A recorded history, operation maps in EDN; - is standard input")
         .required(true)
         .action(ArgAction::Set)
+}
+
+fn files_argument<'a>(alloc: Global, help: &'a str) -> Arg<'a>
+    ensures rule { rule_of result ≡ files_rule }
+    ensures local { result.global ≡ false }
+{
+    Arg::new(alloc, "file")
+        .value_name("FILE")
+        .help(help)
+        .required(true)
+        .num_args(1..)
+        .action(ArgAction::Append)
 }
 
 fn optional_file_argument<'a>(alloc: Global) -> Arg<'a>
@@ -69,18 +87,18 @@ fn optional_file_argument<'a>(alloc: Global) -> Arg<'a>
 {
     Arg::new(alloc, "file")
         .value_name("FILE")
-        .help("A recorded history to pull from: operation maps in EDN")
+        .help("A recorded history to pull from, operation maps in EDN")
         .action(ArgAction::Set)
 }
 
-fn order_argument<'a>(alloc: Global) -> Arg<'a>
-    ensures rule { rule_of result ≡ order_rule }
-    ensures local { result.global ≡ false }
+fn order_file_option<'a>(alloc: Global) -> Arg<'a>
+    ensures rule { rule_of result ≡ order_file_rule }
+    ensures local { (result.required ≡ false) × (result.global ≡ false) }
 {
-    Arg::new(alloc, "order")
-        .value_name("ORDER")
-        .help("Operations with replies, as '0=done 1=1', or 'empty'")
-        .required(true)
+    Arg::new(alloc, "order-file")
+        .long("order-file")
+        .value_name("ORDERS")
+        .help("A file that holds the order, in place of ORDER; - is standard input")
         .action(ArgAction::Set)
 }
 
@@ -91,7 +109,7 @@ fn key_option<'a>(alloc: Global) -> Arg<'a>
     Arg::new(alloc, "key")
         .long("key")
         .value_name("KEY")
-        .help("Explain this object, not the whole; one below zero as --key=-1")
+        .help("This object alone, not the whole; a key below zero as --key=-1")
         .action(ArgAction::Set)
         .value_parser(ValueParser::signed(i64::MIN, i64::MAX))
 }
@@ -104,6 +122,19 @@ fn order_flag<'a>(alloc: Global) -> Arg<'a>
         .long("order")
         .help("End a yes with a legal order")
         .action(ArgAction::SetTrue)
+}
+
+fn format_option<'a>(alloc: Global, formats: &'a [&'a str]) -> Arg<'a>
+    ensures rule { rule_of result ≡ format_rule (Names formats.entry) }
+    ensures local { (result.required ≡ false) × (result.global ≡ false) }
+{
+    Arg::new(alloc, "format")
+        .long("format")
+        .value_name("FORMAT")
+        .help("How the answer is printed")
+        .action(ArgAction::Set)
+        .value_parser(formats)
+        .default_value("text")
 }
 
 /// The command with the options that each command has.
@@ -121,36 +152,71 @@ fn with_options<'a>(
         .arg(budget_option(alloc))
 }
 
+fn check_command<'a>(
+    alloc: Global,
+    kinds: &'a [&'a str],
+    formats: &'a [&'a str],
+) -> Result<Command<'a>, AllocError>
+    ensures app { IfOk result (λ command. app_of command ≡ check_app (record { kinds = Names kinds.entry; formats = Names formats.entry })) }
+    ensures local { IfOk result (λ command. (fields_of command).has_globals ≡ false) }
+{
+    let command = Command::new(alloc, "check")
+        .about("Tells whether the history in each FILE is linearizable")
+        .override_usage("lincheck check [OPTIONS] <FILE>...")
+        .after_help("Example: lincheck check --kind fifo --format json history.edn")
+        .arg(files_argument(
+            alloc,
+            "Recorded histories, operation maps in EDN; - is standard input",
+        ))?
+        .arg(format_option(alloc, formats))?;
+    with_options(alloc, kinds, command)
+}
+
+fn explain_command<'a>(
+    alloc: Global,
+    kinds: &'a [&'a str],
+    formats: &'a [&'a str],
+) -> Result<Command<'a>, AllocError>
+    ensures app { IfOk result (λ command. app_of command ≡ explain_app (record { kinds = Names kinds.entry; formats = Names formats.entry })) }
+    ensures local { IfOk result (λ command. (fields_of command).has_globals ≡ false) }
+{
+    let command = Command::new(alloc, "explain")
+        .about("Tells why the history in FILE is linearizable, or why it isn't")
+        .after_help("Example: lincheck explain --keyed --key 3 history.edn")
+        .arg(file_argument(alloc))?
+        .arg(key_option(alloc))?
+        .arg(order_flag(alloc))?
+        .arg(format_option(alloc, formats))?;
+    with_options(alloc, kinds, command)
+}
+
+fn draw_command<'a>(alloc: Global, kinds: &'a [&'a str]) -> Result<Command<'a>, AllocError>
+    ensures app { IfOk result (λ command. app_of command ≡ draw_app (Names kinds.entry)) }
+    ensures local { IfOk result (λ command. (fields_of command).has_globals ≡ false) }
+{
+    let command = Command::new(alloc, "draw")
+        .about("Prints a picture of the history in FILE, as SVG")
+        .after_help("Example: lincheck draw --keyed --key 3 history.edn > history.svg")
+        .arg(file_argument(alloc))?
+        .arg(key_option(alloc))?;
+    with_options(alloc, kinds, command)
+}
+
 fn verify_command<'a>(alloc: Global, kinds: &'a [&'a str]) -> Result<Command<'a>, AllocError>
     ensures app { IfOk result (λ command. app_of command ≡ verify_app (Names kinds.entry)) }
     ensures local { IfOk result (λ command. (fields_of command).has_globals ≡ false) }
 {
     let command = Command::new(alloc, "verify")
-        .about("Tells whether ORDER is a legal order of the history in FILE")
-        .arg(file_argument(alloc))?
-        .arg(order_argument(alloc))?;
-    with_options(alloc, kinds, command)
-}
-
-fn check_command<'a>(alloc: Global, kinds: &'a [&'a str]) -> Result<Command<'a>, AllocError>
-    ensures app { IfOk result (λ command. app_of command ≡ check_app (Names kinds.entry)) }
-    ensures local { IfOk result (λ command. (fields_of command).has_globals ≡ false) }
-{
-    let command = Command::new(alloc, "check")
-        .about("Tells whether the history in FILE is linearizable")
-        .arg(file_argument(alloc))?;
-    with_options(alloc, kinds, command)
-}
-
-fn explain_command<'a>(alloc: Global, kinds: &'a [&'a str]) -> Result<Command<'a>, AllocError>
-    ensures app { IfOk result (λ command. app_of command ≡ explain_app (Names kinds.entry)) }
-    ensures local { IfOk result (λ command. (fields_of command).has_globals ≡ false) }
-{
-    let command = Command::new(alloc, "explain")
-        .about("Tells why the history in FILE is linearizable, or why it isn't")
-        .arg(file_argument(alloc))?
-        .arg(key_option(alloc))?
-        .arg(order_flag(alloc))?;
+        .about("Tells whether an order is a legal order of the history in each FILE")
+        .override_usage(
+            "lincheck verify [OPTIONS] <FILE>... <ORDER>\n       lincheck verify [OPTIONS] --order-file <ORDERS> <FILE>...",
+        )
+        .after_help("Example: lincheck verify history.edn '0=done 2=1'")
+        .arg(files_argument(
+            alloc,
+            "Recorded histories, operation maps in EDN; - is standard input. Without --order-file the last word is ORDER: operations with replies, as '0=done 2=1', or 'empty'",
+        ))?
+        .arg(order_file_option(alloc))?;
     with_options(alloc, kinds, command)
 }
 
@@ -162,150 +228,43 @@ fn edit_command<'a>(alloc: Global, kinds: &'a [&'a str]) -> Result<Command<'a>, 
         .about(
             "Carries out the commands of standard input on a history; pull appends FILE's events",
         )
+        .after_help("Example: printf 'pull\\nask\\n' | lincheck edit history.edn")
         .arg(optional_file_argument(alloc))?;
     with_options(alloc, kinds, command)
 }
 
 /// The whole program's command.
 pub fn program<'a>(alloc: Global) -> Result<Command<'a>, AllocError>
-    ensures { IfOk result (λ command. (parser : ParserOf) × IsKindParser parser × (app_of command ≡ program_app parser)) }
+    ensures { IfOk result (λ command. (parsers : Parsers) × AreParsers parsers × (app_of command ≡ program_app parsers)) }
 {
     let kinds = kind_words();
+    let formats = format_words();
     Command::new(alloc, "lincheck")
         .about("Checks recorded histories for linearizability")
+        .version(VERSION)
         .subcommand_required(true)
+        .after_help(
+            "Example: lincheck check history.edn\nExit status: 0 yes, 1 no, 2 undecided, 3 ill-formed, 4 input refused, 5 command line refused, 6 memory or a device failed",
+        )
+        .subcommand(check_command(alloc, kinds, formats)?)?
+        .subcommand(explain_command(alloc, kinds, formats)?)?
+        .subcommand(draw_command(alloc, kinds)?)?
         .subcommand(verify_command(alloc, kinds)?)?
-        .subcommand(check_command(alloc, kinds)?)?
-        .subcommand(explain_command(alloc, kinds)?)?
         .subcommand(edit_command(alloc, kinds)?)
 }
 
-/// The text that `clap` found for the name.
-fn text_of<'a>(matches: &ArgMatches<'a>, name: &str) -> Option<&'a str>
-    ensures { option_map (λ text. text.now) result ≡ first_of name.now (rows_of (found_of matches.now)) }
-{
-    matches.get_str(name)
-}
-
-/// Whether the text of a flag says that it was given.
-fn is_given(text: Option<&str>) -> bool
-    ensures { result ≡ given (option_map (λ word. word.now) text.entry) }
-{
-    match text {
-        Some(word) => word == "true",
-        None => false,
+/// The command of this name, of those that can say no line.
+fn refusing<'a>(alloc: Global, name: &str) -> Result<Command<'a>, AllocError> {
+    let kinds = kind_words();
+    match name {
+        "verify" => verify_command(alloc, kinds),
+        _ => check_command(alloc, kinds, format_words()),
     }
 }
 
-/// The budget that a text spells, where it is one.
-fn budget_of(text: &str) -> Option<u32>
-    ensures some { IfSome result (SpellsBudget text.now) }
-    ensures none { IfNone result ((n : ℕ) → SpellsBudget text.now n → ⊥) }
+/// Why a command's words say no line, as `clap` tells what it refuses itself.
+pub fn refusal(alloc: Global, name: &str, why: NoLine) -> Result<Error, AllocError>
+    ensures { IfOk result (λ e. kind_of e ≡ refusal_kind why) }
 {
-    match text.parse::<u32>() {
-        Ok(budget) if 1 <= budget && budget <= MOST_BUDGET => Some(budget),
-        _ => None,
-    }
-}
-
-/// The key that a text spells, where it is one.
-fn key_of(text: &str) -> Option<i64>
-    ensures some { IfSome result (SpellsKey text.now) }
-    ensures none { IfNone result ((key : ℤ) → SpellsKey text.now key → ⊥) }
-{
-    match text.parse::<i64>() {
-        Ok(key) => Some(key),
-        Err(_) => None,
-    }
-}
-
-/// What the options say; none where `clap` found no word for a kind, or no budget: both have defaults.
-fn settings_of<'a>(matches: &ArgMatches<'a>) -> Option<Settings>
-    ensures some { IfSome result (HasSettings (rows_of (found_of matches.now))) }
-    ensures none { IfNone result (LacksSettings (rows_of (found_of matches.now))) }
-{
-    let Some(word) = text_of(matches, "kind") else {
-        return None;
-    };
-    let Some(kind) = kind_named(word.as_bytes()) else {
-        return None;
-    };
-    let Some(budget) = text_of(matches, "budget") else {
-        return None;
-    };
-    let Some(budget) = budget_of(budget) else {
-        return None;
-    };
-    Some(Settings {
-        kind,
-        keyed: is_given(text_of(matches, "keyed")),
-        budget,
-    })
-}
-
-/// What the arguments of `verify` say; none where `clap` found no file or order, which it requires.
-fn verify_line<'a>(settings: Settings, matches: &ArgMatches<'a>) -> Option<Line<'a>>
-    ensures some { HasSettings (rows_of (found_of matches.now)) settings → IfSome result (Says (codes "verify", rows_of (found_of matches.now))) }
-    ensures none { IfNone result (GivesText (rows_of (found_of matches.now)) (codes "file") None ⊎ GivesText (rows_of (found_of matches.now)) (codes "order") None) }
-{
-    let Some(file) = text_of(matches, "file") else {
-        return None;
-    };
-    let Some(order) = text_of(matches, "order") else {
-        return None;
-    };
-    Some(Line::Verify(settings, file, order))
-}
-
-/// What the arguments of `check` say; none where `clap` found no file, which it requires.
-fn check_line<'a>(settings: Settings, matches: &ArgMatches<'a>) -> Option<Line<'a>>
-    ensures some { HasSettings (rows_of (found_of matches.now)) settings → IfSome result (Says (codes "check", rows_of (found_of matches.now))) }
-    ensures none { IfNone result (GivesText (rows_of (found_of matches.now)) (codes "file") None) }
-{
-    let Some(file) = text_of(matches, "file") else {
-        return None;
-    };
-    Some(Line::Check(settings, file))
-}
-
-/// What the arguments of `explain` say; none where `clap` found no file, which it requires, or a word for a key that is none.
-fn explain_line<'a>(settings: Settings, matches: &ArgMatches<'a>) -> Option<Line<'a>>
-    ensures some { HasSettings (rows_of (found_of matches.now)) settings → IfSome result (Says (codes "explain", rows_of (found_of matches.now))) }
-    ensures none { IfNone result (GivesText (rows_of (found_of matches.now)) (codes "file") None ⊎ LacksKey (rows_of (found_of matches.now))) }
-{
-    let Some(file) = text_of(matches, "file") else {
-        return None;
-    };
-    let key = match text_of(matches, "key") {
-        Some(text) => {
-            let Some(key) = key_of(text) else {
-                return None;
-            };
-            Some(key)
-        }
-        None => None,
-    };
-    Some(Line::Explain {
-        settings,
-        key,
-        with_order: is_given(text_of(matches, "order")),
-        file,
-    })
-}
-
-/// What a command and its arguments say; none where they say no line.
-pub fn line_of<'a>(command: &str, matches: &ArgMatches<'a>) -> Option<Line<'a>>
-    ensures some { IfSome result (Says (command.now, rows_of (found_of matches.now))) }
-    ensures none { IfNone result ((line : LineOf) → Says (command.now, rows_of (found_of matches.now)) line → ⊥) }
-{
-    let Some(settings) = settings_of(matches) else {
-        return None;
-    };
-    match command {
-        "verify" => verify_line(settings, matches),
-        "check" => check_line(settings, matches),
-        "explain" => explain_line(settings, matches),
-        "edit" => Some(Line::Edit(settings, text_of(matches, "file"))),
-        _ => None,
-    }
+    refusing(alloc, name)?.error(why.kind(), why.text())
 }

@@ -1,17 +1,38 @@
 //! What a command line says.
-ghost use Rattle.std.specs.Prelude.{◌≡◌, option_map};
-ghost use Rattle.lin_line.specs.CommandLine.{file_of};
 
 use lin_formats::Settings;
 
-/// A command line that is understood.
+/// How an answer is printed.
+#[derive(Clone, Copy, Debug, PartialEq, Eq)]
+pub enum Format {
+    /// As lines for a reader.
+    Text,
+    /// As one line of JSON.
+    Json,
+}
+
+/// Where an order is found.
+#[derive(Clone, Copy, Debug, PartialEq, Eq)]
+pub enum Order<'a> {
+    /// In the command line: its text.
+    Given(&'a str),
+    /// In the file of this name.
+    InFile(&'a str),
+}
+
+/// A command line that is understood. The name `-` of a file is that of standard input, but for `Edit`.
 #[derive(Drop)]
 pub enum Line<'a> {
-    /// Decide whether an order is a legal order of a file's history: the file's name, then the order's text.
-    Verify(Settings, &'a str, &'a str),
-    /// Decide whether a file's history is linearizable: the file's name.
-    Check(Settings, &'a str),
-    /// Tell why the answer about a file's history is what it is.
+    /// Decide whether histories are linearizable.
+    Check {
+        /// The kind of the objects, how files are read, and the budget.
+        settings: Settings,
+        /// How the reports are printed.
+        format: Format,
+        /// The files' names, one at least.
+        files: Vec<&'a str>,
+    },
+    /// Tell why the answer about a history is what it is.
     Explain {
         /// The kind of the objects, how the file is read, and the budget.
         settings: Settings,
@@ -19,22 +40,34 @@ pub enum Line<'a> {
         key: Option<i64>,
         /// Whether a yes ends with a legal order.
         with_order: bool,
+        /// How the explanation is printed.
+        format: Format,
         /// The file's name.
         file: &'a str,
     },
-    /// Carry out commands on a history: the name of the file that is pulled from, if there is one.
-    Edit(Settings, Option<&'a str>),
-}
-
-impl<'a> Line<'a> {
-    /// The file's name, if there is one.
-    pub fn path(&self) -> Option<&'a str>
-        ensures { option_map (λ name. name.now) result ≡ file_of self.now }
-    {
-        match self {
-            Line::Verify(_, path, _) | Line::Check(_, path) => Some(*path),
-            Line::Explain { file, .. } => Some(*file),
-            Line::Edit(_, path) => *path,
-        }
-    }
+    /// Draw a history.
+    Draw {
+        /// The kind of the objects, how the file is read, and the budget.
+        settings: Settings,
+        /// The object that is drawn, if not the whole.
+        key: Option<i64>,
+        /// The file's name.
+        file: &'a str,
+    },
+    /// Decide whether an order is a legal order of histories.
+    Verify {
+        /// The kind of the objects, how files are read, and the budget.
+        settings: Settings,
+        /// The order.
+        order: Order<'a>,
+        /// The files' names, one at least.
+        files: Vec<&'a str>,
+    },
+    /// Carry out commands on a history.
+    Edit {
+        /// The kind of the objects, how the file is read, and the budget.
+        settings: Settings,
+        /// The name of the file that is pulled from, if there is one.
+        file: Option<&'a str>,
+    },
 }

@@ -1,2 +1,5 @@
+pub mod Endings
 pub mod Exit
 pub mod Program
+pub mod Reporting
+pub mod Tasks

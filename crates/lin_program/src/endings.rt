@@ -1,16 +1,13 @@
-//! Runs of the program on an opened file, and the exit statuses with which they end.
-ghost use Rattle.std.specs.Prelude.{◌≡◌, ◌<◌, if◌then◌else◌};
+//! The exit statuses with which the program ends.
+ghost use Rattle.std.specs.Prelude.{◌≡◌, if◌then◌else◌};
 ghost use Rattle.clap.specs.Words.{kind_of};
-ghost use Rattle.lin_formats.specs.Devices.{device_of, failures_of};
-ghost use Rattle.lin_program.specs.Exit.{exit_status, refusal_status, IsEndingOf, IsRunnable};
+ghost use Rattle.lin_program.specs.Exit as said;
+ghost use Rattle.lin_program.specs.Exit.{exit_status, refusal_status};
+ghost use Rattle.lin_program.specs.Reporting.{stopped as stopped_by};
 
 use clap::Error;
 use clap::error::ErrorKind;
-use lin_formats::{Counted, RunFault, Status, verify};
-use lin_line::Line;
-use lin_report::{check, explain, run as edit};
-use std::alloc::Global;
-use std::io::{Read, Write};
+use lin_formats::{RunFault, Status};
 
 /// The exit status where the command line is refused.
 pub const LINE_REFUSED: u8 = 5;
@@ -18,13 +15,43 @@ pub const LINE_REFUSED: u8 = 5;
 /// The exit status where memory or a device failed, or a file can't be opened.
 pub const FAILED: u8 = 6;
 
-/// How the program ends.
+/// Why runs over files end early.
 #[derive(Clone, Copy, Debug, PartialEq, Eq)]
-pub struct Ending {
-    /// Its exit status.
-    pub status: u8,
-    /// Why its run ended early, if it did: this is to be told last.
-    pub fault: Option<RunFault>,
+pub enum Stop<'a> {
+    /// The file of this name can't be opened.
+    NotOpened(&'a str),
+    /// Memory or a device failed, or a file is too long.
+    Fault(RunFault),
+}
+
+/// The outcome of runs that a fault of one run stops.
+pub fn stopped<'a>(outcome: Result<Status, RunFault>) -> Result<Status, Stop<'a>>
+    ensures { result ≡ stopped_by outcome }
+{
+    match outcome {
+        Ok(status) => Ok(status),
+        Err(fault) => Err(Stop::Fault(fault)),
+    }
+}
+
+/// How bad a status is: refused, ill-formed, no, undecided and yes, the worst first.
+fn rank(status: Status) -> u8
+    ensures { result ≡ said.rank status }
+{
+    match status {
+        Status::Yes => 0,
+        Status::Undecided => 1,
+        Status::No => 2,
+        Status::IllFormed => 3,
+        Status::Refused => 4,
+    }
+}
+
+/// The worse one of two statuses.
+pub fn worse(one: Status, other: Status) -> Status
+    ensures { result ≡ said.worse one other }
+{
+    if rank(one) < rank(other) { other } else { one }
 }
 
 /// The exit status of a run: 0 yes, 1 no, 2 undecided, 3 ill-formed, 4 refused, 6 where memory or a device failed.
@@ -41,43 +68,7 @@ pub fn exit_of(outcome: &Result<Status, RunFault>) -> u8
     }
 }
 
-/// Does what the line says with its file, which is open already, and with the commands, which only `edit` reads, and tells how the
-/// program is to end.
-///
-/// Asks that the settings are ones with which such a run can be made, and that no count of failures is at its greatest.
-pub fn run<R: Read, C: Read, W: Write>(
-    alloc: Global,
-    line: Line,
-    file: &mut Counted<R>,
-    commands: &mut Counted<C>,
-    out: &mut Counted<W>,
-) -> Ending
-    requires line { IsRunnable line }
-    requires reads { failures_of file.old < u64.MAX }
-    requires commands { failures_of commands.old < u64.MAX }
-    requires writes { failures_of out.old < u64.MAX }
-    ensures { IsEndingOf line.entry (R.remaining (device_of file.old)) (R.remaining (device_of file.new))
-        (C.remaining (device_of commands.old)) (C.remaining (device_of commands.new))
-        (W.contents (device_of out.old)) (W.contents (device_of out.new)) result }
-{
-    let outcome = match line {
-        Line::Verify(settings, _, order) => verify(alloc, settings, file, order.as_bytes(), out),
-        Line::Check(settings, _) => check(alloc, settings, file, out),
-        Line::Explain {
-            settings,
-            key,
-            with_order,
-            ..
-        } => explain(alloc, settings, key, with_order, file, out),
-        Line::Edit(settings, _) => edit(alloc, settings, file, commands, out),
-    };
-    Ending {
-        status: exit_of(&outcome),
-        fault: outcome.err(),
-    }
-}
-
-/// The exit status where `clap` gives no line: 0 where help was asked for, and 6 where what it says couldn't be told.
+/// The exit status where `clap` gives no line: 0 where help or the version was asked for, and 6 where what it says couldn't be told.
 pub fn exit_of_refusal(error: &Error, is_told: bool) -> u8
     ensures { result ≡ (if is_told then refusal_status (kind_of error.now) else 6) }
 {
@@ -85,7 +76,7 @@ pub fn exit_of_refusal(error: &Error, is_told: bool) -> u8
         return FAILED;
     }
     match error.kind() {
-        ErrorKind::DisplayHelp => 0,
+        ErrorKind::DisplayHelp | ErrorKind::DisplayVersion => 0,
         ErrorKind::OutOfMemory => FAILED,
         _ => LINE_REFUSED,
     }

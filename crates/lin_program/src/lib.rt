@@ -1,57 +1,172 @@
 //! The program on any system: runs of a command line's words, what it tells, and the exit statuses with which it ends.
 #![tactic(auto)]
 
-ghost use Rattle.std.specs.Prelude.{map};
+ghost use Rattle.std.specs.Prelude.{map, option_map};
 ghost use Rattle.std.specs.IoError.{error_kind};
-ghost use Rattle.lin_program.specs.Exit.{IsRunnable, Ends, EndsOver, EndsWithoutWords};
-ghost use Rattle.lin_program.specs.Program.{EndsOnWords};
+ghost use Rattle.lin_program.specs.Endings.{Ends, EndsBy, IsEdited, IsEditedIn, IsOutcomeOf, IsRunnable, IsVerifiedBy, IsVerifiedFrom};
+ghost use Rattle.lin_program.specs.Program.{EndsOnWords, EndsWithoutWords};
+ghost use Rattle.lin_program.specs.Tasks.{HasBudget};
 
 mod endings;
+mod orders;
+mod reporting;
 mod system;
+mod tasks;
 
 use clap::error::ErrorKind;
-pub use endings::{Ending, exit_of, exit_of_refusal, run};
-use endings::{FAILED, LINE_REFUSED};
-use lin_formats::Counted;
-use lin_line::{Line, line};
+use endings::{FAILED, LINE_REFUSED, Stop, stopped};
+pub use endings::{exit_of, exit_of_refusal};
+use lin_formats::{Counted, RunFault, Settings, Status};
+use lin_line::{Line, Order, line};
+use lin_report::{Question, run as edit};
+use orders::{bytes_in, without_line_end};
+use reporting::report_all;
 use std::alloc::Global;
 use std::io;
 use std::io::Read;
 pub use system::{Message, System};
+use tasks::{Task, report_format};
 
-/// Runs on an opened file, tells why the run ended early, if it did, and gives the exit status.
-fn run_on<S: System, R: Read + Drop>(alloc: Global, system: &mut S, line: Line, file: R) -> u8
-    requires { IsRunnable line }
-    ensures { EndsOver S.words S.File.remaining S.Commands.remaining S.Out.contents system.old system.new line.entry (R.remaining file) result }
+/// Decides of each of the files whether the order that another file holds is a legal order of its history.
+fn verify_from<'a, S: System>(
+    alloc: Global,
+    system: &S,
+    settings: Settings,
+    name: &'a str,
+    files: &[&'a str],
+) -> Result<Status, Stop<'a>>
+    requires { HasBudget settings }
+    ensures { IsVerifiedFrom S.words S.File.remaining S.Commands.remaining S.Out.contents system.now settings name.now (map (λ n. n.now) files.now) result }
 {
-    let ending = run(
+    let text = bytes_in(alloc, system, name)?;
+    let order = without_line_end(text.as_slice());
+    report_all(alloc, system, Task::Verify(settings, order), files)
+}
+
+/// Decides of each of the files whether the order is a legal order of its history.
+fn verify_all<'a, S: System>(
+    alloc: Global,
+    system: &S,
+    settings: Settings,
+    order: Order<'a>,
+    files: &[&'a str],
+) -> Result<Status, Stop<'a>>
+    requires { HasBudget settings }
+    ensures { IsVerifiedBy S.words S.File.remaining S.Commands.remaining S.Out.contents system.now settings order.entry (map (λ n. n.now) files.now) result }
+{
+    match order {
+        Order::Given(text) => {
+            let task = Task::Verify(settings, text.as_bytes());
+            report_all(alloc, system, task, files)
+        }
+        Order::InFile(name) => verify_from(alloc, system, settings, name, files),
+    }
+}
+
+/// Carries out the commands of standard input, over a file that is open.
+fn edit_on<S: System, R: Read + Drop>(
+    alloc: Global,
+    system: &S,
+    settings: Settings,
+    file: R,
+) -> Result<Status, RunFault>
+    requires { HasBudget settings }
+    ensures { IsEdited S.words S.Commands.remaining S.Out.contents system.now settings (R.remaining file) result }
+{
+    edit(
         alloc,
-        line,
+        settings,
         &mut Counted::new(file),
         &mut Counted::new(system.commands()),
         &mut Counted::new(system.out()),
-    );
-    if let Some(fault) = ending.fault {
-        let _is_told = system.tell(&Message::Fault(fault));
-    }
-    ending.status
+    )
 }
 
-/// Opens the line's file, if it names one, and runs.
-fn run_line<S: System>(alloc: Global, system: &mut S, line: Line) -> u8
-    requires { IsRunnable line }
-    ensures { Ends S.words S.File.remaining S.Commands.remaining S.Out.contents system.old system.new line.entry result }
+/// Carries out the commands of standard input, over the file of this name, or over nothing.
+fn edit_named<'a, S: System>(
+    alloc: Global,
+    system: &S,
+    settings: Settings,
+    name: Option<&'a str>,
+) -> Result<Status, Stop<'a>>
+    requires { HasBudget settings }
+    ensures { IsEditedIn S.words S.File.remaining S.Commands.remaining S.Out.contents system.now settings (option_map (λ n. n.now) name.entry) result }
 {
-    let Some(path) = line.path() else {
-        return run_on(alloc, system, line, b"".as_slice());
+    let Some(name) = name else {
+        return stopped(edit_on(alloc, system, settings, b"".as_slice()));
     };
-    match system.open(path) {
-        Some(file) => run_on(alloc, system, line, file),
-        None => {
-            let _is_told = system.tell(&Message::NotOpened(path));
+    match system.open(name) {
+        Some(file) => stopped(edit_on(alloc, system, settings, file)),
+        None => Err(Stop::NotOpened(name)),
+    }
+}
+
+/// Does what the line says.
+fn carry_out<'a, S: System>(alloc: Global, system: &S, line: &Line<'a>) -> Result<Status, Stop<'a>>
+    requires { IsRunnable line.now }
+    ensures { IsOutcomeOf S.words S.File.remaining S.Commands.remaining S.Out.contents system.now line.now result }
+{
+    match line {
+        Line::Check {
+            settings,
+            format,
+            files,
+        } => {
+            let task = Task::Check(*settings, report_format(*format));
+            report_all(alloc, system, task, files.as_slice())
+        }
+        Line::Explain {
+            settings,
+            key,
+            with_order,
+            format,
+            file,
+        } => {
+            let question = Question {
+                key: *key,
+                with_order: *with_order,
+                format: report_format(*format),
+            };
+            report_all(alloc, system, Task::Explain(*settings, question), &[*file])
+        }
+        Line::Draw {
+            settings,
+            key,
+            file,
+        } => report_all(alloc, system, Task::Draw(*settings, *key), &[*file]),
+        Line::Verify {
+            settings,
+            order,
+            files,
+        } => verify_all(alloc, system, *settings, *order, files.as_slice()),
+        Line::Edit { settings, file } => edit_named(alloc, system, *settings, *file),
+    }
+}
+
+/// Tells why a run ended early, if it did, and gives the exit status.
+fn end<S: System>(system: &mut S, outcome: Result<Status, Stop>) -> u8
+    ensures { EndsBy S.words system.old system.new outcome.entry result }
+{
+    match outcome {
+        Ok(status) => exit_of(&Ok(status)),
+        Err(Stop::NotOpened(name)) => {
+            let _is_told = system.tell(&Message::NotOpened(name));
             FAILED
         }
+        Err(Stop::Fault(fault)) => {
+            let _is_told = system.tell(&Message::Fault(fault));
+            exit_of(&Err(fault))
+        }
     }
+}
+
+/// Does what the line says, tells why that ended early, if it did, and gives the exit status.
+fn run_line<S: System>(alloc: Global, system: &mut S, line: Line) -> u8
+    requires { IsRunnable line }
+    ensures { Ends S.words system.old system.new S.File.remaining S.Commands.remaining S.Out.contents line.entry result }
+{
+    let outcome = carry_out(alloc, &*system, &line);
+    end(system, outcome)
 }
 
 /// Runs what the words say, and gives the exit status.

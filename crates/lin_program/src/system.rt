@@ -21,7 +21,7 @@ pub enum Message<'a> {
     NoText,
 }
 
-/// Files by their names, the commands of standard input, the output that runs write to, and messages for whoever runs the program.
+/// Files by their names, standard input, the output that runs write to, and messages for whoever runs the program.
 ///
 /// What the system has and does is told by words that mean what the system says. So a program over any system can't take one file
 /// for another one, or say that a file can't be opened unless the system did.
@@ -29,7 +29,7 @@ pub trait System {
     /// A file that is open.
     type File: Read + Drop;
 
-    /// Where commands are read.
+    /// Standard input, where commands are read, and a file of the name `-`.
     type Commands: Read + Drop;
 
     /// Where runs write.
@@ -43,7 +43,7 @@ pub trait System {
         ensures some { IfSome result (words.opens self.now path.now) }
         ensures none { IfNone result (words.lacks self.now path.now) };
 
-    /// Where commands are read.
+    /// Standard input.
     fn commands(&self) -> Self::Commands
         ensures { words.reads self.now result };
 

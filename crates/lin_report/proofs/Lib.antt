@@ -1,5 +1,5 @@
 pub mod CommandLines
-pub mod Findings
+pub mod ObjectFindings
 pub mod Maps
 pub mod OneObject
 pub mod OneCommand

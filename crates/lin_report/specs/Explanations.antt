@@ -1,11 +1,12 @@
 -- What is right to tell of why an answer is what it is.
-use Rattle.std.specs.Prelude.{◌≡◌, ◌≤◌, ◌++◌, ◌⊎◌, ℕ, ℤ, Bool, List, Option, Some, None, Result, codes, count_by, decimal, nat_eq}
+use Rattle.std.specs.Prelude.{◌≡◌, ◌-◌, ◌++◌, ◌⊎◌, ℕ, ℤ, List, Option, Some, None, Result, codes, count_by, decimal, length, nat_eq, take}
 use Rattle.std.specs.Io.KnownBytes.{IsAtEnd}
 use Rattle.lin_events.specs.declared.events.Event.{Event}
 use Rattle.lin_session.specs.Answers.{IsAnswer, verdict_of}
 use Rattle.lin_session.specs.Edits.{Present}
 use Rattle.lin_session.specs.declared.answers.Answer.{Answer}
 use Rattle.lin_session.specs.declared.answers.Scope.{Scope}
+use Rattle.lin_session.specs.declared.answers.Verdict.{Verdict}
 use Rattle.lin_session.specs.declared.answers.Scope.TheVariants.{Object, Whole}
 use Rattle.lin_formats.specs.VerdictTexts.{refusal_text}
 use Rattle.lin_formats.specs.Histories.{StopsFor}
@@ -18,17 +19,34 @@ use Rattle.lin_formats.specs.declared.verdicts.Status.TheVariants as ends
 use Rattle.lin_places.specs.Places.{Marked, Marks}
 use Rattle.lin_places.specs.declared.place.Place.{Place}
 use Rattle.lin_explain.specs.Explained.{Explains, scope_of}
-use Rattle.lin_explain.specs.Refused.{refused_text}
+use Rattle.lin_explain.specs.Hints.{IsHint}
+use Rattle.lin_explain.specs.Refused.{place_in, refused_text}
+use Rattle.lin_explain.specs.declared.parts.Parts.{Parts}
 use Rattle.lin_explain.specs.declared.telling.Asked.{Asked}
-use Rattle.lin_report.specs.Reports.{IsPrintRun, answer_status, answer_text, opened}
+use Rattle.lin_json.specs.Explanations.{explanation_json, refusal_json}
+use Rattle.lin_report.specs.Reports.{IsPrintRun, answer_status, answer_text, opened, told_text}
+use Rattle.lin_report.specs.declared.explaining.Question.{Question}
+use Rattle.lin_report.specs.declared.formats.Format.{Format}
+use Rattle.lin_report.specs.declared.formats.Format.TheVariants.{Text, Json}
 
--- an answer that is right, and behind its own line those that explain it
-pub record IsExplanation (now : Present) (asked : Asked) (places : Option (List Place)) (text : List ℕ) (status : Status) : Type 0 where
+-- without the byte that ends the last line
+abbrev pub without_end : List ℕ → List ℕ
+without_end text = take (length text - 1) text
+
+-- An explanation: the answer's line, and those that explain it; or one line of JSON, which has this text as well.
+abbrev pub explanation_text : Format → ℕ → Verdict → List ℕ → Parts → List ℕ
+explanation_text Text events verdict lines parts = told_text verdict lines
+explanation_text Json events verdict lines parts =
+    explanation_json (answer_status verdict) (answer_text verdict) events parts (without_end (told_text verdict lines)) ++ codes "\n"
+
+-- an answer that is right, with what explains it
+pub record IsExplanation (format : Format) (now : Present) (asked : Asked) (places : Option (List Place)) (text : List ℕ) (status : Status) : Type 0 where
   pub answer : Answer
   pub lines : List ℕ
+  pub parts : Parts
   pub is_answer : IsAnswer now (scope_of asked.key) answer
-  pub explained : Explains now asked places answer lines
-  pub says : text ≡ answer_text (verdict_of answer) ++ codes "\n" ++ lines
+  pub explained : Explains now asked places answer lines parts
+  pub says : text ≡ explanation_text format (length now.history) (verdict_of answer) lines parts
   pub status_is : status ≡ answer_status (verdict_of answer)
 
 -- how many lines a text has, of which each ends with a byte 10
@@ -41,18 +59,31 @@ key_of Whole = None
 
 -- the reply to a command: how many lines follow, and they; events that come by commands have no places
 abbrev pub IsExplainReply : Present → Scope → List ℕ → Option Status → Type 0
-IsExplainReply now scope reply status = (text : List ℕ) × (found : Status) × (asked : Asked) × (asked.key ≡ key_of scope) × IsExplanation now asked None text found
+IsExplainReply now scope reply status = (text : List ℕ) × (found : Status) × (asked : Asked) × (asked.key ≡ key_of scope) × IsExplanation Text now asked None text found
     × (reply ≡ codes "explained " ++ decimal (line_count text) ++ codes "\n" ++ text) × (status ≡ Some found)
+
+-- the line that refuses a file, the one that tells where and why, and a hint if there is one
+abbrev pub refusal_lines : Marked → Refusal → List ℕ → List ℕ
+refusal_lines marked refusal hint = refusal_text refusal ++ codes "\n" ++ refused_text marked refusal ++ hint
+
+-- what is told of a file that is refused
+abbrev pub refused_told : Format → Marked → Refusal → List ℕ → List ℕ
+refused_told Text marked refusal hint = refusal_lines marked refusal hint
+refused_told Json marked refusal hint =
+    refusal_json ends.Refused (refusal_text refusal) (place_in marked refusal) (without_end (refusal_lines marked refusal hint)) ++ codes "\n"
+
+abbrev pub asked_in : Settings → Question → Asked
+asked_in settings question = record { key = question.key; with_order = question.with_order; keyed = settings.keyed }
 
 -- What is right to print of the bytes of a file, with the status: why they are refused, and where; or an explanation of the history that they
 -- are. The places are those that the bytes have.
-abbrev pub IsRightExplanation : Settings → Asked → List ℕ → Option (List ℕ) → List ℕ → Status → Type 0
-IsRightExplanation settings asked bytes left text status = (marked : Marked) × Marks marked bytes × (marked.keyed ≡ settings.keyed)
+abbrev pub IsRightExplanation : Settings → Question → List ℕ → Option (List ℕ) → List ℕ → Status → Type 0
+IsRightExplanation settings question bytes left text status = (marked : Marked) × Marks marked bytes × (marked.keyed ≡ settings.keyed)
     × (((refusal : Refusal) × AreRefused settings.keyed bytes refusal × StopsFor refusal left
-    × (text ≡ refusal_text refusal ++ codes "\n" ++ refused_text marked refusal) × (status ≡ ends.Refused))
-    ⊎ ((events : List Event) × IsWhole settings.keyed bytes events × IsAtEnd left × IsExplanation (opened settings events) asked (Some marked.places) text status))
+    × ((hint : List ℕ) × IsHint settings.keyed bytes marked refusal hint × (text ≡ refused_told question.format marked refusal hint)) × (status ≡ ends.Refused))
+    ⊎ ((events : List Event) × IsWhole settings.keyed bytes events × IsAtEnd left × IsExplanation question.format (opened settings events) (asked_in settings question) (Some marked.places) text status))
 
 -- what a run reads and writes, and how it ends
-abbrev pub IsExplainRun : Settings → Option ℤ → Bool → Option (List ℕ) → Option (List ℕ) → Option (List ℕ) → Option (List ℕ) → Result Status RunFault → Type 0
-IsExplainRun settings key with_order old new before after result =
-    IsPrintRun (IsRightExplanation settings (record { key = key; with_order = with_order; keyed = settings.keyed })) old new before after result
+abbrev pub IsExplainRun : Settings → Question → Option (List ℕ) → Option (List ℕ) → Option (List ℕ) → Option (List ℕ) → Result Status RunFault → Type 0
+IsExplainRun settings question old new before after result =
+    IsPrintRun (IsRightExplanation settings question) old new before after result

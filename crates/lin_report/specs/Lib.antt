@@ -4,6 +4,7 @@ pub mod MapCommands
 pub mod Pulls
 pub mod Reports
 pub mod Explanations
+pub mod Pictures
 pub mod Runs
 pub mod Refusals
 pub mod Uniqueness

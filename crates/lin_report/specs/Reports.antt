@@ -2,10 +2,11 @@
 use Rattle.std.specs.Prelude.{◌≡◌, ◌≤◌, ◌^◌, ◌++◌, ◌⊎◌, if◌then◌else◌, ℕ, ℤ, Bool, true, false, List, [], Option, Result, Ok, Err, All, codes, decimal, length, map, take}
 use Rattle.std.specs.Fmt.{signed_decimal}
 use Rattle.std.specs.Io.KnownBytes.{Appends, Consumes, IsAtEnd, Keeps}
-use Rattle.std.specs.List.{flat_map}
+use Rattle.std.specs.List.{flat_map, join_by}
 use Rattle.lin_events.specs.declared.events.Event.{Event}
 use Rattle.lin_objects.specs.declared.kinds.Kind.{Kind}
 use Rattle.lin_objects.specs.Kinds.{same_for_all}
+use Rattle.lin_json.specs.Answers.{answer_json, checked_json, object_json}
 use Rattle.lin_session.specs.Answers.{IsVerdict, kinds_in}
 use Rattle.lin_session.specs.Edits.{Present}
 use Rattle.lin_session.specs.Keys.{AreKeys}
@@ -23,6 +24,10 @@ use Rattle.lin_formats.specs.declared.verdicts.Status.TheVariants as ends
 use Rattle.lin_formats.specs.declared.faults.RunFault.{RunFault}
 use Rattle.lin_formats.specs.declared.faults.RunFault.TheVariants.{ReadFailed, WriteFailed, OutOfMemory, TooMuch}
 use Rattle.lin_formats.specs.declared.settings.Settings.{Settings}
+use Rattle.lin_report.specs.declared.findings.Finding.{Finding}
+use Rattle.lin_report.specs.declared.findings.Findings.{Findings}
+use Rattle.lin_report.specs.declared.formats.Format.{Format}
+use Rattle.lin_report.specs.declared.formats.Format.TheVariants.{Text, Json}
 
 -- the text of an answer without its order
 abbrev pub answer_text : Verdict → List ℕ
@@ -44,57 +49,75 @@ answer_status Yes = ends.Yes
 answer_status (No n) = ends.No
 answer_status (Undecided at) = ends.Undecided
 
--- what is found of the object of a key
-pub record Finding : Type 0 where
-  pub key : ℤ
-  pub verdict : Verdict
-
--- what stands before the answer in the line of an object
-abbrev pub name_text : ℤ → Kind → List ℕ
-name_text key kind = codes "object " ++ signed_decimal key ++ codes " " ++ kind_text kind ++ codes ": "
-
 -- the line of an object
-abbrev pub line_text : (ℤ → Kind) → Finding → List ℕ
-line_text kinds finding = name_text finding.key (kinds finding.key) ++ answer_text finding.verdict ++ codes "\n"
+abbrev pub line_text : Kind → Finding → List ℕ
+line_text kind found = codes "object " ++ signed_decimal found.key ++ codes " " ++ kind_text kind ++ codes ": " ++ (answer_text found.verdict ++ codes "\n")
+
+abbrev pub lines_text : (ℤ → Kind) → List Finding → List ℕ
+lines_text kinds found = flat_map (λ f. line_text (kinds f.key) f) found
 
 -- the line that names so many events and objects
 abbrev pub counts_text : ℕ → ℕ → List ℕ
 counts_text events objects = codes "events " ++ decimal events ++ codes " objects " ++ decimal objects ++ codes "\n"
 
--- the report of a history of so many events and so many keys: what is found of its objects, and of the whole
-abbrev pub report_text : ℕ → ℕ → (ℤ → Kind) → List Finding → Verdict → List ℕ
-report_text events keys kinds found whole =
-    counts_text events keys
-    ++ flat_map (line_text kinds) found
-    ++ (codes "whole: " ++ answer_text whole ++ codes "\n")
+-- the map of an object
+abbrev pub json_object : Kind → Finding → List ℕ
+json_object kind found = object_json found.key kind (answer_status found.verdict) (answer_text found.verdict)
+
+abbrev pub json_objects : (ℤ → Kind) → List Finding → List ℕ
+json_objects kinds found = join_by (λ f. json_object (kinds f.key) f) (codes ",") found
+
+-- The report of a history of so many keys: what is found of its objects, and of the whole. As text there is a line that counts, one for each object,
+-- and one for the whole; as JSON one line for all.
+abbrev pub report_text : Format → Present → ℕ → List Finding → Verdict → List ℕ
+report_text Text now keys found whole =
+    counts_text (length now.history) keys ++ lines_text (kinds_in now) found ++ codes "whole: " ++ (answer_text whole ++ codes "\n")
+report_text Json now keys found whole =
+    checked_json (answer_status whole) (answer_text whole) (length now.history) (json_objects (kinds_in now) found) ++ codes "\n"
+
+-- the answer's line, and behind it these
+abbrev pub told_text : Verdict → List ℕ → List ℕ
+told_text verdict lines = answer_text verdict ++ codes "\n" ++ lines
 
 -- what is found of the objects of these keys, one after another; each may be any answer that is right
 pub record AreFindings (now : Present) (keys : List ℤ) (found : List Finding) : Type 0 where
   pub listed : map (λ f. f.key) found ≡ keys
   pub each : All (λ f. IsVerdict now (Object f.key) f.verdict) found
 
--- What is right to report, and the status of a run that ends with it: of each key of the history, rising, what is found of
--- its object, and then of the whole. Of a history that isn't well-formed no object is named.
-pub record IsReport (now : Present) (text : List ℕ) (status : Status) : Type 0 where
-  pub keys : List ℤ
-  pub found : List Finding
-  pub whole : Verdict
+-- What is found of a history: of each of its keys, rising, what is found of its object, and what is found of the whole. Of a history that isn't
+-- well-formed no object is named.
+pub record AreFound (now : Present) (keys : List ℤ) (found : List Finding) (whole : Verdict) : Type 0 where
   pub are_keys : AreKeys now.history keys
   pub objects : AreFindings now (if is_ill_formed whole then [] else keys) found
   pub is_whole : IsVerdict now Whole whole
-  pub says : text ≡ report_text (length now.history) (length keys) (kinds_in now) found whole
+
+abbrev pub HasFound : Present → Findings → Type 0
+HasFound now f = (keys : List ℤ) × (f.keys ≡ length keys) × AreFound now keys f.objects.items f.whole
+
+-- what is right to report, and the status of a run that ends with it: what is found of the history, and of the whole
+pub record IsReport (format : Format) (now : Present) (text : List ℕ) (status : Status) : Type 0 where
+  pub keys : List ℤ
+  pub found : List Finding
+  pub whole : Verdict
+  pub are_found : AreFound now keys found whole
+  pub says : text ≡ report_text format now (length keys) found whole
   pub status_is : status ≡ answer_status whole
 
 -- these events, with the kind and the budget of the settings
 abbrev pub opened : Settings → List Event → Present
 opened settings events = record { history = events; kinds = same_for_all settings.kind; budget = settings.budget }
 
+-- the line that refuses a file
+abbrev pub refusal_line : Format → Refusal → List ℕ
+refusal_line Text refusal = refusal_text refusal ++ codes "\n"
+refusal_line Json refusal = answer_json ends.Refused (refusal_text refusal) ++ codes "\n"
+
 -- What is right to print of the bytes of a file, with the status: why they are refused; or, where they are a whole history and no
 -- byte is left, a report of it.
-abbrev pub IsRightReport : Settings → List ℕ → Option (List ℕ) → List ℕ → Status → Type 0
-IsRightReport settings bytes left text status =
-    ((refusal : Refusal) × AreRefused settings.keyed bytes refusal × StopsFor refusal left × (text ≡ refusal_text refusal ++ codes "\n") × (status ≡ ends.Refused))
-    ⊎ ((events : List Event) × IsWhole settings.keyed bytes events × IsAtEnd left × IsReport (opened settings events) text status)
+abbrev pub IsRightReport : Settings → Format → List ℕ → Option (List ℕ) → List ℕ → Status → Type 0
+IsRightReport settings format bytes left text status =
+    ((refusal : Refusal) × AreRefused settings.keyed bytes refusal × StopsFor refusal left × (text ≡ refusal_line format refusal) × (status ≡ ends.Refused))
+    ⊎ ((events : List Event) × IsWhole settings.keyed bytes events × IsAtEnd left × IsReport format (opened settings events) text status)
 
 -- what is right to print of bytes, of which so much is left, and the status
 abbrev pub Printing : Type 1
@@ -105,8 +128,8 @@ abbrev pub IsPrinted : Printing → Option (List ℕ) → Option (List ℕ) → 
 IsPrinted is_right old new text status =
     (bytes : List ℕ) × Consumes old new bytes × (length bytes ≤ 2 ^ 40) × is_right bytes new text status
 
-abbrev pub IsChecked : Settings → Option (List ℕ) → Option (List ℕ) → List ℕ → Status → Type 0
-IsChecked settings old new text status = IsPrinted (IsRightReport settings) old new text status
+abbrev pub IsChecked : Settings → Format → Option (List ℕ) → Option (List ℕ) → List ℕ → Status → Type 0
+IsChecked settings format old new text status = IsPrinted (IsRightReport settings format) old new text status
 
 -- What a run reads and writes, and how it ends: with what is right to print written, and its status; or early. After a fault of
 -- the writer a beginning of what is right to print is written, after any other fault nothing.
@@ -119,5 +142,5 @@ IsPrintRun is_right old new before after (Err TooMuch) = Keeps before after × I
 IsPrintRun is_right old new before after (Err WriteFailed) =
     (text : List ℕ) × (status : Status) × IsPrinted is_right old new text status × ((n : ℕ) × Appends before after (take n text))
 
-abbrev pub IsCheckRun : Settings → Option (List ℕ) → Option (List ℕ) → Option (List ℕ) → Option (List ℕ) → Result Status RunFault → Type 0
-IsCheckRun settings old new before after result = IsPrintRun (IsRightReport settings) old new before after result
+abbrev pub IsCheckRun : Settings → Format → Option (List ℕ) → Option (List ℕ) → Option (List ℕ) → Option (List ℕ) → Result Status RunFault → Type 0
+IsCheckRun settings format old new before after result = IsPrintRun (IsRightReport settings format) old new before after result

@@ -27,6 +27,7 @@ use Rattle.lin_formats.specs.declared.verdicts.Refusal.{Refusal}
 use Rattle.lin_formats.specs.declared.verdicts.Refusal.TheVariants as refusal
 use Rattle.lin_formats.specs.declared.verdicts.Status.{Status}
 use Rattle.lin_formats.specs.declared.verdicts.Status.TheVariants as status_of
+use Rattle.lin_report.specs.declared.formats.Format.TheVariants.{Text}
 use Rattle.lin_report.specs.declared.commands.Command.{Command}
 use Rattle.lin_report.specs.declared.commands.Command.TheVariants.{Edit, Skipped, Ask, Order, Report, Pull, Refute, Explain}
 use Rattle.lin_report.specs.declared.commands.CommandFault.{CommandFault}
@@ -95,7 +96,7 @@ IsCommandReply (Ask scope) before after text status = (after ≡ before) × (ver
     × (text ≡ answer_text verdict ++ codes "\n") × (status ≡ Some (answer_status verdict))
 IsCommandReply (Order scope) before after text status = (after ≡ before) × (answer : Answer) × IsAnswer before scope answer
     × (text ≡ order_answer_text answer ++ codes "\n") × (status ≡ Some (answer_status (verdict_of answer)))
-IsCommandReply Report before after text status = (after ≡ before) × (whole : Status) × IsReport before text whole × (status ≡ Some whole)
+IsCommandReply Report before after text status = (after ≡ before) × (whole : Status) × IsReport Text before text whole × (status ≡ Some whole)
 IsCommandReply (Refute key) before after text status = (after ≡ before) × IsRefuteReply before key text status
 IsCommandReply (Explain scope) before after text status = (after ≡ before) × IsExplainReply before scope text status
 IsCommandReply Pull before after text status = ⊥

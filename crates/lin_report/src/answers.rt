@@ -1,6 +1,6 @@
 //! What is found of a history or an object: its text, and the status of a run that ends with it.
 ghost use Rattle.std.specs.Prelude.{◌≡◌, ◌++◌, IfOk, OnErr, OnOk};
-ghost use Rattle.lin_report.specs.Reports.{answer_status, answer_text};
+ghost use Rattle.lin_report.specs.Reports.{answer_status, answer_text, told_text};
 ghost use Rattle.lin_report.specs.Reports as said;
 ghost use Rattle.lin_session.specs.Answers as asked;
 
@@ -66,6 +66,16 @@ pub fn verdict_words(alloc: Global, verdict: Verdict) -> Result<Vec<u8>, AllocEr
             Ok(text)
         }
     }
+}
+
+/// The answer's line, and behind it these.
+pub fn told_words(alloc: Global, verdict: Verdict, lines: &[u8]) -> Result<Vec<u8>, AllocError>
+    ensures { IfOk result (λ text. text.items ≡ told_text verdict lines.now) }
+{
+    let mut text = verdict_words(alloc, verdict)?;
+    text.push(b'\n')?;
+    text.extend_from_slice(lines)?;
+    Ok(text)
 }
 
 /// Puts the text of an answer last, without its order and without a line end; refused, nothing has changed.

@@ -4,10 +4,12 @@ ghost use Rattle.lin_formats.specs.VerdictTexts.{refusal_text};
 ghost use Rattle.lin_formats.specs.Devices.{device_of, failures_of, Counts};
 ghost use Rattle.lin_formats.specs.Histories.{is_read_failed};
 ghost use Rattle.lin_formats.specs.Inputs.{limit};
-ghost use Rattle.lin_report.specs.Reports.{IsChecked, IsCheckRun, IsReport, opened};
+ghost use Rattle.lin_report.specs.Reports.{IsChecked, IsCheckRun, IsReport, opened, refusal_line};
 ghost use Rattle.lin_formats.specs.Verdicts.{is_write_failed, IsReadTooFar};
 
-use crate::reports::write_report;
+use crate::formats::Format;
+use crate::json_reports::json_refusal;
+use crate::reports::report;
 use crate::sessions::session_of;
 use lin_events::{Event, OutOfMemory};
 use lin_formats::{
@@ -24,23 +26,38 @@ pub struct Answered {
 }
 
 /// A report of these events.
-fn report_of(alloc: Global, settings: Settings, events: Vec<Event>) -> Result<Answered, OutOfMemory>
+fn report_of(
+    alloc: Global,
+    settings: Settings,
+    format: Format,
+    events: Vec<Event>,
+) -> Result<Answered, OutOfMemory>
     requires budget { (1 ≤ settings.budget) × (settings.budget ≤ 1000000) }
     requires few { length events.items ≤ limit }
-    ensures { IfOk result (λ answered. IsReport (opened settings events.items) answered.text.items answered.status) }
+    ensures { IfOk result (λ answered. IsReport format (opened settings events.items) answered.text.items answered.status) }
 {
     let mut session = session_of(alloc, settings, events)?;
-    let mut text = Vec::new(alloc);
-    let status = write_report(alloc, &mut session, &mut text)?;
+    let (text, status) = report(alloc, &mut session, format)?;
     Ok(Answered { text, status })
 }
 
 /// The line that refuses a file.
-fn refused(alloc: Global, refusal: Refusal) -> Result<Answered, AllocError>
-    ensures { IfOk result (λ answered. (answered.text.items ≡ refusal_text refusal ++ codes "\n") × (answered.status ≡ Status.Refused)) }
+fn text_refusal(alloc: Global, refusal: Refusal) -> Result<Vec<u8>, AllocError>
+    ensures { IfOk result (λ line. line.items ≡ refusal_text refusal ++ codes "\n") }
 {
-    let mut text = refusal_words(alloc, refusal)?;
-    text.push(b'\n')?;
+    let mut line = refusal_words(alloc, refusal)?;
+    line.push(b'\n')?;
+    Ok(line)
+}
+
+/// What is printed of a file that is refused.
+pub fn refused(alloc: Global, format: Format, refusal: Refusal) -> Result<Answered, AllocError>
+    ensures { IfOk result (λ answered. (answered.text.items ≡ refusal_line format refusal) × (answered.status ≡ Status.Refused)) }
+{
+    let text = match format {
+        Format::Text => text_refusal(alloc, refusal)?,
+        Format::Json => json_refusal(alloc, refusal)?,
+    };
     Ok(Answered {
         text,
         status: Status::Refused,
@@ -51,18 +68,19 @@ fn refused(alloc: Global, refusal: Refusal) -> Result<Answered, AllocError>
 fn find<R: Read>(
     alloc: Global,
     settings: Settings,
+    format: Format,
     file: &mut Counted<R>,
 ) -> Result<Answered, RunFault>
     requires budget { (1 ≤ settings.budget) × (settings.budget ≤ 1000000) }
     requires reads { failures_of file.old < u64.MAX }
-    ensures found { IfOk result (λ answered. IsChecked settings (R.remaining (device_of file.old)) (R.remaining (device_of file.new)) answered.text.items answered.status) }
+    ensures found { IfOk result (λ answered. IsChecked settings format (R.remaining (device_of file.old)) (R.remaining (device_of file.new)) answered.text.items answered.status) }
     ensures too_much { IsErrOf result RunFault.TooMuch → IsReadTooFar (R.remaining (device_of file.old)) (R.remaining (device_of file.new)) }
     ensures counts { Counts (is_read_failed result) (failures_of file.old) (failures_of file.new) }
     ensures readers { IsErrOf result RunFault.WriteFailed → ⊥ }
 {
     match read_history(alloc, settings.keyed, file)? {
-        History::Whole(events) => Ok(report_of(alloc, settings, events)?),
-        History::Refused(refusal) => Ok(refused(alloc, refusal)?),
+        History::Whole(events) => Ok(report_of(alloc, settings, format, events)?),
+        History::Refused(refusal) => Ok(refused(alloc, format, refusal)?),
     }
 }
 
@@ -71,7 +89,7 @@ fn find<R: Read>(
 ///
 /// The file is read to its end, or to a fault of form, or until there are more than 1,000,000 events. The report names the
 /// number of events and of objects, what is found of each object, by rising key, and of the whole. For a history that isn't
-/// well-formed there is no object's line.
+/// well-formed there is no object's line. As JSON it is one line, and names the same objects with the same answers.
 ///
 /// Asks that the budget is 1 to 1,000,000, and that neither count of failures is at its greatest.
 ///
@@ -80,18 +98,19 @@ fn find<R: Read>(
 pub fn check<R: Read, W: Write>(
     alloc: Global,
     settings: Settings,
+    format: Format,
     file: &mut Counted<R>,
     out: &mut Counted<W>,
 ) -> Result<Status, RunFault>
     requires budget { (1 ≤ settings.budget) × (settings.budget ≤ 1000000) }
     requires reads { failures_of file.old < u64.MAX }
     requires writes { failures_of out.old < u64.MAX }
-    ensures ran { IsCheckRun settings (R.remaining (device_of file.old)) (R.remaining (device_of file.new))
+    ensures ran { IsCheckRun settings format (R.remaining (device_of file.old)) (R.remaining (device_of file.new))
         (W.contents (device_of out.old)) (W.contents (device_of out.new)) result }
     ensures read_counts { Counts (is_read_failed result) (failures_of file.old) (failures_of file.new) }
     ensures write_counts { Counts (is_write_failed result) (failures_of out.old) (failures_of out.new) }
 {
-    let answered = find(alloc, settings, file)?;
+    let answered = find(alloc, settings, format, file)?;
     write_whole(out, answered.text.as_slice())?;
     Ok(answered.status)
 }

@@ -1,33 +1,45 @@
 //! Why the answer is what it is.
-ghost use Rattle.std.specs.Prelude.{◌≡◌, ◌<◌, ◌≤◌, ◌++◌, Some, codes, length, option_map, IfOk, IsErrOf};
-ghost use Rattle.lin_formats.specs.VerdictTexts.{refusal_text};
+ghost use Rattle.std.specs.Prelude.{◌≡◌, ◌<◌, ◌≤◌, Some, length, option_map, IfOk, IsErrOf};
 ghost use Rattle.lin_formats.specs.Devices.{device_of, failures_of, Counts};
 ghost use Rattle.lin_formats.specs.Histories.{is_read_failed};
 ghost use Rattle.lin_formats.specs.Inputs.{limit};
 ghost use Rattle.lin_formats.specs.Verdicts.{is_write_failed, IsReadTooFar};
-ghost use Rattle.lin_report.specs.Explanations.{IsExplainRun, IsExplanation, IsRightExplanation, key_of as key_in, line_count as lines_in};
+ghost use Rattle.lin_report.specs.Explanations.{IsExplainRun, IsExplanation, IsRightExplanation, asked_in, explanation_text, key_of as key_in, line_count as lines_in, refusal_lines as lines_for, refused_told};
 ghost use Rattle.lin_explain.specs.Explained.{scope_of as scope_for};
-ghost use Rattle.lin_explain.specs.Refused.{refused_text};
+ghost use Rattle.lin_explain.specs.Hints.{hint_text};
 ghost use Rattle.lin_report.specs.Reports.{IsPrinted, opened};
 ghost use Rattle.lin_report.specs.Runs.{IsCommandReply};
 ghost use Rattle.lin_report.specs.declared.commands.Command.TheVariants as command;
 
-use crate::answers::{status_of, verdict_of, verdict_words};
+use crate::answers::{status_of, told_words, verdict_of};
 use crate::checks::Answered;
+use crate::formats::Format;
+use crate::json_explanations::{json_explanation, json_refused};
 use crate::replies::Reply;
 use crate::sessions::session_of;
 use lin_events::{Event, OutOfMemory};
-use lin_explain::{Asked, lines_of, read_placed, refusal_lines};
+use lin_explain::{Asked, Explanation, Placed, explanation_of, read_placed, refusal_lines};
 use lin_formats::{
     Counted, History, Refusal, RunFault, Settings, Status, put_number, refusal_words, write_whole,
 };
 use lin_places::{Place, Places};
-use lin_session::{Scope, Session};
-use std::alloc::Global;
+use lin_session::{Scope, Session, Verdict};
+use std::alloc::{AllocError, Global};
 use std::io::{Read, Write};
 
+/// What a file is asked.
+#[derive(Clone, Copy, Debug, PartialEq, Eq)]
+pub struct Question {
+    /// The object of this key, or the whole.
+    pub key: Option<i64>,
+    /// Whether a yes ends with its order.
+    pub with_order: bool,
+    /// How the explanation is printed.
+    pub format: Format,
+}
+
 /// The object of a key, or the whole.
-fn scope_of(key: Option<i64>) -> Scope
+pub fn scope_of(key: Option<i64>) -> Scope
     ensures { result ≡ scope_for key }
 {
     match key {
@@ -46,22 +58,37 @@ fn key_of(scope: Scope) -> Option<i64>
     }
 }
 
+/// What explains an answer for so many events, as it is wanted.
+fn told_as(
+    alloc: Global,
+    format: Format,
+    events: usize,
+    verdict: Verdict,
+    told: &Explanation,
+) -> Result<Vec<u8>, AllocError>
+    ensures { IfOk result (λ text. text.items ≡ explanation_text format events verdict told.now.lines.items told.now.parts) }
+{
+    match format {
+        Format::Text => told_words(alloc, verdict, &told.lines),
+        Format::Json => json_explanation(alloc, events, verdict, told),
+    }
+}
+
 /// An explanation of the answer for the scope.
 fn explanation(
     alloc: Global,
     session: &mut Session,
+    format: Format,
     asked: Asked,
     places: Option<&[Place]>,
 ) -> Result<Answered, OutOfMemory>
-    ensures explained { IfOk result (λ answered. IsExplanation session.old.present asked (option_map (λ p. p.now) places.entry) answered.text.items answered.status) }
+    ensures explained { IfOk result (λ answered. IsExplanation format session.old.present asked (option_map (λ p. p.now) places.entry) answered.text.items answered.status) }
     ensures present { session.new.present ≡ session.old.present }
 {
     let answer = session.order(alloc, scope_of(asked.key))?;
     let verdict = verdict_of(&answer);
-    let lines = lines_of(alloc, session, &answer, asked, places)?;
-    let mut text = verdict_words(alloc, verdict)?;
-    text.push(b'\n')?;
-    text.extend_from_slice(lines.as_slice())?;
+    let told = explanation_of(alloc, session, &answer, asked, places)?;
+    let text = told_as(alloc, format, session.len(), verdict, &told)?;
     Ok(Answered {
         text,
         status: status_of(verdict),
@@ -95,7 +122,7 @@ pub fn explain_reply(
         with_order: false,
         keyed,
     };
-    let answered = explanation(alloc, session, asked, None)?;
+    let answered = explanation(alloc, session, Format::Text, asked, None)?;
     let mut text = Vec::from_slice(alloc, b"explained ")?;
     put_number(&mut text, line_count(answered.text.as_slice()) as u64)?;
     text.push(b'\n')?;
@@ -107,30 +134,52 @@ pub fn explain_reply(
 }
 
 /// An explanation of these events.
-fn explanation_of(
+fn explained(
     alloc: Global,
     settings: Settings,
-    asked: Asked,
+    question: Question,
     events: Vec<Event>,
     places: &Places,
 ) -> Result<Answered, OutOfMemory>
     requires budget { (1 ≤ settings.budget) × (settings.budget ≤ 1000000) }
     requires few { length events.items ≤ limit }
-    ensures { IfOk result (λ answered. IsExplanation (opened settings events.items) asked (Some places.now.places) answered.text.items answered.status) }
+    ensures { IfOk result (λ answered. IsExplanation question.format (opened settings events.items) (asked_in settings question) (Some places.now.places) answered.text.items answered.status) }
 {
     let mut session = session_of(alloc, settings, events)?;
+    let asked = Asked {
+        key: question.key,
+        with_order: question.with_order,
+        keyed: settings.keyed,
+    };
     let places = Some(places.as_slice());
-    explanation(alloc, &mut session, asked, places)
+    explanation(alloc, &mut session, question.format, asked, places)
 }
 
-/// What is told of a file that is refused.
-fn refused(alloc: Global, refusal: Refusal, places: &Places) -> Result<Answered, OutOfMemory>
-    ensures { IfOk result (λ answered. (answered.text.items ≡ refusal_text refusal ++ codes "\n" ++ refused_text places.now refusal) × (answered.status ≡ Status.Refused)) }
+/// The lines that are told of a file that is refused.
+fn refused_lines(alloc: Global, refusal: Refusal, placed: &Placed) -> Result<Vec<u8>, OutOfMemory>
+    ensures { IfOk result (λ text. text.items ≡ lines_for placed.now.places refusal (hint_text placed.now.is_pair)) }
 {
-    let lines = refusal_lines(alloc, refusal, places)?;
+    let lines = refusal_lines(alloc, refusal, placed)?;
     let mut text = refusal_words(alloc, refusal)?;
     text.push(b'\n')?;
     text.extend_from_slice(lines.as_slice())?;
+    Ok(text)
+}
+
+/// What is told of a file that is refused.
+fn refused(
+    alloc: Global,
+    format: Format,
+    refusal: Refusal,
+    placed: &Placed,
+) -> Result<Answered, OutOfMemory>
+    ensures { IfOk result (λ answered. (answered.text.items ≡ refused_told format placed.now.places refusal (hint_text placed.now.is_pair)) × (answered.status ≡ Status.Refused)) }
+{
+    let lines = refused_lines(alloc, refusal, placed)?;
+    let text = match format {
+        Format::Text => lines,
+        Format::Json => json_refused(alloc, refusal, &placed.places, &lines)?,
+    };
     Ok(Answered {
         text,
         status: Status::Refused,
@@ -141,49 +190,43 @@ fn refused(alloc: Global, refusal: Refusal, places: &Places) -> Result<Answered,
 fn find<R: Read>(
     alloc: Global,
     settings: Settings,
-    asked: Asked,
+    question: Question,
     file: &mut Counted<R>,
 ) -> Result<Answered, RunFault>
     requires budget { (1 ≤ settings.budget) × (settings.budget ≤ 1000000) }
     requires reads { failures_of file.old < u64.MAX }
-    ensures found { IfOk result (λ answered. IsPrinted (IsRightExplanation settings asked) (R.remaining (device_of file.old)) (R.remaining (device_of file.new)) answered.text.items answered.status) }
+    ensures found { IfOk result (λ answered. IsPrinted (IsRightExplanation settings question) (R.remaining (device_of file.old)) (R.remaining (device_of file.new)) answered.text.items answered.status) }
     ensures too_much { IsErrOf result RunFault.TooMuch → IsReadTooFar (R.remaining (device_of file.old)) (R.remaining (device_of file.new)) }
     ensures counts { Counts (is_read_failed result) (failures_of file.old) (failures_of file.new) }
     ensures readers { IsErrOf result RunFault.WriteFailed → ⊥ }
 {
-    let (history, places) = read_placed(alloc, settings.keyed, file)?;
+    let (history, placed) = read_placed(alloc, settings.keyed, file)?;
     match history {
-        History::Whole(events) => { Ok(explanation_of(alloc, settings, asked, events, &places)?) }
-        History::Refused(refusal) => Ok(refused(alloc, refusal, &places)?),
+        History::Whole(events) => Ok(explained(alloc, settings, question, events, &placed.places)?),
+        History::Refused(refusal) => Ok(refused(alloc, question.format, refusal, &placed)?),
     }
 }
 
 /// Tells why the history in a file is linearizable or not (Herlihy and Wing 1990, section 3), or isn't decided, for the whole or for the
-/// object of a key: writes the answer's line and those of its explanation, and gives the status.
+/// object of a key: writes the answer's line and those of its explanation, or all that in one line of JSON, and gives the status.
 ///
 /// The file is read as by `check`, which see for what is asked and for errors.
 pub fn explain<R: Read, W: Write>(
     alloc: Global,
     settings: Settings,
-    key: Option<i64>,
-    with_order: bool,
+    question: Question,
     file: &mut Counted<R>,
     out: &mut Counted<W>,
 ) -> Result<Status, RunFault>
     requires budget { (1 ≤ settings.budget) × (settings.budget ≤ 1000000) }
     requires reads { failures_of file.old < u64.MAX }
     requires writes { failures_of out.old < u64.MAX }
-    ensures ran { IsExplainRun settings key with_order (R.remaining (device_of file.old)) (R.remaining (device_of file.new))
+    ensures ran { IsExplainRun settings question (R.remaining (device_of file.old)) (R.remaining (device_of file.new))
         (W.contents (device_of out.old)) (W.contents (device_of out.new)) result }
     ensures read_counts { Counts (is_read_failed result) (failures_of file.old) (failures_of file.new) }
     ensures write_counts { Counts (is_write_failed result) (failures_of out.old) (failures_of out.new) }
 {
-    let asked = Asked {
-        key,
-        with_order,
-        keyed: settings.keyed,
-    };
-    let answered = find(alloc, settings, asked, file)?;
+    let answered = find(alloc, settings, question, file)?;
     write_whole(out, answered.text.as_slice())?;
     Ok(answered.status)
 }

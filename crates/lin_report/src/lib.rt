@@ -4,7 +4,12 @@
 mod answers;
 mod checks;
 mod commands;
+mod drawing;
 mod explaining;
+mod findings;
+mod formats;
+mod json_explanations;
+mod json_reports;
 mod laws;
 mod pulls;
 mod refused;
@@ -18,7 +23,9 @@ mod sessions;
 pub use answers::write_answer;
 pub use checks::check;
 pub use commands::{Command, CommandFault, commands_are_unique, read_command};
-pub use explaining::explain;
+pub use drawing::draw;
+pub use explaining::{Question, explain};
+pub use formats::Format;
 pub use laws::answers_agree;
 pub use lin_formats::{
     Counted, OrderFault, RunFault, Settings, Status, read_order, verdicts_are_unique, verify,

@@ -1,7 +1,7 @@
 //! `verify` and `check` over devices that fail at some call, or take little; and what faults are called.
 use lin_formats::{Counted, OrderFault, RunFault, Settings, Status, verify};
 use lin_objects::Kind;
-use lin_report::check;
+use lin_report::{Format, check};
 use std::io;
 use std::io::{ErrorKind, Read, Write};
 use std::test::Fail;
@@ -125,7 +125,7 @@ fn a_reader_of_check_fails_at_each_call(rt: HostRuntime) {
         let mut taken = Vec::new(rt.alloc());
         let mut file = Counted::new(FailingReader { next: 0, fails_at });
         let mut out = Counted::new(&mut taken);
-        let outcome = check(rt.alloc(), REGISTER, &mut file, &mut out);
+        let outcome = check(rt.alloc(), REGISTER, Format::Text, &mut file, &mut out);
         let failures = file.failures();
         if fails_at <= HISTORY.len() {
             assert_eq!(rt; outcome, Err(RunFault::ReadFailed), "at {fails_at}");
@@ -150,7 +150,7 @@ fn a_writer_of_check_stops_at_each_call(rt: HostRuntime) {
             };
             let mut file = Counted::new(HISTORY);
             let mut out = Counted::new(&mut writer);
-            let outcome = check(rt.alloc(), REGISTER, &mut file, &mut out);
+            let outcome = check(rt.alloc(), REGISTER, Format::Text, &mut file, &mut out);
             let failures = out.failures();
             assert!(rt; writer.taken.as_slice() == &REPORT[..stops_at]);
             if stops_at < REPORT.len() {

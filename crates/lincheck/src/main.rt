@@ -3,7 +3,7 @@
 
 pub use lin_line::{Line, line};
 use lin_program::end_without_words;
-pub use lin_program::{Ending, Message, System, exit_of, exit_of_refusal, run, run_words};
+pub use lin_program::{Message, System, exit_of, exit_of_refusal, run_words};
 use std::fs::File;
 use std::io::{Printer, Stdin};
 use std::process::ExitCode;
@@ -38,7 +38,7 @@ impl<'a> System for Host<'a> {
 
     fn tell(&mut self, message: &Message) -> bool {
         let told = match message {
-            Message::Refusal(error) => println!(self.runtime; "{error}"),
+            Message::Refusal(error) => print!(self.runtime; "{error}"),
             Message::NotOpened(path) => println!(self.runtime; "lincheck: cannot open {path}"),
             Message::Fault(fault) => println!(self.runtime; "lincheck: {fault}"),
             Message::OutOfMemory => println!(self.runtime; "lincheck: 3 OutOfMemory"),

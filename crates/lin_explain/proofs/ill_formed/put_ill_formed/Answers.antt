@@ -1,25 +1,23 @@
-use Rattle.std.proofs.Common.{◌≡◌, ◌++◌, refl, option_map, ap, ◌∙◌}
-use Rattle.lin_explain.specs.IllFormed.{before_line, sentence_text, stood_text}
-use Rattle.lin_explain.proofs.Texts.{three_put}
+use Rattle.std.proofs.Common.{refl, option_map}
+use Rattle.lin_session.specs.Answers.{kinds_in}
+use Rattle.lin_explain.specs.IllFormed.{bad_text}
 use Rattle.lin_explain.proofs.ill_formed.put_ill_formed.Goals as goal
 
 pub returns : goal.returns
 returns c =
     let event = c.in-Some.event.now in
-    let places = option_map (λ p. p.now) c.args.places in
-    let earlier = c.event_before-earlier.result.0 in
-    let before = option_map (λ e. e.now) c.event_before-earlier.result.1 in
-    let kind = c.kind_for-kind.result in (
-      (stood_text places c.args.at event ++ before_line places earlier before c.args.cause) ++ sentence_text kind event before c.args.cause,
-      (
-        event,
-        c.in-Some.ensures.found,
-        earlier,
-        before,
-        c.event_before-earlier.ensures,
-        ap (λ k. (stood_text places c.args.at event ++ before_line places earlier before c.args.cause) ++ sentence_text k event before c.args.cause) c.kind_for-kind.ensures,
-      ),
-      three_put c.args.text.now.items (stood_text places c.args.at event) (before_line places earlier before c.args.cause) (sentence_text kind event before c.args.cause)
-          c.put_stood.new.text.items c.put_before_line.new.text.items c.put_sentence.new.text.items
-          c.in_ok-put_stood.ensures c.in_ok-put_before_line.ensures c.in_ok-put_sentence.ensures,
+    let bad = c.in_ok-put_bad.ensures in (
+      bad_text (kinds_in c.args.session.now.present event.key) (option_map (λ p. p.now) c.args.places) c.args.at event bad.0 bad.1 c.args.cause,
+      record {
+        event = event;
+        earlier = bad.0;
+        before = bad.1;
+        spot = c.in_ok-event.event;
+        stands = c.in-Some.ensures.found;
+        is_before = bad.2;
+        says = refl;
+        is_spot = c.in_ok-event.ensures;
+        told = refl;
+      },
+      bad.3,
     )

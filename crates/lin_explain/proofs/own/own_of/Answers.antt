@@ -1,7 +1,7 @@
 use Rattle.std.proofs.Common.{◌≡◌, ◌+◌, ◌∙◌, take, subst, sym, true≢false}
 use Rattle.std.proofs.lemmas.Bool.Decides.{Decides-int_eq}
 use Rattle.lin_orders.specs.Parts.{ArePositionsOf, part}
-use Rattle.lin_explain.specs.Own.{IsOwn}
+use Rattle.lin_explain.specs.inner.Own.{IsOwn}
 use Rattle.lin_explain.proofs.Parting.{with_one, without_one}
 use Rattle.lin_explain.proofs.own.own_of.Goals as goal
 use Rattle.lin_explain.proofs.own.own_of.Goals.{then-is_beside+in_ok-take_in, else-is_beside}

@@ -1,21 +1,31 @@
-use Rattle.std.proofs.Common.{Err, take, ◌++◌, ◌∙◌, sym, ap, subst, arith}
+use Rattle.std.proofs.Common.{Err, Bool, ℕ, List, false, take, ◌++◌, ◌∙◌, refl, sym, ap, subst, arith, true≢false}
 use Rattle.std.proofs.KnownBytes.{Consumes-trans}
 use Rattle.lin_formats.specs.lemmas.Reading.{consumed_end, ends_at_end, refused_for, not_refused, not_refused_so, stops_for, longer, fits}
 use Rattle.lin_formats.specs.Histories.{IsHistory}
+use Rattle.lin_formats.specs.declared.inputs.History.{History}
+use Rattle.lin_formats.specs.declared.inputs.History.TheVariants.{Whole, Refused}
+use Rattle.lin_places.specs.Places.{Marked}
+use Rattle.lin_explain.specs.Hints.{IsPairTold}
 use Rattle.lin_explain.proofs.reading.read_placed.Goals as goal
+
+-- where the text came to its end, nothing is told
+none_told : (keyed : Bool) (bytes : List ℕ) (marked : Marked) (history : History) → IsPairTold keyed bytes marked history false
+none_told keyed bytes marked (Whole events) = refl
+none_told keyed bytes marked (Refused refusal) = λ told. absurd (true≢false (sym told))
 
 pub returns-then-count-eq0-clause-read : goal.returns-then-count-eq0-clause-read
 returns-then-count-eq0-clause-read g c =
     let v = c.pieces.invariant in
     let read = c.in-Ok.ensures.bytes in
-    let history = c.in_ok-finish_history.field-0 in (
+    let history = c.in_ok-history.history in (
       v.bytes,
       consumed_end _ _ _ v.bytes c.read.new.buf c.in-Ok.count v.consumed read.0 c.if-count-eq0.true,
       v.within,
       ends_at_end history _ (read.1 c.if-count-eq0.true (omega arith)),
-      subst (λ k. IsHistory k v.bytes history) v.keyed (c.in_ok-finish_history.ensures v.bytes v.taken),
+      subst (λ k. IsHistory k v.bytes history) v.keyed (c.in_ok-history.ensures v.bytes v.taken),
       v.marks,
       v.keyed_places,
+      none_told _ _ _ history,
     )
 
 pub returns-in_err-refusal-clause-too_much : goal.returns-in_err-refusal-clause-too_much
@@ -38,6 +48,7 @@ returns-in-Some-clause-read g c =
       refused_for _ _ _ c.args.keyed bytes _ c.in-Some.is (c.in_ok-refusal.ensures.keyed ∙ v.keyed) (c.in_ok-refusal.ensures.taken v.bytes v.taken),
       c.in_ok-feed.ensures.1 v.bytes v.marks,
       c.in_ok-feed.ensures.0 ∙ v.keyed_places,
+      λ told. c.is_of_two_parts-is_pair.ensures told bytes (c.in_ok-feed-2.ensures v.bytes v.tail),
     )
 
 pub pieces-preserved : goal.pieces-preserved
@@ -53,6 +64,7 @@ pieces-preserved g c =
       keyed = c.in_ok-refusal.ensures.keyed ∙ v.keyed;
       room = c.read.auto.buf ∙ v.room;
       counted = more.0;
+      tail = c.cut.ensures (v.bytes ++ take c.in-Ok.count c.read.new.buf) (c.in_ok-feed-2.ensures v.bytes v.tail);
       marks = c.in_ok-feed.ensures.1 v.bytes v.marks;
       keyed_places = c.in_ok-feed.ensures.0 ∙ v.keyed_places;
       uncounted = c.in-Ok.ensures.counts ∙ v.uncounted;

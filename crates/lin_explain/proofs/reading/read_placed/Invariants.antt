@@ -4,6 +4,7 @@ use Rattle.std.specs.Io.KnownBytes.{Consumes}
 use Rattle.lin_formats.specs.Devices.{device_of, failures_of}
 use Rattle.lin_formats.specs.Intakes.{IsFed}
 use Rattle.lin_places.specs.Places.{Marks}
+use Rattle.lin_explain.specs.inner.Tails.{IsTail}
 use Rattle.lin_explain.proofs.reading.read_placed.Given as goal
 
 abbrev pub invariant-pieces : goal.invariant-pieces
@@ -16,6 +17,7 @@ invariant-pieces g l = record {
   keyed : l.follow.keyed ≡ l.fn.keyed;
   room : length l.piece ≡ 65536;
   counted : l.counter ≤ length bytes;
+  tail : IsTail l.tail bytes;
   marks : Marks l.places bytes;
   keyed_places : l.places.keyed ≡ l.fn.keyed;
   uncounted : failures_of l.file ≡ failures_of l.fn.file;

@@ -8,10 +8,13 @@ use Rattle.lin_line.proofs.command.check_command.Goals as goal
 
 pub returns : goal.returns
 returns c =
-    let begun : app_of c.about.result ≡ new_app (codes "check") = ap app_of_fields c.about.ensures ∙ c.new.ensures.app in
-    let filed = c.in_ok-command.ensures.shape c.file_argument.ensures.local ∙ ap₂ with_rule begun c.file_argument.ensures.rule in
-    let local = c.in_ok-command.ensures.globals ∙ ap₂ (λ a b. a || b) (ap (λ f. f.has_globals) c.about.ensures ∙ c.new.ensures.local) c.file_argument.ensures.local in
+    let begun : app_of c.after_help.result ≡ new_app (codes "check") = ap app_of_fields c.after_help.ensures ∙ ap app_of_fields c.override_usage.ensures ∙ ap app_of_fields c.about.ensures ∙ c.new.ensures.app in
+    let begun_local = ap (λ f. f.has_globals) c.after_help.ensures ∙ ap (λ f. f.has_globals) c.override_usage.ensures ∙ ap (λ f. f.has_globals) c.about.ensures ∙ c.new.ensures.local in
+    let a0 = c.in_ok-arg.ensures.shape c.files_argument.ensures.local ∙ ap₂ with_rule begun c.files_argument.ensures.rule in
+    let l0 = c.in_ok-arg.ensures.globals ∙ ap₂ (λ a b. a || b) begun_local c.files_argument.ensures.local in
+    let a1 = c.in_ok-command.ensures.shape c.format_option.ensures.local.1 ∙ ap₂ with_rule a0 c.format_option.ensures.rule in
+    let l1 = c.in_ok-command.ensures.globals ∙ ap₂ (λ a b. a || b) l0 c.format_option.ensures.local.1 in
     record {
-      app = IfOk-weaker c.with_options.result _ _ (λ command h. h ∙ ap (with_options (Names c.args.kinds)) filed) c.with_options.ensures.app;
-      local = IfOk-weaker c.with_options.result _ _ (λ command h. h ∙ local) c.with_options.ensures.local;
+      app = IfOk-weaker c.with_options.result _ _ (λ command h. h ∙ ap (with_options (Names c.args.kinds)) a1) c.with_options.ensures.app;
+      local = IfOk-weaker c.with_options.result _ _ (λ command h. h ∙ l1) c.with_options.ensures.local;
     }

@@ -8,15 +8,17 @@ use Rattle.lin_line.proofs.command.explain_command.Goals as goal
 
 pub returns : goal.returns
 returns c =
-    let begun : app_of c.about.result ≡ new_app (codes "explain") = ap app_of_fields c.about.ensures ∙ c.new.ensures.app in
-    let filed = c.in_ok-arg.ensures.shape c.file_argument.ensures.local ∙ ap₂ with_rule begun c.file_argument.ensures.rule in
-    let keyed = c.in_ok-arg-2.ensures.shape c.key_option.ensures.local.1 ∙ ap₂ with_rule filed c.key_option.ensures.rule in
-    let ordered = c.in_ok-command.ensures.shape c.order_flag.ensures.local.1 ∙ ap₂ with_rule keyed c.order_flag.ensures.rule in
-    let begun_local = ap (λ f. f.has_globals) c.about.ensures ∙ c.new.ensures.local in
-    let filed_local = c.in_ok-arg.ensures.globals ∙ ap₂ (λ a b. a || b) begun_local c.file_argument.ensures.local in
-    let keyed_local = c.in_ok-arg-2.ensures.globals ∙ ap₂ (λ a b. a || b) filed_local c.key_option.ensures.local.1 in
-    let local = c.in_ok-command.ensures.globals ∙ ap₂ (λ a b. a || b) keyed_local c.order_flag.ensures.local.1 in
+    let begun : app_of c.after_help.result ≡ new_app (codes "explain") = ap app_of_fields c.after_help.ensures ∙ ap app_of_fields c.about.ensures ∙ c.new.ensures.app in
+    let begun_local = ap (λ f. f.has_globals) c.after_help.ensures ∙ ap (λ f. f.has_globals) c.about.ensures ∙ c.new.ensures.local in
+    let a0 = c.in_ok-arg.ensures.shape c.file_argument.ensures.local ∙ ap₂ with_rule begun c.file_argument.ensures.rule in
+    let l0 = c.in_ok-arg.ensures.globals ∙ ap₂ (λ a b. a || b) begun_local c.file_argument.ensures.local in
+    let a1 = c.in_ok-arg-2.ensures.shape c.key_option.ensures.local.1 ∙ ap₂ with_rule a0 c.key_option.ensures.rule in
+    let l1 = c.in_ok-arg-2.ensures.globals ∙ ap₂ (λ a b. a || b) l0 c.key_option.ensures.local.1 in
+    let a2 = c.in_ok-arg-3.ensures.shape c.order_flag.ensures.local.1 ∙ ap₂ with_rule a1 c.order_flag.ensures.rule in
+    let l2 = c.in_ok-arg-3.ensures.globals ∙ ap₂ (λ a b. a || b) l1 c.order_flag.ensures.local.1 in
+    let a3 = c.in_ok-command.ensures.shape c.format_option.ensures.local.1 ∙ ap₂ with_rule a2 c.format_option.ensures.rule in
+    let l3 = c.in_ok-command.ensures.globals ∙ ap₂ (λ a b. a || b) l2 c.format_option.ensures.local.1 in
     record {
-      app = IfOk-weaker c.with_options.result _ _ (λ command h. h ∙ ap (with_options (Names c.args.kinds)) ordered) c.with_options.ensures.app;
-      local = IfOk-weaker c.with_options.result _ _ (λ command h. h ∙ local) c.with_options.ensures.local;
+      app = IfOk-weaker c.with_options.result _ _ (λ command h. h ∙ ap (with_options (Names c.args.kinds)) a3) c.with_options.ensures.app;
+      local = IfOk-weaker c.with_options.result _ _ (λ command h. h ∙ l3) c.with_options.ensures.local;
     }

@@ -1,7 +1,6 @@
 use Rattle.std.proofs.Common.{◌+◌, ap, arith, length, length-append, refl, sym, subst, take, ◌∙◌}
 use Rattle.lin_order.specs.Refutations.{AreConfigurations}
-use Rattle.lin_chain.proofs.ExactSets.{AreAll, exact_configurations, one_more_set}
-use Rattle.lin_chain.proofs.Showing.{ok_same}
+use Rattle.lin_chain.proofs.ExactSets.{AreAll, exact_configurations, ok_same, one_more_set}
 use Rattle.lin_chain.proofs.refuting.Builder.take_in.Goals as goal
 
 pub returns-in_ok-push-clause-next : goal.returns-in_ok-push-clause-next

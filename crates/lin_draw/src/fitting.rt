@@ -1,0 +1,37 @@
+//! How many operations fit into a picture.
+ghost use Rattle.std.specs.Prelude.{◌↔◌, ◌<◌, ◌≤◌, ◌+◌, ◌⊎◌, IfOk, IsTrue, length};
+ghost use Rattle.lin_orders.specs.Tables.{IsNextTable};
+
+use crate::choosing::{Chosen, leave_last};
+use crate::layouts::{Layout, MARGIN, Object, layout_of};
+use lin_events::OutOfMemory;
+use std::alloc::Global;
+
+/// A picture is at most so wide, where so many operations are enough for that.
+const WIDEST: usize = 1_200;
+
+const LEAST: usize = 6;
+
+/// Whether a picture with the layout is wider than is wanted.
+fn is_wide(layout: &Layout) -> bool
+    ensures { IsTrue result ↔ (1200 < layout.now.right + 20) }
+{
+    layout.right.saturating_add(MARGIN) > WIDEST
+}
+
+/// The layout of the operations; of those that don't fit the last chosen are left out.
+pub(crate) fn fit<'a>(
+    alloc: Global,
+    object: &Object<'a>,
+    mut chosen: Vec<Chosen>,
+) -> Result<Layout<'a>, OutOfMemory>
+    requires { IsNextTable object.now.own.now.events.items object.now.ends.now }
+    ensures { IfOk result (λ layout. (layout.right + 20 ≤ 1200) ⊎ (length layout.bars.items ≤ 6)) }
+{
+    let mut layout = layout_of(alloc, object, chosen.as_slice())?;
+    while is_wide(&layout) && chosen.len() > LEAST {
+        leave_last(&mut chosen);
+        layout = layout_of(alloc, object, chosen.as_slice())?;
+    }
+    Ok(layout)
+}

@@ -1,0 +1,19 @@
+//! Pictures of the operations around an answer, as SVG.
+#![tactic(auto)]
+
+mod bars;
+mod canvas;
+mod choosing;
+mod drawing;
+mod fitting;
+mod heads;
+mod labels;
+mod layouts;
+mod legal;
+mod legends;
+mod operations;
+mod own;
+mod pictures;
+mod styles;
+
+pub use pictures::{picture, picture_with_places};

@@ -1,0 +1,175 @@
+//! A picture of what an answer is about.
+ghost use Rattle.std.specs.Prelude.{◌≡◌, ℕ, [], IfOk};
+ghost use Rattle.lin_events.specs.declared.shapes.Cause.{Cause as CauseOf};
+ghost use Rattle.lin_orders.specs.Tables.{IsNextTable};
+
+use crate::bars::Scene;
+use crate::choosing::{Choice, Focus, choose, named_of};
+use crate::drawing::{Texts, drawn, width_of};
+use crate::fitting::fit;
+use crate::heads::{Subject, head_of, left_out, subject_of, told_of};
+use crate::layouts::{Layout, MARGIN, Object};
+use crate::legal::order_before;
+use crate::own::{Own, own_of};
+use lin_events::OutOfMemory;
+use lin_orders::{Placed, ends_of};
+use lin_places::Place;
+use lin_session::{Answer, Session};
+use lin_window::failing_operation;
+use std::alloc::Global;
+
+/// What is drawn, and what is known of it.
+#[derive(Clone, Copy)]
+struct Asked<'a, 'p> {
+    session: &'a Session,
+    answer: &'a Answer,
+    subject: Subject,
+    lines: &'a [u8],
+    places: Option<&'p [Place]>,
+}
+
+/// Where the failing operation was invoked, among the object's own events, if the answer is a no.
+fn failing_of(answer: &Answer, own: &Own, ends: &[Option<usize>]) -> Option<usize>
+    requires { IsNextTable own.now.events.items ends.now }
+{
+    match answer {
+        Answer::No { .. } => failing_operation(own.events.as_slice(), ends),
+        _ => None,
+    }
+}
+
+/// A legal order of the events before the end of the failing operation, if one fails.
+fn found_order(
+    alloc: Global,
+    asked: &Asked,
+    own: &Own,
+    failing: Option<usize>,
+) -> Result<Vec<Placed>, OutOfMemory> {
+    match (asked.subject.key, failing) {
+        (Some(key), Some(call)) => order_before(alloc, asked.session, key, own, call),
+        _ => Ok(Vec::new(alloc)),
+    }
+}
+
+/// The order that is drawn: that of a yes, or else the other one.
+fn order_in<'a>(answer: &'a Answer, found: &'a [Placed]) -> &'a [Placed] {
+    match answer {
+        Answer::Yes(order) => order.as_slice(),
+        _ => found,
+    }
+}
+
+/// The events of the object.
+fn events_for(alloc: Global, asked: &Asked) -> Result<Own, OutOfMemory> {
+    match asked.subject.key {
+        Some(key) => own_of(alloc, asked.session, key, asked.subject.count),
+        None => own_of(alloc, asked.session, 0, 0),
+    }
+}
+
+/// The picture with the layout and the texts.
+fn finished(
+    alloc: Global,
+    own: &Own,
+    places: Option<&[Place]>,
+    mut layout: Layout,
+    texts: &Texts,
+) -> Result<Vec<u8>, OutOfMemory> {
+    let width = width_of(alloc, texts)?;
+    layout.widen(width.saturating_sub(MARGIN));
+    let scene = Scene {
+        own,
+        layout: &layout,
+        places,
+    };
+    Ok(drawn(alloc, &scene, texts)?)
+}
+
+/// The picture of the object, of whose operations these may be drawn.
+fn pictured(
+    alloc: Global,
+    asked: &Asked,
+    object: &Object,
+    choice: Choice,
+) -> Result<Vec<u8>, OutOfMemory>
+    requires { IsNextTable object.now.own.now.events.items object.now.ends.now }
+{
+    let Choice { chosen, all } = choice;
+    let layout = fit(alloc, object, chosen)?;
+    let head = head_of(
+        alloc,
+        asked.session,
+        asked.answer,
+        asked.subject.key,
+        asked.lines,
+    )?;
+    let more = left_out(alloc, all.saturating_sub(layout.bars.len()))?;
+    let lines = told_of(alloc, asked.lines)?;
+    let texts = Texts {
+        head: head.as_slice(),
+        lines: lines.as_slice(),
+        more: more.as_slice(),
+        is_failure: matches!(asked.answer, Answer::No { .. }),
+    };
+    finished(alloc, object.own, asked.places, layout, &texts)
+}
+
+/// The picture of what is asked.
+fn picture_of(alloc: Global, asked: &Asked) -> Result<Vec<u8>, OutOfMemory> {
+    let own = events_for(alloc, asked)?;
+    let ends = ends_of(alloc, own.events.as_slice())?;
+    let failing = failing_of(asked.answer, &own, ends.as_slice());
+    let named = named_of(alloc, asked.lines)?;
+    let focus = Focus {
+        failing,
+        named: named.as_slice(),
+    };
+    let choice = choose(alloc, &own, ends.as_slice(), &focus)?;
+    let found = found_order(alloc, asked, &own, failing)?;
+    let object = Object {
+        own: &own,
+        ends: ends.as_slice(),
+        order: order_in(asked.answer, found.as_slice()),
+    };
+    pictured(alloc, asked, &object, choice)
+}
+
+/// A picture of the operations around the answer, as an SVG, and where their events stand in the file.
+///
+/// The answer is the session's for the key's object, or for the whole; the lines are those of its explanation behind the answer's own. An
+/// ill-formed history isn't drawn: its text is empty.
+pub fn picture_with_places(
+    alloc: Global,
+    session: &Session,
+    answer: &Answer,
+    key: Option<i64>,
+    lines: &[u8],
+    places: Option<&[Place]>,
+) -> Result<Vec<u8>, OutOfMemory>
+    ensures { IfOk result (λ text. (at : ℕ) (cause : CauseOf) → answer.now ≡ Answer.IllFormed at cause → text.items ≡ []) }
+{
+    if let Answer::IllFormed { .. } = answer {
+        return Ok(Vec::new(alloc));
+    }
+    let asked = Asked {
+        session,
+        answer,
+        subject: subject_of(session, answer, key),
+        lines,
+        places,
+    };
+    picture_of(alloc, &asked)
+}
+
+/// A picture of the operations around the answer, as an SVG.
+pub fn picture(
+    alloc: Global,
+    session: &Session,
+    answer: &Answer,
+    key: Option<i64>,
+    lines: &[u8],
+) -> Result<Vec<u8>, OutOfMemory>
+    ensures { IfOk result (λ text. (at : ℕ) (cause : CauseOf) → answer.now ≡ Answer.IllFormed at cause → text.items ≡ []) }
+{
+    picture_with_places(alloc, session, answer, key, lines, None)
+}

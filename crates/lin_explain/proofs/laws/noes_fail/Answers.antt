@@ -1,0 +1,6 @@
+use Rattle.lin_explain.proofs.Noes.{noes_fail}
+use Rattle.lin_explain.proofs.laws.noes_fail.Goals as goal
+
+pub returns : goal.returns
+returns c = noes_fail c.beginnings_are_well_formed.ensures c.parts_keep_operations.ensures.well_formed c.parts_keep_orders.ensures.linearizable c.parts_grow.ensures.more
+    c.linearizability_is_local.ensures c.args.kind c.failures_end.ensures

@@ -1,0 +1,53 @@
+-- Why the operations of an object have no legal order, where a certificate is told.
+use Rattle.std.specs.Prelude.{◌≡◌, ℕ, List, [], Contains, Option, Some, None, codes, map, option_map}
+use Rattle.lin_objects.specs.declared.kinds.Kind.{Kind}
+use Rattle.lin_orders.specs.Tables.{IsNextTable}
+use Rattle.lin_certificates.specs.Certificates.{Certifies}
+use Rattle.lin_certificates.specs.declared.certificate.Certificate.{Certificate}
+use Rattle.lin_certificates.specs.declared.certificate.Certificate.TheVariants as Form
+use Rattle.lin_reasons.specs.Groups.{IsListing}
+use Rattle.lin_reasons.specs.Reasons.{IsReason}
+use Rattle.lin_reasons.specs.declared.told.Told.{Told as Source}
+use Rattle.lin_window.specs.Tables.{Told, position_in}
+use Rattle.lin_explain.specs.declared.parts.Why.{Why}
+
+-- the names of the forms
+abbrev pub form_name : Certificate → List ℕ
+form_name (Form.Shape read) = codes "shape"
+form_name (Form.Unwritten operation number) = codes "unwritten"
+form_name (Form.Overwritten operation value) = codes "overwritten"
+form_name (Form.Crossed value number early late back) = codes "crossed"
+form_name (Form.Taken number) = codes "taken"
+form_name (Form.Passed enqueue later dequeue number other) = codes "passed"
+form_name (Form.Inside enqueue dequeue number) = codes "inside"
+form_name (Form.Unadded read number) = codes "unadded"
+form_name (Form.Lost earlier read number) = codes "lost"
+form_name (Form.Split first second number other) = codes "split"
+form_name (Form.Late earlier add read number other) = codes "late"
+form_name (Form.Twice first second) = codes "twice"
+form_name Form.Counted = codes "counted"
+
+-- the same events, positions and places, with the next event of each one's process
+pub record IsSource (stretch : Told) (source : Source) : Type 0 where
+  pub events_of : source.events.now ≡ stretch.events
+  pub ends_of : IsNextTable stretch.events source.ends.now
+  pub picks_of : source.picks.now ≡ stretch.picks
+  pub places_of : option_map (λ p. p.now) source.places ≡ stretch.places
+
+-- The lines tell a certificate that holds of the object's events. Named are just the operations that the lines name; the parts have the name of the
+-- form, and where in the whole history these operations were invoked.
+pub record IsWhy (kind : Kind) (stretch : Told) (lines named : List ℕ) (why : Why) : Type 0 where
+  pub source : Source
+  pub certificate : Certificate
+  pub names : List ℕ
+  pub is_source : IsSource stretch source
+  pub holds : Certifies stretch.events kind certificate
+  pub tells : IsReason source certificate lines names
+  pub all_named : IsListing (Contains names) named
+  pub name_of : why.name.now ≡ form_name certificate
+  pub calls_of : why.calls.items ≡ map (position_in stretch.picks) named
+
+-- a certificate is told, or none, and then nothing is named
+abbrev pub IsWhyText : Kind → Told → List ℕ → List ℕ → Option Why → Type 0
+IsWhyText kind stretch lines named None = (lines ≡ []) × (named ≡ [])
+IsWhyText kind stretch lines named (Some why) = IsWhy kind stretch lines named why

@@ -1,0 +1,3 @@
+pub mod Laws
+pub mod Own
+pub mod Tails

@@ -1,0 +1,16 @@
+-- The events of one object, as they are gathered: words of private contracts.
+use Rattle.std.specs.Prelude.{◌≡◌, ℤ, List, Option}
+use Rattle.lin_events.specs.declared.events.Event.{Event}
+use Rattle.lin_orders.specs.Parts.{ArePositionsOf, part}
+use Rattle.lin_places.specs.declared.place.Place.{Place}
+use Rattle.lin_window.specs.Tables.{Told}
+use Rattle.lin_explain.specs.declared.own.Own.{Own}
+
+-- just the events of the key in the history, and where they stand
+pub record IsOwn (key : ℤ) (h : List Event) (own : Own) : Type 0 where
+  pub events_of : own.events.items ≡ part key h
+  pub positions : ArePositionsOf key h own.picks.items
+
+-- its events, with where they stand and are found
+abbrev pub stretch_of : Own → Option (List Place) → Told
+stretch_of own places = record { events = own.events.items; picks = own.picks.items; places = places }

@@ -1,0 +1,130 @@
+//! What was possible before a failure.
+ghost use Rattle.std.specs.Prelude.{◌≡◌, ◌++◌, ℕ, List, IfOk, OnOk, map, option_map};
+ghost use Rattle.lin_outcomes.specs.Outcomes.{HasNotCrashed, failing_of};
+ghost use Rattle.lin_outcomes.specs.Texts.{outcomes_text};
+ghost use Rattle.lin_explain.specs.inner.Laws.{IsLegalHistory};
+ghost use Rattle.lin_explain.specs.Possible.{AreChoices, IsPossibleText, IsWasText};
+
+use crate::parts::Choices;
+use lin_events::{Event, OutOfMemory};
+use lin_objects::Kind;
+use lin_outcomes::{Before, Listed, Outcomes, outcomes_of, put_outcomes, put_was};
+use lin_possible::Possible;
+use lin_words::Item;
+use std::alloc::{AllocError, Global};
+
+/// What is told to be possible, in parts.
+#[derive(Drop)]
+pub(crate) struct Possibilities {
+    pub(crate) replies: Choices,
+    pub(crate) states: Choices,
+}
+
+/// The words of the items.
+fn words_of(alloc: Global, items: &[Item]) -> Result<Vec<Vec<u8>>, AllocError>
+    ensures { IfOk result (λ all. map (λ words. words.items) all.items ≡ map (λ item. item.words.items) items.now) }
+{
+    let mut all = Vec::new(alloc);
+    for item in items {
+        let words = Vec::from_slice(alloc, item.words.as_slice())?;
+        all.push(words)?;
+    }
+    Ok(all)
+}
+
+/// What is listed, if it is known.
+fn choices_of(alloc: Global, listed: Option<&Listed>) -> Result<Choices, AllocError>
+    ensures { IfOk result (AreChoices (option_map (λ l. l.now) listed.entry)) }
+{
+    match listed {
+        Some(listed) => {
+            Ok(Choices {
+                count: Some(listed.count),
+                some: words_of(alloc, listed.items.as_slice())?,
+            })
+        }
+        None => {
+            Ok(Choices {
+                count: None,
+                some: Vec::new(alloc),
+            })
+        }
+    }
+}
+
+/// The replies among the outcomes, if these are known.
+fn replies_in(outcomes: Option<&Outcomes>) -> Option<&Listed>
+    ensures { option_map (λ l. l.now) result ≡ option_map (λ o. o.now.replies) outcomes.entry }
+{
+    match outcomes {
+        Some(outcomes) => Some(&outcomes.replies),
+        None => None,
+    }
+}
+
+/// The states among the outcomes, if these are known.
+fn states_in(outcomes: Option<&Outcomes>) -> Option<&Listed>
+    ensures { option_map (λ l. l.now) result ≡ option_map (λ o. o.now.states) outcomes.entry }
+{
+    match outcomes {
+        Some(outcomes) => Some(&outcomes.states),
+        None => None,
+    }
+}
+
+/// Puts the lines on what was possible last.
+fn put_told(
+    alloc: Global,
+    text: &mut Vec<u8>,
+    before: &Before,
+    outcomes: Option<&Outcomes>,
+    prefix: usize,
+    budget: u32,
+) -> Result<Possibilities, OutOfMemory>
+    ensures put { OnOk result (text.new.items ≡ text.old.items ++ outcomes_text (failing_of before.now) prefix budget (option_map (λ o. o.now) outcomes.entry)) }
+    ensures replies { IfOk result (λ told. AreChoices (option_map (λ o. o.now.replies) outcomes.entry) told.replies) }
+    ensures states { IfOk result (λ told. AreChoices (option_map (λ o. o.now.states) outcomes.entry) told.states) }
+{
+    put_outcomes(text, before, outcomes, prefix, budget)?;
+    let replies = choices_of(alloc, replies_in(outcomes))?;
+    let states = choices_of(alloc, states_in(outcomes))?;
+    Ok(Possibilities { replies, states })
+}
+
+/// Puts the lines last on what the failing operation could have returned, and what the object could be before its end.
+pub(crate) fn put_possible(
+    alloc: Global,
+    text: &mut Vec<u8>,
+    before: &Before,
+    prefix: usize,
+    budget: u32,
+) -> Result<Possibilities, OutOfMemory>
+    requires legal { IsLegalHistory before.now.kind before.now.events.now }
+    requires uncrashed { HasNotCrashed before.now.events.now before.now.process }
+    ensures { IfOk result (λ told. (lines : List ℕ) × IsPossibleText (failing_of before.now) prefix budget lines told.replies told.states × (text.new.items ≡ text.old.items ++ lines)) }
+{
+    match Possible::after(alloc, before.kind, before.events, budget)? {
+        Some(possible) => {
+            let outcomes = outcomes_of(alloc, before, &possible)?;
+            put_told(alloc, text, before, Some(&outcomes), prefix, budget)
+        }
+        None => put_told(alloc, text, before, None, prefix, budget),
+    }
+}
+
+/// Puts what the object was after the events last, if it is known.
+pub(crate) fn put_was_after(
+    alloc: Global,
+    text: &mut Vec<u8>,
+    kind: Kind,
+    events: &[Event],
+    budget: u32,
+) -> Result<(), OutOfMemory>
+    requires { IsLegalHistory kind events.now }
+    ensures { OnOk result ((was : List ℕ) × IsWasText kind events.now budget was × (text.new.items ≡ text.old.items ++ was)) }
+{
+    match Possible::after(alloc, kind, events, budget)? {
+        Some(possible) => put_was(alloc, text, kind, Some(&possible)),
+        None => put_was(alloc, text, kind, None),
+    }
+}

@@ -1,0 +1,52 @@
+-- The answers for a history and for its objects.
+use Rattle.std.specs.Prelude.{ℕ, ℤ, List, ◌++◌, codes, decimal}
+use Rattle.std.specs.Fmt.{signed_decimal}
+use Rattle.lin_objects.specs.declared.kinds.Kind.{Kind}
+use Rattle.lin_formats.specs.Kinds.{kind_text}
+use Rattle.lin_formats.specs.declared.verdicts.Status.{Status}
+use Rattle.lin_formats.specs.declared.verdicts.Status.TheVariants.{Yes, No, Undecided, IllFormed, Refused}
+use Rattle.lin_json.specs.Strings.{string_json}
+
+-- only a yes says that the history is linearizable, and only a no that it isn't
+abbrev pub valid_text : Status → List ℕ
+valid_text Yes = codes "true"
+valid_text No = codes "false"
+valid_text Undecided = codes "\"unknown\""
+valid_text IllFormed = codes "\"unknown\""
+valid_text Refused = codes "\"unknown\""
+
+-- the exit status of a run that ends so
+abbrev pub status_number : Status → ℕ
+status_number Yes = 0
+status_number No = 1
+status_number Undecided = 2
+status_number IllFormed = 3
+status_number Refused = 4
+
+-- what each map says of an answer or a refusal, which has this line
+abbrev pub head_json : Status → List ℕ → List ℕ
+head_json status answer = codes "\"valid?\":" ++ valid_text status ++ codes ",\"status\":" ++ decimal (status_number status)
+    ++ codes ",\"answer\":" ++ string_json answer
+
+-- an answer alone
+abbrev pub answer_json : Status → List ℕ → List ℕ
+answer_json status answer = codes "{" ++ head_json status answer ++ codes "}"
+
+-- an answer for a history of so many events, and what else the map says will follow
+abbrev pub counted_json : Status → List ℕ → ℕ → List ℕ
+counted_json status answer events = codes "{" ++ head_json status answer ++ codes ",\"events\":" ++ decimal events
+
+-- the name of an object: a key and a word for a kind have no byte that is escaped
+abbrev pub named_json : ℤ → Kind → List ℕ
+named_json key kind = codes "\"key\":\"" ++ signed_decimal key ++ codes "\",\"kind\":\"" ++ kind_text kind ++ codes "\""
+
+-- the answer for an object
+abbrev pub object_json : ℤ → Kind → Status → List ℕ → List ℕ
+object_json key kind status answer = codes "{" ++ named_json key kind ++ codes "," ++ head_json status answer ++ codes "}"
+
+abbrev pub objects_front : Status → List ℕ → ℕ → List ℕ
+objects_front status answer events = counted_json status answer events ++ codes ",\"objects\":["
+
+-- the answer for a history of so many events, with those for its objects, which are these texts
+abbrev pub checked_json : Status → List ℕ → ℕ → List ℕ → List ℕ
+checked_json status answer events objects = objects_front status answer events ++ objects ++ codes "]}"

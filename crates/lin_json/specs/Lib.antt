@@ -1,0 +1,4 @@
+pub mod Strings
+pub mod Answers
+pub mod Failures
+pub mod Explanations

@@ -1,0 +1,103 @@
+//! Answers, of a whole history and of its objects.
+ghost use Rattle.std.specs.Prelude.{◌≡◌, ◌++◌, OnOk};
+ghost use Rattle.lin_json.specs.Answers.{answer_json, counted_json, head_json, named_json, object_json, objects_front, status_number as number_of, valid_text};
+
+use crate::strings::put_string;
+use lin_formats::{Status, kind_word, put_integer, put_number};
+use lin_objects::Kind;
+use std::alloc::AllocError;
+
+/// An answer, or why there is none: the status of a run that ends with it, and its line.
+#[derive(Clone, Copy)]
+pub struct Head<'a> {
+    pub status: Status,
+    pub answer: &'a [u8],
+}
+
+/// Whether a history is linearizable of which this is found.
+fn valid_word(status: Status) -> &'static str
+    ensures { result.now ≡ valid_text status }
+{
+    match status {
+        Status::Yes => "true",
+        Status::No => "false",
+        Status::Undecided | Status::IllFormed | Status::Refused => "\"unknown\"",
+    }
+}
+
+/// The exit status of a run that ends so.
+fn status_number(status: Status) -> u64
+    ensures { result ≡ number_of status }
+{
+    match status {
+        Status::Yes => 0,
+        Status::No => 1,
+        Status::Undecided => 2,
+        Status::IllFormed => 3,
+        Status::Refused => 4,
+    }
+}
+
+/// Puts last what each map says: whether the history is linearizable, the exit status, and the answer's line.
+pub(crate) fn put_head(text: &mut Vec<u8>, head: Head) -> Result<(), AllocError>
+    ensures { OnOk result (text.new.items ≡ text.old.items ++ head_json head.entry.status head.entry.answer.now) }
+{
+    text.extend_from_slice(b"\"valid?\":")?;
+    text.extend_from_slice(valid_word(head.status).as_bytes())?;
+    text.extend_from_slice(b",\"status\":")?;
+    put_number(text, status_number(head.status))?;
+    text.extend_from_slice(b",\"answer\":")?;
+    put_string(text, head.answer)
+}
+
+/// Puts the map last that says an answer and nothing else.
+pub fn put_answer(text: &mut Vec<u8>, head: Head) -> Result<(), AllocError>
+    ensures { OnOk result (text.new.items ≡ text.old.items ++ answer_json head.entry.status head.entry.answer.now) }
+{
+    text.push(b'{')?;
+    put_head(text, head)?;
+    text.push(b'}')?;
+    Ok(())
+}
+
+/// Puts what every map of a history's answer begins with last: the answer, and how many events the history has.
+pub(crate) fn put_counted(text: &mut Vec<u8>, head: Head, events: usize) -> Result<(), AllocError>
+    ensures { OnOk result (text.new.items ≡ text.old.items ++ counted_json head.entry.status head.entry.answer.now events) }
+{
+    text.push(b'{')?;
+    put_head(text, head)?;
+    text.extend_from_slice(b",\"events\":")?;
+    put_number(text, events as u64)
+}
+
+/// Puts what stands in front of the objects last.
+pub fn put_objects_front(text: &mut Vec<u8>, head: Head, events: usize) -> Result<(), AllocError>
+    ensures { OnOk result (text.new.items ≡ text.old.items ++ objects_front head.entry.status head.entry.answer.now events) }
+{
+    put_counted(text, head, events)?;
+    text.extend_from_slice(b",\"objects\":[")
+}
+
+/// Puts the key and the kind of an object last.
+pub(crate) fn put_named(text: &mut Vec<u8>, key: i64, kind: Kind) -> Result<(), AllocError>
+    ensures { OnOk result (text.new.items ≡ text.old.items ++ named_json key kind) }
+{
+    text.extend_from_slice(b"\"key\":\"")?;
+    put_integer(text, key)?;
+    text.extend_from_slice(b"\",\"kind\":\"")?;
+    text.extend_from_slice(kind_word(kind).as_bytes())?;
+    text.push(b'"')?;
+    Ok(())
+}
+
+/// Puts the map of an object last.
+pub fn put_object(text: &mut Vec<u8>, key: i64, kind: Kind, head: Head) -> Result<(), AllocError>
+    ensures { OnOk result (text.new.items ≡ text.old.items ++ object_json key kind head.entry.status head.entry.answer.now) }
+{
+    text.push(b'{')?;
+    put_named(text, key, kind)?;
+    text.push(b',')?;
+    put_head(text, head)?;
+    text.push(b'}')?;
+    Ok(())
+}

@@ -1,0 +1,84 @@
+//! Explanations.
+ghost use Rattle.std.specs.Prelude.{◌≡◌, ◌++◌, OnOk};
+ghost use Rattle.lin_json.specs.Explanations.{event_json, explanation_json, object_named, parts_json, refusal_json, told_json};
+
+use crate::answers::{Head, put_counted, put_head, put_named};
+use crate::failures::{put_failed, put_named_event, put_place, put_spot};
+use crate::strings::put_string;
+use lin_explain::{Parts, Spot};
+use lin_objects::Kind;
+use lin_places::Place;
+use std::alloc::AllocError;
+
+/// Puts the object that was asked about last, if one was.
+fn put_asked(text: &mut Vec<u8>, object: Option<(i64, Kind)>) -> Result<(), AllocError>
+    ensures { OnOk result (text.new.items ≡ text.old.items ++ object_named object) }
+{
+    match object {
+        Some((key, kind)) => {
+            text.push(b',')?;
+            put_named(text, key, kind)
+        }
+        None => Ok(()),
+    }
+}
+
+/// Puts an event last, behind others or none.
+fn put_event(text: &mut Vec<u8>, event: &Spot) -> Result<(), AllocError>
+    ensures { OnOk result (text.new.items ≡ text.old.items ++ event_json event.now) }
+{
+    text.extend_from_slice(b",\"event\":")?;
+    put_spot(text, event)
+}
+
+/// Puts what an explanation says last.
+fn put_parts(text: &mut Vec<u8>, parts: &Parts) -> Result<(), AllocError>
+    ensures { OnOk result (text.new.items ≡ text.old.items ++ parts_json parts.now) }
+{
+    match parts {
+        Parts::Yes { object } => put_asked(text, *object),
+        Parts::No(failed) => put_failed(text, failed),
+        Parts::Undecided { key, kind, event } => put_named_event(text, *key, *kind, event),
+        Parts::IllFormed { event } => put_event(text, event),
+    }
+}
+
+/// Puts the end of the map of an explanation last, with its whole text.
+fn put_told(text: &mut Vec<u8>, told: &[u8]) -> Result<(), AllocError>
+    ensures { OnOk result (text.new.items ≡ text.old.items ++ told_json told.now) }
+{
+    text.extend_from_slice(b",\"text\":")?;
+    put_string(text, told)?;
+    text.push(b'}')?;
+    Ok(())
+}
+
+/// Puts the map of an explanation last: the answer, how many events the history has, what is said of them, and the text that says it.
+pub fn put_explanation(
+    text: &mut Vec<u8>,
+    head: Head,
+    events: usize,
+    parts: &Parts,
+    told: &[u8],
+) -> Result<(), AllocError>
+    ensures { OnOk result (text.new.items ≡ text.old.items ++ explanation_json head.entry.status head.entry.answer.now events parts.now told.now) }
+{
+    put_counted(text, head, events)?;
+    put_parts(text, parts)?;
+    put_told(text, told)
+}
+
+/// Puts the map of a refused file last: the refusal, where the fault stands, if it has a place, and the text that says so.
+pub fn put_refusal(
+    text: &mut Vec<u8>,
+    head: Head,
+    place: Option<Place>,
+    told: &[u8],
+) -> Result<(), AllocError>
+    ensures { OnOk result (text.new.items ≡ text.old.items ++ refusal_json head.entry.status head.entry.answer.now place told.now) }
+{
+    text.push(b'{')?;
+    put_head(text, head)?;
+    put_place(text, place)?;
+    put_told(text, told)
+}

@@ -1,0 +1,10 @@
+//! What is found of a history, and why, as JSON for machines: one map, on one line, with no blank outside strings.
+#![tactic(auto)]
+
+mod answers;
+mod explanations;
+mod failures;
+mod strings;
+
+pub use answers::{Head, put_answer, put_object, put_objects_front};
+pub use explanations::{put_explanation, put_refusal};

@@ -1,0 +1,5 @@
+mod Ordered
+mod Finding
+mod Permuting
+mod Zips
+mod Telling

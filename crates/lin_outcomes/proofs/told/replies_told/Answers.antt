@@ -1,0 +1,21 @@
+use Rattle.std.proofs.Common.{List, ℤ, subst}
+use Rattle.std.specs.Prelude.{Option, option_map}
+use Rattle.std.specs.List.{AllZip}
+use Rattle.lin_possible.specs.After.{IsWay}
+use Rattle.lin_possible.specs.Possible.{Answers}
+use Rattle.lin_outcomes.specs.Ranks.{members_in, reply_rank}
+use Rattle.lin_outcomes.specs.Words.{reply_words}
+use Rattle.lin_outcomes.specs.inner.Telling.{IsTold}
+use Rattle.lin_outcomes.proofs.Telling.{told_in_order}
+use Rattle.lin_outcomes.proofs.told.replies_told.Goals as goal
+
+pub returns : goal.returns
+returns c = λ functions kind h well after running.
+    let found = c.in_ok-found.found.items in
+    let told = c.in_ok-all_replies.field-0.items in
+    let members : Option (List ℤ) = members_in (option_map (λ r. r.now) c.args.recorded) in
+    told_in_order (Answers kind h c.args.process) (IsWay c.args.possible.now) (reply_rank members) (reply_words members) found told c.in_order.result.items
+    (c.in_ok-found.ensures functions kind h well after (λ crashed. running crashed.0 crashed.1 crashed.2 crashed.3 crashed.4))
+    (subst (λ m. AllZip (IsTold (reply_rank m) (reply_words m)) found told) c.recorded_members-members.ensures
+    (subst (λ l. AllZip (IsTold (reply_rank (option_map (λ m. m.now) c.recorded_members-members.result)) (reply_words (option_map (λ m. m.now) c.recorded_members-members.result))) l told) c.as_slice.ensures.value c.in_ok-all_replies.ensures))
+    c.in_order.ensures.permutation c.in_order.ensures.rising

@@ -1,0 +1,18 @@
+use Rattle.std.proofs.Common.{subst}
+use Rattle.std.specs.List.{AllZip}
+use Rattle.lin_possible.specs.After.{IsWay}
+use Rattle.lin_possible.specs.Possible.{LeavesIn}
+use Rattle.lin_words.specs.Values.{state_text}
+use Rattle.lin_outcomes.specs.Ranks.{state_rank}
+use Rattle.lin_outcomes.specs.inner.Telling.{IsTold}
+use Rattle.lin_outcomes.proofs.Telling.{told_in_order}
+use Rattle.lin_outcomes.proofs.told.states_told.Goals as goal
+
+pub returns : goal.returns
+returns c = λ functions kind h well after.
+    let found = c.in_ok-found.found.items in
+    let told = c.in_ok-all_states.field-0.items in
+    told_in_order (LeavesIn kind h) (IsWay c.args.possible.now) state_rank state_text found told c.in_order.result.items
+    (c.in_ok-found.ensures functions kind h well after)
+    (subst (λ l. AllZip (IsTold state_rank state_text) l told) c.as_slice.ensures.value c.in_ok-all_states.ensures)
+    c.in_order.ensures.permutation c.in_order.ensures.rising

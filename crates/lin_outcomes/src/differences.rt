@@ -1,0 +1,99 @@
+//! How two sets differ.
+ghost use Rattle.std.specs.Prelude.{◌≡◌, ◌++◌, ◌+◌, codes, length, IfOk, OnOk};
+ghost use Rattle.std.specs.List.{list_any};
+ghost use Rattle.std.specs.Ordering.{int_eq};
+ghost use Rattle.lin_lists.specs.Sets.{IsRising};
+ghost use Rattle.lin_words.specs.Values.{items_text};
+ghost use Rattle.lin_outcomes.specs.Ranks.{lacked};
+ghost use Rattle.lin_outcomes.specs.Words.{difference_text};
+
+use lin_events::IntSet;
+use lin_words::put_items;
+use std::alloc::{AllocError, Global};
+
+/// What the one set has besides the other, and what it lacks of it.
+#[derive(Drop)]
+pub(crate) struct Difference {
+    pub(crate) more: Vec<i64>,
+    pub(crate) lacking: Vec<i64>,
+}
+
+/// Whether the number is among the rising ones.
+fn has(items: &[i64], number: i64) -> bool
+    requires { IsRising items.now }
+    ensures { result ≡ list_any (int_eq number) items.now }
+{
+    match items.binary_search(&number) {
+        Ok(_) => true,
+        Err(_) => false,
+    }
+}
+
+/// The numbers of the one set that the other lacks.
+fn lacked_by(alloc: Global, set: &IntSet, other: &IntSet) -> Result<Vec<i64>, AllocError>
+    ensures { IfOk result (λ numbers. numbers.items ≡ lacked other.now set.now) }
+{
+    let others = other.as_slice();
+    set.as_slice()
+        .iter()
+        .copied()
+        .filter(|number| !has(others, *number))
+        .collect(alloc)
+}
+
+impl Difference {
+    /// How the set differs from the other.
+    pub(crate) fn of(alloc: Global, set: &IntSet, other: &IntSet) -> Result<Difference, AllocError>
+        ensures { IfOk result (λ difference. (difference.more.items ≡ lacked other.now set.now) × (difference.lacking.items ≡ lacked set.now other.now)) }
+    {
+        let more = lacked_by(alloc, set, other)?;
+        let lacking = lacked_by(alloc, other, set)?;
+        Ok(Difference { more, lacking })
+    }
+
+    /// How many numbers only one of the sets has.
+    pub(crate) fn count(&self) -> usize
+        ensures { result ≡ length self.now.more.items + length self.now.lacking.items }
+    {
+        self.more.len() + self.lacking.len()
+    }
+
+    /// Puts the words last.
+    pub(crate) fn put(&self, words: &mut Vec<u8>) -> Result<(), AllocError>
+        ensures { OnOk result (words.new.items ≡ words.old.items ++ difference_text self.now.more.items self.now.lacking.items) }
+    {
+        put_difference(words, self.more.as_slice(), self.lacking.as_slice())
+    }
+}
+
+/// Puts last what a set has besides.
+fn put_with(words: &mut Vec<u8>, more: &[i64]) -> Result<(), AllocError>
+    ensures { OnOk result (words.new.items ≡ words.old.items ++ (codes "with " ++ items_text more.now)) }
+{
+    words.extend_from_slice(b"with ")?;
+    put_items(words, more)
+}
+
+/// Puts last what a set lacks.
+fn put_without(words: &mut Vec<u8>, lacking: &[i64]) -> Result<(), AllocError>
+    ensures { OnOk result (words.new.items ≡ words.old.items ++ (codes "without " ++ items_text lacking.now)) }
+{
+    words.extend_from_slice(b"without ")?;
+    put_items(words, lacking)
+}
+
+/// Puts last what a set has besides, and what it lacks.
+fn put_difference(words: &mut Vec<u8>, more: &[i64], lacking: &[i64]) -> Result<(), AllocError>
+    ensures { OnOk result (words.new.items ≡ words.old.items ++ difference_text more.now lacking.now) }
+{
+    match (more, lacking) {
+        ([], []) => Ok(()),
+        ([], _) => put_without(words, lacking),
+        (_, []) => put_with(words, more),
+        _ => {
+            put_with(words, more)?;
+            words.push(b' ')?;
+            put_without(words, lacking)
+        }
+    }
+}

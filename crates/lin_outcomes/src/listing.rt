@@ -1,0 +1,79 @@
+//! The first of what was possible, with the operations that lead to it.
+ghost use Rattle.std.specs.Prelude.{◌≡◌, IfOk, length, take};
+ghost use Rattle.std.specs.List.{AllZip};
+ghost use Rattle.lin_outcomes.specs.inner.Telling.{Leads};
+
+use crate::after::{leading, put_after};
+use crate::told::Told;
+use lin_events::{Event, OutOfMemory};
+use lin_possible::Possible;
+use lin_words::Item;
+use std::alloc::Global;
+
+/// What was possible: how many there are, and the first of them.
+#[derive(Drop)]
+pub struct Listed {
+    pub items: Vec<Item>,
+    pub count: usize,
+}
+
+/// What is needed to tell which operations lead to something.
+#[derive(Clone, Copy)]
+pub(crate) struct Leading<'a> {
+    pub(crate) events: &'a [Event],
+    pub(crate) possible: &'a Possible,
+    /// Where the operation was invoked up to which an order is told; without one, all of it is.
+    pub(crate) call: Option<usize>,
+}
+
+/// The line of a state or a reply.
+fn item_of(alloc: Global, leading_by: &Leading, told: &Told) -> Result<Item, OutOfMemory>
+    ensures { IfOk result (λ item. Leads leading_by.now told.now item) }
+{
+    let order = leading_by.possible.order(alloc, told.way)?;
+    let mut after = Vec::new(alloc);
+    put_after(
+        &mut after,
+        leading_by.events,
+        leading(order.as_slice(), leading_by.call),
+    )?;
+    let words = Vec::from_slice(alloc, told.words.as_slice())?;
+    Ok(Item { words, after })
+}
+
+/// Their lines.
+fn items_of(alloc: Global, leading_by: &Leading, told: &[Told]) -> Result<Vec<Item>, OutOfMemory>
+    ensures { IfOk result (λ items. AllZip (Leads leading_by.now) told.now items.items) }
+{
+    let mut items = Vec::new(alloc);
+    for entry in told {
+        items.push(item_of(alloc, leading_by, entry)?)?;
+    }
+    Ok(items)
+}
+
+/// The first of them, at most so many.
+fn first_of(told: &[Told], most: usize) -> &[Told]
+    ensures { result.now ≡ take most told.now }
+{
+    if told.len() <= most {
+        return told;
+    }
+    &told[..most]
+}
+
+/// The first of what was possible, at most so many, and how many there are.
+pub(crate) fn listed_of(
+    alloc: Global,
+    leading_by: &Leading,
+    told: &[Told],
+    most: usize,
+) -> Result<Listed, OutOfMemory>
+    ensures { IfOk result (λ listed. (listed.count ≡ length told.now) × AllZip (Leads leading_by.now) (take most told.now) listed.items.items) }
+{
+    let items = items_of(alloc, leading_by, first_of(told, most))?;
+    Ok(Listed {
+        items,
+        count: told.len(),
+    })
+}

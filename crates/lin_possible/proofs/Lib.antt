@@ -1,0 +1,5 @@
+pub mod Showing
+pub mod Listed
+pub mod Taking
+pub mod Overwritten
+pub mod Growing

@@ -1,0 +1,5 @@
+use Rattle.lin_possible.proofs.Growing.{IsTelling}
+use Rattle.lin_possible.proofs.telling.Telling.told.Given as goal
+
+abbrev pub invariant-loop-member : goal.invariant-loop-member
+invariant-loop-member g l = IsTelling (g.O.SeqObject.starts l.self.object.now) (g.O.SeqObject.step l.self.object.now) (g.O.SeqObject.observing l.self.object.now) l.self.pending.now l.observers.items l.members l.member-index l.fn.nodes l.nodes l.out.items

@@ -1,0 +1,3 @@
+pub mod Possible
+pub mod After
+pub mod inner

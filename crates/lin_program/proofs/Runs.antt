@@ -1,0 +1,56 @@
+-- Reports one behind the other, and devices within counters.
+use Rattle.std.proofs.Common.{◌≡◌, ◌∙◌, ◌<◌, ◌≤◌, ◌+◌, ◌++◌, ◌∷◌, [], ℕ, List, Bor, Option, Result, Ok, Err, length, map, take, drop, get_or, suc, refl, sym, ap, subst, append-nil}
+use Rattle.std.specs.Result.{IsErrAnd}
+use Rattle.std.proofs.Math.Seq.{split_at}
+use Rattle.std.proofs.lemmas.List.{map-append, take_all, take_more}
+use Rattle.std.proofs.lemmas.List.Sums.{fold_push}
+use Rattle.lin_report.specs.Runs.{IsEditRun}
+use Rattle.lin_formats.specs.declared.settings.Settings.{Settings}
+use Rattle.lin_formats.specs.declared.faults.RunFault.{RunFault}
+use Rattle.lin_formats.specs.declared.verdicts.Status.{Status}
+use Rattle.lin_formats.specs.declared.verdicts.Status.TheVariants.{Yes}
+use Rattle.lin_program.specs.Exit.{worse, worst}
+use Rattle.lin_program.specs.Reporting.{AreReportedFrom, AreReports, Reporting, one_more}
+use Rattle.lin_program.specs.declared.endings.Stop.{Stop}
+
+-- the texts behind references
+abbrev texts : List (Bor (List ℕ)) → List (List ℕ)
+texts names = map (λ n. n.now) names
+
+-- the same run, over devices that are equal
+pub edited : {R C O : Type 0} (held : R → Option (List ℕ)) (commanded : C → Option (List ℕ)) (written : O → Option (List ℕ)) (settings : Settings)
+    (r r' : R) (k k' : C) (o o' : O) (left sent out : Option (List ℕ)) (result : Result Status RunFault) → r ≡ r' → k ≡ k' → o ≡ o'
+    → IsEditRun settings (held r) left (commanded k) sent (written o) out result → IsEditRun settings (held r') left (commanded k') sent (written o') out result
+edited held commanded written settings r r' k k' o o' left sent out result file input output ran =
+    subst (λ x. IsEditRun settings (held r') left (commanded k') sent (written x) out result) output
+    (subst (λ x. IsEditRun settings (held r') left (commanded x) sent (written o) out result) input
+    (subst (λ x. IsEditRun settings (held x) left (commanded k) sent (written o) out result) file ran))
+
+-- one more report behind those on the first files
+pub reported_more : (reports : Reporting) (start before after : Option (List ℕ)) (names : List (Bor (List ℕ))) (i : ℕ) (d : Bor (List ℕ)) (statuses : List Status) (status : Status)
+    → i < length names → AreReports reports start (texts (take i names)) before statuses → reports (get_or names i d).now before after (Ok status)
+    → AreReports reports start (texts (take (i + 1) names)) after (statuses ++ status ∷ [])
+reported_more reports start before after names i d statuses status inside are one =
+    let split : texts (take (i + 1) names) ≡ texts (take i names) ++ (get_or names i d).now ∷ [] =
+    ap texts (take_more names i d inside) ∙ map-append (λ (n : Bor (List ℕ)). n.now) (take i names) (get_or names i d ∷ []) in
+    subst (λ ns. AreReports reports start ns after (statuses ++ status ∷ [])) (sym split) (one_more are (get_or names i d).now after status one)
+
+-- the worst status of one more
+pub worst_more : (statuses : List Status) (status one : Status) → one ≡ worst statuses → worse one status ≡ worst (statuses ++ status ∷ [])
+worst_more statuses status one is = ap (λ s. worse s status) is ∙ sym (fold_push worse Yes statuses status)
+
+-- all files were reported on
+pub reported_all : (reports : Reporting) (start before : Option (List ℕ)) (names : List (Bor (List ℕ))) (i : ℕ) (statuses : List Status) (one : Status)
+    → length names ≤ i → AreReports reports start (texts (take i names)) before statuses → one ≡ worst statuses → AreReportedFrom reports start (texts names) (Ok one)
+reported_all reports start before names i statuses one past are is =
+    (texts names, [], sym (append-nil (texts names)), before, statuses, subst (λ ns. AreReports reports start (texts ns) before statuses) (take_all i names past) are, ap Ok is)
+
+-- the report on the next file ends early
+pub reported_some : (reports : Reporting) (start before after : Option (List ℕ)) (names : List (Bor (List ℕ))) (i : ℕ) (d : Bor (List ℕ)) (statuses : List Status) (stop : Stop)
+    → i < length names → AreReports reports start (texts (take i names)) before statuses → reports (get_or names i d).now before after (Err stop)
+    → (outcome : Result Status Stop) → IsErrAnd outcome (λ e. e ≡ stop) → AreReportedFrom reports start (texts names) outcome
+reported_some reports start before after names i d statuses stop inside are one (Ok status) never = absurd never
+reported_some reports start before after names i d statuses stop inside are one (Err e) same =
+    let split : texts names ≡ texts (take i names) ++ (get_or names i d).now ∷ texts (drop (suc i) names) =
+    ap texts (split_at names i d inside) ∙ map-append (λ (n : Bor (List ℕ)). n.now) (take i names) (get_or names i d ∷ drop (suc i) names) in
+    (texts (take i names), (get_or names i d).now ∷ texts (drop (suc i) names), split, before, statuses, are, (e, refl, (after, subst (λ s. reports (get_or names i d).now before after (Err s)) (sym same) one)))

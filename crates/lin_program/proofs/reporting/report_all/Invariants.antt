@@ -1,0 +1,14 @@
+use Rattle.std.proofs.Common.{◌≡◌, List, map, take}
+use Rattle.lin_formats.specs.Devices.{device_of, failures_of}
+use Rattle.lin_formats.specs.declared.verdicts.Status.{Status}
+use Rattle.lin_program.specs.Exit.{worst}
+use Rattle.lin_program.specs.Reporting.{AreReports, IsReportOn}
+use Rattle.lin_program.specs.Tasks.{IsTaskRun}
+use Rattle.lin_program.proofs.reporting.report_all.Given as goal
+
+abbrev pub invariant-loop-name : goal.invariant-loop-name
+invariant-loop-name g l =
+    (statuses : List Status)
+    × AreReports (IsReportOn g.S.System.words g.S.File.Read.remaining g.S.Commands.Read.remaining l.system (IsTaskRun l.task) l.is_named)
+    (g.S.Out.Write.contents (device_of l.initial.out)) (map (λ n. n.now) (take l.name-index l.names)) (g.S.Out.Write.contents (device_of l.out)) statuses
+    × (l.worst ≡ worst statuses) × (failures_of l.out ≡ 0)

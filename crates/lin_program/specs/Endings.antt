@@ -1,0 +1,112 @@
+-- What a line has the program do, and how it ends then.
+use Rattle.std.specs.Prelude.{◌≡◌, ◌⊎◌, ℕ, Bool, List, [], ◌∷◌, ◌++◌, Option, Some, None, Result, Ok, Err, map, option_map}
+use Rattle.std.specs.Borrow.{Bor}
+use Rattle.std.specs.Io.KnownBytes.{Consumes, IsAtEnd}
+use Rattle.lin_report.specs.Explanations.{IsExplainRun}
+use Rattle.lin_report.specs.Pictures.{IsDrawRun}
+use Rattle.lin_report.specs.Reports.{IsCheckRun}
+use Rattle.lin_report.specs.Runs.{IsEditRun}
+use Rattle.lin_formats.specs.Verdicts.{IsVerifyRun}
+use Rattle.lin_formats.specs.declared.verdicts.Status.{Status}
+use Rattle.lin_formats.specs.declared.faults.RunFault.{RunFault}
+use Rattle.lin_formats.specs.declared.faults.RunFault.TheVariants.{ReadFailed, OutOfMemory}
+use Rattle.lin_formats.specs.declared.settings.Settings.{Settings}
+use Rattle.lin_line.specs.declared.words.Line.{Line}
+use Rattle.lin_line.specs.declared.words.Line.TheVariants.{Check, Explain, Draw, Verify, Edit}
+use Rattle.lin_line.specs.declared.words.Order.{Order}
+use Rattle.lin_line.specs.declared.words.Order.TheVariants.{Given, InFile}
+use Rattle.lin_program.specs.Exit.{SystemWords, exit_status}
+use Rattle.lin_program.specs.Reporting.{AreReported, Holds, IsNotOpened, stopped}
+use Rattle.lin_program.specs.Tasks.{HasBudget, report_format}
+use Rattle.lin_program.specs.declared.endings.Stop.{Stop}
+use Rattle.lin_program.specs.declared.endings.Stop.TheVariants.{NotOpened, Fault}
+use Rattle.lin_program.specs.declared.system.Message.{Message}
+use Rattle.lin_program.specs.declared.system.Message.TheVariants as message
+
+-- a run can be made with the line's settings
+abbrev pub IsRunnable : Line → Type 0
+IsRunnable (Check settings format files) = HasBudget settings
+IsRunnable (Explain settings key with_order format file) = HasBudget settings
+IsRunnable (Draw settings key file) = HasBudget settings
+IsRunnable (Verify settings order files) = HasBudget settings
+IsRunnable (Edit settings file) = HasBudget settings
+
+-- the text ends with this byte
+abbrev pub EndsIn : ℕ → List ℕ → Type 0
+EndsIn byte text = (front : List ℕ) × (text ≡ front ++ byte ∷ [])
+
+-- the line is the text without one line end behind it, a byte 10 or a byte 13 and a byte 10, where the text ends so
+abbrev pub IsWithoutLineEnd : List ℕ → List ℕ → Type 0
+IsWithoutLineEnd text line = (text ≡ line ++ 13 ∷ 10 ∷ []) ⊎ ((text ≡ line ++ 10 ∷ []) × (EndsIn 13 line → ⊥)) ⊎ ((text ≡ line) × (EndsIn 10 line → ⊥))
+
+-- of a file that holds these bytes at first all were read
+abbrev pub IsRead : Option (List ℕ) → List ℕ → Type 0
+IsRead held bytes = (left : Option (List ℕ)) × Consumes held left bytes × IsAtEnd left
+
+-- The bytes that standard input and the output hold are given by two functions: the commands of the one are carried out, over a file that holds
+-- these bytes at first.
+abbrev pub IsEdited : {S F C O : Type 0} → SystemWords S F C O → (C → Option (List ℕ)) → (O → Option (List ℕ)) → S → Settings → Option (List ℕ) → Result Status RunFault → Type 0
+IsEdited {S} {F} {C} {O} system commanded written now settings file outcome =
+    (input : C) × system.reads now input × (out : O) × system.writes now out
+    × (file' : Option (List ℕ)) × (input' : Option (List ℕ)) × (out' : Option (List ℕ))
+    × IsEditRun settings file file' (commanded input) input' (written out) out' outcome
+
+-- The bytes that a file and standard input hold are given by two functions: these are all bytes of the file of a name.
+abbrev pub IsReadIn : {S F C O : Type 0} → SystemWords S F C O → (F → Option (List ℕ)) → (C → Option (List ℕ)) → S → List ℕ → List ℕ → Type 0
+IsReadIn system held commanded now name bytes = (file : Option (List ℕ)) × Holds system held commanded now name file × IsRead file bytes
+
+-- why the file of a name wasn't read: it can't be opened; or it failed, or memory ran out
+abbrev pub IsUnreadIn : {S F C O : Type 0} → SystemWords S F C O → (F → Option (List ℕ)) → (C → Option (List ℕ)) → S → List ℕ → Stop → Type 0
+IsUnreadIn system held commanded now name stop = IsNotOpened system held commanded now name stop
+    ⊎ ((file : Option (List ℕ)) × Holds system held commanded now name file × ((stop ≡ Fault ReadFailed) ⊎ (stop ≡ Fault OutOfMemory)))
+
+-- The bytes that a file, standard input and the output hold are given by three functions.
+module _ {S F C O : Type 0} (system : SystemWords S F C O) (held : F → Option (List ℕ)) (commanded : C → Option (List ℕ)) (written : O → Option (List ℕ)) (now : S) where
+  -- the order that the file of one name holds, without a line end behind it, is judged of the files of the other names; or that file wasn't read
+  abbrev pub IsVerifiedFrom : Settings → List ℕ → List (List ℕ) → Result Status Stop → Type 0
+  IsVerifiedFrom settings name files outcome =
+      ((text : List ℕ) × IsReadIn system held commanded now name text × ((order : List ℕ) × IsWithoutLineEnd text order
+      × AreReported system held commanded now written (IsVerifyRun settings order) files outcome))
+      ⊎ ((stop : Stop) × (outcome ≡ Err stop) × IsUnreadIn system held commanded now name stop)
+
+  -- the order, which is said or in a file, is judged of the files of these names
+  abbrev pub IsVerifiedBy : Settings → Order → List (List ℕ) → Result Status Stop → Type 0
+  IsVerifiedBy settings (Given text) files outcome = AreReported system held commanded now written (IsVerifyRun settings text.now) files outcome
+  IsVerifiedBy settings (InFile name) files outcome = IsVerifiedFrom settings name.now files outcome
+
+  -- the commands of standard input are carried out over the file of a name, which is opened whatever the name, or over nothing
+  abbrev pub IsEditedIn : Settings → Option (List ℕ) → Result Status Stop → Type 0
+  IsEditedIn settings None outcome = (run : Result Status RunFault) × IsEdited system commanded written now settings (Some []) run × (outcome ≡ stopped run)
+  IsEditedIn settings (Some name) outcome =
+      ((file : F) × system.opens now name file × (run : Result Status RunFault) × IsEdited system commanded written now settings (held file) run × (outcome ≡ stopped run))
+      ⊎ ((path : Bor (List ℕ)) × (outcome ≡ Err (NotOpened path)) × (path.now ≡ name) × system.lacks now name)
+
+  -- What the line says is done, with its settings: each of the files is reported on; `edit` reads commands from standard input.
+  abbrev pub IsOutcomeOf : Line → Result Status Stop → Type 0
+  IsOutcomeOf (Check settings format files) outcome = AreReported system held commanded now written (IsCheckRun settings (report_format format)) (map (λ n. n.now) files.items) outcome
+  IsOutcomeOf (Explain settings key with_order format file) outcome =
+      AreReported system held commanded now written (IsExplainRun settings (record { key = key; with_order = with_order; format = report_format format })) (file.now ∷ []) outcome
+  IsOutcomeOf (Draw settings key file) outcome = AreReported system held commanded now written (IsDrawRun settings key) (file.now ∷ []) outcome
+  IsOutcomeOf (Verify settings order files) outcome = IsVerifiedBy settings order (map (λ n. n.now) files.items) outcome
+  IsOutcomeOf (Edit settings file) outcome = IsEditedIn settings (option_map (λ n. n.now) file) outcome
+
+-- from the old system to the new one
+module _ {S F C O : Type 0} (system : SystemWords S F C O) (old new : S) where
+  -- one message was told, one that P holds of, or couldn't be told
+  abbrev pub IsTold : (Message → Type 0) → Type 0
+  IsTold P = (m : Message) × P m × (told : Bool) × system.tells old m told new
+
+  abbrev pub TellsOfFile : List ℕ → Message → Type 0
+  TellsOfFile path (message.NotOpened name) = name.now ≡ path
+  TellsOfFile path _ = ⊥
+
+  -- The program ends so after a run: with its exit status, and nothing is told; or with 6 where a file can't be opened, or with the status of
+  -- the fault, and that is told.
+  abbrev pub EndsBy : Result Status Stop → ℕ → Type 0
+  EndsBy (Ok end) status = (new ≡ old) × (status ≡ exit_status (Ok end))
+  EndsBy (Err (NotOpened path)) status = IsTold (TellsOfFile path.now) × (status ≡ 6)
+  EndsBy (Err (Fault fault)) status = IsTold (λ m. m ≡ message.Fault fault) × (status ≡ exit_status (Err fault))
+
+  -- the program ends so on a line: by the outcome of what the line says, done with the old system
+  abbrev pub Ends : (F → Option (List ℕ)) → (C → Option (List ℕ)) → (O → Option (List ℕ)) → Line → ℕ → Type 0
+  Ends held commanded written line status = (outcome : Result Status Stop) × IsOutcomeOf system held commanded written old line outcome × EndsBy outcome status

@@ -1,0 +1,80 @@
+-- Files that are reported on, one behind the other.
+use Rattle.std.specs.Prelude.{◌≡◌, ◌⊎◌, ℕ, Bool, true, false, List, [], ◌∷◌, ◌++◌, Option, Result, Ok, Err, codes, length, nat_lt, take}
+use Rattle.std.specs.Borrow.{Bor}
+use Rattle.std.specs.Io.KnownBytes.{Appends, Keeps}
+use Rattle.std.specs.Str.{bytes_eq}
+use Rattle.lin_formats.specs.declared.verdicts.Status.{Status}
+use Rattle.lin_formats.specs.declared.faults.RunFault.{RunFault}
+use Rattle.lin_formats.specs.declared.faults.RunFault.TheVariants.{WriteFailed, OutOfMemory}
+use Rattle.lin_program.specs.Exit.{SystemWords, worst}
+use Rattle.lin_program.specs.Tasks.{Running}
+use Rattle.lin_program.specs.declared.endings.Stop.{Stop}
+use Rattle.lin_program.specs.declared.endings.Stop.TheVariants.{NotOpened, Fault}
+
+-- the line that names a file
+abbrev pub heading : List ℕ → List ℕ
+heading name = codes "file " ++ name ++ codes "\n"
+
+-- A run over a file that holds this at first, behind a line with its name where it is one of several: the line is written, and then what the
+-- run writes; or the line couldn't be written whole, and there was no run.
+abbrev pub IsRunBehind : Running → Bool → List ℕ → Option (List ℕ) → Option (List ℕ) → Option (List ℕ) → Result Status RunFault → Type 0
+IsRunBehind running false name file before after outcome = (left : Option (List ℕ)) × running file left before after outcome
+IsRunBehind running true name file before after outcome =
+    ((left : Option (List ℕ)) × (behind : Option (List ℕ)) × Appends before behind (heading name) × running file left behind after outcome)
+    ⊎ ((outcome ≡ Err WriteFailed) × ((n : ℕ) × Appends before after (take n (heading name))))
+    ⊎ ((outcome ≡ Err OutOfMemory) × Keeps before after)
+
+-- the outcome of runs that a fault of one run stops
+abbrev pub stopped : Result Status RunFault → Result Status Stop
+stopped (Ok status) = Ok status
+stopped (Err fault) = Err (Fault fault)
+
+-- the name is that of standard input
+abbrev pub is_input : List ℕ → Bool
+is_input name = bytes_eq name (codes "-")
+
+-- what it is to report on the file of a name: from what was written before to what is written then, and how that ends
+abbrev pub Reporting : Type 1
+Reporting = List ℕ → Option (List ℕ) → Option (List ℕ) → Result Status Stop → Type 0
+
+-- Files of these names were reported on, one behind the other: what is written then, and the statuses.
+pub data AreReports (reports : Reporting) (start : Option (List ℕ)) : List (List ℕ) → Option (List ℕ) → List Status → Type 0 where
+  nothing : AreReports reports start [] start []
+  one_more : {names : List (List ℕ)} {before : Option (List ℕ)} {statuses : List Status} →
+      AreReports reports start names before statuses → (name : List ℕ) (after : Option (List ℕ)) (status : Status) →
+      reports name before after (Ok status) → AreReports reports start (names ++ name ∷ []) after (statuses ++ status ∷ [])
+
+-- Behind some first files there is no other, and the worst of their statuses is the outcome; or the report on the next one ends early.
+abbrev pub EndsBehind : Reporting → List (List ℕ) → List Status → Option (List ℕ) → Result Status Stop → Type 0
+EndsBehind reports [] statuses before outcome = outcome ≡ Ok (worst statuses)
+EndsBehind reports (name ∷ names) statuses before outcome =
+    (stop : Stop) × (outcome ≡ Err stop) × ((after : Option (List ℕ)) × reports name before after (Err stop))
+
+-- Files of these names are reported on, one behind the other, from what was written at first: all of them, or some first ones and a part of
+-- the next one.
+abbrev pub AreReportedFrom : Reporting → Option (List ℕ) → List (List ℕ) → Result Status Stop → Type 0
+AreReportedFrom reports start names outcome =
+    (done : List (List ℕ)) × (rest : List (List ℕ)) × (names ≡ done ++ rest)
+    × (after : Option (List ℕ)) × (statuses : List Status) × AreReports reports start done after statuses × EndsBehind reports rest statuses after outcome
+
+-- The bytes that a file and standard input hold are given by two functions.
+module _ {S F C O : Type 0} (system : SystemWords S F C O) (held : F → Option (List ℕ)) (commanded : C → Option (List ℕ)) (now : S) where
+  -- the file of this name holds these bytes: standard input for `-`, else the file that the system opens
+  abbrev pub Holds : List ℕ → Option (List ℕ) → Type 0
+  Holds name bytes = ((is_input name ≡ true) × ((input : C) × system.reads now input × (bytes ≡ commanded input)))
+      ⊎ ((is_input name ≡ false) × ((file : F) × system.opens now name file × (bytes ≡ held file)))
+
+  -- the stop is that the system can't open the file of this name, which isn't standard input
+  abbrev pub IsNotOpened : List ℕ → Stop → Type 0
+  IsNotOpened name stop = (path : Bor (List ℕ)) × (stop ≡ NotOpened path) × (path.now ≡ name) × (is_input name ≡ false) × system.lacks now name
+
+  -- the file of a name is reported on, behind a line with its name where it is one of several; or it can't be opened, and nothing is written
+  abbrev pub IsReportOn : Running → Bool → Reporting
+  IsReportOn running is_named name before after outcome =
+      ((file : Option (List ℕ)) × Holds name file × (run : Result Status RunFault) × IsRunBehind running is_named name file before after run × (outcome ≡ stopped run))
+      ⊎ ((stop : Stop) × (outcome ≡ Err stop) × IsNotOpened name stop × (after ≡ before))
+
+  -- the files of these names are reported on, each behind a line with its name where there are several; a function gives what the output holds
+  abbrev pub AreReported : (O → Option (List ℕ)) → Running → List (List ℕ) → Result Status Stop → Type 0
+  AreReported written running names outcome =
+      (out : O) × system.writes now out × AreReportedFrom (IsReportOn running (nat_lt 1 (length names))) (written out) names outcome

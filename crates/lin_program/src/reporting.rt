@@ -1,0 +1,95 @@
+//! Files that are reported on, one behind the other.
+ghost use Rattle.std.specs.Prelude.{◌≡◌, ◌⊎◌, IfErr, OnOk, Err, ℕ, take, map};
+ghost use Rattle.std.specs.Io.KnownBytes.{Appends, Keeps};
+ghost use Rattle.lin_formats.specs.Devices.{device_of, failures_of};
+ghost use Rattle.lin_program.specs.Tasks.{HasBudget, IsTaskRun, settings_of};
+ghost use Rattle.lin_program.specs.Reporting.{heading, AreReported, IsReportOn, IsRunBehind};
+
+use crate::endings::{Stop, stopped, worse};
+use crate::system::System;
+use crate::tasks::Task;
+use lin_formats::{Counted, RunFault, Status, write_whole};
+use std::alloc::Global;
+use std::io::{Read, Write};
+
+/// Writes the line that names a file.
+fn write_name<W: Write>(alloc: Global, name: &str, out: &mut Counted<W>) -> Result<(), RunFault>
+    requires { failures_of out.old ≡ 0 }
+    ensures whole { OnOk result (Appends (W.contents (device_of out.old)) (W.contents (device_of out.new)) (heading name.now)) }
+    ensures beginning { result ≡ Err RunFault.WriteFailed → (n : ℕ) × Appends (W.contents (device_of out.old)) (W.contents (device_of out.new)) (take n (heading name.now)) }
+    ensures nothing { result ≡ Err RunFault.OutOfMemory → Keeps (W.contents (device_of out.old)) (W.contents (device_of out.new)) }
+    ensures counts { OnOk result (failures_of out.new ≡ 0) }
+    ensures faults { IfErr result (λ fault. (fault ≡ RunFault.WriteFailed) ⊎ (fault ≡ RunFault.OutOfMemory)) }
+{
+    let mut line = Vec::from_slice(alloc, b"file ")?;
+    line.extend_from_slice(name.as_bytes())?;
+    line.push(b'\n')?;
+    write_whole(out, line.as_slice())
+}
+
+/// Reports on a file that is open, behind a line with its name where it is one of several.
+fn report_on<R: Read + Drop, W: Write>(
+    alloc: Global,
+    task: Task,
+    name: &str,
+    is_named: bool,
+    file: R,
+    out: &mut Counted<W>,
+) -> Result<Status, RunFault>
+    requires budget { HasBudget (settings_of task) }
+    requires writes { failures_of out.old ≡ 0 }
+    ensures ran { IsRunBehind (IsTaskRun task.entry) is_named name.now (R.remaining file) (W.contents (device_of out.old)) (W.contents (device_of out.new)) result }
+    ensures counts { OnOk result (failures_of out.new ≡ 0) }
+{
+    if is_named {
+        write_name(alloc, name, out)?;
+    }
+    task.run(alloc, &mut Counted::new(file), out)
+}
+
+/// Reports on the file of this name: on standard input for `-`, else on the file that the system opens.
+fn report<'a, S: System>(
+    alloc: Global,
+    system: &S,
+    task: Task,
+    name: &'a str,
+    is_named: bool,
+    out: &mut Counted<S::Out>,
+) -> Result<Status, Stop<'a>>
+    requires budget { HasBudget (settings_of task) }
+    requires writes { failures_of out.old ≡ 0 }
+    ensures ran { IsReportOn S.words S.File.remaining S.Commands.remaining system.now (IsTaskRun task.entry) is_named name.now
+        (S.Out.contents (device_of out.old)) (S.Out.contents (device_of out.new)) result }
+    ensures counts { OnOk result (failures_of out.new ≡ 0) }
+{
+    if name == "-" {
+        let input = system.commands();
+        return stopped(report_on(alloc, task, name, is_named, input, out));
+    }
+    match system.open(name) {
+        Some(file) => stopped(report_on(alloc, task, name, is_named, file, out)),
+        None => Err(Stop::NotOpened(name)),
+    }
+}
+
+/// Reports on the files of these names, one behind the other, and gives the worst status.
+pub fn report_all<'a, S: System>(
+    alloc: Global,
+    system: &S,
+    task: Task,
+    names: &[&'a str],
+) -> Result<Status, Stop<'a>>
+    requires { HasBudget (settings_of task) }
+    ensures { AreReported S.words S.File.remaining S.Commands.remaining system.now S.Out.contents (IsTaskRun task.entry) (map (λ n. n.now) names.now) result }
+{
+    let mut out = Counted::new(system.out());
+    let is_named = 1 < names.len();
+    let mut worst = Status::Yes;
+    for name in names {
+        worst = worse(
+            worst,
+            report(alloc, system, task, name, is_named, &mut out)?,
+        );
+    }
+    Ok(worst)
+}

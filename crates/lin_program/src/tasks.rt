@@ -1,0 +1,60 @@
+//! What is done with one file.
+ghost use Rattle.std.specs.Prelude.{◌≡◌, ◌<◌};
+ghost use Rattle.lin_formats.specs.Devices.{device_of, failures_of, Counts};
+ghost use Rattle.lin_formats.specs.Verdicts.{is_write_failed};
+ghost use Rattle.lin_program.specs.Tasks.{HasBudget, IsTaskRun, report_format as format_of, settings_of};
+
+use lin_formats::{Counted, RunFault, Settings, Status, verify};
+use lin_line::Format;
+use lin_report::{Question, check, draw, explain};
+use std::alloc::Global;
+use std::io::{Read, Write};
+
+/// What is done with one file.
+#[derive(Clone, Copy)]
+pub enum Task<'a> {
+    /// It is decided whether the history is linearizable.
+    Check(Settings, lin_report::Format),
+    /// It is told why the answer is what it is.
+    Explain(Settings, Question),
+    /// The history is drawn, or the object of this key.
+    Draw(Settings, Option<i64>),
+    /// It is decided whether the order that this text writes is a legal order of the history.
+    Verify(Settings, &'a [u8]),
+}
+
+impl<'a> Task<'a> {
+    /// Does it with a file that is open, and writes what it finds.
+    ///
+    /// Asks that the budget is one with which such a run can be made, and that no count of failures is at its greatest.
+    pub fn run<R: Read, W: Write>(
+        self,
+        alloc: Global,
+        file: &mut Counted<R>,
+        out: &mut Counted<W>,
+    ) -> Result<Status, RunFault>
+        requires budget { HasBudget (settings_of self) }
+        requires reads { failures_of file.old < u64.MAX }
+        requires writes { failures_of out.old < u64.MAX }
+        ensures ran { IsTaskRun self.entry (R.remaining (device_of file.old)) (R.remaining (device_of file.new))
+            (W.contents (device_of out.old)) (W.contents (device_of out.new)) result }
+        ensures counts { Counts (is_write_failed result) (failures_of out.old) (failures_of out.new) }
+    {
+        match self {
+            Task::Check(settings, format) => check(alloc, settings, format, file, out),
+            Task::Explain(settings, question) => explain(alloc, settings, question, file, out),
+            Task::Draw(settings, key) => draw(alloc, settings, key, file, out),
+            Task::Verify(settings, order) => verify(alloc, settings, file, order, out),
+        }
+    }
+}
+
+/// The way of printing that a command line names.
+pub fn report_format(format: Format) -> lin_report::Format
+    ensures { result ≡ format_of format }
+{
+    match format {
+        Format::Text => lin_report::Format::Text,
+        Format::Json => lin_report::Format::Json,
+    }
+}

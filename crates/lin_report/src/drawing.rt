@@ -1,0 +1,115 @@
+//! Pictures of histories.
+ghost use Rattle.std.specs.Prelude.{◌≡◌, ◌<◌, ◌≤◌, ◌++◌, Some, codes, length, option_map, IfOk, IsErrOf};
+ghost use Rattle.lin_session.specs.Answers.{IsAnswer};
+ghost use Rattle.lin_formats.specs.Devices.{device_of, failures_of, Counts};
+ghost use Rattle.lin_formats.specs.Histories.{is_read_failed};
+ghost use Rattle.lin_formats.specs.Inputs.{limit};
+ghost use Rattle.lin_formats.specs.Verdicts.{is_write_failed, IsReadTooFar};
+ghost use Rattle.lin_report.specs.Pictures.{IsDrawing, IsDrawRun, IsRightDrawing};
+ghost use Rattle.lin_report.specs.Reports.{IsPrinted, opened};
+ghost use Rattle.lin_explain.specs.Explained.{scope_of as scope_for};
+
+use crate::answers::{is_ill_formed, status_of, told_words, verdict_of};
+use crate::checks::{Answered, refused};
+use crate::explaining::scope_of;
+use crate::formats::Format;
+use crate::sessions::session_of;
+use lin_draw::picture_with_places;
+use lin_events::{Event, OutOfMemory};
+use lin_explain::{Asked, explanation_of, read_placed};
+use lin_formats::{Counted, History, RunFault, Settings, Status, write_whole};
+use lin_places::Places;
+use lin_session::{Answer, Session};
+use std::alloc::Global;
+use std::io::{Read, Write};
+
+/// The picture of an answer.
+fn picture_of(
+    alloc: Global,
+    session: &Session,
+    answer: &Answer,
+    asked: Asked,
+    places: &Places,
+) -> Result<Vec<u8>, OutOfMemory>
+    requires { IsAnswer session.now.present (scope_for asked.key) answer.now }
+{
+    let places = Some(places.as_slice());
+    let told = explanation_of(alloc, session, answer, asked, places)?;
+    picture_with_places(alloc, session, answer, asked.key, &told.lines, places)
+}
+
+/// The picture of what is found of these events; where they aren't well-formed, the answer's line.
+fn drawing_of(
+    alloc: Global,
+    settings: Settings,
+    key: Option<i64>,
+    events: Vec<Event>,
+    places: &Places,
+) -> Result<Answered, OutOfMemory>
+    requires budget { (1 ≤ settings.budget) × (settings.budget ≤ 1000000) }
+    requires few { length events.items ≤ limit }
+    ensures { IfOk result (λ answered. IsDrawing (opened settings events.items) key answered.text.items answered.status) }
+{
+    let mut session = session_of(alloc, settings, events)?;
+    let answer = session.order(alloc, scope_of(key))?;
+    let verdict = verdict_of(&answer);
+    let text = if is_ill_formed(verdict) {
+        told_words(alloc, verdict, b"")?
+    } else {
+        let asked = Asked {
+            key,
+            with_order: false,
+            keyed: settings.keyed,
+        };
+        picture_of(alloc, &session, &answer, asked, places)?
+    };
+    Ok(Answered {
+        text,
+        status: status_of(verdict),
+    })
+}
+
+/// What is printed of a file.
+fn find<R: Read>(
+    alloc: Global,
+    settings: Settings,
+    key: Option<i64>,
+    file: &mut Counted<R>,
+) -> Result<Answered, RunFault>
+    requires budget { (1 ≤ settings.budget) × (settings.budget ≤ 1000000) }
+    requires reads { failures_of file.old < u64.MAX }
+    ensures found { IfOk result (λ answered. IsPrinted (IsRightDrawing settings key) (R.remaining (device_of file.old)) (R.remaining (device_of file.new)) answered.text.items answered.status) }
+    ensures too_much { IsErrOf result RunFault.TooMuch → IsReadTooFar (R.remaining (device_of file.old)) (R.remaining (device_of file.new)) }
+    ensures counts { Counts (is_read_failed result) (failures_of file.old) (failures_of file.new) }
+    ensures readers { IsErrOf result RunFault.WriteFailed → ⊥ }
+{
+    let (history, placed) = read_placed(alloc, settings.keyed, file)?;
+    match history {
+        History::Whole(events) => Ok(drawing_of(alloc, settings, key, events, &placed.places)?),
+        History::Refused(refusal) => Ok(refused(alloc, Format::Text, refusal)?),
+    }
+}
+
+/// Draws the history in a file, with what is found of it for the whole or for the object of a key: writes a picture as SVG, and gives the
+/// status. Of a history that isn't well-formed, and of a file that is refused, it writes the line that says so.
+///
+/// The file is read as by `check`, which see for what is asked and for errors. No promise says what is drawn.
+pub fn draw<R: Read, W: Write>(
+    alloc: Global,
+    settings: Settings,
+    key: Option<i64>,
+    file: &mut Counted<R>,
+    out: &mut Counted<W>,
+) -> Result<Status, RunFault>
+    requires budget { (1 ≤ settings.budget) × (settings.budget ≤ 1000000) }
+    requires reads { failures_of file.old < u64.MAX }
+    requires writes { failures_of out.old < u64.MAX }
+    ensures ran { IsDrawRun settings key (R.remaining (device_of file.old)) (R.remaining (device_of file.new))
+        (W.contents (device_of out.old)) (W.contents (device_of out.new)) result }
+    ensures read_counts { Counts (is_read_failed result) (failures_of file.old) (failures_of file.new) }
+    ensures write_counts { Counts (is_write_failed result) (failures_of out.old) (failures_of out.new) }
+{
+    let answered = find(alloc, settings, key, file)?;
+    write_whole(out, answered.text.as_slice())?;
+    Ok(answered.status)
+}

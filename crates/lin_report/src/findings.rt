@@ -1,0 +1,89 @@
+//! What is found of a history and of its objects.
+ghost use Rattle.std.specs.Prelude.{◌≡◌, [], if◌then◌else◌, IfOk};
+ghost use Rattle.lin_session.specs.Answers.{IsVerdict};
+ghost use Rattle.lin_session.specs.Keys.{AreKeys};
+ghost use Rattle.lin_session.specs.declared.answers.Scope.TheVariants as scope;
+ghost use Rattle.lin_report.specs.Reports as said;
+ghost use Rattle.lin_report.specs.Reports.{AreFindings, HasFound};
+
+use crate::answers::is_ill_formed;
+use lin_events::OutOfMemory;
+use lin_orders::{absent_keys_are_legal, linearizability_is_local};
+use lin_session::{Scope, Session, Verdict};
+use std::alloc::Global;
+
+/// What is found of the object of a key.
+#[derive(Clone, Copy)]
+pub struct Finding {
+    pub key: i64,
+    pub verdict: Verdict,
+}
+
+/// What is found of a history.
+#[derive(Drop)]
+pub struct Findings {
+    /// How many keys it has.
+    pub keys: usize,
+    /// Of its objects, by rising key; of none where it isn't well-formed.
+    pub objects: Vec<Finding>,
+    pub whole: Verdict,
+}
+
+/// What is found of the objects of these keys.
+fn find_objects(
+    alloc: Global,
+    session: &mut Session,
+    keys: &[i64],
+) -> Result<Vec<Finding>, OutOfMemory>
+    ensures found { IfOk result (λ found. AreFindings session.old.present keys.now found.items) }
+    ensures present { session.new.present ≡ session.old.present }
+{
+    let mut found = Vec::new(alloc);
+    for key in keys {
+        let verdict = session.ask(alloc, Scope::Object(*key))?;
+        found.push(Finding { key: *key, verdict })?;
+    }
+    Ok(found)
+}
+
+/// What is found of the objects of these keys, where the history is well-formed. What is found of the whole is found of an only object.
+fn find_each(
+    alloc: Global,
+    session: &mut Session,
+    keys: &[i64],
+    whole: Verdict,
+) -> Result<Vec<Finding>, OutOfMemory>
+    requires keys { AreKeys session.old.present.history keys.now }
+    requires whole { IsVerdict session.old.present scope.Whole whole }
+    ensures found { IfOk result (λ found. AreFindings session.old.present (if said.is_ill_formed whole then [] else keys.now) found.items) }
+    ensures present { session.new.present ≡ session.old.present }
+{
+    if is_ill_formed(whole) {
+        return Ok(Vec::new(alloc));
+    }
+    if let [key] = keys {
+        linearizability_is_local();
+        absent_keys_are_legal();
+        let only = Finding {
+            key: *key,
+            verdict: whole,
+        };
+        return Ok(Vec::from_slice(alloc, &[only])?);
+    }
+    find_objects(alloc, session, keys)
+}
+
+/// What is found of the present history.
+pub fn find(alloc: Global, session: &mut Session) -> Result<Findings, OutOfMemory>
+    ensures found { IfOk result (HasFound session.old.present) }
+    ensures present { session.new.present ≡ session.old.present }
+{
+    let keys = session.objects(alloc)?;
+    let whole = session.ask(alloc, Scope::Whole)?;
+    let objects = find_each(alloc, session, keys.as_slice(), whole)?;
+    Ok(Findings {
+        keys: keys.len(),
+        objects,
+        whole,
+    })
+}

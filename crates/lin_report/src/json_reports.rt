@@ -1,0 +1,82 @@
+//! Reports and refusals for machines: one line of JSON.
+ghost use Rattle.std.specs.Prelude.{◌≡◌, ◌++◌, IfOk, OnOk, codes};
+ghost use Rattle.lin_formats.specs.VerdictTexts.{refusal_text};
+ghost use Rattle.lin_formats.specs.declared.verdicts.Status.TheVariants as ends;
+ghost use Rattle.lin_json.specs.Answers.{answer_json};
+ghost use Rattle.lin_session.specs.Answers.{kinds_in};
+ghost use Rattle.lin_report.specs.Reports.{json_object, json_objects, report_text};
+
+use crate::answers::{status_of, verdict_words};
+use crate::findings::{Finding, Findings};
+use crate::formats::Format;
+use lin_formats::{Refusal, Status, refusal_words};
+use lin_json::{Head, put_answer, put_object, put_objects_front};
+use lin_objects::Kind;
+use lin_session::Session;
+use std::alloc::{AllocError, Global};
+
+/// Puts the map of an object last.
+fn put_one(alloc: Global, text: &mut Vec<u8>, kind: Kind, found: Finding) -> Result<(), AllocError>
+    ensures { OnOk result (text.new.items ≡ text.old.items ++ json_object kind found) }
+{
+    let answer = verdict_words(alloc, found.verdict)?;
+    let head = Head {
+        status: status_of(found.verdict),
+        answer: &answer,
+    };
+    put_object(text, found.key, kind, head)
+}
+
+/// Puts the maps of objects last, with commas between them.
+fn put_each(
+    alloc: Global,
+    text: &mut Vec<u8>,
+    session: &Session,
+    found: &[Finding],
+) -> Result<(), AllocError>
+    ensures { OnOk result (text.new.items ≡ text.old.items ++ json_objects (kinds_in session.now.present) found.now) }
+{
+    let Some((first, others)) = found.split_first() else {
+        return Ok(());
+    };
+    put_one(alloc, text, session.kind_of(first.key), *first)?;
+    for other in others {
+        text.push(b',')?;
+        put_one(alloc, text, session.kind_of(other.key), *other)?;
+    }
+    Ok(())
+}
+
+/// Puts a report last: what is found of the whole, how many events the history has, and what is found of its objects.
+pub fn put_json_report(
+    alloc: Global,
+    text: &mut Vec<u8>,
+    session: &Session,
+    found: &Findings,
+) -> Result<(), AllocError>
+    ensures { OnOk result (text.new.items ≡ text.old.items ++ report_text Format.Json session.now.present found.now.keys found.now.objects.items found.now.whole) }
+{
+    let answer = verdict_words(alloc, found.whole)?;
+    let head = Head {
+        status: status_of(found.whole),
+        answer: &answer,
+    };
+    put_objects_front(text, head, session.len())?;
+    put_each(alloc, text, session, &found.objects)?;
+    text.extend_from_slice(b"]}\n")
+}
+
+/// The line that refuses a file.
+pub fn json_refusal(alloc: Global, refusal: Refusal) -> Result<Vec<u8>, AllocError>
+    ensures { IfOk result (λ line. line.items ≡ answer_json ends.Refused (refusal_text refusal) ++ codes "\n") }
+{
+    let answer = refusal_words(alloc, refusal)?;
+    let head = Head {
+        status: Status::Refused,
+        answer: &answer,
+    };
+    let mut line = Vec::new(alloc);
+    put_answer(&mut line, head)?;
+    line.push(b'\n')?;
+    Ok(line)
+}
