@@ -1,6 +1,7 @@
 -- How an operation ends can be decided.
-use Rattle.std.proofs.Common.{◌≡◌, ◌⊎◌, ◌<◌, ℕ, ℤ, List, length, inl, inr, refl, sym, ap, ◌∙◌, arith}
+use Rattle.std.proofs.Common.{◌≡◌, ◌⊎◌, ◌<◌, ℕ, List, length, inl, inr, refl, sym, ap, ◌∙◌, arith}
 use Rattle.std.proofs.lemmas.Option.{slice_get_within}
+use Rattle.lin_events.specs.declared.items.Item.{Item}
 use Rattle.lin_events.specs.declared.calls.Call.{Call}
 use Rattle.lin_events.specs.declared.calls.Name.{Name}
 use Rattle.lin_events.specs.declared.calls.Reply.{Reply}
@@ -72,5 +73,5 @@ module _ (h : List Event) (at : ℕ) where
           apart e = cc
 
 -- what can only be added past the place isn't added up to and with it
-pub not_added : (h : List Event) (n : ℤ) (place : ℕ) → ((at : ℕ) → CanAdd h n at → place < at) → IsNotAddedBy h n place
+pub not_added : (h : List Event) (n : Item) (place : ℕ) → ((at : ℕ) → CanAdd h n at → place < at) → IsNotAddedBy h n place
 not_added h n place later at call upto is adds = failed h at call is (λ counts. let past = later at (call, is, counts, adds) in omega (arith, past, upto))

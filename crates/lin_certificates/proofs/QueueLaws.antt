@@ -1,12 +1,13 @@
 -- Queues, ordered or not, have no legal order of operations that a certificate holds of.
-use Rattle.std.proofs.Common.{◌≡◌, ◌≢◌, ◌⊎◌, ◌<◌, ◌+◌, ℕ, ℤ, List, [], ◌∷◌, ◌++◌, AllPairs, Contains, length, inl, inr, refl, sym, ap, subst, ◌∙◌, arith}
+use Rattle.std.proofs.Common.{◌≡◌, ◌≢◌, ◌⊎◌, ◌<◌, ◌+◌, ℕ, List, [], ◌∷◌, ◌++◌, AllPairs, Contains, length, inl, inr, refl, sym, ap, subst, ◌∙◌, arith}
 use Rattle.std.proofs.lemmas.List.Kept.{AllPairs-cons}
+use Rattle.lin_events.specs.declared.items.Item.{Item}
 use Rattle.lin_lists.specs.lemmas.Elements.{all_of, first_or_rest, nothing_in, pairs_left}
 use Rattle.lin_events.specs.declared.calls.Call.{Call}
 use Rattle.lin_events.specs.declared.calls.Call.TheVariants.{Enqueue, Dequeue}
 use Rattle.lin_events.specs.declared.calls.Reply.{Reply}
 use Rattle.lin_events.specs.declared.calls.Reply.TheVariants as Replied
-use Rattle.lin_events.specs.declared.calls.Val.TheVariants.{Nil, Int}
+use Rattle.lin_events.specs.declared.calls.Val.TheVariants.{Nil, Item as Held}
 use Rattle.lin_events.specs.declared.events.Event.{Event}
 use Rattle.lin_events.specs.Operations.{IsOk}
 use Rattle.lin_objects.specs.declared.kinds.Kind.{Kind}
@@ -22,7 +23,7 @@ use Rattle.lin_orders.specs.lemmas.Running.{runs_split}
 use Rattle.lin_failures.specs.Adding.{Adds, IsAddedOnce}
 use Rattle.lin_failures.specs.BagConflicts.{AtLeast, Took}
 use Rattle.lin_failures.specs.QueueConflicts.{IsNotTakenBy, IsPassing, PutAt, Takes}
-use Rattle.lin_failures.specs.lemmas.BagConflicting.{changes, empties, in_decides, inside, no_number, no_put, no_take, one, one_in, one_out, times}
+use Rattle.lin_failures.specs.lemmas.BagConflicting.{changes, empties, in_decides, inside, no_item, no_put, no_take, one, one_in, one_out, times}
 use Rattle.lin_failures.specs.lemmas.Conflicting.{parted}
 use Rattle.lin_failures.specs.lemmas.Counting.{Changes, Puts, TakesOut, chosen_least, chosen_most, counted, overtaken}
 use Rattle.lin_failures.specs.lemmas.QueueConflicting.{one_alone, passed_later, passed_over, takes_call}
@@ -32,17 +33,17 @@ use Rattle.lin_certificates.proofs.Numbers.{the_one}
 use Rattle.lin_certificates.proofs.Outcomes.{not_added, outcome}
 use Rattle.lin_certificates.proofs.Standing.{At, at_here, at_left, at_within, left_at, not_failed, ok_there, one_place, place_of, reply_there, stands_ahead, stands_in}
 
--- how many of the numbers wait in the queue
-abbrev waiting : State → List ℤ → ℕ
+-- how many of the items wait in the queue
+abbrev waiting : State → List Item → ℕ
 waiting (Queue q) ns = times ns q
 waiting _ ns = 0
 
-times_behind : (ns q : List ℤ) (x : ℤ) → times ns (q ++ x ∷ []) ≡ one ns x + times ns q
+times_behind : (ns q : List Item) (x : Item) → times ns (q ++ x ∷ []) ≡ one ns x + times ns q
 times_behind ns [] x = refl
 times_behind ns (y ∷ q) x = let rest = times_behind ns q x in omega (arith, rest)
 
--- how a step changes how many of the numbers wait
-moves : (s next : State) (call : Call) (reply : Reply) (ns : List ℤ) → Step Fifo s call next reply → Changes (waiting s ns) (waiting next ns) call reply ns
+-- how a step changes how many of the items wait
+moves : (s next : State) (call : Call) (reply : Reply) (ns : List Item) → Step Fifo s call next reply → Changes (waiting s ns) (waiting next ns) call reply ns
 moves (Queue q) next (Enqueue x) reply ns step =
     let many : waiting next ns ≡ one ns x + times ns q = ap (λ s. waiting s ns) step.0 ∙ times_behind ns q x in
     elim (in_decides ns x) [
@@ -57,40 +58,40 @@ moves (Queue (x ∷ q)) next Dequeue reply ns step =
           let no_less = one_out ns x none.0 in
           inr (inr (no_put ns, (λ takes. none.1 (subst (Contains ns) (sym (subst (λ r. Takes Dequeue r takes.0) step.1 takes.2)) takes.1)), omega (arith, many, no_less)))
     ]
-moves (Queue []) next Dequeue reply ns step = inr (inr (no_put ns, no_number ns reply step.1, ap (λ s. waiting s ns) step.0))
+moves (Queue []) next Dequeue reply ns step = inr (inr (no_put ns, no_item ns reply step.1, ap (λ s. waiting s ns) step.0))
 moves (Queue q) next call reply ns step = absurd step
 moves s next call reply ns step = absurd step
 
-none_waits : (s next : State) (ns : List ℤ) → Step Fifo s Dequeue next (Replied.Value Nil) → waiting s ns ≡ 0
+none_waits : (s next : State) (ns : List Item) → Step Fifo s Dequeue next (Replied.Value Nil) → waiting s ns ≡ 0
 none_waits (Queue []) next ns step = refl
 none_waits (Queue (x ∷ q)) next ns step = absurd (apart step.1)
   where
-    apart : Replied.Value Nil ≡ Replied.Value (Int x) → ⊥
+    apart : Replied.Value Nil ≡ Replied.Value (Held x) → ⊥
     apart e = cc
 none_waits s next ns step = absurd step
 
--- what takes a number out is a dequeue that found it
-took_it : (call : Call) (reply : Reply) (n : ℤ) → Takes call reply n → (call ≡ Dequeue) × (reply ≡ Replied.Value (Int n))
-took_it Dequeue (Replied.Value (Int x)) n takes = (refl, ap (λ y. Replied.Value (Int y)) takes)
+-- what takes an item out is a dequeue that found it
+took_it : (call : Call) (reply : Reply) (n : Item) → Takes call reply n → (call ≡ Dequeue) × (reply ≡ Replied.Value (Held n))
+took_it Dequeue (Replied.Value (Held x)) n takes = (refl, ap (λ y. Replied.Value (Held y)) takes)
 took_it Dequeue reply n takes = absurd takes
 took_it call reply n takes = absurd takes
 
-module _ (kind : Kind) (inside : State → List ℤ → ℕ) (each : (s next : State) (call : Call) (reply : Reply) (ns : List ℤ) → Step kind s call next reply → Changes (inside s ns) (inside next ns) call reply ns)
-    (begins : (ns : List ℤ) → inside (start kind) ns ≡ 0) (empty : (s next : State) (ns : List ℤ) → Step kind s Dequeue next (Replied.Value Nil) → inside s ns ≡ 0)
+module _ (kind : Kind) (inside : State → List Item → ℕ) (each : (s next : State) (call : Call) (reply : Reply) (ns : List Item) → Step kind s call next reply → Changes (inside s ns) (inside next ns) call reply ns)
+    (begins : (ns : List Item) → inside (start kind) ns ≡ 0) (empty : (s next : State) (ns : List Item) → Step kind s Dequeue next (Replied.Value Nil) → inside s ns ≡ 0)
     (h : List Event) (order : List Placed) (legal : IsLegalOrderAs kind h order) where
-  taken_of : (n : ℤ) → IsTaken h n → ⊥
+  taken_of : (n : Item) → IsTaken h n → ⊥
   taken_of n is =
       let puts = is.all_puts in
       let takes = is.all_takes in
       overtaken kind inside each h begins order legal n is.puts is.takes (puts.0, puts.1, λ at may. (puts.3 at).0 (may.0, may.1, may.3, may.2))
       (takes.0, takes.1, takes.2, all_of (Took h n) takes.0 (λ at there. let took = (takes.3 at).1 there in (took.1, (took.0, took.2, took.3, took.4, took.5)))) is.fewer
 
-  -- it takes the number out
-  abbrev TakesAt : ℤ → Placed → Type 0
+  -- it takes the item out
+  abbrev TakesAt : Item → Placed → Type 0
   TakesAt n p = (call : Call) × IsCall h p.at call × Takes call p.reply n
 
   -- two don't take out what one puts in
-  one_taker : (n : ℤ) → Exactly 1 (CanAdd h n) → (p q : Placed) → Contains order p → Contains order q → TakesAt n p → TakesAt n q → p.at ≢ q.at → ⊥
+  one_taker : (n : Item) → Exactly 1 (CanAdd h n) → (p q : Placed) → Contains order p → Contains order q → TakesAt n p → TakesAt n q → p.at ≢ q.at → ⊥
   one_taker n once p q in_p in_q takes again differ =
       let ns = n ∷ [] in
       let all = counted kind inside each h (start kind) legal.legal.0 ns order legal.order_of.once legal.legal.1 in
@@ -125,8 +126,8 @@ module _ (kind : Kind) (inside : State → List ℤ → ℕ) (each : (s next : S
             | inr none ↦ absurd (nothing_in at none)
           ]
 
-  -- ahead of the dequeue until which the number stays nothing takes it out
-  none_ahead : (n : ℤ) (d : Placed) (i : ℕ) → At order i d → Stays h n d.at → (k : ℕ) (p : Placed) → At order k p → k < i → TakesAt n p → ⊥
+  -- ahead of the dequeue until which the item stays nothing takes it out
+  none_ahead : (n : Item) (d : Placed) (i : ℕ) → At order i d → Stays h n d.at → (k : ℕ) (p : Placed) → At order k p → k < i → TakesAt n p → ⊥
   none_ahead n d i at_d stays k p at_p less takes = elim (outcome h p.at takes.0 takes.1) [
     | inl ok ↦ ahead (stays.taken_later p.at (other, (takes.0, ok.0, ok.1, takes.1, ok.2, subst (λ r. Takes takes.0 r n) (reply_there kind h order legal k p at_p ok.0 ok.1 ok.2) takes.2)))
     | inr rest ↦ elim rest [
@@ -149,7 +150,7 @@ module _ (kind : Kind) (inside : State → List ℤ → ℕ) (each : (s next : S
       ahead : IsBefore h d.at p.at → ⊥
       ahead before = let more = stands_ahead kind h order legal i k d p at_d at_p before in omega (arith, more, less)
 
-  inside_of : (enqueue dequeue : ℕ) (n : ℤ) → IsInside h enqueue dequeue n → ⊥
+  inside_of : (enqueue dequeue : ℕ) (n : Item) → IsInside h enqueue dequeue n → ⊥
   inside_of enqueue dequeue n is =
       let ns = n ∷ [] in
       let f = is.found in
@@ -190,20 +191,20 @@ module _ (kind : Kind) (inside : State → List ℤ → ℕ) (each : (s next : S
       )
 
 module _ (h : List Event) (order : List Placed) (legal : IsLegalOrderAs Bag h order) where
-  pub bag_taken : (n : ℤ) → IsTaken h n → ⊥
+  pub bag_taken : (n : Item) → IsTaken h n → ⊥
   bag_taken = taken_of Bag inside changes (λ ns. refl) empties h order legal
 
-  pub bag_inside : (enqueue dequeue : ℕ) (n : ℤ) → IsInside h enqueue dequeue n → ⊥
+  pub bag_inside : (enqueue dequeue : ℕ) (n : Item) → IsInside h enqueue dequeue n → ⊥
   bag_inside = inside_of Bag inside changes (λ ns. refl) empties h order legal
 
 module _ (h : List Event) (order : List Placed) (legal : IsLegalOrderAs Fifo h order) where
-  pub fifo_taken : (n : ℤ) → IsTaken h n → ⊥
+  pub fifo_taken : (n : Item) → IsTaken h n → ⊥
   fifo_taken = taken_of Fifo waiting moves (λ ns. refl) none_waits h order legal
 
-  pub fifo_inside : (enqueue dequeue : ℕ) (n : ℤ) → IsInside h enqueue dequeue n → ⊥
+  pub fifo_inside : (enqueue dequeue : ℕ) (n : Item) → IsInside h enqueue dequeue n → ⊥
   fifo_inside = inside_of Fifo waiting moves (λ ns. refl) none_waits h order legal
 
-  pub fifo_passed : (enqueue later dequeue : ℕ) (n other : ℤ) → IsPassed h enqueue later dequeue n other → ⊥
+  pub fifo_passed : (enqueue later dequeue : ℕ) (n other : Item) → IsPassed h enqueue later dequeue n other → ⊥
   fifo_passed enqueue later dequeue n other is = elim is.stays.open_later [
     | inl once ↦
         let t = once.1.1 in
@@ -221,12 +222,12 @@ module _ (h : List Event) (order : List Placed) (legal : IsLegalOrderAs Fifo h o
       put_at : PutAt h enqueue n put.1
       put_at = (put.0, put.2, put.3, put.4, put.5)
 
-      found : (took.0 ≡ Dequeue) × (took.2 ≡ Replied.Value (Int other))
+      found : (took.0 ≡ Dequeue) × (took.2 ≡ Replied.Value (Held other))
       found = took_it took.0 took.2 other took.5
 
       passing : IsPassing h dequeue n put.1 took.1
       passing = (
-        Replied.Value (Int other),
+        Replied.Value (Held other),
         subst (IsCall h dequeue) found.0 took.3,
         subst (IsOk h dequeue took.1) found.1 took.4,
         (
@@ -241,14 +242,14 @@ module _ (h : List Event) (order : List Placed) (legal : IsLegalOrderAs Fifo h o
       past : (at : ℕ) → IsBefore h dequeue at → took.1 < at
       past at before = subst (λ (end : ℕ). end < at) (one_ok h dequeue before.0 took.1 before.1 took.2 before.2 took.4).0 before.3
 
-      -- what took the number is another one
+      -- what took the item is another one
       taker : (at : ℕ) → TookOut h n at → at ≢ dequeue
       taker at t same =
           let reply : t.2 ≡ took.2 = (one_ok h dequeue t.1 took.1 t.2 took.2 (subst (λ x. IsOk h x t.1 t.2) same t.4) took.4).1 in
           apart (sym (took_it t.0 t.2 n t.5).1 ∙ reply ∙ found.1)
         where
-          apart : Replied.Value (Int n) ≡ Replied.Value (Int other) → ⊥
-          apart e = let same_number : n ≡ other = cc in is.differ same_number
+          apart : Replied.Value (Held n) ≡ Replied.Value (Held other) → ⊥
+          apart e = let same_item : n ≡ other = cc in is.differ same_item
 
       only : Exactly 1 (CanAdd h n) → IsAddedOnce h enqueue n
       only once at call it adds = elim (outcome h at call it) [

@@ -1,12 +1,13 @@
 -- Registers have no legal order of operations that a certificate holds of.
-use Rattle.std.proofs.Common.{◌≡◌, ◌≢◌, ◌⊎◌, ◌<◌, ◌≤◌, ℕ, ℤ, zero, suc, List, [], ◌∷◌, Option, None, Some, inl, inr, refl, sym, ap, subst, ◌∙◌, arith}
+use Rattle.std.proofs.Common.{◌≡◌, ◌≢◌, ◌⊎◌, ◌<◌, ◌≤◌, ℕ, zero, suc, List, [], ◌∷◌, Option, None, Some, inl, inr, refl, sym, ap, subst, ◌∙◌, arith}
 use Rattle.std.proofs.lemmas.Bool.{cases_order}
+use Rattle.lin_events.specs.declared.items.Item.{Item}
 use Rattle.lin_events.specs.declared.calls.Call.{Call}
 use Rattle.lin_events.specs.declared.calls.Call.TheVariants.{Read, Write, Cas}
 use Rattle.lin_events.specs.declared.calls.Reply.{Reply}
 use Rattle.lin_events.specs.declared.calls.Reply.TheVariants as Replied
 use Rattle.lin_events.specs.declared.calls.Val.{Val}
-use Rattle.lin_events.specs.declared.calls.Val.TheVariants.{Nil, Int}
+use Rattle.lin_events.specs.declared.calls.Val.TheVariants.{Nil, Item as Held}
 use Rattle.lin_events.specs.declared.events.Event.{Event}
 use Rattle.lin_objects.specs.declared.kinds.Kind.{Kind}
 use Rattle.lin_objects.specs.declared.kinds.Kind.TheVariants.{Register, CasRegister}
@@ -56,10 +57,10 @@ starts_nil Register is = refl
 starts_nil CasRegister is = refl
 starts_nil kind is = absurd is
 
-nil_alone : (v : Val) (n : ℤ) → Nil ≡ v → v ≡ Int n → ⊥
+nil_alone : (v : Val) (n : Item) → Nil ≡ v → v ≡ Held n → ⊥
 nil_alone v n nil some = let both = nil ∙ some in apart both
   where
-    apart : Nil ≡ Int n → ⊥
+    apart : Nil ≡ Held n → ⊥
     apart e = cc
 
 module _ (kind : Kind) (is_register : IsRegister kind) (h : List Event) where
@@ -130,13 +131,13 @@ module _ (kind : Kind) (is_register : IsRegister kind) (h : List Event) where
     another : (i j : ℕ) (p q : Placed) (at : ℕ) → At order i p → p.at ≡ at → At order j q → j < i → q.at ≢ at
     another i j p q at at_p is at_q less same = let equal = one_place kind h order legal i j p q at_p at_q (is ∙ sym same) in omega (arith, equal, less)
 
-    -- a number that no other operation leaves can't be needed
-    pub unwritten : (at : ℕ) (n : ℤ) → IsUnwritten h at n → ⊥
+    -- an item that no other operation leaves can't be needed
+    pub unwritten : (at : ℕ) (n : Item) → IsUnwritten h at n → ⊥
     unwritten at n is =
-        let s = seat (Int n) at is.0 in
+        let s = seat (Held n) at is.0 in
         elim s.4 [
-          | inl left ↦ is.1 left.1.at (another s.0 left.0 s.1 left.1 at s.2 s.3 left.4 left.3, can_leave (Int n) left.0 left.1 left.2 left.4 left.5 left.6)
-          | inr none ↦ nil_alone (Int n) n none.0 refl
+          | inl left ↦ is.1 left.1.at (another s.0 left.0 s.1 left.1 at s.2 s.3 left.4 left.3, can_leave (Held n) left.0 left.1 left.2 left.4 left.5 left.6)
+          | inr none ↦ nil_alone (Held n) n none.0 refl
         ]
 
     -- an operation that overwrites stands ahead
@@ -170,26 +171,26 @@ module _ (kind : Kind) (is_register : IsRegister kind) (h : List Event) where
     itself : (v : Val) (at i : ℕ) (p : Placed) (c : Call) → At order i p → p.at ≡ at → IsCall h p.at c → Leaves c v → HeldThere v at
     itself v at i p c there is call leaves = (i, p, there, is, i, p, c, there, call, leaves, omega arith, λ k more less updates. omega (arith, more, less))
 
-    touched : (n : ℤ) (at : ℕ) → Touched h (Int n) at → HeldThere (Int n) at
+    touched : (n : Item) (at : ℕ) → Touched h (Held n) at → HeldThere (Held n) at
     touched n at is = elim is.5 [
       | inl needs ↦
-          let s = seat (Int n) at (is.0, is.1, is.2, is.3, is.4, needs) in
+          let s = seat (Held n) at (is.0, is.1, is.2, is.3, is.4, needs) in
           elim s.4 [
             | inl left ↦ (s.0, s.1, s.2, s.3, left.0, left.1, left.2, left.4, left.5, left.6, omega (arith, left.3), left.7)
-            | inr none ↦ absurd (nil_alone (Int n) n none.0 refl)
+            | inr none ↦ absurd (nil_alone (Held n) n none.0 refl)
           ]
       | inr leaves ↦
           let place = ok_there kind h order legal at is.1 is.2 is.4 in
-          itself (Int n) at place.0 (record { at = at; reply = is.2 }) is.0 place.1 refl is.3 leaves
+          itself (Held n) at place.0 (record { at = at; reply = is.2 }) is.0 place.1 refl is.3 leaves
     ]
 
-    touches : (n : ℤ) (at : ℕ) → IsLeftOnce h (Int n) → Touches h (Int n) at → HeldThere (Int n) at
+    touches : (n : Item) (at : ℕ) → IsLeftOnce h (Held n) → Touches h (Held n) at → HeldThere (Held n) at
     touches n at only is = elim is [
       | inl ok ↦ touched n at ok
       | inr still ↦
           let other = touched n still.1.0 still.1.1 in
-          let same = the_one (CanLeave h (Int n)) only other.5.at at (can_leave (Int n) other.4 other.5 other.6 other.7 other.8 other.9) still.0 in
-          itself (Int n) at other.4 other.5 other.6 other.7 same other.8 other.9
+          let same = the_one (CanLeave h (Held n)) only other.5.at at (can_leave (Held n) other.4 other.5 other.6 other.7 other.8 other.9) still.0 in
+          itself (Held n) at other.4 other.5 other.6 other.7 same other.8 other.9
     ]
 
     -- where nothing leaves nil, no update stands ahead of one that touches it
@@ -219,15 +220,15 @@ module _ (kind : Kind) (is_register : IsRegister kind) (h : List Event) where
         let inside = b.10 in
         a.11 b.4 less (omega (arith, ahead, inside)) (updates_at w early b)
 
-    pub crossed : (v : Val) (w : ℤ) (early late : ℕ) (back : Option (ℕ × ℕ)) → AreCrossed h v w early late back → ⊥
+    pub crossed : (v : Val) (w : Item) (early late : ℕ) (back : Option (ℕ × ℕ)) → AreCrossed h v w early late back → ⊥
     crossed Nil w early late None is =
         let turn = is.in_turn in
         let b = touches w early turn.0 turn.1 in
         let a = touches_nil late is.again turn.2 in
         let ahead = stands_ahead kind h order legal b.0 a.0 b.1 a.1 b.2 a.2 (subst (λ x. IsBefore h x a.1.at) (sym b.3) (subst (IsBefore h early) (sym a.3) turn.3)) in
         let inside = b.10 in
-        a.4 b.4 (omega (arith, ahead, inside)) (updates_at (Int w) early b)
-    crossed (Int v) w early late (Some pair) is =
+        a.4 b.4 (omega (arith, ahead, inside)) (updates_at (Held w) early b)
+    crossed (Held v) w early late (Some pair) is =
         let turn = is.in_turn in
         let more = is.again in
         let b = touches w early turn.0 turn.1 in
@@ -239,23 +240,23 @@ module _ (kind : Kind) (is_register : IsRegister kind) (h : List Event) where
         elim (cases_order a.4 b.4) [
           | inl equal ↦ is.differ (one_value v late a b equal)
           | inr differ ↦ elim differ [
-            | inl less ↦ in_turn (Int v) (Int w) early late a b less turn.3
-            | inr other ↦ in_turn (Int w) (Int v) pair.0 pair.1 e c (omega (arith, one_a, one_b, other)) more.3
+            | inl less ↦ in_turn (Held v) (Held w) early late a b less turn.3
+            | inr other ↦ in_turn (Held w) (Held v) pair.0 pair.1 e c (omega (arith, one_a, one_b, other)) more.3
           ]
         ]
       where
-        one_leaver : (n : ℤ) (x y : ℕ) → IsLeftOnce h (Int n) → (p : HeldThere (Int n) x) (q : HeldThere (Int n) y) → p.4 ≡ q.4
+        one_leaver : (n : Item) (x y : ℕ) → IsLeftOnce h (Held n) → (p : HeldThere (Held n) x) (q : HeldThere (Held n) y) → p.4 ≡ q.4
         one_leaver n x y only p q =
             one_place kind h order legal p.4 q.4 p.5 q.5 p.7 q.7
-            (the_one (CanLeave h (Int n)) only p.5.at q.5.at (can_leave (Int n) p.4 p.5 p.6 p.7 p.8 p.9) (can_leave (Int n) q.4 q.5 q.6 q.7 q.8 q.9))
+            (the_one (CanLeave h (Held n)) only p.5.at q.5.at (can_leave (Held n) p.4 p.5 p.6 p.7 p.8 p.9) (can_leave (Held n) q.4 q.5 q.6 q.7 q.8 q.9))
 
-        one_value : (n : ℤ) (x : ℕ) (p : HeldThere (Int n) x) (q : HeldThere (Int w) early) → p.4 ≡ q.4 → Int n ≡ Int w
+        one_value : (n : Item) (x : ℕ) (p : HeldThere (Held n) x) (q : HeldThere (Held w) early) → p.4 ≡ q.4 → Held n ≡ Held w
         one_value n x p q equal =
             let same : p.5 ≡ q.5 = one_there order q.4 p.5 q.5 (subst (λ k. At order k p.5) equal p.7) q.7 in
             let call = one_call h q.5.at p.6 q.6 (subst (λ (z : Placed). IsCall h z.at p.6) same p.8) q.8 in
-            leaves_one q.6 (Int n) (Int w) (subst (λ z. Leaves z (Int n)) call p.9) q.9
+            leaves_one q.6 (Held n) (Held w) (subst (λ z. Leaves z (Held n)) call p.9) q.9
     crossed Nil w early late (Some pair) is = absurd is.again
-    crossed (Int v) w early late None is = absurd is.again
+    crossed (Held v) w early late None is = absurd is.again
 
     -- a read of a register gives a value
     pub no_members : (at : ℕ) → Returned h (λ call reply. Gives Sorted.Members call reply) at → ⊥
@@ -267,5 +268,5 @@ module _ (kind : Kind) (is_register : IsRegister kind) (h : List Event) where
         let at_read = found kind is_register step.1 step.2 is.2 (subst (λ c. Step kind step.1 c step.2 is.2) call step.4) in
         apart is.5.1.0 at_read.0 (sym is.5.1.1 ∙ at_read.3)
       where
-        apart : (s : List ℤ) (x : Val) → Replied.Members s ≡ Replied.Value x → ⊥
+        apart : (s : List Item) (x : Val) → Replied.Members s ≡ Replied.Value x → ⊥
         apart s x e = cc

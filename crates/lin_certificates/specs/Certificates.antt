@@ -1,9 +1,10 @@
 -- What each form of a certificate says of the operations of one object. None of these has a legal order.
-use Rattle.std.specs.Prelude.{◌≡◌, ◌≢◌, ◌⊎◌, ◌<◌, ◌+◌, ℕ, ℤ, List, Option, None, Some}
+use Rattle.std.specs.Prelude.{◌≡◌, ◌≢◌, ◌⊎◌, ◌<◌, ◌+◌, ℕ, List, Option, None, Some}
+use Rattle.lin_events.specs.declared.items.Item.{Item}
 use Rattle.lin_events.specs.declared.calls.Call.TheVariants.{Dequeue}
 use Rattle.lin_events.specs.declared.calls.Reply.TheVariants as Replied
 use Rattle.lin_events.specs.declared.calls.Val.{Val}
-use Rattle.lin_events.specs.declared.calls.Val.TheVariants.{Nil, Int}
+use Rattle.lin_events.specs.declared.calls.Val.TheVariants.{Nil, Item as Held}
 use Rattle.lin_events.specs.declared.events.Event.{Event}
 use Rattle.lin_objects.specs.declared.kinds.Kind.{Kind}
 use Rattle.lin_objects.specs.declared.kinds.Kind.TheVariants.{Register, CasRegister, Fifo, Bag, Set, Mutex}
@@ -32,8 +33,8 @@ abbrev pub Needed : List Event → Val → ℕ → Type 0
 Needed h v at = Returned h (λ call reply. Needs call reply v) at
 
 -- what the operation needs isn't nil, and no other operation leaves it
-abbrev pub IsUnwritten : List Event → ℕ → ℤ → Type 0
-IsUnwritten h at v = Needed h (Int v) at × ((other : ℕ) → OtherCanLeave h (Int v) at other → ⊥)
+abbrev pub IsUnwritten : List Event → ℕ → Item → Type 0
+IsUnwritten h at v = Needed h (Held v) at × ((other : ℕ) → OtherCanLeave h (Held v) at other → ⊥)
 
 -- the operation is ok, leaves some value, and is before the place
 abbrev pub Overwrites : List Event → ℕ → ℕ → Type 0
@@ -42,7 +43,7 @@ Overwrites h place at = Returned h (λ call reply. Updates call) at × IsBefore 
 -- some value was left instead of the one that the register begins with, or another operation leaves the value
 abbrev pub HasSource : List Event → ℕ → Val → Type 0
 HasSource h at Nil = (over : ℕ) × Overwrites h at over
-HasSource h at (Int v) = (other : ℕ) × OtherCanLeave h (Int v) at other
+HasSource h at (Held v) = (other : ℕ) × OtherCanLeave h (Held v) at other
 
 -- what the operation needs was overwritten before it: whichever other operation leaves it is before one that leaves some value and is before this
 pub record IsOverwritten (h : List Event) (at : ℕ) (v : Val) : Type 0 where
@@ -65,44 +66,44 @@ IsLeftOnce h v = Exactly 1 (CanLeave h v)
 abbrev pub IsLeftAhead : List Event → Val → Val → ℕ → ℕ → Type 0
 IsLeftAhead h v w first second = IsLeftOnce h v × Touches h v first × Touches h w second × IsBefore h first second
 
--- nothing leaves nil, with which the register begins, or the number is left, and held ahead of the other value
+-- nothing leaves nil, with which the register begins, or the item is left, and held ahead of the other value
 abbrev pub IsAhead : List Event → Val → Val → Option (ℕ × ℕ) → Type 0
 IsAhead h Nil w None = (at : ℕ) → CanLeave h Nil at → ⊥
-IsAhead h (Int v) w (Some pair) = IsLeftAhead h (Int v) w pair.0 pair.1
+IsAhead h (Held v) w (Some pair) = IsLeftAhead h (Held v) w pair.0 pair.1
 IsAhead h _ _ _ = ⊥
 
 -- values that are left by one operation each are held in turn, once each: but the one was held before the other, and the other before the one
 -- (Gibbons and Korach 1997)
-pub record AreCrossed (h : List Event) (v : Val) (w : ℤ) (early late : ℕ) (back : Option (ℕ × ℕ)) : Type 0 where
-  pub differ : v ≢ Int w
-  pub in_turn : IsLeftAhead h (Int w) v early late
-  pub again : IsAhead h v (Int w) back
+pub record AreCrossed (h : List Event) (v : Val) (w : Item) (early late : ℕ) (back : Option (ℕ × ℕ)) : Type 0 where
+  pub differ : v ≢ Held w
+  pub in_turn : IsLeftAhead h (Held w) v early late
+  pub again : IsAhead h v (Held w) back
 
--- the operation counts and puts the number in, or adds it
-abbrev pub CanAdd : List Event → ℤ → ℕ → Type 0
+-- the operation counts and puts the item in, or adds it
+abbrev pub CanAdd : List Event → Item → ℕ → Type 0
 CanAdd h n at = Counts h (λ call. Adds call n) at
 
--- the operation is ok and took the number out
-abbrev pub TookOut : List Event → ℤ → ℕ → Type 0
+-- the operation is ok and took the item out
+abbrev pub TookOut : List Event → Item → ℕ → Type 0
 TookOut h n at = Returned h (λ call reply. Takes call reply n) at
 
--- the number was taken out more often than it can have been put in
-pub record IsTaken (h : List Event) (n : ℤ) : Type 0 where
+-- the item was taken out more often than it can have been put in
+pub record IsTaken (h : List Event) (n : Item) : Type 0 where
   pub puts : ℕ
   pub takes : ℕ
   pub all_puts : Exactly puts (CanAdd h n)
   pub all_takes : Exactly takes (TookOut h n)
   pub fewer : puts < takes
 
--- the number stays until the dequeue: this is before each other one that took the number, and, unless the number is put in by one operation
+-- the item stays until the dequeue: this is before each other one that took the item, and, unless the item is put in by one operation
 -- and known to be taken, before each other open one
-pub record Stays (h : List Event) (n : ℤ) (dequeue : ℕ) : Type 0 where
+pub record Stays (h : List Event) (n : Item) (dequeue : ℕ) : Type 0 where
   pub taken_later : (at : ℕ) → (at ≢ dequeue) × TookOut h n at → IsBefore h dequeue at
   pub open_later : (Exactly 1 (CanAdd h n) × ((at : ℕ) × TookOut h n at))
       ⊎ ((at : ℕ) → (at ≢ dequeue) × StaysOpen h (λ call. call ≡ Dequeue) at → IsBefore h dequeue at)
 
--- the dequeue took the other number, which can only have been put in behind the number, and this stays until then
-pub record IsPassed (h : List Event) (enqueue later dequeue : ℕ) (n other : ℤ) : Type 0 where
+-- the dequeue took the other item, which can only have been put in behind the item, and this stays until then
+pub record IsPassed (h : List Event) (enqueue later dequeue : ℕ) (n other : Item) : Type 0 where
   pub differ : n ≢ other
   pub put : Returned h (λ call reply. Adds call n) enqueue
   pub some_later : CanAdd h other later
@@ -110,35 +111,35 @@ pub record IsPassed (h : List Event) (enqueue later dequeue : ℕ) (n other : �
   pub took : TookOut h other dequeue
   pub stays : Stays h n dequeue
 
--- the dequeue found nothing, and the number was put in before it and stays until then
-pub record IsInside (h : List Event) (enqueue dequeue : ℕ) (n : ℤ) : Type 0 where
+-- the dequeue found nothing, and the item was put in before it and stays until then
+pub record IsInside (h : List Event) (enqueue dequeue : ℕ) (n : Item) : Type 0 where
   pub put : Returned h (λ call reply. Adds call n) enqueue
   pub found : Returned h (λ call reply. (call ≡ Dequeue) × (reply ≡ Replied.Value Nil)) dequeue
   pub in_time : IsBefore h enqueue dequeue
   pub stays : Stays h n dequeue
 
--- the set has the number behind the ok operation
-abbrev pub Had : List Event → ℤ → ℕ → Type 0
+-- the set has the item behind the ok operation
+abbrev pub Had : List Event → Item → ℕ → Type 0
 Had h n at = Returned h (λ call reply. Has call reply n) at
 
--- the ok operation found the set with the number and without the other one
-abbrev pub Told : List Event → ℤ → ℤ → ℕ → Type 0
+-- the ok operation found the set with the item and without the other one
+abbrev pub Told : List Event → Item → Item → ℕ → Type 0
 Told h n m at = Returned h (λ call reply. Has call reply n × Lacks call reply m) at
 
--- the read has a number that no operation adds
-abbrev pub IsUnadded : List Event → ℕ → ℤ → Type 0
+-- the read has an item that no operation adds
+abbrev pub IsUnadded : List Event → ℕ → Item → Type 0
 IsUnadded h read n = Had h n read × ((at : ℕ) → CanAdd h n at → ⊥)
 
--- the set had the number before the read, which lacks it
-abbrev pub IsLost : List Event → ℕ → ℕ → ℤ → Type 0
+-- the set had the item before the read, which lacks it
+abbrev pub IsLost : List Event → ℕ → ℕ → Item → Type 0
 IsLost h earlier read n = Had h n earlier × Returned h (λ call reply. Lacks call reply n) read × IsBefore h earlier read
 
--- the one read has the one number and lacks the other, and the other read has that and lacks the one
-abbrev pub AreSplit : List Event → ℕ → ℕ → ℤ → ℤ → Type 0
+-- the one read has the one item and lacks the other, and the other read has that and lacks the one
+abbrev pub AreSplit : List Event → ℕ → ℕ → Item → Item → Type 0
 AreSplit h first second n m = Told h n m first × Told h m n second
 
--- the set had the number before the other one was added, and the read has that and lacks the number
-pub record IsLate (h : List Event) (earlier add read : ℕ) (n other : ℤ) : Type 0 where
+-- the set had the item before the other one was added, and the read has that and lacks the item
+pub record IsLate (h : List Event) (earlier add read : ℕ) (n other : Item) : Type 0 where
   pub had : Had h n earlier
   pub some_later : CanAdd h other add
   pub all_later : (at : ℕ) → CanAdd h other at → IsBefore h earlier at

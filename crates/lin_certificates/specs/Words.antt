@@ -1,5 +1,6 @@
 -- What operations do, in the words of which certificates are made.
-use Rattle.std.specs.Prelude.{◌≡◌, ◌≢◌, ◌⊎◌, ◌≤◌, ℕ, ℤ, List, AllPairs, Contains, length, ◌↔◌}
+use Rattle.std.specs.Prelude.{◌≡◌, ◌≢◌, ◌⊎◌, ◌≤◌, ℕ, List, AllPairs, Contains, length, ◌↔◌}
+use Rattle.lin_events.specs.declared.items.Item.{Item}
 use Rattle.lin_events.specs.declared.calls.Call.{Call}
 use Rattle.lin_events.specs.declared.calls.Call.TheVariants.{Read, Cas, Dequeue, Acquire, Release}
 use Rattle.lin_events.specs.declared.calls.Reply.{Reply}
@@ -44,7 +45,7 @@ IsOfCalls Called.Releases call = call ≡ Release
 -- the call reads, and the reply is of this sort
 abbrev pub Gives : Sort → Call → Reply → Type 0
 Gives Sorted.Value call reply = (call ≡ Read) × ((v : Val) × (reply ≡ Replied.Value v))
-Gives Sorted.Members call reply = (call ≡ Read) × ((s : List ℤ) × (reply ≡ Replied.Members s))
+Gives Sorted.Members call reply = (call ≡ Read) × ((s : List Item) × (reply ≡ Replied.Members s))
 
 -- the call with this reply is of this sort
 abbrev pub IsOfAnswers : Answers → Call → Reply → Type 0

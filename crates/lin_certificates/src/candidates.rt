@@ -1,6 +1,6 @@
 //! Operations with their endings, and certificates that may hold of them. None is promised to.
 use crate::certificate::Certificate;
-use lin_events::{Body, Call, Event, OutOfMemory, Reply, Val};
+use lin_events::{Body, Call, Event, Item, OutOfMemory, Reply, Val};
 use lin_objects::Kind;
 use std::alloc::Global;
 use std::collections::HashMap;
@@ -59,25 +59,25 @@ impl<'a> Operation<'a> {
     }
 
     /// What it adds to a set, or puts into a queue.
-    fn added(&self) -> Option<i64> {
+    fn added(&self) -> Option<Item> {
         match self.call {
-            Call::Add(number) => Some(number),
-            Call::Enqueue(number) => Some(number),
+            Call::Add(item) => Some(item),
+            Call::Enqueue(item) => Some(item),
             _ => None,
         }
     }
 
     /// What it took out of a queue.
-    fn taken(&self) -> Option<i64> {
+    fn taken(&self) -> Option<Item> {
         let (_, reply) = self.returned()?;
         match (self.call, reply) {
-            (Call::Dequeue, Reply::Value(Val::Int(number))) => Some(*number),
+            (Call::Dequeue, Reply::Value(Val::Item(item))) => Some(*item),
             _ => None,
         }
     }
 
     /// What it read of a set.
-    fn members(&self) -> Option<&'a [i64]> {
+    fn members(&self) -> Option<&'a [Item]> {
         let (_, reply) = self.returned()?;
         match (self.call, reply) {
             (Call::Read, Reply::Members(members)) => Some(members.as_slice()),
@@ -136,10 +136,10 @@ fn needs(found: &mut Vec<Certificate>, target: &Operation) -> Result<(), OutOfMe
     let Some(value) = target.needed() else {
         return Ok(());
     };
-    if let Val::Int(number) = value {
+    if let Val::Item(item) = value {
         found.push(Certificate::Unwritten {
             operation: target.at,
-            number,
+            item,
         })?;
     }
     found.push(Certificate::Overwritten {
@@ -217,13 +217,13 @@ fn crossing(
     known: &HashMap<Val, Touching>,
     target: usize,
     value: Val,
-    number: i64,
+    item: Item,
 ) -> Option<Certificate> {
-    let other = known.get(&Val::Int(number))?;
+    let other = known.get(&Val::Item(item))?;
     let (_, early) = other.before?;
     let back = match value {
         Val::Nil => None,
-        Val::Int(_) => {
+        Val::Item(_) => {
             let (end, first) = known.get(&value)?.first?;
             let last = other.last?;
             if last < end {
@@ -237,7 +237,7 @@ fn crossing(
     }
     Some(Certificate::Crossed {
         value,
-        number,
+        item,
         early,
         late: target,
         back,
@@ -255,11 +255,11 @@ fn crossings(
     let known = values_known(alloc, operations, target.at)?;
     let mut tried = 0;
     for operation in operations.iter().rev() {
-        let Some(Val::Int(number)) = operation.left() else {
+        let Some(Val::Item(item)) = operation.left() else {
             continue;
         };
         if tried < TRIED
-            && let Some(certificate) = crossing(&known, target.at, value, number)
+            && let Some(certificate) = crossing(&known, target.at, value, item)
         {
             found.push(certificate)?;
             tried += 1;
@@ -287,7 +287,7 @@ fn of_register(
     Ok(())
 }
 
-/// What is known of a number of a queue.
+/// What is known of an item of a queue.
 #[derive(Clone, Copy)]
 struct Queued {
     /// How many operations that aren't failed put it in.
@@ -298,31 +298,31 @@ struct Queued {
     take: Option<usize>,
 }
 
-/// What is known of each number that operations put in or took out, but for what the dequeue took that is looked at.
-fn numbers_known(
+/// What is known of each item that operations put in or took out, but for what the dequeue took that is looked at.
+fn items_known(
     alloc: Global,
     operations: &[Operation],
     target: usize,
-) -> Result<HashMap<i64, Queued>, OutOfMemory> {
-    let mut known: HashMap<i64, Queued> = HashMap::new(alloc);
+) -> Result<HashMap<Item, Queued>, OutOfMemory> {
+    let mut known: HashMap<Item, Queued> = HashMap::new(alloc);
     for operation in operations {
-        if let Some(number) = operation.added()
+        if let Some(item) = operation.added()
             && operation.counts()
         {
-            let mut about = known.get(&number).copied().unwrap_or(Queued {
+            let mut about = known.get(&item).copied().unwrap_or(Queued {
                 puts: 0,
                 put: operation.at,
                 take: None,
             });
             about.puts = about.puts.saturating_add(1);
-            known.insert(number, about)?;
+            known.insert(item, about)?;
         }
-        if let Some(number) = operation.taken()
+        if let Some(item) = operation.taken()
             && operation.at != target
-            && let Some(mut about) = known.get(&number).copied()
+            && let Some(mut about) = known.get(&item).copied()
         {
             about.take = Some(about.take.unwrap_or(operation.at));
-            known.insert(number, about)?;
+            known.insert(item, about)?;
         }
     }
     Ok(known)
@@ -341,9 +341,9 @@ fn is_one_open(operations: &[Operation], target: usize, end: usize) -> bool {
     false
 }
 
-/// Whether the number may stay until the dequeue that returned at the place.
-fn may_stay(known: &HashMap<i64, Queued>, number: i64, end: usize, is_open: bool) -> bool {
-    let Some(about) = known.get(&number) else {
+/// Whether the item may stay until the dequeue that returned at the place.
+fn may_stay(known: &HashMap<Item, Queued>, item: Item, end: usize, is_open: bool) -> bool {
+    let Some(about) = known.get(&item) else {
         return false;
     };
     match about.take {
@@ -352,35 +352,35 @@ fn may_stay(known: &HashMap<i64, Queued>, number: i64, end: usize, is_open: bool
     }
 }
 
-/// The last enqueue that returned before the place, of a number that may stay until the dequeue, which returned at `end`.
+/// The last enqueue that returned before the place, of an item that may stay until the dequeue, which returned at `end`.
 fn staying(
     alloc: Global,
     operations: &[Operation],
     target: &Operation,
     place: usize,
-) -> Result<Option<(usize, i64)>, OutOfMemory> {
+) -> Result<Option<(usize, Item)>, OutOfMemory> {
     let Some((end, _)) = target.returned() else {
         return Ok(None);
     };
-    let known = numbers_known(alloc, operations, target.at)?;
+    let known = items_known(alloc, operations, target.at)?;
     let is_open = is_one_open(operations, target.at, end);
     for operation in operations.iter().rev() {
-        if let Some(number) = operation.added()
+        if let Some(item) = operation.added()
             && let Some((put, _)) = operation.returned()
             && put < place
-            && target.taken() != Some(number)
-            && may_stay(&known, number, end, is_open)
+            && target.taken() != Some(item)
+            && may_stay(&known, item, end, is_open)
         {
-            return Ok(Some((operation.at, number)));
+            return Ok(Some((operation.at, item)));
         }
     }
     Ok(None)
 }
 
-/// The first enqueue of the number that isn't failed.
-fn first_put(operations: &[Operation], number: i64) -> Option<usize> {
+/// The first enqueue of the item that isn't failed.
+fn first_put(operations: &[Operation], item: Item) -> Option<usize> {
     for operation in operations {
-        if operation.added() == Some(number) && operation.counts() {
+        if operation.added() == Some(item) && operation.counts() {
             return Some(operation.at);
         }
     }
@@ -394,47 +394,50 @@ fn of_queue(
     operations: &[Operation],
     target: &Operation,
 ) -> Result<(), OutOfMemory> {
-    if let Some(number) = target.taken().or(target.added()) {
-        found.push(Certificate::Taken { number })?;
+    if let Some(item) = target.taken().or(target.added()) {
+        found.push(Certificate::Taken { item })?;
     }
     if let Some(other) = target.taken()
         && let Some(later) = first_put(operations, other)
-        && let Some((enqueue, number)) = staying(alloc, operations, target, later)?
+        && let Some((enqueue, item)) = staying(alloc, operations, target, later)?
     {
         found.push(Certificate::Passed {
             enqueue,
             later,
             dequeue: target.at,
-            number,
+            item,
             other,
         })?;
     }
-    if let Some((enqueue, number)) = staying(alloc, operations, target, target.at)? {
+    if let Some((enqueue, item)) = staying(alloc, operations, target, target.at)? {
         found.push(Certificate::Inside {
             enqueue,
             dequeue: target.at,
-            number,
+            item,
         })?;
     }
     Ok(())
 }
 
-/// The first add of each number that isn't failed.
-fn first_adds(alloc: Global, operations: &[Operation]) -> Result<HashMap<i64, usize>, OutOfMemory> {
-    let mut first: HashMap<i64, usize> = HashMap::new(alloc);
+/// The first add of each item that isn't failed.
+fn first_adds(
+    alloc: Global,
+    operations: &[Operation],
+) -> Result<HashMap<Item, usize>, OutOfMemory> {
+    let mut first: HashMap<Item, usize> = HashMap::new(alloc);
     for operation in operations {
-        if let Some(number) = operation.added()
+        if let Some(item) = operation.added()
             && operation.counts()
-            && !first.contains_key(&number)
+            && !first.contains_key(&item)
         {
-            first.insert(number, operation.at)?;
+            first.insert(item, operation.at)?;
         }
     }
     Ok(first)
 }
 
-/// A number of the one list that the other, which rises, lacks.
-fn missing(members: &[i64], others: &[i64]) -> Option<i64> {
+/// An item of the one list that the other, which rises, lacks.
+fn missing(members: &[Item], others: &[Item]) -> Option<Item> {
     for member in members {
         if others.binary_search(member).is_err() {
             return Some(*member);
@@ -444,8 +447,8 @@ fn missing(members: &[i64], others: &[i64]) -> Option<i64> {
 }
 
 /// Of the members the one that was added last, and its first add; or one that none adds, and nothing.
-fn newest(first: &HashMap<i64, usize>, members: &[i64]) -> Option<(i64, Option<usize>)> {
-    let mut newest: Option<(i64, Option<usize>)> = None;
+fn newest(first: &HashMap<Item, usize>, members: &[Item]) -> Option<(Item, Option<usize>)> {
+    let mut newest: Option<(Item, Option<usize>)> = None;
     for member in members {
         let Some(add) = first.get(member).copied() else {
             return Some((*member, None));
@@ -457,16 +460,16 @@ fn newest(first: &HashMap<i64, usize>, members: &[i64]) -> Option<(i64, Option<u
     newest
 }
 
-/// A number that the set has behind the operation, and that the read lacks.
-fn lacking(operation: &Operation, members: &[i64]) -> Option<i64> {
+/// An item that the set has behind the operation, and that the read lacks.
+fn lacking(operation: &Operation, members: &[Item]) -> Option<Item> {
     match operation.members() {
         Some(others) => missing(others, members),
         None => {
-            let number = operation.added()?;
-            if members.binary_search(&number).is_ok() {
+            let item = operation.added()?;
+            if members.binary_search(&item).is_ok() {
                 return None;
             }
-            Some(number)
+            Some(item)
         }
     }
 }
@@ -478,7 +481,7 @@ fn splitting(target: &Operation, operation: &Operation) -> Option<Certificate> {
     Some(Certificate::Split {
         first: target.at,
         second: operation.at,
-        number: missing(members, others)?,
+        item: missing(members, others)?,
         other: missing(others, members)?,
     })
 }
@@ -487,15 +490,15 @@ fn splitting(target: &Operation, operation: &Operation) -> Option<Certificate> {
 fn overlooked(
     target: &Operation,
     operation: &Operation,
-    newest: Option<(i64, Option<usize>)>,
+    newest: Option<(Item, Option<usize>)>,
 ) -> Option<Certificate> {
     let (end, _) = operation.returned()?;
-    let number = lacking(operation, target.members()?)?;
+    let item = lacking(operation, target.members()?)?;
     if end < target.at {
         return Some(Certificate::Lost {
             earlier: operation.at,
             read: target.at,
-            number,
+            item,
         });
     }
     match newest? {
@@ -503,7 +506,7 @@ fn overlooked(
             earlier: operation.at,
             add,
             read: target.at,
-            number,
+            item,
             other,
         }),
         _ => None,
@@ -524,10 +527,10 @@ fn of_set(
         return Ok(());
     };
     let newest = newest(&first_adds(alloc, operations)?, members);
-    if let Some((number, None)) = newest {
+    if let Some((item, None)) = newest {
         found.push(Certificate::Unadded {
             read: target.at,
-            number,
+            item,
         })?;
     }
     for operation in operations.iter().rev() {

@@ -10,7 +10,7 @@ use crate::queues::{is_inside, is_passed, is_taken};
 use crate::registers::{are_crossed, is_overwritten, is_unwritten};
 use crate::sets::{are_split, is_late, is_lost, is_unadded};
 use crate::words::{Answers, Sort, Which};
-use lin_events::{Event, OutOfMemory, Val};
+use lin_events::{Event, Item, OutOfMemory, Val};
 use lin_objects::Kind;
 use lin_orders::ends_of;
 use std::alloc::Global;
@@ -23,70 +23,70 @@ pub enum Certificate {
     Shape {
         read: usize,
     },
-    /// The operation needs the number, and no other one that isn't failed leaves it.
+    /// The operation needs the item, and no other one that isn't failed leaves it.
     Unwritten {
         operation: usize,
-        number: i64,
+        item: Item,
     },
     /// The operation needs the value. Whichever other one leaves it is before one that leaves some value and is before the operation.
     Overwritten {
         operation: usize,
         value: Val,
     },
-    /// One operation leaves the number, and one the value, or none where it is nil. Two operations touch the number and the value, the first
-    /// before the second; and, unless the value is nil, another two the value and the number (Gibbons and Korach 1997).
+    /// One operation leaves the item, and one the value, or none where it is nil. Two operations touch the item and the value, the first
+    /// before the second; and, unless the value is nil, another two the value and the item (Gibbons and Korach 1997).
     Crossed {
         value: Val,
-        number: i64,
+        item: Item,
         early: usize,
         late: usize,
         back: Option<(usize, usize)>,
     },
-    /// More dequeues took the number than enqueues of it aren't failed.
+    /// More dequeues took the item than enqueues of it aren't failed.
     Taken {
-        number: i64,
+        item: Item,
     },
-    /// The dequeue took the other number, whose enqueues, of which one is named, were all invoked after that of the number, which stayed until
+    /// The dequeue took the other item, whose enqueues, of which one is named, were all invoked after that of the item, which stayed until
     /// the dequeue.
     Passed {
         enqueue: usize,
         later: usize,
         dequeue: usize,
-        number: i64,
-        other: i64,
+        item: Item,
+        other: Item,
     },
-    /// The dequeue found nothing. The number was put in before it, and stayed until it.
+    /// The dequeue found nothing. The item was put in before it, and stayed until it.
     Inside {
         enqueue: usize,
         dequeue: usize,
-        number: i64,
+        item: Item,
     },
-    /// The read has the number, and all adds of it failed.
+    /// The read has the item, and all adds of it failed.
     Unadded {
         read: usize,
-        number: i64,
+        item: Item,
     },
-    /// The operation that has the number is before the read, which lacks it.
+    /// The operation that has the item is before the read, which lacks it.
     Lost {
         earlier: usize,
         read: usize,
-        number: i64,
+        item: Item,
     },
-    /// The first read has the number and lacks the other one; the second has that one and lacks the number.
+    /// The first read has the item and lacks the other one; the second has that one and lacks the item.
     Split {
         first: usize,
         second: usize,
-        number: i64,
-        other: i64,
+        item: Item,
+        other: Item,
     },
-    /// The operation that has the number is before each add of the other one, of which one is named. The read has the other one and lacks the
-    /// number.
+    /// The operation that has the item is before each add of the other one, of which one is named. The read has the other one and lacks the
+    /// item.
     Late {
         earlier: usize,
         add: usize,
         read: usize,
-        number: i64,
-        other: i64,
+        item: Item,
+        other: Item,
     },
     /// Both are acquires, or releases, the first before the second, and each call of the other function is before the first or failed.
     Twice {
@@ -109,19 +109,19 @@ fn certifies_register(events: &[Event], ends: &[Option<usize>], certificate: &Ce
             *read,
             &Which::Returned(Answers::Gives(Sort::Members)),
         ),
-        Certificate::Unwritten { operation, number } => {
-            is_unwritten(events, ends, *operation, *number)
+        Certificate::Unwritten { operation, item } => {
+            is_unwritten(events, ends, *operation, *item)
         }
         Certificate::Overwritten { operation, value } => {
             is_overwritten(events, ends, *operation, *value)
         }
         Certificate::Crossed {
             value,
-            number,
+            item,
             early,
             late,
             back,
-        } => are_crossed(events, ends, *value, *number, (*early, *late), *back),
+        } => are_crossed(events, ends, *value, *item, (*early, *late), *back),
         _ => false,
     }
 }
@@ -132,12 +132,12 @@ fn certifies_bag(events: &[Event], ends: &[Option<usize>], certificate: &Certifi
     ensures { IsTrue result ↔ CertifiesBag events.now certificate.now }
 {
     match certificate {
-        Certificate::Taken { number } => is_taken(events, ends, *number),
+        Certificate::Taken { item } => is_taken(events, ends, *item),
         Certificate::Inside {
             enqueue,
             dequeue,
-            number,
-        } => is_inside(events, ends, *enqueue, *dequeue, *number),
+            item,
+        } => is_inside(events, ends, *enqueue, *dequeue, *item),
         _ => false,
     }
 }
@@ -152,9 +152,9 @@ fn certifies_fifo(events: &[Event], ends: &[Option<usize>], certificate: &Certif
             enqueue,
             later,
             dequeue,
-            number,
+            item,
             other,
-        } => is_passed(events, ends, (*enqueue, *later), *dequeue, *number, *other),
+        } => is_passed(events, ends, (*enqueue, *later), *dequeue, *item, *other),
         _ => certifies_bag(events, ends, certificate),
     }
 }
@@ -171,25 +171,25 @@ fn certifies_set(events: &[Event], ends: &[Option<usize>], certificate: &Certifi
             *read,
             &Which::Returned(Answers::Gives(Sort::Value)),
         ),
-        Certificate::Unadded { read, number } => is_unadded(events, ends, *read, *number),
+        Certificate::Unadded { read, item } => is_unadded(events, ends, *read, *item),
         Certificate::Lost {
             earlier,
             read,
-            number,
-        } => is_lost(events, ends, *earlier, *read, *number),
+            item,
+        } => is_lost(events, ends, *earlier, *read, *item),
         Certificate::Split {
             first,
             second,
-            number,
+            item,
             other,
-        } => are_split(events, ends, (*first, *second), *number, *other),
+        } => are_split(events, ends, (*first, *second), *item, *other),
         Certificate::Late {
             earlier,
             add,
             read,
-            number,
+            item,
             other,
-        } => is_late(events, ends, (*earlier, *add), *read, *number, *other),
+        } => is_late(events, ends, (*earlier, *add), *read, *item, *other),
         _ => false,
     }
 }

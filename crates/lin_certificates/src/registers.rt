@@ -7,14 +7,14 @@ ghost use Rattle.lin_certificates.specs.Certificates.{AreCrossed, HasSource, IsA
 use crate::operations::{comes_before, is_among};
 use crate::passes::{all_ahead, count_of, is_any, last_of};
 use crate::words::{Answers, Calls, Which};
-use lin_events::{Event, Val};
+use lin_events::{Event, Item, Val};
 
-/// Whether the operation needs the number, and no other one that isn't failed leaves it.
-pub fn is_unwritten(events: &[Event], ends: &[Option<usize>], operation: usize, number: i64) -> bool
+/// Whether the operation needs the item, and no other one that isn't failed leaves it.
+pub fn is_unwritten(events: &[Event], ends: &[Option<usize>], operation: usize, item: Item) -> bool
     requires { IsNextTable events.now ends.now }
-    ensures { IsTrue result ↔ IsUnwritten events.now operation number }
+    ensures { IsTrue result ↔ IsUnwritten events.now operation item }
 {
-    let value = Val::Int(number);
+    let value = Val::Item(item);
     let needed = Which::Returned(Answers::Needs(value));
     let others = Which::CountsBut(Calls::Leaves(value), operation);
     let needs = is_among(events, ends, operation, &needed);
@@ -29,7 +29,7 @@ fn has_source(events: &[Event], ends: &[Option<usize>], operation: usize, value:
 {
     let which = match value {
         Val::Nil => Which::ReturnedBefore(Answers::Called(Calls::Updates), operation),
-        Val::Int(_) => Which::CountsBut(Calls::Leaves(value), operation),
+        Val::Item(_) => Which::CountsBut(Calls::Leaves(value), operation),
     };
     is_any(events, ends, &which)
 }
@@ -97,7 +97,7 @@ fn is_left_ahead(
     once & one & two & before
 }
 
-/// Whether nothing leaves nil, or one operation leaves the number, and two touch it and the other value, the first before the second.
+/// Whether nothing leaves nil, or one operation leaves the item, and two touch it and the other value, the first before the second.
 fn is_ahead(
     events: &[Event],
     ends: &[Option<usize>],
@@ -110,24 +110,24 @@ fn is_ahead(
 {
     match (value, back) {
         (Val::Nil, None) => !is_any(events, ends, &Which::Counts(Calls::Leaves(value))),
-        (Val::Int(_), Some(pair)) => is_left_ahead(events, ends, value, other, pair),
+        (Val::Item(_), Some(pair)) => is_left_ahead(events, ends, value, other, pair),
         _ => false,
     }
 }
 
-/// Whether the number and the value, which are left once, or the value never and it is nil, were held in turn and again.
+/// Whether the item and the value, which are left once, or the value never and it is nil, were held in turn and again.
 pub fn are_crossed(
     events: &[Event],
     ends: &[Option<usize>],
     value: Val,
-    number: i64,
+    item: Item,
     pair: (usize, usize),
     back: Option<(usize, usize)>,
 ) -> bool
     requires { IsNextTable events.now ends.now }
-    ensures { IsTrue result ↔ AreCrossed events.now value number pair.0 pair.1 back }
+    ensures { IsTrue result ↔ AreCrossed events.now value item pair.0 pair.1 back }
 {
-    let other = Val::Int(number);
+    let other = Val::Item(item);
     let same = value == other;
     let in_turn = is_left_ahead(events, ends, other, value, pair);
     let again = is_ahead(events, ends, value, other, back);

@@ -1,6 +1,6 @@
 //! Histories of one object, and the certificates that are found of them.
 use crate::{Certificate, certifies, find_certificate};
-use lin_events::{Body, Call, Event, IntSet, Name, Reply, Val};
+use lin_events::{Body, Call, Event, IntSet, Item, Name, Reply, Val};
 use lin_objects::Kind;
 use std::process::Abort;
 
@@ -24,7 +24,7 @@ fn body(rt: &(impl Abort + AllocGlobal), step: Step) -> Body {
         Step::Reads(members) => {
             let mut items = Vec::new(rt.alloc());
             for member in members {
-                items.push(*member).expect(rt, "memory");
+                items.push(Item::Int(*member)).expect(rt, "memory");
             }
             let set = IntSet::from_members(rt.alloc(), items).expect(rt, "memory");
             Body::Ok(Name::Read, Reply::Members(set))
@@ -40,7 +40,7 @@ fn events(rt: &(impl Abort + AllocGlobal), steps: &[(u64, Step)]) -> Vec<Event> 
     for (process, step) in steps {
         let event = Event {
             process: *process,
-            key: 0,
+            key: Item::Int(0),
             body: body(rt, *step),
         };
         events.push(event).expect(rt, "memory");
@@ -71,20 +71,24 @@ const DEQUEUE: Step = Step::Calls(Call::Dequeue);
 
 const NIL: Step = Step::Gets(Val::Nil);
 
+fn value(number: i64) -> Val {
+    Val::Item(Item::Int(number))
+}
+
 fn write(number: i64) -> Step {
-    Step::Calls(Call::Write(Val::Int(number)))
+    Step::Calls(Call::Write(value(number)))
 }
 
 fn enqueue(number: i64) -> Step {
-    Step::Calls(Call::Enqueue(number))
+    Step::Calls(Call::Enqueue(Item::Int(number)))
 }
 
 fn add(number: i64) -> Step {
-    Step::Calls(Call::Add(number))
+    Step::Calls(Call::Add(Item::Int(number)))
 }
 
 fn gets(number: i64) -> Step {
-    Step::Gets(Val::Int(number))
+    Step::Gets(value(number))
 }
 
 #[test]
@@ -98,7 +102,7 @@ fn registers(rt: HostRuntime) {
     let failed = [(0, write(2)), (1, READ), (1, gets(2)), (0, Step::Fails)];
     let unwritten = Certificate::Unwritten {
         operation: 1,
-        number: 2,
+        item: Item::Int(2),
     };
     finds(&rt, Kind::Register, &failed, 0, Some(unwritten));
 }
@@ -117,7 +121,7 @@ fn nil_that_comes_back(rt: HostRuntime) {
     ];
     let crossed = Certificate::Crossed {
         value: Val::Nil,
-        number: 5,
+        item: Item::Int(5),
         early: 4,
         late: 6,
         back: None,
@@ -138,12 +142,12 @@ fn reads_and_swaps(rt: HostRuntime) {
     let swapped = [
         (0, write(3)),
         (0, Step::IsDone),
-        (1, Step::Calls(Call::Cas(Val::Int(1), Val::Int(2)))),
+        (1, Step::Calls(Call::Cas(value(1), value(2)))),
         (1, Step::IsDone),
     ];
     let unwritten = Certificate::Unwritten {
         operation: 2,
-        number: 1,
+        item: Item::Int(1),
     };
     finds(&rt, Kind::CasRegister, &swapped, 2, Some(unwritten));
 }
@@ -161,8 +165,8 @@ fn values_in_turn(rt: HostRuntime) {
         (3, gets(2)),
     ];
     let crossed = Certificate::Crossed {
-        value: Val::Int(2),
-        number: 1,
+        value: value(2),
+        item: Item::Int(1),
         early: 4,
         late: 6,
         back: Some((1, 4)),
@@ -185,6 +189,27 @@ fn values_in_turn(rt: HostRuntime) {
 }
 
 #[test]
+fn truth_values_are_no_integers(rt: HostRuntime) {
+    let truth = Item::Bool(true);
+    let taken = [
+        (0, enqueue(1)),
+        (0, Step::IsDone),
+        (1, DEQUEUE),
+        (1, Step::Gets(Val::Item(truth))),
+    ];
+    let certificate = Certificate::Taken { item: truth };
+    finds(&rt, Kind::Fifo, &taken, 2, Some(certificate));
+    finds(&rt, Kind::Bag, &taken, 2, Some(certificate));
+    let left = Step::Calls(Call::Write(Val::Item(Item::Bool(false))));
+    let read = [(0, left), (0, Step::IsDone), (1, READ), (1, gets(0))];
+    let unwritten = Certificate::Unwritten {
+        operation: 2,
+        item: Item::Int(0),
+    };
+    finds(&rt, Kind::Register, &read, 2, Some(unwritten));
+}
+
+#[test]
 fn queues(rt: HostRuntime) {
     let passed = [
         (0, enqueue(1)),
@@ -198,8 +223,8 @@ fn queues(rt: HostRuntime) {
         enqueue: 0,
         later: 2,
         dequeue: 4,
-        number: 1,
-        other: 2,
+        item: Item::Int(1),
+        other: Item::Int(2),
     };
     finds(&rt, Kind::Fifo, &passed, 4, Some(certificate));
     finds(&rt, Kind::Bag, &passed, 4, None);
@@ -234,14 +259,14 @@ fn taken_too_often(rt: HostRuntime) {
         Kind::Fifo,
         &taken,
         4,
-        Some(Certificate::Taken { number: 1 }),
+        Some(Certificate::Taken { item: Item::Int(1) }),
     );
     finds(
         &rt,
         Kind::Bag,
         &taken,
         4,
-        Some(Certificate::Taken { number: 1 }),
+        Some(Certificate::Taken { item: Item::Int(1) }),
     );
 }
 
@@ -251,7 +276,7 @@ fn found_nothing(rt: HostRuntime) {
     let certificate = Certificate::Inside {
         enqueue: 0,
         dequeue: 2,
-        number: 4,
+        item: Item::Int(4),
     };
     finds(&rt, Kind::Fifo, &inside, 2, Some(certificate));
     finds(&rt, Kind::Bag, &inside, 2, Some(certificate));
@@ -270,7 +295,7 @@ fn sets(rt: HostRuntime) {
     let certificate = Certificate::Lost {
         earlier: 0,
         read: 4,
-        number: 1,
+        item: Item::Int(1),
     };
     finds(&rt, Kind::Set, &lost, 4, Some(certificate));
     let split = [
@@ -284,8 +309,8 @@ fn sets(rt: HostRuntime) {
     let certificate = Certificate::Split {
         first: 3,
         second: 2,
-        number: 2,
-        other: 1,
+        item: Item::Int(2),
+        other: Item::Int(1),
     };
     finds(&rt, Kind::Set, &split, 3, Some(certificate));
     let late = [
@@ -299,12 +324,15 @@ fn sets(rt: HostRuntime) {
         earlier: 1,
         add: 3,
         read: 0,
-        number: 1,
-        other: 2,
+        item: Item::Int(1),
+        other: Item::Int(2),
     };
     finds(&rt, Kind::Set, &late, 0, Some(certificate));
     let unadded = [(0, READ), (0, Step::Reads(&[7]))];
-    let certificate = Certificate::Unadded { read: 0, number: 7 };
+    let certificate = Certificate::Unadded {
+        read: 0,
+        item: Item::Int(7),
+    };
     finds(&rt, Kind::Set, &unadded, 0, Some(certificate));
     finds(
         &rt,

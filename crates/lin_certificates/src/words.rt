@@ -6,7 +6,7 @@ ghost use Rattle.lin_failures.specs.QueueConflicts.{Takes};
 ghost use Rattle.lin_failures.specs.SetConflicts.{Has, Lacks};
 ghost use Rattle.lin_certificates.specs.Words.{Gives, IsOfAnswers, IsOfCalls, Needs, Updates};
 
-use lin_events::{Call, Reply, Val};
+use lin_events::{Call, Item, Reply, Val};
 
 /// A sort of calls.
 #[derive(Clone, Copy, Debug, PartialEq, Eq)]
@@ -15,8 +15,8 @@ pub enum Calls {
     Leaves(Val),
     /// It leaves some value in a register.
     Updates,
-    /// It adds the number to a set, or puts it into a queue.
-    Adds(i64),
+    /// It adds the item to a set, or puts it into a queue.
+    Adds(Item),
     Dequeues,
     Acquires,
     Releases,
@@ -38,16 +38,16 @@ pub enum Answers {
     Needs(Val),
     /// A register had to hold the value, or holds it behind the call.
     Touches(Val),
-    /// It took the number out of a queue.
-    Takes(i64),
+    /// It took the item out of a queue.
+    Takes(Item),
     /// It found a queue empty.
     FindsNothing,
-    /// A set has the number behind it.
-    Has(i64),
-    /// It found a set without the number.
-    Lacks(i64),
-    /// It found a set with the first number and without the second.
-    Tells(i64, i64),
+    /// A set has the item behind it.
+    Has(Item),
+    /// It found a set without the item.
+    Lacks(Item),
+    /// It found a set with the first item and without the second.
+    Tells(Item, Item),
     /// It read something of the sort.
     Gives(Sort),
 }
@@ -105,64 +105,64 @@ fn updates(call: &Call) -> bool
     }
 }
 
-/// Whether the call adds the number to a set, or puts it into a queue.
-fn adds(call: &Call, number: i64) -> bool
-    ensures { IsTrue result ↔ Adds call.now number }
+/// Whether the call adds the item to a set, or puts it into a queue.
+fn adds(call: &Call, item: Item) -> bool
+    ensures { IsTrue result ↔ Adds call.now item }
 {
     match call {
-        Call::Add(added) => *added == number,
-        Call::Enqueue(added) => *added == number,
+        Call::Add(added) => *added == item,
+        Call::Enqueue(added) => *added == item,
         _ => false,
     }
 }
 
-/// Whether the call with this reply takes the number out.
-fn takes(call: &Call, reply: &Reply, number: i64) -> bool
-    ensures { IsTrue result ↔ Takes call.now reply.now number }
+/// Whether the call with this reply takes the item out.
+fn takes(call: &Call, reply: &Reply, item: Item) -> bool
+    ensures { IsTrue result ↔ Takes call.now reply.now item }
 {
     match call {
         Call::Dequeue => match reply {
-            Reply::Value(Val::Int(found)) => *found == number,
+            Reply::Value(Val::Item(found)) => *found == item,
             _ => false,
         },
         _ => false,
     }
 }
 
-/// Whether the number is one of these.
-fn is_member(members: &[i64], number: i64) -> bool
-    ensures found { IsTrue result → Contains members.now number }
-    ensures none { result ≡ false → Contains members.now number → ⊥ }
+/// Whether the item is one of these.
+fn is_member(members: &[Item], item: Item) -> bool
+    ensures found { IsTrue result → Contains members.now item }
+    ensures none { result ≡ false → Contains members.now item → ⊥ }
 {
     for at in 0..members.len() {
-        if members[at] == number {
+        if members[at] == item {
             return true;
         }
     }
     false
 }
 
-/// Whether the set has the number behind the call with this reply.
-fn has(call: &Call, reply: &Reply, number: i64) -> bool
-    ensures { IsTrue result ↔ Has call.now reply.now number }
+/// Whether the set has the item behind the call with this reply.
+fn has(call: &Call, reply: &Reply, item: Item) -> bool
+    ensures { IsTrue result ↔ Has call.now reply.now item }
 {
     match call {
-        Call::Add(added) => *added == number,
+        Call::Add(added) => *added == item,
         Call::Read => match reply {
-            Reply::Members(members) => is_member(members.as_slice(), number),
+            Reply::Members(members) => is_member(members.as_slice(), item),
             _ => false,
         },
         _ => false,
     }
 }
 
-/// Whether the call with this reply found the set without the number.
-fn lacks(call: &Call, reply: &Reply, number: i64) -> bool
-    ensures { IsTrue result ↔ Lacks call.now reply.now number }
+/// Whether the call with this reply found the set without the item.
+fn lacks(call: &Call, reply: &Reply, item: Item) -> bool
+    ensures { IsTrue result ↔ Lacks call.now reply.now item }
 {
     match call {
         Call::Read => match reply {
-            Reply::Members(members) => !is_member(members.as_slice(), number),
+            Reply::Members(members) => !is_member(members.as_slice(), item),
             _ => false,
         },
         _ => false,
@@ -176,7 +176,7 @@ pub fn is_of_calls(call: &Call, calls: &Calls) -> bool
     match calls {
         Calls::Leaves(value) => leaves(call, *value),
         Calls::Updates => updates(call),
-        Calls::Adds(number) => adds(call, *number),
+        Calls::Adds(item) => adds(call, *item),
         Calls::Dequeues => matches!(call, Call::Dequeue),
         Calls::Acquires => matches!(call, Call::Acquire),
         Calls::Releases => matches!(call, Call::Release),
@@ -214,11 +214,11 @@ fn touches(call: &Call, reply: &Reply, value: Val) -> bool
     needs(call, reply, value) || leaves(call, value)
 }
 
-/// Whether the call with this reply found the set with the one number and without the other.
-fn tells(call: &Call, reply: &Reply, number: i64, other: i64) -> bool
-    ensures { IsTrue result ↔ (Has call.now reply.now number × Lacks call.now reply.now other) }
+/// Whether the call with this reply found the set with the one item and without the other.
+fn tells(call: &Call, reply: &Reply, item: Item, other: Item) -> bool
+    ensures { IsTrue result ↔ (Has call.now reply.now item × Lacks call.now reply.now other) }
 {
-    has(call, reply, number) && lacks(call, reply, other)
+    has(call, reply, item) && lacks(call, reply, other)
 }
 
 /// Whether the call with this reply is of the sort.
@@ -229,11 +229,11 @@ pub fn is_of_answers(call: &Call, reply: &Reply, answers: &Answers) -> bool
         Answers::Called(calls) => is_of_calls(call, calls),
         Answers::Needs(value) => needs(call, reply, *value),
         Answers::Touches(value) => touches(call, reply, *value),
-        Answers::Takes(number) => takes(call, reply, *number),
+        Answers::Takes(item) => takes(call, reply, *item),
         Answers::FindsNothing => finds_nothing(call, reply),
-        Answers::Has(number) => has(call, reply, *number),
-        Answers::Lacks(number) => lacks(call, reply, *number),
-        Answers::Tells(number, other) => tells(call, reply, *number, *other),
+        Answers::Has(item) => has(call, reply, *item),
+        Answers::Lacks(item) => lacks(call, reply, *item),
+        Answers::Tells(item, other) => tells(call, reply, *item, *other),
         Answers::Gives(sort) => gives(call, reply, *sort),
     }
 }

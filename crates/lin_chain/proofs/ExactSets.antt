@@ -1,10 +1,11 @@
 -- Exact frontiers give the sets of all configurations, and these refute a history that has no legal order.
-use Rattle.std.proofs.Common.{Result, Ok, ◌≡◌, ℕ, ℤ, zero, suc, ◌+◌, ◌<◌, ◌≤◌, Bool, List, [], ◌∷◌, ◌++◌, Contains, length, length-append, option_map, Option, Some, None, slice_get, take, inl, inr, refl, sym, ap, subst, ◌∙◌, arith}
+use Rattle.std.proofs.Common.{Result, Ok, ◌≡◌, ℕ, zero, suc, ◌+◌, ◌<◌, ◌≤◌, Bool, List, [], ◌∷◌, ◌++◌, Contains, length, length-append, option_map, Option, Some, None, slice_get, take, inl, inr, refl, sym, ap, subst, ◌∙◌, arith}
 use Rattle.std.specs.Global.{Vec}
 use Rattle.std.specs.Map.{keys_of}
 use Rattle.std.proofs.lemmas.Option.{slice_get-map, slice_get_within}
 use Rattle.std.proofs.lemmas.List.{length-map, length-take-le}
 use Rattle.std.proofs.lemmas.List.Elements.{All-contains}
+use Rattle.lin_events.specs.declared.items.Item.{Item}
 use Rattle.lin_events.specs.declared.calls.Name.{Name}
 use Rattle.lin_events.specs.declared.events.Event.{Event}
 use Rattle.lin_events.specs.WellFormed.{IsWellFormed}
@@ -82,7 +83,7 @@ take_within (suc m) (suc n) [] fits = refl
 take_within (suc m) (suc n) (x ∷ xs) fits = ap (λ l. x ∷ l) (take_within m n xs (omega arith))
 
 -- no configuration, where there is no legal order
-no_configurations : (functions : ℤ → Name → Bool) (kind : Kind) (h : List Event) (set : List Config) → set ≡ [] → (IsLinearizableAs kind h → ⊥) → AreConfigurations kind h set
+no_configurations : (functions : Item → Name → Bool) (kind : Kind) (h : List Event) (set : List Config) → set ≡ [] → (IsLinearizableAs kind h → ⊥) → AreConfigurations kind h set
 no_configurations functions kind h set empty fails c = (
   λ has. absurd (let inside = (subst (λ s. Contains s c) empty has).1 in omega arith),
   λ is. absurd (fails (is.0, record { order_of = is.1.order_of; legal = (_, is.1.runs) })),
@@ -103,7 +104,7 @@ set_of_list sets i list at = by (slice_get sets i) refl (sym (slice_get-map (λ 
         some_same same = cc
 
 -- the sets of all configurations, and the empty one, refute the beginning that has no legal order
-pub sets_refute : ExactSetsRefute → (functions : ℤ → Name → Bool) (h : List Event) (kind : Kind) (n : ℕ) (sets now : Sets) (last : Vec Config)
+pub sets_refute : ExactSetsRefute → (functions : Item → Name → Bool) (h : List Event) (kind : Kind) (n : ℕ) (sets now : Sets) (last : Vec Config)
     → IsWellFormed functions (take (n + 1) h) → n < length h → length sets ≡ n + 1 → AreAll kind h sets → now ≡ sets ++ last ∷ [] → last.items ≡ []
     → (IsLinearizableAs kind (take (n + 1) h) → ⊥) → IsRefutation (take (n + 1) h) kind (lists_of now)
 sets_refute law functions h kind n sets now last well inside count all pushed empty fails =

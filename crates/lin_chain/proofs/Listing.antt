@@ -1,9 +1,10 @@
 -- The list of open operations after one more event.
-use Rattle.std.proofs.Common.{◌≡◌, ◌≢◌, ◌<◌, ◌≤◌, suc, ℕ, ℤ, Bool, true, false, List, [], ◌∷◌, ◌++◌, length, ◌⊎◌, ◌↔◌, Some, inl, inr, refl, sym, ap, ◌∙◌, subst, arith, set, slice_get, take, All, IsTrue}
+use Rattle.std.proofs.Common.{◌≡◌, ◌≢◌, ◌<◌, ◌≤◌, suc, ℕ, Bool, true, false, List, [], ◌∷◌, ◌++◌, length, ◌⊎◌, ◌↔◌, Some, inl, inr, refl, sym, ap, ◌∙◌, subst, arith, set, slice_get, take, All, IsTrue}
 use Rattle.std.specs.List.{remove, swap}
 use Rattle.std.proofs.lemmas.Bool.{cases_lt, cases_order}
 use Rattle.std.proofs.lemmas.List.{length-take-le, get_or-take}
 use Rattle.std.proofs.lemmas.Option.{slice_get_within, get_or_from_slice_get}
+use Rattle.lin_events.specs.declared.items.Item.{Item}
 use Rattle.lin_events.specs.declared.events.Event.{Event}
 use Rattle.lin_events.specs.declared.events.Body.TheVariants.{Invoke, Ok, Fail, Info}
 use Rattle.lin_events.specs.declared.calls.Call.{Call}
@@ -23,8 +24,8 @@ use Rattle.lin_chain.proofs.Opening.{crashed_kept, open_kept, no_end_of_last, op
 -- exactly the open operations, told by their places in the list
 record IsListed (h : List Event) (xs : List Open) : Type 0 where
   distinct : (j k : ℕ) (o p : Open) → slice_get xs j ≡ Some o → slice_get xs k ≡ Some p → o.at ≡ p.at → j ≡ k
-  sound : (k : ℕ) (o : Open) → slice_get xs k ≡ Some o → (key : ℤ) × IsOpen h o.at o.process key o.call
-  complete : (at process : ℕ) (key : ℤ) (call : Call) → IsOpen h at process key call → (k : ℕ) × (o : Open) × (slice_get xs k ≡ Some o) × (o.at ≡ at)
+  sound : (k : ℕ) (o : Open) → slice_get xs k ≡ Some o → (key : Item) × IsOpen h o.at o.process key o.call
+  complete : (at process : ℕ) (key : Item) (call : Call) → IsOpen h at process key call → (k : ℕ) × (o : Open) × (slice_get xs k ≡ Some o) × (o.at ≡ at)
   crashed : (k : ℕ) (o : Open) → slice_get xs k ≡ Some o → IsTrue o.crashed ↔ IsCrashed h o.at
 
 listed_from_pending : (h : List Event) (xs : List Open) → IsPending h xs → IsListed h xs
@@ -94,7 +95,7 @@ pending_invoked h event xs call new is made pending = pending_from_listed (with_
     differ : false ≡ true → ⊥
     differ e = cc
 
-module _ (alternating : WellFormedIsAlternating) (unique : EndsAreUnique) (functions : ℤ → Name → Bool) (h : List Event) (event : Event) (xs : List Open) (at : ℕ) (next : IsNextEvent functions h xs at event)
+module _ (alternating : WellFormedIsAlternating) (unique : EndsAreUnique) (functions : Item → Name → Bool) (h : List Event) (event : Event) (xs : List Open) (at : ℕ) (next : IsNextEvent functions h xs at event)
     (name : Name) (completes : Completes event.body name) where
   alternates : IsAlternating functions (with_event h event)
   alternates = (alternating functions (with_event h event)).0 next.well_formed
@@ -174,7 +175,7 @@ module _ (alternating : WellFormedIsAlternating) (unique : EndsAreUnique) (funct
         one j k s t e (inr a) (inl b) = omega (arith, a.1, b.1)
         one j k s t e (inr a) (inr b) = omega (arith, a.1, b.1)
 
-        gone : (n process : ℕ) (key : ℤ) (call : Call) → IsOpen (with_event h event) n process key call → n ≡ ended.0 → ⊥
+        gone : (n process : ℕ) (key : Item) (call : Call) → IsOpen (with_event h event) n process key call → n ≡ ended.0 → ⊥
         gone n process key call is_open e = elim returned [
           | inl ok ↦ is_open.no_ok (length h) ok.1 (event, subst (λ m. IsEnd (with_event h event) m (length h) event) (sym e) ended.1, ok.0, ok.2)
           | inr fail ↦ is_open.no_fail (length h, event, subst (λ m. IsEnd (with_event h event) m (length h) event) (sym e) ended.1, fail.0, fail.1)
@@ -225,7 +226,7 @@ module _ (alternating : WellFormedIsAlternating) (unique : EndsAreUnique) (funct
         apart : {j k : ℕ} → (j < k) ⊎ (k < j) → j ≢ k
         apart differ e = elim differ [ inl l ↦ omega (arith, e, l) | inr l ↦ omega (arith, e, l) ]
 
-        stays : (m process : ℕ) (key : ℤ) (call : Call) → IsOpen h m process key call → IsOpen (with_event h event) m process key call
+        stays : (m process : ℕ) (key : Item) (call : Call) → IsOpen h m process key call → IsOpen (with_event h event) m process key call
         stays m process key call was = open_kept h event m process key call (λ _ b reply ok. no_ok b reply (sym is ∙ ok)) (λ _ b fail. no_fail b (sym is ∙ fail)) was
           where
             no_ok : (b : Name) (reply : Reply) → Info n ≡ Ok b reply → ⊥

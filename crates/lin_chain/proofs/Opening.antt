@@ -1,7 +1,8 @@
 -- Which operations are open, and which have crashed, after one more event.
-use Rattle.std.proofs.Common.{◌≡◌, ◌≢◌, ◌<◌, ℕ, ℤ, Bool, List, length, ◌⊎◌, Some, inl, inr, sym, ap, ◌∙◌, subst, arith, slice_get}
+use Rattle.std.proofs.Common.{◌≡◌, ◌≢◌, ◌<◌, ℕ, Bool, List, length, ◌⊎◌, Some, inl, inr, sym, ap, ◌∙◌, subst, arith, slice_get}
 use Rattle.std.proofs.lemmas.Bool.{cases_order}
 use Rattle.std.proofs.lemmas.Option.{slice_get_within}
+use Rattle.lin_events.specs.declared.items.Item.{Item}
 use Rattle.lin_events.specs.declared.events.Event.{Event}
 use Rattle.lin_events.specs.declared.events.Body.TheVariants.{Invoke, Ok, Fail, Info}
 use Rattle.lin_events.specs.declared.calls.Call.{Call}
@@ -56,7 +57,7 @@ module _ (h : List Event) (event : Event) where
   crashed_kept at crashed = (crashed.0, crashed.1, end_kept at crashed.0 crashed.1 crashed.2, crashed.3, crashed.4)
 
   -- what is open stays so, but for what the event ends
-  pub open_kept : (at process : ℕ) (key : ℤ) (call : Call)
+  pub open_kept : (at process : ℕ) (key : Item) (call : Call)
       → (IsEnd (with_event h event) at (length h) event → (name : Name) (reply : Reply) → event.body ≡ Ok name reply → ⊥)
       → (IsEnd (with_event h event) at (length h) event → (name : Name) → event.body ≡ Fail name → ⊥)
       → IsOpen h at process key call → IsOpen (with_event h event) at process key call
@@ -76,7 +77,7 @@ module _ (h : List Event) (event : Event) where
       here end ending e new = subst (λ k. IsEnd (with_event h event) at k event) new.0 (subst (λ x. IsEnd (with_event h event) at end x) (sym new.1) e)
 
   -- what is open then was so, or is invoked by the event
-  pub open_back : (at process : ℕ) (key : ℤ) (call : Call) → IsOpen (with_event h event) at process key call
+  pub open_back : (at process : ℕ) (key : Item) (call : Call) → IsOpen (with_event h event) at process key call
       → IsOpen h at process key call ⊎ ((at ≡ length h) × (event ≡ record { process = process; key = key; body = Invoke call }))
   open_back at process key call open' = elim (get_cases h event at _ open'.begins) [
     | inr new ↦ inr new
@@ -103,7 +104,7 @@ module _ (h : List Event) (event : Event) where
       no_fail = λ failed. no_end_of_last failed.0 failed.1 failed.2;
     }
 
-    pub open_beside : (at process : ℕ) (key : ℤ) (other : Call) → IsOpen h at process key other → IsOpen (with_event h event) at process key other
+    pub open_beside : (at process : ℕ) (key : Item) (other : Call) → IsOpen h at process key other → IsOpen (with_event h event) at process key other
     open_beside at process key other open' = open_kept at process key other (λ _ name reply ok. no_ok name reply (sym is ∙ ok)) (λ _ name fail. no_fail name (sym is ∙ fail)) open'
       where
         no_ok : (name : Name) (reply : Reply) → Invoke call ≡ Ok name reply → ⊥
@@ -122,7 +123,7 @@ module _ (h : List Event) (event : Event) where
         no_info name e = cc
 
   -- a completion ends one operation, which was open
-  module _ (unique : EndsAreUnique) (functions : ℤ → Name → Bool) (alternates : IsAlternating functions (with_event h event)) (i : ℕ) (ends : IsEnd (with_event h event) i (length h) event) where
+  module _ (unique : EndsAreUnique) (functions : Item → Name → Bool) (alternates : IsAlternating functions (with_event h event)) (i : ℕ) (ends : IsEnd (with_event h event) i (length h) event) where
     none_before : (end : ℕ) (ending : Event) → IsEnd h i end ending → ⊥
     none_before end ending e =
         let one = unique (with_event h event) i end (length h) ending event (end_kept i end ending e) ends in
@@ -144,7 +145,7 @@ module _ (h : List Event) (event : Event) where
         begun (inr new) = let later = ends.later in absurd (omega (arith, new.0))
 
     -- it is the one operation of its process that was open
-    pub one_of_process : (at : ℕ) (key : ℤ) (call : Call) → IsOpen h at event.process key call → at ≡ i
+    pub one_of_process : (at : ℕ) (key : Item) (call : Call) → IsOpen h at event.process key call → at ≡ i
     one_of_process at key call open' = elim (cases_order at i) [
       | inl same ↦ same
       | inr differ ↦ elim differ [
@@ -176,7 +177,7 @@ module _ (h : List Event) (event : Event) where
     ]
 
     -- the others stay open, and their crashes are those from before
-    pub others_open : (at process : ℕ) (key : ℤ) (call : Call) → at ≢ i → IsOpen h at process key call → IsOpen (with_event h event) at process key call
+    pub others_open : (at process : ℕ) (key : Item) (call : Call) → at ≢ i → IsOpen h at process key call → IsOpen (with_event h event) at process key call
     others_open at process key call other open' = open_kept at process key call (λ e _ _ _. other (one_ended at e)) (λ e _ _. other (one_ended at e)) open'
 
     pub others_crashed : (at : ℕ) → at ≢ i → IsCrashed (with_event h event) at → IsCrashed h at
@@ -186,7 +187,7 @@ module _ (h : List Event) (event : Event) where
     ]
 
     -- what was open before and is no invocation
-    pub open_before : (name : Name) → Completes event.body name → (at process : ℕ) (key : ℤ) (call : Call) → IsOpen (with_event h event) at process key call → IsOpen h at process key call
+    pub open_before : (name : Name) → Completes event.body name → (at process : ℕ) (key : Item) (call : Call) → IsOpen (with_event h event) at process key call → IsOpen h at process key call
     open_before name completes at process key call open' = elim (open_back at process key call open') [
       | inl old ↦ old
       | inr new ↦ absurd (subst (λ b. Completes b name) (ap (λ (e : Event). e.body) new.1) completes)

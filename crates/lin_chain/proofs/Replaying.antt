@@ -1,9 +1,10 @@
 -- What is kept of the first events, after each of the steps that change it.
-use Rattle.std.proofs.Common.{◌≡◌, ◌+◌, ◌-◌, ◌*◌, ◌<◌, ◌≤◌, ℕ, ℤ, zero, suc, Bool, List, [], ◌∷◌, ◌++◌, length, Option, Some, None, inl, inr, refl, sym, ap, ◌∙◌, subst, arith, get_or, slice_get, take, All, AllPairs, Vec, Global, add-one}
+use Rattle.std.proofs.Common.{◌≡◌, ◌+◌, ◌-◌, ◌*◌, ◌<◌, ◌≤◌, ℕ, zero, suc, Bool, List, [], ◌∷◌, ◌++◌, length, Option, Some, None, inl, inr, refl, sym, ap, ◌∙◌, subst, arith, get_or, slice_get, take, All, AllPairs, Vec, Global, add-one}
 use Rattle.std.proofs.lemmas.Bool.{cases_lt, cases_order}
 use Rattle.std.proofs.lemmas.List.{length-take, length-take-le, get_or-take, take_all, take-take, take-append-le, length_push, append-nil}
 use Rattle.std.proofs.lemmas.List.Quantifiers.{all_pairs_push}
 use Rattle.std.proofs.lemmas.Option.{slice_get_within, slice_get-get_or, get_or_from_slice_get}
+use Rattle.lin_events.specs.declared.items.Item.{Item}
 use Rattle.lin_events.specs.declared.events.Event.{Event}
 use Rattle.lin_events.specs.declared.calls.Name.{Name}
 use Rattle.lin_events.specs.Operations.{IsEvent}
@@ -319,7 +320,7 @@ pub crashed_listed : (a : Replay) (h : List Event) → IsReplay a h → All (λ 
 crashed_listed a h right k d inside = (right.checkpoints k (get_or a.checkpoints.items k d) (slice_get-get_or a.checkpoints.items k d inside)).crashed
 
 -- one event more
-pub next_event : BeginningsAreWellFormed → (functions : ℤ → Name → Bool) (h : List Event) (n : ℕ) (event : Event) (pending : List Open) → IsWellFormed functions h → IsEvent h n event → IsPending (take n h) pending
+pub next_event : BeginningsAreWellFormed → (functions : Item → Name → Bool) (h : List Event) (n : ℕ) (event : Event) (pending : List Open) → IsWellFormed functions h → IsEvent h n event → IsPending (take n h) pending
     → IsNextEvent functions (take n h) pending n event
 next_event beginnings functions h n event pending well there opened = record {
   place = length-take-le n h (let inside = slice_get_within h n event there in omega arith);

@@ -1,5 +1,6 @@
 //! One object's frontiers over its events, kept right while the events are edited.
-ghost use Rattle.std.specs.Prelude.{◌≡◌, ◌≢◌, ◌≤◌, ◌<◌, ◌+◌, ◌-◌, ◌*◌, ◌/◌, ◌⊎◌, ℕ, ℤ, Bool, List, All, AllPairs, IfOk, OnOk, IsOk, MatchOption, length, take, IsTrue, OnErr, ◌↔◌, Ok, Err, None, Some, min, true, false, if◌then◌else◌};
+ghost use Rattle.std.specs.Prelude.{◌≡◌, ◌≢◌, ◌≤◌, ◌<◌, ◌+◌, ◌-◌, ◌*◌, ◌/◌, ◌⊎◌, ℕ, Bool, List, All, AllPairs, IfOk, OnOk, IsOk, MatchOption, length, take, IsTrue, OnErr, ◌↔◌, Ok, Err, None, Some, min, true, false, if◌then◌else◌};
+ghost use Rattle.lin_events.specs.declared.items.Item.{Item as ItemOf};
 ghost use Rattle.lin_events.specs.declared.calls.Name.{Name as NameOf};
 ghost use Rattle.lin_events.specs.declared.events.Event.{Event as EventOf};
 ghost use Rattle.lin_events.specs.Operations.{IsEvent};
@@ -209,7 +210,7 @@ impl Chain {
     ) -> Result<End, OutOfMemory>
         requires right { IsRight self.old (events_at events.now picks.now) }
         requires inside { All (λ at. at < length events.now) picks.now }
-        requires well_formed { (functions : ℤ → NameOf → Bool) × IsWellFormed functions (events_at events.now picks.now) }
+        requires well_formed { (functions : ItemOf → NameOf → Bool) × IsWellFormed functions (events_at events.now picks.now) }
         ensures kind { kind_in self.new ≡ kind_in self.old }
         ensures end { IfOk result (IsEndOf (kind_in self.old) budget (events_at events.now picks.now)) }
         ensures told { IfOk result (λ end. told_in self.new (length picks.now) ≡ end) }
@@ -249,7 +250,7 @@ impl Chain {
     ) -> Result<(), OutOfMemory>
         requires right { IsRight self.old (events_at events.now picks.now) }
         requires inside { All (λ at. at < length events.now) picks.now }
-        requires well_formed { (functions : ℤ → NameOf → Bool) × IsWellFormed functions (events_at events.now picks.now) }
+        requires well_formed { (functions : ItemOf → NameOf → Bool) × IsWellFormed functions (events_at events.now picks.now) }
         requires retried { IsFor budget self.old }
         ensures kind { kind_in self.new ≡ kind_in self.old }
         ensures right { IsRight self.new (events_at events.now picks.now) }
@@ -282,7 +283,7 @@ impl Chain {
     ) -> Result<(), OutOfMemory>
         requires right { IsRight self.old (events_at events.now picks.now) }
         requires inside { All (λ at. at < length events.now) picks.now }
-        requires well_formed { (functions : ℤ → NameOf → Bool) × IsWellFormed functions (events_at events.now picks.now) }
+        requires well_formed { (functions : ItemOf → NameOf → Bool) × IsWellFormed functions (events_at events.now picks.now) }
         requires retried { IsFor budget self.old }
         ensures kind { kind_in self.new ≡ kind_in self.old }
         ensures right { IsRight self.new (events_at events.now picks.now) }
@@ -311,7 +312,7 @@ impl Chain {
     ) -> Result<(), OutOfMemory>
         requires right { IsRight self.old (events_at events.now picks.now) }
         requires inside { All (λ at. at < length events.now) picks.now }
-        requires well_formed { (functions : ℤ → NameOf → Bool) × IsWellFormed functions (events_at events.now picks.now) }
+        requires well_formed { (functions : ItemOf → NameOf → Bool) × IsWellFormed functions (events_at events.now picks.now) }
         requires retried { IsFor budget self.old }
         ensures kind { kind_in self.new ≡ kind_in self.old }
         ensures right { IsRight self.new (events_at events.now picks.now) }
@@ -347,7 +348,7 @@ impl Chain {
     ) -> Result<(), OutOfMemory>
         requires right { IsRight self.old (events_at events.now picks.now) }
         requires inside { All (λ at. at < length events.now) picks.now }
-        requires well_formed { (functions : ℤ → NameOf → Bool) × IsWellFormed functions (events_at events.now picks.now) }
+        requires well_formed { (functions : ItemOf → NameOf → Bool) × IsWellFormed functions (events_at events.now picks.now) }
         requires retried { IsFor budget self.old }
         ensures kind { kind_in self.new ≡ kind_in self.old }
         ensures right { IsRight self.new (events_at events.now picks.now) }
@@ -379,7 +380,7 @@ impl Chain {
     ) -> Result<bool, OutOfMemory>
         requires right { IsRight self.old (events_at events.now picks.now) }
         requires inside { All (λ at. at < length events.now) picks.now }
-        requires well_formed { (functions : ℤ → NameOf → Bool) × IsWellFormed functions (events_at events.now picks.now) }
+        requires well_formed { (functions : ItemOf → NameOf → Bool) × IsWellFormed functions (events_at events.now picks.now) }
         requires retried { IsFor budget self.old }
         ensures kind { kind_in self.new ≡ kind_in self.old }
         ensures right { IsRight self.new (events_at events.now picks.now) }
@@ -448,7 +449,7 @@ impl Chain {
         requires alive { end_in self.old ≡ End.Alive }
         requires right { IsRight self.old (events_at events.now picks.now) }
         requires inside { All (λ at. at < length events.now) picks.now }
-        requires well_formed { (functions : ℤ → NameOf → Bool) × IsWellFormed functions (events_at events.now picks.now) }
+        requires well_formed { (functions : ItemOf → NameOf → Bool) × IsWellFormed functions (events_at events.now picks.now) }
         ensures kind { kind_in self.new ≡ kind_in self.old }
         ensures right { IsRight self.new (events_at events.now picks.now) }
         ensures no_less { ready_count self.old ≤ ready_count self.new }
@@ -484,7 +485,7 @@ impl Chain {
         requires right { (h : List EventOf) × IsRight self.old h }
         requires fits { self.old.replay.reached < usize.MAX }
         ensures kind { kind_in self.new ≡ kind_in self.old }
-        ensures right { (functions : ℤ → NameOf → Bool) (h : List EventOf) → IsWellFormed functions h → IsEvent h self.old.replay.reached event.now → IsRight self.old h → IsRight self.new h }
+        ensures right { (functions : ItemOf → NameOf → Bool) (h : List EventOf) → IsWellFormed functions h → IsEvent h self.old.replay.reached event.now → IsRight self.old h → IsRight self.new h }
         ensures ok { OnOk result (ready_count self.new ≡ self.old.replay.reached + 1) }
         ensures err { OnErr result ((end_in self.new ≡ End.Alive) × (ready_count self.new ≡ ready_count self.old)) }
         ensures found { IsFrom self.old.replay.reached (end_in self.new) }
@@ -540,7 +541,7 @@ impl Chain {
     ) -> Result<Refutation, RefuteFault>
         requires right { IsRight self.now (events_at events.now picks.now) }
         requires inside { All (λ at. at < length events.now) picks.now }
-        requires well_formed { (functions : ℤ → NameOf → Bool) × IsWellFormed functions (events_at events.now picks.now) }
+        requires well_formed { (functions : ItemOf → NameOf → Bool) × IsWellFormed functions (events_at events.now picks.now) }
         ensures refuted { IfOk result (λ refutation. (at : ℕ) × (told_in self.now (length picks.now) ≡ End.Dead at) × IsRefutation (take (at + 1) (events_at events.now picks.now)) (kind_in self.now) (sets_of refutation)) }
         ensures not_dead { (result ≡ Err RefuteFault.NotDead) ↔ ((at : ℕ) → told_in self.now (length picks.now) ≡ End.Dead at → ⊥) }
         ensures too_large { result ≡ Err RefuteFault.TooLarge → (n : ℕ) × IsOver (start_of (kind_in self.now)) (StepOf (kind_in self.now)) (take n (events_at events.now picks.now)) budget }

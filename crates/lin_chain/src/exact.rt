@@ -1,5 +1,6 @@
 //! All configurations after the first events of an object.
-ghost use Rattle.std.specs.Prelude.{◌≡◌, ◌+◌, ℕ, ℤ, Bool, List, All, IfOk, IfNone, IfSome, Ok, None, Some, length, take};
+ghost use Rattle.std.specs.Prelude.{◌≡◌, ◌+◌, ℕ, Bool, List, All, IfOk, IfNone, IfSome, Ok, None, Some, length, take};
+ghost use Rattle.lin_events.specs.declared.items.Item.{Item as ItemOf};
 ghost use Rattle.lin_events.specs.declared.calls.Name.{Name as NameOf};
 ghost use Rattle.lin_events.specs.declared.events.Event.{Event as EventOf};
 ghost use Rattle.lin_events.specs.Operations.{IsEvent};
@@ -53,10 +54,10 @@ impl Exact {
         budget: u32,
     ) -> Result<Taken, OutOfMemory>
         ensures kind { self.new.object.kind ≡ self.old.object.kind }
-        ensures next { result ≡ Ok Taken.Next → (functions : ℤ → NameOf → Bool) (h : List EventOf) → IsWellFormed functions h → IsEvent h at event.now → IsExact self.old h at → IsExact self.new h (at + 1) }
-        ensures empty { result ≡ Ok Taken.Empty → (functions : ℤ → NameOf → Bool) (h : List EventOf) → IsWellFormed functions h → IsEvent h at event.now → IsExact self.old h at
+        ensures next { result ≡ Ok Taken.Next → (functions : ItemOf → NameOf → Bool) (h : List EventOf) → IsWellFormed functions h → IsEvent h at event.now → IsExact self.old h at → IsExact self.new h (at + 1) }
+        ensures empty { result ≡ Ok Taken.Empty → (functions : ItemOf → NameOf → Bool) (h : List EventOf) → IsWellFormed functions h → IsEvent h at event.now → IsExact self.old h at
             → IsLinearizableAs self.old.object.kind (take (at + 1) h) → ⊥ }
-        ensures over { result ≡ Ok Taken.Over → (functions : ℤ → NameOf → Bool) (h : List EventOf) → IsWellFormed functions h → IsEvent h at event.now → IsExact self.old h at
+        ensures over { result ≡ Ok Taken.Over → (functions : ItemOf → NameOf → Bool) (h : List EventOf) → IsWellFormed functions h → IsEvent h at event.now → IsExact self.old h at
             → IsOver (start_of self.old.object.kind) (StepOf self.old.object.kind) (take (at + 1) h) budget }
         ensures before { result ≡ Ok Taken.OverBefore → ⊥ }
     {

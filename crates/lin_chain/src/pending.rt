@@ -1,5 +1,6 @@
 //! The open operations of one object, in an order in which a checkpoint has to keep only few of them.
-ghost use Rattle.std.specs.Prelude.{ℕ, ◌≡◌, ◌≤◌, ◌<◌, ◌++◌, [], ℤ, Bool, List, OnOk, OnErr, IfSome, IfNone, IsTrue, All, Some, length, take, drop, slice_get, vec_len, vec_capacity, ◌+◌, true, swap, slice_set};
+ghost use Rattle.std.specs.Prelude.{ℕ, ◌≡◌, ◌≤◌, ◌<◌, ◌++◌, [], Bool, List, OnOk, OnErr, IfSome, IfNone, IsTrue, All, Some, length, take, drop, slice_get, vec_len, vec_capacity, ◌+◌, true, swap, slice_set};
+ghost use Rattle.lin_events.specs.declared.items.Item.{Item as ItemOf};
 ghost use Rattle.lin_events.specs.declared.calls.Name.{Name as NameOf};
 ghost use Rattle.lin_events.specs.declared.events.Event.{Event as EventOf};
 ghost use Rattle.lin_frontier.specs.declared.pending.Open.{Open as OpenOf};
@@ -80,7 +81,7 @@ impl Pending {
     /// Takes one more event in: its operation is open from then on, or no longer, or has crashed.
     pub(crate) fn take_in(&mut self, at: usize, event: &Event)
         requires { vec_len self.old.operations < vec_capacity self.old.operations }
-        ensures open { (functions : ℤ → NameOf → Bool) (h : List EventOf) → IsNextEvent functions h self.old.operations.items at event.now → IsPending (with_event h event.now) self.new.operations.items }
+        ensures open { (functions : ItemOf → NameOf → Bool) (h : List EventOf) → IsNextEvent functions h self.old.operations.items at event.now → IsPending (with_event h event.now) self.new.operations.items }
         ensures more { self.old.crashed ≤ self.new.crashed }
         ensures front { take self.old.crashed self.new.operations.items ≡ take self.old.crashed self.old.operations.items }
     {

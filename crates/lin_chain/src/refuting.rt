@@ -1,6 +1,7 @@
 //! Refutations of histories that have no legal order: all configurations of each beginning.
-ghost use Rattle.std.specs.Prelude.{◌≡◌, ◌+◌, ◌<◌, ℕ, ℤ, Bool, List, All, IfOk, OnOk, Ok, None, Some, length, take};
+ghost use Rattle.std.specs.Prelude.{◌≡◌, ◌+◌, ◌<◌, ℕ, Bool, List, All, IfOk, OnOk, Ok, None, Some, length, take};
 ghost use Rattle.std.specs.Map.{keys_of};
+ghost use Rattle.lin_events.specs.declared.items.Item.{Item as ItemOf};
 ghost use Rattle.lin_events.specs.declared.calls.Name.{Name as NameOf};
 ghost use Rattle.lin_events.specs.declared.events.Event.{Event as EventOf};
 ghost use Rattle.lin_events.specs.Operations.{IsEvent};
@@ -86,10 +87,10 @@ impl Builder {
         budget: u32,
     ) -> Result<Taken, OutOfMemory>
         ensures kind { self.new.exact.object.kind ≡ self.old.exact.object.kind }
-        ensures next { result ≡ Ok Taken.Next → (functions : ℤ → NameOf → Bool) (h : List EventOf) → IsWellFormed functions h → IsEvent h at event.now → AreBuilt self.old h at → AreBuilt self.new h (at + 1) }
-        ensures empty { result ≡ Ok Taken.Empty → (functions : ℤ → NameOf → Bool) (h : List EventOf) → IsWellFormed functions h → IsEvent h at event.now → AreBuilt self.old h at
+        ensures next { result ≡ Ok Taken.Next → (functions : ItemOf → NameOf → Bool) (h : List EventOf) → IsWellFormed functions h → IsEvent h at event.now → AreBuilt self.old h at → AreBuilt self.new h (at + 1) }
+        ensures empty { result ≡ Ok Taken.Empty → (functions : ItemOf → NameOf → Bool) (h : List EventOf) → IsWellFormed functions h → IsEvent h at event.now → AreBuilt self.old h at
             → IsLinearizableAs self.old.exact.object.kind (take (at + 1) h) → ⊥ }
-        ensures over { result ≡ Ok Taken.Over → (functions : ℤ → NameOf → Bool) (h : List EventOf) → IsWellFormed functions h → IsEvent h at event.now → AreBuilt self.old h at
+        ensures over { result ≡ Ok Taken.Over → (functions : ItemOf → NameOf → Bool) (h : List EventOf) → IsWellFormed functions h → IsEvent h at event.now → AreBuilt self.old h at
             → IsOver (start_of self.old.exact.object.kind) (StepOf self.old.exact.object.kind) (take (at + 1) h) budget }
         ensures before { result ≡ Ok Taken.OverBefore → ⊥ }
     {
@@ -115,7 +116,7 @@ pub(crate) fn refutation_of(
     requires dead { IsDeadAt kind (events_at events.now picks.now) dead }
     requires place { dead < length picks.now }
     requires inside { All (λ at. at < length events.now) picks.now }
-    requires well_formed { (functions : ℤ → NameOf → Bool) × IsWellFormed functions (events_at events.now picks.now) }
+    requires well_formed { (functions : ItemOf → NameOf → Bool) × IsWellFormed functions (events_at events.now picks.now) }
     ensures refuted { (refutation : Refutation) → result ≡ Ok (Some refutation) → IsRefutation (take (dead + 1) (events_at events.now picks.now)) kind (sets_of refutation) }
     ensures over { result ≡ Ok None → (n : ℕ) × IsOver (start_of kind) (StepOf kind) (take n (events_at events.now picks.now)) budget }
 {

@@ -1,5 +1,6 @@
 //! The frontiers that are kept of an object's events: the present one, and one at each 64th place.
-ghost use Rattle.std.specs.Prelude.{◌≡◌, ◌≢◌, ◌≤◌, ◌<◌, ◌+◌, ◌*◌, [], ℕ, ℤ, Bool, List, None, Some, All, IfOk, IfSome, IfNone, OnOk, OnErr, length, take, min, vec_len, vec_capacity};
+ghost use Rattle.std.specs.Prelude.{◌≡◌, ◌≢◌, ◌≤◌, ◌<◌, ◌+◌, ◌*◌, [], ℕ, Bool, List, None, Some, All, IfOk, IfSome, IfNone, OnOk, OnErr, length, take, min, vec_len, vec_capacity};
+ghost use Rattle.lin_events.specs.declared.items.Item.{Item as ItemOf};
 ghost use Rattle.lin_events.specs.declared.calls.Name.{Name as NameOf};
 ghost use Rattle.lin_events.specs.declared.events.Event.{Event as EventOf};
 ghost use Rattle.lin_events.specs.Meters.{ticked};
@@ -256,12 +257,12 @@ impl Replay {
         ensures object { self.new.object ≡ self.old.object }
         ensures next { result ≡ Ok Taken.Next → self.new.reached ≡ self.old.reached + 1 }
         ensures stays { result ≢ Ok Taken.Next → self.new ≡ self.old }
-        ensures right { (functions : ℤ → NameOf → Bool) (h : List EventOf) → IsWellFormed functions h → IsEvent h self.old.reached event.now → IsPrepared self.old h → IsReplay self.new h }
-        ensures empty { result ≡ Ok Taken.Empty → (functions : ℤ → NameOf → Bool) (h : List EventOf) → IsWellFormed functions h → IsEvent h self.old.reached event.now → IsPrepared self.old h
+        ensures right { (functions : ItemOf → NameOf → Bool) (h : List EventOf) → IsWellFormed functions h → IsEvent h self.old.reached event.now → IsPrepared self.old h → IsReplay self.new h }
+        ensures empty { result ≡ Ok Taken.Empty → (functions : ItemOf → NameOf → Bool) (h : List EventOf) → IsWellFormed functions h → IsEvent h self.old.reached event.now → IsPrepared self.old h
             → IsLinearizableAs self.old.object.kind (take (self.old.reached + 1) h) → ⊥ }
-        ensures over { result ≡ Ok Taken.Over → (functions : ℤ → NameOf → Bool) (h : List EventOf) → IsWellFormed functions h → IsEvent h self.old.reached event.now → IsPrepared self.old h
+        ensures over { result ≡ Ok Taken.Over → (functions : ItemOf → NameOf → Bool) (h : List EventOf) → IsWellFormed functions h → IsEvent h self.old.reached event.now → IsPrepared self.old h
             → IsOver (start_of self.old.object.kind) (StepOf self.old.object.kind) (take (self.old.reached + 1) h) budget }
-        ensures before { result ≡ Ok Taken.OverBefore → (functions : ℤ → NameOf → Bool) (h : List EventOf) → IsWellFormed functions h → IsEvent h self.old.reached event.now → IsPrepared self.old h
+        ensures before { result ≡ Ok Taken.OverBefore → (functions : ItemOf → NameOf → Bool) (h : List EventOf) → IsWellFormed functions h → IsEvent h self.old.reached event.now → IsPrepared self.old h
             → (0 < self.old.reached) × IsOver (start_of self.old.object.kind) (StepOf self.old.object.kind) (take self.old.reached h) budget }
         ensures steps { meter.new.steps ≡ ticked meter.old.steps 1 }
         ensures scans { meter.new.scans ≡ meter.old.scans }
@@ -314,7 +315,7 @@ impl Replay {
         requires fits { self.old.reached < usize.MAX }
         ensures others { OnOk result (self.new ≡ record self.old { reached = self.old.reached + 1; present = self.new.present; pending = self.new.pending }) }
         ensures held { OnOk result ((frontier : Members) → IsCurrent self.old.present self.old.checkpoints.items frontier → self.new.present ≡ Some frontier) }
-        ensures open { OnOk result ((functions : ℤ → NameOf → Bool) (h : List EventOf) → IsNextEvent functions h self.old.pending.operations.items self.old.reached event.now
+        ensures open { OnOk result ((functions : ItemOf → NameOf → Bool) (h : List EventOf) → IsNextEvent functions h self.old.pending.operations.items self.old.reached event.now
             → IsPending (with_event h event.now) self.new.pending.operations.items) }
         ensures more { OnOk result (self.old.pending.crashed ≤ self.new.pending.crashed) }
         ensures front { OnOk result (take self.old.pending.crashed self.new.pending.operations.items ≡ take self.old.pending.crashed self.old.pending.operations.items) }

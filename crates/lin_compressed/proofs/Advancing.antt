@@ -1,5 +1,6 @@
 -- One more event: what is kept of the members, alone or with overwritten updates.
-use Rattle.std.proofs.Common.{◌≡◌, ℕ, ℤ, Bool, true, List, map, Contains, inl, inr, refl, sym, ap, subst, ◌∙◌, Option}
+use Rattle.std.proofs.Common.{◌≡◌, ℕ, Bool, true, List, map, Contains, inl, inr, refl, sym, ap, subst, ◌∙◌, Option}
+use Rattle.lin_events.specs.declared.items.Item.{Item}
 use Rattle.lin_events.specs.declared.calls.Call.{Call}
 use Rattle.lin_events.specs.declared.calls.Name.{Name}
 use Rattle.lin_events.specs.declared.calls.Reply.{Reply}
@@ -42,7 +43,7 @@ thinned_alone {S} observes pending found out t m there =
       | inr two ↦ two.2.from m (two.3.from m (two.4.from m there))
     ])
 
-module _ {S : Type 0} (start : S) (step : S → Call → S → Reply → Type 0) (observes : Call → Bool) (laws : Laws start step) (functions : ℤ → Name → Bool) (h : List Event) (before : List Open) (at : ℕ) (event : Event)
+module _ {S : Type 0} (start : S) (step : S → Call → S → Reply → Type 0) (observes : Call → Bool) (laws : Laws start step) (functions : Item → Name → Bool) (h : List Event) (before : List Open) (at : ℕ) (event : Event)
     (next : IsNextEvent functions h before at event) (pending : List Open) (opened : IsPending (with_event h event) pending) (observing : IsObserving step observes)
     (nodes : List (ℕ × (Placed × Option ℕ))) (members found out : List (Member S × Path)) where
   pub alone_advances : ThinningLaw start step → (overwriting : Bool) → AreAlone overwriting members → IsNextOf step observes event.process event.body before pending nodes members found → IsThinned observes pending (map alone_of found) out

@@ -1,6 +1,7 @@
 -- After an ok the members still lead to all configurations.
-use Rattle.std.proofs.Common.{◌≡◌, ◌⊎◌, ◌≢◌, ℕ, ℤ, Bool, true, false, List, Contains, IsTrue, map, inl, inr, refl, sym, ap, subst, ◌∙◌, Option, true≢false}
+use Rattle.std.proofs.Common.{◌≡◌, ◌⊎◌, ◌≢◌, ℕ, Bool, true, false, List, Contains, IsTrue, map, inl, inr, refl, sym, ap, subst, ◌∙◌, Option, true≢false}
 use Rattle.std.proofs.lemmas.List.Elements.{All-contains, Contains-append_left, Contains-append_right}
+use Rattle.lin_events.specs.declared.items.Item.{Item}
 use Rattle.lin_events.specs.declared.calls.Call.{Call}
 use Rattle.lin_events.specs.declared.calls.Name.{Name}
 use Rattle.lin_events.specs.declared.calls.Reply.{Reply}
@@ -34,7 +35,7 @@ use Rattle.lin_members.specs.lemmas.Pruned.{copy_dominates, watching_from, watch
 use Rattle.lin_compressed.proofs.Ahead.{no_more}
 use Rattle.lin_compressed.proofs.Returned.{passes}
 
-module _ (observes : Call → Bool) (functions : ℤ → Name → Bool) (h : List Event) (event : Event) (name : Name) (reply : Reply) (body : event.body ≡ Ok name reply)
+module _ (observes : Call → Bool) (functions : Item → Name → Bool) (h : List Event) (event : Event) (name : Name) (reply : Reply) (body : event.body ≡ Ok name reply)
     (unique : EndsAreUnique) (alternates : IsAlternating functions (with_event h event)) (pending : List Open) (opened : IsPending (with_event h event) pending) where
   -- no process crashes by an ok
   crashed_then : (q : ℕ) → HasCrashed (with_event h event) q → HasCrashed h q
@@ -53,7 +54,7 @@ module _ (observes : Call → Bool) (functions : ℤ → Name → Bool) (h : Lis
   watches q w = watching_from functions (with_event h event) pending opened unique alternates observes q w
 
   -- an operation of another process is open still
-  pub other_open : (at q : ℕ) (key : ℤ) (call : Call) → q ≢ event.process → IsOpen h at q key call → (o : Open) × Contains pending o × (o.at ≡ at) × (o.process ≡ q) × (o.call ≡ call)
+  pub other_open : (at q : ℕ) (key : Item) (call : Call) → q ≢ event.process → IsOpen h at q key call → (o : Open) × Contains pending o × (o.at ≡ at) × (o.process ≡ q) × (o.call ≡ call)
   other_open at q key call other is = open_pending (with_event h event) pending opened at q key call ((passes observes functions h event name reply body unique alternates pending opened).opens at q key call other is)
 
   -- the crashed operation of the process has the call of the pending one
@@ -199,7 +200,7 @@ module _ (observes : Call → Bool) (functions : ℤ → Name → Bool) (h : Lis
 
     module _ (before : List Open) (was : IsPending h before) (alternates_before : IsAlternating functions h) (o : Open) (o_there : Contains before o) (o_of : o.process ≡ event.process) where
       -- the process has no other open operation
-      pub same_call : (at : ℕ) (key : ℤ) (call : Call) → IsOpen h at event.process key call → call ≡ o.call
+      pub same_call : (at : ℕ) (key : Item) (call : Call) → IsOpen h at event.process key call → call ≡ o.call
       same_call at key call is =
           let s = was.sound o o_there in
           let own = subst (λ q. IsOpen h o.at q s.0 o.call) o_of s.1 in
@@ -253,7 +254,7 @@ module _ (observes : Call → Bool) (functions : ℤ → Name → Bool) (h : Lis
               (taken_to members r.made out (subst (λ q. IsMade (λ x. Contains x.0.placed (q, reply)) (rest_of observes pending q) members r.made) o_of r.taken)
               (λ n within. subst (λ l. Contains l n) (sym r.both) (Contains-append_right r.found r.made n within)) k.0 k.1)
 
-          own_call : (b : Bool) → observes o.call ≡ b → (at : ℕ) (key : ℤ) (call : Call) → IsOpen h at event.process key call → observes call ≡ b
+          own_call : (b : Bool) → observes o.call ≡ b → (at : ℕ) (key : Item) (call : Call) → IsOpen h at event.process key call → observes call ≡ b
           own_call b e at key call is = ap observes (same_call at key call is) ∙ e
 
           -- what an update makes of a member at once

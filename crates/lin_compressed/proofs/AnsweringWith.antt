@@ -1,5 +1,6 @@
 -- After an ok the members still lead to all configurations, with overwritten updates.
-use Rattle.std.proofs.Common.{◌≡◌, ◌≢◌, ◌⊎◌, ℕ, ℤ, ◌<◌, Bool, true, false, List, length, Contains, inl, inr, refl, sym, ap, subst, ◌∙◌, arith, Option, true≢false}
+use Rattle.std.proofs.Common.{◌≡◌, ◌≢◌, ◌⊎◌, ℕ, ◌<◌, Bool, true, false, List, length, Contains, inl, inr, refl, sym, ap, subst, ◌∙◌, arith, Option, true≢false}
+use Rattle.lin_events.specs.declared.items.Item.{Item}
 use Rattle.lin_events.specs.declared.calls.Call.{Call}
 use Rattle.lin_events.specs.declared.calls.Name.{Name}
 use Rattle.lin_events.specs.declared.calls.Reply.{Reply}
@@ -30,30 +31,30 @@ use Rattle.lin_frontier.specs.lemmas.Inserting.{absent_from, insert_is, kept_by,
 use Rattle.lin_members.specs.lemmas.Pruned.{copy_dominates}
 use Rattle.lin_compressed.proofs.Returned.{passes, was_open}
 
-module _ (observes : Call → Bool) (functions : ℤ → Name → Bool) (h : List Event) (event : Event) (name : Name) (reply : Reply) (body : event.body ≡ Ok name reply)
+module _ (observes : Call → Bool) (functions : Item → Name → Bool) (h : List Event) (event : Event) (name : Name) (reply : Reply) (body : event.body ≡ Ok name reply)
     (unique : EndsAreUnique) (alternates : IsAlternating functions (with_event h event)) (pending : List Open) (opened : IsPending (with_event h event) pending)
     {S : Type 0} (start : S) (step : S → Call → S → Reply → Type 0) (over : IsOverwriting start step observes) (before : List Open) (was : IsPending h before) (alternates_before : IsAlternating functions h)
     (o : Open) (o_there : Contains before o) (o_of : o.process ≡ event.process) where
   abbrev g : List Event
   g = with_event h event
 
-  own_call : (at : ℕ) (key : ℤ) (call : Call) → IsOpen h at event.process key call → call ≡ o.call
+  own_call : (at : ℕ) (key : Item) (call : Call) → IsOpen h at event.process key call → call ≡ o.call
   own_call = same_call observes functions h event name reply body unique alternates pending opened step before was alternates_before o o_there o_of
 
-  own_place : (at : ℕ) (key : ℤ) (call : Call) → IsOpen h at event.process key call → at ≡ o.at
+  own_place : (at : ℕ) (key : Item) (call : Call) → IsOpen h at event.process key call → at ≡ o.at
   own_place at key call is = let s = was.sound o o_there in one_open functions h alternates_before at o.at event.process key s.0 call o.call is (subst (λ q. IsOpen h o.at q s.0 o.call) o_of s.1)
 
   not_own : (q : ℕ) → IsWatching observes g q → q ≢ event.process
   not_own q w same = (passes observes functions h event name reply body unique alternates pending opened).shut w.at q w.key w.call same w.is_open
 
-  still_open : (at q : ℕ) (key : ℤ) (call : Call) → q ≢ event.process → IsOpen h at q key call → (t : Open) × Contains pending t × (t.at ≡ at) × (t.process ≡ q) × (t.call ≡ call)
+  still_open : (at q : ℕ) (key : Item) (call : Call) → q ≢ event.process → IsOpen h at q key call → (t : Open) × Contains pending t × (t.at ≡ at) × (t.process ≡ q) × (t.call ≡ call)
   still_open = other_open observes functions h event name reply body unique alternates pending opened
 
   waits : (q : ℕ) → IsWatching observes g q → is_watching observes pending q ≡ true
   waits = watches observes functions h event name reply body unique alternates pending opened
 
   -- a pending operation was open before
-  opened_before : (t : Open) → Contains pending t → (key : ℤ) × IsOpen h t.at t.process key t.call
+  opened_before : (t : Open) → Contains pending t → (key : Item) × IsOpen h t.at t.process key t.call
   opened_before t there = let s = opened.sound t there in (s.0, was_open observes functions h event name reply body unique alternates pending opened t.at t.process s.0 t.call s.1)
 
   -- what a state gives to an early operation
@@ -116,7 +117,7 @@ module _ (observes : Call → Bool) (functions : ℤ → Name → Bool) (h : Lis
     found_with m there absent = r.found m there (subst (λ q. IsAbsent q m.0.placed) (sym o_of) (absent_from event.process m.0.placed absent))
 
     -- an update returned behind all
-    returned_behind : observes o.call ≡ false → (m : Member S × Path) → Contains members m → ((other : Reply) → Contains m.0.placed (event.process, other) → ⊥) → (at : ℕ) (key : ℤ) (call : Call) (next : S)
+    returned_behind : observes o.call ≡ false → (m : Member S × Path) → Contains members m → ((other : Reply) → Contains m.0.placed (event.process, other) → ⊥) → (at : ℕ) (key : Item) (call : Call) (next : S)
         → IsOpen h at event.process key call → step m.0.state call next reply → IsHeldUntil observes g out next m.0.placed (λ x. IsOnOffer m.0 x ⊎ IsGiven step h m.0.state x) (length h)
     returned_behind update m there absent at key call next is steps =
         let n = ((found_with m there absent).returns update next (subst (λ a. step m.0.state a next reply) (own_call at key call is) steps)).behind in (
@@ -151,7 +152,7 @@ module _ (observes : Call → Bool) (functions : ℤ → Name → Bool) (h : Lis
         )
 
     module _ (observer : observes o.call ≡ true) (m : Member S × Path) (inside : Contains members m) (asked : AreAsked step observes o reply pending nodes (length h) m out) where
-      other : (at : ℕ) (q : ℕ) (key : ℤ) (call : Call) → IsOpen h at q key call → observes call ≡ false → q ≢ event.process
+      other : (at : ℕ) (q : ℕ) (key : Item) (call : Call) → IsOpen h at q key call → observes call ≡ false → q ≢ event.process
       other at q key call is update same = true≢false (sym observer ∙ ap observes (sym (own_call at key call (subst (λ p. IsOpen h at p key call) same is))) ∙ update)
 
       gives_it : (next : S) → IsGiven step h next (event.process, reply) → (last : S) × step next o.call last reply
@@ -218,7 +219,7 @@ module _ (observes : Call → Bool) (functions : ℤ → Name → Bool) (h : Lis
           same = call_of l.placed t.0 l.stands ∙ t.4
 
       -- an update that gives it, placed behind all
-      asked_behind : (x : ℕ × Reply) (at : ℕ) (key : ℤ) (call : Call) (next : S) → IsOpen h at x.0 key call → observes call ≡ false → step m.0.state call next x.1 → ((other : Reply) → Contains m.0.placed (x.0, other) → ⊥)
+      asked_behind : (x : ℕ × Reply) (at : ℕ) (key : Item) (call : Call) (next : S) → IsOpen h at x.0 key call → observes call ≡ false → step m.0.state call next x.1 → ((other : Reply) → Contains m.0.placed (x.0, other) → ⊥)
           → IsGiven step h next (event.process, reply) → IsHeldWith observes h g out m.0.placed x (λ y. Unit {0}) next (λ z. IsOnOffer m.0 z ⊎ IsGiven step h m.0.state z) (length h)
       asked_behind x at key call next is update steps absent given = record {
         y = (l.placed.process, x.1);

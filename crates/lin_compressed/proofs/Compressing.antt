@@ -1,8 +1,9 @@
 -- One more event, and pruning: members that lead to all configurations, each with its rounds.
-use Rattle.std.proofs.Common.{◌≡◌, ◌≢◌, ℕ, ℤ, Bool, true, false, true≢false, List, [], ◌∷◌, ◌++◌, length, ◌<◌, Contains, map, get_or, take, inl, inr, refl, sym, ap, subst, ◌∙◌, arith, Option}
+use Rattle.std.proofs.Common.{◌≡◌, ◌≢◌, ℕ, Bool, true, false, true≢false, List, [], ◌∷◌, ◌++◌, length, ◌<◌, Contains, map, get_or, take, inl, inr, refl, sym, ap, subst, ◌∙◌, arith, Option}
 use Rattle.std.proofs.lemmas.List.{append-nil}
 use Rattle.std.proofs.lemmas.List.Elements.{All-contains}
 use Rattle.std.proofs.lemmas.Option.{slice_get_within}
+use Rattle.lin_events.specs.declared.items.Item.{Item}
 use Rattle.lin_events.specs.declared.calls.Call.{Call}
 use Rattle.lin_events.specs.declared.calls.Name.{Name}
 use Rattle.lin_events.specs.declared.calls.Reply.{Reply}
@@ -77,7 +78,7 @@ pub record Laws {S : Type 0} (start : S) (step : S → Call → S → Reply → 
   pub allows_put : AllowsPutLaw S
   pub allows_begins : AllowsBeginsLaw S
 
-module _ {S : Type 0} (start : S) (step : S → Call → S → Reply → Type 0) (observes : Call → Bool) (laws : Laws start step) (functions : ℤ → Name → Bool) (h : List Event) (before : List Open) (at : ℕ) (event : Event)
+module _ {S : Type 0} (start : S) (step : S → Call → S → Reply → Type 0) (observes : Call → Bool) (laws : Laws start step) (functions : Item → Name → Bool) (h : List Event) (before : List Open) (at : ℕ) (event : Event)
     (next : IsNextEvent functions h before at event) (pending : List Open) (opened : IsPending (with_event h event) pending) where
   alternates : IsAlternating functions (with_event h event)
   alternates = (laws.alternating functions (with_event h event)).0 next.well_formed
@@ -157,7 +158,7 @@ module _ {S : Type 0} (start : S) (step : S → Call → S → Reply → Type 0)
       by (Fail name) body m = next_covering_with false observing (λ name reply is. cc) nodes members out made c
 
 module _ {S : Type 0} (start : S) (step : S → Call → S → Reply → Type 0) (observes : Call → Bool) (alternating : WellFormedIsAlternating) (unique : EndsAreUnique) (dropping : DroppingLaw start step) (above : AboveLaw start step)
-    (functions : ℤ → Name → Bool) (h : List Event) (well_formed : IsWellFormed functions h) (pending : List Open) (opened : IsPending h pending) where
+    (functions : Item → Name → Bool) (h : List Event) (well_formed : IsWellFormed functions h) (pending : List Open) (opened : IsPending h pending) where
   -- without those that others are above
   pub pruned_compressed : (overwriting : Bool) (nodes : List (ℕ × (Placed × Option ℕ))) (members kept : List (Member S × Path)) → IsPruned observes pending members kept → IsCovering start step observes overwriting h members nodes
       → IsCompressed start step observes overwriting h kept nodes
@@ -237,7 +238,7 @@ pub compressed_stays : {S : Type 0} (start : S) (step : S → Call → S → Rep
 compressed_stays start step observes overwriting h nodes now members grown c = record { covering = covering_stays start step observes overwriting h nodes now members grown c.covering; apart = c.apart }
 
 -- where no member is left, no legal order exists
-pub none_left : {S : Type 0} (start : S) (step : S → Call → S → Reply → Type 0) (observes : Call → Bool) (overwriting : Bool) (functions : ℤ → Name → Bool) (h : List Event) (nodes : List (ℕ × (Placed × Option ℕ)))
+pub none_left : {S : Type 0} (start : S) (step : S → Call → S → Reply → Type 0) (observes : Call → Bool) (overwriting : Bool) (functions : Item → Name → Bool) (h : List Event) (nodes : List (ℕ × (Placed × Option ℕ)))
     (members : List (Member S × Path)) → ExactLaw start step → LegalOrdersEnd start step → IsWellFormed functions h → length members ≡ 0 → IsCompressed start step observes overwriting h members nodes → IsLinearizableBy start step h → ⊥
 none_left {S} start step observes overwriting functions h nodes members exact ends well_formed none c legal =
     let configuration = ends functions h legal.0 well_formed legal.1 in
@@ -304,7 +305,7 @@ compressed_legal start step observes overwriting h members nodes c m there =
     (s.rounds, s.spelled, record { order_of = e.order_of; legal = (m.0.state, e.runs) })
 
 -- an event that completes an operation isn't the first
-pub ok_not_first : WellFormedIsAlternating → (functions : ℤ → Name → Bool) (h : List Event) (before : List Open) (at : ℕ) (event : Event) (name : Name) (reply : Reply) → event.body ≡ Ok name reply
+pub ok_not_first : WellFormedIsAlternating → (functions : Item → Name → Bool) (h : List Event) (before : List Open) (at : ℕ) (event : Event) (name : Name) (reply : Reply) → event.body ≡ Ok name reply
     → IsNextEvent functions h before at event → 0 < at
 ok_not_first alternating functions h before at event name reply body next =
     let e = completes h event functions ((alternating functions (with_event h event)).0 next.well_formed) name (subst (λ b. Completes b name) (sym body) refl) in
@@ -312,5 +313,5 @@ ok_not_first alternating functions h before at event name reply body next =
     omega (arith, next.place, inside)
 
 -- what comes before a well-formed event is well-formed
-pub well_formed_before : WellFormedIsAlternating → (functions : ℤ → Name → Bool) (h : List Event) (event : Event) → IsWellFormed functions (with_event h event) → IsWellFormed functions h
+pub well_formed_before : WellFormedIsAlternating → (functions : Item → Name → Bool) (h : List Event) (event : Event) → IsWellFormed functions (with_event h event) → IsWellFormed functions h
 well_formed_before alternating functions h event next = (alternating functions h).1 (alternates_before h event functions ((alternating functions (with_event h event)).0 next))

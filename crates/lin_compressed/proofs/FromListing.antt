@@ -1,6 +1,7 @@
 -- What an ok makes of a list of all configurations: nothing is searched.
-use Rattle.std.proofs.Common.{◌≡◌, ℕ, ℤ, Bool, false, true≢false, List, Contains, map, ◌⊎◌, inl, refl, sym, subst, Option}
+use Rattle.std.proofs.Common.{◌≡◌, ℕ, Bool, false, true≢false, List, Contains, map, ◌⊎◌, inl, refl, sym, subst, Option}
 use Rattle.std.proofs.lemmas.List.Elements.{All-contains_itself, All-weaker}
+use Rattle.lin_events.specs.declared.items.Item.{Item}
 use Rattle.lin_events.specs.declared.calls.Call.{Call}
 use Rattle.lin_events.specs.declared.calls.Name.{Name}
 use Rattle.lin_events.specs.declared.calls.Reply.{Reply}
@@ -34,7 +35,7 @@ covers_itself crashed c = record {
   rest = All-weaker (Contains c.1) (λ x. Contains c.1 x ⊎ crashed x.0) (λ x there. inl there) c.1 (All-contains_itself c.1);
 }
 
-module _ {S : Type 0} (start : S) (step : S → Call → S → Reply → Type 0) (observes : Call → Bool) (functions : ℤ → Name → Bool) (h : List Event) (event : Event) (well_formed : IsWellFormed functions (with_event h event))
+module _ {S : Type 0} (start : S) (step : S → Call → S → Reply → Type 0) (observes : Call → Bool) (functions : Item → Name → Bool) (h : List Event) (event : Event) (well_formed : IsWellFormed functions (with_event h event))
     (pending : List Open) (opened : IsPending (with_event h event) pending) (alternating : WellFormedIsAlternating) (unique : EndsAreUnique) (name : Name) (reply : Reply) (body : event.body ≡ Ok name reply) where
   pub listing_taken : ListedLaw start step → ListingOkLaw start step → TrailOkLaw start step → (nodes : List (ℕ × (Placed × Option ℕ))) (list made : List (Member S × Path))
       → IsMade (λ m. Contains m.0.placed (event.process, reply)) (rest_of observes pending event.process) list made → IsListingOf start step observes h list nodes → IsCovering start step observes false (with_event h event) made nodes

@@ -1,5 +1,6 @@
 -- An invocation: the members are the same.
-use Rattle.std.proofs.Common.{ℕ, ℤ, Bool, true, false, List, map, get_or, Option, ◌≡◌, inl, inr, refl}
+use Rattle.std.proofs.Common.{ℕ, Bool, true, false, List, map, get_or, Option, ◌≡◌, inl, inr, refl}
+use Rattle.lin_events.specs.declared.items.Item.{Item}
 use Rattle.lin_events.specs.declared.calls.Call.{Call}
 use Rattle.lin_events.specs.declared.calls.Name.{Name}
 use Rattle.lin_events.specs.declared.calls.Reply.{Reply}
@@ -19,7 +20,7 @@ use Rattle.lin_members.specs.OverwrittenLaws.{AllowsOnLaw, InvocationWithLaw}
 use Rattle.lin_members.specs.RoundLaws.{TrailInvocationLaw}
 use Rattle.lin_members.specs.lemmas.Crashes.{crash_before, invoke_no_info, passes_invoke}
 
-module _ {S : Type 0} (start : S) (step : S → Call → S → Reply → Type 0) (observes : Call → Bool) (overwriting : Bool) (functions : ℤ → Name → Bool) (h : List Event) (event : Event) (call : Call)
+module _ {S : Type 0} (start : S) (step : S → Call → S → Reply → Type 0) (observes : Call → Bool) (overwriting : Bool) (functions : Item → Name → Bool) (h : List Event) (event : Event) (call : Call)
     (body : event.body ≡ Invoke call) (well_formed : IsWellFormed functions (with_event h event)) (alternates : IsAlternating functions (with_event h event)) where
   -- what dominates then dominated before: nobody waits for a reply that was on offer before but then
   dominated_before : (m n : Member S) → Dominates observes (with_event h event) m n → Dominates observes h m n

@@ -18,3 +18,4 @@ pub mod Advancing
 pub mod ReturningAll
 pub mod Shown
 pub mod Tries
+mod Calls

@@ -1,7 +1,8 @@
 -- The rounds of members after an ok.
-use Rattle.std.proofs.Common.{◌≡◌, ◌≢◌, ℕ, ℤ, suc, Bool, true, List, [], ◌∷◌, ◌++◌, length, length-append, Contains, inl, inr, refl, sym, ap, subst, ◌∙◌, arith, Option}
+use Rattle.std.proofs.Common.{◌≡◌, ◌≢◌, ℕ, suc, Bool, true, List, [], ◌∷◌, ◌++◌, length, length-append, Contains, inl, inr, refl, sym, ap, subst, ◌∙◌, arith, Option}
 use Rattle.std.proofs.lemmas.List.Elements.{Contains-append_cases}
 use Rattle.std.proofs.lemmas.Option.{slice_get_within}
+use Rattle.lin_events.specs.declared.items.Item.{Item}
 use Rattle.lin_events.specs.declared.calls.Call.{Call}
 use Rattle.lin_events.specs.declared.calls.Name.{Name}
 use Rattle.lin_events.specs.declared.calls.Reply.{Reply}
@@ -38,13 +39,13 @@ use Rattle.lin_objects.specs.Observing.{IsObserving}
 ok_no_invoke : {body : Body} {name : Name} {reply : Reply} → body ≡ Ok name reply → (call : Call) → body ≡ Invoke call → ⊥
 ok_no_invoke is call other = cc
 
-module _ (observes : Call → Bool) (functions : ℤ → Name → Bool) (h : List Event) (event : Event) (name : Name) (reply : Reply) (body : event.body ≡ Ok name reply)
+module _ (observes : Call → Bool) (functions : Item → Name → Bool) (h : List Event) (event : Event) (name : Name) (reply : Reply) (body : event.body ≡ Ok name reply)
     (unique : EndsAreUnique) (alternates : IsAlternating functions (with_event h event)) (pending : List Open) (opened : IsPending (with_event h event) pending) where
   pub passes : Passes observes h (with_event h event) (λ q. q ≡ event.process)
   passes = passes_ok h event functions alternates observes name reply body
 
   -- what is open after the ok was open before
-  pub was_open : (at q : ℕ) (key : ℤ) (call : Call) → IsOpen (with_event h event) at q key call → IsOpen h at q key call
+  pub was_open : (at q : ℕ) (key : Item) (call : Call) → IsOpen (with_event h event) at q key call → IsOpen h at q key call
   was_open at q key call is = open_before h event at q key call earlier is
     where
       earlier : at ≡ length h → ⊥
@@ -137,7 +138,7 @@ module _ (observes : Call → Bool) (functions : ℤ → Name → Bool) (h : Lis
     }
 
     module _ (before : List Open) (was : IsPending h before) (well_formed : IsWellFormed functions (with_event h event)) (o : Open) (o_there : Contains before o) (o_of : o.process ≡ event.process) where
-      pub opens : (key : ℤ) × IsOpen h o.at event.process key o.call
+      pub opens : (key : Item) × IsOpen h o.at event.process key o.call
       opens = let s = was.sound o o_there in (s.0, subst (λ q. IsOpen h o.at q s.0 o.call) o_of s.1)
 
       -- an observer took the reply, which was offered to it

@@ -1,6 +1,7 @@
 -- The rounds of members after an ok, where updates are overwritten, and that the members still cover the history.
-use Rattle.std.proofs.Common.{◌≡◌, ◌⊎◌, ℕ, ℤ, suc, ◌+◌, ◌<◌, Bool, true, List, [], ◌∷◌, ◌++◌, length, length-append, Contains, inl, inr, refl, sym, ap, subst, ◌∙◌, arith, Option}
+use Rattle.std.proofs.Common.{◌≡◌, ◌⊎◌, ℕ, suc, ◌+◌, ◌<◌, Bool, true, List, [], ◌∷◌, ◌++◌, length, length-append, Contains, inl, inr, refl, sym, ap, subst, ◌∙◌, arith, Option}
 use Rattle.std.proofs.lemmas.List.Elements.{Contains-append_right}
+use Rattle.lin_events.specs.declared.items.Item.{Item}
 use Rattle.lin_events.specs.declared.calls.Call.{Call}
 use Rattle.lin_events.specs.declared.calls.Name.{Name}
 use Rattle.lin_events.specs.declared.calls.Reply.{Reply}
@@ -53,7 +54,7 @@ module _ (nodes : List (ℕ × (Placed × Option ℕ))) (path next : Path) (p : 
   ahead_spells last b =
       subst (λ id. SpellsRounds nodes id (ahead p rounds)) (sym b.node.1) (subst (SpellsRounds nodes (suc b.node.0)) (place_ahead (path.round + 1) p rounds (omega (arith, last))) (puts b.node.2 spelled))
 
-module _ {S : Type 0} (start : S) (step : S → Call → S → Reply → Type 0) (observes : Call → Bool) (over : IsOverwriting start step observes) (functions : ℤ → Name → Bool) (h : List Event) (event : Event)
+module _ {S : Type 0} (start : S) (step : S → Call → S → Reply → Type 0) (observes : Call → Bool) (over : IsOverwriting start step observes) (functions : Item → Name → Bool) (h : List Event) (event : Event)
     (name : Name) (reply : Reply) (body : event.body ≡ Ok name reply) (well_formed : IsWellFormed functions (with_event h event)) (alternating : WellFormedIsAlternating) (unique : EndsAreUnique)
     (before : List Open) (was : IsPending h before) (pending : List Open) (opened : IsPending (with_event h event) pending) (o : Open) (o_there : Contains before o) (o_of : o.process ≡ event.process) where
   abbrev g : List Event
@@ -69,7 +70,7 @@ module _ {S : Type 0} (start : S) (step : S → Call → S → Reply → Type 0)
   well_formed_then = (alternating functions h).1 alternates_then
 
   -- the operation's own
-  own : (key : ℤ) × IsOpen h o.at event.process key o.call
+  own : (key : Item) × IsOpen h o.at event.process key o.call
   own = let s = was.sound o o_there in (s.0, subst (λ q. IsOpen h o.at q s.0 o.call) o_of s.1)
 
   abbrev own_placed : Placed
@@ -78,7 +79,7 @@ module _ {S : Type 0} (start : S) (step : S → Call → S → Reply → Type 0)
   not_own : (t : Open) → Contains pending t → t.process ≡ event.process → ⊥
   not_own t there same = other_process observes functions h event name reply body unique alternates pending opened t there same
 
-  opened_before : (t : Open) → Contains pending t → (key : ℤ) × IsOpen h t.at t.process key t.call
+  opened_before : (t : Open) → Contains pending t → (key : Item) × IsOpen h t.at t.process key t.call
   opened_before t there = let s = opened.sound t there in (s.0, was_open observes functions h event name reply body unique alternates pending opened t.at t.process s.0 t.call s.1)
 
   none_waits : is_watching observes pending event.process ≡ true → ⊥
@@ -200,7 +201,7 @@ module _ {S : Type 0} (start : S) (step : S → Call → S → Reply → Type 0)
             t : Open
             t = r.places.0
 
-            opens : (key : ℤ) × IsOpen h t.at t.process key t.call
+            opens : (key : Item) × IsOpen h t.at t.process key t.call
             opens = opened_before t r.places.1
 
             is_open : IsOpen h p.at t.process opens.0 t.call

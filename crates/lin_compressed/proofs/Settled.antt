@@ -1,6 +1,7 @@
 -- Members of which crashed operations were put in the place of others: they are exchanged, and so is what dominates them.
-use Rattle.std.proofs.Common.{◌≡◌, ℕ, ℤ, Bool, true, List, map, Contains, IsTrue, ◌⊎◌, inl, inr, sym, ap, subst, ◌∙◌}
+use Rattle.std.proofs.Common.{◌≡◌, ℕ, Bool, true, List, map, Contains, IsTrue, ◌⊎◌, inl, inr, sym, ap, subst, ◌∙◌}
 use Rattle.std.proofs.lemmas.List.Elements.{All-contains}
+use Rattle.lin_events.specs.declared.items.Item.{Item}
 use Rattle.lin_events.specs.declared.calls.Call.{Call}
 use Rattle.lin_events.specs.declared.calls.Name.{Name}
 use Rattle.lin_events.specs.declared.calls.Reply.{Reply}
@@ -30,7 +31,7 @@ record Exchanges (h : List Event) (placed others : List (ℕ × Reply)) : Type 0
   to : (x : ℕ × Reply) → Contains placed x → Contains others (exchange.to x.0, x.1)
   from : (x : ℕ × Reply) → Contains others x → Contains placed (exchange.from x.0, x.1)
 
-module _ (functions : ℤ → Name → Bool) (h : List Event) (pending : List Open) (opened : IsPending h pending) (unique : EndsAreUnique) (alternates : IsAlternating functions h) where
+module _ (functions : Item → Name → Bool) (h : List Event) (pending : List Open) (opened : IsPending h pending) (unique : EndsAreUnique) (alternates : IsAlternating functions h) where
   alike : (o t : Open) → Contains pending o → Contains pending t → IsTrue o.crashed → IsTrue t.crashed → t.call ≡ o.call → AreAlike h o.process t.process
   alike o t o_there t_there o_crashed t_crashed call =
       let a = opened.sound o o_there in

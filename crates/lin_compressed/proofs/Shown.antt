@@ -1,7 +1,8 @@
 -- What the members of a compressed frontier lead to are configurations.
-use Rattle.std.proofs.Common.{◌≡◌, ℕ, ℤ, Bool, Bor, true, false, List, Contains, IfSome, Option, None, Some, refl, slice_get, subst}
+use Rattle.std.proofs.Common.{◌≡◌, ℕ, Bool, Bor, true, false, List, Contains, IfSome, Option, None, Some, refl, slice_get, subst}
 use Rattle.std.proofs.lemmas.Option.{slice_get_read}
 use Rattle.std.specs.Slice.{IsItemAt}
+use Rattle.lin_events.specs.declared.items.Item.{Item}
 use Rattle.lin_events.specs.declared.calls.Call.{Call}
 use Rattle.lin_events.specs.declared.calls.Name.{Name}
 use Rattle.lin_events.specs.declared.calls.Reply.{Reply}
@@ -28,7 +29,7 @@ shown_holds P ys each i None is = tt
 shown_holds P ys each i (Some x) is = each x.now (Contains-slice_get ys i x.now is)
 
 pub members_lead_within : {S : Type 0} (start : S) (step : S → Call → S → Reply → Type 0) (observes : Call → Bool) → SoundLaw start step → SoundWithLaw start step → IsObserving step observes
-    → (overwriting : Bool) → (overwriting ≡ true → IsOverwriting start step observes) → (functions : ℤ → Name → Bool) (h : List Event) → IsWellFormed functions h → (members : List (Member S × Path)) (nodes : List (ℕ × (Placed × Option ℕ)))
+    → (overwriting : Bool) → (overwriting ≡ true → IsOverwriting start step observes) → (functions : Item → Name → Bool) (h : List Event) → IsWellFormed functions h → (members : List (Member S × Path)) (nodes : List (ℕ × (Placed × Option ℕ)))
     → IsCompressed start step observes overwriting h members nodes → (m : Member S × Path) → Contains members m → LeadsWithin start step observes overwriting h m
 members_lead_within start step observes sound sound_with observing false over functions h well_formed members nodes is m there c leads =
     let s = is.covering.spelled m there in

@@ -1,5 +1,6 @@
 //! Compressed frontiers: few members that stand for all configurations of a history that has one object.
-ghost use Rattle.std.specs.Prelude.{◌≡◌, ◌⊎◌, ◌∷◌, ◌++◌, ◌+◌, ◌*◌, ◌<◌, ◌≤◌, [], ℕ, ℤ, true, false, Bool, List, length, map, Contains, IfOk, IfSome, IfNone, OnOk, OnErr, IsPermutation};
+ghost use Rattle.std.specs.Prelude.{◌≡◌, ◌⊎◌, ◌∷◌, ◌++◌, ◌+◌, ◌*◌, ◌<◌, ◌≤◌, [], ℕ, true, false, Bool, List, length, map, Contains, IfOk, IfSome, IfNone, OnOk, OnErr, IsPermutation};
+ghost use Rattle.lin_events.specs.declared.items.Item.{Item as ItemOf};
 ghost use Rattle.lin_events.specs.declared.calls.Name.{Name as NameOf};
 ghost use Rattle.lin_events.specs.declared.calls.Reply.{Reply as ReplyOf};
 ghost use Rattle.lin_events.specs.declared.events.Body.{Body as BodyOf};
@@ -390,7 +391,7 @@ pub(crate) fn open_after(
     event: &Event,
 ) -> Result<Vec<Open>, OutOfMemory>
     requires { list.items ≡ [] }
-    ensures pending { IfOk result (λ after. (functions : ℤ → NameOf → Bool) (h : List EventOf) → IsNextEvent functions h before.now at event.now → IsPending (with_event h event.now) after.items) }
+    ensures pending { IfOk result (λ after. (functions : ItemOf → NameOf → Bool) (h : List EventOf) → IsNextEvent functions h before.now at event.now → IsPending (with_event h event.now) after.items) }
     ensures len { IfOk result (λ after. length after.items ≤ length before.now + 1) }
 {
     let mut after = list;
@@ -412,7 +413,7 @@ fn advanced<O: SeqObject>(
     requires fits { alone ≡ true → AreAlone (O.overwriting arrival.now.object.now) members.now }
     requires goes { alone ≡ false → O.overwriting arrival.now.object.now ≡ true }
     ensures grown { IsGrown nodes.old nodes.new }
-    ensures next { IfOk result (λ found. IfSome found (λ out. (functions : ℤ → NameOf → Bool) (h : List EventOf) → IsNextEvent functions h arrival.now.pending.now arrival.now.at arrival.now.event.now
+    ensures next { IfOk result (λ found. IfSome found (λ out. (functions : ItemOf → NameOf → Bool) (h : List EventOf) → IsNextEvent functions h arrival.now.pending.now arrival.now.at arrival.now.event.now
         → IsCovering (O.starts arrival.now.object.now) (O.step arrival.now.object.now) (O.observing arrival.now.object.now) (O.overwriting arrival.now.object.now) h members.now nodes.old
         → IsCompressed (O.starts arrival.now.object.now) (O.step arrival.now.object.now) (O.observing arrival.now.object.now) (O.overwriting arrival.now.object.now) (with_event h arrival.now.event.now) out.items nodes.new)) }
     ensures oks { IfOk result (λ found. IfNone found ((alone ≡ true) × (name : NameOf) × (reply : ReplyOf) × (arrival.now.event.now.body ≡ BodyOf.Ok name reply))) }
@@ -491,11 +492,11 @@ impl<O: SeqObject> Compressed<O> {
         requires goes { alone ≡ false → O.overwriting arrival.now.object.now ≡ true }
         // Where the frontier is one of a history, with these operations open, the answer speaks of that history with the event behind
         // it, which has to be well-formed.
-        ensures next { IfOk result (λ step. (next : List (MemberOf O.State × PathOf)) → step ≡ Found.Next next → (functions : ℤ → NameOf → Bool) (h : List EventOf)
+        ensures next { IfOk result (λ step. (next : List (MemberOf O.State × PathOf)) → step ≡ Found.Next next → (functions : ItemOf → NameOf → Bool) (h : List EventOf)
             → IsNextEvent functions h arrival.now.pending.now arrival.now.at arrival.now.event.now → IsCompressed (O.starts arrival.now.object.now) (O.step arrival.now.object.now) (O.observing arrival.now.object.now) (O.overwriting arrival.now.object.now) h self.now nodes.old
             → IsCompressed (O.starts arrival.now.object.now) (O.step arrival.now.object.now) (O.observing arrival.now.object.now) (O.overwriting arrival.now.object.now) (with_event h arrival.now.event.now) next nodes.new) }
         ensures some { IfOk result (λ step. (next : List (MemberOf O.State × PathOf)) → step ≡ Found.Next next → 0 < length next) }
-        ensures empty { IfOk result (λ step. step ≡ Found.Empty → (functions : ℤ → NameOf → Bool) (h : List EventOf)
+        ensures empty { IfOk result (λ step. step ≡ Found.Empty → (functions : ItemOf → NameOf → Bool) (h : List EventOf)
             → IsNextEvent functions h arrival.now.pending.now arrival.now.at arrival.now.event.now → IsCompressed (O.starts arrival.now.object.now) (O.step arrival.now.object.now) (O.observing arrival.now.object.now) (O.overwriting arrival.now.object.now) h self.now nodes.old
             → IsLinearizableBy (O.starts arrival.now.object.now) (O.step arrival.now.object.now) (with_event h arrival.now.event.now) → ⊥) }
         // Only an ok is searched for.

@@ -1,5 +1,6 @@
 //! What a compressed frontier shows of its members.
-ghost use Rattle.std.specs.Prelude.{◌≡◌, ◌≤◌, ℕ, ℤ, Bool, List, Option, Some, IfSome, IfNone, length, slice_get};
+ghost use Rattle.std.specs.Prelude.{◌≡◌, ◌≤◌, ℕ, Bool, List, Option, Some, IfSome, IfNone, length, slice_get};
+ghost use Rattle.lin_events.specs.declared.items.Item.{Item as ItemOf};
 ghost use Rattle.lin_events.specs.declared.calls.Name.{Name as NameOf};
 ghost use Rattle.lin_events.specs.declared.events.Event.{Event as EventOf};
 ghost use Rattle.lin_events.specs.WellFormed.{IsWellFormed};
@@ -16,7 +17,7 @@ impl<O: SeqObject> Compressed<O> {
         ensures found { IfSome result (λ m. slice_get self.now i ≡ Some m.now) }
         ensures past { IfNone result (length self.now ≤ i) }
         // Where the frontier is one of a history, which has to be well-formed, the member leads to configurations of that history alone.
-        ensures sound { IfSome result (λ m. (functions : ℤ → NameOf → Bool) (h : List EventOf) (nodes : List (ℕ × (PlacedOf × Option ℕ))) → IsWellFormed functions h
+        ensures sound { IfSome result (λ m. (functions : ItemOf → NameOf → Bool) (h : List EventOf) (nodes : List (ℕ × (PlacedOf × Option ℕ))) → IsWellFormed functions h
             → IsCompressed (O.starts object.now) (O.step object.now) (O.observing object.now) (O.overwriting object.now) h self.now nodes
             → LeadsWithin (O.starts object.now) (O.step object.now) (O.observing object.now) (O.overwriting object.now) h m.now) }
     {

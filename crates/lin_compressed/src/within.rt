@@ -1,5 +1,6 @@
 //! One more event of a compressed frontier, within a budget of configurations.
-ghost use Rattle.std.specs.Prelude.{◌≡◌, ◌⊎◌, ◌+◌, ◌*◌, ◌<◌, ◌≤◌, ℕ, ℤ, true, false, Bool, nat_lt, List, length, Contains, IsTrue, Option, IfOk, IfSome, IfNone, OnErr};
+ghost use Rattle.std.specs.Prelude.{◌≡◌, ◌⊎◌, ◌+◌, ◌*◌, ◌<◌, ◌≤◌, ℕ, true, false, Bool, nat_lt, List, length, Contains, IsTrue, Option, IfOk, IfSome, IfNone, OnErr};
+ghost use Rattle.lin_events.specs.declared.items.Item.{Item as ItemOf};
 ghost use Rattle.lin_events.specs.declared.calls.Call.{Call as CallOf};
 ghost use Rattle.lin_events.specs.declared.calls.Name.{Name as NameOf};
 ghost use Rattle.lin_events.specs.declared.calls.Reply.{Reply as ReplyOf};
@@ -112,7 +113,7 @@ fn exceeds<O: SeqObject>(
     nodes: &mut RoundNodes,
     meter: &mut Meter,
 ) -> Result<bool, OutOfMemory>
-    ensures over { IfOk result (λ over. over ≡ true → (functions : ℤ → NameOf → Bool) (h : List EventOf) → IsWellFormed functions h → IsPending h pending.now
+    ensures over { IfOk result (λ over. over ≡ true → (functions : ItemOf → NameOf → Bool) (h : List EventOf) → IsWellFormed functions h → IsPending h pending.now
         → ((m : MemberOf O.State × PathOf) → Contains members.now m → IsSpelled (O.starts arrival.now.object.now) (O.step arrival.now.object.now) (O.observing arrival.now.object.now) h nodes.old m) → IsOver (O.starts arrival.now.object.now) (O.step arrival.now.object.now) h budget) }
     ensures nodes { nodes.new ≡ nodes.old }
     ensures tried { IsTriedAtMost (budget * length pending.now) meter.old meter.new }
@@ -142,7 +143,7 @@ fn after_listing<O: SeqObject>(
     nodes: &RoundNodes,
 ) -> Result<Vec<Member<O::State>>, OutOfMemory>
     requires { (name : NameOf) × (reply : ReplyOf) × (arrival.now.event.now.body ≡ BodyOf.Ok name reply) }
-    ensures { IfOk result (λ out. (functions : ℤ → NameOf → Bool) (h : List EventOf) → IsNextEvent functions h arrival.now.pending.now arrival.now.at arrival.now.event.now
+    ensures { IfOk result (λ out. (functions : ItemOf → NameOf → Bool) (h : List EventOf) → IsNextEvent functions h arrival.now.pending.now arrival.now.at arrival.now.event.now
         → IsListingOf (O.starts arrival.now.object.now) (O.step arrival.now.object.now) (O.observing arrival.now.object.now) h list.now nodes.now
         → IsCompressed (O.starts arrival.now.object.now) (O.step arrival.now.object.now) (O.observing arrival.now.object.now) (O.overwriting arrival.now.object.now) (with_event h arrival.now.event.now) out.items nodes.now) }
 {
@@ -207,20 +208,20 @@ impl<O: SeqObject> Compressed<O> {
     ) -> Result<Advance<O>, OutOfMemory>
         // Where the frontier is one of a history, with these operations open, the answer speaks of that history with the event behind
         // it, which has to be well-formed.
-        ensures next { IfOk result (λ step. (next : List (MemberOf O.State × PathOf)) → step ≡ Advance.Next next → (functions : ℤ → NameOf → Bool) (h : List EventOf)
+        ensures next { IfOk result (λ step. (next : List (MemberOf O.State × PathOf)) → step ≡ Advance.Next next → (functions : ItemOf → NameOf → Bool) (h : List EventOf)
             → IsNextEvent functions h pending.now at event.now → IsCompressed (O.starts object.now) (O.step object.now) (O.observing object.now) (O.overwriting object.now) h self.now nodes.old
             → IsCompressed (O.starts object.now) (O.step object.now) (O.observing object.now) (O.overwriting object.now) (with_event h event.now) next nodes.new) }
-        ensures same { IfOk result (λ step. step ≡ Advance.Same → (functions : ℤ → NameOf → Bool) (h : List EventOf)
+        ensures same { IfOk result (λ step. step ≡ Advance.Same → (functions : ItemOf → NameOf → Bool) (h : List EventOf)
             → IsNextEvent functions h pending.now at event.now → IsCompressed (O.starts object.now) (O.step object.now) (O.observing object.now) (O.overwriting object.now) h self.now nodes.old
             → IsCompressed (O.starts object.now) (O.step object.now) (O.observing object.now) (O.overwriting object.now) (with_event h event.now) self.now nodes.new) }
         ensures some { IfOk result (λ step. (next : List (MemberOf O.State × PathOf)) → step ≡ Advance.Next next → 0 < length next) }
-        ensures empty { IfOk result (λ step. step ≡ Advance.Empty → (functions : ℤ → NameOf → Bool) (h : List EventOf)
+        ensures empty { IfOk result (λ step. step ≡ Advance.Empty → (functions : ItemOf → NameOf → Bool) (h : List EventOf)
             → IsNextEvent functions h pending.now at event.now → IsCompressed (O.starts object.now) (O.step object.now) (O.observing object.now) (O.overwriting object.now) h self.now nodes.old
             → IsLinearizableBy (O.starts object.now) (O.step object.now) (with_event h event.now) → ⊥) }
-        ensures over { IfOk result (λ step. step ≡ Advance.Over → (functions : ℤ → NameOf → Bool) (h : List EventOf)
+        ensures over { IfOk result (λ step. step ≡ Advance.Over → (functions : ItemOf → NameOf → Bool) (h : List EventOf)
             → IsNextEvent functions h pending.now at event.now → IsCompressed (O.starts object.now) (O.step object.now) (O.observing object.now) (O.overwriting object.now) h self.now nodes.old
             → IsOver (O.starts object.now) (O.step object.now) (with_event h event.now) budget) }
-        ensures before { IfOk result (λ step. step ≡ Advance.OverBefore → (functions : ℤ → NameOf → Bool) (h : List EventOf)
+        ensures before { IfOk result (λ step. step ≡ Advance.OverBefore → (functions : ItemOf → NameOf → Bool) (h : List EventOf)
             → IsNextEvent functions h pending.now at event.now → IsCompressed (O.starts object.now) (O.step object.now) (O.observing object.now) (O.overwriting object.now) h self.now nodes.old
             → (0 < at) × IsOver (O.starts object.now) (O.step object.now) h budget) }
         // Nodes are only added; and none is where there is no next frontier.
@@ -278,10 +279,10 @@ impl<O: SeqObject> Compressed<O> {
     ) -> Result<Advance<O>, OutOfMemory>
         requires { (call : CallOf) × (arrival.now.event.now.body ≡ BodyOf.Invoke call) }
         ensures answers { IfOk result (λ step. (step ≡ Advance.Same) ⊎ (step ≡ Advance.Over)) }
-        ensures same { IfOk result (λ step. step ≡ Advance.Same → (functions : ℤ → NameOf → Bool) (h : List EventOf)
+        ensures same { IfOk result (λ step. step ≡ Advance.Same → (functions : ItemOf → NameOf → Bool) (h : List EventOf)
             → IsNextEvent functions h arrival.now.pending.now arrival.now.at arrival.now.event.now → IsCompressed (O.starts arrival.now.object.now) (O.step arrival.now.object.now) (O.observing arrival.now.object.now) (O.overwriting arrival.now.object.now) h self.now nodes.old
             → IsCompressed (O.starts arrival.now.object.now) (O.step arrival.now.object.now) (O.observing arrival.now.object.now) (O.overwriting arrival.now.object.now) (with_event h arrival.now.event.now) self.now nodes.new) }
-        ensures over { IfOk result (λ step. step ≡ Advance.Over → (functions : ℤ → NameOf → Bool) (h : List EventOf)
+        ensures over { IfOk result (λ step. step ≡ Advance.Over → (functions : ItemOf → NameOf → Bool) (h : List EventOf)
             → IsNextEvent functions h arrival.now.pending.now arrival.now.at arrival.now.event.now → IsCompressed (O.starts arrival.now.object.now) (O.step arrival.now.object.now) (O.observing arrival.now.object.now) (O.overwriting arrival.now.object.now) h self.now nodes.old
             → IsOver (O.starts arrival.now.object.now) (O.step arrival.now.object.now) (with_event h arrival.now.event.now) budget) }
         ensures nodes { nodes.new ≡ nodes.old }
@@ -310,17 +311,17 @@ impl<O: SeqObject> Compressed<O> {
         meter: &mut Meter,
         scratch: &mut Scratch<O>,
     ) -> Result<Advance<O>, OutOfMemory>
-        ensures next { IfOk result (λ step. (next : List (MemberOf O.State × PathOf)) → step ≡ Advance.Next next → (functions : ℤ → NameOf → Bool) (h : List EventOf)
+        ensures next { IfOk result (λ step. (next : List (MemberOf O.State × PathOf)) → step ≡ Advance.Next next → (functions : ItemOf → NameOf → Bool) (h : List EventOf)
             → IsNextEvent functions h arrival.now.pending.now arrival.now.at arrival.now.event.now → IsCompressed (O.starts arrival.now.object.now) (O.step arrival.now.object.now) (O.observing arrival.now.object.now) (O.overwriting arrival.now.object.now) h self.now nodes.old
             → IsCompressed (O.starts arrival.now.object.now) (O.step arrival.now.object.now) (O.observing arrival.now.object.now) (O.overwriting arrival.now.object.now) (with_event h arrival.now.event.now) next nodes.new) }
         ensures some { IfOk result (λ step. (next : List (MemberOf O.State × PathOf)) → step ≡ Advance.Next next → 0 < length next) }
-        ensures empty { IfOk result (λ step. step ≡ Advance.Empty → (functions : ℤ → NameOf → Bool) (h : List EventOf)
+        ensures empty { IfOk result (λ step. step ≡ Advance.Empty → (functions : ItemOf → NameOf → Bool) (h : List EventOf)
             → IsNextEvent functions h arrival.now.pending.now arrival.now.at arrival.now.event.now → IsCompressed (O.starts arrival.now.object.now) (O.step arrival.now.object.now) (O.observing arrival.now.object.now) (O.overwriting arrival.now.object.now) h self.now nodes.old
             → IsLinearizableBy (O.starts arrival.now.object.now) (O.step arrival.now.object.now) (with_event h arrival.now.event.now) → ⊥) }
-        ensures over { IfOk result (λ step. step ≡ Advance.Over → (functions : ℤ → NameOf → Bool) (h : List EventOf)
+        ensures over { IfOk result (λ step. step ≡ Advance.Over → (functions : ItemOf → NameOf → Bool) (h : List EventOf)
             → IsNextEvent functions h arrival.now.pending.now arrival.now.at arrival.now.event.now → IsCompressed (O.starts arrival.now.object.now) (O.step arrival.now.object.now) (O.observing arrival.now.object.now) (O.overwriting arrival.now.object.now) h self.now nodes.old
             → IsOver (O.starts arrival.now.object.now) (O.step arrival.now.object.now) (with_event h arrival.now.event.now) budget) }
-        ensures before { IfOk result (λ step. step ≡ Advance.OverBefore → (functions : ℤ → NameOf → Bool) (h : List EventOf)
+        ensures before { IfOk result (λ step. step ≡ Advance.OverBefore → (functions : ItemOf → NameOf → Bool) (h : List EventOf)
             → IsNextEvent functions h arrival.now.pending.now arrival.now.at arrival.now.event.now → IsCompressed (O.starts arrival.now.object.now) (O.step arrival.now.object.now) (O.observing arrival.now.object.now) (O.overwriting arrival.now.object.now) h self.now nodes.old
             → (0 < arrival.now.at) × IsOver (O.starts arrival.now.object.now) (O.step arrival.now.object.now) h budget) }
         ensures same { IfOk result (λ step. step ≡ Advance.Same → ⊥) }
@@ -360,10 +361,10 @@ impl<O: SeqObject> Compressed<O> {
         meter: &mut Meter,
     ) -> Result<Advance<O>, OutOfMemory>
         ensures next { IfOk result (λ step. (out : List (MemberOf O.State × PathOf)) → step ≡ Advance.Next out → out ≡ next) }
-        ensures over { IfOk result (λ step. step ≡ Advance.Over → (functions : ℤ → NameOf → Bool) (h : List EventOf)
+        ensures over { IfOk result (λ step. step ≡ Advance.Over → (functions : ItemOf → NameOf → Bool) (h : List EventOf)
             → IsNextEvent functions h arrival.now.pending.now arrival.now.at arrival.now.event.now → IsCompressed (O.starts arrival.now.object.now) (O.step arrival.now.object.now) (O.observing arrival.now.object.now) (O.overwriting arrival.now.object.now) (with_event h arrival.now.event.now) next nodes.old
             → IsOver (O.starts arrival.now.object.now) (O.step arrival.now.object.now) (with_event h arrival.now.event.now) budget) }
-        ensures before { IfOk result (λ step. step ≡ Advance.OverBefore → (functions : ℤ → NameOf → Bool) (h : List EventOf) → IsWellFormed functions h → IsPending h arrival.now.pending.now
+        ensures before { IfOk result (λ step. step ≡ Advance.OverBefore → (functions : ItemOf → NameOf → Bool) (h : List EventOf) → IsWellFormed functions h → IsPending h arrival.now.pending.now
             → IsCompressed (O.starts arrival.now.object.now) (O.step arrival.now.object.now) (O.observing arrival.now.object.now) (O.overwriting arrival.now.object.now) h self.now nodes.old
             → (0 < arrival.now.at) × IsOver (O.starts arrival.now.object.now) (O.step arrival.now.object.now) h budget) }
         ensures never { IfOk result (λ step. (step ≡ Advance.Empty) ⊎ (step ≡ Advance.Same) → ⊥) }
@@ -381,7 +382,7 @@ impl<O: SeqObject> Compressed<O> {
 
     /// Whether there are more configurations than the budget, as far as it is told without making any. Not so where all are counted.
     fn is_surely_over(&self, arrival: &Arrival<O>, budget: usize) -> Result<bool, OutOfMemory>
-        ensures { IfOk result (λ over. over ≡ true → (functions : ℤ → NameOf → Bool) (h : List EventOf) (nodes : List (ℕ × (PlacedOf × Option ℕ))) → IsWellFormed functions h → IsPending h arrival.now.pending.now
+        ensures { IfOk result (λ over. over ≡ true → (functions : ItemOf → NameOf → Bool) (h : List EventOf) (nodes : List (ℕ × (PlacedOf × Option ℕ))) → IsWellFormed functions h → IsPending h arrival.now.pending.now
             → IsCompressed (O.starts arrival.now.object.now) (O.step arrival.now.object.now) (O.observing arrival.now.object.now) (O.overwriting arrival.now.object.now) h self.now nodes
             → IsOver (O.starts arrival.now.object.now) (O.step arrival.now.object.now) h budget) }
     {
@@ -411,7 +412,7 @@ impl<O: SeqObject> Compressed<O> {
         nodes: &mut RoundNodes,
         meter: &mut Meter,
     ) -> Result<bool, OutOfMemory>
-        ensures over { IfOk result (λ over. over ≡ true → (functions : ℤ → NameOf → Bool) (h : List EventOf) → IsNextEvent functions h arrival.now.pending.now arrival.now.at arrival.now.event.now
+        ensures over { IfOk result (λ over. over ≡ true → (functions : ItemOf → NameOf → Bool) (h : List EventOf) → IsNextEvent functions h arrival.now.pending.now arrival.now.at arrival.now.event.now
             → IsCompressed (O.starts arrival.now.object.now) (O.step arrival.now.object.now) (O.observing arrival.now.object.now) (O.overwriting arrival.now.object.now) (with_event h arrival.now.event.now) self.now nodes.old
             → IsOver (O.starts arrival.now.object.now) (O.step arrival.now.object.now) (with_event h arrival.now.event.now) budget) }
         ensures nodes { nodes.new ≡ nodes.old }
@@ -432,7 +433,7 @@ impl<O: SeqObject> Compressed<O> {
         nodes: &mut RoundNodes,
         meter: &mut Meter,
     ) -> Result<bool, OutOfMemory>
-        ensures over { IfOk result (λ over. over ≡ true → (functions : ℤ → NameOf → Bool) (h : List EventOf) → IsWellFormed functions h → IsPending h arrival.now.pending.now
+        ensures over { IfOk result (λ over. over ≡ true → (functions : ItemOf → NameOf → Bool) (h : List EventOf) → IsWellFormed functions h → IsPending h arrival.now.pending.now
             → IsCompressed (O.starts arrival.now.object.now) (O.step arrival.now.object.now) (O.observing arrival.now.object.now) (O.overwriting arrival.now.object.now) h self.now nodes.old
             → IsOver (O.starts arrival.now.object.now) (O.step arrival.now.object.now) h budget) }
         ensures nodes { nodes.new ≡ nodes.old }
@@ -451,7 +452,7 @@ impl<O: SeqObject> Compressed<O> {
         nodes: &mut RoundNodes,
         meter: &mut Meter,
     ) -> Result<bool, OutOfMemory>
-        ensures over { IfOk result (λ over. over ≡ true → (functions : ℤ → NameOf → Bool) (h : List EventOf) → IsNextEvent functions h arrival.now.pending.now arrival.now.at arrival.now.event.now
+        ensures over { IfOk result (λ over. over ≡ true → (functions : ItemOf → NameOf → Bool) (h : List EventOf) → IsNextEvent functions h arrival.now.pending.now arrival.now.at arrival.now.event.now
             → IsCompressed (O.starts arrival.now.object.now) (O.step arrival.now.object.now) (O.observing arrival.now.object.now) (O.overwriting arrival.now.object.now) (with_event h arrival.now.event.now) self.now nodes.old
             → IsOver (O.starts arrival.now.object.now) (O.step arrival.now.object.now) (with_event h arrival.now.event.now) budget) }
         ensures nodes { nodes.new ≡ nodes.old }
@@ -477,14 +478,14 @@ impl<O: SeqObject> Compressed<O> {
     ) -> Result<Advance<O>, OutOfMemory>
         requires ok { (name : NameOf) × (reply : ReplyOf) × (arrival.now.event.now.body ≡ BodyOf.Ok name reply) }
         requires alone { AreAlone (O.overwriting arrival.now.object.now) self.now }
-        ensures next { IfOk result (λ step. (next : List (MemberOf O.State × PathOf)) → step ≡ Advance.Next next → (functions : ℤ → NameOf → Bool) (h : List EventOf)
+        ensures next { IfOk result (λ step. (next : List (MemberOf O.State × PathOf)) → step ≡ Advance.Next next → (functions : ItemOf → NameOf → Bool) (h : List EventOf)
             → IsNextEvent functions h arrival.now.pending.now arrival.now.at arrival.now.event.now → IsCompressed (O.starts arrival.now.object.now) (O.step arrival.now.object.now) (O.observing arrival.now.object.now) (O.overwriting arrival.now.object.now) h self.now nodes.old
             → IsCompressed (O.starts arrival.now.object.now) (O.step arrival.now.object.now) (O.observing arrival.now.object.now) (O.overwriting arrival.now.object.now) (with_event h arrival.now.event.now) next nodes.new) }
         ensures some { IfOk result (λ step. (next : List (MemberOf O.State × PathOf)) → step ≡ Advance.Next next → 0 < length next) }
-        ensures empty { IfOk result (λ step. step ≡ Advance.Empty → (functions : ℤ → NameOf → Bool) (h : List EventOf)
+        ensures empty { IfOk result (λ step. step ≡ Advance.Empty → (functions : ItemOf → NameOf → Bool) (h : List EventOf)
             → IsNextEvent functions h arrival.now.pending.now arrival.now.at arrival.now.event.now → IsCompressed (O.starts arrival.now.object.now) (O.step arrival.now.object.now) (O.observing arrival.now.object.now) (O.overwriting arrival.now.object.now) h self.now nodes.old
             → IsLinearizableBy (O.starts arrival.now.object.now) (O.step arrival.now.object.now) (with_event h arrival.now.event.now) → ⊥) }
-        ensures before { IfOk result (λ step. step ≡ Advance.OverBefore → (functions : ℤ → NameOf → Bool) (h : List EventOf)
+        ensures before { IfOk result (λ step. step ≡ Advance.OverBefore → (functions : ItemOf → NameOf → Bool) (h : List EventOf)
             → IsNextEvent functions h arrival.now.pending.now arrival.now.at arrival.now.event.now → IsCompressed (O.starts arrival.now.object.now) (O.step arrival.now.object.now) (O.observing arrival.now.object.now) (O.overwriting arrival.now.object.now) h self.now nodes.old
             → (0 < arrival.now.at) × IsOver (O.starts arrival.now.object.now) (O.step arrival.now.object.now) h budget) }
         ensures never { IfOk result (λ step. (step ≡ Advance.Over) ⊎ (step ≡ Advance.Same) → ⊥) }

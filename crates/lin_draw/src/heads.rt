@@ -1,19 +1,20 @@
 //! The texts over and under the rows.
 ghost use Rattle.std.specs.Prelude.{◌<◌, IfSome, length};
 
-use lin_formats::{kind_word, put_integer, put_number};
+use lin_events::Item;
+use lin_formats::{kind_word, put_item, put_number};
 use lin_session::{Answer, Session};
 use std::alloc::{AllocError, Global};
 
 /// What a picture is about: the object of this key, if there is one, by so many of the first events.
 #[derive(Clone, Copy)]
 pub(crate) struct Subject {
-    pub(crate) key: Option<i64>,
+    pub(crate) key: Option<Item>,
     pub(crate) count: usize,
 }
 
 /// The key of the event at the position, if there is one.
-fn key_at(session: &Session, at: usize) -> Option<i64> {
+fn key_at(session: &Session, at: usize) -> Option<Item> {
     match session.event(at) {
         Some(event) => Some(event.key),
         None => None,
@@ -21,7 +22,7 @@ fn key_at(session: &Session, at: usize) -> Option<i64> {
 }
 
 /// What the picture is about that is drawn where a key is asked for, or the whole.
-pub(crate) fn subject_of(session: &Session, answer: &Answer, key: Option<i64>) -> Subject {
+pub(crate) fn subject_of(session: &Session, answer: &Answer, key: Option<Item>) -> Subject {
     let count = session.len();
     match answer {
         Answer::No { prefix } => Subject {
@@ -72,9 +73,9 @@ fn around_call(line: &[u8]) -> Option<(&[u8], &[u8])> {
 }
 
 /// Puts the key's object and its kind last, behind a comma.
-fn put_object(text: &mut Vec<u8>, session: &Session, key: i64) -> Result<(), AllocError> {
+fn put_object(text: &mut Vec<u8>, session: &Session, key: Item) -> Result<(), AllocError> {
     text.extend_from_slice(b", object ")?;
-    put_integer(text, key)?;
+    put_item(text, key)?;
     text.push(b' ')?;
     text.extend_from_slice(kind_word(session.kind_of(key)).as_bytes())
 }
@@ -107,7 +108,7 @@ fn put_subject(
     text: &mut Vec<u8>,
     session: &Session,
     answer: &Answer,
-    key: Option<i64>,
+    key: Option<Item>,
     lines: &[u8],
 ) -> Result<(), AllocError> {
     let Some(key) = key else {
@@ -128,7 +129,7 @@ pub(crate) fn head_of(
     alloc: Global,
     session: &Session,
     answer: &Answer,
-    key: Option<i64>,
+    key: Option<Item>,
     lines: &[u8],
 ) -> Result<Vec<u8>, AllocError> {
     let mut head = Vec::new(alloc);

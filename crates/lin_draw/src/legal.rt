@@ -1,6 +1,6 @@
 //! Legal orders of the events before a failure.
 use crate::own::Own;
-use lin_events::OutOfMemory;
+use lin_events::{Item, OutOfMemory};
 use lin_orders::Placed;
 use lin_session::{Answer, Scope, Session};
 use std::alloc::Global;
@@ -27,7 +27,7 @@ fn with_positions(
 fn order_of(
     alloc: Global,
     session: &Session,
-    key: i64,
+    key: Item,
     own: Own,
 ) -> Result<Option<Vec<Placed>>, OutOfMemory> {
     let Own { events, picks } = own;
@@ -45,7 +45,7 @@ fn order_of(
 pub(crate) fn order_before(
     alloc: Global,
     session: &Session,
-    key: i64,
+    key: Item,
     own: &Own,
     failing: usize,
 ) -> Result<Vec<Placed>, OutOfMemory> {

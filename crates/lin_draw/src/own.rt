@@ -1,7 +1,7 @@
 //! The events of one object.
 ghost use Rattle.std.specs.Prelude.{◌≡◌, ◌∷◌, ◌++◌, [], OnOk};
 
-use lin_events::{Event, OutOfMemory};
+use lin_events::{Event, Item, OutOfMemory};
 use lin_session::Session;
 use std::alloc::Global;
 
@@ -25,7 +25,7 @@ fn take_in(alloc: Global, own: &mut Own, event: &Event, at: usize) -> Result<(),
 pub(crate) fn own_of(
     alloc: Global,
     session: &Session,
-    key: i64,
+    key: Item,
     count: usize,
 ) -> Result<Own, OutOfMemory> {
     let mut own = Own {

@@ -11,7 +11,7 @@ use crate::heads::{Subject, head_of, left_out, subject_of, told_of};
 use crate::layouts::{Layout, MARGIN, Object};
 use crate::legal::order_before;
 use crate::own::{Own, own_of};
-use lin_events::OutOfMemory;
+use lin_events::{Item, OutOfMemory};
 use lin_orders::{Placed, ends_of};
 use lin_places::Place;
 use lin_session::{Answer, Session};
@@ -63,7 +63,7 @@ fn order_in<'a>(answer: &'a Answer, found: &'a [Placed]) -> &'a [Placed] {
 fn events_for(alloc: Global, asked: &Asked) -> Result<Own, OutOfMemory> {
     match asked.subject.key {
         Some(key) => own_of(alloc, asked.session, key, asked.subject.count),
-        None => own_of(alloc, asked.session, 0, 0),
+        None => own_of(alloc, asked.session, Item::Int(0), 0),
     }
 }
 
@@ -142,7 +142,7 @@ pub fn picture_with_places(
     alloc: Global,
     session: &Session,
     answer: &Answer,
-    key: Option<i64>,
+    key: Option<Item>,
     lines: &[u8],
     places: Option<&[Place]>,
 ) -> Result<Vec<u8>, OutOfMemory>
@@ -166,7 +166,7 @@ pub fn picture(
     alloc: Global,
     session: &Session,
     answer: &Answer,
-    key: Option<i64>,
+    key: Option<Item>,
     lines: &[u8],
 ) -> Result<Vec<u8>, OutOfMemory>
     ensures { IfOk result (λ text. (at : ℕ) (cause : CauseOf) → answer.now ≡ Answer.IllFormed at cause → text.items ≡ []) }

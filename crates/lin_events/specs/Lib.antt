@@ -1,7 +1,7 @@
 pub mod Replies
 pub mod Operations
 pub mod Names
-pub mod Numbers
+pub mod Items
 pub mod Sameness
 pub mod Meters
 pub mod WellFormed

@@ -1,5 +1,6 @@
 -- Operations of a history (Herlihy and Wing 1990, section 2). A history is a list of events, whose positions count from 0.
-use Rattle.std.specs.Prelude.{◌≡◌, ◌<◌, ℕ, ℤ, List, Some, slice_get}
+use Rattle.std.specs.Prelude.{◌≡◌, ◌<◌, ℕ, List, Some, slice_get}
+use Rattle.lin_events.specs.declared.items.Item.{Item}
 use Rattle.lin_events.specs.declared.events.Event.{Event}
 use Rattle.lin_events.specs.declared.events.Body.TheVariants.{Invoke, Ok, Fail, Info}
 use Rattle.lin_events.specs.declared.calls.Call.{Call}
@@ -15,13 +16,13 @@ abbrev pub IsOf : List Event → ℕ → ℕ → Type 0
 IsOf h process at = (event : Event) × IsEvent h at event × (event.process ≡ process)
 
 -- an operation is the position of an invocation
-abbrev pub IsOperation : List Event → ℕ → ℕ → ℤ → Call → Type 0
+abbrev pub IsOperation : List Event → ℕ → ℕ → Item → Call → Type 0
 IsOperation h at process key call = IsEvent h at (record { process = process; key = key; body = Invoke call })
 
 -- the operation ends with the event at `end`, the least later position of its process
 pub record IsEnd (h : List Event) (at end : ℕ) (ending : Event) : Type 0 where
   pub process : ℕ
-  pub key : ℤ
+  pub key : Item
   pub call : Call
   pub begins : IsOperation h at process key call
   pub later : at < end
@@ -42,7 +43,7 @@ abbrev pub IsCrashed : List Event → ℕ → Type 0
 IsCrashed h at = (end : ℕ) × (ending : Event) × IsEnd h at end ending × (name : Name) × (ending.body ≡ Info name)
 
 -- the operation is open: it is neither ok nor failed
-pub record IsOpen (h : List Event) (at process : ℕ) (key : ℤ) (call : Call) : Type 0 where
+pub record IsOpen (h : List Event) (at process : ℕ) (key : Item) (call : Call) : Type 0 where
   pub begins : IsOperation h at process key call
   pub no_ok : (end : ℕ) (reply : Reply) → IsOk h at end reply → ⊥
   pub no_fail : IsFailed h at → ⊥

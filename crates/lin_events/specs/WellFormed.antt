@@ -1,6 +1,7 @@
 -- Well-formed histories (Herlihy and Wing 1990, section 2): the events of each process alternate between invocations and their completions.
 -- Each position is judged by looking back to the last earlier event of its process. `functions` tells which functions the object of a key has.
-use Rattle.std.specs.Prelude.{◌≡◌, ◌≢◌, ◌<◌, ◌⊎◌, ℕ, ℤ, Bool, false, List, Option, MatchOption, take}
+use Rattle.std.specs.Prelude.{◌≡◌, ◌≢◌, ◌<◌, ◌⊎◌, ℕ, Bool, false, List, Option, MatchOption, take}
+use Rattle.lin_events.specs.declared.items.Item.{Item}
 use Rattle.lin_events.specs.declared.calls.Call.{Call}
 use Rattle.lin_events.specs.declared.calls.Name.{Name}
 use Rattle.lin_events.specs.declared.events.Body.{Body}
@@ -44,13 +45,13 @@ IsStatus h process status = (((k : ℕ) → IsOf h process k → ⊥) × (status
     ⊎ ((at : ℕ) × (event : Event) × IsLast h process at event × (status ≡ left_by event))
 
 -- the six causes: when each holds of an event that finds its process in the status
-abbrev pub Holds : (ℤ → Name → Bool) → Status → Event → Cause → Type 0
+abbrev pub Holds : (Item → Name → Bool) → Status → Event → Cause → Type 0
 Holds functions status event RetiredProcess = status ≡ Retired
-Holds functions status event BusyProcess = (call : Call) × (event.body ≡ Invoke call) × (called : Name) × (key : ℤ) × (status ≡ Busy called key)
+Holds functions status event BusyProcess = (call : Call) × (event.body ≡ Invoke call) × (called : Name) × (key : Item) × (status ≡ Busy called key)
 Holds functions status event NotOfKind = (call : Call) × (event.body ≡ Invoke call) × (functions event.key (name_of call) ≡ false)
 Holds functions status event NoInvocation = (name : Name) × Completes event.body name × (status ≡ Idle)
-Holds functions status event OtherCall = (name : Name) × Completes event.body name × (called : Name) × (key : ℤ) × (status ≡ Busy called key) × (called ≢ name)
-Holds functions status event OtherKey = (name : Name) × Completes event.body name × (called : Name) × (key : ℤ) × (status ≡ Busy called key) × (key ≢ event.key)
+Holds functions status event OtherCall = (name : Name) × Completes event.body name × (called : Name) × (key : Item) × (status ≡ Busy called key) × (called ≢ name)
+Holds functions status event OtherKey = (name : Name) × Completes event.body name × (called : Name) × (key : Item) × (status ≡ Busy called key) × (key ≢ event.key)
 
 -- the causes in their order
 abbrev pub number : Cause → ℕ
@@ -62,16 +63,16 @@ number OtherCall = 5
 number OtherKey = 6
 
 -- the first cause that holds
-pub record IsFirstCause (functions : ℤ → Name → Bool) (status : Status) (event : Event) (cause : Cause) : Type 0 where
+pub record IsFirstCause (functions : Item → Name → Bool) (status : Status) (event : Event) (cause : Cause) : Type 0 where
   pub holds : Holds functions status event cause
   pub first : (other : Cause) → number other < number cause → Holds functions status event other → ⊥
 
 -- this is the first cause that holds; or none is given, and none holds
-abbrev pub IsVerdict : (ℤ → Name → Bool) → Status → Event → Option Cause → Type 0
+abbrev pub IsVerdict : (Item → Name → Bool) → Status → Event → Option Cause → Type 0
 IsVerdict functions status event verdict = MatchOption verdict ((cause : Cause) → Holds functions status event cause → ⊥) (IsFirstCause functions status event)
 
 -- the position is bad for this cause
-pub record IsBad (functions : ℤ → Name → Bool) (h : List Event) (at : ℕ) (cause : Cause) : Type 0 where
+pub record IsBad (functions : Item → Name → Bool) (h : List Event) (at : ℕ) (cause : Cause) : Type 0 where
   pub event : Event
   pub stands : IsEvent h at event
   pub status : Status
@@ -79,10 +80,10 @@ pub record IsBad (functions : ℤ → Name → Bool) (h : List Event) (at : ℕ)
   pub caused : IsFirstCause functions status event cause
 
 -- no position is bad; or this one is the least bad one, for this cause
-abbrev pub IsShape : (ℤ → Name → Bool) → List Event → Shape → Type 0
+abbrev pub IsShape : (Item → Name → Bool) → List Event → Shape → Type 0
 IsShape functions h Good = (k : ℕ) (cause : Cause) → IsBad functions h k cause → ⊥
 IsShape functions h (Bad at cause) = IsBad functions h at cause × ((k : ℕ) (other : Cause) → k < at → IsBad functions h k other → ⊥)
 
 -- no position is bad
-abbrev pub IsWellFormed : (ℤ → Name → Bool) → List Event → Type 0
+abbrev pub IsWellFormed : (Item → Name → Bool) → List Event → Type 0
 IsWellFormed functions h = IsShape functions h Good

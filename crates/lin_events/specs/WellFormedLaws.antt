@@ -1,5 +1,6 @@
 -- Laws of well-formed histories.
-use Rattle.std.specs.Prelude.{◌≡◌, ◌≢◌, ◌↔◌, ◌<◌, ℕ, ℤ, Bool, List, [], ◌∷◌, ◌++◌, take}
+use Rattle.std.specs.Prelude.{◌≡◌, ◌≢◌, ◌↔◌, ◌<◌, ℕ, Bool, List, [], ◌∷◌, ◌++◌, take}
+use Rattle.lin_events.specs.declared.items.Item.{Item}
 use Rattle.lin_events.specs.declared.calls.Name.{Name}
 use Rattle.lin_events.specs.declared.events.Event.{Event}
 use Rattle.lin_events.specs.declared.shapes.Cause.{Cause}
@@ -11,7 +12,7 @@ use Rattle.lin_events.specs.Alternation.{IsAlternating}
 
 -- a history is well-formed exactly when its operations alternate
 abbrev pub WellFormedIsAlternating : Type 0
-WellFormedIsAlternating = (functions : ℤ → Name → Bool) (h : List Event) → IsWellFormed functions h ↔ IsAlternating functions h
+WellFormedIsAlternating = (functions : Item → Name → Bool) (h : List Event) → IsWellFormed functions h ↔ IsAlternating functions h
 
 -- an operation has at most one end
 abbrev pub EndsAreUnique : Type 0
@@ -19,7 +20,7 @@ EndsAreUnique = (h : List Event) (at end other : ℕ) (ending another : Event) �
 
 -- each beginning of a well-formed history is well-formed
 abbrev pub BeginningsAreWellFormed : Type 0
-BeginningsAreWellFormed = (functions : ℤ → Name → Bool) (h : List Event) (n : ℕ) → IsWellFormed functions h → IsWellFormed functions (take n h)
+BeginningsAreWellFormed = (functions : Item → Name → Bool) (h : List Event) (n : ℕ) → IsWellFormed functions h → IsWellFormed functions (take n h)
 
 -- an event decides what its process is after it
 abbrev pub EventsDecideStatuses : Type 0
@@ -31,18 +32,18 @@ OtherStatusesStay = (h : List Event) (event : Event) (process : ℕ) (status : S
 
 -- where no cause holds, the position is not bad
 abbrev pub NoCauseIsGood : Type 0
-NoCauseIsGood = (functions : ℤ → Name → Bool) (h : List Event) (at : ℕ) (event : Event) (status : Status) → IsEvent h at event → IsStatus (take at h) event.process status
+NoCauseIsGood = (functions : Item → Name → Bool) (h : List Event) (at : ℕ) (event : Event) (status : Status) → IsEvent h at event → IsStatus (take at h) event.process status
     → ((cause : Cause) → Holds functions status event cause → ⊥) → (cause : Cause) → IsBad functions h at cause → ⊥
 
 -- bad in a beginning are the bad positions inside it
 abbrev pub BadWithinBeginnings : Type 0
-BadWithinBeginnings = (functions : ℤ → Name → Bool) (h : List Event) (n at : ℕ) (cause : Cause) → IsBad functions (take n h) at cause ↔ ((at < n) × IsBad functions h at cause)
+BadWithinBeginnings = (functions : Item → Name → Bool) (h : List Event) (n at : ℕ) (cause : Cause) → IsBad functions (take n h) at cause ↔ ((at < n) × IsBad functions h at cause)
 
 -- objects that have the same functions, at each key of the history, give it the same shape
 abbrev pub SameFunctionsSameShape : Type 0
-SameFunctionsSameShape = (functions other : ℤ → Name → Bool) (h : List Event) (shape : Shape)
+SameFunctionsSameShape = (functions other : Item → Name → Bool) (h : List Event) (shape : Shape)
     → ((k : ℕ) (event : Event) → IsEvent h k event → functions event.key ≡ other event.key) → IsShape functions h shape → IsShape other h shape
 
 -- a history has at most one shape
 abbrev pub ShapesAreUnique : Type 0
-ShapesAreUnique = (functions : ℤ → Name → Bool) (h : List Event) (shape other : Shape) → IsShape functions h shape → IsShape functions h other → shape ≡ other
+ShapesAreUnique = (functions : Item → Name → Bool) (h : List Event) (shape other : Shape) → IsShape functions h shape → IsShape functions h other → shape ≡ other

@@ -4,3 +4,4 @@ pub mod ShapeLemmas
 pub mod Deciding
 pub mod Alternating
 pub mod OneMore
+pub mod Rising

@@ -2,14 +2,15 @@
 ghost use Rattle.std.specs.Prelude.{◌≡◌, IfOk};
 ghost use Rattle.lin_events.specs.Names.{name_of};
 
-use crate::numbers::{IntSet, OutOfMemory};
+use crate::items::Item;
+use crate::lists::{IntSet, OutOfMemory};
 use std::alloc::Global;
 
-/// A value of a register or an element of a queue: nil or a number.
+/// A value of a register, or what a dequeue returns: nil or an item.
 #[derive(Clone, Copy, Debug, PartialEq, Eq, Hash)]
 pub enum Val {
     Nil,
-    Int(i64),
+    Item(Item),
 }
 
 /// The function that an operation names.
@@ -31,9 +32,9 @@ pub enum Call {
     Read,
     Write(Val),
     Cas(Val, Val),
-    Enqueue(i64),
+    Enqueue(Item),
     Dequeue,
-    Add(i64),
+    Add(Item),
     Acquire,
     Release,
 }

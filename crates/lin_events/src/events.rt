@@ -2,7 +2,8 @@
 ghost use Rattle.std.specs.Prelude.{◌≡◌, IfOk};
 
 use crate::calls::{Call, Name, Reply};
-use crate::numbers::OutOfMemory;
+use crate::items::Item;
+use crate::lists::OutOfMemory;
 use std::alloc::Global;
 
 /// What an event says: an invocation, or one of the three completions.
@@ -20,7 +21,7 @@ pub enum Body {
 #[derive(PartialEq, Eq, Drop)]
 pub struct Event {
     pub process: u64,
-    pub key: i64,
+    pub key: Item,
     pub body: Body,
 }
 

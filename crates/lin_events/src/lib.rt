@@ -3,17 +3,19 @@
 
 mod calls;
 mod events;
+mod items;
 mod laws;
+mod lists;
 mod meter;
-mod numbers;
 mod shapes;
 
 pub use calls::{Call, Name, Reply, Val};
 pub use events::{Body, Event};
+pub use items::{Item, items_are_ordered};
 pub use laws::{
     bad_positions, beginnings_are_well_formed, ends_are_unique, shapes_are_unique,
     statuses_after_events, well_formed_is_alternating,
 };
+pub use lists::{IntSet, Items, OutOfMemory, sets};
 pub use meter::Meter;
-pub use numbers::{IntSet, Numbers, OutOfMemory, sets};
 pub use shapes::{Cause, Shape, Status};

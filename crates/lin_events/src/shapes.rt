@@ -2,6 +2,7 @@
 ghost use Rattle.std.specs.Prelude.{◌≡◌, ◌↔◌, IsTrue};
 
 use crate::calls::Name;
+use crate::items::Item;
 
 /// Why an event is bad, in the order in which the causes are tested.
 #[derive(Clone, Copy, Debug, PartialEq, Eq)]
@@ -42,7 +43,7 @@ pub enum Status {
     /// Free to invoke.
     Idle,
     /// Within an operation: what was invoked, and at which key.
-    Busy { called: Name, key: i64 },
+    Busy { called: Name, key: Item },
     /// Not to be used again.
     Retired,
 }

@@ -1,9 +1,10 @@
 -- The event with which legal orders end.
-use Rattle.std.proofs.Common.{◌≡◌, ◌≢◌, ◌+◌, ◌-◌, ◌<◌, ℕ, ℤ, Bool, true, false, suc, List, [], ◌∷◌, ◌++◌, length, length-append, append-nil, take, refl, sym, ap, subst, ◌∙◌, arith, inl, inr}
-use Rattle.std.specs.Ordering.{int_eq}
-use Rattle.std.proofs.lemmas.Bool.Decides.{Decides-int_eq}
+use Rattle.std.proofs.Common.{◌≡◌, ◌≢◌, ◌+◌, ◌-◌, ◌<◌, ℕ, Bool, true, false, suc, List, [], ◌∷◌, ◌++◌, length, length-append, append-nil, take, refl, sym, ap, subst, ◌∙◌, arith, inl, inr}
 use Rattle.std.proofs.lemmas.Bool.{cases_order, false≢true}
 use Rattle.std.proofs.lemmas.List.{take_all}
+use Rattle.lin_events.specs.declared.items.Item.{Item}
+use Rattle.lin_events.specs.Sameness.{Decides-item_eq}
+use Rattle.lin_events.specs.Items.{item_eq}
 use Rattle.lin_events.specs.declared.calls.Call.{Call}
 use Rattle.lin_events.specs.declared.calls.Name.{Name}
 use Rattle.lin_events.specs.declared.calls.Reply.{Reply}
@@ -35,7 +36,7 @@ use Rattle.lin_explain.specs.inner.Laws.{FailuresEnd, IsFailure, IsLegalHistory}
 use Rattle.lin_explain.specs.Own.{without_last}
 
 module _ (alternates : WellFormedIsAlternating) (kind : Kind) (invoked : InvocationLaw (start kind) (Step kind)) (informed : InfoLaw (start kind) (Step kind))
-    (ended : LegalOrdersEnd (start kind) (Step kind)) (functions : ℤ → Name → Bool) (ahead : List Event) (ending : Event)
+    (ended : LegalOrdersEnd (start kind) (Step kind)) (functions : Item → Name → Bool) (ahead : List Event) (ending : Event)
     (fine : IsWellFormed functions (ahead ++ ending ∷ [])) (begins : BeginningsAreWellFormed) (before : IsLinearizableAs kind ahead)
     (fails : IsLinearizableAs kind (ahead ++ ending ∷ []) → ⊥) where
   ahead_taken : take (length ahead) (ahead ++ ending ∷ []) ≡ ahead
@@ -66,7 +67,7 @@ module _ (alternates : WellFormedIsAlternating) (kind : Kind) (invoked : Invocat
 
   -- no operation of its process crashed
   none_crashed : (call : ℕ) (called : Call) → IsOperation (ahead ++ ending ∷ []) call ending.process ending.key called → IsEnd (ahead ++ ending ∷ []) call (length ahead) ending
-      → (at : ℕ) (key : ℤ) (other : Call) → IsOperation ahead at ending.process key other → IsCrashed ahead at → ⊥
+      → (at : ℕ) (key : Item) (other : Call) → IsOperation ahead at ending.process key other → IsCrashed ahead at → ⊥
   none_crashed call called begun is_end at key other crashing crashed = elim (cases_order at call) [
     | inl same ↦
         let again = subst (λ k. IsEnd (ahead ++ ending ∷ []) k crashed.0 crashed.1) same over in
@@ -117,17 +118,17 @@ module _ (alternates : WellFormedIsAlternating) (kind : Kind) (invoked : Invocat
   is_failure = by_body ending.body refl
 
 module _ (begins : BeginningsAreWellFormed) (fine_parts : PartsAreWellFormed) (linear : LinearizableByPart) (grow : PartsGrow) (local : IsLocal)
-    (kinds : ℤ → Kind) (h : List Event) (fine : IsWellFormed (functions_of kinds) h) (at : ℕ) (ending : Event) (is : IsEvent h at ending) where
+    (kinds : Item → Kind) (h : List Event) (fine : IsWellFormed (functions_of kinds) h) (at : ℕ) (ending : Event) (is : IsEvent h at ending) where
   longer : take (at + 1) h ≡ take at h ++ ending ∷ []
   longer = let next : at + 1 ≡ suc at = omega arith in ap (λ n. take n h) next ∙ take_next at h ending is
 
   -- the part of the object is legal together with the history
-  by_part : (key : ℤ) (n : ℕ) → (IsLinearizableFor kinds key (take n h) → IsLinearizableAs (kinds key) (part key (take n h)))
+  by_part : (key : Item) (n : ℕ) → (IsLinearizableFor kinds key (take n h) → IsLinearizableAs (kinds key) (part key (take n h)))
       × (IsLinearizableAs (kinds key) (part key (take n h)) → IsLinearizableFor kinds key (take n h))
   by_part key n = let both = linear (functions_of kinds) kinds key (take n h) (begins (functions_of kinds) h n fine) in (both.0, both.1)
 
   -- an event of another key changes nothing
-  other_stays : (key : ℤ) → ending.key ≢ key → IsLinearizableFor kinds key (take at h) → IsLinearizableFor kinds key (take (at + 1) h)
+  other_stays : (key : Item) → ending.key ≢ key → IsLinearizableFor kinds key (take at h) → IsLinearizableFor kinds key (take (at + 1) h)
   other_stays key differ lin =
       let same : part key (take at h) ≡ part key (take (at + 1) h) = sym ((grow key (take at h) ending).same differ) ∙ sym (ap (part key) longer) in
       (by_part key (at + 1)).1 (subst (IsLinearizableAs (kinds key)) same ((by_part key at).0 lin))
@@ -143,20 +144,20 @@ module _ (begins : BeginningsAreWellFormed) (fine_parts : PartsAreWellFormed) (l
         (end_so (functions_of kinds) (part key (take at h)) ending (subst (IsWellFormed (functions_of kinds)) whole fine_part) ((by_part key at).0 lin)
         (λ legal. fails ((by_part key (at + 1)).1 (subst (IsLinearizableAs (kinds key)) (sym whole) legal))))
 
-    pub object_fails : (key : ℤ) → IsLinearizableFor kinds key (take at h) → (IsLinearizableFor kinds key (take (at + 1) h) → ⊥)
+    pub object_fails : (key : Item) → IsLinearizableFor kinds key (take at h) → (IsLinearizableFor kinds key (take (at + 1) h) → ⊥)
         → IsFailure (kinds ending.key) (part ending.key (take (at + 1) h)) ending
-    object_fails key lin fails = by (int_eq ending.key key) refl
+    object_fails key lin fails = by (item_eq ending.key key) refl
       where
-        by : (b : Bool) → int_eq ending.key key ≡ b → IsFailure (kinds ending.key) (part ending.key (take (at + 1) h)) ending
+        by : (b : Bool) → item_eq ending.key key ≡ b → IsFailure (kinds ending.key) (part ending.key (take (at + 1) h)) ending
         by true e =
-            let same = (Decides-int_eq ending.key key).0 e in
+            let same = (Decides-item_eq ending.key key).0 e in
             own_fails (subst (λ k. IsLinearizableFor kinds k (take at h)) (sym same) lin) (λ own. fails (subst (λ k. IsLinearizableFor kinds k (take (at + 1) h)) same own))
-        by false e = absurd (fails (other_stays key (λ same. false≢true (sym e ∙ (Decides-int_eq ending.key key).1 same)) lin))
+        by false e = absurd (fails (other_stays key (λ same. false≢true (sym e ∙ (Decides-item_eq ending.key key).1 same)) lin))
 
     pub whole_fails : IsLinearizable kinds (take at h) → (IsLinearizable kinds (take (at + 1) h) → ⊥)
         → IsFailure (kinds ending.key) (part ending.key (take (at + 1) h)) ending
-    whole_fails lin fails = own_fails ((local kinds (take at h)).0 lin ending.key) (λ own. fails ((local kinds (take (at + 1) h)).1 (λ key. by own key (int_eq ending.key key) refl)))
+    whole_fails lin fails = own_fails ((local kinds (take at h)).0 lin ending.key) (λ own. fails ((local kinds (take (at + 1) h)).1 (λ key. by own key (item_eq ending.key key) refl)))
       where
-        by : IsLinearizableFor kinds ending.key (take (at + 1) h) → (key : ℤ) (b : Bool) → int_eq ending.key key ≡ b → IsLinearizableFor kinds key (take (at + 1) h)
-        by own key true e = subst (λ k. IsLinearizableFor kinds k (take (at + 1) h)) ((Decides-int_eq ending.key key).0 e) own
-        by own key false e = other_stays key (λ same. false≢true (sym e ∙ (Decides-int_eq ending.key key).1 same)) ((local kinds (take at h)).0 lin key)
+        by : IsLinearizableFor kinds ending.key (take (at + 1) h) → (key : Item) (b : Bool) → item_eq ending.key key ≡ b → IsLinearizableFor kinds key (take (at + 1) h)
+        by own key true e = subst (λ k. IsLinearizableFor kinds k (take (at + 1) h)) ((Decides-item_eq ending.key key).0 e) own
+        by own key false e = other_stays key (λ same. false≢true (sym e ∙ (Decides-item_eq ending.key key).1 same)) ((local kinds (take at h)).0 lin key)

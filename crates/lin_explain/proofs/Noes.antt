@@ -1,5 +1,6 @@
 -- The failure that a no is about.
-use Rattle.std.proofs.Common.{◌≡◌, ◌+◌, ◌-◌, ℤ, List, take, sym, subst, arith}
+use Rattle.std.proofs.Common.{◌≡◌, ◌+◌, ◌-◌, List, take, sym, subst, arith}
+use Rattle.lin_events.specs.declared.items.Item.{Item}
 use Rattle.lin_events.specs.declared.events.Event.{Event}
 use Rattle.lin_events.specs.WellFormedLaws.{BeginningsAreWellFormed}
 use Rattle.lin_objects.specs.declared.kinds.Kind.{Kind}
@@ -23,7 +24,7 @@ module _ (begins : BeginningsAreWellFormed) (fine_parts : PartsAreWellFormed) (l
       h : List Event
       h = now.history
 
-      kinds : ℤ → Kind
+      kinds : Item → Kind
       kinds = kinds_in now
 
       one : (n - 1) + 1 ≡ n

@@ -1,8 +1,9 @@
 -- The part of an object, event by event.
-use Rattle.std.proofs.Common.{◌≡◌, ◌≢◌, ◌+◌, ℕ, ℤ, suc, List, [], ◌∷◌, ◌++◌, Some, length, slice_get, take, ap, refl, sym, subst, true, ltb, get_or, ◌∙◌, arith}
+use Rattle.std.proofs.Common.{◌≡◌, ◌≢◌, ◌+◌, ℕ, suc, List, [], ◌∷◌, ◌++◌, Some, length, slice_get, take, ap, refl, sym, subst, true, ltb, get_or, ◌∙◌, arith}
 use Rattle.std.proofs.lemmas.List.{length-take-le}
 use Rattle.std.proofs.lemmas.Option.{slice_get_read, slice_get_within}
 use Rattle.std.proofs.lemmas.Bool.{ltb-true}
+use Rattle.lin_events.specs.declared.items.Item.{Item}
 use Rattle.lin_events.specs.declared.events.Event.{Event}
 use Rattle.lin_lists.specs.lemmas.Lists.{take_next}
 use Rattle.lin_orders.specs.PartLaws.{PartsGrow}
@@ -11,7 +12,7 @@ use Rattle.lin_orders.specs.Parts.{ArePositionsOf, part}
 one_longer : (h : List Event) (at : ℕ) (event : Event) → slice_get h at ≡ Some event → take (at + 1) h ≡ take at h ++ event ∷ []
 one_longer h at event is = let next : at + 1 ≡ suc at = omega arith in ap (λ n. take n h) next ∙ take_next at h event is
 
-module _ (grow : PartsGrow) (key : ℤ) (h : List Event) (at : ℕ) (event : Event) (is : slice_get h at ≡ Some event) (events : List Event) (picks : List ℕ)
+module _ (grow : PartsGrow) (key : Item) (h : List Event) (at : ℕ) (event : Event) (is : slice_get h at ≡ Some event) (events : List Event) (picks : List ℕ)
     (so_far : (events ≡ part key (take at h)) × ArePositionsOf key (take at h) picks) where
   pub with_one : event.key ≡ key → (events ++ event ∷ [] ≡ part key (take (at + 1) h)) × ArePositionsOf key (take (at + 1) h) (picks ++ at ∷ [])
   with_one same =

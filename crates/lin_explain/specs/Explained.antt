@@ -1,5 +1,6 @@
 -- The lines of an explanation that follow the answer's own, for each answer.
-use Rattle.std.specs.Prelude.{◌≡◌, ℤ, ℕ, List, Option, Some, None}
+use Rattle.std.specs.Prelude.{◌≡◌, ℕ, List, Option, Some, None}
+use Rattle.lin_events.specs.declared.items.Item.{Item}
 use Rattle.lin_places.specs.declared.place.Place.{Place}
 use Rattle.lin_session.specs.Answers.{kinds_in}
 use Rattle.lin_session.specs.Edits.{Present}
@@ -17,7 +18,7 @@ use Rattle.lin_explain.specs.declared.parts.Parts.TheVariants as Part
 use Rattle.lin_explain.specs.declared.telling.Asked.{Asked}
 
 -- the object of a key, or the whole
-abbrev pub scope_of : Option ℤ → Scope
+abbrev pub scope_of : Option Item → Scope
 scope_of None = Whole
 scope_of (Some key) = Object key
 

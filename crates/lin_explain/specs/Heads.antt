@@ -1,8 +1,9 @@
 -- Words that several answers begin with.
-use Rattle.std.specs.Prelude.{ℕ, ℤ, List, ◌++◌, codes}
-use Rattle.std.specs.Fmt.{signed_decimal}
+use Rattle.std.specs.Prelude.{ℕ, List, ◌++◌, codes}
+use Rattle.lin_events.specs.declared.items.Item.{Item}
 use Rattle.lin_objects.specs.declared.kinds.Kind.{Kind}
+use Rattle.lin_formats.specs.Items.{item_text}
 use Rattle.lin_formats.specs.Kinds.{kind_text}
 
-abbrev pub object_text : ℤ → Kind → List ℕ
-object_text key kind = codes "object " ++ signed_decimal key ++ codes " " ++ kind_text kind ++ codes ": "
+abbrev pub object_text : Item → Kind → List ℕ
+object_text key kind = codes "object " ++ item_text key ++ codes " " ++ kind_text kind ++ codes ": "

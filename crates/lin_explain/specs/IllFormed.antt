@@ -1,6 +1,6 @@
 -- What is told of a history that isn't well-formed.
-use Rattle.std.specs.Prelude.{◌≡◌, ◌<◌, ℕ, ℤ, List, [], ◌++◌, Option, Some, None, codes}
-use Rattle.std.specs.Fmt.{signed_decimal}
+use Rattle.std.specs.Prelude.{◌≡◌, ◌<◌, ℕ, List, [], ◌++◌, Option, Some, None, codes}
+use Rattle.lin_events.specs.declared.items.Item.{Item}
 use Rattle.lin_events.specs.declared.calls.Name.{Name}
 use Rattle.lin_events.specs.declared.calls.Name.TheVariants.{Read, Write, Cas, Enqueue, Dequeue, Add, Acquire, Release}
 use Rattle.lin_events.specs.declared.events.Event.{Event}
@@ -11,6 +11,7 @@ use Rattle.lin_events.specs.declared.shapes.Cause.TheVariants.{RetiredProcess, B
 use Rattle.lin_events.specs.Names.{name_of}
 use Rattle.lin_events.specs.Operations.{IsEvent, IsOf}
 use Rattle.lin_objects.specs.declared.kinds.Kind.{Kind}
+use Rattle.lin_formats.specs.Items.{item_text}
 use Rattle.lin_formats.specs.Kinds.{kind_text}
 use Rattle.lin_places.specs.declared.place.Place.{Place}
 use Rattle.lin_words.specs.Operations.{event_text, name_text}
@@ -59,9 +60,9 @@ not_of_kind_text kind (Ok name reply) = []
 not_of_kind_text kind (Fail name) = []
 not_of_kind_text kind (Info name) = []
 
-abbrev pub keys_text : Option Event → ℤ → List ℕ
+abbrev pub keys_text : Option Event → Item → List ℕ
 keys_text None key = []
-keys_text (Some event) key = codes "a completion has the key of its invocation: " ++ signed_decimal event.key ++ codes " and " ++ signed_decimal key ++ codes "\n"
+keys_text (Some event) key = codes "a completion has the key of its invocation: " ++ item_text event.key ++ codes " and " ++ item_text key ++ codes "\n"
 
 -- what is asked of histories
 abbrev pub sentence_text : Kind → Event → Option Event → Cause → List ℕ
@@ -85,7 +86,7 @@ abbrev pub bad_text : Kind → Option (List Place) → ℕ → Event → ℕ →
 bad_text kind places at event earlier before cause = (stood_text places at event ++ before_line places earlier before cause) ++ sentence_text kind event before cause
 
 -- the lines: the event, the last one of its process before it, and what is asked of histories. The parts have the event
-pub record IsIllFormedText (h : List Event) (kinds : ℤ → Kind) (places : Option (List Place)) (at : ℕ) (cause : Cause) (lines : List ℕ) (parts : Parts) : Type 0 where
+pub record IsIllFormedText (h : List Event) (kinds : Item → Kind) (places : Option (List Place)) (at : ℕ) (cause : Cause) (lines : List ℕ) (parts : Parts) : Type 0 where
   pub event : Event
   pub earlier : ℕ
   pub before : Option Event

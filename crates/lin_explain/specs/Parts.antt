@@ -1,5 +1,6 @@
 -- What is told beside the text of an explanation, in parts.
-use Rattle.std.specs.Prelude.{◌≡◌, ℕ, ℤ, List, Option, Some, None, slice_get}
+use Rattle.std.specs.Prelude.{◌≡◌, ℕ, List, Option, Some, None, slice_get}
+use Rattle.lin_events.specs.declared.items.Item.{Item}
 use Rattle.lin_events.specs.declared.events.Event.{Event}
 use Rattle.lin_objects.specs.declared.kinds.Kind.{Kind}
 use Rattle.lin_places.specs.declared.place.Place.{Place}
@@ -20,6 +21,6 @@ pub record IsSpot (places : Option (List Place)) (at : ℕ) (event : Event) (spo
   pub stands : spot.place ≡ place_of places at
 
 -- the object that was asked about with its kind, if one was
-abbrev pub object_in : Present → Option ℤ → Option (ℤ × Kind)
+abbrev pub object_in : Present → Option Item → Option (Item × Kind)
 object_in now None = None
 object_in now (Some key) = Some (key, kinds_in now key)

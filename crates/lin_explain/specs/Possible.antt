@@ -24,7 +24,7 @@ AreKnown f budget (Some outcomes) = AreOutcomes f outcomes
 -- how many there are, and the words of those that are listed; nothing where the budget is passed
 abbrev pub AreChoices : Option Listed → Choices → Type 0
 AreChoices None choices = (choices.count ≡ None) × (choices.some.items ≡ [])
-AreChoices (Some listed) choices = (choices.count ≡ Some listed.count) × (map (λ words. words.items) choices.some.items ≡ map (λ item. item.words.items) listed.items.items)
+AreChoices (Some listed) choices = (choices.count ≡ Some listed.count) × (map (λ words. words.items) choices.some.items ≡ map (λ entry. entry.words.items) listed.entries.items)
 
 -- what the failing operation could have returned, and what the object could be before the last of so many events: the lines, and the same in parts
 pub record IsPossibleText (f : Failing) (n budget : ℕ) (lines : List ℕ) (replies states : Choices) : Type 0 where

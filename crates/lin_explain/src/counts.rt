@@ -2,7 +2,7 @@
 ghost use Rattle.std.specs.Prelude.{◌≡◌};
 ghost use Rattle.lin_explain.specs.Counts.{count_in, counts, is_within as within, open_in, says as sort_says};
 
-use lin_events::{Body, Event};
+use lin_events::{Body, Event, Item};
 use lin_session::Session;
 
 /// What an event says.
@@ -28,7 +28,7 @@ fn says(sort: Sort, body: &Body) -> bool
 }
 
 /// Whether the event is of the key, if one is asked for.
-fn is_within(key: Option<i64>, event: &Event) -> bool
+fn is_within(key: Option<Item>, event: &Event) -> bool
     ensures { result ≡ within key event.now }
 {
     match key {
@@ -38,14 +38,14 @@ fn is_within(key: Option<i64>, event: &Event) -> bool
 }
 
 /// Whether the event is of the sort, and of the key, if one is asked for.
-fn is_counted(key: Option<i64>, sort: Sort, event: &Event) -> bool
+fn is_counted(key: Option<Item>, sort: Sort, event: &Event) -> bool
     ensures { result ≡ counts key sort event.now }
 {
     is_within(key, event) && says(sort, &event.body)
 }
 
 /// How many events of the sort the history has, or the object of the key.
-pub(crate) fn count(session: &Session, key: Option<i64>, sort: Sort) -> usize
+pub(crate) fn count(session: &Session, key: Option<Item>, sort: Sort) -> usize
     ensures { result ≡ count_in key sort session.now.present.history }
 {
     let mut found = 0;
@@ -61,7 +61,7 @@ pub(crate) fn count(session: &Session, key: Option<i64>, sort: Sort) -> usize
 }
 
 /// How many operations are neither ok nor failed.
-pub(crate) fn count_open(session: &Session, key: Option<i64>) -> usize
+pub(crate) fn count_open(session: &Session, key: Option<Item>) -> usize
     ensures { result ≡ open_in key session.now.present.history }
 {
     count(session, key, Sort::Invoked)

@@ -1,20 +1,20 @@
 //! Words that several answers begin with, and what they need of an event.
 ghost use Rattle.std.specs.Prelude.{◌≡◌, ◌++◌, OnOk, codes};
-ghost use Rattle.std.specs.Fmt.{signed_decimal};
 ghost use Rattle.lin_session.specs.Answers.{kinds_in};
+ghost use Rattle.lin_formats.specs.Items.{item_text};
 ghost use Rattle.lin_explain.specs.Heads.{object_text};
 
 use lin_events::Event;
-use lin_formats::{kind_word, put_integer};
+use lin_formats::{kind_word, put_item};
 use lin_objects::Kind;
 use lin_session::Session;
 use std::alloc::AllocError;
 
 /// Puts the key of an event last.
 pub(crate) fn put_key(text: &mut Vec<u8>, event: &Event) -> Result<(), AllocError>
-    ensures { OnOk result (text.new.items ≡ text.old.items ++ signed_decimal event.now.key) }
+    ensures { OnOk result (text.new.items ≡ text.old.items ++ item_text event.now.key) }
 {
-    put_integer(text, event.key)
+    put_item(text, event.key)
 }
 
 /// The kind of an event's object.

@@ -1,6 +1,6 @@
 //! The events of one object.
 ghost use Rattle.std.specs.Prelude.{◌≡◌, ◌≤◌, ◌∷◌, ◌++◌, [], IfOk, OnOk, length, take};
-ghost use Rattle.std.specs.Ordering.{int_eq};
+ghost use Rattle.lin_events.specs.Items.{item_eq};
 ghost use Rattle.lin_explain.specs.inner.Own.{IsOwn};
 
 use lin_events::{Event, OutOfMemory};
@@ -26,7 +26,7 @@ fn take_in(alloc: Global, own: &mut Own, event: &Event, at: usize) -> Result<(),
 
 /// Whether two events are of one object.
 fn is_beside(event: &Event, other: &Event) -> bool
-    ensures { result ≡ int_eq event.now.key other.now.key }
+    ensures { result ≡ item_eq event.now.key other.now.key }
 {
     event.key == other.key
 }

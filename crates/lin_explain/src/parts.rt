@@ -1,4 +1,5 @@
 //! What is told beside the text of an explanation, in parts.
+use lin_events::Item;
 use lin_objects::Kind;
 use lin_places::Place;
 
@@ -33,7 +34,7 @@ pub struct Why {
 /// The failure that a no is about.
 #[derive(Drop)]
 pub struct Failed {
-    pub key: i64,
+    pub key: Item,
     pub kind: Kind,
     /// The event with which legal orders end: the end of the failing operation.
     pub event: Spot,
@@ -52,10 +53,10 @@ pub struct Failed {
 #[derive(Drop)]
 pub enum Parts {
     /// The object that was asked about with its kind, if one was.
-    Yes { object: Option<(i64, Kind)> },
+    Yes { object: Option<(Item, Kind)> },
     No(Failed),
     /// The object that has too many configurations, and the event with which it has them.
-    Undecided { key: i64, kind: Kind, event: Spot },
+    Undecided { key: Item, kind: Kind, event: Spot },
     /// The first bad event.
     IllFormed { event: Spot },
 }

@@ -10,7 +10,7 @@ use lin_events::{Event, OutOfMemory};
 use lin_objects::Kind;
 use lin_outcomes::{Before, Listed, Outcomes, outcomes_of, put_outcomes, put_was};
 use lin_possible::Possible;
-use lin_words::Item;
+use lin_words::Entry;
 use std::alloc::{AllocError, Global};
 
 /// What is told to be possible, in parts.
@@ -20,13 +20,13 @@ pub(crate) struct Possibilities {
     pub(crate) states: Choices,
 }
 
-/// The words of the items.
-fn words_of(alloc: Global, items: &[Item]) -> Result<Vec<Vec<u8>>, AllocError>
-    ensures { IfOk result (λ all. map (λ words. words.items) all.items ≡ map (λ item. item.words.items) items.now) }
+/// The words of the entries.
+fn words_of(alloc: Global, entries: &[Entry]) -> Result<Vec<Vec<u8>>, AllocError>
+    ensures { IfOk result (λ all. map (λ words. words.items) all.items ≡ map (λ entry. entry.words.items) entries.now) }
 {
     let mut all = Vec::new(alloc);
-    for item in items {
-        let words = Vec::from_slice(alloc, item.words.as_slice())?;
+    for entry in entries {
+        let words = Vec::from_slice(alloc, entry.words.as_slice())?;
         all.push(words)?;
     }
     Ok(all)
@@ -40,7 +40,7 @@ fn choices_of(alloc: Global, listed: Option<&Listed>) -> Result<Choices, AllocEr
         Some(listed) => {
             Ok(Choices {
                 count: Some(listed.count),
-                some: words_of(alloc, listed.items.as_slice())?,
+                some: words_of(alloc, listed.entries.as_slice())?,
             })
         }
         None => {

@@ -8,7 +8,7 @@ use crate::ill_formed::put_ill_formed;
 use crate::parts::{Explanation, Parts};
 use crate::undecided::put_undecided;
 use crate::yes::put_yes;
-use lin_events::OutOfMemory;
+use lin_events::{Item, OutOfMemory};
 use lin_places::Place;
 use lin_session::{Answer, Session};
 use std::alloc::Global;
@@ -17,7 +17,7 @@ use std::alloc::Global;
 #[derive(Clone, Copy)]
 pub struct Asked {
     /// The object of this key, or the whole.
-    pub key: Option<i64>,
+    pub key: Option<Item>,
     /// Whether a yes ends with its order.
     pub with_order: bool,
     /// Whether values are read as pairs of a key and a value.

@@ -7,7 +7,7 @@ ghost use Rattle.lin_explain.specs.Counts.{count_in, open_in};
 use crate::counts::{Sort, count, count_open};
 use crate::parts::Parts;
 use crate::telling::Asked;
-use lin_events::OutOfMemory;
+use lin_events::{Item, OutOfMemory};
 use lin_formats::{put_number, write_order};
 use lin_objects::Kind;
 use lin_orders::Placed;
@@ -18,7 +18,7 @@ use std::alloc::{AllocError, Global};
 fn put_count(
     text: &mut Vec<u8>,
     session: &Session,
-    key: Option<i64>,
+    key: Option<Item>,
     sort: Sort,
 ) -> Result<(), AllocError>
     ensures { OnOk result (text.new.items ≡ text.old.items ++ decimal (count_in key sort session.now.present.history)) }
@@ -27,7 +27,7 @@ fn put_count(
 }
 
 /// Puts how many operations are open last.
-fn put_open(text: &mut Vec<u8>, session: &Session, key: Option<i64>) -> Result<(), AllocError>
+fn put_open(text: &mut Vec<u8>, session: &Session, key: Option<Item>) -> Result<(), AllocError>
     ensures { OnOk result (text.new.items ≡ text.old.items ++ decimal (open_in key session.now.present.history)) }
 {
     put_number(text, count_open(session, key) as u64)
@@ -38,7 +38,7 @@ fn put_open(text: &mut Vec<u8>, session: &Session, key: Option<i64>) -> Result<(
 fn put_placed(
     text: &mut Vec<u8>,
     session: &Session,
-    key: Option<i64>,
+    key: Option<Item>,
     order: &[Placed],
 ) -> Result<(), AllocError>
     ensures { OnOk result (text.new.items ≡ text.old.items ++ decimal (placed_in key session.now.present.history order.now)) }
@@ -51,7 +51,7 @@ fn put_placed(
 fn put_counts(
     text: &mut Vec<u8>,
     session: &Session,
-    key: Option<i64>,
+    key: Option<Item>,
     objects: usize,
 ) -> Result<(), AllocError>
     ensures { OnOk result (text.new.items ≡ text.old.items ++ counts_text key session.now.present.history objects) }
@@ -69,7 +69,7 @@ fn put_counts(
 fn put_open_counts(
     text: &mut Vec<u8>,
     session: &Session,
-    key: Option<i64>,
+    key: Option<Item>,
     objects: usize,
 ) -> Result<(), AllocError>
     ensures { OnOk result (text.new.items ≡ text.old.items ++ open_counts_text key session.now.present.history objects) }
@@ -87,7 +87,7 @@ fn put_open_counts(
 fn put_places(
     text: &mut Vec<u8>,
     session: &Session,
-    key: Option<i64>,
+    key: Option<Item>,
     order: &[Placed],
 ) -> Result<(), AllocError>
     ensures { OnOk result (text.new.items ≡ text.old.items ++ places_text key session.now.present.history order.now) }
@@ -101,7 +101,7 @@ fn put_places(
 }
 
 /// How many objects are spoken of.
-fn objects_of(alloc: Global, session: &Session, key: Option<i64>) -> Result<usize, OutOfMemory>
+fn objects_of(alloc: Global, session: &Session, key: Option<Item>) -> Result<usize, OutOfMemory>
     ensures { IfOk result (AreObjects key session.now.present.history) }
 {
     match key {
@@ -140,7 +140,7 @@ fn put_lines(
 }
 
 /// The object of the key with its kind, if one is named.
-fn object_of(session: &Session, key: Option<i64>) -> Option<(i64, Kind)>
+fn object_of(session: &Session, key: Option<Item>) -> Option<(Item, Kind)>
     ensures { result ≡ object_in session.now.present key }
 {
     match key {

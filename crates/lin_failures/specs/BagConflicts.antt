@@ -1,6 +1,7 @@
--- Operations of a bag that can't stand in one legal order: no number is taken out more often than it is put in, and ahead of a dequeue
+-- Operations of a bag that can't stand in one legal order: no item is taken out more often than it is put in, and ahead of a dequeue
 -- that found nothing all that was put in was taken out.
-use Rattle.std.specs.Prelude.{◌≡◌, ◌≢◌, ◌<◌, ◌≤◌, ℕ, ℤ, List, All, AllPairs, Contains, length}
+use Rattle.std.specs.Prelude.{◌≡◌, ◌≢◌, ◌<◌, ◌≤◌, ℕ, List, All, AllPairs, Contains, length}
+use Rattle.lin_events.specs.declared.items.Item.{Item}
 use Rattle.lin_events.specs.declared.calls.Call.{Call}
 use Rattle.lin_events.specs.declared.calls.Call.TheVariants.{Dequeue}
 use Rattle.lin_events.specs.declared.calls.Reply.TheVariants as Replied
@@ -19,24 +20,24 @@ AtLeast k P = (places : List ℕ) × (length places ≡ k) × AllPairs ◌≢◌
 abbrev pub AtMost : ℕ → (ℕ → Type 0) → Type 0
 AtMost k P = (places : List ℕ) × (length places ≡ k) × ((at : ℕ) → P at → Contains places at)
 
--- one of the numbers is such
-abbrev pub OfOne : List ℤ → (ℤ → Type 0) → Type 0
-OfOne numbers P = (n : ℤ) × Contains numbers n × P n
+-- one of the items is such
+abbrev pub OfOne : List Item → (Item → Type 0) → Type 0
+OfOne items P = (n : Item) × Contains items n × P n
 
--- the operation may put the number in: it isn't known to have failed
-abbrev pub MayPut : List Event → ℤ → ℕ → Type 0
+-- the operation may put the item in: it isn't known to have failed
+abbrev pub MayPut : List Event → Item → ℕ → Type 0
 MayPut h n at = (call : Call) × IsCall h at call × Adds call n × (IsFailed h at → ⊥)
 
--- the operation is known to be ok, and took the number out
-abbrev pub Took : List Event → ℤ → ℕ → Type 0
+-- the operation is known to be ok, and took the item out
+abbrev pub Took : List Event → Item → ℕ → Type 0
 Took h n at = (end : ℕ) × TookAt h at n end
 
--- the operation put the number in, and was known to be ok before the place
-abbrev pub PutBefore : List Event → ℤ → ℕ → ℕ → Type 0
+-- the operation put the item in, and was known to be ok before the place
+abbrev pub PutBefore : List Event → Item → ℕ → ℕ → Type 0
 PutBefore h n place at = (end : ℕ) × PutAt h at n end × (end < place)
 
--- the dequeue was invoked up to and with the place, and may take the number out
-abbrev pub MayTakeBy : List Event → ℤ → ℕ → ℕ → Type 0
+-- the dequeue was invoked up to and with the place, and may take the item out
+abbrev pub MayTakeBy : List Event → Item → ℕ → ℕ → Type 0
 MayTakeBy h n place at = (at ≤ place) × IsCall h at Dequeue × (IsLeftAt h n at → ⊥)
 
 -- the dequeue is known to be ok at `end`, and found nothing

@@ -1,10 +1,10 @@
 //! A search for operations of a bag that conflict. Whatever it finds is checked; that it finds something isn't promised.
 use crate::bag_conflict::BagConflict;
-use lin_events::{Body, Call, Event, OutOfMemory, Reply, Val};
+use lin_events::{Body, Call, Event, Item, OutOfMemory, Reply, Val};
 use std::alloc::Global;
 use std::collections::{BTreeMap, HashMap};
 
-/// What is known of a number.
+/// What is known of an item.
 #[derive(Drop)]
 struct Known {
     /// How many operations may put it in.
@@ -22,19 +22,19 @@ struct Vain {
     end: usize,
     /// How many dequeues that were open as it returned may still return, or never do.
     open: usize,
-    /// Numbers that were put in before it was invoked, as often as they aren't known to have been taken out by one that was invoked before it
+    /// Items that were put in before it was invoked, as often as they aren't known to have been taken out by one that was invoked before it
     /// returned.
-    left: Vec<i64>,
+    left: Vec<Item>,
 }
 
 impl Vain {
-    /// A dequeue that was open as it returned is known to have taken out this number, or none.
-    fn settle(&mut self, taken: Option<i64>) {
+    /// A dequeue that was open as it returned is known to have taken out this item, or none.
+    fn settle(&mut self, taken: Option<Item>) {
         self.open = self.open.saturating_sub(1);
-        let Some(number) = taken else {
+        let Some(item) = taken else {
             return;
         };
-        let place = self.left.iter().position(|other| *other == number);
+        let place = self.left.iter().position(|other| *other == item);
         if let Some(at) = place
             && at < self.left.len()
         {
@@ -42,21 +42,21 @@ impl Vain {
         }
     }
 
-    /// Numbers that are left more often than open dequeues can have taken them out.
+    /// Items that are left more often than open dequeues can have taken them out.
     fn conflict(&self, alloc: Global) -> Result<Option<BagConflict>, OutOfMemory> {
         if self.left.len() <= self.open {
             return Ok(None);
         }
-        let mut numbers = Vec::new(alloc);
-        for number in &self.left {
-            if numbers.len() > self.open {
+        let mut items = Vec::new(alloc);
+        for item in &self.left {
+            if items.len() > self.open {
                 break;
             }
-            numbers.push(*number)?;
+            items.push(*item)?;
         }
         Ok(Some(BagConflict::Inside {
             dequeue: self.dequeue,
-            numbers,
+            items,
         }))
     }
 }
@@ -64,9 +64,9 @@ impl Vain {
 /// What a search has at hand.
 #[derive(Drop)]
 struct Search {
-    numbers: HashMap<i64, Known>,
-    /// Numbers that were put in and aren't known to have been taken out, by where that returned.
-    inside: BTreeMap<usize, i64>,
+    items: HashMap<Item, Known>,
+    /// Items that were put in and aren't known to have been taken out, by where that returned.
+    inside: BTreeMap<usize, Item>,
     /// Dequeues that found nothing, in the order of their returns.
     vain: Vec<Vain>,
     /// How many dequeues may still return, or never do.
@@ -78,7 +78,7 @@ struct Search {
 impl Search {
     fn new(alloc: Global) -> Search {
         Search {
-            numbers: HashMap::new(alloc),
+            items: HashMap::new(alloc),
             inside: BTreeMap::new(alloc),
             vain: Vec::new(alloc),
             open: 0,
@@ -95,16 +95,16 @@ impl Search {
         call: Call,
     ) -> Result<(), OutOfMemory> {
         self.latest.insert(process, (at, call))?;
-        let Call::Enqueue(number) = call else {
+        let Call::Enqueue(item) = call else {
             self.open = self.open.saturating_add(1);
             return Ok(());
         };
-        if let Some(known) = self.numbers.get_mut(&number) {
+        if let Some(known) = self.items.get_mut(&item) {
             known.puts = known.puts.saturating_add(1);
             return Ok(());
         }
-        self.numbers.insert(
-            number,
+        self.items.insert(
+            item,
             Known {
                 puts: 1,
                 takes: 0,
@@ -114,38 +114,38 @@ impl Search {
         Ok(())
     }
 
-    /// The number was put in, by an operation that returned at the place.
-    fn put_in(&mut self, number: i64, at: usize) -> Result<(), OutOfMemory> {
-        let Some(known) = self.numbers.get_mut(&number) else {
+    /// The item was put in, by an operation that returned at the place.
+    fn put_in(&mut self, item: Item, at: usize) -> Result<(), OutOfMemory> {
+        let Some(known) = self.items.get_mut(&item) else {
             return Ok(());
         };
         known.ends.push(at)?;
         if known.ends.len() > known.takes {
-            self.inside.insert(at, number)?;
+            self.inside.insert(at, item)?;
         }
         Ok(())
     }
 
-    /// What should put the number in failed.
-    fn not_put(&mut self, number: i64) -> Option<BagConflict> {
-        let known = self.numbers.get_mut(&number)?;
+    /// What should put the item in failed.
+    fn not_put(&mut self, item: Item) -> Option<BagConflict> {
+        let known = self.items.get_mut(&item)?;
         known.puts = known.puts.saturating_sub(1);
         if known.puts < known.takes {
-            Some(BagConflict::Overtaken { number })
+            Some(BagConflict::Overtaken { item })
         } else {
             None
         }
     }
 
-    /// The number was taken out.
-    fn take_out(&mut self, number: i64) -> Option<BagConflict> {
-        let Some(known) = self.numbers.get_mut(&number) else {
-            return Some(BagConflict::Overtaken { number });
+    /// The item was taken out.
+    fn take_out(&mut self, item: Item) -> Option<BagConflict> {
+        let Some(known) = self.items.get_mut(&item) else {
+            return Some(BagConflict::Overtaken { item });
         };
         let first = known.ends.get(known.takes).copied();
         known.takes = known.takes.saturating_add(1);
         if known.puts < known.takes {
-            return Some(BagConflict::Overtaken { number });
+            return Some(BagConflict::Overtaken { item });
         }
         if let Some(end) = first {
             self.inside.remove(&end);
@@ -153,12 +153,12 @@ impl Search {
         None
     }
 
-    /// The dequeue is no longer open, and took out this number, or none.
+    /// The dequeue is no longer open, and took out this item, or none.
     fn settle(
         &mut self,
         alloc: Global,
         dequeue: usize,
-        taken: Option<i64>,
+        taken: Option<Item>,
     ) -> Result<Option<BagConflict>, OutOfMemory> {
         self.open = self.open.saturating_sub(1);
         let from = self
@@ -187,11 +187,11 @@ impl Search {
             open: self.open,
             left: Vec::new(alloc),
         };
-        for (end, number) in &self.inside {
+        for (end, item) in &self.inside {
             if *end >= dequeue {
                 break;
             }
-            vain.left.push(*number)?;
+            vain.left.push(*item)?;
         }
         let conflict = vain.conflict(alloc)?;
         self.vain.push(vain)?;
@@ -206,15 +206,15 @@ impl Search {
         found: Val,
         at: usize,
     ) -> Result<Option<BagConflict>, OutOfMemory> {
-        let Val::Int(number) = found else {
+        let Val::Item(item) = found else {
             return match self.settle(alloc, dequeue, None)? {
                 Some(conflict) => Ok(Some(conflict)),
                 None => self.find_nothing(alloc, dequeue, at),
             };
         };
-        match self.take_out(number) {
+        match self.take_out(item) {
             Some(conflict) => Ok(Some(conflict)),
-            None => self.settle(alloc, dequeue, Some(number)),
+            None => self.settle(alloc, dequeue, Some(item)),
         }
     }
 
@@ -234,11 +234,11 @@ impl Search {
         };
         match (&event.body, call) {
             (Body::Ok(_, Reply::Value(found)), _) => self.dequeued(alloc, operation, *found, at),
-            (Body::Ok(_, _), Call::Enqueue(number)) => {
-                self.put_in(number, at)?;
+            (Body::Ok(_, _), Call::Enqueue(item)) => {
+                self.put_in(item, at)?;
                 Ok(None)
             }
-            (Body::Fail(_), Call::Enqueue(number)) => Ok(self.not_put(number)),
+            (Body::Fail(_), Call::Enqueue(item)) => Ok(self.not_put(item)),
             (Body::Fail(_), _) => self.settle(alloc, operation, None),
             _ => Ok(None),
         }

@@ -1,5 +1,6 @@
 //! Operations of a register that can't stand in one legal order.
-ghost use Rattle.std.specs.Prelude.{◌≡◌, ◌⊎◌, ◌<◌, ℕ, ℤ, IfSome, IsTrue, false, Some, length};
+ghost use Rattle.std.specs.Prelude.{◌≡◌, ◌⊎◌, ◌<◌, ℕ, IfSome, IsTrue, false, Some, length};
+ghost use Rattle.lin_events.specs.declared.items.Item.{Item as ItemOf};
 ghost use Rattle.lin_events.specs.Operations.{IsEnd, IsOk, IsOperation};
 ghost use Rattle.lin_events.specs.declared.calls.Call.{Call as CallOf};
 ghost use Rattle.lin_events.specs.declared.events.Body.TheVariants.{Invoke};
@@ -44,7 +45,7 @@ pub enum Conflict {
 /// The process and the call of the operation at the place.
 pub(crate) fn invocation_at(events: &[Event], at: usize) -> Option<(u64, &Call)>
     ensures within { IfSome result (λ found. at < length events.now) }
-    ensures operation { IfSome result (λ found. (key : ℤ) × IsOperation events.now at found.0 key found.1.now) }
+    ensures operation { IfSome result (λ found. (key : ItemOf) × IsOperation events.now at found.0 key found.1.now) }
 {
     let event = events.get(at)?;
     match &event.body {
@@ -56,7 +57,7 @@ pub(crate) fn invocation_at(events: &[Event], at: usize) -> Option<(u64, &Call)>
 /// The event with which the operation of the process at the place ends, and where it stands.
 pub(crate) fn ending_of(events: &[Event], at: usize, process: u64) -> Option<(usize, &Event)>
     requires { at < length events.now }
-    ensures { IfSome result (λ found. (key : ℤ) (call : CallOf) → IsOperation events.now at process key call → IsEnd events.now at found.0 found.1.now) }
+    ensures { IfSome result (λ found. (key : ItemOf) (call : CallOf) → IsOperation events.now at process key call → IsEnd events.now at found.0 found.1.now) }
 {
     for end in at + 1..events.len() {
         let ending = &events[end];
@@ -70,7 +71,7 @@ pub(crate) fn ending_of(events: &[Event], at: usize, process: u64) -> Option<(us
 /// Where the operation of the process at the place is known to be ok, with its reply.
 pub(crate) fn ok_of(events: &[Event], at: usize, process: u64) -> Option<(usize, &Reply)>
     requires { at < length events.now }
-    ensures { IfSome result (λ found. (key : ℤ) (call : CallOf) → IsOperation events.now at process key call → IsOk events.now at found.0 found.1.now) }
+    ensures { IfSome result (λ found. (key : ItemOf) (call : CallOf) → IsOperation events.now at process key call → IsOk events.now at found.0 found.1.now) }
 {
     let (end, ending) = ending_of(events, at, process)?;
     match &ending.body {
@@ -170,7 +171,7 @@ fn has_late(events: &[Event], block: &Block) -> bool
 fn end_of(events: &[Event], block: &Block) -> Option<usize>
     ensures { IfSome result (λ end. IsBlock events.now block.now.value block.now.update block.now.early end block.now.late) }
 {
-    let Val::Int(_) = block.value else {
+    let Val::Item(_) = block.value else {
         return None;
     };
     if !is_left_by(events, Some(block.update), block.value) {
@@ -189,7 +190,7 @@ fn end_of(events: &[Event], block: &Block) -> Option<usize>
 fn is_unwritten(events: &[Event], operation: usize, value: Val) -> bool
     ensures { IsTrue result → (kind : KindOf) → IsRegister kind → IsLinearizableAs kind events.now → ⊥ }
 {
-    let Val::Int(_) = value else {
+    let Val::Item(_) = value else {
         return false;
     };
     if !is_left_by(events, None, value) {
@@ -205,7 +206,7 @@ fn is_unwritten(events: &[Event], operation: usize, value: Val) -> bool
 fn is_late(events: &[Event], operation: usize, other: usize, value: Val) -> bool
     ensures { IsTrue result → (kind : KindOf) → IsRegister kind → IsLinearizableAs kind events.now → ⊥ }
 {
-    let Val::Int(_) = value else {
+    let Val::Item(_) = value else {
         return false;
     };
     if !is_left_by(events, None, Val::Nil) {

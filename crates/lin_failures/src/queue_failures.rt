@@ -1,10 +1,10 @@
 //! A search for operations of a queue that conflict. Whatever it finds is checked; that it finds something isn't promised.
 use crate::queue_conflict::QueueConflict;
-use lin_events::{Body, Call, Event, OutOfMemory, Reply, Val};
+use lin_events::{Body, Call, Event, Item, OutOfMemory, Reply, Val};
 use std::alloc::Global;
 use std::collections::HashMap;
 
-/// What is known of a number.
+/// What is known of an item.
 #[derive(Clone, Copy)]
 struct Known {
     /// The first operation that puts it in, of those that did not fail.
@@ -18,7 +18,7 @@ struct Known {
     taken: Option<usize>,
 }
 
-/// A dequeue that returned: what it found can't have been ahead of a number that was put in before the place.
+/// A dequeue that returned: what it found can't have been ahead of an item that was put in before the place.
 #[derive(Clone, Copy)]
 struct Passing {
     dequeue: usize,
@@ -29,9 +29,9 @@ struct Passing {
 /// What a search has at hand.
 #[derive(Drop)]
 struct Search {
-    numbers: HashMap<i64, Known>,
-    /// Numbers that were put in, in the order in which that returned; those before the next one were taken out.
-    inside: Vec<i64>,
+    items: HashMap<Item, Known>,
+    /// Items that were put in, in the order in which that returned; those before the next one were taken out.
+    inside: Vec<Item>,
     next: usize,
     /// Dequeues in the order of their ends, each with a later place than those before it.
     passing: Vec<Passing>,
@@ -44,7 +44,7 @@ struct Search {
 impl Search {
     fn new(alloc: Global) -> Search {
         Search {
-            numbers: HashMap::new(alloc),
+            items: HashMap::new(alloc),
             inside: Vec::new(alloc),
             next: 0,
             passing: Vec::new(alloc),
@@ -56,11 +56,11 @@ impl Search {
     /// An operation was invoked at the place.
     fn invoked(&mut self, at: usize, process: u64, call: Call) -> Result<(), OutOfMemory> {
         self.latest.insert(process, (at, call))?;
-        let Call::Enqueue(number) = call else {
+        let Call::Enqueue(item) = call else {
             self.open.push(at)?;
             return Ok(());
         };
-        let known = match self.numbers.get(&number) {
+        let known = match self.items.get(&item) {
             Some(known) if known.puts > 0 => Known {
                 puts: known.puts.saturating_add(1),
                 is_doubled: true,
@@ -74,25 +74,25 @@ impl Search {
                 taken: found.and_then(|known| known.taken),
             },
         };
-        self.numbers.insert(number, known)?;
+        self.items.insert(item, known)?;
         Ok(())
     }
 
-    /// The number was put in, which returned at the place.
-    fn put_in(&mut self, number: i64, at: usize) -> Result<(), OutOfMemory> {
-        if let Some(known) = self.numbers.get_mut(&number) {
+    /// The item was put in, which returned at the place.
+    fn put_in(&mut self, item: Item, at: usize) -> Result<(), OutOfMemory> {
+        if let Some(known) = self.items.get_mut(&item) {
             known.end = Some(at);
-            self.inside.push(number)?;
+            self.inside.push(item)?;
         }
         Ok(())
     }
 
-    /// What should put the number in failed: it may have been found, and nothing else puts it in.
-    fn not_put(&mut self, number: i64) -> Option<QueueConflict> {
-        let known = self.numbers.get_mut(&number)?;
+    /// What should put the item in failed: it may have been found, and nothing else puts it in.
+    fn not_put(&mut self, item: Item) -> Option<QueueConflict> {
+        let known = self.items.get_mut(&item)?;
         known.puts = known.puts.saturating_sub(1);
         match known.taken {
-            Some(dequeue) if known.puts == 0 => Some(QueueConflict::Unput { dequeue, number }),
+            Some(dequeue) if known.puts == 0 => Some(QueueConflict::Unput { dequeue, item }),
             _ => None,
         }
     }
@@ -120,13 +120,13 @@ impl Search {
         Ok(())
     }
 
-    /// What conflicts with the dequeue that it took out the number.
-    fn took(&mut self, number: i64, dequeue: usize) -> Option<QueueConflict> {
-        let known = match self.numbers.get(&number) {
+    /// What conflicts with the dequeue that it took out the item.
+    fn took(&mut self, item: Item, dequeue: usize) -> Option<QueueConflict> {
+        let known = match self.items.get(&item) {
             Some(known) if known.puts > 0 => *known,
-            _ => return Some(QueueConflict::Unput { dequeue, number }),
+            _ => return Some(QueueConflict::Unput { dequeue, item }),
         };
-        if let Some(known) = self.numbers.get_mut(&number) {
+        if let Some(known) = self.items.get_mut(&item) {
             known.taken = Some(dequeue);
         }
         if known.is_doubled {
@@ -137,7 +137,7 @@ impl Search {
                 put: known.put,
                 first,
                 second: dequeue,
-                number,
+                item,
             });
         }
         let passing = self.passing_before(dequeue)?;
@@ -146,35 +146,35 @@ impl Search {
                 put: known.put,
                 passing: passing.dequeue,
                 later: dequeue,
-                number,
+                item,
             });
         }
         None
     }
 
-    /// The first of the numbers that were put in and not taken out.
-    fn first_inside(&mut self) -> Option<(i64, Known)> {
-        for number in &self.inside[self.next.min(self.inside.len())..] {
-            if let Some(known) = self.numbers.get(number)
+    /// The first of the items that were put in and not taken out.
+    fn first_inside(&mut self) -> Option<(Item, Known)> {
+        for item in &self.inside[self.next.min(self.inside.len())..] {
+            if let Some(known) = self.items.get(item)
                 && known.taken.is_none()
             {
-                return Some((*number, *known));
+                return Some((*item, *known));
             }
             self.next = self.next.saturating_add(1);
         }
         None
     }
 
-    /// A number that was passed, and that no dequeue can have taken out before.
+    /// An item that was passed, and that no dequeue can have taken out before.
     fn passed_over(&mut self) -> Option<QueueConflict> {
-        let (number, known) = self.first_inside()?;
+        let (item, known) = self.first_inside()?;
         let until = self.open.first().copied().unwrap_or(usize::MAX);
         let passing = self.passing_before(until)?;
         if known.end? < passing.place {
             return Some(QueueConflict::Over {
                 put: known.put,
                 passing: passing.dequeue,
-                number,
+                item,
             });
         }
         None
@@ -189,11 +189,11 @@ impl Search {
     ) -> Result<Option<QueueConflict>, OutOfMemory> {
         let place = match found {
             Val::Nil => dequeue,
-            Val::Int(number) => {
-                if let Some(conflict) = self.took(number, dequeue) {
+            Val::Item(item) => {
+                if let Some(conflict) = self.took(item, dequeue) {
                     return Ok(Some(conflict));
                 }
-                self.numbers.get(&number).map_or(0, |known| known.put)
+                self.items.get(&item).map_or(0, |known| known.put)
             }
         };
         self.note(Passing {
@@ -218,11 +218,11 @@ impl Search {
         }
         match (&event.body, call) {
             (Body::Ok(_, Reply::Value(found)), _) => self.dequeued(operation, *found, at),
-            (Body::Ok(_, _), Call::Enqueue(number)) => {
-                self.put_in(number, at)?;
+            (Body::Ok(_, _), Call::Enqueue(item)) => {
+                self.put_in(item, at)?;
                 Ok(None)
             }
-            (Body::Fail(_), Call::Enqueue(number)) => Ok(self.not_put(number)),
+            (Body::Fail(_), Call::Enqueue(item)) => Ok(self.not_put(item)),
             (Body::Fail(_), _) => Ok(self.passed_over()),
             _ => Ok(None),
         }

@@ -1,10 +1,10 @@
 //! A search for operations of a set that conflict. Whatever it finds is checked; that it finds something isn't promised.
 use crate::set_conflict::SetConflict;
-use lin_events::{Body, Call, Event, OutOfMemory, Reply};
+use lin_events::{Body, Call, Event, Item, OutOfMemory, Reply};
 use std::alloc::Global;
 use std::collections::{HashMap, HashSet};
 
-/// What is known of the adds of a number.
+/// What is known of the adds of an item.
 #[derive(Drop)]
 struct Adds {
     /// Where they were invoked, rising.
@@ -13,10 +13,10 @@ struct Adds {
     skipped: usize,
 }
 
-/// An operation that was the first to return of those behind which the set has the number, and where it did.
+/// An operation that was the first to return of those behind which the set has the item, and where it did.
 #[derive(Clone, Copy)]
 struct Shown {
-    number: i64,
+    item: Item,
     operation: usize,
     end: usize,
 }
@@ -25,28 +25,28 @@ struct Shown {
 #[derive(Clone, Copy)]
 struct Found<'a> {
     read: usize,
-    members: &'a [i64],
+    members: &'a [Item],
 }
 
 /// What a search has at hand.
 #[derive(Drop)]
 struct Search<'a> {
     alloc: Global,
-    adds: HashMap<i64, Adds>,
+    adds: HashMap<Item, Adds>,
     /// The adds that failed.
     failed: HashSet<usize>,
     /// In the order of their ends.
     shown: Vec<Shown>,
-    /// Where each number stands there.
-    places: HashMap<i64, usize>,
+    /// Where each item stands there.
+    places: HashMap<Item, usize>,
     /// Those with the fewest members first.
     reads: Vec<Found<'a>>,
     /// The latest operation of each process, and what it adds.
-    latest: HashMap<u64, (usize, Option<i64>)>,
+    latest: HashMap<u64, (usize, Option<Item>)>,
 }
 
-/// A number of the one read that the other did not find.
-fn missing(members: &[i64], others: &[i64]) -> Option<i64> {
+/// An item of the one read that the other did not find.
+fn missing(members: &[Item], others: &[Item]) -> Option<Item> {
     for member in members {
         if others.binary_search(member).is_err() {
             return Some(*member);
@@ -55,12 +55,12 @@ fn missing(members: &[i64], others: &[i64]) -> Option<i64> {
     None
 }
 
-/// The reads conflict if each of them found a number that the other did not find.
+/// The reads conflict if each of them found an item that the other did not find.
 fn apart(one: &Found, other: &Found) -> Option<SetConflict> {
     Some(SetConflict::Apart {
         first: one.read,
         second: other.read,
-        number: missing(one.members, other.members)?,
+        item: missing(one.members, other.members)?,
         other: missing(other.members, one.members)?,
     })
 }
@@ -80,28 +80,28 @@ impl<'a> Search<'a> {
 
     /// An operation was invoked at the place.
     fn invoked(&mut self, at: usize, process: u64, call: &Call) -> Result<(), OutOfMemory> {
-        let Call::Add(number) = call else {
+        let Call::Add(item) = call else {
             self.latest.insert(process, (at, None))?;
             return Ok(());
         };
-        match self.adds.get_mut(number) {
+        match self.adds.get_mut(item) {
             Some(adds) => adds.places.push(at)?,
             None => {
                 let mut places = Vec::new(self.alloc);
                 places.push(at)?;
-                self.adds.insert(*number, Adds { places, skipped: 0 })?;
+                self.adds.insert(*item, Adds { places, skipped: 0 })?;
             }
         }
-        self.latest.insert(process, (at, Some(*number)))?;
+        self.latest.insert(process, (at, Some(*item)))?;
         Ok(())
     }
 
-    /// The set has the number behind the operation, which returned at the place.
-    fn show(&mut self, number: i64, operation: usize, end: usize) -> Result<(), OutOfMemory> {
-        if !self.places.contains_key(&number) {
-            self.places.insert(number, self.shown.len())?;
+    /// The set has the item behind the operation, which returned at the place.
+    fn show(&mut self, item: Item, operation: usize, end: usize) -> Result<(), OutOfMemory> {
+        if !self.places.contains_key(&item) {
+            self.places.insert(item, self.shown.len())?;
             self.shown.push(Shown {
-                number,
+                item,
                 operation,
                 end,
             })?;
@@ -109,16 +109,16 @@ impl<'a> Search<'a> {
         Ok(())
     }
 
-    /// Where the first add of the number was invoked, of those that did not fail.
-    fn first(&self, number: i64) -> Option<usize> {
-        let adds = self.adds.get(&number)?;
+    /// Where the first add of the item was invoked, of those that did not fail.
+    fn first(&self, item: Item) -> Option<usize> {
+        let adds = self.adds.get(&item)?;
         adds.places.get(adds.skipped).copied()
     }
 
     /// The add at the place failed.
-    fn fail(&mut self, number: i64, at: usize) -> Result<(), OutOfMemory> {
+    fn fail(&mut self, item: Item, at: usize) -> Result<(), OutOfMemory> {
         self.failed.insert(at)?;
-        if let Some(adds) = self.adds.get_mut(&number) {
+        if let Some(adds) = self.adds.get_mut(&item) {
             let mut skipped = adds.skipped;
             for place in adds.places.iter().skip(adds.skipped) {
                 if !self.failed.contains(place) {
@@ -131,33 +131,33 @@ impl<'a> Search<'a> {
         Ok(())
     }
 
-    /// What conflicts now that an add of the number failed: it was found before any other add of it, or without another number
+    /// What conflicts now that an add of the item failed: it was found before any other add of it, or without another item
     /// that was there by then.
-    fn uncovered(&self, number: i64) -> Option<SetConflict> {
-        let shown = self.shown.get(*self.places.get(&number)?)?;
-        let first = self.first(number);
+    fn uncovered(&self, item: Item) -> Option<SetConflict> {
+        let shown = self.shown.get(*self.places.get(&item)?)?;
+        let first = self.first(item);
         if first.is_none_or(|first| shown.end < first) {
             return Some(SetConflict::Unadded {
                 read: shown.operation,
-                number,
+                item,
             });
         }
         // Reads that found it found all that this one did.
         let smallest = self
             .reads
             .iter()
-            .find(|read| read.members.binary_search(&number).is_ok())?;
-        self.overlooked(smallest, Some((first?, number)))
+            .find(|read| read.members.binary_search(&item).is_ok())?;
+        self.overlooked(smallest, Some((first?, item)))
     }
 
-    /// The number that the read found whose first add is the latest one, or one that is not added.
-    fn newest(&self, read: &Found) -> Result<Option<(usize, i64)>, SetConflict> {
+    /// The item that the read found whose first add is the latest one, or one that is not added.
+    fn newest(&self, read: &Found) -> Result<Option<(usize, Item)>, SetConflict> {
         let mut newest = None;
         for member in read.members {
             let Some(first) = self.first(*member) else {
                 return Err(SetConflict::Unadded {
                     read: read.read,
-                    number: *member,
+                    item: *member,
                 });
             };
             if newest.is_none_or(|(place, _)| place < first) {
@@ -167,25 +167,25 @@ impl<'a> Search<'a> {
         Ok(newest)
     }
 
-    /// What conflicts with the read that it did not find a number which was there.
-    fn overlooked(&self, read: &Found, newest: Option<(usize, i64)>) -> Option<SetConflict> {
+    /// What conflicts with the read that it did not find an item which was there.
+    fn overlooked(&self, read: &Found, newest: Option<(usize, Item)>) -> Option<SetConflict> {
         let shown = self
             .shown
             .iter()
-            .find(|shown| read.members.binary_search(&shown.number).is_err())?;
+            .find(|shown| read.members.binary_search(&shown.item).is_err())?;
         if shown.end < read.read {
             return Some(SetConflict::Lost {
                 earlier: shown.operation,
                 later: read.read,
-                number: shown.number,
+                item: shown.item,
             });
         }
         match newest {
-            Some((first, number)) if shown.end < first => Some(SetConflict::Passed {
+            Some((first, item)) if shown.end < first => Some(SetConflict::Passed {
                 earlier: shown.operation,
                 read: read.read,
-                number,
-                other: shown.number,
+                item,
+                other: shown.item,
             }),
             _ => None,
         }
@@ -244,13 +244,13 @@ impl<'a> Search<'a> {
                 };
                 self.found(read, at)
             }
-            (Body::Ok(_, _), Some(number)) => {
-                self.show(number, operation, at)?;
+            (Body::Ok(_, _), Some(item)) => {
+                self.show(item, operation, at)?;
                 Ok(None)
             }
-            (Body::Fail(_), Some(number)) => {
-                self.fail(number, operation)?;
-                Ok(self.uncovered(number))
+            (Body::Fail(_), Some(item)) => {
+                self.fail(item, operation)?;
+                Ok(self.uncovered(item))
             }
             _ => Ok(None),
         }

@@ -1,29 +1,29 @@
 -- What is read of texts that were written.
-use Rattle.std.proofs.Common.{◌≡◌, ◌≢◌, ◌==◌, ◌&&◌, not, cond, ℕ, zero, suc, ◌+◌, ◌-◌, ◌^◌, ◌<◌, ◌≤◌, Bool, true, false, List, [], ◌∷◌, ◌++◌, length, get_or, take, drop, filter, Some, None, Ok, ℤ, pos, negsuc, neg_ℤ, int_lt, ◌<ℤ◌, All, T, codes, decimal, option_map, refl, sym, ap, ◌∙◌, true≢false, arith, rules, append-nil, append_assoc, length-append, eq-eqb, ne_eqb, lt-ltb, nat_lt}
+use Rattle.std.proofs.Common.{◌≡◌, ◌≢◌, ◌==◌, ◌&&◌, not, cond, ℕ, zero, suc, ◌+◌, ◌-◌, ◌^◌, ◌<◌, ◌≤◌, Bool, true, false, List, [], ◌∷◌, ◌++◌, length, get_or, take, drop, filter, Some, None, Ok, ℤ, pos, negsuc, neg_ℤ, All, codes, decimal, option_map, refl, sym, ap, ◌∙◌, true≢false, arith, rules, append-nil, append_assoc, length-append, eq-eqb, ne_eqb, lt-ltb, nat_lt}
 use Rattle.std.specs.Prelude.{if◌then◌else◌}
 use Rattle.std.specs.Fmt.{signed_decimal}
-use Rattle.std.specs.Int.Signed.{lt_z, lt_z_yes}
-use Rattle.std.specs.List.{flat_map, join_by, list_all, position, position_or_len, slice_range}
+use Rattle.std.specs.List.{flat_map, join_by, position, position_or_len, slice_range}
 use Rattle.std.specs.Str.{bytes_eq}
 use Rattle.std.proofs.Math.Seq.{take-append_seam, drop-append-add, get_or-append_seam}
-use Rattle.std.proofs.lemmas.Bool.Decides.{Decides-by_and}
-use Rattle.std.proofs.lemmas.Float.{T_from_true}
 use Rattle.std.proofs.lemmas.Fmt.{decimal_nonempty, digits_decimal, digits_value-decimal}
 use Rattle.std.proofs.lemmas.List.{get_or_append_left}
 use Rattle.std.proofs.lemmas.List.Elements.{All-head, All-tail}
 use Rattle.std.proofs.lemmas.List.Sums.{position_or_len_is}
 use Rattle.std.proofs.lemmas.Str.Parse.{IsNumeralModel, numerals_by_fold}
-use Rattle.lin_events.specs.declared.calls.Val.TheVariants.{Int, Nil}
+use Rattle.lin_events.specs.declared.items.Item.{Item}
+use Rattle.lin_events.specs.declared.items.Item.TheVariants.{Int, Bool as Truth}
+use Rattle.lin_events.specs.declared.calls.Val.TheVariants.{Item as Held, Nil}
 use Rattle.lin_events.specs.declared.calls.Reply.{Reply}
 use Rattle.lin_events.specs.declared.calls.Reply.TheVariants.{Done, Value, Members}
-use Rattle.lin_lists.specs.Sets.{IsRising}
 use Rattle.lin_orders.specs.declared.placed.Placed.{Placed}
 use Rattle.lin_edn.specs.Bytes.{is_digit}
 use Rattle.lin_formats.specs.Integers.{all_digits, integer_of, number_of, value_after}
+use Rattle.lin_formats.specs.Items.{item_in, item_text}
 use Rattle.lin_formats.specs.Parts.{Part, is_filled, parts_from, with_first, words_from}
-use Rattle.lin_formats.specs.Orders.{before_all, before_pairs, integers_of, is_rising, members_written, only_rising, order_of, order_of_words, pair_at, pair_written, pairs_of, placed, reply_written}
+use Rattle.lin_formats.specs.Orders.{before_all, before_pairs, is_rising, items_of, members_written, only_rising, order_of, order_of_words, pair_at, pair_written, pairs_of, placed, reply_written}
 use Rattle.lin_formats.specs.Texts.{order_text, placed_text, reply_text}
-use Rattle.lin_formats.specs.OrderLaws.{HasBits, IsPairOfCode, IsReplyOfCode}
+use Rattle.lin_formats.specs.OrderLaws.{HasBits, IsItemOfCode, IsPairOfCode, IsReplyOfCode}
+use Rattle.lin_formats.proofs.Rising.{is_rising_of}
 
 own : IsNumeralModel (λ ds. all_digits ds ≡ true) (value_after 0)
 own = numerals_by_fold _ (search rules) value_after (search rules)
@@ -91,6 +91,44 @@ integer_read (pos n) fits =
     ∙ ap (option_map pos) (number_read (2 ^ 63 - 1) n (omega arith) (omega arith))
 integer_read (negsuc n) fits = ap (option_map (λ m. neg_ℤ (pos m))) (number_read (2 ^ 63) (suc n) (omega arith) (omega arith))
 
+-- what begins with neither `t` nor `f` is read as an integer
+integer_item : (text : List ℕ) → 0 < length text → avoids 116 text ≡ true → avoids 102 text ≡ true → item_in text ≡ option_map Int (integer_of text)
+integer_item [] some t f = absurd (omega arith)
+integer_item (c ∷ cs) some t f =
+    let no_t = avoids_at 116 (c ∷ cs) 0 t some in
+    let no_f = avoids_at 102 (c ∷ cs) 0 f some in
+    rw (no_t, no_f)
+
+pub item_read : (x : Item) → IsItemOfCode x → item_in (item_text x) ≡ Some x
+item_read (Int i) fits =
+    integer_item (signed_decimal i) (some_signed i fits) (avoids_signed 116 i refl refl fits) (avoids_signed 102 i refl refl fits)
+    ∙ ap (option_map Int) (integer_read i fits)
+item_read (Truth true) fits = refl
+item_read (Truth false) fits = refl
+
+some_item : (x : Item) → IsItemOfCode x → 0 < length (item_text x)
+some_item (Int i) fits = some_signed i fits
+some_item (Truth true) fits = omega arith
+some_item (Truth false) fits = omega arith
+
+-- a byte that stands in the text of no item
+record Divides (c : ℕ) : Type 0 where
+  no_digit : is_digit c ≡ false
+  no_sign : (45 == c) ≡ false
+  not_in_true : avoids c (codes "true") ≡ true
+  not_in_false : avoids c (codes "false") ≡ true
+
+comma : Divides 44
+comma = record { no_digit = refl; no_sign = refl; not_in_true = refl; not_in_false = refl }
+
+space : Divides 32
+space = record { no_digit = refl; no_sign = refl; not_in_true = refl; not_in_false = refl }
+
+avoids_item : (c : ℕ) (x : Item) → Divides c → IsItemOfCode x → avoids c (item_text x) ≡ true
+avoids_item c (Int i) none fits = avoids_signed c i none.no_digit none.no_sign fits
+avoids_item c (Truth true) none fits = none.not_in_true
+avoids_item c (Truth false) none fits = none.not_in_false
+
 -- the part that is a whole text
 parts_one : (separator at : ℕ) (w : List ℕ) → avoids separator w ≡ true → parts_from separator at w ≡ (record { at = at; text = w }) ∷ []
 parts_one separator at [] h = refl
@@ -112,32 +150,32 @@ parts_next separator at (c ∷ w) s h =
           ∙ ap (with_first at c) rest.1,
     )
 
-integers_read : (at : ℕ) (x : ℤ) (xs : List ℤ) → HasBits x → All HasBits xs → integers_of (parts_from 44 at (join_by signed_decimal (codes ",") (x ∷ xs))) ≡ Some (x ∷ xs)
-integers_read at x [] fits more =
-    ap (λ s. integers_of (parts_from 44 at s)) (append-nil (signed_decimal x))
-    ∙ ap integers_of (parts_one 44 at (signed_decimal x) (avoids_signed 44 x refl refl fits))
-    ∙ ap (λ r. before_all r (Some [])) (integer_read x fits)
-integers_read at x (y ∷ ys) fits more =
-    let next = parts_next 44 at (signed_decimal x) (join_by signed_decimal (codes ",") (y ∷ ys)) (avoids_signed 44 x refl refl fits) in
-    ap integers_of next.1 ∙ ap (λ r. before_all r (integers_of (parts_from 44 next.0 (join_by signed_decimal (codes ",") (y ∷ ys))))) (integer_read x fits)
-    ∙ ap (before_all (Some x)) (integers_read next.0 y ys (All-head HasBits y ys more) (All-tail HasBits y ys more))
+items_read : (at : ℕ) (x : Item) (xs : List Item) → IsItemOfCode x → All IsItemOfCode xs → items_of (parts_from 44 at (join_by item_text (codes ",") (x ∷ xs))) ≡ Some (x ∷ xs)
+items_read at x [] fits more =
+    ap (λ s. items_of (parts_from 44 at s)) (append-nil (item_text x))
+    ∙ ap items_of (parts_one 44 at (item_text x) (avoids_item 44 x comma fits))
+    ∙ ap (λ r. before_all r (Some [])) (item_read x fits)
+items_read at x (y ∷ ys) fits more =
+    let next = parts_next 44 at (item_text x) (join_by item_text (codes ",") (y ∷ ys)) (avoids_item 44 x comma fits) in
+    ap items_of next.1 ∙ ap (λ r. before_all r (items_of (parts_from 44 next.0 (join_by item_text (codes ",") (y ∷ ys))))) (item_read x fits)
+    ∙ ap (before_all (Some x)) (items_read next.0 y ys (All-head IsItemOfCode y ys more) (All-tail IsItemOfCode y ys more))
 
-members_read : (xs : List ℤ) → All HasBits xs → is_rising xs ≡ true → members_written (join_by signed_decimal (codes ",") xs) ≡ Some xs
+members_read : (xs : List Item) → All IsItemOfCode xs → is_rising xs ≡ true → members_written (join_by item_text (codes ",") xs) ≡ Some xs
 members_read [] fits rises = refl
 members_read (x ∷ xs) fits rises =
-    let text = join_by signed_decimal (codes ",") (x ∷ xs) in
-    let first = All-head HasBits x xs fits in
-    let some = some_signed x first in
-    let more : ℤ → List ℕ = λ y. codes "," ++ signed_decimal y in
-    let size : length text ≢ 0 = λ (e : length text ≡ 0). absurd (omega (arith, length-append (signed_decimal x) (flat_map more xs), e)) in
-    ap (λ b. cond b (Some []) (only_rising (integers_of (parts_from 44 0 text)))) (ne_eqb (length text) 0 size)
-    ∙ ap only_rising (integers_read 0 x xs first (All-tail HasBits x xs fits)) ∙ ap (λ b. cond b (Some (x ∷ xs)) None) rises
+    let text = join_by item_text (codes ",") (x ∷ xs) in
+    let first = All-head IsItemOfCode x xs fits in
+    let some = some_item x first in
+    let more : Item → List ℕ = λ y. codes "," ++ item_text y in
+    let size : length text ≢ 0 = λ (e : length text ≡ 0). absurd (omega (arith, length-append (item_text x) (flat_map more xs), e)) in
+    ap (λ b. cond b (Some []) (only_rising (items_of (parts_from 44 0 text)))) (ne_eqb (length text) 0 size)
+    ∙ ap only_rising (items_read 0 x xs first (All-tail IsItemOfCode x xs fits)) ∙ ap (λ b. cond b (Some (x ∷ xs)) None) rises
 
--- what begins with none of the bytes `d`, `n` and `{` is read as a number
-number_reply : (text : List ℕ) → 0 < length text → avoids 100 text ≡ true → avoids 110 text ≡ true → avoids 123 text ≡ true
-    → reply_written text ≡ option_map (λ i. Value (Int i)) (integer_of text)
-number_reply [] some d n b = absurd (omega arith)
-number_reply (c ∷ cs) some d n b =
+-- what begins with none of the bytes `d`, `n` and `{` is read as an item
+item_reply : (text : List ℕ) → 0 < length text → avoids 100 text ≡ true → avoids 110 text ≡ true → avoids 123 text ≡ true
+    → reply_written text ≡ option_map (λ x. Value (Held x)) (item_in text)
+item_reply [] some d n b = absurd (omega arith)
+item_reply (c ∷ cs) some d n b =
     let no_d = avoids_at 100 (c ∷ cs) 0 d some in
     let no_n = avoids_at 110 (c ∷ cs) 0 n some in
     let no_b = avoids_at 123 (c ∷ cs) 0 b some in
@@ -151,28 +189,19 @@ braced_reply inside =
     let last : get_or text (length text - 1) 0 ≡ 125 = ap (λ k. get_or text k 0) size ∙ get_or-append_seam (123 ∷ inside) 125 [] 0 in
     let count : (length text - 1) - 1 ≡ length inside = omega (arith, size) in
     let part : slice_range text 1 (length text - 1) ≡ inside = ap (λ k. take k (inside ++ 125 ∷ [])) count ∙ take-append_seam inside (125 ∷ []) in
-    ap (λ b. if b then option_map Members (members_written (slice_range text 1 (length text - 1))) else option_map (λ i. Value (Int i)) (integer_of text)) (eq-eqb (get_or text (length text - 1) 0) 125 last)
+    ap (λ b. if b then option_map Members (members_written (slice_range text 1 (length text - 1))) else option_map (λ x. Value (Held x)) (item_in text)) (eq-eqb (get_or text (length text - 1) 0) 125 last)
     ∙ ap (λ s. option_map Members (members_written s)) part
-
-true_of : (b : Bool) → T b → b ≡ true
-true_of true h = refl
-true_of false h = absurd h
-
-all_above : (x : ℤ) (xs : List ℤ) → All (λ y. x <ℤ y) xs → list_all (int_lt x) xs ≡ true
-all_above x xs above = (Decides-by_and (int_lt x) (λ y. x <ℤ y) (list_all (int_lt x)) (λ y. (λ e. lt_z_yes (T_from_true (lt_z x y) e), λ less. true_of (lt_z x y) less.lt)) refl (λ _ _. refl) xs).1 above
-
-is_rising_of : (xs : List ℤ) → IsRising xs → is_rising xs ≡ true
-is_rising_of [] rises = refl
-is_rising_of (x ∷ xs) rises = ap (λ b. b && is_rising xs) (all_above x xs rises.0) ∙ is_rising_of xs rises.1
 
 reply_read : (r : Reply) → IsReplyOfCode r → reply_written (reply_text r) ≡ Some r
 reply_read Done fits = refl
 reply_read (Value Nil) fits = refl
-reply_read (Value (Int i)) fits =
-    number_reply (signed_decimal i) (some_signed i fits) (avoids_signed 100 i refl refl fits) (avoids_signed 110 i refl refl fits) (avoids_signed 123 i refl refl fits)
-    ∙ ap (option_map (λ n. Value (Int n))) (integer_read i fits)
+reply_read (Value (Held (Int i))) fits =
+    item_reply (signed_decimal i) (some_signed i fits) (avoids_signed 100 i refl refl fits) (avoids_signed 110 i refl refl fits) (avoids_signed 123 i refl refl fits)
+    ∙ ap (option_map (λ x. Value (Held x))) (item_read (Int i) fits)
+reply_read (Value (Held (Truth true))) fits = refl
+reply_read (Value (Held (Truth false))) fits = refl
 reply_read (Members xs) fits =
-    braced_reply (join_by signed_decimal (codes ",") xs) ∙ ap (option_map Members) (members_read xs fits.0 (is_rising_of xs fits.1))
+    braced_reply (join_by item_text (codes ",") xs) ∙ ap (option_map Members) (members_read xs fits.0 (is_rising_of xs fits.1))
 
 -- the first `=` of a text
 sign_at : (a b : List ℕ) → avoids 61 a ≡ true → position (λ c. c == 61) (a ++ 61 ∷ b) ≡ Some (length a)
@@ -197,25 +226,25 @@ pair_read pair fits =
     ∙ ap (λ n. placed n (reply_written reply)) (number_read (2 ^ 64 - 1) pair.at fits.0 (omega (arith, fits.0)))
     ∙ ap (placed (Some pair.at)) (reply_read pair.reply fits.1)
 
-avoids_members : (c : ℕ) (xs : List ℤ) → is_digit c ≡ false → (45 == c) ≡ false → (44 == c) ≡ false → All HasBits xs
-    → avoids c (flat_map (λ (y : ℤ). codes "," ++ signed_decimal y) xs) ≡ true
-avoids_members c [] other sign comma fits = refl
-avoids_members c (x ∷ xs) other sign comma fits =
-    let more : ℤ → List ℕ = λ y. codes "," ++ signed_decimal y in
-    let first = ap (λ b. not b && avoids c (signed_decimal x)) comma ∙ avoids_signed c x other sign (All-head HasBits x xs fits) in
-    avoids_append c (more x) (flat_map more xs) first (avoids_members c xs other sign comma (All-tail HasBits x xs fits))
+avoids_members : (c : ℕ) (xs : List Item) → Divides c → (44 == c) ≡ false → All IsItemOfCode xs
+    → avoids c (flat_map (λ (y : Item). codes "," ++ item_text y) xs) ≡ true
+avoids_members c [] none other fits = refl
+avoids_members c (x ∷ xs) none other fits =
+    let more : Item → List ℕ = λ y. codes "," ++ item_text y in
+    let first = ap (λ b. not b && avoids c (item_text x)) other ∙ avoids_item c x none (All-head IsItemOfCode x xs fits) in
+    avoids_append c (more x) (flat_map more xs) first (avoids_members c xs none other (All-tail IsItemOfCode x xs fits))
 
-avoids_joined : (c : ℕ) (xs : List ℤ) → is_digit c ≡ false → (45 == c) ≡ false → (44 == c) ≡ false → All HasBits xs
-    → avoids c (join_by signed_decimal (codes ",") xs) ≡ true
-avoids_joined c [] other sign comma fits = refl
-avoids_joined c (x ∷ xs) other sign comma fits =
-    avoids_append c (signed_decimal x) _ (avoids_signed c x other sign (All-head HasBits x xs fits)) (avoids_members c xs other sign comma (All-tail HasBits x xs fits))
+avoids_joined : (c : ℕ) (xs : List Item) → Divides c → (44 == c) ≡ false → All IsItemOfCode xs
+    → avoids c (join_by item_text (codes ",") xs) ≡ true
+avoids_joined c [] none other fits = refl
+avoids_joined c (x ∷ xs) none other fits =
+    avoids_append c (item_text x) _ (avoids_item c x none (All-head IsItemOfCode x xs fits)) (avoids_members c xs none other (All-tail IsItemOfCode x xs fits))
 
 avoids_reply : (r : Reply) → IsReplyOfCode r → avoids 32 (reply_text r) ≡ true
 avoids_reply Done fits = refl
 avoids_reply (Value Nil) fits = refl
-avoids_reply (Value (Int i)) fits = avoids_signed 32 i refl refl fits
-avoids_reply (Members xs) fits = avoids_append 32 (join_by signed_decimal (codes ",") xs) (codes "}") (avoids_joined 32 xs refl refl refl fits.0) refl
+avoids_reply (Value (Held x)) fits = avoids_item 32 x space fits
+avoids_reply (Members xs) fits = avoids_append 32 (join_by item_text (codes ",") xs) (codes "}") (avoids_joined 32 xs space refl fits.0) refl
 
 avoids_pair : (pair : Placed) → IsPairOfCode pair → avoids 32 (placed_text pair) ≡ true
 avoids_pair pair fits =

@@ -1,12 +1,15 @@
--- Lists of strictly rising numbers that grow at their end.
-use Rattle.std.proofs.Common.{◌≡◌, suc, ◌-◌, Bool, true, false, ◌&&◌, List, [], ◌∷◌, ◌++◌, length, Some, ℤ, ◌<ℤ◌, int_lt, All, slice_get, refl, sym, ap, ◌∙◌, T, arith, true≢false}
+-- Lists of strictly rising items that grow at their end.
+use Rattle.std.proofs.Common.{◌≡◌, suc, ◌-◌, Bool, true, false, ◌&&◌, List, [], ◌∷◌, ◌++◌, length, Some, All, slice_get, refl, sym, ap, ◌∙◌, Decides, arith, true≢false}
 use Rattle.std.specs.List.{list_all}
 use Rattle.std.proofs.lemmas.Bool.Decides.{Decides-by_and}
-use Rattle.std.proofs.lemmas.Int.{ints}
-use Rattle.std.specs.Int.Signed.{lt_z, lt_z_yes}
-use Rattle.std.proofs.lemmas.Float.{T_from_true}
+use Rattle.std.specs.Ordering.{is_lt}
+use Rattle.std.specs.declared.cmp.Ordering.{Ordering}
+use Rattle.std.specs.declared.cmp.Ordering.TheVariants.{Less, Equal, Greater}
 use Rattle.lin_lists.specs.Sets.{IsRising}
-use Rattle.lin_formats.specs.Orders.{is_rising}
+use Rattle.lin_events.specs.declared.items.Item.{Item}
+use Rattle.lin_events.specs.Items.{item_cmp}
+use Rattle.lin_events.specs.Sameness.{items_total}
+use Rattle.lin_formats.specs.Orders.{is_below, is_rising}
 
 both : (a b : Bool) → a && b ≡ true → (a ≡ true) × (b ≡ true)
 both true b h = (refl, h)
@@ -16,47 +19,52 @@ and_false : (b : Bool) → b && false ≡ false
 and_false true = refl
 and_false false = refl
 
-below_below : (a b c : ℤ) → int_lt a b ≡ true → int_lt b c ≡ true → int_lt a c ≡ true
-below_below a b c h k = grind (arith, ints)
+less_of : (o : Ordering) → is_lt o ≡ true → o ≡ Less
+less_of Less h = refl
+less_of Equal h = absurd (true≢false (sym h))
+less_of Greater h = absurd (true≢false (sym h))
 
-all_above : (a b : ℤ) (ys : List ℤ) → int_lt a b ≡ true → list_all (int_lt b) ys ≡ true → list_all (int_lt a) ys ≡ true
+below_below : (a b c : Item) → is_below a b ≡ true → is_below b c ≡ true → is_below a c ≡ true
+below_below a b c h k = ap is_lt (items_total.trans a b c (less_of (item_cmp a b) h) (less_of (item_cmp b c) k))
+
+all_above : (a b : Item) (ys : List Item) → is_below a b ≡ true → list_all (is_below b) ys ≡ true → list_all (is_below a) ys ≡ true
 all_above a b [] less above = refl
 all_above a b (y ∷ ys) less above =
-    let parts = both (int_lt b y) (list_all (int_lt b) ys) above in
-    ap (λ t. t && list_all (int_lt a) ys) (below_below a b y less parts.0) ∙ all_above a b ys less parts.1
+    let parts = both (is_below b y) (list_all (is_below b) ys) above in
+    ap (λ t. t && list_all (is_below a) ys) (below_below a b y less parts.0) ∙ all_above a b ys less parts.1
 
--- what decides whether a rising list goes on rising is its last number
-pub rising_more : (xs : List ℤ) (last y : ℤ) → is_rising xs ≡ true → slice_get xs (length xs - 1) ≡ Some last
-    → is_rising (xs ++ y ∷ []) ≡ int_lt last y
+-- what decides whether a rising list goes on rising is its last item
+pub rising_more : (xs : List Item) (last y : Item) → is_rising xs ≡ true → slice_get xs (length xs - 1) ≡ Some last
+    → is_rising (xs ++ y ∷ []) ≡ is_below last y
 rising_more [] last y rises at = absurd (cc)
 rising_more (x ∷ []) last y rises at =
     let same : x ≡ last = cc in
-    ap (λ z. (int_lt z y && true) && true) same ∙ by (int_lt last y)
+    ap (λ z. (is_below z y && true) && true) same ∙ by (is_below last y)
   where
     by : (b : Bool) → (b && true) && true ≡ b
     by true = refl
     by false = refl
 rising_more (x ∷ w ∷ xs) last y rises at =
-    let rest = both (list_all (int_lt x) (w ∷ xs)) (is_rising (w ∷ xs)) rises in
-    let first = both (int_lt x w) (list_all (int_lt x) xs) rest.0 in
+    let rest = both (list_all (is_below x) (w ∷ xs)) (is_rising (w ∷ xs)) rises in
+    let first = both (is_below x w) (list_all (is_below x) xs) rest.0 in
     let here : length (x ∷ w ∷ xs) - 1 ≡ suc (length (w ∷ xs) - 1) = omega arith in
     let more = rising_more (w ∷ xs) last y rest.1 (ap (slice_get (x ∷ w ∷ xs)) (sym here) ∙ at) in
-    by (int_lt last y) first.0 more
+    by (is_below last y) first.0 more
   where
-    by : (b : Bool) → int_lt x w ≡ true → is_rising ((w ∷ xs) ++ y ∷ []) ≡ b
-        → list_all (int_lt x) ((w ∷ xs) ++ y ∷ []) && is_rising ((w ∷ xs) ++ y ∷ []) ≡ b
+    by : (b : Bool) → is_below x w ≡ true → is_rising ((w ∷ xs) ++ y ∷ []) ≡ b
+        → list_all (is_below x) ((w ∷ xs) ++ y ∷ []) && is_rising ((w ∷ xs) ++ y ∷ []) ≡ b
     by true less more =
-        let above = both (list_all (int_lt w) (xs ++ y ∷ [])) (is_rising (xs ++ y ∷ [])) more in
-        ap (λ t. (int_lt x w && list_all (int_lt x) (xs ++ y ∷ [])) && t) more
-        ∙ ap (λ t. (int_lt x w && t) && true) (all_above x w (xs ++ y ∷ []) less above.0) ∙ ap (λ t. (t && true) && true) less
+        let above = both (list_all (is_below w) (xs ++ y ∷ [])) (is_rising (xs ++ y ∷ [])) more in
+        ap (λ t. (is_below x w && list_all (is_below x) (xs ++ y ∷ [])) && t) more
+        ∙ ap (λ t. (is_below x w && t) && true) (all_above x w (xs ++ y ∷ []) less above.0) ∙ ap (λ t. (t && true) && true) less
     by false less more =
-        ap (λ t. list_all (int_lt x) ((w ∷ xs) ++ y ∷ []) && t) more ∙ and_false (list_all (int_lt x) ((w ∷ xs) ++ y ∷ []))
+        ap (λ t. list_all (is_below x) ((w ∷ xs) ++ y ∷ []) && t) more ∙ and_false (list_all (is_below x) ((w ∷ xs) ++ y ∷ []))
 
-rising_one : (xs : List ℤ) (y : ℤ) → xs ≡ [] → is_rising (xs ++ y ∷ []) ≡ true
+rising_one : (xs : List Item) (y : Item) → xs ≡ [] → is_rising (xs ++ y ∷ []) ≡ true
 rising_one [] y none = refl
 rising_one (x ∷ xs) y none = absurd (cc)
 
-front_all : (p : ℤ → Bool) (xs ys : List ℤ) → list_all p xs ≡ false → list_all p (xs ++ ys) ≡ false
+front_all : (p : Item → Bool) (xs ys : List Item) → list_all p xs ≡ false → list_all p (xs ++ ys) ≡ false
 front_all p [] ys h = absurd (true≢false h)
 front_all p (x ∷ xs) ys h = by (p x) h (front_all p xs ys)
   where
@@ -65,24 +73,25 @@ front_all p (x ∷ xs) ys h = by (p x) h (front_all p xs ys)
     by false e rest = refl
 
 -- a list that begins with one that does not rise does not rise
-pub rising_front : (xs ys : List ℤ) → is_rising xs ≡ false → is_rising (xs ++ ys) ≡ false
+pub rising_front : (xs ys : List Item) → is_rising xs ≡ false → is_rising (xs ++ ys) ≡ false
 rising_front [] ys h = absurd (true≢false h)
-rising_front (x ∷ xs) ys h = by (list_all (int_lt x) xs) (λ e. e) h (rising_front xs ys)
+rising_front (x ∷ xs) ys h = by (list_all (is_below x) xs) (λ e. e) h (rising_front xs ys)
   where
-    by : (b : Bool) → (b ≡ false → list_all (int_lt x) xs ≡ false) → b && is_rising xs ≡ false
-        → (is_rising xs ≡ false → is_rising (xs ++ ys) ≡ false) → list_all (int_lt x) (xs ++ ys) && is_rising (xs ++ ys) ≡ false
-    by true first falls rest = ap (λ t. list_all (int_lt x) (xs ++ ys) && t) (rest falls) ∙ and_false (list_all (int_lt x) (xs ++ ys))
-    by false first falls rest = ap (λ t. t && is_rising (xs ++ ys)) (front_all (int_lt x) xs ys (first refl))
+    by : (b : Bool) → (b ≡ false → list_all (is_below x) xs ≡ false) → b && is_rising xs ≡ false
+        → (is_rising xs ≡ false → is_rising (xs ++ ys) ≡ false) → list_all (is_below x) (xs ++ ys) && is_rising (xs ++ ys) ≡ false
+    by true first falls rest = ap (λ t. list_all (is_below x) (xs ++ ys) && t) (rest falls) ∙ and_false (list_all (is_below x) (xs ++ ys))
+    by false first falls rest = ap (λ t. t && is_rising (xs ++ ys)) (front_all (is_below x) xs ys (first refl))
 
-true_of : (b : Bool) → T b → b ≡ true
-true_of true h = refl
-true_of false h = absurd h
+-- whether all items of a list are above one
+pub above_all : (x : Item) (xs : List Item) → Decides (list_all (is_below x) xs) (All (λ y. item_cmp x y ≡ Less) xs)
+above_all x xs = Decides-by_and (is_below x) (λ y. item_cmp x y ≡ Less) (list_all (is_below x)) (λ y. (less_of (item_cmp x y), λ less. ap is_lt less)) refl (λ _ _. refl) xs
 
-all_below : (x : ℤ) (xs : List ℤ) → list_all (int_lt x) xs ≡ true → All (λ y. x <ℤ y) xs
-all_below x xs h = (Decides-by_and (int_lt x) (λ y. x <ℤ y) (list_all (int_lt x)) (λ y. (λ e. lt_z_yes (T_from_true (lt_z x y) e), λ less. true_of (lt_z x y) less.lt)) refl (λ _ _. refl) xs).0 h
-
-pub rising_is : (xs : List ℤ) → is_rising xs ≡ true → IsRising xs
+pub rising_is : (xs : List Item) → is_rising xs ≡ true → IsRising item_cmp xs
 rising_is [] h = tt
 rising_is (x ∷ xs) h =
-    let parts = both (list_all (int_lt x) xs) (is_rising xs) h in
-    (all_below x xs parts.0, rising_is xs parts.1)
+    let parts = both (list_all (is_below x) xs) (is_rising xs) h in
+    ((above_all x xs).0 parts.0, rising_is xs parts.1)
+
+pub is_rising_of : (xs : List Item) → IsRising item_cmp xs → is_rising xs ≡ true
+is_rising_of [] rises = refl
+is_rising_of (x ∷ xs) rises = ap (λ b. b && is_rising xs) ((above_all x xs).1 rises.0) ∙ is_rising_of xs rises.1

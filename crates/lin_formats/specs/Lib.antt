@@ -6,6 +6,7 @@ pub mod Fronts
 pub mod Histories
 pub mod Inputs
 pub mod Integers
+pub mod Items
 pub mod Kinds
 pub mod OrderLaws
 pub mod Texts

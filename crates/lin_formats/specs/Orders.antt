@@ -1,52 +1,59 @@
 -- The orders that texts write: the word `empty`, or pairs of a position and a reply.
-use Rattle.std.specs.Prelude.{◌≡◌, ℕ, ◌+◌, ◌-◌, ◌^◌, ◌==◌, ◌&&◌, Bool, true, List, [], ◌∷◌, length, take, drop, slice_index, slice_range, Option, None, Some, Result, Ok, Err, ℤ, int_lt, codes, if◌then◌else◌}
+use Rattle.std.specs.Prelude.{◌≡◌, ℕ, ◌+◌, ◌-◌, ◌^◌, ◌==◌, ◌&&◌, Bool, true, List, [], ◌∷◌, length, take, drop, slice_index, slice_range, Option, None, Some, Result, Ok, Err, codes, if◌then◌else◌}
 use Rattle.std.specs.List.{list_all, position}
 use Rattle.std.specs.Option.{option_map}
+use Rattle.std.specs.Ordering.{is_lt}
 use Rattle.std.specs.Str.{bytes_eq}
-use Rattle.lin_events.specs.declared.calls.Val.TheVariants.{Int, Nil}
+use Rattle.lin_events.specs.declared.items.Item.{Item}
+use Rattle.lin_events.specs.declared.calls.Val.TheVariants.{Item as Held, Nil}
 use Rattle.lin_events.specs.declared.calls.Reply.{Reply}
 use Rattle.lin_events.specs.declared.calls.Reply.TheVariants.{Done, Value, Members}
+use Rattle.lin_events.specs.Items.{item_cmp}
 use Rattle.lin_orders.specs.declared.placed.Placed.{Placed}
-use Rattle.lin_formats.specs.Integers.{integer_of, number_of}
+use Rattle.lin_formats.specs.Integers.{number_of}
+use Rattle.lin_formats.specs.Items.{item_in}
 use Rattle.lin_formats.specs.Parts.{Part, parts_from, words_from}
 use Rattle.lin_formats.specs.declared.faults.OrderFault.{OrderFault}
 use Rattle.lin_formats.specs.declared.faults.OrderFault.TheVariants.{BadPair, OutOfMemory}
 
--- each number is below all later ones
-abbrev pub is_rising : List ℤ → Bool
-is_rising [] = true
-is_rising (x ∷ xs) = list_all (int_lt x) xs && is_rising xs
+abbrev pub is_below : Item → Item → Bool
+is_below x y = is_lt (item_cmp x y)
 
-abbrev pub only_rising : Option (List ℤ) → Option (List ℤ)
+-- each item is below all later ones
+abbrev pub is_rising : List Item → Bool
+is_rising [] = true
+is_rising (x ∷ xs) = list_all (is_below x) xs && is_rising xs
+
+abbrev pub only_rising : Option (List Item) → Option (List Item)
 only_rising None = None
 only_rising (Some xs) = if is_rising xs then Some xs else None
 
--- an item before the others, where all of them are there
+-- one before the others, where all of them are there
 abbrev pub before_all : {X : Type 0} → Option X → Option (List X) → Option (List X)
 before_all None others = None
 before_all (Some x) None = None
 before_all (Some x) (Some xs) = Some (x ∷ xs)
 
--- the numbers that the parts write, where each writes one
-abbrev pub integers_of : List Part → Option (List ℤ)
-integers_of [] = Some []
-integers_of (part ∷ parts) = before_all (integer_of part.text) (integers_of parts)
+-- the items that the parts write, where each writes one
+abbrev pub items_of : List Part → Option (List Item)
+items_of [] = Some []
+items_of (part ∷ parts) = before_all (item_in part.text) (items_of parts)
 
--- the members that a text writes between braces: nothing, or strictly rising numbers with commas (byte 44) between them
-abbrev pub members_written : List ℕ → Option (List ℤ)
-members_written text = if length text == 0 then Some [] else only_rising (integers_of (parts_from 44 0 text))
+-- the members that a text writes between braces: nothing, or strictly rising items with commas (byte 44) between them
+abbrev pub members_written : List ℕ → Option (List Item)
+members_written text = if length text == 0 then Some [] else only_rising (items_of (parts_from 44 0 text))
 
 -- begins with `{` and ends with `}`
 abbrev pub is_braced : List ℕ → Bool
 is_braced text = (slice_index text 0 == 123) && (slice_index text (length text - 1) == 125)
 
--- the reply that a text writes: `done`, `nil`, members between braces, or a number
+-- the reply that a text writes: `done`, `nil`, members between braces, or an item
 abbrev pub reply_written : List ℕ → Option Reply
 reply_written text =
     if bytes_eq text (codes "done") then Some Done
     else (if bytes_eq text (codes "nil") then Some (Value Nil)
     else (if is_braced text then option_map Members (members_written (slice_range text 1 (length text - 1)))
-    else option_map (λ n. Value (Int n)) (integer_of text)))
+    else option_map (λ item. Value (Held item)) (item_in text)))
 
 abbrev pub placed : Option ℕ → Option Reply → Option Placed
 placed None reply = None

@@ -1,18 +1,18 @@
 -- The texts of orders.
 use Rattle.std.specs.Prelude.{ℕ, List, [], ◌∷◌, ◌++◌, codes, decimal}
-use Rattle.std.specs.Fmt.{signed_decimal}
 use Rattle.std.specs.List.{join_by}
-use Rattle.lin_events.specs.declared.calls.Val.TheVariants.{Int, Nil}
+use Rattle.lin_events.specs.declared.calls.Val.TheVariants.{Item as Held, Nil}
 use Rattle.lin_events.specs.declared.calls.Reply.{Reply}
 use Rattle.lin_events.specs.declared.calls.Reply.TheVariants.{Done, Value, Members}
 use Rattle.lin_orders.specs.declared.placed.Placed.{Placed}
+use Rattle.lin_formats.specs.Items.{item_text}
 
 -- the text of a reply
 abbrev pub reply_text : Reply → List ℕ
 reply_text Done = codes "done"
 reply_text (Value Nil) = codes "nil"
-reply_text (Value (Int i)) = signed_decimal i
-reply_text (Members xs) = codes "{" ++ join_by signed_decimal (codes ",") xs ++ codes "}"
+reply_text (Value (Held item)) = item_text item
+reply_text (Members xs) = codes "{" ++ join_by item_text (codes ",") xs ++ codes "}"
 
 -- the text of a pair of an order
 abbrev pub placed_text : Placed → List ℕ

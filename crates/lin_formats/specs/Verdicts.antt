@@ -1,6 +1,7 @@
 -- What is right to answer of a file and an order.
-use Rattle.std.specs.Prelude.{◌≡◌, ◌<◌, ◌≤◌, ◌^◌, ◌⊎◌, ℕ, ℤ, Bool, true, false, List, Option, Result, Ok, Err, length, take}
+use Rattle.std.specs.Prelude.{◌≡◌, ◌<◌, ◌≤◌, ◌^◌, ◌⊎◌, ℕ, Bool, true, false, List, Option, Result, Ok, Err, length, take}
 use Rattle.std.specs.Io.KnownBytes.{Appends, Consumes, IsAtEnd, Keeps}
+use Rattle.lin_events.specs.declared.items.Item.{Item}
 use Rattle.lin_events.specs.declared.events.Event.{Event}
 use Rattle.lin_objects.specs.declared.kinds.Kind.{Kind}
 use Rattle.lin_objects.specs.Kinds.{functions_of}
@@ -22,7 +23,7 @@ use Rattle.lin_formats.specs.declared.faults.RunFault.TheVariants.{ReadFailed, W
 use Rattle.lin_formats.specs.declared.settings.Settings.{Settings}
 
 -- every key has an object of this kind
-abbrev pub all_of : Kind → ℤ → Kind
+abbrev pub all_of : Kind → Item → Kind
 all_of kind key = kind
 
 -- What is right to answer of a whole history and the text of an order: that the text is no order; else that the history

@@ -5,6 +5,7 @@ mod counted;
 mod faults;
 mod inputs;
 mod integers;
+mod items;
 mod kinds;
 mod orders;
 mod parts;
@@ -18,12 +19,13 @@ mod writing;
 pub use counted::Counted;
 pub use faults::{OrderFault, RunFault};
 pub use inputs::{History, finish_history, read_history, take_piece};
-pub use integers::{integer, number};
+pub use integers::number;
+pub use items::{item_in, put_item, written_items_are_read};
 pub use kinds::{kind_named, kind_word, kind_words, kind_words_are_read};
 pub use orders::read_order;
 pub use parts::{Word, end_of_part, next_word};
 pub use settings::Settings;
-pub use texts::{put_integer, put_members, write_order, written_orders_are_read};
+pub use texts::{put_members, write_order, written_orders_are_read};
 pub use verdict_laws::verdicts_are_unique;
 pub use verdicts::{
     OrderVerdict, Refusal, Status, cause_words, edn_cause, event_fault, put_number, refusal_words,

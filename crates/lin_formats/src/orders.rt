@@ -4,23 +4,24 @@ ghost use Rattle.lin_formats.specs.Parts.{words_from};
 ghost use Rattle.lin_formats.specs.Orders.{is_braced, is_rising, members_written, order_of, pair_written, pairs_of, reply_written, IsRefusedAs};
 
 use crate::faults::OrderFault;
-use crate::integers::{integer, number};
+use crate::integers::number;
+use crate::items::item_in;
 use crate::parts::{end_of_part, next_word};
-use lin_events::{IntSet, OutOfMemory, Reply, Val};
+use lin_events::{IntSet, Item, OutOfMemory, Reply, Val};
 use lin_orders::Placed;
 use std::alloc::Global;
 
-/// Whether a number is above the last of rising ones, and so above all of them.
-fn is_above(numbers: &[i64], number: i64) -> bool
-    ensures { is_rising numbers.now ≡ true → is_rising (numbers.now ++ number ∷ []) ≡ result }
+/// Whether an item is above the last of rising ones, and so above all of them.
+fn is_above(items: &[Item], item: Item) -> bool
+    ensures { is_rising items.now ≡ true → is_rising (items.now ++ item ∷ []) ≡ result }
 {
-    match numbers.last() {
-        Some(last) => *last < number,
+    match items.last() {
+        Some(last) => *last < item,
         None => true,
     }
 }
 
-/// The numbers that a text writes with commas between them, where they rise strictly.
+/// The items that a text writes with commas between them, where they rise strictly.
 fn read_members(alloc: Global, text: &[u8]) -> Result<Option<IntSet>, OutOfMemory>
     ensures { IfOk result (λ members. members ≡ members_written text.now) }
 {
@@ -31,7 +32,7 @@ fn read_members(alloc: Global, text: &[u8]) -> Result<Option<IntSet>, OutOfMemor
     let mut from = 0;
     'parts: loop {
         let end = end_of_part(text, from, b',');
-        let Some(member) = integer(&text[from..end]) else {
+        let Some(member) = item_in(&text[from..end]) else {
             return Ok(None);
         };
         if !is_above(members.as_slice(), member) {
@@ -68,7 +69,7 @@ fn read_reply(alloc: Global, text: &[u8]) -> Result<Option<Reply>, OutOfMemory>
     }
     match between_braces(text) {
         Some(inside) => Ok(read_members(alloc, inside)?.map(Reply::Members)),
-        None => Ok(integer(text).map(|number| Reply::Value(Val::Int(number)))),
+        None => Ok(item_in(text).map(|item| Reply::Value(Val::Item(item)))),
     }
 }
 
@@ -118,7 +119,7 @@ fn read_pairs(alloc: Global, text: &[u8]) -> Result<Vec<Placed>, OrderFault>
 
 /// The order that a text writes: the word `empty`, or one pair `AT=REPLY` or more, with spaces between them.
 ///
-/// `AT` is the position of an invocation. A reply is `done`, `nil`, a number, or numbers `{a,b,c}` that rise strictly.
+/// `AT` is the position of an invocation. A reply is `done`, `nil`, an item, or items `{a,b,c}` that rise strictly.
 ///
 /// Errors: `BadPair` with the place of the first word that is no pair, or 0 where there is no word; want of memory.
 pub fn read_order(alloc: Global, text: &[u8]) -> Result<Vec<Placed>, OrderFault>

@@ -1,37 +1,29 @@
 //! The texts of orders.
 ghost use Rattle.std.specs.Prelude.{◌≡◌, ◌++◌, codes, decimal, OnErr, OnOk};
-ghost use Rattle.std.specs.Fmt.{signed_decimal};
 ghost use Rattle.std.specs.List.{join_by};
 ghost use Rattle.lin_formats.specs.Fronts.{HasFront};
+ghost use Rattle.lin_formats.specs.Items.{item_text};
 ghost use Rattle.lin_formats.specs.OrderLaws.{WrittenOrdersAreRead};
 ghost use Rattle.lin_formats.specs.Texts.{order_text, placed_text, reply_text};
 
+use crate::items::put_item;
 use itoa::Buffer;
-use lin_events::{OutOfMemory, Reply, Val};
+use lin_events::{Item, OutOfMemory, Reply, Val};
 use lin_orders::Placed;
 use std::alloc::AllocError;
 
-/// Puts a number with its sign last.
-pub fn put_integer(line: &mut Vec<u8>, number: i64) -> Result<(), AllocError>
-    ensures put { OnOk result (line.new.items ≡ line.old.items ++ signed_decimal number) }
-    ensures refused { OnErr result (line.new.items ≡ line.old.items) }
-{
-    let mut digits = Buffer::new();
-    line.extend_from_slice(digits.format(number).as_bytes())
-}
-
-/// Puts numbers last, with commas between them.
-pub fn put_members(line: &mut Vec<u8>, members: &[i64]) -> Result<(), AllocError>
-    ensures put { OnOk result (line.new.items ≡ line.old.items ++ join_by signed_decimal (codes ",") members.now) }
+/// Puts items last, with commas between them.
+pub fn put_members(line: &mut Vec<u8>, members: &[Item]) -> Result<(), AllocError>
+    ensures put { OnOk result (line.new.items ≡ line.old.items ++ join_by item_text (codes ",") members.now) }
     ensures refused { OnErr result (HasFront line.old.items line.new.items) }
 {
     let Some((first, others)) = members.split_first() else {
         return Ok(());
     };
-    put_integer(line, *first)?;
+    put_item(line, *first)?;
     for member in others {
         line.push(b',')?;
-        put_integer(line, *member)?;
+        put_item(line, *member)?;
     }
     Ok(())
 }
@@ -43,7 +35,7 @@ fn put_reply(line: &mut Vec<u8>, reply: &Reply) -> Result<(), AllocError>
     match reply {
         Reply::Done => line.extend_from_slice(b"done"),
         Reply::Value(Val::Nil) => line.extend_from_slice(b"nil"),
-        Reply::Value(Val::Int(number)) => put_integer(line, *number),
+        Reply::Value(Val::Item(item)) => put_item(line, *item),
         Reply::Members(members) => {
             line.push(b'{')?;
             put_members(line, members.as_slice())?;

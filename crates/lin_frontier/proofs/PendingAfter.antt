@@ -1,11 +1,12 @@
 -- The operations that are open after one more event.
-use Rattle.std.proofs.Common.{◌≡◌, ◌≢◌, ◌↔◌, ℕ, ℤ, ◌<◌, Bool, true, false, not, ◌||◌, nat_eq, true≢false, List, [], ◌∷◌, ◌++◌, length, take, filter, map, get_or, Contains, All, AllPairs, IsTrue, ◌⊎◌, inl, inr, refl, sym, ap, subst, ◌∙◌, arith, length-append}
+use Rattle.std.proofs.Common.{◌≡◌, ◌≢◌, ◌↔◌, ℕ, ◌<◌, Bool, true, false, not, ◌||◌, nat_eq, true≢false, List, [], ◌∷◌, ◌++◌, length, take, filter, map, get_or, Contains, All, AllPairs, IsTrue, ◌⊎◌, inl, inr, refl, sym, ap, subst, ◌∙◌, arith, length-append}
 use Rattle.std.proofs.lemmas.Bool.{cases_eq, cases_lt}
 use Rattle.std.proofs.lemmas.Bool.Decides.{Decides-eqb as Decides-nat_eq}
 use Rattle.std.proofs.lemmas.List.{get_or-map, get_or_append_left, length-map}
 use Rattle.std.proofs.lemmas.Option.{slice_get_within}
 use Rattle.std.proofs.lemmas.List.Elements.{Contains-append_left, Contains-get_or, Contains-push, Contains-push_cases}
 use Rattle.std.proofs.lemmas.List.Kept.{AllPairs-filter}
+use Rattle.lin_events.specs.declared.items.Item.{Item}
 use Rattle.lin_events.specs.declared.calls.Call.{Call}
 use Rattle.lin_events.specs.declared.calls.Name.{Name}
 use Rattle.lin_events.specs.declared.calls.Reply.{Reply}
@@ -42,7 +43,7 @@ pairs_push xs x all new i j d below inside = elim (cases_lt j (length xs)) [
     last [] = refl
     last (y ∷ ys) = last ys
 
-module _ (functions : ℤ → Name → Bool) (h : List Event) (pending : List Open) (at : ℕ) (event : Event) (next : IsNextEvent functions h pending at event)
+module _ (functions : Item → Name → Bool) (h : List Event) (pending : List Open) (at : ℕ) (event : Event) (next : IsNextEvent functions h pending at event)
     (alternating : WellFormedIsAlternating) (beginnings : BeginningsAreWellFormed) where
   opened : IsPending h pending
   opened = next.opened
@@ -73,7 +74,7 @@ module _ (functions : ℤ → Name → Bool) (h : List Event) (pending : List Op
     once = pairs_push pending new opened.once (λ k d inside. inside_before (get_or pending k d) (Contains-get_or pending k d inside));
     sound = λ o there. elim (Contains-push_cases pending new o there) [
       | inl old ↦ let s = opened.sound o old in (s.0, open_kept h event no_ok no_fail o.at o.process s.0 o.call s.1)
-      | inr same ↦ subst (λ p. (key : ℤ) × IsOpen (with_event h event) p.at p.process key p.call) same (event.key, subst (λ k. IsOpen (with_event h event) k event.process event.key call) next.place (invoked h event call is))
+      | inr same ↦ subst (λ p. (key : Item) × IsOpen (with_event h event) p.at p.process key p.call) same (event.key, subst (λ k. IsOpen (with_event h event) k event.process event.key call) next.place (invoked h event call is))
     ];
     complete = λ k process key c open'. elim (cases_eq k (length h)) [
       | inl same ↦ (new, Contains-push pending new, sym next.place ∙ sym same)
@@ -124,7 +125,7 @@ module _ (functions : ℤ → Name → Bool) (h : List Event) (pending : List Op
           omega arith
 
   -- a completion is no invocation
-  not_there : (name : Name) → Completes event.body name → (p : ℕ) (key : ℤ) (c : Call) → IsOperation (with_event h event) (length h) p key c → ⊥
+  not_there : (name : Name) → Completes event.body name → (p : ℕ) (key : Item) (c : Call) → IsOperation (with_event h event) (length h) p key c → ⊥
   not_there name is p key c op = by event.body is (ap (λ (x : Event). x.body) (one_event (with_event h event) (length h) _ _ (get_last h event) op))
     where
       by : (b : Body) → Completes b name → b ≡ Invoke c → ⊥
@@ -134,7 +135,7 @@ module _ (functions : ℤ → Name → Bool) (h : List Event) (pending : List Op
       by (Info n) here e = cc
 
   module _ (name : Name) (is : Completes event.body name) where
-    done : (k : ℕ) × (key : ℤ) × (call : Call) × IsOpen h k event.process key call × IsEnd (with_event h event) k (length h) event
+    done : (k : ℕ) × (key : Item) × (call : Call) × IsOpen h k event.process key call × IsEnd (with_event h event) k (length h) event
     done = completes h event functions alternates_after name is
 
     -- an operation of the process that is open before its completion is the one that it ends
@@ -144,11 +145,11 @@ module _ (functions : ℤ → Name → Bool) (h : List Event) (pending : List Op
         let one = one_open functions h alternates o.at done.0 event.process s.0 done.1 o.call done.2 (subst (λ p. IsOpen h o.at p s.0 o.call) same s.1) done.3 in
         subst (λ k. IsEnd (with_event h event) k (length h) event) (sym one) done.4
 
-    before : (k p : ℕ) (key : ℤ) (c : Call) → IsOpen (with_event h event) k p key c → IsOpen h k p key c
+    before : (k p : ℕ) (key : Item) (c : Call) → IsOpen (with_event h event) k p key c → IsOpen h k p key c
     before k p key c o = open_before h event k p key c (λ same. not_there name is p key c (subst (λ n. IsOperation (with_event h event) n p key c) same o.begins)) o
 
     -- an ok or a fail: the operation is no longer open
-    pub pending_returned : ((k p : ℕ) (key : ℤ) (c : Call) → IsEnd (with_event h event) k (length h) event → IsOpen (with_event h event) k p key c → ⊥) → ((other : Name) → event.body ≡ Info other → ⊥)
+    pub pending_returned : ((k p : ℕ) (key : Item) (c : Call) → IsEnd (with_event h event) k (length h) event → IsOpen (with_event h event) k p key c → ⊥) → ((other : Name) → event.body ≡ Info other → ⊥)
         → IsPending (with_event h event) (filter (λ o. not (nat_eq o.process event.process)) pending)
     pending_returned gone no_info = record {
       once = AllPairs-filter (λ o p. o.at ≢ p.at) others pending opened.once;
@@ -183,7 +184,7 @@ module _ (functions : ℤ → Name → Bool) (h : List Event) (pending : List Op
       sound = λ o there.
           let was = marked_was o there in
           let s = opened.sound was.0 was.1 in
-          subst (λ (p : Open). (key : ℤ) × IsOpen (with_event h event) p.at p.process key p.call) (sym was.2) (s.0, open_kept h event no_ok no_fail was.0.at was.0.process s.0 was.0.call s.1);
+          subst (λ (p : Open). (key : Item) × IsOpen (with_event h event) p.at p.process key p.call) (sym was.2) (s.0, open_kept h event no_ok no_fail was.0.at was.0.process s.0 was.0.call s.1);
       complete = λ k p key c open'.
           let s = opened.complete k p key c (before k p key c open') in
           (marked event.process s.0, marked_there s.0 s.1, s.2);
@@ -240,7 +241,7 @@ module _ (functions : ℤ → Name → Bool) (h : List Event) (pending : List Op
             or_from true b t = refl
             or_from false b t = absurd (true≢false (sym t))
 
-            of_it : (key : ℤ) → IsOpen h o.at o.process key o.call → IsEnd (with_event h event) o.at (length h) event → o.process ≡ event.process
+            of_it : (key : Item) → IsOpen h o.at o.process key o.call → IsEnd (with_event h event) o.at (length h) event → o.process ≡ event.process
             of_it key open' ends = one_caller (with_event h event) o.at o.process ends.process key ends.key o.call ends.call (operation_kept h event o.at o.process key o.call open'.begins) ends.begins ∙ sym ends.same
 
   pub pending_answered : (((n : Name) × (r : Reply) × (event.body ≡ Ok n r)) ⊎ ((n : Name) × (event.body ≡ Fail n))) → IsPending (with_event h event) (filter (λ o. not (nat_eq o.process event.process)) pending)

@@ -1,6 +1,7 @@
 -- Frontiers: all configurations of a history that has one object, and how each was come by.
-use Rattle.std.specs.Prelude.{◌≡◌, ◌≢◌, ◌↔◌, ◌+◌, ◌*◌, ℕ, ℤ, Bool, List, length, All, AllPairs, Contains, IsTrue}
+use Rattle.std.specs.Prelude.{◌≡◌, ◌≢◌, ◌↔◌, ◌+◌, ◌*◌, ℕ, Bool, List, length, All, AllPairs, Contains, IsTrue}
 use Rattle.std.specs.Map.{keys_of}
+use Rattle.lin_events.specs.declared.items.Item.{Item}
 use Rattle.lin_events.specs.declared.events.Body.{Body}
 use Rattle.lin_events.specs.declared.events.Body.TheVariants.{Invoke, Ok, Fail, Info}
 use Rattle.lin_events.specs.declared.events.Event.{Event}
@@ -18,12 +19,12 @@ use Rattle.lin_frontier.specs.Nodes.{Spells}
 -- exactly the operations that are open in the history, each once; marked are those that crashed
 pub record IsPending (h : List Event) (pending : List Open) : Type 0 where
   pub once : AllPairs (λ o p. o.at ≢ p.at) pending
-  pub sound : (o : Open) → Contains pending o → (key : ℤ) × IsOpen h o.at o.process key o.call
-  pub complete : (at process : ℕ) (key : ℤ) (call : Call) → IsOpen h at process key call → (o : Open) × Contains pending o × (o.at ≡ at)
+  pub sound : (o : Open) → Contains pending o → (key : Item) × IsOpen h o.at o.process key o.call
+  pub complete : (at process : ℕ) (key : Item) (call : Call) → IsOpen h at process key call → (o : Open) × Contains pending o × (o.at ≡ at)
   pub crashed : (o : Open) → Contains pending o → IsTrue o.crashed ↔ IsCrashed h o.at
 
 -- the event may come next: it stands at this position, the history with it is well-formed, and these operations are open before it
-pub record IsNextEvent (functions : ℤ → Name → Bool) (h : List Event) (pending : List Open) (at : ℕ) (event : Event) : Type 0 where
+pub record IsNextEvent (functions : Item → Name → Bool) (h : List Event) (pending : List Open) (at : ℕ) (event : Event) : Type 0 where
   pub place : length h ≡ at
   pub well_formed : IsWellFormed functions (with_event h event)
   pub opened : IsPending h pending

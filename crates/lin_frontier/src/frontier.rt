@@ -1,5 +1,6 @@
 //! Frontiers: the configurations of a history that has one object.
-ghost use Rattle.std.specs.Prelude.{◌≡◌, ◌<◌, ◌≤◌, ◌∷◌, ◌⊎◌, ◌+◌, [], ℕ, ℤ, Bool, List, OnErr, Some, length, slice_get, IfOk, IfSome, IfNone};
+ghost use Rattle.std.specs.Prelude.{◌≡◌, ◌<◌, ◌≤◌, ◌∷◌, ◌⊎◌, ◌+◌, [], ℕ, Bool, List, OnErr, Some, length, slice_get, IfOk, IfSome, IfNone};
+ghost use Rattle.lin_events.specs.declared.items.Item.{Item as ItemOf};
 ghost use Rattle.lin_events.specs.declared.calls.Reply.{Reply as ReplyOf};
 ghost use Rattle.lin_events.specs.declared.calls.Name.{Name as NameOf};
 ghost use Rattle.lin_events.specs.declared.events.Event.{Event as EventOf};
@@ -74,11 +75,11 @@ fn next_configs<O: SeqObject>(
     nodes: &mut Nodes,
     meter: &mut Meter,
 ) -> Result<Option<IndexMap<Config<O::State>, NodeId>>, OutOfMemory>
-    ensures next { IfOk result (λ found. IfSome found (λ map. (functions : ℤ → NameOf → Bool) (h : List EventOf)
+    ensures next { IfOk result (λ found. IfSome found (λ map. (functions : ItemOf → NameOf → Bool) (h : List EventOf)
         → IsNextEvent functions h arrival.now.pending.now arrival.now.at arrival.now.event.now → IsFrontier (O.starts arrival.now.object.now) (O.step arrival.now.object.now) h configs.now.entries nodes.old
         → IsFrontier (O.starts arrival.now.object.now) (O.step arrival.now.object.now) (with_event h arrival.now.event.now) map.entries nodes.new)) }
     ensures small { IfOk result (λ found. IfSome found (λ map. index_map_len map ≤ budget)) }
-    ensures over { IfOk result (λ found. IfNone found ((functions : ℤ → NameOf → Bool) (h : List EventOf)
+    ensures over { IfOk result (λ found. IfNone found ((functions : ItemOf → NameOf → Bool) (h : List EventOf)
         → IsNextEvent functions h arrival.now.pending.now arrival.now.at arrival.now.event.now → IsFrontier (O.starts arrival.now.object.now) (O.step arrival.now.object.now) h configs.now.entries nodes.old
         → IsOver (O.starts arrival.now.object.now) (O.step arrival.now.object.now) (with_event h arrival.now.event.now) budget)) }
     ensures grown { IsGrown nodes.old nodes.new }
@@ -155,14 +156,14 @@ impl<O: SeqObject> Frontier<O> {
     ) -> Result<Step<O>, OutOfMemory>
         // Where the frontier holds exactly the configurations of a history, with these operations open, the answer speaks of that
         // history with the event behind it, which has to be well-formed.
-        ensures next { IfOk result (λ step. (next : List ((O.State × List (ℕ × ReplyOf)) × ℕ)) → step ≡ Step.Next next → (functions : ℤ → NameOf → Bool) (h : List EventOf)
+        ensures next { IfOk result (λ step. (next : List ((O.State × List (ℕ × ReplyOf)) × ℕ)) → step ≡ Step.Next next → (functions : ItemOf → NameOf → Bool) (h : List EventOf)
             → IsNextEvent functions h pending.now at event.now → IsFrontier (O.starts object.now) (O.step object.now) h self.now nodes.old
             → IsFrontier (O.starts object.now) (O.step object.now) (with_event h event.now) next nodes.new) }
         ensures some { IfOk result (λ step. (next : List ((O.State × List (ℕ × ReplyOf)) × ℕ)) → step ≡ Step.Next next → (0 < length next) × (length next ≤ budget)) }
-        ensures empty { IfOk result (λ step. step ≡ Step.Empty → (functions : ℤ → NameOf → Bool) (h : List EventOf)
+        ensures empty { IfOk result (λ step. step ≡ Step.Empty → (functions : ItemOf → NameOf → Bool) (h : List EventOf)
             → IsNextEvent functions h pending.now at event.now → IsFrontier (O.starts object.now) (O.step object.now) h self.now nodes.old
             → IsLinearizableBy (O.starts object.now) (O.step object.now) (with_event h event.now) → ⊥) }
-        ensures over { IfOk result (λ step. step ≡ Step.Over → (functions : ℤ → NameOf → Bool) (h : List EventOf)
+        ensures over { IfOk result (λ step. step ≡ Step.Over → (functions : ItemOf → NameOf → Bool) (h : List EventOf)
             → IsNextEvent functions h pending.now at event.now → IsFrontier (O.starts object.now) (O.step object.now) h self.now nodes.old
             → IsOver (O.starts object.now) (O.step object.now) (with_event h event.now) budget) }
         // Nodes are only added; and none is where there is no next frontier.

@@ -1,5 +1,6 @@
 //! The operations that are open.
-ghost use Rattle.std.specs.Prelude.{◌≡◌, ◌⊎◌, ◌&&◌, ◌+◌, ◌≤◌, [], ℤ, true, nat_eq, All, Bool, Contains, IsTrue, List, IfNone, IfSome, length, OnOk, OnErr, filter, map, not, take, ◌==◌, ◌++◌};
+ghost use Rattle.std.specs.Prelude.{◌≡◌, ◌⊎◌, ◌&&◌, ◌+◌, ◌≤◌, [], true, nat_eq, All, Bool, Contains, IsTrue, List, IfNone, IfSome, length, OnOk, OnErr, filter, map, not, take, ◌==◌, ◌++◌};
+ghost use Rattle.lin_events.specs.declared.items.Item.{Item as ItemOf};
 ghost use Rattle.lin_events.specs.declared.calls.Name.{Name as NameOf};
 ghost use Rattle.lin_events.specs.declared.events.Event.{Event as EventOf};
 ghost use Rattle.lin_orders.specs.ConfigurationLaws.{with_event};
@@ -72,7 +73,7 @@ pub fn append_operations(operations: &mut Vec<Open>, others: &[Open]) -> Result<
 
 /// Takes one more event in: its operation is open from then on, or no longer, or has crashed.
 pub fn take_in(pending: &mut Vec<Open>, at: usize, event: &Event) -> Result<(), OutOfMemory>
-    ensures ok { OnOk result ((functions : ℤ → NameOf → Bool) (h : List EventOf) → IsNextEvent functions h pending.old.items at event.now → IsPending (with_event h event.now) pending.new.items) }
+    ensures ok { OnOk result ((functions : ItemOf → NameOf → Bool) (h : List EventOf) → IsNextEvent functions h pending.old.items at event.now → IsPending (with_event h event.now) pending.new.items) }
     ensures err { OnErr result (pending.new.items ≡ pending.old.items) }
     ensures len { length pending.new.items ≤ length pending.old.items + 1 }
 {

@@ -3,7 +3,7 @@ use crate::drawn::{Draw, KINDS, drawn_history, has_legal_order, is_legal_order, 
 use crate::events::{fail, info, invoke, ok, write};
 use crate::exact_sets::{Came, came_of};
 use lin_compressed::{Advance, Compressed, Scratch};
-use lin_events::{Body, Call, Event, IntSet, Meter, Name, Reply, Val};
+use lin_events::{Body, Call, Event, IntSet, Item, Meter, Name, Reply, Val};
 use lin_frontier::{Open, take_in};
 use lin_members::RoundNodes;
 use lin_objects::{Any, Kind};
@@ -207,10 +207,10 @@ fn a_read_places_a_write_that_crashed(rt: HostRuntime) {
         info(0, Name::Write),
         invoke(1, write(2)),
         invoke(2, Call::Read),
-        gives(2, Name::Read, Val::Int(1)),
+        gives(2, Name::Read, Val::Item(Item::Int(1))),
         fail(1, Name::Write),
         invoke(2, Call::Read),
-        gives(2, Name::Read, Val::Int(2)),
+        gives(2, Name::Read, Val::Item(Item::Int(2))),
     ];
     comes_within(&rt, alloc, kind, &events[..4], AMPLE, Came::Sound(1));
     // The first write alone; with the second before it that one can't fail, and would be no better.
@@ -224,10 +224,10 @@ fn a_queue_places_what_a_reply_asks_for(rt: HostRuntime) {
     let alloc = rt.alloc();
     let kind = Kind::Fifo;
     let events = [
-        invoke(0, Call::Enqueue(1)),
-        invoke(1, Call::Enqueue(2)),
+        invoke(0, Call::Enqueue(Item::Int(1))),
+        invoke(1, Call::Enqueue(Item::Int(2))),
         invoke(2, Call::Dequeue),
-        gives(2, Name::Dequeue, Val::Int(2)),
+        gives(2, Name::Dequeue, Val::Item(Item::Int(2))),
         done(0, Name::Enqueue),
         done(1, Name::Enqueue),
         invoke(2, Call::Dequeue),
@@ -265,7 +265,7 @@ fn what_a_crashed_write_explains_stays(rt: HostRuntime) {
         invoke(0, write(1)),
         info(0, Name::Write),
         invoke(1, Call::Read),
-        gives(1, Name::Read, Val::Int(1)),
+        gives(1, Name::Read, Val::Item(Item::Int(1))),
         invoke(1, Call::Read),
         gives(1, Name::Read, Val::Nil),
     ];
@@ -281,9 +281,9 @@ fn what_a_crashed_write_explains_stays(rt: HostRuntime) {
 fn where_nothing_crashed_all_are_counted(rt: HostRuntime) {
     let alloc = rt.alloc();
     let queue = [
-        invoke(0, Call::Enqueue(1)),
-        invoke(1, Call::Enqueue(2)),
-        invoke(2, Call::Enqueue(3)),
+        invoke(0, Call::Enqueue(Item::Int(1))),
+        invoke(1, Call::Enqueue(Item::Int(2))),
+        invoke(2, Call::Enqueue(Item::Int(3))),
     ];
     comes_within(&rt, alloc, Kind::Fifo, &queue, 16, Came::Sound(1));
     comes_within(&rt, alloc, Kind::Fifo, &queue, 15, Came::Over);
@@ -301,22 +301,22 @@ fn many_members_are_told_apart(rt: HostRuntime) {
     let alloc = rt.alloc();
     let kind = Kind::Fifo;
     let queue = [
-        invoke(0, Call::Enqueue(1)),
+        invoke(0, Call::Enqueue(Item::Int(1))),
         info(0, Name::Enqueue),
-        invoke(1, Call::Enqueue(2)),
+        invoke(1, Call::Enqueue(Item::Int(2))),
         info(1, Name::Enqueue),
-        invoke(2, Call::Enqueue(3)),
+        invoke(2, Call::Enqueue(Item::Int(3))),
         info(2, Name::Enqueue),
-        invoke(3, Call::Enqueue(4)),
+        invoke(3, Call::Enqueue(Item::Int(4))),
         info(3, Name::Enqueue),
-        invoke(4, Call::Enqueue(5)),
+        invoke(4, Call::Enqueue(Item::Int(5))),
         info(4, Name::Enqueue),
         invoke(5, Call::Dequeue),
-        gives(5, Name::Dequeue, Val::Int(3)),
+        gives(5, Name::Dequeue, Val::Item(Item::Int(3))),
         invoke(5, Call::Dequeue),
-        gives(5, Name::Dequeue, Val::Int(1)),
+        gives(5, Name::Dequeue, Val::Item(Item::Int(1))),
         invoke(5, Call::Dequeue),
-        gives(5, Name::Dequeue, Val::Int(3)),
+        gives(5, Name::Dequeue, Val::Item(Item::Int(3))),
     ];
     // Each sequence of some of the five waits in a configuration of its own: 1 + 5 + 20 + 60 + 120 + 120.
     comes_within(&rt, alloc, kind, &queue[..10], 326, Came::Sound(1));
@@ -345,7 +345,7 @@ fn push_read_of_one(rt: &impl Abort, events: &mut Vec<Event>) {
         invoke(90, write(2)),
         done(90, Name::Write),
         invoke(91, Call::Read),
-        gives(91, Name::Read, Val::Int(1)),
+        gives(91, Name::Read, Val::Item(Item::Int(1))),
     ];
     for event in more {
         events.push(event).expect(rt, "memory");
@@ -375,7 +375,7 @@ fn operations_are_alike_from_when_both_crashed(rt: HostRuntime) {
         invoke(0, write(1)),
         invoke(1, write(1)),
         invoke(2, Call::Read),
-        gives(2, Name::Read, Val::Int(1)),
+        gives(2, Name::Read, Val::Item(Item::Int(1))),
         info(0, Name::Write),
         info(1, Name::Write),
     ];
@@ -421,7 +421,10 @@ fn crashed_reads_cost_nothing(rt: HostRuntime) {
 #[test]
 fn small_budgets_count_configurations(rt: HostRuntime) {
     let alloc = rt.alloc();
-    let queue = [invoke(0, Call::Enqueue(1)), invoke(1, Call::Enqueue(2))];
+    let queue = [
+        invoke(0, Call::Enqueue(Item::Int(1))),
+        invoke(1, Call::Enqueue(Item::Int(2))),
+    ];
     comes_within(&rt, alloc, Kind::Fifo, &queue, 5, Came::Sound(1));
     comes_within(&rt, alloc, Kind::Fifo, &queue, 4, Came::Over);
     comes_within(&rt, alloc, Kind::Fifo, &queue[..1], 1, Came::Over);
@@ -504,10 +507,10 @@ fn an_overwritten_write_is_seen_by_early_reads_alone(rt: HostRuntime) {
         invoke(1, write(2)),
         invoke(2, Call::Read),
         done(1, Name::Write),
-        gives(2, Name::Read, Val::Int(1)),
+        gives(2, Name::Read, Val::Item(Item::Int(1))),
         done(0, Name::Write),
         invoke(2, Call::Read),
-        gives(2, Name::Read, Val::Int(2)),
+        gives(2, Name::Read, Val::Item(Item::Int(2))),
     ];
     // The write of 1 came ahead of the write of 2, and the read between them; or it came behind both.
     comes_within(&rt, alloc, kind, &early[..5], AMPLE, Came::Sound(2));
@@ -518,10 +521,10 @@ fn an_overwritten_write_is_seen_by_early_reads_alone(rt: HostRuntime) {
         invoke(1, write(2)),
         done(1, Name::Write),
         invoke(2, Call::Read),
-        gives(2, Name::Read, Val::Int(1)),
+        gives(2, Name::Read, Val::Item(Item::Int(1))),
         done(0, Name::Write),
         invoke(2, Call::Read),
-        gives(2, Name::Read, Val::Int(2)),
+        gives(2, Name::Read, Val::Item(Item::Int(2))),
     ];
     comes_within(&rt, alloc, kind, &late[..5], AMPLE, Came::Sound(1));
     comes_within(&rt, alloc, kind, &late, AMPLE, Came::Empty);
@@ -543,7 +546,7 @@ fn a_register_with_five_clients_keeps_few_members(rt: HostRuntime) {
 fn adds_and_a_read(rt: &impl Abort, alloc: Global, processes: u64, seen: &[i64]) -> Vec<Event> {
     let mut events = Vec::new(alloc);
     for process in 0..processes {
-        let event = invoke(process, Call::Add(process.cast_signed()));
+        let event = invoke(process, Call::Add(Item::Int(process.cast_signed())));
         events.push(event).expect(rt, "memory");
     }
     for process in 0..processes {
@@ -551,7 +554,7 @@ fn adds_and_a_read(rt: &impl Abort, alloc: Global, processes: u64, seen: &[i64])
     }
     let mut members = IntSet::new(alloc);
     for member in seen {
-        members.insert(*member).expect(rt, "memory");
+        members.insert(Item::Int(*member)).expect(rt, "memory");
     }
     events.push(invoke(0, Call::Read)).expect(rt, "memory");
     let seen = ok(0, Name::Read, Reply::Members(members));
@@ -624,7 +627,7 @@ fn a_queue_without_order_that_holds_enough_keeps_one_member(rt: HostRuntime) {
     let mut events = Vec::new(alloc);
     for number in 0..10 {
         events
-            .push(invoke(0, Call::Enqueue(number)))
+            .push(invoke(0, Call::Enqueue(Item::Int(number))))
             .expect(&rt, "memory");
         events.push(done(0, Name::Enqueue)).expect(&rt, "memory");
     }
@@ -635,12 +638,16 @@ fn a_queue_without_order_that_holds_enough_keeps_one_member(rt: HostRuntime) {
     }
     // Five dequeues are open, and ten numbers inside: an enqueue returns first, and each dequeue finds what is inside.
     events
-        .push(invoke(0, Call::Enqueue(10)))
+        .push(invoke(0, Call::Enqueue(Item::Int(10))))
         .expect(&rt, "memory");
     events.push(done(0, Name::Enqueue)).expect(&rt, "memory");
     for client in 1..6 {
         events
-            .push(gives(client, Name::Dequeue, Val::Int(client as i64 * 2)))
+            .push(gives(
+                client,
+                Name::Dequeue,
+                Val::Item(Item::Int(client as i64 * 2)),
+            ))
             .expect(&rt, "memory");
     }
     let (came, counts) = walked(&rt, alloc, Kind::Bag, &events, AMPLE);

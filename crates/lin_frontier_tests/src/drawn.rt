@@ -1,5 +1,5 @@
 //! Drawn histories of one object; whether they have a legal order, by trying all lists of operations; what is found without frontiers.
-use lin_events::{Body, Call, Event, IntSet, Meter, Name, Reply, Val};
+use lin_events::{Body, Call, Event, IntSet, Item, Meter, Name, Reply, Val};
 use lin_objects::{Any, Kind, Kinds, SeqObject};
 use lin_orders::{Placed, check_order};
 use lin_search::{finds_failure, finds_order};
@@ -36,8 +36,8 @@ impl Draw {
     fn value(&mut self) -> Val {
         match self.below(3) {
             0 => Val::Nil,
-            1 => Val::Int(1),
-            _ => Val::Int(2),
+            1 => Val::Item(Item::Int(1)),
+            _ => Val::Item(Item::Int(2)),
         }
     }
 
@@ -53,9 +53,9 @@ impl Draw {
             (Kind::CasRegister, 1) => Call::Write(self.value()),
             (Kind::CasRegister, _) => Call::Cas(self.value(), self.value()),
             (Kind::Fifo | Kind::Bag, 0) => Call::Dequeue,
-            (Kind::Fifo | Kind::Bag, _) => Call::Enqueue(self.number()),
+            (Kind::Fifo | Kind::Bag, _) => Call::Enqueue(Item::Int(self.number())),
             (Kind::Set, 0) => Call::Read,
-            (Kind::Set, _) => Call::Add(self.number()),
+            (Kind::Set, _) => Call::Add(Item::Int(self.number())),
             (Kind::Mutex, 0) => Call::Release,
             (Kind::Mutex, _) => Call::Acquire,
         }
@@ -67,10 +67,10 @@ impl Draw {
             (Kind::Set, Call::Read) => {
                 let mut members = IntSet::new(alloc);
                 if self.below(2) == 0 {
-                    members.insert(1).expect(rt, "memory");
+                    members.insert(Item::Int(1)).expect(rt, "memory");
                 }
                 if self.below(2) == 0 {
-                    members.insert(2).expect(rt, "memory");
+                    members.insert(Item::Int(2)).expect(rt, "memory");
                 }
                 Reply::Members(members)
             }
@@ -99,7 +99,7 @@ pub(crate) fn register_history(
                     let call = if draw.below(2) == 0 {
                         Call::Read
                     } else {
-                        Call::Write(Val::Int(draw.below(5).cast_signed()))
+                        Call::Write(Val::Item(Item::Int(draw.below(5).cast_signed())))
                     };
                     (Body::Invoke(call), Some(call))
                 }
@@ -112,7 +112,7 @@ pub(crate) fn register_history(
             *open = next;
             let event = Event {
                 process,
-                key: 0,
+                key: Item::Int(0),
                 body,
             };
             events.push(event).expect(rt, "memory");
@@ -177,7 +177,7 @@ pub(crate) fn drawn_history(
                 *client = after;
                 let event = Event {
                     process,
-                    key: 0,
+                    key: Item::Int(0),
                     body,
                 };
                 events.push(event).expect(rt, "memory");

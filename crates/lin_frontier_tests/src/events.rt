@@ -1,10 +1,10 @@
 //! Events of one object, in short forms.
-use lin_events::{Body, Call, Event, Name, Reply, Val};
+use lin_events::{Body, Call, Event, Item, Name, Reply, Val};
 
 pub(crate) fn invoke(process: u64, call: Call) -> Event {
     Event {
         process,
-        key: 0,
+        key: Item::Int(0),
         body: Body::Invoke(call),
     }
 }
@@ -12,7 +12,7 @@ pub(crate) fn invoke(process: u64, call: Call) -> Event {
 pub(crate) fn ok(process: u64, name: Name, reply: Reply) -> Event {
     Event {
         process,
-        key: 0,
+        key: Item::Int(0),
         body: Body::Ok(name, reply),
     }
 }
@@ -20,7 +20,7 @@ pub(crate) fn ok(process: u64, name: Name, reply: Reply) -> Event {
 pub(crate) fn fail(process: u64, name: Name) -> Event {
     Event {
         process,
-        key: 0,
+        key: Item::Int(0),
         body: Body::Fail(name),
     }
 }
@@ -28,11 +28,11 @@ pub(crate) fn fail(process: u64, name: Name) -> Event {
 pub(crate) fn info(process: u64, name: Name) -> Event {
     Event {
         process,
-        key: 0,
+        key: Item::Int(0),
         body: Body::Info(name),
     }
 }
 
 pub(crate) fn write(number: i64) -> Call {
-    Call::Write(Val::Int(number))
+    Call::Write(Val::Item(Item::Int(number)))
 }

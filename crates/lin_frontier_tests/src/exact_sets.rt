@@ -1,7 +1,7 @@
 //! Frontiers that hold all configurations: how many there are after worked histories, and what comes of drawn ones.
 use crate::drawn::{Draw, KINDS, drawn_history, has_legal_order, is_legal_order};
 use crate::events::{fail, info, invoke, ok, write};
-use lin_events::{Call, Event, Meter, Name, Reply, Val};
+use lin_events::{Call, Event, Item, Meter, Name, Reply, Val};
 use lin_frontier::{Config, Frontier, Nodes, Open, Step, take_in};
 use lin_objects::{Any, Kind, SeqObject, State};
 use std::alloc::Global;
@@ -134,15 +134,18 @@ fn writes_of_a_register(rt: HostRuntime) {
 fn open_operations_of_other_objects(rt: HostRuntime) {
     let alloc = rt.alloc();
     let queue = [
-        invoke(0, Call::Enqueue(1)),
-        invoke(1, Call::Enqueue(2)),
-        invoke(2, Call::Enqueue(3)),
+        invoke(0, Call::Enqueue(Item::Int(1))),
+        invoke(1, Call::Enqueue(Item::Int(2))),
+        invoke(2, Call::Enqueue(Item::Int(3))),
     ];
     comes_to(&rt, alloc, Kind::Fifo, &queue[..1], AMPLE, Came::Sound(2));
     comes_to(&rt, alloc, Kind::Fifo, &queue[..2], AMPLE, Came::Sound(5));
     comes_to(&rt, alloc, Kind::Fifo, &queue, AMPLE, Came::Sound(16));
 
-    let set = [invoke(0, Call::Add(1)), invoke(1, Call::Add(2))];
+    let set = [
+        invoke(0, Call::Add(Item::Int(1))),
+        invoke(1, Call::Add(Item::Int(2))),
+    ];
     comes_to(&rt, alloc, Kind::Set, &set, AMPLE, Came::Sound(4));
 
     let mutex = [invoke(0, Call::Acquire), invoke(1, Call::Acquire)];
@@ -194,7 +197,10 @@ fn a_stale_read_leaves_none(rt: HostRuntime) {
 #[test]
 fn a_budget_holds_so_many_and_no_more(rt: HostRuntime) {
     let alloc = rt.alloc();
-    let queue = [invoke(0, Call::Enqueue(1)), invoke(1, Call::Enqueue(2))];
+    let queue = [
+        invoke(0, Call::Enqueue(Item::Int(1))),
+        invoke(1, Call::Enqueue(Item::Int(2))),
+    ];
     comes_to(&rt, alloc, Kind::Fifo, &queue, 5, Came::Sound(5));
     comes_to(&rt, alloc, Kind::Fifo, &queue, 4, Came::Over);
     comes_to(&rt, alloc, Kind::Fifo, &queue[..1], 1, Came::Over);
@@ -276,7 +282,7 @@ fn configurations_and_nodes_are_read(rt: HostRuntime) {
     let mut nodes = Nodes::new(rt.alloc());
     let next = written(&rt, rt.alloc(), &mut nodes, &mut Meter::new());
     let (config, node) = next.get(1).expect(&rt, "two configurations");
-    assert!(rt; node == 1 && *config.state() == State::Value(Val::Int(1)));
+    assert!(rt; node == 1 && *config.state() == State::Value(Val::Item(Item::Int(1))));
     let [pair] = config.placed() else {
         assert!(rt; false, "one operation is placed");
         return;

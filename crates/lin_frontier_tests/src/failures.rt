@@ -2,7 +2,7 @@
 use crate::compressed::told;
 use crate::drawn::{Draw, failing};
 use crate::events::{info, invoke, ok, write};
-use lin_events::{Call, Event, Name, Reply, Val};
+use lin_events::{Call, Event, Item, Name, Reply, Val};
 use lin_objects::Kind;
 use std::alloc::Global;
 use std::process::Abort;
@@ -24,7 +24,7 @@ fn a_value_that_nobody_wrote(rt: HostRuntime) {
     let events = [
         invoke(0, write(1)),
         read(1),
-        saw(1, Val::Int(2)),
+        saw(1, Val::Item(Item::Int(2))),
         invoke(1, write(2)),
     ];
     assert!(rt; failing(&rt, rt.alloc(), Kind::CasRegister, &events) == Some(2));
@@ -53,9 +53,9 @@ fn a_value_behind_a_later_one(rt: HostRuntime) {
         invoke(0, write(2)),
         read(1),
         wrote(0),
-        saw(1, Val::Int(1)),
+        saw(1, Val::Item(Item::Int(1))),
         read(1),
-        saw(1, Val::Int(1)),
+        saw(1, Val::Item(Item::Int(1))),
     ];
     assert!(rt; failing(&rt, rt.alloc(), Kind::CasRegister, &events) == Some(7));
     assert!(rt; failing(&rt, rt.alloc(), Kind::CasRegister, &events[..7]) == None);
@@ -69,10 +69,10 @@ fn a_write_that_never_returned(rt: HostRuntime) {
         invoke(0, write(2)),
         wrote(0),
         invoke(1, write(1)),
-        saw(2, Val::Int(1)),
+        saw(2, Val::Item(Item::Int(1))),
         read(3),
         info(1, Name::Write),
-        saw(3, Val::Int(2)),
+        saw(3, Val::Item(Item::Int(2))),
     ];
     assert!(rt; failing(&rt, rt.alloc(), Kind::CasRegister, &events) == Some(7));
 }
@@ -82,10 +82,13 @@ fn a_value_that_was_swapped(rt: HostRuntime) {
     let events = [
         invoke(0, write(1)),
         wrote(0),
-        invoke(0, Call::Cas(Val::Int(1), Val::Int(2))),
+        invoke(
+            0,
+            Call::Cas(Val::Item(Item::Int(1)), Val::Item(Item::Int(2))),
+        ),
         ok(0, Name::Cas, Reply::Done),
         read(0),
-        saw(0, Val::Int(1)),
+        saw(0, Val::Item(Item::Int(1))),
     ];
     assert!(rt; failing(&rt, rt.alloc(), Kind::CasRegister, &events) == Some(5));
 }
@@ -100,7 +103,7 @@ fn a_value_that_was_written_twice(rt: HostRuntime) {
         invoke(0, write(2)),
         wrote(0),
         read(0),
-        saw(0, Val::Int(1)),
+        saw(0, Val::Item(Item::Int(1))),
     ];
     assert!(rt; failing(&rt, rt.alloc(), Kind::CasRegister, &events) == None);
 }
@@ -138,14 +141,14 @@ fn step(
             *last = last.saturating_add(1);
             let number = last.cast_signed();
             let event = invoke(process, write(number));
-            (Client::Writing(Val::Int(number)), Some(event))
+            (Client::Writing(Val::Item(Item::Int(number))), Some(event))
         }
         Client::Reading if draw.below(8) == 0 => {
             let back = last.saturating_sub(draw.below(4));
             let value = if back == 0 {
                 Val::Nil
             } else {
-                Val::Int(back.cast_signed())
+                Val::Item(Item::Int(back.cast_signed()))
             };
             (Client::Found(value), None)
         }

@@ -2,7 +2,7 @@
 use crate::compressed::told;
 use crate::drawn::{Draw, failing, is_found};
 use crate::events::{fail, info, invoke, ok};
-use lin_events::{Call, Event, Name, Reply, Val};
+use lin_events::{Call, Event, Item, Name, Reply, Val};
 use lin_objects::Kind;
 use std::alloc::Global;
 use std::process::Abort;
@@ -37,26 +37,26 @@ impl Source {
             Call::Dequeue
         } else {
             self.last = self.last.saturating_add(1);
-            Call::Enqueue(self.last)
+            Call::Enqueue(Item::Int(self.last))
         }
     }
 
     /// The operation takes effect.
     fn take_effect(&mut self, rt: &impl Abort, call: Call) -> Client {
         match call {
-            Call::Enqueue(number) => {
+            Call::Enqueue(Item::Int(number)) => {
                 self.queue.push(number).expect(rt, "memory");
                 Client::Enqueued
             }
             _ if self.wrong > 0 && self.draw.below(self.wrong) == 0 => {
                 let back = self.draw.below(3).cast_signed();
-                Client::Found(Val::Int(self.last.saturating_sub(back)))
+                Client::Found(Val::Item(Item::Int(self.last.saturating_sub(back))))
             }
             _ => {
                 let found = self
                     .queue
                     .first()
-                    .map_or(Val::Nil, |number| Val::Int(*number));
+                    .map_or(Val::Nil, |number| Val::Item(Item::Int(*number)));
                 self.queue = rest(rt, &self.queue);
                 Client::Found(found)
             }
@@ -178,12 +178,15 @@ fn orders_are_found_where_frontiers_go_on(rt: HostRuntime) {
 #[test]
 fn none_is_found_of_a_number_that_is_put_in_twice(rt: HostRuntime) {
     let alloc = rt.alloc();
-    let twice = [invoke(0, Call::Enqueue(1)), invoke(1, Call::Enqueue(1))];
+    let twice = [
+        invoke(0, Call::Enqueue(Item::Int(1))),
+        invoke(1, Call::Enqueue(Item::Int(1))),
+    ];
     assert!(rt; !is_found(&rt, alloc, Kind::Fifo, &twice));
     assert!(rt; is_found(&rt, alloc, Kind::Fifo, &twice[..1]));
     let unknown = [
         invoke(0, Call::Dequeue),
-        ok(0, Name::Dequeue, Reply::Value(Val::Int(1))),
+        ok(0, Name::Dequeue, Reply::Value(Val::Item(Item::Int(1)))),
     ];
     assert!(rt; !is_found(&rt, alloc, Kind::Fifo, &unknown));
 }

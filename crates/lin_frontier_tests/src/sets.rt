@@ -2,13 +2,13 @@
 use crate::compressed::told;
 use crate::drawn::{Draw, failing, is_found};
 use crate::events::{fail, info, invoke, ok};
-use lin_events::{Call, Event, IntSet, Name, Reply};
+use lin_events::{Call, Event, IntSet, Item, Name, Reply};
 use lin_objects::Kind;
 use std::alloc::Global;
 use std::process::Abort;
 
 fn add(process: u64, number: i64) -> Event {
-    invoke(process, Call::Add(number))
+    invoke(process, Call::Add(Item::Int(number)))
 }
 
 fn added(process: u64) -> Event {
@@ -22,7 +22,7 @@ fn read(process: u64) -> Event {
 fn saw(rt: &impl Abort, alloc: Global, process: u64, numbers: &[i64]) -> Event {
     let mut members = IntSet::new(alloc);
     for number in numbers {
-        members.insert(*number).expect(rt, "memory");
+        members.insert(Item::Int(*number)).expect(rt, "memory");
     }
     ok(process, Name::Read, Reply::Members(members))
 }
@@ -232,7 +232,7 @@ impl Source {
             self.draw.below(self.range)
         };
         self.called.push(number.cast_signed()).expect(rt, "memory");
-        Call::Add(number.cast_signed())
+        Call::Add(Item::Int(number.cast_signed()))
     }
 
     /// The operation takes effect, unless it fails or crashes.
@@ -240,7 +240,7 @@ impl Source {
         if self.draw.below(self.crash) == 0 {
             return (Client::Gone, Some(info(process, call.name())));
         }
-        let Call::Add(number) = call else {
+        let Call::Add(Item::Int(number)) = call else {
             return (Client::Reading(self.held.len()), None);
         };
         if self.draw.below(self.refusal) == 0 {
@@ -281,11 +281,11 @@ impl Source {
             if Some(*number) == mistaken {
                 other = None;
             } else {
-                members.insert(*number).expect(rt, "memory");
+                members.insert(Item::Int(*number)).expect(rt, "memory");
             }
         }
         if let Some(number) = other {
-            members.insert(number).expect(rt, "memory");
+            members.insert(Item::Int(number)).expect(rt, "memory");
         }
         members
     }

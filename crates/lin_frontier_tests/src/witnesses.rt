@@ -1,7 +1,7 @@
 //! Legal orders of registers with many clients, found though they have too many configurations to be kept.
 use crate::drawn::{Draw, is_found};
 use crate::events::{fail, info, invoke, ok, write};
-use lin_events::{Call, Event, Name, Reply, Val};
+use lin_events::{Call, Event, Item, Name, Reply, Val};
 use lin_objects::Kind;
 use std::alloc::Global;
 use std::process::Abort;
@@ -31,7 +31,7 @@ fn call(kind: Kind, draw: &mut Draw) -> Call {
 }
 
 fn value(draw: &mut Draw) -> Val {
-    Val::Int(draw.below(5).cast_signed())
+    Val::Item(Item::Int(draw.below(5).cast_signed()))
 }
 
 /// The operation takes effect.
@@ -129,7 +129,7 @@ fn none_is_found_for_a_value_that_nobody_wrote(rt: HostRuntime) {
     let events = [
         invoke(0, write(1)),
         invoke(1, Call::Read),
-        ok(1, Name::Read, Reply::Value(Val::Int(2))),
+        ok(1, Name::Read, Reply::Value(Val::Item(Item::Int(2)))),
     ];
     assert!(rt; !is_found(&rt, rt.alloc(), Kind::Register, &events));
     assert!(rt; is_found(&rt, rt.alloc(), Kind::Register, &events[..2]));

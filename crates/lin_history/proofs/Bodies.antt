@@ -1,9 +1,10 @@
 -- The event of a map whose parts are read.
-use Rattle.std.proofs.Common.{◌≡◌, ℕ, ℤ, Bool, Option, Some, Result, Ok, Err, refl, ap, ◌∙◌}
+use Rattle.std.proofs.Common.{◌≡◌, ℕ, Bool, Option, Some, Result, Ok, Err, refl, ap, ◌∙◌}
 use Rattle.lin_edn.specs.Value.{Value}
 use Rattle.lin_history.specs.Table.{event_with, process_of, type_of, function_of, parts_of, body_of, or_fault, IsAnswer}
 use Rattle.lin_history.specs.inner.Fields.{IsBody}
 use Rattle.lin_events.specs.declared.calls.Name.{Name}
+use Rattle.lin_events.specs.declared.items.Item.{Item}
 use Rattle.lin_events.specs.declared.calls.Name.TheVariants.{Read}
 use Rattle.lin_events.specs.declared.calls.Reply.TheVariants.{Members}
 use Rattle.lin_events.specs.declared.events.Body.{Body}
@@ -14,19 +15,19 @@ use Rattle.lin_history.specs.declared.table.EventFault.{EventFault}
 use Rattle.lin_history.specs.declared.table.EventFault.TheVariants.{NotAMap, DuplicateKey, Missing, BadProcess, BadType, BadFunction, BadKey, BadValue, OutOfMemory}
 
 -- the event, once all but the body is read
-abbrev pub with_body : ℕ → ℤ → Option Body → Result (Option Event) EventFault
+abbrev pub with_body : ℕ → Item → Option Body → Result (Option Event) EventFault
 with_body p key b = or_fault BadValue b (λ b. Ok (Some (record { process = p; key = key; body = b })))
 
-abbrev pub IsReadUpToBody : Bool → Value → Value → Value → Value → ℕ → EventType → Name → ℤ × Value → Type 0
+abbrev pub IsReadUpToBody : Bool → Value → Value → Value → Value → ℕ → EventType → Name → Item × Value → Type 0
 IsReadUpToBody keyed process type function v p t f parts =
     (process_of process ≡ Some p) × (type_of type ≡ Some t) × (function_of function ≡ Some f) × (parts_of keyed v ≡ Some parts)
 
-pub up_to_body : (keyed : Bool) (process type function v : Value) (p : ℕ) (t : EventType) (f : Name) (parts : ℤ × Value) →
+pub up_to_body : (keyed : Bool) (process type function v : Value) (p : ℕ) (t : EventType) (f : Name) (parts : Item × Value) →
     IsReadUpToBody keyed process type function v p t f parts → event_with keyed process type function v ≡ with_body p parts.0 (body_of t f parts.1)
 up_to_body keyed process type function v p t f parts (a, b, c, d) = rw (a, b, c, d) refl
 
 -- a body that fails is the answer's fault
-pub body_fails : (keyed : Bool) (process type function v : Value) (p : ℕ) (t : EventType) (f : Name) (parts : ℤ × Value) →
+pub body_fails : (keyed : Bool) (process type function v : Value) (p : ℕ) (t : EventType) (f : Name) (parts : Item × Value) →
     IsReadUpToBody keyed process type function v p t f parts → (fault : EventFault) → IsBody (body_of t f parts.1) (Err fault) →
     IsAnswer (event_with keyed process type function v) (Err fault)
 body_fails keyed process type function v p t f parts h BadValue e = up_to_body keyed process type function v p t f parts h ∙ ap (with_body p parts.0) e

@@ -1,12 +1,10 @@
 -- Usual maps: the values that their bytes spell.
 use Rattle.std.proofs.Common.{◌≡◌, ℕ, suc, ℤ, ◌+◌, ◌<◌, Bool, true, false, List, [], ◌∷◌, ◌++◌, Option, Some, None, codes, drop, drop-cons, length, get_or, option_map, append-nil, append_assoc, refl, sym, ap, subst, ◌∙◌, arith, if◌then◌else◌}
 use Rattle.std.specs.Str.{bytes_eq}
-use Rattle.std.proofs.lemmas.Option.{none-some}
-use Rattle.std.proofs.lemmas.Slice.Eq.{bytes_eq-Decides}
 use Rattle.lin_edn.specs.Bytes.{Class, class, opener, hash, behind, opens_set, a_vector, a_set, a_map}
 use Rattle.lin_edn.specs.Grammar.{One, one, Element, Opens, collection, bracket, set_bracket, Row, empty, element}
 use Rattle.lin_edn.specs.Run.{run_value, of_number, is_keyword, integer}
-use Rattle.lin_edn.specs.Value.{Value, nil, bool, int, keyword, atom, vector, map, values_of, entry, entries_of, pairs_from}
+use Rattle.lin_edn.specs.Value.{Value, nil, bool, keyword, atom, vector, map, values_of, entry, entries_of, pairs_from}
 use Rattle.lin_history.specs.Table.{bare, is_word, here, under}
 use Rattle.lin_history.specs.inner.Usual.{in_turn, IsPlaced, IsPut, IsAdded, IsValueAt, IsUpTo, IsMapAt}
 use Rattle.lin_history.specs.declared.usual.Place.{Place}
@@ -39,17 +37,6 @@ other_word : (x : List ℕ) (p : ℕ) (w : List ℕ) → bytes_eq w x ≡ false 
 other_word x p w h =
     other_if x (bytes_eq w (codes "nil")) nil _ refl (other_if x (bytes_eq w (codes "true")) (bool true) _ refl
     (other_if x (bytes_eq w (codes "false")) (bool false) _ refl (other_number x p w (integer w) h)))
-
--- a run that writes an integer is that integer
-other_than : (b : Bool) → (b ≡ true → ⊥) → b ≡ false
-other_than true h = absurd (h refl)
-other_than false h = refl
-
-no_word : (w : List ℕ) (z : ℤ) → integer w ≡ Some z → (x : List ℕ) → integer x ≡ None → bytes_eq w x ≡ false
-no_word w z h x none = other_than (bytes_eq w x) (λ t. none-some z (sym none ∙ ap integer (sym ((bytes_eq-Decides w x).0 t)) ∙ h))
-
-pub integer_value : (p : ℕ) (w : List ℕ) (z : ℤ) → integer w ≡ Some z → run_value p w ≡ int z
-integer_value p w z h = rw (no_word w z h (codes "nil") refl, no_word w z h (codes "true") refl, no_word w z h (codes "false") refl, h) refl
 
 -- a key that is none of the four
 none_put : (x : List ℕ) (p : ℕ) (w : List ℕ) (old : Option Place) (at : Place) → bytes_eq w x ≡ false → IsPut (is_word x (run_value p w)) old at old

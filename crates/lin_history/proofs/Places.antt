@@ -1,13 +1,15 @@
 -- What an element tells does not depend on where it stands.
-use Rattle.std.proofs.Common.{◌≡◌, ℕ, ℤ, Bool, true, false, ◌||◌, if◌then◌else◌, List, [], ◌∷◌, ◌++◌, Option, Some, None, option_map, option_and_then, Result, Ok, Err, refl, sym, ap, ◌∙◌, codes, map as each}
+use Rattle.std.proofs.Common.{◌≡◌, ℕ, Bool, true, false, ◌||◌, if◌then◌else◌, List, [], ◌∷◌, ◌++◌, Option, Some, None, option_map, option_and_then, Result, Ok, Err, refl, sym, ap, ◌∙◌, codes, map as each}
 use Rattle.std.proofs.lemmas.List.{map-append}
 use Rattle.lin_edn.specs.Laws.{later, later_values, later_entries}
 use Rattle.lin_edn.specs.Value.{Value, nil, bool, int, atom, keyword, text, list, vector, set, map, tagged, Values, no_values, value, Entries, no_entries, entry}
 use Rattle.lin_lists.specs.Sets.{members_of}
 use Rattle.lin_history.specs.Stream.{told, told_by, maps_in, before}
-use Rattle.lin_history.specs.Table.{bare, is_word, here, under, look_up, type_words, type_of, function_words, function_of, process_of, int_of, val_of, both_of, pair_of, ints_of, cas_of, call_of, members_in, seen, reply_of, body_of, parts_of, or_fault, event_with, is_several, or_nil, is_by_keyword, event_when_there, event_under, event_in, event}
+use Rattle.lin_history.specs.Table.{bare, is_word, here, under, look_up, type_words, type_of, function_words, function_of, process_of, item_of, val_of, both_of, pair_of, items_of, cas_of, call_of, members_in, seen, reply_of, body_of, parts_of, or_fault, event_with, is_several, or_nil, is_by_keyword, event_when_there, event_under, event_in, event}
 use Rattle.lin_events.specs.declared.calls.Call.TheVariants as call
+use Rattle.lin_events.specs.Items.{item_cmp}
 use Rattle.lin_events.specs.declared.calls.Name.{Name}
+use Rattle.lin_events.specs.declared.items.Item.{Item}
 use Rattle.lin_events.specs.declared.calls.Name.TheVariants.{Read, Write, Cas, Enqueue, Dequeue, Add, Acquire, Release}
 use Rattle.lin_events.specs.declared.calls.Reply.TheVariants.{Value as Saw, Members}
 use Rattle.lin_events.specs.declared.events.Body.TheVariants as body
@@ -63,18 +65,18 @@ process_later n (set vs) = refl
 process_later n (map es) = refl
 process_later n (tagged at w v) = refl
 
-int_later : (n : ℕ) (v : Value) → int_of (later n v) ≡ int_of v
-int_later n nil = refl
-int_later n (bool b) = refl
-int_later n (int i) = refl
-int_later n (atom at w) = refl
-int_later n (keyword at w) = refl
-int_later n (text at w) = refl
-int_later n (list vs) = refl
-int_later n (vector vs) = refl
-int_later n (set vs) = refl
-int_later n (map es) = refl
-int_later n (tagged at w v) = refl
+item_later : (n : ℕ) (v : Value) → item_of (later n v) ≡ item_of v
+item_later n nil = refl
+item_later n (bool b) = refl
+item_later n (int i) = refl
+item_later n (atom at w) = refl
+item_later n (keyword at w) = refl
+item_later n (text at w) = refl
+item_later n (list vs) = refl
+item_later n (vector vs) = refl
+item_later n (set vs) = refl
+item_later n (map es) = refl
+item_later n (tagged at w v) = refl
 
 val_later : (n : ℕ) (v : Value) → val_of (later n v) ≡ val_of v
 val_later n nil = refl
@@ -121,25 +123,25 @@ cas_of_pair : (n : ℕ) (o : Option (Value × Value)) → option_and_then cas_of
 cas_of_pair n None = refl
 cas_of_pair n (Some p) = cas_later n p
 
-ints_later : (n : ℕ) (vs : Values) → ints_of (later_values n vs) ≡ ints_of vs
-ints_later n no_values = refl
-ints_later n (value v vs) =
-    ap (λ o. option_and_then (λ i. option_map (λ is. i ∷ is) (ints_of (later_values n vs))) o) (ap int_of (bare_later n v) ∙ int_later n (bare v))
-    ∙ ap (λ o. option_and_then (λ i. option_map (λ is. i ∷ is) o) (int_of (bare v))) (ints_later n vs)
+items_later : (n : ℕ) (vs : Values) → items_of (later_values n vs) ≡ items_of vs
+items_later n no_values = refl
+items_later n (value v vs) =
+    ap (λ o. option_and_then (λ i. option_map (λ is. i ∷ is) (items_of (later_values n vs))) o) (ap item_of (bare_later n v) ∙ item_later n (bare v))
+    ∙ ap (λ o. option_and_then (λ i. option_map (λ is. i ∷ is) o) (item_of (bare v))) (items_later n vs)
 
 -- calls and replies
 call_later : (n : ℕ) (f : Name) (v : Value) → call_of f (later n v) ≡ call_of f v
 call_later n Read v = refl
 call_later n Write v = ap (option_map call.Write) (val_later n v)
 call_later n Cas v = ap (option_and_then cas_of) (pair_later n v) ∙ cas_of_pair n (pair_of v)
-call_later n Enqueue v = ap (option_map call.Enqueue) (int_later n v)
+call_later n Enqueue v = ap (option_map call.Enqueue) (item_later n v)
 call_later n Dequeue v = refl
-call_later n Add v = ap (option_map call.Add) (int_later n v)
+call_later n Add v = ap (option_map call.Add) (item_later n v)
 call_later n Acquire v = refl
 call_later n Release v = refl
 
 members_later : (n : ℕ) (vs : Values) → members_in (later_values n vs) ≡ members_in vs
-members_later n vs = ap (option_map (λ is. Members (members_of is))) (ints_later n vs)
+members_later n vs = ap (option_map (λ is. Members (members_of item_cmp is))) (items_later n vs)
 
 seen_later : (n : ℕ) (v : Value) → seen (later n v) ≡ seen v
 seen_later n nil = refl
@@ -171,43 +173,43 @@ body_later n types.Fail f v = refl
 body_later n types.Info f v = refl
 
 -- the key and the value
-abbrev part_later : ℕ → ℤ × Value → ℤ × Value
+abbrev part_later : ℕ → Item × Value → Item × Value
 part_later n p = (p.0, later n p.1)
 
-key_later : (n : ℕ) (w : Value) (o : Option ℤ) → option_map (λ key. (key, later n w)) o ≡ option_map (part_later n) (option_map (λ key. (key, w)) o)
+key_later : (n : ℕ) (w : Value) (o : Option Item) → option_map (λ key. (key, later n w)) o ≡ option_map (part_later n) (option_map (λ key. (key, w)) o)
 key_later n w None = refl
 key_later n w (Some key) = refl
 
 keyed_later : (n : ℕ) (o : Option (Value × Value)) →
-    option_and_then (λ p. option_map (λ key. (key, p.1)) (int_of p.0)) (option_map (both_later n) o)
-    ≡ option_map (part_later n) (option_and_then (λ p. option_map (λ key. (key, p.1)) (int_of p.0)) o)
+    option_and_then (λ p. option_map (λ key. (key, p.1)) (item_of p.0)) (option_map (both_later n) o)
+    ≡ option_map (part_later n) (option_and_then (λ p. option_map (λ key. (key, p.1)) (item_of p.0)) o)
 keyed_later n None = refl
-keyed_later n (Some p) = ap (option_map (λ key. (key, later n p.1))) (int_later n p.0) ∙ key_later n p.1 (int_of p.0)
+keyed_later n (Some p) = ap (option_map (λ key. (key, later n p.1))) (item_later n p.0) ∙ key_later n p.1 (item_of p.0)
 
 parts_later : (n : ℕ) (keyed : Bool) (v : Value) → parts_of keyed (later n v) ≡ option_map (part_later n) (parts_of keyed v)
-parts_later n true v = ap (option_and_then (λ p. option_map (λ key. (key, p.1)) (int_of p.0))) (pair_later n v) ∙ keyed_later n (pair_of v)
+parts_later n true v = ap (option_and_then (λ p. option_map (λ key. (key, p.1)) (item_of p.0))) (pair_later n v) ∙ keyed_later n (pair_of v)
 parts_later n false v = refl
 
 -- an event
-abbrev last_part : ℕ → EventType → Name → ℤ × Value → Result (Option Event) EventFault
+abbrev last_part : ℕ → EventType → Name → Item × Value → Result (Option Event) EventFault
 last_part p t f parts = or_fault BadValue (body_of t f parts.1) (λ b. Ok (Some (record { process = p; key = parts.0; body = b })))
 
-last_later : (n p : ℕ) (t : EventType) (f : Name) (o : Option (ℤ × Value)) →
+last_later : (n p : ℕ) (t : EventType) (f : Name) (o : Option (Item × Value)) →
     or_fault BadKey (option_map (part_later n) o) (last_part p t f) ≡ or_fault BadKey o (last_part p t f)
 last_later n p t f None = refl
 last_later n p t f (Some parts) = ap (λ o. or_fault BadValue o (λ b. Ok (Some (record { process = p; key = parts.0; body = b })))) (body_later n t f parts.1)
 
-abbrev behind_types : ℕ → EventType → Option Name → Option (ℤ × Value) → Result (Option Event) EventFault
+abbrev behind_types : ℕ → EventType → Option Name → Option (Item × Value) → Result (Option Event) EventFault
 behind_types p t f parts = or_fault BadFunction f (λ g. or_fault BadKey parts (last_part p t g))
 
-types_later : (n p : ℕ) (t : EventType) (f : Option Name) (o : Option (ℤ × Value)) → behind_types p t f (option_map (part_later n) o) ≡ behind_types p t f o
+types_later : (n p : ℕ) (t : EventType) (f : Option Name) (o : Option (Item × Value)) → behind_types p t f (option_map (part_later n) o) ≡ behind_types p t f o
 types_later n p t None o = refl
 types_later n p t (Some f) o = last_later n p t f o
 
-abbrev of_parts : Option ℕ → Option EventType → Option Name → Option (ℤ × Value) → Result (Option Event) EventFault
+abbrev of_parts : Option ℕ → Option EventType → Option Name → Option (Item × Value) → Result (Option Event) EventFault
 of_parts process type function parts = or_fault BadProcess process (λ p. or_fault BadType type (λ t. behind_types p t function parts))
 
-all_later : (n : ℕ) (process : Option ℕ) (type : Option EventType) (f : Option Name) (o : Option (ℤ × Value)) →
+all_later : (n : ℕ) (process : Option ℕ) (type : Option EventType) (f : Option Name) (o : Option (Item × Value)) →
     of_parts process type f (option_map (part_later n) o) ≡ of_parts process type f o
 all_later n None type f o = refl
 all_later n (Some p) None f o = refl

@@ -11,7 +11,7 @@ use Rattle.lin_history.specs.Stream.{Told, before, told_by, maps_in}
 use Rattle.lin_history.specs.Table.{event, event_in, bare}
 use Rattle.lin_history.specs.inner.Usual.{IsTaken, events_of}
 use Rattle.lin_events.specs.declared.events.Event.{Event}
-use Rattle.lin_events.specs.declared.numbers.OutOfMemory.{OutOfMemory}
+use Rattle.lin_events.specs.declared.lists.OutOfMemory.{OutOfMemory}
 use Rattle.lin_history.specs.declared.table.EventFault.{EventFault}
 use Rattle.lin_history.specs.declared.usual.Taken.{Taken}
 use Rattle.lin_history.proofs.Waiting.{told_on}

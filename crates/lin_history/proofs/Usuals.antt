@@ -1,14 +1,17 @@
 -- Usual maps: the events that they say.
-use Rattle.std.proofs.Common.{◌≡◌, ℕ, ℤ, pos, ◌<◌, ◌≤◌, Bool, true, false, List, [], ◌∷◌, Option, Some, None, Ok, drop, option_map, Result, codes, refl, sym, ap, subst, ◌∙◌, arith}
+use Rattle.std.proofs.Common.{◌≡◌, ℕ, pos, ◌<◌, ◌≤◌, Bool, true, false, List, [], ◌∷◌, Option, Some, None, Ok, drop, option_map, Result, codes, refl, sym, ap, subst, ◌∙◌, arith}
 use Rattle.std.proofs.lemmas.Option.{none-some}
 use Rattle.std.specs.List.{slice_range}
 use Rattle.lin_edn.specs.Grammar.{Element}
 use Rattle.lin_edn.specs.Laws.{ElementsAreUnique}
 use Rattle.lin_edn.specs.Run.{run_value}
 use Rattle.lin_edn.specs.Value.{Value, nil, bool, int, atom, keyword, text, list, vector, set, map, tagged, values_of, Entries}
-use Rattle.lin_history.specs.Table.{bare, under, body_of, or_fault, is_several, is_by_keyword, or_nil, event, event_under, event_with, parts_of, process_of, type_of, function_of}
+use Rattle.lin_history.specs.Table.{bare, under, body_of, or_fault, is_several, is_by_keyword, or_nil, event, event_under, event_with, parts_of, item_of, process_of, type_of, function_of}
 use Rattle.lin_history.specs.inner.Usual.{IsPlaced, ArePlaced, AreParts, TellsWith}
+use Rattle.lin_history.specs.inner.Fields.{item_value}
 use Rattle.lin_events.specs.declared.calls.Name.{Name}
+use Rattle.lin_events.specs.declared.items.Item.{Item}
+use Rattle.lin_events.specs.declared.items.Item.TheVariants.{Int, Bool as Truth}
 use Rattle.lin_events.specs.declared.events.Body.{Body}
 use Rattle.lin_events.specs.declared.events.Event.{Event}
 use Rattle.lin_history.specs.declared.table.EventFault.{EventFault}
@@ -31,21 +34,30 @@ alone unique s levels vs p v used few there whole here =
     let same : there.0 ≡ v = (unique levels 2 p.at there.1 used (drop p.at s) (drop there.1 s) (drop used s) there.0 v few (omega arith) there.3.0 here).0 in
     there.2 ∙ ap (λ w. w ∷ []) (ap bare same ∙ whole)
 
-parts_alone : (keyed : Bool) (vs : List Value) (w : Value) (key : ℤ) (v : Value) → vs ≡ w ∷ [] → parts_of keyed w ≡ Some (key, v) → AreParts keyed vs key v
+parts_alone : (keyed : Bool) (vs : List Value) (w : Value) (key : Item) (v : Value) → vs ≡ w ∷ [] → parts_of keyed w ≡ Some (key, v) → AreParts keyed vs key v
 parts_alone keyed vs w key v one parts = subst (λ l. AreParts keyed l key v) (sym one) (refl, parts)
 
-pub pair_parts : ElementsAreUnique → (s : List ℕ) (levels : ℕ) (vs : List Value) (p : Place) (key : ℤ) (v : Value) (used : ℕ) → levels ≤ 64 → IsPlaced s levels vs (Some p) →
-    bare v ≡ v → Element 2 p.at (drop p.at s) (vector (values_of (int key ∷ v ∷ []))) used (drop used s) → AreParts true vs key v
-pair_parts unique s levels vs p key v used few there whole here =
-    let pair = vector (values_of (int key ∷ v ∷ [])) in
-    parts_alone true vs pair key v (alone unique s levels vs p pair used few there refl here) (ap (λ w. Some (key, w)) whole)
+-- a value says the item that it is made of
+item_back : (x : Item) → item_of (bare (item_value x)) ≡ Some x
+item_back (Int i) = refl
+item_back (Truth b) = refl
 
-pub word_parts : (vs : List Value) (v : Value) → vs ≡ v ∷ [] → AreParts false vs (pos 0) v
-word_parts vs v one = parts_alone false vs v (pos 0) v one refl
+-- the parts of a pair whose key is an item
+item_first : (key : Item) (v : Value) → parts_of true (vector (values_of (item_value key ∷ v ∷ []))) ≡ Some (key, bare v)
+item_first key v = ap (option_map (λ k. (k, bare v))) (item_back key)
+
+pub pair_parts : ElementsAreUnique → (s : List ℕ) (levels : ℕ) (vs : List Value) (p : Place) (key : Item) (v : Value) (used : ℕ) → levels ≤ 64 → IsPlaced s levels vs (Some p) →
+    bare v ≡ v → Element 2 p.at (drop p.at s) (vector (values_of (item_value key ∷ v ∷ []))) used (drop used s) → AreParts true vs key v
+pair_parts unique s levels vs p key v used few there whole here =
+    let pair = vector (values_of (item_value key ∷ v ∷ [])) in
+    parts_alone true vs pair key v (alone unique s levels vs p pair used few there refl here) (item_first key v ∙ ap (λ w. Some (key, w)) whole)
+
+pub word_parts : (vs : List Value) (v : Value) → vs ≡ v ∷ [] → AreParts false vs (Int (pos 0)) v
+word_parts vs v one = parts_alone false vs v (Int (pos 0)) v one refl
 
 pub value_parts : ElementsAreUnique → (s : List ℕ) (levels : ℕ) (vs : List Value) (p : Place) (v : Value) (used : ℕ) → levels ≤ 64 → IsPlaced s levels vs (Some p) →
-    bare v ≡ v → Element 2 p.at (drop p.at s) v used (drop used s) → AreParts false vs (pos 0) v
-value_parts unique s levels vs p v used few there whole here = parts_alone false vs v (pos 0) v (alone unique s levels vs p v used few there whole here) refl
+    bare v ≡ v → Element 2 p.at (drop p.at s) v used (drop used s) → AreParts false vs (Int (pos 0)) v
+value_parts unique s levels vs p v used few there whole here = parts_alone false vs v (Int (pos 0)) v (alone unique s levels vs p v used few there whole here) refl
 
 -- a number is no name
 numbered : (v : Value) (n : ℕ) → process_of v ≡ Some n → is_by_keyword (v ∷ []) ≡ false
@@ -91,35 +103,35 @@ usual_named keyed s levels es ps v are first named =
     (few s levels (under (codes ":value") es) ps.value are.values))
 
 -- the parts of a value at which nothing but a pair's key is looked
-pub key_parts : ElementsAreUnique → (s : List ℕ) (levels : ℕ) (vs : List Value) (p : Place) (key : ℤ) (v : Value) (used : ℕ) → levels ≤ 64 → IsPlaced s levels vs (Some p) →
-    Element 63 p.at (drop p.at s) (vector (values_of (int key ∷ v ∷ []))) used (drop used s) → AreParts true vs key (bare v)
+pub key_parts : ElementsAreUnique → (s : List ℕ) (levels : ℕ) (vs : List Value) (p : Place) (key : Item) (v : Value) (used : ℕ) → levels ≤ 64 → IsPlaced s levels vs (Some p) →
+    Element 63 p.at (drop p.at s) (vector (values_of (item_value key ∷ v ∷ []))) used (drop used s) → AreParts true vs key (bare v)
 key_parts unique s levels vs p key v used few there here =
-    let pair = vector (values_of (int key ∷ v ∷ [])) in
+    let pair = vector (values_of (item_value key ∷ v ∷ [])) in
     let same : there.0 ≡ pair = (unique levels 63 p.at there.1 used (drop p.at s) (drop there.1 s) (drop used s) there.0 pair few (omega arith) there.3.0 here).0 in
-    parts_alone true vs pair key (bare v) (there.2 ∙ ap (λ w. bare w ∷ []) same) refl
+    parts_alone true vs pair key (bare v) (there.2 ∙ ap (λ w. bare w ∷ []) same) (item_first key v)
 
-pub whole_parts : (s : List ℕ) (levels : ℕ) (vs : List Value) (p : Place) → IsPlaced s levels vs (Some p) → AreParts false vs (pos 0) (or_nil vs)
+pub whole_parts : (s : List ℕ) (levels : ℕ) (vs : List Value) (p : Place) → IsPlaced s levels vs (Some p) → AreParts false vs (Int (pos 0)) (or_nil vs)
 whole_parts s levels vs p there = (few s levels vs (Some p) there, refl)
 
 -- what is told hangs on a value by the body alone
-abbrev said : ℕ → ℤ → Option Body → Result (Option Event) EventFault
+abbrev said : ℕ → Item → Option Body → Result (Option Event) EventFault
 said n key b = or_fault BadValue b (λ b. Ok (Some (record { process = n; key = key; body = b })))
 
-event_is : (keyed : Bool) (a b d w v : Value) (n : ℕ) (t : EventType) (f : Name) (key : ℤ) → process_of a ≡ Some n → type_of b ≡ Some t → function_of d ≡ Some f →
+event_is : (keyed : Bool) (a b d w v : Value) (n : ℕ) (t : EventType) (f : Name) (key : Item) → process_of a ≡ Some n → type_of b ≡ Some t → function_of d ≡ Some f →
     parts_of keyed w ≡ Some (key, v) → event_with keyed a b d w ≡ said n key (body_of t f v)
 event_is keyed a b d w v n t f key process type function parts = rw (process, type, function, parts) refl
 
 -- values with a key and nil
-abbrev pub valueless : Bool → ℤ → List Value
-valueless true key = vector (values_of (int key ∷ nil ∷ [])) ∷ []
+abbrev pub valueless : Bool → Item → List Value
+valueless true key = vector (values_of (item_value key ∷ nil ∷ [])) ∷ []
 valueless false key = []
 
-pub valueless_parts : (keyed : Bool) (vs : List Value) (key : ℤ) (v : Value) → AreParts keyed vs key v → AreParts keyed (valueless keyed key) key nil
-valueless_parts true vs key v parts = (refl, refl)
-valueless_parts false vs key v parts = (refl, ap (option_map (λ (p : ℤ × Value). (p.0, nil))) parts.1)
+pub valueless_parts : (keyed : Bool) (vs : List Value) (key : Item) (v : Value) → AreParts keyed vs key v → AreParts keyed (valueless keyed key) key nil
+valueless_parts true vs key v parts = (refl, item_first key nil)
+valueless_parts false vs key v parts = (refl, ap (option_map (λ (p : Item × Value). (p.0, nil))) parts.1)
 
 -- where the body hangs on no value, any value tells what nil does
-pub tells_same : (keyed : Bool) (n : ℕ) (t : EventType) (f : Name) (vs : List Value) (key : ℤ) (v : Value) (told : Option Event) →
+pub tells_same : (keyed : Bool) (n : ℕ) (t : EventType) (f : Name) (vs : List Value) (key : Item) (v : Value) (told : Option Event) →
     ((v w : Value) → body_of t f v ≡ body_of t f w) → AreParts keyed vs key v → TellsWith keyed n t f (valueless keyed key) told → TellsWith keyed n t f vs told
 tells_same keyed n t f vs key v told same parts tells = (
   parts.0,

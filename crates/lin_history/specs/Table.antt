@@ -1,11 +1,14 @@
 -- The event that an operation map says. Tags are read over at the map, at the values of its four keys, and at the
 -- parts of these values; at its keys they are not.
-use Rattle.std.specs.Prelude.{◌≡◌, ℕ, ℤ, pos, Bool, true, false, ◌||◌, if◌then◌else◌, List, [], ◌∷◌, ◌++◌, Option, Some, None, option_map, option_and_then, Result, Ok, Err, codes}
+use Rattle.std.specs.Prelude.{◌≡◌, ℕ, pos, Bool, true, false, ◌||◌, if◌then◌else◌, List, [], ◌∷◌, ◌++◌, Option, Some, None, option_map, option_and_then, Result, Ok, Err, codes}
 use Rattle.std.specs.Str.{bytes_eq}
 use Rattle.lin_edn.specs.Value.{Value, nil, bool, int, atom, keyword, text, list, vector, set, map, tagged, Values, no_values, value, Entries, no_entries, entry}
 use Rattle.lin_lists.specs.Sets.{members_of}
+use Rattle.lin_events.specs.Items.{item_cmp}
+use Rattle.lin_events.specs.declared.items.Item.{Item}
+use Rattle.lin_events.specs.declared.items.Item.TheVariants.{Int, Bool as Truth}
 use Rattle.lin_events.specs.declared.calls.Val.{Val}
-use Rattle.lin_events.specs.declared.calls.Val.TheVariants as val
+use Rattle.lin_events.specs.declared.calls.Val.TheVariants.{Nil, Item as Held}
 use Rattle.lin_events.specs.declared.calls.Name.{Name}
 use Rattle.lin_events.specs.declared.calls.Name.TheVariants.{Read, Write, Cas, Enqueue, Dequeue, Add, Acquire, Release}
 use Rattle.lin_events.specs.declared.calls.Call.{Call}
@@ -82,15 +85,16 @@ abbrev pub process_of : Value → Option ℕ
 process_of (int (pos n)) = Some n
 process_of _ = None
 
-abbrev pub int_of : Value → Option ℤ
-int_of (int i) = Some i
-int_of _ = None
+-- an integer or a truth value
+abbrev pub item_of : Value → Option Item
+item_of (int i) = Some (Int i)
+item_of (bool b) = Some (Truth b)
+item_of _ = None
 
--- nil or an integer
+-- nil or an item
 abbrev pub val_of : Value → Option Val
-val_of nil = Some val.Nil
-val_of (int i) = Some (val.Int i)
-val_of _ = None
+val_of nil = Some Nil
+val_of v = option_map Held (item_of v)
 
 -- exactly two values
 abbrev pub both_of : Values → Option (Value × Value)
@@ -103,10 +107,10 @@ pair_of (vector vs) = both_of vs
 pair_of (list vs) = both_of vs
 pair_of _ = None
 
--- integers alone
-abbrev pub ints_of : Values → Option (List ℤ)
-ints_of no_values = Some []
-ints_of (value v vs) = option_and_then (λ i. option_map (λ is. i ∷ is) (ints_of vs)) (int_of (bare v))
+-- items alone
+abbrev pub items_of : Values → Option (List Item)
+items_of no_values = Some []
+items_of (value v vs) = option_and_then (λ i. option_map (λ is. i ∷ is) (items_of vs)) (item_of (bare v))
 
 -- the old and the new value of a compare-and-set
 abbrev pub cas_of : Value × Value → Option Call
@@ -117,24 +121,22 @@ abbrev pub call_of : Name → Value → Option Call
 call_of Read v = Some call.Read
 call_of Write v = option_map call.Write (val_of v)
 call_of Cas v = option_and_then cas_of (pair_of v)
-call_of Enqueue v = option_map call.Enqueue (int_of v)
+call_of Enqueue v = option_map call.Enqueue (item_of v)
 call_of Dequeue v = Some call.Dequeue
-call_of Add v = option_map call.Add (int_of v)
+call_of Add v = option_map call.Add (item_of v)
 call_of Acquire v = Some call.Acquire
 call_of Release v = Some call.Release
 
--- the integers of a collection as the members of a set
+-- the items of a collection as the members of a set
 abbrev pub members_in : Values → Option Reply
-members_in vs = option_map (λ is. Members (members_of is)) (ints_of vs)
+members_in vs = option_map (λ is. Members (members_of item_cmp is)) (items_of vs)
 
 -- what a read saw
 abbrev pub seen : Value → Option Reply
-seen nil = Some (Saw val.Nil)
-seen (int i) = Some (Saw (val.Int i))
 seen (set vs) = members_in vs
 seen (vector vs) = members_in vs
 seen (list vs) = members_in vs
-seen _ = None
+seen v = option_map Saw (val_of v)
 
 -- what an operation that took effect answered
 abbrev pub reply_of : Name → Value → Option Reply
@@ -148,10 +150,10 @@ body_of types.Ok f v = option_map (body.Ok f) (reply_of f v)
 body_of types.Fail f v = Some (body.Fail f)
 body_of types.Info f v = Some (body.Info f)
 
--- the key of the object and the value: with keys those of a pair that begins with an integer, without keys 0 and the whole
-abbrev pub parts_of : Bool → Value → Option (ℤ × Value)
-parts_of true v = option_and_then (λ p. option_map (λ key. (key, p.1)) (int_of p.0)) (pair_of v)
-parts_of false v = Some (pos 0, v)
+-- the key of the object and the value: with keys those of a pair that begins with an item, without keys 0 and the whole
+abbrev pub parts_of : Bool → Value → Option (Item × Value)
+parts_of true v = option_and_then (λ p. option_map (λ key. (key, p.1)) (item_of p.0)) (pair_of v)
+parts_of false v = Some (Int (pos 0), v)
 
 -- one test after another: what is none has its fault
 abbrev pub or_fault : {A B : Type 0} → EventFault → Option A → (A → Result B EventFault) → Result B EventFault
@@ -201,7 +203,7 @@ event keyed v = event_in keyed (bare v)
 
 -- an event that holds a set of members, which takes memory
 abbrev pub HasMembers : Result (Option Event) EventFault → Type 0
-HasMembers wanted = (e : Event) × (is : List ℤ) × (wanted ≡ Ok (Some e)) × (e.body ≡ body.Ok Read (Members is))
+HasMembers wanted = (e : Event) × (is : List Item) × (wanted ≡ Ok (Some e)) × (e.body ≡ body.Ok Read (Members is))
 
 -- the table's answer, or want of memory in place of an event that takes memory
 abbrev pub IsAnswer : Result (Option Event) EventFault → Result (Option Event) EventFault → Type 0

@@ -10,7 +10,8 @@ mod values;
 
 pub use follow::{Follow, FollowFault, faults_stay, streams_are_unique};
 pub use lin_events::{
-    Body, Call, Cause, Event, IntSet, Meter, Name, Numbers, OutOfMemory, Reply, Shape, Status, Val,
+    Body, Call, Cause, Event, IntSet, Item, Items, Meter, Name, OutOfMemory, Reply, Shape, Status,
+    Val,
 };
 pub use next::{NextEvent, next_event};
 pub use table::{EventFault, event_of};

@@ -7,11 +7,11 @@ ghost use Rattle.lin_edn.specs.View.{view, entry_view};
 ghost use Rattle.lin_history.specs.Table as table;
 ghost use Rattle.lin_history.specs.Table.{bare as bare_value, is_word as says, under, is_several, event, IsAnswer};
 ghost use Rattle.lin_events.specs.declared.calls.Name.TheVariants.{Cas};
-ghost use Rattle.lin_events.specs.declared.calls.Reply.TheVariants.{Members};
+ghost use Rattle.lin_events.specs.declared.calls.Reply.TheVariants.{Members, Value as Saw};
 ghost use Rattle.lin_history.specs.inner.Fields.{found, given_view, IsPut, IsKept, IsFields, IsReply, IsBody};
 
 use lin_edn::{Edn, Entry};
-use lin_events::{Body, Call, Event, IntSet, Name, OutOfMemory, Reply, Val};
+use lin_events::{Body, Call, Event, IntSet, Item, Name, OutOfMemory, Reply, Val};
 use std::alloc::Global;
 
 /// Why an element says no event: the first of these that holds.
@@ -29,7 +29,7 @@ pub enum EventFault {
     BadType,
     /// `:f` is no function of the objects.
     BadFunction,
-    /// With keys, `:value` isn't a pair that begins with an integer.
+    /// With keys, `:value` isn't a pair that begins with an item.
     BadKey,
     /// The value isn't of the form that its type and function ask for.
     BadValue,
@@ -48,7 +48,7 @@ pub(crate) enum EventType {
 /// The value of an operation, without tags.
 #[derive(Clone, Copy)]
 pub(crate) enum Given<'e, 'a> {
-    /// Nil or an integer, for which no element has to be built.
+    /// Nil or an item, for which no element has to be built.
     Val(Val),
     Element(&'e Edn<'a>),
 }
@@ -230,28 +230,28 @@ fn val_of(element: &Edn) -> Option<Val>
 {
     match element {
         Edn::Nil => Some(Val::Nil),
-        Edn::Int(i) => Some(Val::Int(*i)),
-        _ => None,
+        _ => Some(Val::Item(item_of(element)?)),
     }
 }
 
-fn int_of(element: &Edn) -> Option<i64>
-    ensures { result ≡ table.int_of (view element.now) }
+fn item_of(element: &Edn) -> Option<Item>
+    ensures { result ≡ table.item_of (view element.now) }
 {
     match element {
-        Edn::Int(i) => Some(*i),
+        Edn::Int(number) => Some(Item::Int(*number)),
+        Edn::Bool(truth) => Some(Item::Bool(*truth)),
         _ => None,
     }
 }
 
 /// The two of exactly two elements, without tags.
-fn both_of<'e, 'a>(items: &'e [Edn<'a>]) -> Option<(&'e Edn<'a>, &'e Edn<'a>)>
-    ensures { option_map (λ p. (view p.0.now, view p.1.now)) result ≡ table.both_of (values_of (map view items.entry.now)) }
+fn both_of<'e, 'a>(elements: &'e [Edn<'a>]) -> Option<(&'e Edn<'a>, &'e Edn<'a>)>
+    ensures { option_map (λ p. (view p.0.now, view p.1.now)) result ≡ table.both_of (values_of (map view elements.entry.now)) }
 {
-    if items.len() != 2 {
+    if elements.len() != 2 {
         return None;
     }
-    Some((bare(&items[0]), bare(&items[1])))
+    Some((bare(&elements[0]), bare(&elements[1])))
 }
 
 /// The two elements of a vector or list of exactly two, without tags.
@@ -259,14 +259,14 @@ fn pair_of<'e, 'a>(element: &'e Edn<'a>) -> Option<(&'e Edn<'a>, &'e Edn<'a>)>
     ensures { option_map (λ p. (view p.0.now, view p.1.now)) result ≡ table.pair_of (view element.entry.now) }
 {
     match element {
-        Edn::Vector(items) => both_of(items.as_slice()),
-        Edn::List(items) => both_of(items.as_slice()),
+        Edn::Vector(elements) => both_of(elements.as_slice()),
+        Edn::List(elements) => both_of(elements.as_slice()),
         _ => None,
     }
 }
 
 impl Given<'_, '_> {
-    /// Nil or an integer.
+    /// Nil or an item.
     fn val(self) -> Option<Val>
         ensures { result ≡ table.val_of (given_view self.entry) }
     {
@@ -276,13 +276,13 @@ impl Given<'_, '_> {
         }
     }
 
-    fn int(self) -> Option<i64>
-        ensures { result ≡ table.int_of (given_view self.entry) }
+    fn item(self) -> Option<Item>
+        ensures { result ≡ table.item_of (given_view self.entry) }
     {
         match self {
-            Given::Val(Val::Int(i)) => Some(i),
+            Given::Val(Val::Item(item)) => Some(item),
             Given::Val(Val::Nil) => None,
-            Given::Element(element) => int_of(element),
+            Given::Element(element) => item_of(element),
         }
     }
 }
@@ -308,55 +308,55 @@ fn call_of(name: Name, value: Given) -> Option<Call>
         Name::Acquire => Some(Call::Acquire),
         Name::Release => Some(Call::Release),
         Name::Write => Some(Call::Write(value.val()?)),
-        Name::Enqueue => Some(Call::Enqueue(value.int()?)),
-        Name::Add => Some(Call::Add(value.int()?)),
+        Name::Enqueue => Some(Call::Enqueue(value.item()?)),
+        Name::Add => Some(Call::Add(value.item()?)),
         Name::Cas => cas_of(value),
     }
 }
 
-/// Whether all are integers, tags aside.
-fn are_integers(items: &[Edn]) -> bool
-    ensures { result ≡ is_some (table.ints_of (values_of (map view items.now))) }
+/// Whether all are items, tags aside.
+fn are_items(elements: &[Edn]) -> bool
+    ensures { result ≡ is_some (table.items_of (values_of (map view elements.now))) }
 {
-    for item in items {
-        if int_of(bare(item)).is_none() {
+    for element in elements {
+        if item_of(bare(element)).is_none() {
             return false;
         }
     }
     true
 }
 
-/// The integers of a collection of integers.
-fn integers(alloc: Global, items: &[Edn]) -> Result<Vec<i64>, OutOfMemory>
-    requires { IsSome (table.ints_of (values_of (map view items.now))) }
-    ensures { IfOk result (λ found. table.ints_of (values_of (map view items.now)) ≡ Some found.items) }
+/// The items that a collection of items says.
+fn items_of(alloc: Global, elements: &[Edn]) -> Result<Vec<Item>, OutOfMemory>
+    requires { IsSome (table.items_of (values_of (map view elements.now))) }
+    ensures { IfOk result (λ found. table.items_of (values_of (map view elements.now)) ≡ Some found.items) }
 {
-    let mut found = Vec::with_capacity(alloc, items.len())?;
-    for item in items {
-        if let Some(i) = int_of(bare(item)) {
-            found.push(i)?;
+    let mut found = Vec::with_capacity(alloc, elements.len())?;
+    for element in elements {
+        if let Some(item) = item_of(bare(element)) {
+            found.push(item)?;
         }
     }
     Ok(found)
 }
 
-/// The set of the integers of a collection of integers.
-fn set_of(alloc: Global, items: &[Edn]) -> Result<IntSet, OutOfMemory>
-    requires { IsSome (table.ints_of (values_of (map view items.now))) }
-    ensures { IfOk result (λ members. table.members_in (values_of (map view items.now)) ≡ Some (Members members)) }
+/// The set of the items of a collection of items.
+fn set_of(alloc: Global, elements: &[Edn]) -> Result<IntSet, OutOfMemory>
+    requires { IsSome (table.items_of (values_of (map view elements.now))) }
+    ensures { IfOk result (λ members. table.members_in (values_of (map view elements.now)) ≡ Some (Members members)) }
 {
-    let found = integers(alloc, items)?;
+    let found = items_of(alloc, elements)?;
     IntSet::from_members(alloc, found)
 }
 
-/// The integers of a collection as the members of a set.
-fn members_in(alloc: Global, items: &[Edn]) -> Result<Reply, EventFault>
-    ensures { IsReply (table.members_in (values_of (map view items.now))) result }
+/// The items of a collection as the members of a set.
+fn members_in(alloc: Global, elements: &[Edn]) -> Result<Reply, EventFault>
+    ensures { IsReply (table.members_in (values_of (map view elements.now))) result }
 {
-    if !are_integers(items) {
+    if !are_items(elements) {
         return Err(EventFault::BadValue);
     }
-    match set_of(alloc, items) {
+    match set_of(alloc, elements) {
         Ok(members) => Ok(Reply::Members(members)),
         Err(_) => Err(EventFault::OutOfMemory),
     }
@@ -373,19 +373,28 @@ fn seen(alloc: Global, value: Given) -> Result<Reply, EventFault>
     }
 }
 
+/// The reply that is nil or an item.
+#[inline(always)]
+fn value_in(value: Given) -> Result<Reply, EventFault>
+    ensures { IsReply (option_map Saw (table.val_of (given_view value.entry))) result }
+{
+    match value.val() {
+        Some(val) => Ok(Reply::Value(val)),
+        None => Err(EventFault::BadValue),
+    }
+}
+
 /// What a read saw that tells it by an element.
 fn seen_in(alloc: Global, element: &Edn) -> Result<Reply, EventFault>
     ensures { IsReply (table.seen (view element.now)) result }
 {
-    let items = match element {
-        Edn::Nil => return Ok(Reply::Value(Val::Nil)),
-        Edn::Int(i) => return Ok(Reply::Value(Val::Int(*i))),
-        Edn::Set(items) => items.as_slice(),
-        Edn::Vector(items) => items.as_slice(),
-        Edn::List(items) => items.as_slice(),
-        _ => return Err(EventFault::BadValue),
+    let elements = match element {
+        Edn::Set(elements) => elements.as_slice(),
+        Edn::Vector(elements) => elements.as_slice(),
+        Edn::List(elements) => elements.as_slice(),
+        _ => return value_in(Given::Element(element)),
     };
-    members_in(alloc, items)
+    members_in(alloc, elements)
 }
 
 #[inline(always)]
@@ -394,10 +403,7 @@ fn reply_of(alloc: Global, name: Name, value: Given) -> Result<Reply, EventFault
 {
     match name {
         Name::Read => seen(alloc, value),
-        Name::Dequeue => match value.val() {
-            Some(taken) => Ok(Reply::Value(taken)),
-            None => Err(EventFault::BadValue),
-        },
+        Name::Dequeue => value_in(value),
         _ => Ok(Reply::Done),
     }
 }
@@ -441,14 +447,14 @@ pub(crate) fn is_value_told(event_type: EventType, name: Name) -> bool
 }
 
 /// The object's key and the value: with keys those of a pair, without them 0 and the whole.
-fn parts_of<'e, 'a>(value: &'e Edn<'a>, keyed: bool) -> Option<(i64, &'e Edn<'a>)>
+fn parts_of<'e, 'a>(value: &'e Edn<'a>, keyed: bool) -> Option<(Item, &'e Edn<'a>)>
     ensures { option_map (λ p. (p.0, view p.1.now)) result ≡ table.parts_of keyed (view value.entry.now) }
 {
     if !keyed {
-        return Some((0, value));
+        return Some((Item::Int(0), value));
     }
     let (key, value) = pair_of(value)?;
-    Some((int_of(key)?, value))
+    Some((item_of(key)?, value))
 }
 
 /// The event of a map with these values under its keys.
@@ -484,7 +490,7 @@ pub(crate) fn event_said(
     process: u64,
     event_type: EventType,
     name: Name,
-    key: i64,
+    key: Item,
     value: Given,
 ) -> Result<Option<Event>, EventFault>
     ensures { (keyed : Bool) (p : Value) (t : Value) (f : Value) (v : Value) →

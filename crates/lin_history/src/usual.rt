@@ -20,7 +20,7 @@ use lin_edn::{
     Edn, elements_are_unique, integer, nested_until, run_element, run_until, tag_until,
     white_until, window,
 };
-use lin_events::{Event, Name, Val};
+use lin_events::{Event, Item, Name, Val};
 use std::alloc::Global;
 
 /// The greatest number of levels.
@@ -187,7 +187,7 @@ fn process_in(at: usize, word: &[u8]) -> Option<Process>
 
 /// The object's key and the value that a map says whose `:value` stands at a place.
 #[inline(always)]
-fn parts_at<'a>(alloc: Global, keyed: bool, text: &'a [u8], place: Place) -> Option<(i64, Edn<'a>)>
+fn parts_at<'a>(alloc: Global, keyed: bool, text: &'a [u8], place: Place) -> Option<(Item, Edn<'a>)>
     ensures { IfSome result (λ r. (levels : ℕ) (vs : List Value) → levels ≤ 64 → IsPlaced text.entry.now levels vs (Some place) → AreParts keyed vs r.0 (view r.1)) }
 {
     elements_are_unique();
@@ -196,16 +196,16 @@ fn parts_at<'a>(alloc: Global, keyed: bool, text: &'a [u8], place: Place) -> Opt
         return Some((key, value));
     }
     if let Some(word) = word_of(text, place) {
-        return Some((0, run_element(place.at, word)));
+        return Some((Item::Int(0), run_element(place.at, word)));
     }
     let (value, _) = value_at(alloc, text, place.at, VALUE_LEVELS)?;
-    Some((0, value))
+    Some((Item::Int(0), value))
 }
 
-/// The object's key and the value that a map says whose `:value` stands at a place, or nowhere, where that value is nil or an integer:
+/// The object's key and the value that a map says whose `:value` stands at a place, or nowhere, where that value is nil or an item:
 /// no element has to be built.
 #[inline(always)]
-fn plain_parts(keyed: bool, text: &[u8], place: Option<Place>) -> Option<(i64, Val)>
+fn plain_parts(keyed: bool, text: &[u8], place: Option<Place>) -> Option<(Item, Val)>
     ensures { IfSome result (λ r. (levels : ℕ) (vs : List Value) → levels ≤ 64 → IsPlaced text.now levels vs place → AreParts keyed vs r.0 (value_of r.1)) }
 {
     elements_are_unique();
@@ -213,14 +213,14 @@ fn plain_parts(keyed: bool, text: &[u8], place: Option<Place>) -> Option<(i64, V
         if keyed {
             return None;
         }
-        return Some((0, Val::Nil));
+        return Some((Item::Int(0), Val::Nil));
     };
     if keyed {
         let (key, val, _) = plain_pair(text, place.at)?;
         return Some((key, val));
     }
     let val = val_in(word_of(text, place)?)?;
-    Some((0, val))
+    Some((Item::Int(0), val))
 }
 
 /// The event of a usual map with this process, type, function, key and value.
@@ -230,7 +230,7 @@ fn event_given(
     process: u64,
     event_type: EventType,
     name: Name,
-    key: i64,
+    key: Item,
     value: Given,
 ) -> Option<Option<Event>>
     ensures { IfSome result (λ told. (keyed : Bool) (vs : List Value) → AreParts keyed vs key (given_view value.entry) → TellsWith keyed process event_type name vs told) }
@@ -242,12 +242,12 @@ fn event_given(
 }
 
 /// The object's key that a map says whose `:value` stands at a place: 0 without keys, else that of a pair. The value is passed over.
-fn key_alone(keyed: bool, text: &[u8], place: Place) -> Option<i64>
+fn key_alone(keyed: bool, text: &[u8], place: Place) -> Option<Item>
     ensures { IfSome result (λ key. (levels : ℕ) (vs : List Value) → levels ≤ 64 → IsPlaced text.now levels vs (Some place) → (v : Value) × AreParts keyed vs key v) }
 {
     elements_are_unique();
     if !keyed {
-        return Some(0);
+        return Some(Item::Int(0));
     }
     let (key, _) = pair_key(text, place.at)?;
     Some(key)

@@ -4,26 +4,26 @@ ghost use Rattle.lin_edn.specs.Bytes as bytes;
 ghost use Rattle.lin_edn.specs.Bytes.{a_vector};
 ghost use Rattle.lin_edn.specs.Grammar.{Element, Opens, Row};
 ghost use Rattle.lin_edn.specs.Run.{run_value};
-ghost use Rattle.lin_edn.specs.Value.{Value, made, int, vector, values_of};
+ghost use Rattle.lin_edn.specs.Value.{Value, made, vector, values_of};
 ghost use Rattle.lin_edn.specs.View.{view};
-ghost use Rattle.lin_history.specs.inner.Fields.{value_of};
+ghost use Rattle.lin_history.specs.inner.Fields.{item_value, value_of};
 ghost use Rattle.lin_history.specs.Table.{bare};
 ghost use Rattle.lin_history.specs.inner.Usual.{kind_of};
 
 use crate::table::is_same;
 use lin_edn::{Edn, integer, nested_until, run_element, run_until, white_until};
-use lin_events::Val;
+use lin_events::{Item, Val};
 use std::alloc::Global;
 
-/// The pair of an integer and such a value, of one level at most, at a place.
+/// The pair of an item and such a value, of one level at most, at a place.
 #[inline(never)]
 pub(crate) fn pair_at<'a>(
     alloc: Global,
     text: &'a [u8],
     from: usize,
-) -> Option<(i64, Edn<'a>, usize)>
+) -> Option<(Item, Edn<'a>, usize)>
     ensures bare { IfSome result (λ r. bare (view r.1) ≡ view r.1) }
-    ensures pair { IfSome result (λ r. Element 2 from (drop from text.entry.now) (vector (values_of (int r.0 ∷ view r.1 ∷ []))) r.2 (drop r.2 text.entry.now)) }
+    ensures pair { IfSome result (λ r. Element 2 from (drop from text.entry.now) (vector (values_of (item_value r.0 ∷ view r.1 ∷ []))) r.2 (drop r.2 text.entry.now)) }
 {
     let (key, until) = key_at(text, from)?;
     let at = white_until(text, until, text.len());
@@ -38,7 +38,24 @@ pub(crate) fn pair_at<'a>(
     Some((key, value, last + 1))
 }
 
-/// Nil or the integer that a word says.
+/// The item that a word says.
+#[inline(always)]
+fn item_in(word: &[u8]) -> Option<Item>
+    ensures { IfSome result (λ item. (p : ℕ) → run_value p word.now ≡ item_value item) }
+{
+    if let Some(number) = integer(word) {
+        return Some(Item::Int(number));
+    }
+    if is_same(word, b"true") {
+        return Some(Item::Bool(true));
+    }
+    if is_same(word, b"false") {
+        return Some(Item::Bool(false));
+    }
+    None
+}
+
+/// Nil or the item that a word says.
 #[inline(always)]
 pub(crate) fn val_in(word: &[u8]) -> Option<Val>
     ensures { IfSome result (λ val. (p : ℕ) → run_value p word.now ≡ value_of val) }
@@ -46,13 +63,13 @@ pub(crate) fn val_in(word: &[u8]) -> Option<Val>
     if is_same(word, b"nil") {
         return Some(Val::Nil);
     }
-    Some(Val::Int(integer(word)?))
+    Some(Val::Item(item_in(word)?))
 }
 
-/// The pair of an integer and nil or an integer at a place, and where it ends.
+/// The pair of an item and nil or an item at a place, and where it ends.
 #[inline(never)]
-pub(crate) fn plain_pair(text: &[u8], from: usize) -> Option<(i64, Val, usize)>
-    ensures { IfSome result (λ r. Element 2 from (drop from text.now) (vector (values_of (int r.0 ∷ value_of r.1 ∷ []))) r.2 (drop r.2 text.now)) }
+pub(crate) fn plain_pair(text: &[u8], from: usize) -> Option<(Item, Val, usize)>
+    ensures { IfSome result (λ r. Element 2 from (drop from text.now) (vector (values_of (item_value r.0 ∷ value_of r.1 ∷ []))) r.2 (drop r.2 text.now)) }
 {
     let (key, until) = key_at(text, from)?;
     let at = white_until(text, until, text.len());
@@ -71,9 +88,9 @@ pub(crate) fn plain_pair(text: &[u8], from: usize) -> Option<(i64, Val, usize)>
     Some((key, val, last + 1))
 }
 
-/// The integer that the pair at a place begins with, and where the pair ends. Its value is passed over in place.
-pub(crate) fn pair_key(text: &[u8], from: usize) -> Option<(i64, usize)>
-    ensures { IfSome result (λ r. (v : Value) × Element 63 from (drop from text.now) (vector (values_of (int r.0 ∷ v ∷ []))) r.1 (drop r.1 text.now)) }
+/// The item that the pair at a place begins with, and where the pair ends. Its value is passed over in place.
+pub(crate) fn pair_key(text: &[u8], from: usize) -> Option<(Item, usize)>
+    ensures { IfSome result (λ r. (v : Value) × Element 63 from (drop from text.now) (vector (values_of (item_value r.0 ∷ v ∷ []))) r.1 (drop r.1 text.now)) }
 {
     let (key, until) = key_at(text, from)?;
     let at = white_until(text, until, text.len());
@@ -91,12 +108,12 @@ pub(crate) fn pair_key(text: &[u8], from: usize) -> Option<(i64, usize)>
     Some((key, last + 1))
 }
 
-/// The integer that the vector at a place begins with, and where it ends.
+/// The item that the vector at a place begins with, and where it ends.
 #[inline(always)]
-fn key_at(text: &[u8], from: usize) -> Option<(i64, usize)>
+fn key_at(text: &[u8], from: usize) -> Option<(Item, usize)>
     ensures within { IfSome result (λ r. (from < r.1) × (r.1 ≤ length text.now)) }
     ensures opens { IfSome result (λ r. Opens a_vector from (drop from text.now) (from + 1) (drop (from + 1) text.now)) }
-    ensures key { IfSome result (λ r. (n : ℕ) → Row n (from + 1) (drop (from + 1) text.now) (int r.0 ∷ []) r.1 (drop r.1 text.now)) }
+    ensures key { IfSome result (λ r. (n : ℕ) → Row n (from + 1) (drop (from + 1) text.now) (item_value r.0 ∷ []) r.1 (drop r.1 text.now)) }
 {
     if from >= text.len() {
         return None;
@@ -109,7 +126,7 @@ fn key_at(text: &[u8], from: usize) -> Option<(i64, usize)>
     if until == at {
         return None;
     }
-    let key = integer(&text[at..until])?;
+    let key = item_in(&text[at..until])?;
     Some((key, until))
 }
 

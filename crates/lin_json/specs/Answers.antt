@@ -1,8 +1,9 @@
 -- The answers for a history and for its objects.
-use Rattle.std.specs.Prelude.{ℕ, ℤ, List, ◌++◌, codes, decimal}
-use Rattle.std.specs.Fmt.{signed_decimal}
+use Rattle.std.specs.Prelude.{ℕ, List, ◌++◌, codes, decimal}
+use Rattle.lin_events.specs.declared.items.Item.{Item}
 use Rattle.lin_objects.specs.declared.kinds.Kind.{Kind}
 use Rattle.lin_formats.specs.Kinds.{kind_text}
+use Rattle.lin_formats.specs.Items.{item_text}
 use Rattle.lin_formats.specs.declared.verdicts.Status.{Status}
 use Rattle.lin_formats.specs.declared.verdicts.Status.TheVariants.{Yes, No, Undecided, IllFormed, Refused}
 use Rattle.lin_json.specs.Strings.{string_json}
@@ -37,11 +38,11 @@ abbrev pub counted_json : Status → List ℕ → ℕ → List ℕ
 counted_json status answer events = codes "{" ++ head_json status answer ++ codes ",\"events\":" ++ decimal events
 
 -- the name of an object: a key and a word for a kind have no byte that is escaped
-abbrev pub named_json : ℤ → Kind → List ℕ
-named_json key kind = codes "\"key\":\"" ++ signed_decimal key ++ codes "\",\"kind\":\"" ++ kind_text kind ++ codes "\""
+abbrev pub named_json : Item → Kind → List ℕ
+named_json key kind = codes "\"key\":\"" ++ item_text key ++ codes "\",\"kind\":\"" ++ kind_text kind ++ codes "\""
 
 -- the answer for an object
-abbrev pub object_json : ℤ → Kind → Status → List ℕ → List ℕ
+abbrev pub object_json : Item → Kind → Status → List ℕ → List ℕ
 object_json key kind status answer = codes "{" ++ named_json key kind ++ codes "," ++ head_json status answer ++ codes "}"
 
 abbrev pub objects_front : Status → List ℕ → ℕ → List ℕ

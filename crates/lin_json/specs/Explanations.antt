@@ -1,5 +1,6 @@
 -- Explanations of answers, and of refused files.
-use Rattle.std.specs.Prelude.{ℕ, ℤ, List, [], ◌++◌, Option, Some, None, codes}
+use Rattle.std.specs.Prelude.{ℕ, List, [], ◌++◌, Option, Some, None, codes}
+use Rattle.lin_events.specs.declared.items.Item.{Item}
 use Rattle.lin_explain.specs.declared.parts.Parts.{Parts}
 use Rattle.lin_explain.specs.declared.parts.Parts.TheVariants.{Yes, No, Undecided, IllFormed}
 use Rattle.lin_explain.specs.declared.parts.Spot.{Spot}
@@ -11,7 +12,7 @@ use Rattle.lin_json.specs.Failures.{failed_json, named_event, place_json, spot_j
 use Rattle.lin_json.specs.Strings.{string_json}
 
 -- the object that was asked about, if one was
-abbrev pub object_named : Option (ℤ × Kind) → List ℕ
+abbrev pub object_named : Option (Item × Kind) → List ℕ
 object_named None = []
 object_named (Some object) = codes "," ++ named_json object.0 object.1
 

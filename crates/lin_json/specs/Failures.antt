@@ -1,7 +1,8 @@
 -- The events that an explanation speaks of, and what it tells of a failure.
-use Rattle.std.specs.Prelude.{ℕ, ℤ, List, [], ◌++◌, Option, Some, None, codes, decimal}
+use Rattle.std.specs.Prelude.{ℕ, List, [], ◌++◌, Option, Some, None, codes, decimal}
 use Rattle.std.specs.Global.{Vec}
 use Rattle.std.specs.List.{join_by}
+use Rattle.lin_events.specs.declared.items.Item.{Item}
 use Rattle.lin_explain.specs.declared.parts.Choices.{Choices}
 use Rattle.lin_explain.specs.declared.parts.Failed.{Failed}
 use Rattle.lin_explain.specs.declared.parts.Spot.{Spot}
@@ -21,7 +22,7 @@ abbrev pub spot_json : Spot → List ℕ
 spot_json spot = codes "{\"at\":" ++ decimal spot.at ++ place_json spot.place ++ codes ",\"words\":" ++ string_json spot.words.items ++ codes "}"
 
 -- an event of an object
-abbrev pub named_event : ℤ → Kind → Spot → List ℕ
+abbrev pub named_event : Item → Kind → Spot → List ℕ
 named_event key kind event = codes "," ++ named_json key kind ++ codes ",\"event\":" ++ spot_json event
 
 -- a count, where it is known

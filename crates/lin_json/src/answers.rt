@@ -3,7 +3,8 @@ ghost use Rattle.std.specs.Prelude.{◌≡◌, ◌++◌, OnOk};
 ghost use Rattle.lin_json.specs.Answers.{answer_json, counted_json, head_json, named_json, object_json, objects_front, status_number as number_of, valid_text};
 
 use crate::strings::put_string;
-use lin_formats::{Status, kind_word, put_integer, put_number};
+use lin_events::Item;
+use lin_formats::{Status, kind_word, put_item, put_number};
 use lin_objects::Kind;
 use std::alloc::AllocError;
 
@@ -79,11 +80,11 @@ pub fn put_objects_front(text: &mut Vec<u8>, head: Head, events: usize) -> Resul
 }
 
 /// Puts the key and the kind of an object last.
-pub(crate) fn put_named(text: &mut Vec<u8>, key: i64, kind: Kind) -> Result<(), AllocError>
+pub(crate) fn put_named(text: &mut Vec<u8>, key: Item, kind: Kind) -> Result<(), AllocError>
     ensures { OnOk result (text.new.items ≡ text.old.items ++ named_json key kind) }
 {
     text.extend_from_slice(b"\"key\":\"")?;
-    put_integer(text, key)?;
+    put_item(text, key)?;
     text.extend_from_slice(b"\",\"kind\":\"")?;
     text.extend_from_slice(kind_word(kind).as_bytes())?;
     text.push(b'"')?;
@@ -91,7 +92,7 @@ pub(crate) fn put_named(text: &mut Vec<u8>, key: i64, kind: Kind) -> Result<(), 
 }
 
 /// Puts the map of an object last.
-pub fn put_object(text: &mut Vec<u8>, key: i64, kind: Kind, head: Head) -> Result<(), AllocError>
+pub fn put_object(text: &mut Vec<u8>, key: Item, kind: Kind, head: Head) -> Result<(), AllocError>
     ensures { OnOk result (text.new.items ≡ text.old.items ++ object_json key kind head.entry.status head.entry.answer.now) }
 {
     text.push(b'{')?;

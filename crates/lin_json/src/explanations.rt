@@ -5,13 +5,14 @@ ghost use Rattle.lin_json.specs.Explanations.{event_json, explanation_json, obje
 use crate::answers::{Head, put_counted, put_head, put_named};
 use crate::failures::{put_failed, put_named_event, put_place, put_spot};
 use crate::strings::put_string;
+use lin_events::Item;
 use lin_explain::{Parts, Spot};
 use lin_objects::Kind;
 use lin_places::Place;
 use std::alloc::AllocError;
 
 /// Puts the object that was asked about last, if one was.
-fn put_asked(text: &mut Vec<u8>, object: Option<(i64, Kind)>) -> Result<(), AllocError>
+fn put_asked(text: &mut Vec<u8>, object: Option<(Item, Kind)>) -> Result<(), AllocError>
     ensures { OnOk result (text.new.items ≡ text.old.items ++ object_named object) }
 {
     match object {

@@ -4,6 +4,7 @@ ghost use Rattle.lin_json.specs.Failures.{calls_json, choices_json, count_json, 
 
 use crate::answers::put_named;
 use crate::strings::put_string;
+use lin_events::Item;
 use lin_explain::{Choices, Failed, Spot, Why};
 use lin_formats::put_number;
 use lin_objects::Kind;
@@ -39,7 +40,7 @@ pub(crate) fn put_spot(text: &mut Vec<u8>, spot: &Spot) -> Result<(), AllocError
 /// Puts the object of an event last, and the event.
 pub(crate) fn put_named_event(
     text: &mut Vec<u8>,
-    key: i64,
+    key: Item,
     kind: Kind,
     event: &Spot,
 ) -> Result<(), AllocError>

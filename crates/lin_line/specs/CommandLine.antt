@@ -1,20 +1,22 @@
 -- The command line, as `clap` defines it for this program.
-use Rattle.std.specs.Prelude.{◌≡◌, ◌⊎◌, ◌<◌, ◌+◌, ℕ, ℤ, pos, negsuc, Bool, List, [], ◌∷◌, ◌++◌, Some, None, Option, ⊤, is_ok, nat_lt, option_and_then, option_map, unwrap_or, count_by, length, map, true, false, codes, if◌then◌else◌}
+use Rattle.std.specs.Prelude.{◌≡◌, ◌⊎◌, ◌<◌, ◌+◌, ℕ, Bool, List, [], ◌∷◌, ◌++◌, Some, None, Option, ⊤, is_ok, nat_lt, option_and_then, option_map, unwrap_or, count_by, length, map, true, false, codes, if◌then◌else◌}
 use Rattle.std.specs.Str.{bytes_eq}
-use Rattle.std.specs.Str.Parse.{digits_value, signed_digits_value, without_leading_plus}
+use Rattle.std.specs.Str.Parse.{digits_value, without_leading_plus}
 use Rattle.clap.specs.Lexer.{usize_max}
-use Rattle.clap.specs.Words.{App, Rule, Row, Text, all_of, new_app, new_rule, with_rule, with_subcommand, first_of, subcommand_of, HasKind, fault_of, kind_of, IsSignedIn, IsUnsignedIn}
+use Rattle.clap.specs.Words.{App, Rule, Row, Text, all_of, new_app, new_rule, with_rule, with_subcommand, first_of, subcommand_of, HasKind, fault_of, kind_of, IsUnsignedIn}
 use Rattle.clap.specs.declared.builder.action.ArgAction.TheVariants.{Set, SetTrue, Append}
 use Rattle.clap.specs.declared.builder.value_parser.ValueParser.{ValueParser}
-use Rattle.clap.specs.declared.builder.value_parser.ValueParser.TheVariants.{Names, Signed, Unsigned}
+use Rattle.clap.specs.declared.builder.value_parser.ValueParser.TheVariants.{Names, Unsigned}
 use Rattle.clap.specs.declared.error.Error.{Error}
 use Rattle.clap.specs.declared.error.kind.ErrorKind.{ErrorKind}
-use Rattle.clap.specs.declared.error.kind.ErrorKind.TheVariants.{ArgumentConflict, MissingRequiredArgument, OutOfMemory}
+use Rattle.clap.specs.declared.error.kind.ErrorKind.TheVariants.{ArgumentConflict, MissingRequiredArgument, OutOfMemory, ValueValidation}
+use Rattle.lin_events.specs.declared.items.Item.{Item}
+use Rattle.lin_formats.specs.Items.{item_in}
 use Rattle.lin_formats.specs.Kinds.{kind_named, kind_words}
 use Rattle.lin_formats.specs.Orders.{order_of}
 use Rattle.lin_formats.specs.declared.settings.Settings.{Settings}
 use Rattle.lin_line.specs.declared.misuse.NoLine.{NoLine}
-use Rattle.lin_line.specs.declared.misuse.NoLine.TheVariants.{NoOrder, TwoOrders, InputTwice, Unsaid}
+use Rattle.lin_line.specs.declared.misuse.NoLine.TheVariants.{NoOrder, TwoOrders, InputTwice, NoKey, Unsaid}
 use Rattle.lin_line.specs.declared.words.Format.{Format}
 use Rattle.lin_line.specs.declared.words.Format.TheVariants as format
 use Rattle.lin_line.specs.declared.words.Order.{Order}
@@ -69,12 +71,8 @@ SpellsBudget text n = IsUnsignedIn 1 1000000 text × (n ≡ digits_value 10 (wit
 abbrev pub budget_rule : Rule
 budget_rule = record (new_rule (codes "budget")) { value_names = 1; long = Some (codes "budget"); action = Some Set; defaults = codes "65536" ∷ []; parser = Some (Unsigned 1 1000000) }
 
--- the key that the text spells, with or without a sign before its digits, where it has 64 bits
-abbrev pub SpellsKey : Text → ℤ → Type 0
-SpellsKey text key = IsSignedIn (negsuc 9223372036854775807) (pos 9223372036854775807) text × (key ≡ signed_digits_value 10 text)
-
 abbrev pub key_rule : Rule
-key_rule = record (new_rule (codes "key")) { value_names = 1; long = Some (codes "key"); action = Some Set; parser = Some (Signed (negsuc 9223372036854775807) (pos 9223372036854775807)) }
+key_rule = record (new_rule (codes "key")) { value_names = 1; long = Some (codes "key"); action = Some Set }
 
 abbrev pub order_flag_rule : Rule
 order_flag_rule = record (new_rule (codes "order")) { long = Some (codes "order"); action = Some SetTrue }
@@ -130,10 +128,10 @@ GivesText rows name text = first_of name rows ≡ text
 abbrev pub texts_of : Text → List Row → List Text
 texts_of name rows = unwrap_or (all_of name rows) []
 
--- the matches give no word for a key, or one that spells this key
-abbrev pub GivesKey : List Row → Option ℤ → Type 0
+-- the matches give no word for a key, or one that writes this key
+abbrev pub GivesKey : List Row → Option Item → Type 0
 GivesKey rows None = GivesText rows (codes "key") None
-GivesKey rows (Some key) = (text : Text) × GivesText rows (codes "key") (Some text) × SpellsKey text key
+GivesKey rows (Some key) = (text : Text) × GivesText rows (codes "key") (Some text) × (item_in text ≡ Some key)
 
 -- the matches name this way of printing
 abbrev pub GivesFormat : List Row → Format → Type 0
@@ -176,26 +174,29 @@ Says found (Verify settings order files) =
     × AreFiles found.1 (map (λ name. name.now) files.items) × HasSettings found.1 settings
 Says found (Edit settings file) = (found.0 ≡ codes "edit") × GivesText found.1 (codes "file") (option_map (λ name. name.now) file) × HasSettings found.1 settings
 
--- Why a command and its matches say no line: `verify` has neither an order nor an order file, or both; or standard input is named twice.
+-- the matches give a word for a key that writes none
+abbrev pub LacksKey : List Row → Type 0
+LacksKey rows = (text : Text) × GivesText rows (codes "key") (Some text) × (item_in text ≡ None)
+
+-- Why a command and its matches say no line: `verify` has neither an order nor an order file, or both; standard input is named twice; or the
+-- word for a key is no item.
 abbrev pub IsUnsaid : Text × List Row → NoLine → Type 0
 IsUnsaid found NoOrder = (found.0 ≡ codes "verify") × GivesText found.1 (codes "order-file") None × (length (texts_of (codes "file") found.1) < 2)
 IsUnsaid found TwoOrders = (found.0 ≡ codes "verify") × ((name : Text) × GivesText found.1 (codes "order-file") (Some name)) × EndInOrder (texts_of (codes "file") found.1)
 IsUnsaid found InputTwice = names_input_twice found.1 ≡ true
+IsUnsaid found NoKey = LacksKey found.1
 IsUnsaid found Unsaid = ⊤
 
 abbrev pub refusal_kind : NoLine → ErrorKind
 refusal_kind NoOrder = MissingRequiredArgument
 refusal_kind TwoOrders = ArgumentConflict
 refusal_kind InputTwice = ArgumentConflict
+refusal_kind NoKey = ValueValidation
 refusal_kind Unsaid = OutOfMemory
 
 -- the matches name no kind or lack a budget
 abbrev pub LacksSettings : List Row → Type 0
 LacksSettings rows = (option_and_then kind_named (first_of (codes "kind") rows) ≡ None) ⊎ ((text : Text) (n : ℕ) → GivesText rows (codes "budget") (Some text) → SpellsBudget text n → ⊥)
-
--- the matches give a word for a key that spells none
-abbrev pub LacksKey : List Row → Type 0
-LacksKey rows = (text : Text) × GivesText rows (codes "key") (Some text) × ((key : ℤ) → SpellsKey text key → ⊥)
 
 -- the words have no fault, and this is the command that they name, with its matches
 abbrev pub Finds : Parsers → List Text → Text × List Row → Type 0

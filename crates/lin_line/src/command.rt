@@ -111,7 +111,6 @@ fn key_option<'a>(alloc: Global) -> Arg<'a>
         .value_name("KEY")
         .help("This object alone, not the whole; a key below zero as --key=-1")
         .action(ArgAction::Set)
-        .value_parser(ValueParser::signed(i64::MIN, i64::MAX))
 }
 
 fn order_flag<'a>(alloc: Global) -> Arg<'a>

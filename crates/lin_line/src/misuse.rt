@@ -14,6 +14,8 @@ pub enum NoLine {
     TwoOrders,
     /// Standard input is named more than once, and can be read once.
     InputTwice,
+    /// The word behind `--key` is no item.
+    NoKey,
     /// Memory was refused, or a word is missing that `clap` requires or has a default for.
     Unsaid,
 }
@@ -26,6 +28,7 @@ impl NoLine {
         match self {
             NoLine::NoOrder => ErrorKind::MissingRequiredArgument,
             NoLine::TwoOrders | NoLine::InputTwice => ErrorKind::ArgumentConflict,
+            NoLine::NoKey => ErrorKind::ValueValidation,
             NoLine::Unsaid => ErrorKind::OutOfMemory,
         }
     }
@@ -36,6 +39,7 @@ impl NoLine {
             NoLine::NoOrder => "neither ORDER nor --order-file is given",
             NoLine::TwoOrders => "ORDER and --order-file are both given",
             NoLine::InputTwice => "standard input, -, is named more than once",
+            NoLine::NoKey => "KEY is neither an integer of 64 bits nor true or false",
             NoLine::Unsaid => "out of memory",
         }
     }

@@ -1,16 +1,17 @@
 //! What a command and its arguments say.
-ghost use Rattle.std.specs.Prelude.{◌≡◌, ◌<◌, ◌≤◌, ◌^◌, ◌⊎◌, ◌++◌, ◌∷◌, [], ℕ, ℤ, false, codes, is_ok, length, map, option_and_then, option_map, IfErr, IfNone, IfOk, IfSome, MatchBool};
+ghost use Rattle.std.specs.Prelude.{◌≡◌, ◌<◌, ◌≤◌, ◌^◌, ◌⊎◌, ◌++◌, ◌∷◌, [], ℕ, false, codes, is_ok, length, map, option_and_then, option_map, IfErr, IfNone, IfOk, IfSome, MatchBool};
 ghost use Rattle.clap.specs.Words.{first_of, found_of, rows_of};
 ghost use Rattle.lin_formats.specs.Orders.{order_of};
 ghost use Rattle.lin_line.specs.declared.words.Line.TheVariants as LineOf;
 ghost use Rattle.lin_line.specs.declared.words.Order.TheVariants as OrderOf;
-ghost use Rattle.lin_line.specs.CommandLine.{is_given as given, EndInOrder, GivesKey, HasSettings, IsUnsaid, LacksKey, LacksSettings, SpellsBudget, SpellsKey, Says, texts_of};
+ghost use Rattle.lin_line.specs.CommandLine.{is_given as given, EndInOrder, GivesKey, HasSettings, IsUnsaid, LacksKey, LacksSettings, SpellsBudget, Says, texts_of};
 ghost use Rattle.lin_line.specs.CommandLine as said;
 
 use crate::misuse::NoLine;
 use crate::words::{Format, Line, Order};
 use clap::ArgMatches;
-use lin_formats::{OrderFault, Settings, kind_named, read_order};
+use lin_events::Item;
+use lin_formats::{OrderFault, Settings, item_in, kind_named, read_order};
 use std::alloc::{AllocError, Global};
 
 /// The greatest budget.
@@ -54,17 +55,6 @@ fn budget_of(text: &str) -> Option<u32>
     }
 }
 
-/// The key that a text spells, where it is one.
-fn key_spelled(text: &str) -> Option<i64>
-    ensures some { IfSome result (SpellsKey text.now) }
-    ensures none { IfNone result ((key : ℤ) → SpellsKey text.now key → ⊥) }
-{
-    match text.parse::<i64>() {
-        Ok(key) => Some(key),
-        Err(_) => None,
-    }
-}
-
 /// The way of printing that a word names, if it names one.
 fn format_named(word: &str) -> Option<Format>
     ensures { result ≡ said.format_named word.now }
@@ -100,17 +90,17 @@ fn settings_of<'a>(matches: &ArgMatches<'a>) -> Option<Settings>
     })
 }
 
-/// The key that is asked about, if one is; none where `clap` found a word for a key that is none.
-fn key_of<'a>(matches: &ArgMatches<'a>) -> Option<Option<i64>>
-    ensures some { IfSome result (GivesKey (rows_of (found_of matches.now))) }
-    ensures none { IfNone result (LacksKey (rows_of (found_of matches.now))) }
+/// The key that is asked about, if one is.
+fn key_of<'a>(matches: &ArgMatches<'a>) -> Result<Option<Item>, NoLine>
+    ensures given { IfOk result (GivesKey (rows_of (found_of matches.now))) }
+    ensures none { IfErr result (λ why. (why ≡ NoLine.NoKey) × LacksKey (rows_of (found_of matches.now))) }
 {
     match text_of(matches, "key") {
-        Some(text) => match key_spelled(text) {
-            Some(key) => Some(Some(key)),
-            None => None,
+        Some(text) => match item_in(text.as_bytes()) {
+            Some(key) => Ok(Some(key)),
+            None => Err(NoLine::NoKey),
         },
-        None => Some(None),
+        None => Ok(None),
     }
 }
 
@@ -208,13 +198,10 @@ fn check_line<'a>(
 fn explain_line<'a>(settings: Settings, matches: &ArgMatches<'a>) -> Result<Line<'a>, NoLine>
     requires { HasSettings (rows_of (found_of matches.now)) settings }
     ensures said { IfOk result (Says (codes "explain", rows_of (found_of matches.now))) }
-    ensures unsaid { IfErr result (λ why. why ≡ NoLine.Unsaid) }
+    ensures unsaid { IfErr result (IsUnsaid (codes "explain", rows_of (found_of matches.now))) }
 {
-    let (Some(key), Some(format), Some(file)) = (
-        key_of(matches),
-        format_of(matches),
-        text_of(matches, "file"),
-    ) else {
+    let key = key_of(matches)?;
+    let (Some(format), Some(file)) = (format_of(matches), text_of(matches, "file")) else {
         return Err(NoLine::Unsaid);
     };
     Ok(Line::Explain {
@@ -230,9 +217,10 @@ fn explain_line<'a>(settings: Settings, matches: &ArgMatches<'a>) -> Result<Line
 fn draw_line<'a>(settings: Settings, matches: &ArgMatches<'a>) -> Result<Line<'a>, NoLine>
     requires { HasSettings (rows_of (found_of matches.now)) settings }
     ensures said { IfOk result (Says (codes "draw", rows_of (found_of matches.now))) }
-    ensures unsaid { IfErr result (λ why. why ≡ NoLine.Unsaid) }
+    ensures unsaid { IfErr result (IsUnsaid (codes "draw", rows_of (found_of matches.now))) }
 {
-    let (Some(key), Some(file)) = (key_of(matches), text_of(matches, "file")) else {
+    let key = key_of(matches)?;
+    let Some(file) = text_of(matches, "file") else {
         return Err(NoLine::Unsaid);
     };
     Ok(Line::Draw {

@@ -1,5 +1,6 @@
 //! What a command line says.
 
+use lin_events::Item;
 use lin_formats::Settings;
 
 /// How an answer is printed.
@@ -37,7 +38,7 @@ pub enum Line<'a> {
         /// The kind of the objects, how the file is read, and the budget.
         settings: Settings,
         /// The object that is asked about, if not the whole.
-        key: Option<i64>,
+        key: Option<Item>,
         /// Whether a yes ends with a legal order.
         with_order: bool,
         /// How the explanation is printed.
@@ -50,7 +51,7 @@ pub enum Line<'a> {
         /// The kind of the objects, how the file is read, and the budget.
         settings: Settings,
         /// The object that is drawn, if not the whole.
-        key: Option<i64>,
+        key: Option<Item>,
         /// The file's name.
         file: &'a str,
     },

@@ -1,9 +1,10 @@
 -- Open operations that can be placed or not, as they are picked: there are more configurations than the budget.
-use Rattle.std.proofs.Common.{mul-le-mul, ◌≡◌, ◌≢◌, ℕ, ℤ, zero, suc, ◌+◌, ◌*◌, ◌-◌, ◌<◌, ◌≤◌, Bool, true, false, List, [], ◌∷◌, ◌++◌, length, length-append, Contains, All, AllPairs, get_or, take, inl, inr, refl, sym, ap, subst, ◌∙◌, arith}
+use Rattle.std.proofs.Common.{mul-le-mul, ◌≡◌, ◌≢◌, ℕ, zero, suc, ◌+◌, ◌*◌, ◌-◌, ◌<◌, ◌≤◌, Bool, true, false, List, [], ◌∷◌, ◌++◌, length, length-append, Contains, All, AllPairs, get_or, take, inl, inr, refl, sym, ap, subst, ◌∙◌, arith}
 use Rattle.std.proofs.lemmas.Bool.{cases_order}
 use Rattle.std.proofs.lemmas.List.{get_or_append_left, get_or_default, get_or-append_right, get_or-take, length-take-le, take_all}
 use Rattle.std.proofs.lemmas.List.Elements.{All-append, All-cons, All-contains, All-take, All-weaker, Contains-append_left, Contains-get_or, Contains-push}
 use Rattle.std.proofs.lemmas.List.Quantifiers.{all_pairs_push}
+use Rattle.lin_events.specs.declared.items.Item.{Item}
 use Rattle.lin_events.specs.declared.calls.Call.{Call}
 use Rattle.lin_events.specs.declared.calls.Call.TheVariants.{Read}
 use Rattle.lin_events.specs.declared.calls.Name.{Name}
@@ -108,7 +109,7 @@ same_at xs all x y there here same = elim (cases_order there.0 here.0) [
 ]
 
 module _ {S : Type 0} (start : S) (step : S → Call → S → Reply → Type 0) (total : Call → Bool) (always : AreTotal start step total) (legal : PlacingIsLegal start step)
-    (functions : ℤ → Name → Bool) (h : List Event) (alternates : IsAlternating functions h) (pending : List Open) (opened : IsPending h pending)
+    (functions : Item → Name → Bool) (h : List Event) (alternates : IsAlternating functions h) (pending : List Open) (opened : IsPending h pending)
     (c : S × List (ℕ × Reply)) (config : IsConfiguration start step h c) (free : List Open) (picked : ArePicked (IsFree total c.1) pending free) where
   -- two open operations of one process are one
   same_process : (o p : Open) → Contains free o → Contains free p → o.process ≡ p.process → o.at ≡ p.at

@@ -1,8 +1,9 @@
 -- Placing each of some open operations or not: how many configurations there are at least.
-use Rattle.std.proofs.Common.{◌≡◌, ◌≢◌, ◌⊎◌, ℕ, ℤ, zero, suc, ◌+◌, ◌*◌, Bool, true, false, true≢false, List, [], ◌∷◌, ◌++◌, length, length-append, Contains, All, AllPairs, get_or, inl, inr, refl, sym, ap, subst, ◌∙◌, arith}
+use Rattle.std.proofs.Common.{◌≡◌, ◌≢◌, ◌⊎◌, ℕ, zero, suc, ◌+◌, ◌*◌, Bool, true, false, true≢false, List, [], ◌∷◌, ◌++◌, length, length-append, Contains, All, AllPairs, get_or, inl, inr, refl, sym, ap, subst, ◌∙◌, arith}
 use Rattle.std.proofs.lemmas.List.Elements.{All-append, Contains-append_right, All-cons, All-head, All-tail, All-contains, All-weaker}
 use Rattle.std.proofs.lemmas.List.Kept.{AllPairs-cons}
 use Rattle.std.proofs.Math.Nat.{mul_assoc, mul_left_comm, suc-mul}
+use Rattle.lin_events.specs.declared.items.Item.{Item}
 use Rattle.lin_events.specs.declared.calls.Call.{Call}
 use Rattle.lin_events.specs.declared.calls.Reply.{Reply}
 use Rattle.lin_events.specs.declared.events.Event.{Event}
@@ -33,7 +34,7 @@ module _ {S : Type 0} (start : S) (step : S → Call → S → Reply → Type 0)
     (tells : Type 0) (reads : Call) (read_total : tells → total reads ≡ true) (shows : Call → Reply → Bool) (has : S → Call → Bool) where
   -- the operation can be placed
   pub record Waits (c : S × List (ℕ × Reply)) (o : Open) : Type 0 where
-    pub key : ℤ
+    pub key : Item
     pub is_open : IsOpen h o.at o.process key o.call
     pub takes : total o.call ≡ true
     pub absent : (other : Reply) → Contains c.1 (o.process, other) → ⊥

@@ -1,6 +1,7 @@
 -- Each choice among what is on offer to a member, as a member with nothing on offer.
-use Rattle.std.proofs.Common.{◌≡◌, ◌≢◌, ℕ, ℤ, zero, suc, ◌≤◌, Bool, true, false, not, nat_eq, List, [], ◌∷◌, length, cond, filter, map, Contains, get_or, inl, refl, sym, subst, arith}
+use Rattle.std.proofs.Common.{◌≡◌, ◌≢◌, ℕ, zero, suc, ◌≤◌, Bool, true, false, not, nat_eq, List, [], ◌∷◌, length, cond, filter, map, Contains, get_or, inl, refl, sym, subst, arith}
 use Rattle.std.proofs.lemmas.List.Elements.{All-contains, Contains-get_or}
+use Rattle.lin_events.specs.declared.items.Item.{Item}
 use Rattle.lin_events.specs.declared.calls.Call.{Call}
 use Rattle.lin_events.specs.declared.calls.Name.{Name}
 use Rattle.lin_events.specs.declared.calls.Reply.{Reply}
@@ -41,7 +42,7 @@ shorter_first x xs = by (not (nat_eq x.1.0 x.1.0)) refl
     by true is = absurd (differs x.1.0 x.1.0 is refl)
     by false is = fewer_pass (λ (y : ℕ × (ℕ × Reply)). not (nat_eq y.1.0 x.1.0)) xs
 
-module _ {S : Type 0} (step : S → Call → S → Reply → Type 0) (observes : Call → Bool) (functions : ℤ → Name → Bool) (h : List Event) (pending : List Open) (opened : IsPending h pending) (unique : EndsAreUnique)
+module _ {S : Type 0} (step : S → Call → S → Reply → Type 0) (observes : Call → Bool) (functions : Item → Name → Bool) (h : List Event) (pending : List Open) (opened : IsPending h pending) (unique : EndsAreUnique)
     (alternates : IsAlternating functions h) (offers : List (ℕ × (ℕ × Reply))) (found : List (Member S × Path)) (worked : AreWorkedOff step observes pending offers false found)
     (rising : (n : Member S × Path) → Contains found n → IsRising n.0.placed) (open_to : (x : ℕ × (ℕ × Reply)) → Contains offers x → (o : Open) × Contains pending o × (o.process ≡ x.1.0)) where
   -- with fewer offers

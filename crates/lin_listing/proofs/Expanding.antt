@@ -1,9 +1,10 @@
 -- A list of members with nothing on offer that is its own work list: each is gone on from by taking offers and by placing open operations.
-use Rattle.std.proofs.Common.{◌≡◌, ◌≢◌, ◌⊎◌, ℕ, ℤ, zero, suc, ◌+◌, ◌<◌, ◌≤◌, Bool, true, false, true≢false, List, [], ◌∷◌, ◌++◌, length, length-append, Contains, All, AllPairs, get_or, take, map, inl, inr, refl, sym, ap, subst, ◌∙◌, append_assoc, arith, Option, Some, None}
+use Rattle.std.proofs.Common.{◌≡◌, ◌≢◌, ◌⊎◌, ℕ, zero, suc, ◌+◌, ◌<◌, ◌≤◌, Bool, true, false, true≢false, List, [], ◌∷◌, ◌++◌, length, length-append, Contains, All, AllPairs, get_or, take, map, inl, inr, refl, sym, ap, subst, ◌∙◌, append_assoc, arith, Option, Some, None}
 use Rattle.std.proofs.lemmas.List.{append-nil, get_or-map, get_or-take, get_or_append_left, length-map, length-take-le}
 use Rattle.std.proofs.lemmas.Bool.{cases_lt}
 use Rattle.std.proofs.lemmas.List.Elements.{All-append, All-contains, All-weaker, Contains-append_left, Contains-get_or, Contains-push, Contains-push_cases}
 use Rattle.std.proofs.lemmas.List.Quantifiers.{all_pairs_push}
+use Rattle.lin_events.specs.declared.items.Item.{Item}
 use Rattle.lin_events.specs.declared.calls.Call.{Call}
 use Rattle.lin_events.specs.declared.calls.Name.{Name}
 use Rattle.lin_events.specs.declared.calls.Reply.{Reply}
@@ -143,7 +144,7 @@ module _ {S : Type 0} (start : S) (step : S → Call → S → Reply → Type 0)
 
     -- what is taken in is spelled where what it came of is
     taken_in_extends : (spot : Option ℕ) → IsGrown first nodes
-        → ((functions : ℤ → Name → Bool) (h : List Event) → IsWellFormed functions h → IsPending h pending → IsSpelled start step observes h first m
+        → ((functions : Item → Name → Bool) (h : List Event) → IsWellFormed functions h → IsPending h pending → IsSpelled start step observes h first m
         → (next : Path) → Continues nodes path next p spot → IsSpelled start step observes h nodes (member_at d offers, next))
         → IsTakenIn observes pending d p spot path nodes old now → IsExtended start step observes pending offers first nodes old now
     taken_in_extends spot grown on t = record {
@@ -169,7 +170,7 @@ module _ {S : Type 0} (start : S) (step : S → Call → S → Reply → Type 0)
         → IsExtended start step observes pending offers first nodes old now
     taken_extends alternating law observing o o_there x offer same absent placed is grown t = taken_in_extends (Some x.0) grown on t
       where
-        on : (functions : ℤ → Name → Bool) (h : List Event) → IsWellFormed functions h → IsPending h pending → IsSpelled start step observes h first m
+        on : (functions : Item → Name → Bool) (h : List Event) → IsWellFormed functions h → IsPending h pending → IsSpelled start step observes h first m
             → (next : Path) → Continues nodes path next p (Some x.0) → IsSpelled start step observes h nodes (member_at d offers, next)
         on functions h well_formed opened s next continues =
             let opens = opened.sound o o_there in
@@ -194,7 +195,7 @@ module _ {S : Type 0} (start : S) (step : S → Call → S → Reply → Type 0)
         → IsExtended start step observes pending offers first nodes old now
     placed_extends law o o_there one grown t = taken_in_extends None grown on t
       where
-        on : (functions : ℤ → Name → Bool) (h : List Event) → IsWellFormed functions h → IsPending h pending → IsSpelled start step observes h first m
+        on : (functions : Item → Name → Bool) (h : List Event) → IsWellFormed functions h → IsPending h pending → IsSpelled start step observes h first m
             → (next : Path) → Continues nodes path next p None → IsSpelled start step observes h nodes (member_at d offers, next)
         on functions h well_formed opened s next continues =
             let opens = opened.sound o o_there in

@@ -1,6 +1,7 @@
 -- Members with nothing on offer, gathered from the choices of members one after the other, and what placing operations makes of them.
-use Rattle.std.proofs.Common.{◌≡◌, ℕ, ℤ, Bool, true, false, List, [], ◌∷◌, map, Contains, All, inl, inr, refl, sym, subst, arith, Option}
+use Rattle.std.proofs.Common.{◌≡◌, ℕ, Bool, true, false, List, [], ◌∷◌, map, Contains, All, inl, inr, refl, sym, subst, arith, Option}
 use Rattle.std.proofs.lemmas.List.Elements.{All-contains, All-weaker}
+use Rattle.lin_events.specs.declared.items.Item.{Item}
 use Rattle.lin_events.specs.declared.calls.Call.{Call}
 use Rattle.lin_events.specs.declared.calls.Name.{Name}
 use Rattle.lin_events.specs.declared.calls.Reply.{Reply}
@@ -46,7 +47,7 @@ module _ {S : Type 0} (start : S) (step : S → Call → S → Reply → Type 0)
   }
 
   -- members of which each choice of each member is held are complete where those are
-  pub gathered_complete : EndsAreUnique → (functions : ℤ → Name → Bool) (h : List Event) → IsAlternating functions h → IsPending h pending → (first : List (ℕ × (Placed × Option ℕ))) (members all : List (Member S × Path))
+  pub gathered_complete : EndsAreUnique → (functions : Item → Name → Bool) (h : List Event) → IsAlternating functions h → IsPending h pending → (first : List (ℕ × (Placed × Option ℕ))) (members all : List (Member S × Path))
       → ((m : Member S × Path) → Contains members m → IsSpelled start step observes h first m)
       → ((m : Member S × Path) → Contains members m → (found : List (Member S × Path)) × Contains found (with_offers [] m) × AreWorkedOff step observes pending m.0.offers false found
       × ((n : Member S × Path) → Contains found n → (nodes : List (ℕ × (Placed × Option ℕ))) × IsSpelled start step observes h nodes (with_offers m.0.offers n)) × ((n : Member S × Path) → Contains found n → IsHeld observes pending all (config_of n)))
@@ -69,7 +70,7 @@ module _ {S : Type 0} (start : S) (step : S → Call → S → Reply → Type 0)
       (n.0, in_map (λ (k : Member S × Path). k.0) all n held.1, covers_on step observes h h (passes_itself observes h) (member_at (config_of k.0) []) n.0 over d found.exchanged.rising k.2)
 
   -- members with nothing on offer that are closed under placing cover all configurations themselves, where those among them are complete
-  pub closed_listing : ListingLaw start step → IsObserving step observes → EndsAreUnique → WellFormedIsAlternating → (functions : ℤ → Name → Bool) (h : List Event) → IsWellFormed functions h → IsPending h pending
+  pub closed_listing : ListingLaw start step → IsObserving step observes → EndsAreUnique → WellFormedIsAlternating → (functions : Item → Name → Bool) (h : List Event) → IsWellFormed functions h → IsPending h pending
       → (nodes : List (ℕ × (Placed × Option ℕ))) (all out : List (Member S × Path)) → ((n : Member S × Path) → Contains all n → Contains out n) → AreWorkedOff step observes pending [] true out
       → All (λ n. n.0.offers ≡ []) out → ((n : Member S × Path) → Contains out n → IsSpelled start step observes h nodes n)
       → IsComplete start step observes h (map (λ m. m.0) all) → IsListingOf start step observes h out nodes
@@ -106,7 +107,7 @@ module _ {S : Type 0} (start : S) (step : S → Call → S → Reply → Type 0)
   -- the choices of the member are held
   abbrev pub AreChosen : List (ℕ × (Placed × Option ℕ)) → List (Member S × Path) → Member S × Path → Type 0
   AreChosen first all m = (found : List (Member S × Path)) × Contains found (with_offers [] m) × AreWorkedOff step observes pending m.0.offers false found
-      × ((functions : ℤ → Name → Bool) (h : List Event) → IsWellFormed functions h → IsPending h pending → IsSpelled start step observes h first m
+      × ((functions : Item → Name → Bool) (h : List Event) → IsWellFormed functions h → IsPending h pending → IsSpelled start step observes h first m
       → (n : Member S × Path) → Contains found n → (nodes : List (ℕ × (Placed × Option ℕ))) × IsSpelled start step observes h nodes (with_offers m.0.offers n))
       × ((n : Member S × Path) → Contains found n → IsHeld observes pending all (config_of n))
 
@@ -115,7 +116,7 @@ module _ {S : Type 0} (start : S) (step : S → Call → S → Reply → Type 0)
     pub nodes_grown : IsGrown first nodes
     pub bare : All (λ m. m.0.offers ≡ []) all
     pub different : AreDifferent all
-    pub spelled : (functions : ℤ → Name → Bool) (h : List Event) → IsWellFormed functions h → IsPending h pending → ((m : Member S × Path) → Contains members m → IsSpelled start step observes h first m)
+    pub spelled : (functions : Item → Name → Bool) (h : List Event) → IsWellFormed functions h → IsPending h pending → ((m : Member S × Path) → Contains members m → IsSpelled start step observes h first m)
         → All (λ n. IsSpelled start step observes h nodes (with_offers [] n)) all
     pub chosen : All (AreChosen first all) firsts
 
@@ -131,7 +132,7 @@ module _ {S : Type 0} (start : S) (step : S → Call → S → Reply → Type 0)
   module _ (first mid after : List (ℕ × (Placed × Option ℕ))) (members firsts all then' found : List (Member S × Path)) (m : Member S × Path) (m_there : Contains members m)
       (e : IsExtended start step observes pending m.0.offers mid after (with_offers [] m ∷ []) found) (w : AreWorkedOff step observes pending m.0.offers false found) (g : IsMerged observes pending found all then')
       (h : IsGathering first mid members firsts all) where
-    ways : (functions : ℤ → Name → Bool) (h' : List Event) → IsWellFormed functions h' → IsPending h' pending → IsSpelled start step observes h' first m → All (λ n. IsSpelled start step observes h' after (with_offers m.0.offers n)) found
+    ways : (functions : Item → Name → Bool) (h' : List Event) → IsWellFormed functions h' → IsPending h' pending → IsSpelled start step observes h' first m → All (λ n. IsSpelled start step observes h' after (with_offers m.0.offers n)) found
     ways functions h' well_formed opened s = e.spelled functions h' well_formed opened (alone_spelled start step observes h' mid m (with_offers [] m ∷ []) refl (spelled_stays start step observes h' first mid m h.nodes_grown s))
 
     still : (k : Member S × Path) → AreChosen first all k → AreChosen first then' k
@@ -168,7 +169,7 @@ module _ {S : Type 0} (start : S) (step : S → Call → S → Reply → Type 0)
 
   -- all that was gathered, closed under placing
   pub gathered_listing : ListingLaw start step → IsObserving step observes → EndsAreUnique → WellFormedIsAlternating → (first nodes after : List (ℕ × (Placed × Option ℕ))) (members all out : List (Member S × Path))
-      → IsGathering first nodes members members all → IsExtended start step observes pending [] nodes after all out → AreWorkedOff step observes pending [] true out → (functions : ℤ → Name → Bool) (h : List Event)
+      → IsGathering first nodes members members all → IsExtended start step observes pending [] nodes after all out → AreWorkedOff step observes pending [] true out → (functions : Item → Name → Bool) (h : List Event)
       → IsWellFormed functions h → IsPending h pending → IsCovering start step observes false h members first → IsListingOf start step observes h out after
   gathered_listing law observing unique alternating first nodes after members all out g e w functions h well_formed opened covering =
       let s = g.spelled functions h well_formed opened covering.spelled in

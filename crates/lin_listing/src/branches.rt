@@ -1,5 +1,6 @@
 //! How many configurations there are at least, told without making any: each of some open operations can be placed or not.
-ghost use Rattle.std.specs.Prelude.{◌≡◌, ◌≢◌, ◌<◌, ℕ, ℤ, true, false, AllPairs, All, Contains, IsTrue, ◌↔◌, Bool, List, Option, IfOk, IfSome};
+ghost use Rattle.std.specs.Prelude.{◌≡◌, ◌≢◌, ◌<◌, ℕ, true, false, AllPairs, All, Contains, IsTrue, ◌↔◌, Bool, List, Option, IfOk, IfSome};
+ghost use Rattle.lin_events.specs.declared.items.Item.{Item as ItemOf};
 ghost use Rattle.lin_events.specs.declared.calls.Name.{Name as NameOf};
 ghost use Rattle.lin_events.specs.declared.events.Event.{Event as EventOf};
 ghost use Rattle.lin_events.specs.WellFormed.{IsWellFormed};
@@ -145,7 +146,7 @@ pub fn are_surely_more<O: SeqObject>(
     member: &Member<O::State>,
     budget: usize,
 ) -> Result<bool, OutOfMemory>
-    ensures { IfOk result (λ more. more ≡ true → (functions : ℤ → NameOf → Bool) (h : List EventOf) (nodes : List (ℕ × (PlacedOf × Option ℕ))) → IsWellFormed functions h → IsPending h pending.now
+    ensures { IfOk result (λ more. more ≡ true → (functions : ItemOf → NameOf → Bool) (h : List EventOf) (nodes : List (ℕ × (PlacedOf × Option ℕ))) → IsWellFormed functions h → IsPending h pending.now
         → IsSpelled (O.starts object.now) (O.step object.now) (O.observing object.now) h nodes member.now → IsOver (O.starts object.now) (O.step object.now) h budget) }
 {
     well_formed_is_alternating();

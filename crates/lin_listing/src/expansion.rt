@@ -1,5 +1,6 @@
 //! All configurations that members lead to, each as a member of its own with nothing on offer.
-ghost use Rattle.std.specs.Prelude.{◌≡◌, ◌≤◌, ◌*◌, ◌+◌, ◌∷◌, ◌++◌, [], ℕ, ℤ, true, All, Bool, Contains, List, length, IfOk, IfSome, IfNone, OnOk};
+ghost use Rattle.std.specs.Prelude.{◌≡◌, ◌≤◌, ◌*◌, ◌+◌, ◌∷◌, ◌++◌, [], ℕ, true, All, Bool, Contains, List, length, IfOk, IfSome, IfNone, OnOk};
+ghost use Rattle.lin_events.specs.declared.items.Item.{Item as ItemOf};
 ghost use Rattle.lin_events.specs.declared.calls.Name.{Name as NameOf};
 ghost use Rattle.lin_events.specs.declared.calls.Reply.{Reply as ReplyOf};
 ghost use Rattle.lin_events.specs.declared.events.Event.{Event as EventOf};
@@ -201,7 +202,7 @@ impl<'a, O: SeqObject> Expansion<'a, O> {
         ensures extended { IfOk result (λ found. IfSome found (λ out. IsExtended (O.starts self.now.object.now) (O.step self.now.object.now) (O.observing self.now.object.now) self.now.pending.now self.now.offers.now nodes.old nodes.new starts out)) }
         ensures worked_off { IfOk result (λ found. IfSome found (λ out. AreWorkedOff (O.step self.now.object.now) (O.observing self.now.object.now) self.now.pending.now self.now.offers.now self.now.places out)) }
         ensures small { IfOk result (λ found. IfSome found (λ out. length out ≤ budget)) }
-        ensures over { IfOk result (λ found. IfNone found ((functions : ℤ → NameOf → Bool) (h : List EventOf) → IsWellFormed functions h → IsPending h self.now.pending.now
+        ensures over { IfOk result (λ found. IfNone found ((functions : ItemOf → NameOf → Bool) (h : List EventOf) → IsWellFormed functions h → IsPending h self.now.pending.now
             → All (λ m. IsSpelled (O.starts self.now.object.now) (O.step self.now.object.now) (O.observing self.now.object.now) h nodes.old (with_offers self.now.offers.now m)) starts
             → AreDifferent starts → IsOver (O.starts self.now.object.now) (O.step self.now.object.now) h budget)) }
         ensures tried { IsTriedAtMost (budget * placing_tries self.now.places self.now.pending.now) meter.old meter.new }

@@ -1,5 +1,6 @@
 //! All configurations that members lead to, each as a member of its own with nothing on offer.
-ghost use Rattle.std.specs.Prelude.{◌≡◌, ◌≤◌, ◌*◌, ◌∷◌, [], ℤ, length, false, All, Bool, Contains, List, IfOk, IfSome, IfNone, OnOk};
+ghost use Rattle.std.specs.Prelude.{◌≡◌, ◌≤◌, ◌*◌, ◌∷◌, [], length, false, All, Bool, Contains, List, IfOk, IfSome, IfNone, OnOk};
+ghost use Rattle.lin_events.specs.declared.items.Item.{Item as ItemOf};
 ghost use Rattle.lin_events.specs.declared.calls.Name.{Name as NameOf};
 ghost use Rattle.lin_events.specs.declared.events.Event.{Event as EventOf};
 ghost use Rattle.lin_events.specs.WellFormed.{IsWellFormed};
@@ -49,7 +50,7 @@ fn spread<O: SeqObject>(
     ensures grown { IsGrown nodes.old nodes.new }
     ensures extended { IfOk result (λ found. IfSome found (λ out. IsExtended (O.starts object.now) (O.step object.now) (O.observing object.now) pending.now member.now.0.offers nodes.old nodes.new (with_offers [] member.now ∷ []) out)) }
     ensures worked_off { IfOk result (λ found. IfSome found (λ out. AreWorkedOff (O.step object.now) (O.observing object.now) pending.now member.now.0.offers false out)) }
-    ensures over { IfOk result (λ found. IfNone found ((functions : ℤ → NameOf → Bool) (h : List EventOf) → IsWellFormed functions h → IsPending h pending.now
+    ensures over { IfOk result (λ found. IfNone found ((functions : ItemOf → NameOf → Bool) (h : List EventOf) → IsWellFormed functions h → IsPending h pending.now
         → IsSpelled (O.starts object.now) (O.step object.now) (O.observing object.now) h nodes.old member.now → IsOver (O.starts object.now) (O.step object.now) h budget)) }
     ensures tried { IsTriedAtMost 0 meter.old meter.new }
 {
@@ -97,13 +98,13 @@ pub fn listed<O: SeqObject>(
     meter: &mut Meter,
 ) -> Result<Option<Gathered<O>>, OutOfMemory>
     ensures grown { IsGrown nodes.old nodes.new }
-    ensures listing { IfOk result (λ found. IfSome found (λ out. (functions : ℤ → NameOf → Bool) (h : List EventOf) → IsWellFormed functions h → IsPending h pending.now
+    ensures listing { IfOk result (λ found. IfSome found (λ out. (functions : ItemOf → NameOf → Bool) (h : List EventOf) → IsWellFormed functions h → IsPending h pending.now
         → IsCovering (O.starts object.now) (O.step object.now) (O.observing object.now) false h members.now nodes.old
         → IsListingOf (O.starts object.now) (O.step object.now) (O.observing object.now) h out nodes.new)) }
     ensures bare { IfOk result (λ found. IfSome found (λ out. All (λ m. m.0.offers ≡ []) out)) }
     ensures different { IfOk result (λ found. IfSome found (λ out. AreDifferent out)) }
     ensures small { IfOk result (λ found. IfSome found (λ out. length out ≤ budget)) }
-    ensures over { IfOk result (λ found. IfNone found ((functions : ℤ → NameOf → Bool) (h : List EventOf) → IsWellFormed functions h → IsPending h pending.now
+    ensures over { IfOk result (λ found. IfNone found ((functions : ItemOf → NameOf → Bool) (h : List EventOf) → IsWellFormed functions h → IsPending h pending.now
         → ((m : MemberOf O.State × PathOf) → Contains members.now m → IsSpelled (O.starts object.now) (O.step object.now) (O.observing object.now) h nodes.old m)
         → IsOver (O.starts object.now) (O.step object.now) h budget)) }
     ensures tried { IsTriedAtMost (budget * length pending.now) meter.old meter.new }

@@ -1,6 +1,7 @@
 -- After the ok of an observer, of members that stand also for what overwritten updates did: what gives the reply is placed, or one that is like it.
-use Rattle.std.proofs.Common.{◌≡◌, ◌≢◌, ℕ, ℤ, Bool, true, false, List, length, Contains, ◌⊎◌, inl, inr, refl, sym, ap, subst, ◌∙◌, true≢false}
+use Rattle.std.proofs.Common.{◌≡◌, ◌≢◌, ℕ, Bool, true, false, List, length, Contains, ◌⊎◌, inl, inr, refl, sym, ap, subst, ◌∙◌, true≢false}
 use Rattle.std.proofs.lemmas.Bool.{cases_eq}
+use Rattle.lin_events.specs.declared.items.Item.{Item}
 use Rattle.lin_events.specs.declared.calls.Call.{Call}
 use Rattle.lin_events.specs.declared.calls.Name.{Name}
 use Rattle.lin_events.specs.declared.calls.Reply.{Reply}
@@ -36,7 +37,7 @@ pub record HasLike (h : List Event) (old : List (ℕ × Reply)) (x y : ℕ × Re
   pub others_from : (v : ℕ × Reply) → Contains placed v → v.0 ≢ y.0 → Contains old v
 
 -- an update that is placed, and one like it that isn't among these
-module _ {S : Type 0} {start : S} (step : S → Call → S → Reply → Type 0) (observes : Call → Bool) (over : IsOverwriting start step observes) (functions : ℤ → Name → Bool) (h : List Event) (alternates : IsAlternating functions h)
+module _ {S : Type 0} {start : S} (step : S → Call → S → Reply → Type 0) (observes : Call → Bool) (over : IsOverwriting start step observes) (functions : Item → Name → Bool) (h : List Event) (alternates : IsAlternating functions h)
     (until : ℕ) (x y : ℕ × Reply) (next : S) (early : IsEarlyUpdate step observes h until x next) (like : IsLike h x y) where
   -- updates of its process come to the same
   pub like_outcome : (v : ℕ × Reply) (last : S) → IsEarlyUpdate step observes h until v last → v.0 ≡ y.0 → (last ≡ next) × (v.1 ≡ x.1)
@@ -93,9 +94,9 @@ module _ {S : Type 0} {start : S} (step : S → Call → S → Reply → Type 0)
       ]
     ]
 
-module _ {S : Type 0} (start : S) (step : S → Call → S → Reply → Type 0) (observes : Call → Bool) (unique : EndsAreUnique) (functions : ℤ → Name → Bool) (h : List Event) (event : Event)
+module _ {S : Type 0} (start : S) (step : S → Call → S → Reply → Type 0) (observes : Call → Bool) (unique : EndsAreUnique) (functions : Item → Name → Bool) (h : List Event) (event : Event)
     (name : Name) (reply : Reply) (body : event.body ≡ Ok name reply) (alternates : IsAlternating functions (with_event h event)) (members others : List (Member S × Path))
-    (over : IsOverwriting start step observes) (reached : AreReached start step members) (observer : (at : ℕ) (key : ℤ) (call : Call) → IsOpen h at event.process key call → observes call ≡ true) where
+    (over : IsOverwriting start step observes) (reached : AreReached start step members) (observer : (at : ℕ) (key : Item) (call : Call) → IsOpen h at event.process key call → observes call ≡ true) where
   abbrev g : List Event
   g = with_event h event
 
@@ -107,7 +108,7 @@ module _ {S : Type 0} (start : S) (step : S → Call → S → Reply → Type 0)
     first_placed = found.member.0.placed
 
     -- no update is of the process
-    no_update : {A : Type 0} (at : ℕ) (key : ℤ) (call : Call) → IsOpen h at event.process key call → observes call ≡ false → A
+    no_update : {A : Type 0} (at : ℕ) (key : Item) (call : Call) → IsOpen h at event.process key call → observes call ≡ false → A
     no_update at key call is_open no' = absurd (true≢false (sym (observer at key call is_open) ∙ no'))
 
     -- at a point where an update is placed that gives the reply, one that is like it is placed too

@@ -1,5 +1,6 @@
 -- Rounds with an early update ahead of the last one, which overwrites it.
-use Rattle.std.proofs.Common.{◌≡◌, ◌⊎◌, ℕ, ℤ, suc, ◌<◌, ◌≤◌, Bool, List, [], ◌∷◌, ◌++◌, length, length-append, append_assoc, Contains, inl, inr, refl, sym, ap, subst, ◌∙◌, arith, Some, slice_get}
+use Rattle.std.proofs.Common.{◌≡◌, ◌⊎◌, ℕ, suc, ◌<◌, ◌≤◌, Bool, List, [], ◌∷◌, ◌++◌, length, length-append, append_assoc, Contains, inl, inr, refl, sym, ap, subst, ◌∙◌, arith, Some, slice_get}
+use Rattle.lin_events.specs.declared.items.Item.{Item}
 use Rattle.lin_events.specs.declared.calls.Call.{Call}
 use Rattle.lin_events.specs.declared.calls.Name.{Name}
 use Rattle.lin_events.specs.declared.calls.Reply.{Reply}
@@ -67,8 +68,8 @@ steps_ahead start step observes overwriting h until rounds by p process next u s
     reached : Reaches step start next
     reached = runs_reach step h (joined by.front ++ p ∷ []) start next (runs_push step h start k.middle next (joined by.front) p u.call middle_run (process, u.key, is_open.begins) steps)
 
-module _ {S : Type 0} (start : S) (step : S → Call → S → Reply → Type 0) (observes : Call → Bool) (functions : ℤ → Name → Bool) (h : List Event) (until : ℕ) (rounds : List (List Placed)) (by : IsOverwrittenBy observes h until rounds)
-    (p : Placed) (process : ℕ) (key : ℤ) (call : Call) (is_open : IsOpen h p.at process key call) (early : p.at < until) where
+module _ {S : Type 0} (start : S) (step : S → Call → S → Reply → Type 0) (observes : Call → Bool) (functions : Item → Name → Bool) (h : List Event) (until : ℕ) (rounds : List (List Placed)) (by : IsOverwrittenBy observes h until rounds)
+    (p : Placed) (process : ℕ) (key : Item) (call : Call) (is_open : IsOpen h p.at process key call) (early : p.at < until) where
   abbrev last : List Placed
   last = by.first ∷ by.rest
 

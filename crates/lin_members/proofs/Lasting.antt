@@ -1,6 +1,7 @@
 -- Placing, and the events that keep all members: invocation, info, fail.
-use Rattle.std.proofs.Common.{◌≡◌, ℕ, ℤ, Bool, true, false, List, Contains, inl, inr, refl, sym, ap, subst}
+use Rattle.std.proofs.Common.{◌≡◌, ℕ, Bool, true, false, List, Contains, inl, inr, refl, sym, ap, subst}
 use Rattle.std.proofs.lemmas.Bool.{cases_Bool}
+use Rattle.lin_events.specs.declared.items.Item.{Item}
 use Rattle.lin_events.specs.declared.calls.Call.{Call}
 use Rattle.lin_events.specs.declared.calls.Name.{Name}
 use Rattle.lin_events.specs.declared.calls.Reply.{Reply}
@@ -22,7 +23,7 @@ use Rattle.lin_members.specs.lemmas.Dominating.{dominates_itself, covers_on, cov
 use Rattle.lin_members.specs.lemmas.Crashes.{crash_before, crash_or, fail_no_info, invoke_no_info, never_crashed, passes_invoke, passes_info, passes_fail}
 use Rattle.lin_members.specs.lemmas.Exchanging.{exchange_on, exchanged_on, exchanged_placed_on, fixed_from}
 
-module _ {S : Type 0} (step : S → Call → S → Reply → Type 0) (observes : Call → Bool) (observing : IsObserving step observes) (functions : ℤ → Name → Bool)
+module _ {S : Type 0} (step : S → Call → S → Reply → Type 0) (observes : Call → Bool) (observing : IsObserving step observes) (functions : Item → Name → Bool)
     (h : List Event) (alternates : IsAlternating functions h) where
   place_observer : (b : S × List (ℕ × Reply)) (offers : ℕ × Reply → Type 0) (c d : S × List (ℕ × Reply)) (p : Placed) → Meets step observes h b offers c.0 c.1 → (u : IsPlacing step h c p d)
       → observes u.call ≡ true → Meets step observes h b offers d.0 d.1

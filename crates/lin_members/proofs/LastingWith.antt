@@ -1,5 +1,6 @@
 -- The events that keep all members, also with overwritten updates: invocation, info, fail.
-use Rattle.std.proofs.Common.{◌≡◌, ℕ, ℤ, Bool, List, Contains, refl, sym, subst, arith}
+use Rattle.std.proofs.Common.{◌≡◌, ℕ, Bool, List, Contains, refl, sym, subst, arith}
+use Rattle.lin_events.specs.declared.items.Item.{Item}
 use Rattle.lin_events.specs.declared.calls.Call.{Call}
 use Rattle.lin_events.specs.declared.calls.Name.{Name}
 use Rattle.lin_events.specs.declared.calls.Reply.{Reply}
@@ -24,7 +25,7 @@ use Rattle.lin_members.proofs.Lasting.{placed_on_meets}
 use Rattle.lin_members.specs.lemmas.Ways.{way_kept}
 
 -- what operations placed on a covered configuration come to is covered
-pub covered_placed_on : {S : Type 0} (step : S → Call → S → Reply → Type 0) (observes : Call → Bool) → IsObserving step observes → (functions : ℤ → Name → Bool) (h : List Event) → IsAlternating functions h
+pub covered_placed_on : {S : Type 0} (step : S → Call → S → Reply → Type 0) (observes : Call → Bool) → IsObserving step observes → (functions : Item → Name → Bool) (h : List Event) → IsAlternating functions h
     → (members : List (Member S × Path)) (b c : S × List (ℕ × Reply)) {order : List Placed} → IsCoveredWith step observes h members b → IsPlacedOn step h b order c → IsCoveredWith step observes h members c
 covered_placed_on {S} step observes observing functions h alternates members b c found placings =
     let m = found.member in

@@ -1,6 +1,7 @@
 -- Members that have nothing on offer and are closed under placing: they cover each configuration themselves.
-use Rattle.std.proofs.Common.{◌≡◌, ℕ, ℤ, ◌<◌, Bool, true, List, [], ◌∷◌, Contains, ◌⊎◌, inl, inr, refl, sym, ap, subst, ◌∙◌, arith, true≢false}
+use Rattle.std.proofs.Common.{◌≡◌, ℕ, ◌<◌, Bool, true, List, [], ◌∷◌, Contains, ◌⊎◌, inl, inr, refl, sym, ap, subst, ◌∙◌, arith, true≢false}
 use Rattle.std.proofs.lemmas.List.Elements.{Contains-append_right}
+use Rattle.lin_events.specs.declared.items.Item.{Item}
 use Rattle.lin_events.specs.declared.calls.Call.{Call}
 use Rattle.lin_events.specs.declared.calls.Name.{Name}
 use Rattle.lin_events.specs.declared.calls.Reply.{Reply}
@@ -31,7 +32,7 @@ through h b c d first second = covers_from (HasCrashed h) b d (first.state ∙ s
       | inr crashed ↦ inr crashed
     ])
 
-module _ {S : Type 0} (step : S → Call → S → Reply → Type 0) (observes : Call → Bool) (observing : IsObserving step observes) (functions : ℤ → Name → Bool) (h : List Event) (alternates : IsAlternating functions h)
+module _ {S : Type 0} (step : S → Call → S → Reply → Type 0) (observes : Call → Bool) (observing : IsObserving step observes) (functions : Item → Name → Bool) (h : List Event) (alternates : IsAlternating functions h)
     (members : List (Member S)) (sorted : (m : Member S) → Contains members m → IsRising m.placed) (none_offered : (m : Member S) (x : ℕ × Reply) → Contains members m → IsOnOffer m x → ⊥)
     (closed : (m : Member S) (p : Placed) (d : S × List (ℕ × Reply)) → Contains members m → IsPlacing step h (m.state, m.placed) p d → IsListed h members d) where
   -- placing stays among what is covered

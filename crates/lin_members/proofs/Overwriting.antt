@@ -1,6 +1,7 @@
 -- After an ok, of members that stand also for what overwritten updates did: how a way goes on from members that are held, and the ok of an update.
-use Rattle.std.proofs.Common.{◌≡◌, ℕ, ℤ, Bool, false, List, length, Contains, ◌⊎◌, inl, inr, sym, ap, subst, ◌∙◌, true≢false}
+use Rattle.std.proofs.Common.{◌≡◌, ℕ, Bool, false, List, length, Contains, ◌⊎◌, inl, inr, sym, ap, subst, ◌∙◌, true≢false}
 use Rattle.std.proofs.lemmas.Bool.{cases_eq}
+use Rattle.lin_events.specs.declared.items.Item.{Item}
 use Rattle.lin_events.specs.declared.calls.Call.{Call}
 use Rattle.lin_events.specs.declared.calls.Name.{Name}
 use Rattle.lin_events.specs.declared.calls.Reply.{Reply}
@@ -39,7 +40,7 @@ pub record GoesOn {S : Type 0} (step : S → Call → S → Reply → Type 0) (o
   pub each : (x : ℕ × Reply) → Contains kept x → Contains base x ⊎ ((next : S) × IsEarlyUpdate step observes h until x next)
   pub offered : (x : ℕ × Reply) → offers' x → (offers x ⊎ GivesEarly step observes h until kept base x) ⊎ IsGiven step h s x
 
-module _ {S : Type 0} (start : S) (step : S → Call → S → Reply → Type 0) (observes : Call → Bool) (unique : EndsAreUnique) (functions : ℤ → Name → Bool) (h : List Event) (event : Event)
+module _ {S : Type 0} (start : S) (step : S → Call → S → Reply → Type 0) (observes : Call → Bool) (unique : EndsAreUnique) (functions : Item → Name → Bool) (h : List Event) (event : Event)
     (name : Name) (reply : Reply) (body : event.body ≡ Ok name reply) (alternates : IsAlternating functions (with_event h event)) (members others : List (Member S × Path)) where
   abbrev g : List Event
   g = with_event h event
@@ -48,7 +49,7 @@ module _ {S : Type 0} (start : S) (step : S → Call → S → Reply → Type 0)
     -- a way, exchanged, goes on from a point that is held
     pub go_on : (e : Exchange h) (placed : List (ℕ × Reply)) → IsExchanged e found.placed placed → (s : S) (old kept base : List (ℕ × Reply)) (offers' offers : ℕ × Reply → Type 0) (until : ℕ)
         → IsHeldUntil observes g others s base offers until → GoesOn step observes h event.process s old kept base offers' offers until → Meets step observes h (s, old) offers' c.0 placed
-        → ((at : ℕ) (key : ℤ) (call : Call) → IsOpen h at event.process key call → observes call ≡ false → ((r : Reply) → Contains old (event.process, r) → ⊥) → ⊥)
+        → ((at : ℕ) (key : Item) (call : Call) → IsOpen h at event.process key call → observes call ≡ false → ((r : Reply) → Contains old (event.process, r) → ⊥) → ⊥)
         → IsCoveredWith step observes g others c
     go_on e placed exchanged s old kept base offers' offers until held goes is never =
         let now = exchanged_then start step observes unique functions h event name reply body alternates found.exchange e c.1 all found.placed placed found.exchanged exchanged was in
@@ -78,7 +79,7 @@ module _ {S : Type 0} (start : S) (step : S → Call → S → Reply → Type 0)
     -- without more exchanges
     pub go_on_so : (s : S) (old kept base : List (ℕ × Reply)) (offers' offers : ℕ × Reply → Type 0) (until : ℕ)
         → IsHeldUntil observes g others s base offers until → GoesOn step observes h event.process s old kept base offers' offers until → Meets step observes h (s, old) offers' c.0 found.placed
-        → ((at : ℕ) (key : ℤ) (call : Call) → IsOpen h at event.process key call → observes call ≡ false → ((r : Reply) → Contains old (event.process, r) → ⊥) → ⊥)
+        → ((at : ℕ) (key : Item) (call : Call) → IsOpen h at event.process key call → observes call ≡ false → ((r : Reply) → Contains old (event.process, r) → ⊥) → ⊥)
         → IsCoveredWith step observes g others c
     go_on_so = go_on (no_exchange h) found.placed (exchanged_itself h found.placed found.exchanged.rising)
 
@@ -141,11 +142,11 @@ module _ {S : Type 0} (start : S) (step : S → Call → S → Reply → Type 0)
             }) found.meets (λ at key call is_open no' absent. absent reply there)
 
   -- of members that didn't place the operation
-  module _ (over : IsOverwriting start step observes) (reached : AreReached start step members) (update : (at : ℕ) (key : ℤ) (call : Call) → IsOpen h at event.process key call → observes call ≡ false)
+  module _ (over : IsOverwriting start step observes) (reached : AreReached start step members) (update : (at : ℕ) (key : Item) (call : Call) → IsOpen h at event.process key call → observes call ≡ false)
       (taken : (m : Member S × Path) → Contains members m → IsTakenWith observes g event.process reply others m)
       (ahead : (m : Member S × Path) → Contains members m → ((other : Reply) → Contains m.0.placed (event.process, other) → ⊥) → (next : S) → IsEarlyUpdate step observes h m.1.until (event.process, reply) next
       → IsHeldUntil observes g others m.0.state m.0.placed (λ x. IsOnOffer m.0 x ⊎ IsEarlyGiven step h m.1.until next x) m.1.until)
-      (last : (m : Member S × Path) → Contains members m → ((other : Reply) → Contains m.0.placed (event.process, other) → ⊥) → (at : ℕ) (key : ℤ) (call : Call) (next : S) → IsOpen h at event.process key call
+      (last : (m : Member S × Path) → Contains members m → ((other : Reply) → Contains m.0.placed (event.process, other) → ⊥) → (at : ℕ) (key : Item) (call : Call) (next : S) → IsOpen h at event.process key call
       → step m.0.state call next reply → IsHeldUntil observes g others next m.0.placed (λ x. IsOnOffer m.0 x ⊎ IsGiven step h m.0.state x) (length h)) where
     now : IsAlternating functions h
     now = earlier start step observes unique functions h event name reply body alternates

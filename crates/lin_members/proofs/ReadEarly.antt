@@ -1,5 +1,7 @@
 -- A write and a read at once: the read of the value from before the write.
-use Rattle.std.proofs.Common.{◌≡◌, ℕ, ℤ, zero, suc, ◌<◌, true, List, [], ◌∷◌, pos, Contains, inl, inr, refl, sym, ap, subst, ◌∙◌, arith, Some}
+use Rattle.std.proofs.Common.{◌≡◌, ℕ, zero, suc, ◌<◌, true, List, [], ◌∷◌, pos, Contains, inl, inr, refl, sym, ap, subst, ◌∙◌, arith, Some}
+use Rattle.lin_events.specs.declared.items.Item.{Item}
+use Rattle.lin_events.specs.declared.items.Item.TheVariants.{Int}
 use Rattle.lin_events.specs.declared.calls.Call.{Call}
 use Rattle.lin_events.specs.declared.calls.Call.TheVariants.{Read, Write}
 use Rattle.lin_events.specs.declared.calls.Name.TheVariants as Named
@@ -55,7 +57,7 @@ module _ (v : Val) where
       some_same p = cc
   only_calls (suc (suc k)) e is = cc
 
-  all_open : (at process : ℕ) (key : ℤ) (call : Call) → IsOperation (both v) at process key call → IsOpen (both v) at process key call
+  all_open : (at process : ℕ) (key : Item) (call : Call) → IsOperation (both v) at process key call → IsOpen (both v) at process key call
   all_open at process key call is = record {
     begins = is;
     no_ok = λ end reply ok. let body = sym (only_calls end ok.0 ok.1.ends).1 ∙ ok.3 in cc;
@@ -67,18 +69,18 @@ module _ (v : Val) where
 
   -- the read watches, and the start gives it nil
   watching : IsWatching (observes Register) (both v) 1
-  watching = record { at = 1; key = pos 0; call = Read; is_open = all_open 1 1 (pos 0) Read refl; observer = refl; alive = none_crashed 1 }
+  watching = record { at = 1; key = Int (pos 0); call = Read; is_open = all_open 1 1 (Int (pos 0)) Read refl; observer = refl; alive = none_crashed 1 }
 
   given : IsGiven (Step Register) (both v) (Value Nil) (1, Replied.Value Nil)
-  given = record { at = 1; key = pos 0; call = Read; next = Value Nil; is_open = all_open 1 1 (pos 0) Read refl; steps = (refl, refl) }
+  given = record { at = 1; key = Int (pos 0); call = Read; next = Value Nil; is_open = all_open 1 1 (Int (pos 0)) Read refl; steps = (refl, refl) }
 
   -- the write can be placed
   abbrev placing : IsPlacing (Step Register) (both v) (Value Nil, []) write (Value v, (0, Replied.Done) ∷ [])
   placing = record {
     process = 0;
-    key = pos 0;
+    key = Int (pos 0);
     call = Write v;
-    is_open = all_open 0 0 (pos 0) (Write v) refl;
+    is_open = all_open 0 0 (Int (pos 0)) (Write v) refl;
     steps = (refl, refl);
     added = record {
       absent = λ other there. nothing_in (0, other) there;
@@ -146,9 +148,9 @@ module _ (v : Val) where
           (invoked (observes Register) (observers_keep Register) of_registers [] (event 0 (Invoke (Write v))) (Write v) refl one_formed (first_member (start Register) ∷ []) (at_start (observes Register)))),
     )
       where
-        observed : (at : ℕ) (key : ℤ) (call : Call) → IsOperation (both v) at 1 key call → observes Register call ≡ true
-        observed zero key call is = let same = one_caller (both v) 0 0 1 (pos 0) key (Write v) call refl is in absurd (omega arith)
-        observed (suc zero) key call is = ap (observes Register) (one_call (both v) 1 1 1 key (pos 0) call Read is refl)
+        observed : (at : ℕ) (key : Item) (call : Call) → IsOperation (both v) at 1 key call → observes Register call ≡ true
+        observed zero key call is = let same = one_caller (both v) 0 0 1 (Int (pos 0)) key (Write v) call refl is in absurd (omega arith)
+        observed (suc zero) key call is = ap (observes Register) (one_call (both v) 1 1 1 key (Int (pos 0)) call Read is refl)
         observed (suc (suc at)) key call is = cc
 
         none_placed : (m : Member State) → Contains (first_member (start Register) ∷ []) m → (x : ℕ × Reply) → Contains m.placed x → ⊥
@@ -175,7 +177,7 @@ module _ (v : Val) where
         write placing
         (λ round x there. let same = only (0, (1, Replied.Value Nil)) (round, x) there in
         inr (ap (λ (y : ℕ × (ℕ × Reply)). suc y.0) (sym same), subst (λ (y : ℕ × (ℕ × Reply)). IsWatching (observes Register) (both v) y.1.0) same watching, subst (λ (y : ℕ × (ℕ × Reply)). IsGiven (Step Register) (both v) (Value Nil) y.1) same given)))
-        1 (pos 0) Read (all_open 1 1 (pos 0) Read refl) refl 0 (inl (0, omega arith, refl))
+        1 (Int (pos 0)) Read (all_open 1 1 (Int (pos 0)) Read refl) refl 0 (inl (0, omega arith, refl))
         (λ other there. let same = ap (λ (x : ℕ × Reply). x.0) (only (0, Replied.Done) (1, other) there) in omega arith)
         refl refl (λ x there. absurd (nothing_in x there)) (λ round other there. nothing_in (round, (1, other)) there)
 
@@ -186,14 +188,14 @@ pub too_late : IsTooLate
 too_late v offer = offer.late 1 (write ∷ []) (omega arith) refl write (0, omega arith, refl) (1, Replied.Done, (event 0 (Ok Named.Write Replied.Done), ends, Named.Write, refl), omega arith)
   where
     ends : IsEnd (in_turn v) 0 1 (event 0 (Ok Named.Write Replied.Done))
-    ends = record { process = 0; key = pos 0; call = Write v; begins = refl; later = omega arith; ends = refl; same = refl; least = λ k after before of_it. omega arith }
+    ends = record { process = 0; key = Int (pos 0); call = Write v; begins = refl; later = omega arith; ends = refl; same = refl; least = λ k after before of_it. omega arith }
 
 pub covers_crashed : CoversCrashed
 covers_crashed v state = covers_from (HasCrashed (with_event (both v) (event 0 (Info Named.Write)))) (state, []) (state, (0, Replied.Done) ∷ []) refl (λ x there. absurd (nothing_in x there))
-    (λ x there. inr (subst (λ (y : ℕ × Reply). HasCrashed (with_event (both v) (event 0 (Info Named.Write))) y.0) (only (0, Replied.Done) x there) (0, pos 0, Write v, refl, (2, event 0 (Info Named.Write), ends, Named.Write, refl))))
+    (λ x there. inr (subst (λ (y : ℕ × Reply). HasCrashed (with_event (both v) (event 0 (Info Named.Write))) y.0) (only (0, Replied.Done) x there) (0, Int (pos 0), Write v, refl, (2, event 0 (Info Named.Write), ends, Named.Write, refl))))
   where
     ends : IsEnd (with_event (both v) (event 0 (Info Named.Write))) 0 2 (event 0 (Info Named.Write))
-    ends = record { process = 0; key = pos 0; call = Write v; begins = refl; later = omega arith; ends = refl; same = refl; least = least }
+    ends = record { process = 0; key = Int (pos 0); call = Write v; begins = refl; later = omega arith; ends = refl; same = refl; least = least }
       where
         least : (k : ℕ) → 0 < k → k < 2 → IsOf (with_event (both v) (event 0 (Info Named.Write))) 0 k → ⊥
         least zero after before of_it = omega arith

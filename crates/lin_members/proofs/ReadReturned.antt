@@ -1,5 +1,7 @@
 -- A write and a read at once, of which the read returns: the history is well-formed.
-use Rattle.std.proofs.Common.{◌≡◌, ℕ, ℤ, zero, suc, ◌<◌, true, pos, ◌⊎◌, inl, inr, refl, ap, subst, arith}
+use Rattle.std.proofs.Common.{◌≡◌, ℕ, zero, suc, ◌<◌, true, pos, ◌⊎◌, inl, inr, refl, ap, subst, arith}
+use Rattle.lin_events.specs.declared.items.Item.{Item}
+use Rattle.lin_events.specs.declared.items.Item.TheVariants.{Int}
 use Rattle.lin_events.specs.declared.calls.Call.{Call}
 use Rattle.lin_events.specs.declared.calls.Call.TheVariants.{Read, Write}
 use Rattle.lin_events.specs.declared.calls.Name.{Name}
@@ -19,10 +21,10 @@ use Rattle.lin_members.proofs.Searching.{one_event}
 
 module _ (v : Val) where
   read_ends : IsEnd (read_returned v) 1 2 (event 1 (Ok Named.Read (Replied.Value Nil)))
-  read_ends = record { process = 1; key = pos 0; call = Read; begins = refl; later = omega arith; ends = refl; same = refl; least = λ k after before of_it. omega arith }
+  read_ends = record { process = 1; key = Int (pos 0); call = Read; begins = refl; later = omega arith; ends = refl; same = refl; least = λ k after before of_it. omega arith }
 
   -- the invocations
-  module _ (process : ℕ) (key : ℤ) (call : Call) where
+  module _ (process : ℕ) (key : Item) (call : Call) where
     is_at : (k : ℕ) (e : Event) → IsEvent (read_returned v) k e → IsOperation (read_returned v) k process key call → e ≡ record { process = process; key = key; body = Invoke call }
     is_at k e there is = one_event (read_returned v) k e _ there is
 
@@ -45,7 +47,7 @@ module _ (v : Val) where
         by : (a : Call) {p : ℕ} → event p (Invoke a) ≡ record { process = process; key = key; body = Invoke call } → of_registers key (name_of a) ≡ true → of_registers key (name_of call) ≡ true
         by a same yes' = subst (λ c. of_registers key (name_of c) ≡ true) (same_call (ap (λ (x : Event). x.body) same)) yes'
 
-  returned : (at later process : ℕ) (key other : ℤ) (call again : Call) → at < later → IsOperation (read_returned v) at process key call → IsOperation (read_returned v) later process other again
+  returned : (at later process : ℕ) (key other : Item) (call again : Call) → at < later → IsOperation (read_returned v) at process key call → IsOperation (read_returned v) later process other again
       → (end : ℕ) × (end < later) × IsReturn (read_returned v) at end
   returned at later process key other call again below is then = absurd (elim (calls process key call at is) [
     | inl first ↦ elim (calls process other again later then) [

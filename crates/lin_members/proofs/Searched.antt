@@ -1,5 +1,6 @@
 -- After an ok, by members that a search visits: the laws.
-use Rattle.std.proofs.Common.{◌≡◌, ◌≢◌, ℕ, ℤ, Bool, true, List, [], Contains, ◌⊎◌, inl, inr, refl, sym, ap, subst, ◌∙◌, arith, true≢false}
+use Rattle.std.proofs.Common.{◌≡◌, ◌≢◌, ℕ, Bool, true, List, [], Contains, ◌⊎◌, inl, inr, refl, sym, ap, subst, ◌∙◌, arith, true≢false}
+use Rattle.lin_events.specs.declared.items.Item.{Item}
 use Rattle.lin_events.specs.declared.calls.Name.{Name}
 use Rattle.lin_events.specs.declared.calls.Call.{Call}
 use Rattle.lin_events.specs.declared.calls.Reply.{Reply}
@@ -48,7 +49,7 @@ start_complete_law {S} start step law observes c config = record {
   );
 }
 
-module _ {S : Type 0} (start : S) (step : S → Call → S → Reply → Type 0) (observes : Call → Bool) (unique : EndsAreUnique) (functions : ℤ → Name → Bool) (h : List Event) (event : Event)
+module _ {S : Type 0} (start : S) (step : S → Call → S → Reply → Type 0) (observes : Call → Bool) (unique : EndsAreUnique) (functions : Item → Name → Bool) (h : List Event) (event : Event)
     (name : Name) (reply : Reply) (body : event.body ≡ Ok name reply) (alternates : IsAlternating functions (with_event h event)) (members visited others : List (Member S))
     (starts : (m : Member S) → Contains members m → ((other : Reply) → Contains m.placed (event.process, other) → ⊥) → (n : Member S) × Contains visited n × Dominates observes h n m) where
   -- what stands at the point of a way, but for what is on offer to the process
@@ -106,7 +107,7 @@ module _ {S : Type 0} (start : S) (step : S → Call → S → Reply → Type 0)
               next.exchanged whole.1 next.member next.dominates;
         }
 
-  module _ (observer : (at : ℕ) (key : ℤ) (call : Call) → IsOpen h at event.process key call → observes call ≡ true)
+  module _ (observer : (at : ℕ) (key : Item) (call : Call) → IsOpen h at event.process key call → observes call ≡ true)
       (each : (m : Member S) → Contains visited m → ((n : Member S) × Contains others n × Dominates observes (with_event h event) n m)
       ⊎ ((IsOnOffer m (event.process, reply) → ⊥) × (IsGiven step h m.state (event.process, reply) → ⊥) × IsSearched step observes h event.process visited m)) where
     hold : (m : Member S) (c : S × List (ℕ × Reply)) (way : WayOf step observes h m c) (visit : Visits m c way)
@@ -362,7 +363,7 @@ skipped_law step observes h process k m n d first second =
     (λ x. (x.0 ≢ process) × (IsOnOffer m x ⊎ IsGiven step h m.state x)) first second (λ x watches is. (is, λ offer. (is.0, offer)))
 
 -- after a completion no operation of its process watches
-none_watches : (observes : Call → Bool) (functions : ℤ → Name → Bool) (h : List Event) (event : Event) (name : Name) → IsAlternating functions (with_event h event) → Completes event.body name
+none_watches : (observes : Call → Bool) (functions : Item → Name → Bool) (h : List Event) (event : Event) (name : Name) → IsAlternating functions (with_event h event) → Completes event.body name
     → IsWatching observes (with_event h event) event.process → ⊥
 none_watches observes functions h event name alternates is w = by event.body refl is
   where

@@ -1,5 +1,6 @@
 -- After an ok, by members that a search visits.
-use Rattle.std.proofs.Common.{◌≡◌, ◌≢◌, ℕ, ℤ, Bool, true, List, length, Contains, ◌⊎◌, inl, inr, refl, sym, ap, subst, ◌∙◌, Some, slice_get}
+use Rattle.std.proofs.Common.{◌≡◌, ◌≢◌, ℕ, Bool, true, List, length, Contains, ◌⊎◌, inl, inr, refl, sym, ap, subst, ◌∙◌, Some, slice_get}
+use Rattle.lin_events.specs.declared.items.Item.{Item}
 use Rattle.lin_events.specs.declared.calls.Name.{Name}
 use Rattle.lin_events.specs.declared.calls.Call.{Call}
 use Rattle.lin_events.specs.declared.calls.Reply.{Reply}
@@ -124,7 +125,7 @@ module _ {S : Type 0} (step : S → Call → S → Reply → Type 0) (observes :
   held_stops h g others m c (more way u) held = inr held
 
   -- where the history and the longer one are of an ok
-  module _ (functions : ℤ → Name → Bool) (h : List Event) (event : Event) (name : Name) (reply : Reply) (body : event.body ≡ Ok name reply)
+  module _ (functions : Item → Name → Bool) (h : List Event) (event : Event) (name : Name) (reply : Reply) (body : event.body ≡ Ok name reply)
       (alternates : IsAlternating functions (with_event h event)) where
     pub passes : Passes observes h (with_event h event) (λ q. q ≡ event.process)
     passes = passes_ok h event functions alternates observes name reply body
@@ -146,11 +147,11 @@ module _ {S : Type 0} (step : S → Call → S → Reply → Type 0) (observes :
     }
       where
         -- what stands last is of the event's process
-        is_last : (at q : ℕ) (key : ℤ) (call : Call) → at ≡ length h → IsOpen (with_event h event) at q key call → q ≡ event.process
+        is_last : (at q : ℕ) (key : Item) (call : Call) → at ≡ length h → IsOpen (with_event h event) at q key call → q ≡ event.process
         is_last at q key call e o = ap (λ (x : Event). x.process) (one_event (with_event h event) (length h) _ event (subst (λ k. IsOperation (with_event h event) k q key call) e o.begins) (get_last h event))
 
     -- the process watches, if its operation observes
-    pub watching : EndsAreUnique → ((at : ℕ) (key : ℤ) (call : Call) → IsOpen h at event.process key call → observes call ≡ true) → IsWatching observes h event.process
+    pub watching : EndsAreUnique → ((at : ℕ) (key : Item) (call : Call) → IsOpen h at event.process key call → observes call ≡ true) → IsWatching observes h event.process
     watching unique observer =
         let is = subst (λ b. Completes b name) (sym body) refl in
         let i = completes h event functions alternates name is in

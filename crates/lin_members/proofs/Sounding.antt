@@ -1,6 +1,7 @@
 -- All that a member with rounds leads to is true.
-use Rattle.std.proofs.Common.{◌≡◌, ℕ, zero, suc, ℤ, ◌<◌, Bool, true, List, [], ◌∷◌, ◌++◌, length, Contains, ◌⊎◌, inl, inr, refl, ap, subst, ◌∙◌, arith}
+use Rattle.std.proofs.Common.{◌≡◌, ℕ, zero, suc, ◌<◌, Bool, true, List, [], ◌∷◌, ◌++◌, length, Contains, ◌⊎◌, inl, inr, refl, ap, subst, ◌∙◌, arith}
 use Rattle.std.proofs.lemmas.List.Elements.{Contains-append_right}
+use Rattle.lin_events.specs.declared.items.Item.{Item}
 use Rattle.lin_events.specs.declared.calls.Call.{Call}
 use Rattle.lin_events.specs.declared.calls.Name.{Name}
 use Rattle.lin_events.specs.declared.calls.Reply.{Reply}
@@ -19,7 +20,7 @@ use Rattle.lin_frontier.specs.lemmas.Inserting.{first_or_rest, rising_once}
 use Rattle.lin_members.specs.lemmas.Exchanging.{open_call}
 use Rattle.lin_members.specs.lemmas.Putting.{offer_longer, offer_put, trail_ends, trail_place, trail_present, trail_put}
 
-module _ {S : Type 0} (start : S) (step : S → Call → S → Reply → Type 0) (legal : PlacingIsLegal start step) (observes : Call → Bool) (functions : ℤ → Name → Bool) (h : List Event)
+module _ {S : Type 0} (start : S) (step : S → Call → S → Reply → Type 0) (legal : PlacingIsLegal start step) (observes : Call → Bool) (functions : Item → Name → Bool) (h : List Event)
     (alternates : IsAlternating functions h) where
   -- some rounds come to the configuration, and each of the offers was made in one of them
   pub record IsBacked (c : S × List (ℕ × Reply)) (offers : ℕ × Reply → Type 0) : Type 0 where

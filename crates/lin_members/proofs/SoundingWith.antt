@@ -1,6 +1,7 @@
 -- All that a member with rounds leads to with early updates is true: these are rounds ahead of the last one.
-use Rattle.std.proofs.Common.{ℕ, suc, ℤ, ◌<◌, Bool, List, [], ◌∷◌, ◌++◌, length, length-append, Contains, inl, inr, refl, ap, subst, arith}
+use Rattle.std.proofs.Common.{ℕ, suc, ◌<◌, Bool, List, [], ◌∷◌, ◌++◌, length, length-append, Contains, inl, inr, refl, ap, subst, arith}
 use Rattle.std.proofs.lemmas.List.Elements.{Contains-append_right}
+use Rattle.lin_events.specs.declared.items.Item.{Item}
 use Rattle.lin_events.specs.declared.calls.Call.{Call}
 use Rattle.lin_events.specs.declared.calls.Name.{Name}
 use Rattle.lin_events.specs.declared.calls.Reply.{Reply}
@@ -23,7 +24,7 @@ use Rattle.lin_members.proofs.GoingAhead.{ahead_given, ahead_offer, ahead_overwr
 use Rattle.lin_members.proofs.Sounding.{backed_configuration, IsBacked}
 use Rattle.lin_members.proofs.Standing.{one_outcome}
 
-module _ {S : Type 0} (start : S) (step : S → Call → S → Reply → Type 0) (observes : Call → Bool) (over : IsOverwriting start step observes) (functions : ℤ → Name → Bool) (h : List Event)
+module _ {S : Type 0} (start : S) (step : S → Call → S → Reply → Type 0) (observes : Call → Bool) (over : IsOverwriting start step observes) (functions : Item → Name → Bool) (h : List Event)
     (alternates : IsAlternating functions h) (m : Member S × Path) where
   -- with these placed, the observer may have the reply
   abbrev IsOffer : List (ℕ × Reply) → ℕ × Reply → Type 0

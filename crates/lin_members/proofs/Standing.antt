@@ -1,6 +1,7 @@
 -- Overwritten updates at the points of ways: what they give, and members that stand in for points.
-use Rattle.std.proofs.Common.{◌≡◌, ℕ, ℤ, ◌<◌, ◌≤◌, Bool, List, length, Contains, ◌⊎◌, inl, inr, sym, subst, arith}
+use Rattle.std.proofs.Common.{◌≡◌, ℕ, ◌<◌, ◌≤◌, Bool, List, length, Contains, ◌⊎◌, inl, inr, sym, subst, arith}
 use Rattle.std.proofs.lemmas.Option.{slice_get_within}
+use Rattle.lin_events.specs.declared.items.Item.{Item}
 use Rattle.lin_events.specs.declared.calls.Call.{Call}
 use Rattle.lin_events.specs.declared.calls.Name.{Name}
 use Rattle.lin_events.specs.declared.calls.Reply.{Reply}
@@ -25,7 +26,7 @@ abbrev pub GivesEarly : {S : Type 0} → (S → Call → S → Reply → Type 0)
 GivesEarly {S} step observes h until placed others x = (u : ℕ × Reply) × (next : S) × Contains placed u × (Contains others u → ⊥) × IsEarlyUpdate step observes h until u next × IsEarlyGiven step h until next x
 
 -- an open operation stands in the history
-pub open_inside : (h : List Event) (at process : ℕ) (key : ℤ) (call : Call) → IsOpen h at process key call → at < length h
+pub open_inside : (h : List Event) (at process : ℕ) (key : Item) (call : Call) → IsOpen h at process key call → at < length h
 open_inside h at process key call is = slice_get_within h at _ is.begins
 
 -- a way ends with an update
@@ -34,7 +35,7 @@ pub record EndsWith {S : Type 0} (step : S → Call → S → Reply → Type 0) 
   pub way : Way step observes h b before
   pub last : IsUpdate step observes h before d
 
-module _ {S : Type 0} {start : S} (step : S → Call → S → Reply → Type 0) (observes : Call → Bool) (over : IsOverwriting start step observes) (functions : ℤ → Name → Bool) (h : List Event) (alternates : IsAlternating functions h)
+module _ {S : Type 0} {start : S} (step : S → Call → S → Reply → Type 0) (observes : Call → Bool) (over : IsOverwriting start step observes) (functions : Item → Name → Bool) (h : List Event) (alternates : IsAlternating functions h)
     (i j : ℕ) (x y : ℕ × Reply) (next last : S) (u : IsEarlyUpdate step observes h i x next) (v : IsEarlyUpdate step observes h j y last) where
   -- updates of the same call come to the same
   pub same_outcome : u.call ≡ v.call → (last ≡ next) × (y.1 ≡ x.1)

@@ -1,9 +1,10 @@
 -- What goes first of all that is open beside it can be placed first on each way.
-use Rattle.std.proofs.Common.{◌≡◌, ◌≢◌, ◌⊎◌, ◌≤◌, ℕ, ℤ, suc, Bool, true, false, nat_eq, List, [], ◌∷◌, ◌++◌, AllPairs, Contains, IsPermutation, count_by, get_or, inl, inr, refl, sym, ap, subst, ◌∙◌, arith}
+use Rattle.std.proofs.Common.{◌≡◌, ◌≢◌, ◌⊎◌, ◌≤◌, ℕ, suc, Bool, true, false, nat_eq, List, [], ◌∷◌, ◌++◌, AllPairs, Contains, IsPermutation, count_by, get_or, inl, inr, refl, sym, ap, subst, ◌∙◌, arith}
 use Rattle.std.proofs.lemmas.Bool.Decides.{Decides-eqb as Decides-nat_eq}
 use Rattle.std.proofs.lemmas.List.Elements.{Contains-append_left, Contains-get_or, Contains-push, Contains-push_cases}
 use Rattle.std.proofs.lemmas.List.Quantifiers.{all_pairs_push}
 use Rattle.std.proofs.lemmas.List.Sorted.{Contains-permutation, IsPermutation-sym, sum_by-IsPermutation}
+use Rattle.lin_events.specs.declared.items.Item.{Item}
 use Rattle.lin_lists.specs.lemmas.Elements.{first_or_rest}
 use Rattle.lin_events.specs.declared.calls.Call.{Call}
 use Rattle.lin_events.specs.declared.calls.Reply.{Reply}
@@ -67,7 +68,7 @@ once_again xs ys again once q = subst (λ n. n ≤ 1) (sym (sum_by-IsPermutation
 module _ {S : Type 0} (step : S → Call → S → Reply → Type 0) (observes : Call → Bool) where
   -- the call can be placed behind these: its process has none of them, and it is open and no observer
   abbrev CanPlace : List Event → List (ℕ × Reply) → ℕ × Call × Reply → Type 0
-  CanPlace h placed x = ((other : Reply) → Contains placed (x.0, other) → ⊥) × (at : ℕ) × (key : ℤ) × IsOpen h at x.0 key x.1 × (observes x.1 ≡ false)
+  CanPlace h placed x = ((other : Reply) → Contains placed (x.0, other) → ⊥) × (at : ℕ) × (key : Item) × IsOpen h at x.0 key x.1 × (observes x.1 ≡ false)
 
   module _ (h : List Event) where
     -- the calls of a way, first to last
@@ -173,7 +174,7 @@ module _ {S : Type 0} (step : S → Call → S → Reply → Type 0) (observes :
     pub part : (x : ℕ × Reply) → Contains placed x → Contains c.1 x
     pub rest : (x : ℕ × Reply) → Contains c.1 x → Contains placed x
 
-  pub taken_first : (h g : List Event) (process : ℕ) (reply : Reply) (call : Call) → ((at q : ℕ) (key : ℤ) (other : Call) → q ≢ process → IsOpen h at q key other → IsOpen g at q key other)
+  pub taken_first : (h g : List Event) (process : ℕ) (reply : Reply) (call : Call) → ((at q : ℕ) (key : Item) (other : Call) → q ≢ process → IsOpen h at q key other → IsOpen g at q key other)
       → (b c : S × List (ℕ × Reply)) → IsRising b.1 → IsAheadOfOpen step g b.0 call reply → (way : Way step observes h b c) (last : S) → step c.0 call last reply → ((other : Reply) → Contains c.1 (process, other) → ⊥)
       → TakenFirst g b c call reply last
   taken_first h g process reply call stays b c rising ahead way last steps absent = record {

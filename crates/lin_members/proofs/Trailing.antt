@@ -1,6 +1,7 @@
 -- The rounds of members: within one history, and after one more event.
-use Rattle.std.proofs.Common.{◌≡◌, ℕ, ℤ, Bool, true, List, [], ◌∷◌, ◌++◌, Contains, inl, inr, refl, ap, subst, ◌∙◌, arith}
+use Rattle.std.proofs.Common.{◌≡◌, ℕ, Bool, true, List, [], ◌∷◌, ◌++◌, Contains, inl, inr, refl, ap, subst, ◌∙◌, arith}
 use Rattle.std.proofs.lemmas.Option.{slice_get_within}
+use Rattle.lin_events.specs.declared.items.Item.{Item}
 use Rattle.lin_events.specs.declared.calls.Call.{Call}
 use Rattle.lin_events.specs.declared.calls.Name.{Name}
 use Rattle.lin_events.specs.declared.calls.Reply.{Reply}
@@ -42,7 +43,7 @@ module _ {S : Type 0} (start : S) (step : S → Call → S → Reply → Type 0)
     offered = λ round x there. is.offered round x (fewer (round, x) there);
   }
 
-  module _ (observes : Call → Bool) (functions : ℤ → Name → Bool) (h : List Event) (alternates : IsAlternating functions h) (states : List S) (rounds : List (List Placed)) (m : Member S)
+  module _ (observes : Call → Bool) (functions : Item → Name → Bool) (h : List Event) (alternates : IsAlternating functions h) (states : List S) (rounds : List (List Placed)) (m : Member S)
       (is : IsTrailOf start step observes h states rounds m) where
     pub places : PlacingIsLegal start step → (n : Member S) (p : Placed) → IsPlacing step h (m.state, m.placed) p (n.state, n.placed) → OffersFrom step observes h rounds m n
         → IsTrailOf start step observes h (states ++ n.state ∷ []) (begin_round p rounds) n
@@ -62,7 +63,7 @@ module _ {S : Type 0} (start : S) (step : S → Call → S → Reply → Type 0)
         longer round at x o = offer_longer start step observes h states rounds n.state p placing.process placing.key placing.call placing.is_open round at x o
 
     -- a reply that a round offers was offered in it, to the open operation
-    offered_at : (at process : ℕ) (key : ℤ) (call : Call) (reply : Reply) → IsOpen h at process key call → observes call ≡ true → (round : ℕ) → IsOfferFrom step h rounds m round (process, reply)
+    offered_at : (at process : ℕ) (key : Item) (call : Call) (reply : Reply) → IsOpen h at process key call → observes call ≡ true → (round : ℕ) → IsOfferFrom step h rounds m round (process, reply)
         → IsOfferedIn step observes h states rounds round at (process, reply)
     offered_at at process key call reply is_open observer round (inl old) =
         let o = is.offered round (process, reply) old in
@@ -72,7 +73,7 @@ module _ {S : Type 0} (start : S) (step : S → Call → S → Reply → Type 0)
         (trail_present start step observes h states rounds (m.state, m.placed) is.trail round now.0 (process, reply) now.1
         (ap observes (open_call functions h alternates now.1.at at process now.1.key key now.1.call call now.1.is_open is_open) ∙ observer))
 
-    pub takes : IsObserving step observes → (n : Member S) (p : Placed) (process : ℕ) (key : ℤ) (call : Call) → IsOpen h p.at process key call → observes call ≡ true
+    pub takes : IsObserving step observes → (n : Member S) (p : Placed) (process : ℕ) (key : Item) (call : Call) → IsOpen h p.at process key call → observes call ≡ true
         → (round : ℕ) → IsOfferFrom step h rounds m round (process, p.reply) → m.state ≡ n.state → IsAdded process p.reply m.placed n.placed
         → ((x : ℕ × (ℕ × Reply)) → Contains n.offers x → Contains m.offers x) → IsTrailOf start step observes h states (put round p rounds) n
     takes observing n p process key call is_open observer round offer same added fewer = record {
@@ -103,7 +104,7 @@ module _ {S : Type 0} (start : S) (step : S → Call → S → Reply → Type 0)
   -- the rounds of a member after an event, where they spell what they should
   pub trail_kept : (states : List S) (rounds : List (List Placed)) (m n : Member S) → IsTrailOf start step observes h states rounds m → m.state ≡ n.state
       → EndsIn start step (with_event h event) (joined rounds) (m.state, n.placed) → ((x : ℕ × (ℕ × Reply)) → Contains n.offers x → Contains m.offers x)
-      → ((round : ℕ) (x : ℕ × Reply) → Contains n.offers (round, x) → (at : ℕ) (key : ℤ) (call : Call) → IsOpen h at x.0 key call → IsOpen (with_event h event) at x.0 key call)
+      → ((round : ℕ) (x : ℕ × Reply) → Contains n.offers (round, x) → (at : ℕ) (key : Item) (call : Call) → IsOpen h at x.0 key call → IsOpen (with_event h event) at x.0 key call)
       → IsTrailOf start step observes (with_event h event) states rounds n
   trail_kept states rounds m n is same ends fewer opens = record {
     trail = trail_as start step (with_event h event) states rounds (m.state, n.placed) (n.state, n.placed) same refl (record {

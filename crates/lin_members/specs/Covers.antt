@@ -1,6 +1,7 @@
 -- Covers: fewer configurations that stand in for all of a history that has one object. Whether a crashed operation took effect is
 -- never told, so a configuration that places one more of them allows nothing that the one without it doesn't.
-use Rattle.std.specs.Prelude.{◌≡◌, ◌⊎◌, ℕ, ℤ, List, All, Contains}
+use Rattle.std.specs.Prelude.{◌≡◌, ◌⊎◌, ℕ, List, All, Contains}
+use Rattle.lin_events.specs.declared.items.Item.{Item}
 use Rattle.lin_events.specs.declared.events.Event.{Event}
 use Rattle.lin_events.specs.declared.calls.Call.{Call}
 use Rattle.lin_events.specs.declared.calls.Reply.{Reply}
@@ -8,7 +9,7 @@ use Rattle.lin_events.specs.Operations.{IsCrashed, IsOperation}
 
 -- an operation of the process crashed
 abbrev pub HasCrashed : List Event → ℕ → Type 0
-HasCrashed h process = (at : ℕ) × (key : ℤ) × (call : Call) × IsOperation h at process key call × IsCrashed h at
+HasCrashed h process = (at : ℕ) × (key : Item) × (call : Call) × IsOperation h at process key call × IsCrashed h at
 
 -- The first configuration covers the second: it is in the same state, each pair that it places the second places too, and each other pair that
 -- the second places is of a process that crashed.

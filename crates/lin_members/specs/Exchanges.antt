@@ -1,6 +1,7 @@
 -- Exchanges: crashed operations that have the same call stand in for one another. None of them ever returns or fails, so whatever comes
 -- after the events so far treats them alike.
-use Rattle.std.specs.Prelude.{◌≡◌, ◌⊎◌, ℕ, ℤ, List, Contains}
+use Rattle.std.specs.Prelude.{◌≡◌, ◌⊎◌, ℕ, List, Contains}
+use Rattle.lin_events.specs.declared.items.Item.{Item}
 use Rattle.lin_events.specs.declared.calls.Call.{Call}
 use Rattle.lin_events.specs.declared.calls.Reply.{Reply}
 use Rattle.lin_events.specs.declared.events.Event.{Event}
@@ -12,8 +13,8 @@ use Rattle.lin_members.specs.Covers.{HasCrashed}
 pub record AreAlike (h : List Event) (p q : ℕ) : Type 0 where
   pub at : ℕ
   pub other : ℕ
-  pub key : ℤ
-  pub other_key : ℤ
+  pub key : Item
+  pub other_key : Item
   pub call : Call
   pub first : IsOpen h at p key call
   pub second : IsOpen h other q other_key call

@@ -1,6 +1,7 @@
 -- Listing all configurations that members lead to: words of private contracts. Members that are listed have nothing on offer; what may be
 -- taken on the ways between them is said apart.
-use Rattle.std.specs.Prelude.{◌≡◌, ◌≢◌, ◌⊎◌, ℕ, ℤ, Bool, true, false, length, List, map, [], ◌++◌, All, AllPairs, Contains, Option, Some, None}
+use Rattle.std.specs.Prelude.{◌≡◌, ◌≢◌, ◌⊎◌, ℕ, Bool, true, false, length, List, map, [], ◌++◌, All, AllPairs, Contains, Option, Some, None}
+use Rattle.lin_events.specs.declared.items.Item.{Item}
 use Rattle.lin_events.specs.declared.calls.Call.{Call}
 use Rattle.lin_events.specs.declared.calls.Name.{Name}
 use Rattle.lin_events.specs.declared.calls.Reply.{Reply}
@@ -56,7 +57,7 @@ pub record IsExtended {S : Type 0} (start : S) (step : S → Call → S → Repl
   pub grown : now ≡ old ++ added
   pub bare : All (λ n. n.0.offers ≡ []) added
   pub different : AreDifferent old → AreDifferent now
-  pub spelled : (functions : ℤ → Name → Bool) (h : List Event) → IsWellFormed functions h → IsPending h pending
+  pub spelled : (functions : Item → Name → Bool) (h : List Event) → IsWellFormed functions h → IsPending h pending
       → All (λ m. IsSpelled start step observes h first (with_offers offers m)) old → All (λ m. IsSpelled start step observes h nodes (with_offers offers m)) now
 
 -- what taking the offer makes of the configuration is held

@@ -1,6 +1,7 @@
 -- What members lead to, and what one more event makes of a complete list of members. Each law holds for any object, given by where it
 -- begins and which steps it takes, and for any calls that are treated as observers.
-use Rattle.std.specs.Prelude.{◌≡◌, ◌≢◌, ◌⊎◌, ◌↔◌, ℕ, ℤ, Bool, true, false, List, [], ◌∷◌, ◌++◌, AllPairs, Contains}
+use Rattle.std.specs.Prelude.{◌≡◌, ◌≢◌, ◌⊎◌, ◌↔◌, ℕ, Bool, true, false, List, [], ◌∷◌, ◌++◌, AllPairs, Contains}
+use Rattle.lin_events.specs.declared.items.Item.{Item}
 use Rattle.lin_events.specs.declared.calls.Call.{Call}
 use Rattle.lin_events.specs.declared.calls.Name.{Name}
 use Rattle.lin_events.specs.declared.calls.Reply.{Reply}
@@ -27,7 +28,7 @@ StartCompleteLaw {S} start step = (observes : Call → Bool) → IsComplete star
 
 -- a process has crashed where its open operation has
 abbrev pub CrashedLaw : Type 0
-CrashedLaw = (functions : ℤ → Name → Bool) (h : List Event) → IsWellFormed functions h → (at process : ℕ) (key : ℤ) (call : Call) → IsOpen h at process key call
+CrashedLaw = (functions : Item → Name → Bool) (h : List Event) → IsWellFormed functions h → (at process : ℕ) (key : Item) (call : Call) → IsOpen h at process key call
     → HasCrashed h process ↔ IsCrashed h at
 
 -- what a dominated member leads to is covered by what the other leads to
@@ -57,7 +58,7 @@ TransitiveLaw S = (observes : Call → Bool) (h : List Event) (k m n : Member S)
 
 -- placing an open operation stays within what a member leads to
 abbrev pub PlaceLaw : {S : Type 0} → (S → Call → S → Reply → Type 0) → Type 0
-PlaceLaw {S} step = (observes : Call → Bool) → IsObserving step observes → (functions : ℤ → Name → Bool) (h : List Event) → IsWellFormed functions h
+PlaceLaw {S} step = (observes : Call → Bool) → IsObserving step observes → (functions : Item → Name → Bool) (h : List Event) → IsWellFormed functions h
     → (m : Member S) (c d : S × List (ℕ × Reply)) (p : Placed) → LeadsToCover step observes h m c → IsPlacing step h c p d → LeadsToCover step observes h m d
 
 -- what a member leads to it leads to after an invocation
@@ -67,25 +68,25 @@ LeadsOnLaw {S} step = (observes : Call → Bool) (h : List Event) (event : Event
 
 -- after an invocation: the same members
 abbrev pub InvocationKeepsLaw : {S : Type 0} → S → (S → Call → S → Reply → Type 0) → Type 0
-InvocationKeepsLaw {S} start step = (observes : Call → Bool) → IsObserving step observes → (functions : ℤ → Name → Bool) (h : List Event) (event : Event) (call : Call) → event.body ≡ Invoke call
+InvocationKeepsLaw {S} start step = (observes : Call → Bool) → IsObserving step observes → (functions : Item → Name → Bool) (h : List Event) (event : Event) (call : Call) → event.body ≡ Invoke call
     → IsWellFormed functions (with_event h event) → (members : List (Member S)) → IsComplete start step observes h members → IsComplete start step observes (with_event h event) members
 
 -- after an info: the same members, or such as dominate them now
 abbrev pub InfoKeepsLaw : {S : Type 0} → S → (S → Call → S → Reply → Type 0) → Type 0
-InfoKeepsLaw {S} start step = (observes : Call → Bool) (functions : ℤ → Name → Bool) (h : List Event) (event : Event) (name : Name) → event.body ≡ Info name
+InfoKeepsLaw {S} start step = (observes : Call → Bool) (functions : Item → Name → Bool) (h : List Event) (event : Event) (name : Name) → event.body ≡ Info name
     → IsWellFormed functions (with_event h event) → (members others : List (Member S)) → IsDominated observes (with_event h event) members others
     → IsComplete start step observes h members → IsComplete start step observes (with_event h event) others
 
 -- after a fail: the members that did not place the operation, or such as dominate them now
 abbrev pub FailKeepsLaw : {S : Type 0} → S → (S → Call → S → Reply → Type 0) → Type 0
-FailKeepsLaw {S} start step = (observes : Call → Bool) (functions : ℤ → Name → Bool) (h : List Event) (event : Event) (name : Name) → event.body ≡ Fail name
+FailKeepsLaw {S} start step = (observes : Call → Bool) (functions : Item → Name → Bool) (h : List Event) (event : Event) (name : Name) → event.body ≡ Fail name
     → IsWellFormed functions (with_event h event) → (members others : List (Member S))
     → ((m : Member S) → Contains members m → ((reply : Reply) → Contains m.placed (event.process, reply) → ⊥) → (n : Member S) × Contains others n × Dominates observes (with_event h event) n m)
     → IsComplete start step observes h members → IsComplete start step observes (with_event h event) others
 
 -- after a completion what is on offer to its process no longer counts
 abbrev pub OffersGoLaw : Type 0 → Type 0
-OffersGoLaw S = (observes : Call → Bool) (functions : ℤ → Name → Bool) (h : List Event) (event : Event) (name : Name) → Completes event.body name → IsWellFormed functions (with_event h event)
+OffersGoLaw S = (observes : Call → Bool) (functions : Item → Name → Bool) (h : List Event) (event : Event) (name : Name) → Completes event.body name → IsWellFormed functions (with_event h event)
     → (m n : Member S) → DominatesBut observes (with_event h event) event.process m n → Dominates observes (with_event h event) m n
 
 -- one of the others dominates, without the pair, the member that placed it
@@ -104,7 +105,7 @@ pub record IsDominatedAt {S : Type 0} (observes : Call → Bool) (h : List Event
 
 -- where each member is dominated so by one of others, the others are complete as well
 abbrev pub ThinningLaw : {S : Type 0} → S → (S → Call → S → Reply → Type 0) → Type 0
-ThinningLaw {S} start step = (observes : Call → Bool) (functions : ℤ → Name → Bool) (h : List Event) → IsWellFormed functions h → (members others : List (Member S))
+ThinningLaw {S} start step = (observes : Call → Bool) (functions : Item → Name → Bool) (h : List Event) → IsWellFormed functions h → (members others : List (Member S))
     → ((m : Member S) → Contains members m → IsDominatedAt observes h others m.state m.placed (IsOnOffer m))
     → IsComplete start step observes h members → IsComplete start step observes h others
 
@@ -116,8 +117,8 @@ IsSearched {S} step observes h process visited m = (d : S × List (ℕ × Reply)
 -- after the ok of an observer. Members that placed it with this reply: without it. The others are visited. Each visited one that may have the
 -- reply is held. Each that may not, since the reply is not on offer and its state does not give it, is searched
 abbrev pub ObserverSearchLaw : {S : Type 0} → S → (S → Call → S → Reply → Type 0) → Type 0
-ObserverSearchLaw {S} start step = (observes : Call → Bool) (functions : ℤ → Name → Bool) (h : List Event) (event : Event) (name : Name) (reply : Reply) → event.body ≡ Ok name reply
-    → IsWellFormed functions (with_event h event) → ((at : ℕ) (key : ℤ) (call : Call) → IsOpen h at event.process key call → observes call ≡ true) → (members visited others : List (Member S))
+ObserverSearchLaw {S} start step = (observes : Call → Bool) (functions : Item → Name → Bool) (h : List Event) (event : Event) (name : Name) (reply : Reply) → event.body ≡ Ok name reply
+    → IsWellFormed functions (with_event h event) → ((at : ℕ) (key : Item) (call : Call) → IsOpen h at event.process key call → observes call ≡ true) → (members visited others : List (Member S))
     → ((m : Member S) → Contains members m → IsTaken observes (with_event h event) event.process reply others m)
     → ((m : Member S) → Contains members m → ((other : Reply) → Contains m.placed (event.process, other) → ⊥) → (n : Member S) × Contains visited n × Dominates observes h n m)
     → ((m : Member S) → Contains visited m → ((n : Member S) × Contains others n × Dominates observes (with_event h event) n m)
@@ -128,19 +129,19 @@ ObserverSearchLaw {S} start step = (observes : Call → Bool) (functions : ℤ �
 -- and then they in some order
 abbrev pub IsAheadOfOpen : {S : Type 0} → (S → Call → S → Reply → Type 0) → List Event → S → Call → Reply → Type 0
 IsAheadOfOpen {S} step h state call reply = (others : List (ℕ × Call × Reply)) (mid last : S) → AllPairs (λ x y. x.0 ≢ y.0) others
-    → ((x : ℕ × Call × Reply) → Contains others x → (at : ℕ) × (key : ℤ) × IsOpen h at x.0 key x.1) → Takes step state others mid → step mid call last reply → IsFirst step state call reply others last
+    → ((x : ℕ × Call × Reply) → Contains others x → (at : ℕ) × (key : Item) × IsOpen h at x.0 key x.1) → Takes step state others mid → step mid call last reply → IsFirst step state call reply others last
 
 -- nobody observes behind the ok of the process, and its operation goes ahead of all that are open then
 abbrev pub IsAheadOfAll : {S : Type 0} → (S → Call → S → Reply → Type 0) → (Call → Bool) → List Event → List Event → ℕ → Reply → S → Type 0
-IsAheadOfAll step observes h after process reply state = ((at q : ℕ) (key : ℤ) (call : Call) → IsOpen after at q key call → observes call ≡ false)
-    × ((at : ℕ) (key : ℤ) (call : Call) → IsOpen h at process key call → IsAheadOfOpen step after state call reply)
+IsAheadOfAll step observes h after process reply state = ((at q : ℕ) (key : Item) (call : Call) → IsOpen after at q key call → observes call ≡ false)
+    × ((at : ℕ) (key : Item) (call : Call) → IsOpen h at process key call → IsAheadOfOpen step after state call reply)
 
 -- after the ok of an update. Members that placed it with this reply: without it. The others are visited. Of each visited one, what placing this one
 -- with the reply makes of it, without it, is held; and it is searched by all other updates, unless the operation goes ahead of them: what could be
 -- placed ahead of it can be placed behind it then
 abbrev pub UpdateSearchLaw : {S : Type 0} → S → (S → Call → S → Reply → Type 0) → Type 0
-UpdateSearchLaw {S} start step = (observes : Call → Bool) (functions : ℤ → Name → Bool) (h : List Event) (event : Event) (name : Name) (reply : Reply) → event.body ≡ Ok name reply
-    → IsWellFormed functions (with_event h event) → ((at : ℕ) (key : ℤ) (call : Call) → IsOpen h at event.process key call → observes call ≡ false) → (members visited others : List (Member S))
+UpdateSearchLaw {S} start step = (observes : Call → Bool) (functions : Item → Name → Bool) (h : List Event) (event : Event) (name : Name) (reply : Reply) → event.body ≡ Ok name reply
+    → IsWellFormed functions (with_event h event) → ((at : ℕ) (key : Item) (call : Call) → IsOpen h at event.process key call → observes call ≡ false) → (members visited others : List (Member S))
     → ((m : Member S) → Contains members m → IsTaken observes (with_event h event) event.process reply others m)
     → ((m : Member S) → Contains members m → ((other : Reply) → Contains m.placed (event.process, other) → ⊥) → (n : Member S) × Contains visited n × Dominates observes h n m)
     → ((m : Member S) → Contains visited m → IsSearched step observes h event.process visited m ⊎ IsAheadOfAll step observes h (with_event h event) event.process reply m.state)
@@ -176,7 +177,7 @@ SpreadingLaw {S} start step = (observes : Call → Bool) (h : List Event) (membe
 -- a complete list of members that have nothing on offer, and of which each placing of an open operation comes to what a member covers, covers
 -- each configuration
 abbrev pub ListingLaw : {S : Type 0} → S → (S → Call → S → Reply → Type 0) → Type 0
-ListingLaw {S} start step = (observes : Call → Bool) → IsObserving step observes → (functions : ℤ → Name → Bool) (h : List Event) → IsWellFormed functions h → (members : List (Member S))
+ListingLaw {S} start step = (observes : Call → Bool) → IsObserving step observes → (functions : Item → Name → Bool) (h : List Event) → IsWellFormed functions h → (members : List (Member S))
     → ((m : Member S) → Contains members m → IsRising m.placed) → ((m : Member S) (x : ℕ × Reply) → Contains members m → IsOnOffer m x → ⊥)
     → ((m : Member S) (p : Placed) (d : S × List (ℕ × Reply)) → Contains members m → IsPlacing step h (m.state, m.placed) p d → IsListed h members d)
     → IsComplete start step observes h members → IsListing start step h members
@@ -188,7 +189,7 @@ ListedLaw {S} start step = (observes : Call → Bool) (h : List Event) (members 
 
 -- after an ok, of a list that covers each configuration: the members that placed the operation with this reply, without it. Nothing is searched
 abbrev pub ListingOkLaw : {S : Type 0} → S → (S → Call → S → Reply → Type 0) → Type 0
-ListingOkLaw {S} start step = (functions : ℤ → Name → Bool) (h : List Event) (event : Event) (name : Name) (reply : Reply) → event.body ≡ Ok name reply → IsWellFormed functions (with_event h event)
+ListingOkLaw {S} start step = (functions : Item → Name → Bool) (h : List Event) (event : Event) (name : Name) (reply : Reply) → event.body ≡ Ok name reply → IsWellFormed functions (with_event h event)
     → (members others : List (Member S)) → ((m : Member S) → Contains members m → IsRising m.placed)
     → ((m : Member S) (without : List (ℕ × Reply)) → Contains members m → IsAdded event.process reply without m.placed → IsListed (with_event h event) others (m.state, without))
     → IsListing start step h members → IsListing start step (with_event h event) others

@@ -1,6 +1,7 @@
 -- Members of a compressed frontier: each stands for all configurations that it leads to. Laws speak of any object, given by the steps
 -- that it takes, and of any calls that are treated as observers.
-use Rattle.std.specs.Prelude.{◌≡◌, ◌≢◌, ◌⊎◌, ℕ, ℤ, Bool, true, false, List, Contains}
+use Rattle.std.specs.Prelude.{◌≡◌, ◌≢◌, ◌⊎◌, ℕ, Bool, true, false, List, Contains}
+use Rattle.lin_events.specs.declared.items.Item.{Item}
 use Rattle.lin_events.specs.declared.calls.Call.{Call}
 use Rattle.lin_events.specs.declared.calls.Reply.{Reply}
 use Rattle.lin_events.specs.declared.events.Event.{Event}
@@ -23,7 +24,7 @@ IsOnOffer m x = (round : ℕ) × Contains m.offers (round, x)
 -- the process has an open operation that observes, and none that crashed
 pub record IsWatching (observes : Call → Bool) (h : List Event) (process : ℕ) : Type 0 where
   pub at : ℕ
-  pub key : ℤ
+  pub key : Item
   pub call : Call
   pub is_open : IsOpen h at process key call
   pub observer : observes call ≡ true
@@ -32,7 +33,7 @@ pub record IsWatching (observes : Call → Bool) (h : List Event) (process : ℕ
 -- the state gives the reply to the open call of the process
 pub record IsGiven {S : Type 0} (step : S → Call → S → Reply → Type 0) (h : List Event) (state : S) (x : ℕ × Reply) : Type 0 where
   pub at : ℕ
-  pub key : ℤ
+  pub key : Item
   pub call : Call
   pub next : S
   pub is_open : IsOpen h at x.0 key call

@@ -1,7 +1,8 @@
 -- Updates that another update overwrote. Where an object is overwritten, an open update may have taken effect just before the last one of a member:
 -- that overwrites it, so the member's state stays as it is, and only observers that were open by then may have seen what it did. So a
 -- member stands for all choices of such updates, and none of them is placed before its completion, or a reply that only it can have given, asks for it.
-use Rattle.std.specs.Prelude.{◌≡◌, ◌⊎◌, ℕ, suc, ◌<◌, ◌≤◌, ℤ, Bool, true, false, List, [], ◌∷◌, ◌++◌, length, map, Contains}
+use Rattle.std.specs.Prelude.{◌≡◌, ◌⊎◌, ℕ, suc, ◌<◌, ◌≤◌, Bool, true, false, List, [], ◌∷◌, ◌++◌, length, map, Contains}
+use Rattle.lin_events.specs.declared.items.Item.{Item}
 use Rattle.lin_events.specs.declared.calls.Call.{Call}
 use Rattle.lin_events.specs.declared.calls.Reply.{Reply}
 use Rattle.lin_events.specs.declared.events.Event.{Event}
@@ -16,7 +17,7 @@ use Rattle.lin_members.specs.Members.{Member, Dominates, IsComplete, IsGiven, Is
 -- an open update that was called before the event at this position, with a reply that it gives, and the state that it leads to with it
 pub record IsEarlyUpdate {S : Type 0} (step : S → Call → S → Reply → Type 0) (observes : Call → Bool) (h : List Event) (until : ℕ) (x : ℕ × Reply) (next : S) : Type 0 where
   pub at : ℕ
-  pub key : ℤ
+  pub key : Item
   pub call : Call
   pub is_open : IsOpen h at x.0 key call
   pub update : observes call ≡ false

@@ -1,6 +1,7 @@
 -- What members lead to with overwritten updates, and what one more event makes of them. Each law holds for any object that is overwritten, given by
 -- where it begins and which steps it takes, and for any calls that are treated as observers.
-use Rattle.std.specs.Prelude.{◌≡◌, ◌⊎◌, ℕ, suc, ◌<◌, ◌≤◌, ℤ, Bool, true, false, List, length, map, Contains}
+use Rattle.std.specs.Prelude.{◌≡◌, ◌⊎◌, ℕ, suc, ◌<◌, ◌≤◌, Bool, true, false, List, length, map, Contains}
+use Rattle.lin_events.specs.declared.items.Item.{Item}
 use Rattle.lin_events.specs.declared.calls.Call.{Call}
 use Rattle.lin_events.specs.declared.calls.Name.{Name}
 use Rattle.lin_events.specs.declared.calls.Reply.{Reply}
@@ -38,19 +39,19 @@ CompleteAloneLaw {S} start step = (observes : Call → Bool) (h : List Event) (m
 
 -- after an invocation: the same members, or such as are above them
 abbrev pub InvocationWithLaw : {S : Type 0} → S → (S → Call → S → Reply → Type 0) → Type 0
-InvocationWithLaw {S} start step = (observes : Call → Bool) → IsObserving step observes → (functions : ℤ → Name → Bool) (h : List Event) (event : Event) (call : Call) → event.body ≡ Invoke call
+InvocationWithLaw {S} start step = (observes : Call → Bool) → IsObserving step observes → (functions : Item → Name → Bool) (h : List Event) (event : Event) (call : Call) → event.body ≡ Invoke call
     → IsWellFormed functions (with_event h event) → (members : List (Member S × Path)) → IsCompleteWith start step observes h members → IsCompleteWith start step observes (with_event h event) members
 
 -- after an info: such as are above the members now
 abbrev pub InfoWithLaw : {S : Type 0} → S → (S → Call → S → Reply → Type 0) → Type 0
-InfoWithLaw {S} start step = (observes : Call → Bool) (functions : ℤ → Name → Bool) (h : List Event) (event : Event) (name : Name) → event.body ≡ Info name
+InfoWithLaw {S} start step = (observes : Call → Bool) (functions : Item → Name → Bool) (h : List Event) (event : Event) (name : Name) → event.body ≡ Info name
     → IsWellFormed functions (with_event h event) → (members others : List (Member S × Path))
     → ((m : Member S × Path) → Contains members m → (n : Member S × Path) × Contains others n × IsAbove observes (with_event h event) n m)
     → IsCompleteWith start step observes h members → IsCompleteWith start step observes (with_event h event) others
 
 -- after a fail: such as are above the members that did not place the operation now
 abbrev pub FailWithLaw : {S : Type 0} → S → (S → Call → S → Reply → Type 0) → Type 0
-FailWithLaw {S} start step = (observes : Call → Bool) (functions : ℤ → Name → Bool) (h : List Event) (event : Event) (name : Name) → event.body ≡ Fail name
+FailWithLaw {S} start step = (observes : Call → Bool) (functions : Item → Name → Bool) (h : List Event) (event : Event) (name : Name) → event.body ≡ Fail name
     → IsWellFormed functions (with_event h event) → (members others : List (Member S × Path))
     → ((m : Member S × Path) → Contains members m → ((reply : Reply) → Contains m.0.placed (event.process, reply) → ⊥) → (n : Member S × Path) × Contains others n × IsAbove observes (with_event h event) n m)
     → IsCompleteWith start step observes h members → IsCompleteWith start step observes (with_event h event) others
@@ -70,12 +71,12 @@ AreReached {S} start step members = (m : Member S × Path) → Contains members 
 -- after the ok of an update. Members that placed it with this reply: without it. Of each other one: what it leads to placed last; and, where it was called
 -- early enough, the same state with what the update gives to observers on offer, for where it is overwritten. No other update is placed
 abbrev pub UpdateWithLaw : {S : Type 0} → S → (S → Call → S → Reply → Type 0) → Type 0
-UpdateWithLaw {S} start step = (observes : Call → Bool) → IsOverwriting start step observes → (functions : ℤ → Name → Bool) (h : List Event) (event : Event) (name : Name) (reply : Reply) → event.body ≡ Ok name reply
-    → IsWellFormed functions (with_event h event) → ((at : ℕ) (key : ℤ) (call : Call) → IsOpen h at event.process key call → observes call ≡ false) → (members others : List (Member S × Path)) → AreReached start step members
+UpdateWithLaw {S} start step = (observes : Call → Bool) → IsOverwriting start step observes → (functions : Item → Name → Bool) (h : List Event) (event : Event) (name : Name) (reply : Reply) → event.body ≡ Ok name reply
+    → IsWellFormed functions (with_event h event) → ((at : ℕ) (key : Item) (call : Call) → IsOpen h at event.process key call → observes call ≡ false) → (members others : List (Member S × Path)) → AreReached start step members
     → ((m : Member S × Path) → Contains members m → IsTakenWith observes (with_event h event) event.process reply others m)
     → ((m : Member S × Path) → Contains members m → ((other : Reply) → Contains m.0.placed (event.process, other) → ⊥) → (next : S) → IsEarlyUpdate step observes h m.1.until (event.process, reply) next
     → IsHeldUntil observes (with_event h event) others m.0.state m.0.placed (λ x. IsOnOffer m.0 x ⊎ IsEarlyGiven step h m.1.until next x) m.1.until)
-    → ((m : Member S × Path) → Contains members m → ((other : Reply) → Contains m.0.placed (event.process, other) → ⊥) → (at : ℕ) (key : ℤ) (call : Call) (next : S) → IsOpen h at event.process key call
+    → ((m : Member S × Path) → Contains members m → ((other : Reply) → Contains m.0.placed (event.process, other) → ⊥) → (at : ℕ) (key : Item) (call : Call) (next : S) → IsOpen h at event.process key call
     → step m.0.state call next reply → IsHeldUntil observes (with_event h event) others next m.0.placed (λ x. IsOnOffer m.0 x ⊎ IsGiven step h m.0.state x) (length h))
     → IsCompleteWith start step observes h members → IsCompleteWith start step observes (with_event h event) others
 
@@ -95,14 +96,14 @@ pub record IsHeldWith {S : Type 0} (observes : Call → Bool) (h g : List Event)
 pub record IsAskedFor {S : Type 0} (step : S → Call → S → Reply → Type 0) (observes : Call → Bool) (h g : List Event) (process : ℕ) (reply : Reply) (others : List (Member S × Path)) (m : Member S × Path) : Type 0 where
   pub before : (x : ℕ × Reply) (next : S) → IsEarlyUpdate step observes h m.1.until x next → ((other : Reply) → Contains m.0.placed (x.0, other) → ⊥) → IsEarlyGiven step h m.1.until next (process, reply)
       → IsHeldWith observes h g others m.0.placed x (λ y. IsEarlyUpdate step observes h m.1.until y next) m.0.state (λ z. IsOnOffer m.0 z ⊎ IsEarlyGiven step h m.1.until next z) m.1.until
-  pub behind : (x : ℕ × Reply) (at : ℕ) (key : ℤ) (call : Call) (next : S) → IsOpen h at x.0 key call → observes call ≡ false → step m.0.state call next x.1 → ((other : Reply) → Contains m.0.placed (x.0, other) → ⊥)
+  pub behind : (x : ℕ × Reply) (at : ℕ) (key : Item) (call : Call) (next : S) → IsOpen h at x.0 key call → observes call ≡ false → step m.0.state call next x.1 → ((other : Reply) → Contains m.0.placed (x.0, other) → ⊥)
       → IsGiven step h next (process, reply) → IsHeldWith observes h g others m.0.placed x (λ y. Unit {0}) next (λ z. IsOnOffer m.0 z ⊎ IsGiven step h m.0.state z) (length h)
 
 -- after the ok of an observer. Members that placed it with this reply: without it. Each other one that may have the reply, since it is on offer or its state gives
 -- it, is held. For each that may not, what gives it is placed
 abbrev pub ObserverWithLaw : {S : Type 0} → S → (S → Call → S → Reply → Type 0) → Type 0
-ObserverWithLaw {S} start step = (observes : Call → Bool) → IsOverwriting start step observes → (functions : ℤ → Name → Bool) (h : List Event) (event : Event) (name : Name) (reply : Reply) → event.body ≡ Ok name reply
-    → IsWellFormed functions (with_event h event) → ((at : ℕ) (key : ℤ) (call : Call) → IsOpen h at event.process key call → observes call ≡ true) → (members others : List (Member S × Path)) → AreReached start step members
+ObserverWithLaw {S} start step = (observes : Call → Bool) → IsOverwriting start step observes → (functions : Item → Name → Bool) (h : List Event) (event : Event) (name : Name) (reply : Reply) → event.body ≡ Ok name reply
+    → IsWellFormed functions (with_event h event) → ((at : ℕ) (key : Item) (call : Call) → IsOpen h at event.process key call → observes call ≡ true) → (members others : List (Member S × Path)) → AreReached start step members
     → ((m : Member S × Path) → Contains members m → IsTakenWith observes (with_event h event) event.process reply others m)
     → ((m : Member S × Path) → Contains members m → ((other : Reply) → Contains m.0.placed (event.process, other) → ⊥)
     → IsHeldUntil observes (with_event h event) others m.0.state m.0.placed (IsOnOffer m.0) m.1.until
@@ -111,13 +112,13 @@ ObserverWithLaw {S} start step = (observes : Call → Bool) → IsOverwriting st
 
 -- all that a member with rounds leads to with early updates is true
 abbrev pub SoundWithLaw : {S : Type 0} → S → (S → Call → S → Reply → Type 0) → Type 0
-SoundWithLaw {S} start step = (observes : Call → Bool) → IsObserving step observes → IsOverwriting start step observes → (functions : ℤ → Name → Bool) (h : List Event) → IsWellFormed functions h
+SoundWithLaw {S} start step = (observes : Call → Bool) → IsObserving step observes → IsOverwriting start step observes → (functions : Item → Name → Bool) (h : List Event) → IsWellFormed functions h
     → (states : List S) (rounds : List (List Placed)) (m : Member S × Path) → IsTrailOf start step observes h states rounds m.0 → AllowsOverwritten observes h m rounds
     → (c : S × List (ℕ × Reply)) → LeadsWith step observes h m c → IsConfiguration start step h c
 
 -- rounds of a member with an early update, which the last one overwrites: it is a round of its own ahead of that one, from which what it leads to may be on offer
 abbrev pub AheadLaw : {S : Type 0} → S → (S → Call → S → Reply → Type 0) → Type 0
-AheadLaw {S} start step = (observes : Call → Bool) → IsOverwriting start step observes → (functions : ℤ → Name → Bool) (h : List Event) → IsWellFormed functions h
+AheadLaw {S} start step = (observes : Call → Bool) → IsOverwriting start step observes → (functions : Item → Name → Bool) (h : List Event) → IsWellFormed functions h
     → (states : List S) (rounds : List (List Placed)) (m n : Member S × Path) → IsTrailOf start step observes h states rounds m.0 → AllowsOverwritten observes h m rounds
     → (p : Placed) (process : ℕ) (next : S) (u : IsEarlyUpdate step observes h m.1.until (process, p.reply) next) → u.at ≡ p.at → m.0.state ≡ n.0.state → IsAdded process p.reply m.0.placed n.0.placed → m.1.until ≡ n.1.until
     → ((round : ℕ) (x : ℕ × Reply) → Contains n.0.offers (round, x) → Contains m.0.offers (round, x) ⊎ ((suc round ≡ length rounds) × IsWatching observes h x.0 × IsEarlyGiven step h m.1.until next x))
@@ -130,12 +131,12 @@ AllowsOnLaw S = (observes : Call → Bool) (h : List Event) (event : Event) (m n
 
 -- after the ok of an observer, which is put into a round
 abbrev pub AllowsPutLaw : Type 0 → Type 0
-AllowsPutLaw S = (observes : Call → Bool) (functions : ℤ → Name → Bool) (h : List Event) (event : Event) (name : Name) (reply : Reply) → event.body ≡ Ok name reply → IsWellFormed functions (with_event h event)
-    → (m n : Member S × Path) (rounds : List (List Placed)) (at : ℕ) (key : ℤ) (call : Call) → IsOpen h at event.process key call → (round : ℕ) → m.1.until ≡ n.1.until
+AllowsPutLaw S = (observes : Call → Bool) (functions : Item → Name → Bool) (h : List Event) (event : Event) (name : Name) (reply : Reply) → event.body ≡ Ok name reply → IsWellFormed functions (with_event h event)
+    → (m n : Member S × Path) (rounds : List (List Placed)) (at : ℕ) (key : Item) (call : Call) → IsOpen h at event.process key call → (round : ℕ) → m.1.until ≡ n.1.until
     → ((x : ℕ × (ℕ × Reply)) → Contains n.0.offers x → Contains m.0.offers x) → AllowsOverwritten observes h m rounds
     → AllowsOverwritten observes (with_event h event) n (put round (record { at = at; reply = reply }) rounds)
 
 -- a new round that begins with an open update: what is open now was called before the next event
 abbrev pub AllowsBeginsLaw : Type 0 → Type 0
-AllowsBeginsLaw S = (observes : Call → Bool) (h : List Event) (n : Member S × Path) (rounds : List (List Placed)) → 0 < length rounds → (p : Placed) (process : ℕ) (key : ℤ) (call : Call) → IsOpen h p.at process key call → observes call ≡ false
+AllowsBeginsLaw S = (observes : Call → Bool) (h : List Event) (n : Member S × Path) (rounds : List (List Placed)) → 0 < length rounds → (p : Placed) (process : ℕ) (key : Item) (call : Call) → IsOpen h p.at process key call → observes call ≡ false
     → n.1.until ≡ length h → ((round : ℕ) (x : ℕ × Reply) → Contains n.0.offers (round, x) → round < length rounds) → AllowsOverwritten observes h n (begin_round p rounds)

@@ -1,6 +1,7 @@
 -- Orders by rounds: why what a member leads to is true. Each law holds for any object, given by where it begins and which steps it takes, and for
 -- any calls that are treated as observers.
-use Rattle.std.specs.Prelude.{◌≡◌, ◌⊎◌, ◌↔◌, ℕ, ℤ, suc, Bool, true, List, [], ◌∷◌, ◌++◌, length, Contains}
+use Rattle.std.specs.Prelude.{◌≡◌, ◌⊎◌, ◌↔◌, ℕ, suc, Bool, true, List, [], ◌∷◌, ◌++◌, length, Contains}
+use Rattle.lin_events.specs.declared.items.Item.{Item}
 use Rattle.lin_events.specs.declared.calls.Call.{Call}
 use Rattle.lin_events.specs.declared.calls.Name.{Name}
 use Rattle.lin_events.specs.declared.calls.Reply.{Reply}
@@ -41,53 +42,53 @@ FewerLaw {S} start step = (observes : Call → Bool) (h : List Event) (states : 
 
 -- an open operation that is placed begins a round, and what the last round gives may come on offer
 abbrev pub TrailPlacesLaw : {S : Type 0} → S → (S → Call → S → Reply → Type 0) → Type 0
-TrailPlacesLaw {S} start step = (observes : Call → Bool) (functions : ℤ → Name → Bool) (h : List Event) → IsWellFormed functions h → (states : List S) (rounds : List (List Placed)) (m n : Member S)
+TrailPlacesLaw {S} start step = (observes : Call → Bool) (functions : Item → Name → Bool) (h : List Event) → IsWellFormed functions h → (states : List S) (rounds : List (List Placed)) (m n : Member S)
     → IsTrailOf start step observes h states rounds m → (p : Placed) → IsPlacing step h (m.state, m.placed) p (n.state, n.placed) → OffersFrom step observes h rounds m n
     → IsTrailOf start step observes h (states ++ n.state ∷ []) (begin_round p rounds) n
 
 -- an open observer with a reply that a round offers is put at the end of that round
 abbrev pub TrailTakesLaw : {S : Type 0} → S → (S → Call → S → Reply → Type 0) → Type 0
-TrailTakesLaw {S} start step = (observes : Call → Bool) → IsObserving step observes → (functions : ℤ → Name → Bool) (h : List Event) → IsWellFormed functions h
+TrailTakesLaw {S} start step = (observes : Call → Bool) → IsObserving step observes → (functions : Item → Name → Bool) (h : List Event) → IsWellFormed functions h
     → (states : List S) (rounds : List (List Placed)) (m n : Member S) → IsTrailOf start step observes h states rounds m
-    → (p : Placed) (process : ℕ) (key : ℤ) (call : Call) → IsOpen h p.at process key call → observes call ≡ true → (round : ℕ) → IsOfferFrom step h rounds m round (process, p.reply)
+    → (p : Placed) (process : ℕ) (key : Item) (call : Call) → IsOpen h p.at process key call → observes call ≡ true → (round : ℕ) → IsOfferFrom step h rounds m round (process, p.reply)
     → m.state ≡ n.state → IsAdded process p.reply m.placed n.placed → ((x : ℕ × (ℕ × Reply)) → Contains n.offers x → Contains m.offers x)
     → IsTrailOf start step observes h states (put round p rounds) n
 
 -- an invocation and an info keep the rounds of each member
 abbrev pub TrailInvocationLaw : {S : Type 0} → S → (S → Call → S → Reply → Type 0) → Type 0
-TrailInvocationLaw {S} start step = (observes : Call → Bool) (functions : ℤ → Name → Bool) (h : List Event) (event : Event) (call : Call) → event.body ≡ Invoke call → IsWellFormed functions (with_event h event)
+TrailInvocationLaw {S} start step = (observes : Call → Bool) (functions : Item → Name → Bool) (h : List Event) (event : Event) (call : Call) → event.body ≡ Invoke call → IsWellFormed functions (with_event h event)
     → (states : List S) (rounds : List (List Placed)) (m : Member S) → IsTrailOf start step observes h states rounds m → IsTrailOf start step observes (with_event h event) states rounds m
 
 abbrev pub TrailInfoLaw : {S : Type 0} → S → (S → Call → S → Reply → Type 0) → Type 0
-TrailInfoLaw {S} start step = (observes : Call → Bool) (functions : ℤ → Name → Bool) (h : List Event) (event : Event) (name : Name) → event.body ≡ Info name → IsWellFormed functions (with_event h event)
+TrailInfoLaw {S} start step = (observes : Call → Bool) (functions : Item → Name → Bool) (h : List Event) (event : Event) (name : Name) → event.body ≡ Info name → IsWellFormed functions (with_event h event)
     → (states : List S) (rounds : List (List Placed)) (m : Member S) → IsTrailOf start step observes h states rounds m → IsTrailOf start step observes (with_event h event) states rounds m
 
 -- a fail keeps those of members that did not place the operation and have no offer to it
 abbrev pub TrailFailLaw : {S : Type 0} → S → (S → Call → S → Reply → Type 0) → Type 0
-TrailFailLaw {S} start step = (observes : Call → Bool) (functions : ℤ → Name → Bool) (h : List Event) (event : Event) (name : Name) → event.body ≡ Fail name → IsWellFormed functions (with_event h event)
+TrailFailLaw {S} start step = (observes : Call → Bool) (functions : Item → Name → Bool) (h : List Event) (event : Event) (name : Name) → event.body ≡ Fail name → IsWellFormed functions (with_event h event)
     → (states : List S) (rounds : List (List Placed)) (m : Member S) → ((reply : Reply) → Contains m.placed (event.process, reply) → ⊥)
     → ((round : ℕ) (reply : Reply) → Contains m.offers (round, (event.process, reply)) → ⊥)
     → IsTrailOf start step observes h states rounds m → IsTrailOf start step observes (with_event h event) states rounds m
 
 -- an ok keeps those of members that placed the operation with the reply, which then lack it, and have no offer to it
 abbrev pub TrailOkLaw : {S : Type 0} → S → (S → Call → S → Reply → Type 0) → Type 0
-TrailOkLaw {S} start step = (observes : Call → Bool) (functions : ℤ → Name → Bool) (h : List Event) (event : Event) (name : Name) (reply : Reply) → event.body ≡ Ok name reply
+TrailOkLaw {S} start step = (observes : Call → Bool) (functions : Item → Name → Bool) (h : List Event) (event : Event) (name : Name) (reply : Reply) → event.body ≡ Ok name reply
     → IsWellFormed functions (with_event h event) → (states : List S) (rounds : List (List Placed)) (m n : Member S) → m.state ≡ n.state → IsAdded event.process reply n.placed m.placed
     → ((x : ℕ × (ℕ × Reply)) → Contains n.offers x → Contains m.offers x) → ((round : ℕ) (other : Reply) → Contains n.offers (round, (event.process, other)) → ⊥)
     → IsTrailOf start step observes h states rounds m → IsTrailOf start step observes (with_event h event) states rounds n
 
 -- the ok of an observer with a reply that a round offers: it is put at the end of that round, and no longer open
 abbrev pub TrailObserverLaw : {S : Type 0} → S → (S → Call → S → Reply → Type 0) → Type 0
-TrailObserverLaw {S} start step = (observes : Call → Bool) → IsObserving step observes → (functions : ℤ → Name → Bool) (h : List Event) (event : Event) (name : Name) (reply : Reply) → event.body ≡ Ok name reply
+TrailObserverLaw {S} start step = (observes : Call → Bool) → IsObserving step observes → (functions : Item → Name → Bool) (h : List Event) (event : Event) (name : Name) (reply : Reply) → event.body ≡ Ok name reply
     → IsWellFormed functions (with_event h event) → (states : List S) (rounds : List (List Placed)) (m n : Member S) → IsTrailOf start step observes h states rounds m
-    → (at : ℕ) (key : ℤ) (call : Call) → IsOpen h at event.process key call → observes call ≡ true → (round : ℕ) → IsOfferFrom step h rounds m round (event.process, reply)
+    → (at : ℕ) (key : Item) (call : Call) → IsOpen h at event.process key call → observes call ≡ true → (round : ℕ) → IsOfferFrom step h rounds m round (event.process, reply)
     → ((other : Reply) → Contains m.placed (event.process, other) → ⊥) → m.state ≡ n.state → m.placed ≡ n.placed
     → ((x : ℕ × (ℕ × Reply)) → Contains n.offers x → Contains m.offers x) → ((round : ℕ) (other : Reply) → Contains n.offers (round, (event.process, other)) → ⊥)
     → IsTrailOf start step observes (with_event h event) states (put round (record { at = at; reply = reply }) rounds) n
 
 -- the ok of an operation that is placed with its reply: it begins a round, and is no longer open
 abbrev pub TrailReturnLaw : {S : Type 0} → S → (S → Call → S → Reply → Type 0) → Type 0
-TrailReturnLaw {S} start step = (observes : Call → Bool) (functions : ℤ → Name → Bool) (h : List Event) (event : Event) (name : Name) (reply : Reply) → event.body ≡ Ok name reply
+TrailReturnLaw {S} start step = (observes : Call → Bool) (functions : Item → Name → Bool) (h : List Event) (event : Event) (name : Name) (reply : Reply) → event.body ≡ Ok name reply
     → IsWellFormed functions (with_event h event) → (states : List S) (rounds : List (List Placed)) (m n : Member S) → IsTrailOf start step observes h states rounds m
     → (p : Placed) (placed : List (ℕ × Reply)) (placing : IsPlacing step h (m.state, m.placed) p (n.state, placed)) → placing.process ≡ event.process → p.reply ≡ reply → m.placed ≡ n.placed
     → OffersFrom step observes h rounds m n → ((round : ℕ) (other : Reply) → Contains n.offers (round, (event.process, other)) → ⊥)
@@ -95,7 +96,7 @@ TrailReturnLaw {S} start step = (observes : Call → Bool) (functions : ℤ → 
 
 -- all that a member with rounds leads to is true
 abbrev pub SoundLaw : {S : Type 0} → S → (S → Call → S → Reply → Type 0) → Type 0
-SoundLaw {S} start step = (observes : Call → Bool) → IsObserving step observes → (functions : ℤ → Name → Bool) (h : List Event) → IsWellFormed functions h
+SoundLaw {S} start step = (observes : Call → Bool) → IsObserving step observes → (functions : Item → Name → Bool) (h : List Event) → IsWellFormed functions h
     → (states : List S) (rounds : List (List Placed)) (m : Member S) → IsTrailOf start step observes h states rounds m → (c : S × List (ℕ × Reply)) → Leads step observes h m c → IsConfiguration start step h c
 
 -- a configuration exists just where a complete list, whose members have rounds, has a member

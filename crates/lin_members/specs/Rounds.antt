@@ -1,7 +1,8 @@
 -- Rounds: the order by which a member is come to, as a list of lists. A round begins with a placed operation, the first one with nothing, and each
 -- observer that returns with a reply that was on offer is put at the end of the round whose state gave it. An update that the last one overwrote
 -- becomes a round ahead of that.
-use Rattle.std.specs.Prelude.{◌≡◌, ℕ, ℤ, zero, suc, ◌<◌, cond, nat_lt, Bool, true, List, [], ◌∷◌, ◌++◌, length, Contains, Option, Some, None, slice_get}
+use Rattle.std.specs.Prelude.{◌≡◌, ℕ, zero, suc, ◌<◌, cond, nat_lt, Bool, true, List, [], ◌∷◌, ◌++◌, length, Contains, Option, Some, None, slice_get}
+use Rattle.lin_events.specs.declared.items.Item.{Item}
 use Rattle.lin_events.specs.declared.calls.Call.{Call}
 use Rattle.lin_events.specs.declared.calls.Reply.{Reply}
 use Rattle.lin_events.specs.declared.events.Event.{Event}
@@ -53,7 +54,7 @@ RunsBy step h from (state ∷ states) [] to = ⊥
 
 -- the state of the round gives the reply to the open observer of the process, and nothing in a later round is before that in real time
 pub record IsOfferedIn {S : Type 0} (step : S → Call → S → Reply → Type 0) (observes : Call → Bool) (h : List Event) (states : List S) (rounds : List (List Placed)) (round at : ℕ) (x : ℕ × Reply) : Type 0 where
-  pub key : ℤ
+  pub key : Item
   pub call : Call
   pub is_open : IsOpen h at x.0 key call
   pub observer : observes call ≡ true

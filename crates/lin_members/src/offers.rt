@@ -62,7 +62,7 @@ pub struct Shown<'a, O: SeqObject> {
 /// A bit for a reply on offer to the process.
 fn offer_bit(process: u64, reply: &Reply) -> u64 {
     let value = match reply {
-        Reply::Value(Val::Int(value)) => value.unsigned_abs() % 64,
+        Reply::Value(Val::Item(item)) => item.code() % 64,
         Reply::Value(Val::Nil) | Reply::Done | Reply::Members(_) => 63,
     };
     1 << ((process % 64 + 7 * value) % 64)

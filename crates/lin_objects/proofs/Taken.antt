@@ -1,15 +1,16 @@
--- What comes of taking each different number out of a bag.
-use Rattle.std.proofs.Common.{◌≡◌, ◌≢◌, ℕ, ℤ, ◌+◌, ◌<◌, ◌≤◌, List, [], ◌∷◌, ◌++◌, Some, length, get_or, sym, ap, ◌∙◌, subst, ⊎_elim, arith}
+-- What comes of taking each different item out of a bag.
+use Rattle.std.proofs.Common.{◌≡◌, ◌≢◌, ℕ, ◌+◌, ◌<◌, ◌≤◌, List, [], ◌∷◌, ◌++◌, Some, length, get_or, sym, ap, ◌∙◌, subst, ⊎_elim, arith}
 use Rattle.std.specs.Prelude.{AllPairs, Contains, slice_get}
 use Rattle.std.proofs.lemmas.Bool.{cases_lt}
 use Rattle.std.proofs.lemmas.List.{get_or_default}
 use Rattle.std.proofs.lemmas.List.Elements.{Contains-append_left, Contains-push, Contains-push_cases}
 use Rattle.std.proofs.lemmas.List.Quantifiers.{all_pairs_push}
 use Rattle.std.proofs.lemmas.Option.{slice_get_within}
+use Rattle.lin_events.specs.declared.items.Item.{Item}
 use Rattle.lin_events.specs.declared.calls.Call.TheVariants.{Dequeue}
 use Rattle.lin_events.specs.declared.calls.Reply.{Reply}
 use Rattle.lin_events.specs.declared.calls.Reply.TheVariants as Replied
-use Rattle.lin_events.specs.declared.calls.Val.TheVariants.{Int}
+use Rattle.lin_events.specs.declared.calls.Val.TheVariants.{Item as Held}
 use Rattle.lin_lists.specs.lemmas.Taken.{Contains-slice_get, slice_get-Contains}
 use Rattle.lin_objects.specs.Bags.{without_one}
 use Rattle.lin_objects.specs.inner.OnlySteps.{AreAllSteps}
@@ -18,30 +19,30 @@ use Rattle.lin_objects.specs.declared.kinds.Kind.TheVariants.{Bag}
 use Rattle.lin_objects.specs.declared.states.State.{State}
 use Rattle.lin_objects.specs.declared.states.State.TheVariants.{Bag as Bagged}
 
--- the bag without the number, and the number as a reply
-abbrev pub taken : List ℤ → ℤ → State × Reply
-taken q y = (Bagged (without_one y q), Replied.Value (Int y))
+-- the bag without the item, and the item as a reply
+abbrev pub taken : List Item → Item → State × Reply
+taken q y = (Bagged (without_one y q), Replied.Value (Held y))
 
--- what is listed comes of the first numbers, and of each of them something is, once
-pub record AreTaken (q : List ℤ) (n : ℕ) (out : List (State × Reply)) : Type 0 where
-  pub sound : (p : State × Reply) → Contains out p → (k : ℕ) × (y : ℤ) × (k < n) × (slice_get q k ≡ Some y) × (p ≡ taken q y)
-  pub complete : (k : ℕ) (y : ℤ) → k < n → slice_get q k ≡ Some y → Contains out (taken q y)
+-- what is listed comes of the first items, and of each of them something is, once
+pub record AreTaken (q : List Item) (n : ℕ) (out : List (State × Reply)) : Type 0 where
+  pub sound : (p : State × Reply) → Contains out p → (k : ℕ) × (y : Item) × (k < n) × (slice_get q k ≡ Some y) × (p ≡ taken q y)
+  pub complete : (k : ℕ) (y : Item) → k < n → slice_get q k ≡ Some y → Contains out (taken q y)
   pub once : AllPairs (λ p q. p ≢ q) out
 
-pub none_taken : (q : List ℤ) → AreTaken q 0 []
+pub none_taken : (q : List Item) → AreTaken q 0 []
 none_taken q = record {
   sound = λ p has. absurd (let h = has.1 in omega arith);
   complete = λ k y lt there. absurd (omega arith);
   once = λ i j d lt within. absurd (omega arith);
 }
 
-same_number : (q : List ℤ) (x y : ℤ) → taken q x ≡ taken q y → x ≡ y
-same_number q x y e =
-    let replies : Replied.Value (Int x) ≡ Replied.Value (Int y) = ap (λ (p : State × Reply). p.1) e in
+same_item : (q : List Item) (x y : Item) → taken q x ≡ taken q y → x ≡ y
+same_item q x y e =
+    let replies : Replied.Value (Held x) ≡ Replied.Value (Held y) = ap (λ (p : State × Reply). p.1) e in
     cc
 
--- one number more, which stands there first
-pub takes_first : (q : List ℤ) (n : ℕ) (y : ℤ) (out : List (State × Reply)) → slice_get q n ≡ Some y → IsFirstAt q n → AreTaken q n out → AreTaken q (n + 1) (out ++ taken q y ∷ [])
+-- one item more, which stands there first
+pub takes_first : (q : List Item) (n : ℕ) (y : Item) (out : List (State × Reply)) → slice_get q n ≡ Some y → IsFirstAt q n → AreTaken q n out → AreTaken q (n + 1) (out ++ taken q y ∷ [])
 takes_first q n y out there first so = record {
   sound = λ p has. ⊎_elim
       (λ (old : Contains out p). let f = so.sound p old in (f.0, f.1, omega (arith, f.2), f.3, f.4))
@@ -52,22 +53,22 @@ takes_first q n y out there first so = record {
       (λ (h : n ≤ k).
       let e : k ≡ n = omega arith in
       let same : Some x ≡ Some y = sym at ∙ ap (slice_get q) e ∙ there in
-      subst (λ z. Contains (out ++ taken q y ∷ []) (taken q z)) (number same) (Contains-push out (taken q y)))
+      subst (λ z. Contains (out ++ taken q y ∷ []) (taken q z)) (item same) (Contains-push out (taken q y)))
       (cases_lt k n);
   once = all_pairs_push (λ p q. p ≢ q) out (taken q y) so.once (λ k d within. not_there (get_or out k d) (k, within, get_or_default out k (get_or out k d) d within));
 }
   where
-    number : {x z : ℤ} → Some x ≡ Some z → z ≡ x
-    number e = cc
+    item : {x z : Item} → Some x ≡ Some z → z ≡ x
+    item e = cc
 
     not_there : (p : State × Reply) → Contains out p → p ≢ taken q y
     not_there p has e =
         let f = so.sound p has in
         let n = f.1 in
-        first f.0 f.2 (f.3 ∙ ap Some (same_number q n y (sym f.4 ∙ e)) ∙ sym there)
+        first f.0 f.2 (f.3 ∙ ap Some (same_item q n y (sym f.4 ∙ e)) ∙ sym there)
 
--- one number more, which stands ahead too
-pub takes_again : (q : List ℤ) (n : ℕ) (y : ℤ) (out : List (State × Reply)) → slice_get q n ≡ Some y → IsAgainAt q n → AreTaken q n out → AreTaken q (n + 1) out
+-- one item more, which stands ahead too
+pub takes_again : (q : List Item) (n : ℕ) (y : Item) (out : List (State × Reply)) → slice_get q n ≡ Some y → IsAgainAt q n → AreTaken q n out → AreTaken q (n + 1) out
 takes_again q n y out there again so = record {
   sound = λ p has. let f = so.sound p has in (f.0, f.1, omega (arith, f.2), f.3, f.4);
   complete = λ k x lt at. ⊎_elim
@@ -77,8 +78,8 @@ takes_again q n y out there again so = record {
   once = so.once;
 }
 
--- where all numbers were looked at, all steps are listed
-pub all_taken : (q : List ℤ) (n : ℕ) (out : List (State × Reply)) → 0 < length q → length q ≤ n → AreTaken q n out → AreAllSteps Bag (Bagged q) Dequeue out
+-- where all items were looked at, all steps are listed
+pub all_taken : (q : List Item) (n : ℕ) (out : List (State × Reply)) → 0 < length q → length q ≤ n → AreTaken q n out → AreAllSteps Bag (Bagged q) Dequeue out
 all_taken [] n out some all so = absurd (omega arith)
 all_taken (x ∷ q) n out some all so = record {
   sound = λ next reply has.
@@ -87,9 +88,9 @@ all_taken (x ∷ q) n out some all so = record {
   complete = λ next reply step.
       let p = slice_get-Contains (x ∷ q) step.0 step.1 in
       let within = slice_get_within (x ∷ q) p.0 step.0 p.1 in
-      subst (λ r. Contains out (next, r)) (sym step.3) (subst (λ s. Contains out (s, Replied.Value (Int step.0))) (sym step.2) (so.complete p.0 step.0 (omega arith) p.1));
+      subst (λ r. Contains out (next, r)) (sym step.3) (subst (λ s. Contains out (s, Replied.Value (Held step.0))) (sym step.2) (so.complete p.0 step.0 (omega arith) p.1));
   once = so.once;
 }
 
-pub as_taken : (q : List ℤ) (y : ℤ) (b : List ℤ) (z : ℤ) → b ≡ without_one y q → z ≡ y → (Bagged b, Replied.Value (Int z)) ≡ taken q y
-as_taken q y b z gone same = ap (λ l. (Bagged l, Replied.Value (Int z))) gone ∙ ap (λ n. (Bagged (without_one y q), Replied.Value (Int n))) same
+pub as_taken : (q : List Item) (y : Item) (b : List Item) (z : Item) → b ≡ without_one y q → z ≡ y → (Bagged b, Replied.Value (Held z)) ≡ taken q y
+as_taken q y b z gone same = ap (λ l. (Bagged l, Replied.Value (Held z))) gone ∙ ap (λ n. (Bagged (without_one y q), Replied.Value (Held n))) same

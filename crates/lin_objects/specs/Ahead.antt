@@ -1,16 +1,16 @@
 -- Calls that go first: what can be taken ahead of one of them can be taken behind it.
-use Rattle.std.specs.Prelude.{◌≡◌, ◌≤◌, ◌||◌, ℕ, ℤ, Bool, true, false, nat_eq, nat_le, nat_lt, List, [], ◌∷◌, length, count_by, IsPermutation}
-use Rattle.std.specs.Ordering.{int_eq}
+use Rattle.std.specs.Prelude.{◌≡◌, ◌≤◌, ◌||◌, ℕ, Bool, true, false, nat_eq, nat_le, nat_lt, List, [], ◌∷◌, length, count_by, IsPermutation}
+use Rattle.lin_events.specs.Items.{item_eq}
 use Rattle.lin_events.specs.declared.calls.Call.{Call}
 use Rattle.lin_events.specs.declared.calls.Call.TheVariants.{Read, Add, Enqueue, Dequeue}
 use Rattle.lin_events.specs.declared.calls.Reply.{Reply}
 use Rattle.lin_events.specs.declared.calls.Reply.TheVariants.{Value}
-use Rattle.lin_events.specs.declared.calls.Val.TheVariants.{Nil, Int}
+use Rattle.lin_events.specs.declared.calls.Val.TheVariants.{Nil, Item as Held}
 use Rattle.lin_objects.specs.declared.kinds.Kind.{Kind}
 use Rattle.lin_objects.specs.declared.kinds.Kind.TheVariants.{Set, Bag}
 use Rattle.lin_objects.specs.declared.states.State.{State}
 use Rattle.lin_objects.specs.declared.states.State.TheVariants.{Bag as Bagged}
-use Rattle.lin_objects.specs.Total.{has_number}
+use Rattle.lin_objects.specs.Total.{has_item}
 
 -- calls with their replies, each of a process, lead one after the other from the one state to the other
 abbrev pub Takes : {S : Type 0} → (S → Call → S → Reply → Type 0) → S → List (ℕ × Call × Reply) → S → Type 0
@@ -32,21 +32,21 @@ AreAhead {S} step hinders goes_first = (state : S) (call : Call) (reply : Reply)
 
 -- the call with the reply is hindered by the other call: all hinder one another, but for adds to a set, its reads, and what doesn't
 -- matter to an unordered queue. There enqueues are hindered by dequeues, which might find nothing without them; dequeues that found a
--- number by enqueues of it; and dequeues that found nothing by other dequeues
+-- item by enqueues of it; and dequeues that found nothing by other dequeues
 abbrev pub hinders : Kind → Call → Reply → Call → Bool
 hinders Set (Add x) reply (Add y) = false
 hinders Set Read reply Read = false
 hinders Bag (Enqueue x) reply (Enqueue y) = false
-hinders Bag Dequeue (Value (Int x)) (Enqueue y) = int_eq x y
-hinders Bag Dequeue (Value (Int x)) Dequeue = false
+hinders Bag Dequeue (Value (Held x)) (Enqueue y) = item_eq x y
+hinders Bag Dequeue (Value (Held x)) Dequeue = false
 hinders Bag Dequeue (Value Nil) (Enqueue y) = false
 hinders _ _ _ _ = true
 
 -- whether the call goes first in the state, with the reply, where so many hinder it: where none does; and of an unordered queue enqueues
--- where a number is inside for each of them, dequeues where what they found is inside, and those that found nothing where nothing is, or
+-- where an item is inside for each of them, dequeues where what they found is inside, and those that found nothing where nothing is, or
 -- where others can't take out all that is
 abbrev pub goes_first : Kind → State → Call → Reply → ℕ → Bool
 goes_first Bag (Bagged q) (Enqueue x) reply many = nat_le many (length q)
-goes_first Bag (Bagged q) Dequeue (Value (Int x)) many = nat_eq many 0 || has_number x q
+goes_first Bag (Bagged q) Dequeue (Value (Held x)) many = nat_eq many 0 || has_item x q
 goes_first Bag (Bagged q) Dequeue (Value Nil) many = nat_eq (length q) 0 || nat_lt many (length q)
 goes_first _ _ _ _ many = nat_eq many 0

@@ -1,66 +1,67 @@
 -- Calls of sets that commute: which of two is taken first makes no difference.
-use Rattle.std.specs.Prelude.{◌≡◌, ℤ, ◌<ℤ◌, List, [], ◌∷◌, Bool, true, false}
-use Rattle.std.proofs.Common.{refl, sym, ap, ◌∙◌, subst, true≢false, arith}
-use Rattle.std.specs.Ordering.{int_cmp, match_ordering}
-use Rattle.std.specs.declared.cmp.Ordering.TheVariants.{Less, Equal, Greater}
-use Rattle.std.proofs.lemmas.Cmp.{int_ranked, by_ranked}
-use Rattle.std.proofs.lemmas.Int.{ints}
+use Rattle.std.specs.Prelude.{◌≡◌, List, [], ◌∷◌, false}
+use Rattle.std.proofs.Common.{refl, sym, ap, ◌∙◌, subst, true≢false}
+use Rattle.lin_events.specs.declared.items.Item.{Item}
+use Rattle.lin_events.specs.Items.{item_cmp}
+use Rattle.lin_events.specs.Sameness.{items_tell, items_total}
+use Rattle.lin_events.specs.lemmas.Rising.{split}
 use Rattle.lin_events.specs.declared.calls.Call.{Call}
 use Rattle.lin_events.specs.declared.calls.Call.TheVariants.{Read, Add}
 use Rattle.lin_events.specs.declared.calls.Reply.{Reply}
 use Rattle.lin_lists.specs.Sets.{with_member}
+use Rattle.lin_lists.specs.lemmas.Rising.{put_before, put_behind, put_upon}
 use Rattle.lin_objects.specs.declared.kinds.Kind.TheVariants.{Set}
 use Rattle.lin_objects.specs.declared.states.State.TheVariants.{Members}
 use Rattle.lin_objects.specs.Ahead.{hinders}
 use Rattle.lin_objects.specs.Steps.{Step}
+use Rattle.lin_objects.specs.lemmas.Order.{◌⊏◌}
 
 -- where the other call can be taken and then this one, this one can be taken first, with the same replies and the same state after both
 abbrev pub GoesFirst : {S : Type 0} → (S → Call → S → Reply → Type 0) → Call → Call → Type 0
 GoesFirst {S} step call other = (state mid last : S) (before after : Reply) → step state other mid before → step mid call last after
     → (first : S) × step state call first after × step first other last before
 
--- how two numbers compare
-split : {G : Type 0} (x y : ℤ) → (int_cmp x y ≡ Less → x <ℤ y → G) → (int_cmp x y ≡ Equal → x ≡ y → G) → (int_cmp x y ≡ Greater → y <ℤ x → G) → G
-split {G} x y less equal greater = by_ranked (x <ℤ y) (x ≡ y) (y <ℤ x) {G = G} (int_cmp x y) (int_ranked x y (int_cmp x y) refl) less equal greater
+-- the item put into the set
+abbrev put : Item → List Item → List Item
+put = with_member item_cmp
 
-ahead : (x y : ℤ) (ys : List ℤ) → x <ℤ y → with_member x (y ∷ ys) ≡ x ∷ y ∷ ys
-ahead x y ys h = split x y (λ e q. ap (λ o. match_ordering o (x ∷ y ∷ ys) (y ∷ ys) (y ∷ with_member x ys)) e) (λ e q. absurd (omega (arith, ints))) (λ e q. absurd (omega (arith, ints)))
+ahead : (x y : Item) (ys : List Item) → x ⊏ y → put x (y ∷ ys) ≡ x ∷ y ∷ ys
+ahead = put_before item_cmp items_total items_tell
 
-upon : (x : ℤ) (ys : List ℤ) → with_member x (x ∷ ys) ≡ x ∷ ys
-upon x ys = split x x (λ e q. absurd (omega (arith, ints))) (λ e q. ap (λ o. match_ordering o (x ∷ x ∷ ys) (x ∷ ys) (x ∷ with_member x ys)) e) (λ e q. absurd (omega (arith, ints)))
+upon : (x y : Item) (ys : List Item) → x ≡ y → put x (y ∷ ys) ≡ y ∷ ys
+upon = put_upon item_cmp items_total items_tell
 
-behind : (x y : ℤ) (ys : List ℤ) → y <ℤ x → with_member x (y ∷ ys) ≡ y ∷ with_member x ys
-behind x y ys h = split x y (λ e q. absurd (omega (arith, ints))) (λ e q. absurd (omega (arith, ints))) (λ e q. ap (λ o. match_ordering o (x ∷ y ∷ ys) (y ∷ ys) (y ∷ with_member x ys)) e)
+behind : (x y : Item) (ys : List Item) → y ⊏ x → put x (y ∷ ys) ≡ y ∷ put x ys
+behind = put_behind item_cmp items_total items_tell
 
--- a smaller number and a greater one, where the list has another number first
-put_both : (x y : ℤ) (s : List ℤ) → x <ℤ y → with_member x (with_member y s) ≡ with_member y (with_member x s)
+-- a smaller item and a greater one, where the list has another item first
+put_both : (x y : Item) (s : List Item) → x ⊏ y → put x (put y s) ≡ put y (put x s)
 put_both x y [] h = ahead x y [] h ∙ sym (behind y x [] h)
 put_both x y (z ∷ zs) h = split x z
-    (λ e q. split y z
-    (λ f r. ap (with_member x) (ahead y z zs r) ∙ ahead x y (z ∷ zs) h ∙ ap (λ l. x ∷ l) (sym (ahead y z zs r)) ∙ sym (behind y x (z ∷ zs) h) ∙ ap (with_member y) (sym (ahead x z zs q)))
-    (λ f r. over x y z zs h q (subst (λ w. with_member w (z ∷ zs) ≡ z ∷ zs) (sym r) (upon z zs)))
-    (λ f r. ap (with_member x) (behind y z zs r) ∙ ahead x z (with_member y zs) q ∙ ap (λ l. x ∷ l) (sym (behind y z zs r)) ∙ sym (behind y x (z ∷ zs) h) ∙ ap (with_member y) (sym (ahead x z zs q))))
-    (λ e q.
-    let greater : z <ℤ y = subst (λ w. w <ℤ y) q h in
-    let stays : (l : List ℤ) → with_member x (z ∷ l) ≡ z ∷ l = λ l. subst (λ w. with_member w (z ∷ l) ≡ z ∷ l) (sym q) (upon z l) in
-    ap (with_member x) (behind y z zs greater) ∙ stays (with_member y zs) ∙ sym (behind y z zs greater) ∙ ap (with_member y) (sym (stays zs)))
-    (λ e q.
-    let greater : z <ℤ y = omega (arith, ints) in
-    ap (with_member x) (behind y z zs greater) ∙ behind x z (with_member y zs) q ∙ ap (λ l. z ∷ l) (put_both x y zs h) ∙ sym (behind y z (with_member x zs) greater) ∙ ap (with_member y) (sym (behind x z zs q)))
+    (λ q. split y z
+    (λ r. ap (put x) (ahead y z zs r) ∙ ahead x y (z ∷ zs) h ∙ ap (λ l. x ∷ l) (sym (ahead y z zs r)) ∙ sym (behind y x (z ∷ zs) h) ∙ ap (put y) (sym (ahead x z zs q)))
+    (λ r. over x y z zs h q (upon y z zs r))
+    (λ r. ap (put x) (behind y z zs r) ∙ ahead x z (put y zs) q ∙ ap (λ l. x ∷ l) (sym (behind y z zs r)) ∙ sym (behind y x (z ∷ zs) h) ∙ ap (put y) (sym (ahead x z zs q))))
+    (λ q.
+    let greater : z ⊏ y = subst (λ w. w ⊏ y) q h in
+    ap (put x) (behind y z zs greater) ∙ upon x z (put y zs) q ∙ sym (behind y z zs greater) ∙ ap (put y) (sym (upon x z zs q)))
+    (λ q.
+    let greater : z ⊏ y = items_total.trans z x y q h in
+    ap (put x) (behind y z zs greater) ∙ behind x z (put y zs) q ∙ ap (λ l. z ∷ l) (put_both x y zs h) ∙ sym (behind y z (put x zs) greater) ∙ ap (put y) (sym (behind x z zs q)))
   where
     -- where the greater one is there
-    over : (x y z : ℤ) (zs : List ℤ) → x <ℤ y → x <ℤ z → with_member y (z ∷ zs) ≡ z ∷ zs → with_member x (with_member y (z ∷ zs)) ≡ with_member y (with_member x (z ∷ zs))
-    over x y z zs h q same = ap (with_member x) same ∙ ahead x z zs q ∙ ap (λ l. x ∷ l) (sym same) ∙ sym (behind y x (z ∷ zs) h) ∙ ap (with_member y) (sym (ahead x z zs q))
+    over : (x y z : Item) (zs : List Item) → x ⊏ y → x ⊏ z → put y (z ∷ zs) ≡ z ∷ zs → put x (put y (z ∷ zs)) ≡ put y (put x (z ∷ zs))
+    over x y z zs h q same = ap (put x) same ∙ ahead x z zs q ∙ ap (λ l. x ∷ l) (sym same) ∙ sym (behind y x (z ∷ zs) h) ∙ ap (put y) (sym (ahead x z zs q))
 
--- which of two numbers is put into a set first makes no difference
-put_either : (x y : ℤ) (s : List ℤ) → with_member x (with_member y s) ≡ with_member y (with_member x s)
-put_either x y s = split x y (λ e q. put_both x y s q) (λ e q. subst (λ w. with_member x (with_member w s) ≡ with_member w (with_member x s)) q refl) (λ e q. sym (put_both y x s q))
+-- which of two items is put into a set first makes no difference
+put_either : (x y : Item) (s : List Item) → put x (put y s) ≡ put y (put x s)
+put_either x y s = split x y (λ q. put_both x y s q) (λ q. subst (λ w. put x (put w s) ≡ put w (put x s)) q refl) (λ q. sym (put_both y x s q))
 
 -- calls of a set go first of those that don't hinder them
 pub set_goes_first : (call : Call) (reply : Reply) (other : Call) → hinders Set call reply other ≡ false → GoesFirst (Step Set) call other
 set_goes_first (Add x) reply (Add y) c (Members s) mid last before after one two =
-    let then' : Step Set (Members (with_member y s)) (Add x) last after = subst (λ m. Step Set m (Add x) last after) one.0 two in
-    (Members (with_member x s), (refl, then'.1), (then'.0 ∙ ap Members (put_either x y s), one.1))
+    let then' : Step Set (Members (put y s)) (Add x) last after = subst (λ m. Step Set m (Add x) last after) one.0 two in
+    (Members (put x s), (refl, then'.1), (then'.0 ∙ ap Members (put_either x y s), one.1))
 set_goes_first Read reply Read c (Members s) mid last before after one two =
     let then' : Step Set (Members s) Read last after = subst (λ m. Step Set m Read last after) one.0 two in
     (Members s, (refl, then'.1), (then'.0, one.1))

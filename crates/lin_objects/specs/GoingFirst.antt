@@ -1,29 +1,30 @@
 -- Which calls of each kind go first.
-use Rattle.std.proofs.Common.{◌≡◌, ◌⊎◌, ◌≤◌, ◌+◌, ℕ, ℤ, Bool, true, false, List, [], ◌∷◌, ◌++◌, length, count_by, Contains, IsPermutation, inl, inr, refl, sym, ap, subst, ◌∙◌, arith, true≢false, nat_eq, nat_lt, suc, ◌||◌}
-use Rattle.std.specs.Ordering.{int_eq}
+use Rattle.std.proofs.Common.{◌≡◌, ◌⊎◌, ◌≤◌, ◌+◌, ℕ, Bool, true, false, List, [], ◌∷◌, ◌++◌, length, count_by, Contains, IsPermutation, inl, inr, refl, sym, ap, subst, ◌∙◌, arith, true≢false, nat_eq, nat_lt, suc, ◌||◌}
 use Rattle.std.proofs.lemmas.Bool.{cases_Bool, or_cases}
-use Rattle.std.proofs.lemmas.Bool.Decides.{Decides-int_eq}
 use Rattle.std.proofs.lemmas.List.Folds.{Any-from_list_any, list_any-from_Any}
 use Rattle.std.proofs.lemmas.List.Sorted.{IsPermutation-cons, IsPermutation-refl, IsPermutation-sym, IsPermutation-to_front}
+use Rattle.lin_events.specs.declared.items.Item.{Item}
+use Rattle.lin_events.specs.Sameness.{Decides-item_eq}
+use Rattle.lin_events.specs.Items.{item_eq}
 use Rattle.lin_lists.specs.lemmas.Elements.{first_or_rest, nothing_in}
 use Rattle.lin_events.specs.declared.calls.Call.{Call}
-use Rattle.lin_events.specs.declared.calls.Call.TheVariants.{Read, Write, Cas, Add, Enqueue, Dequeue, Acquire, Release}
+use Rattle.lin_events.specs.declared.calls.Call.TheVariants.{Enqueue, Dequeue}
 use Rattle.lin_events.specs.declared.calls.Reply.{Reply}
 use Rattle.lin_events.specs.declared.calls.Reply.TheVariants as Replied
-use Rattle.lin_events.specs.declared.calls.Val.TheVariants.{Nil, Int}
+use Rattle.lin_events.specs.declared.calls.Val.TheVariants.{Nil, Item as Held}
 use Rattle.lin_objects.specs.declared.kinds.Kind.{Kind}
 use Rattle.lin_objects.specs.declared.kinds.Kind.TheVariants.{Register, CasRegister, Fifo, Set, Mutex, Bag}
 use Rattle.lin_objects.specs.declared.states.State.{State}
-use Rattle.lin_objects.specs.declared.states.State.TheVariants.{Value, Queue, Members, Held}
 use Rattle.lin_objects.specs.declared.states.State.TheVariants.{Bag as Bagged}
 use Rattle.lin_objects.specs.Ahead.{AreAhead, IsFirst, Takes, goes_first, hinders}
 use Rattle.lin_objects.specs.Bags.{bag_of, without_one}
 use Rattle.lin_objects.specs.Commuting.{GoesFirst, set_goes_first}
 use Rattle.lin_objects.specs.Steps.{Step}
-use Rattle.lin_objects.specs.Total.{has_number}
+use Rattle.lin_objects.specs.Total.{has_item}
 use Rattle.lin_objects.specs.lemmas.Bags.{bag_either}
 use Rattle.lin_objects.specs.lemmas.Counted.{count_no, count_yes, from_eq, from_le, from_lt, none_counted}
-use Rattle.lin_objects.specs.lemmas.Outs.{bag_long, bag_without, from_bag, in_bag, one_less, out_either, still_in, this_or_other, was_in}
+use Rattle.lin_objects.specs.lemmas.Order.{this_or_other}
+use Rattle.lin_objects.specs.lemmas.Outs.{bag_long, bag_without, from_bag, in_bag, one_less, out_either, still_in, was_in}
 
 module _ {S : Type 0} (step : S → Call → S → Reply → Type 0) where
   -- one more call at the end
@@ -50,24 +51,24 @@ module _ {S : Type 0} (step : S → Call → S → Reply → Type 0) where
       (first.0, first.1, others, IsPermutation-refl others, first.2)
 
 -- a bag's dequeues
-take_out : (q : List ℤ) (y : ℤ) → Contains q y → Step Bag (Bagged q) Dequeue (Bagged (without_one y q)) (Replied.Value (Int y))
+take_out : (q : List Item) (y : Item) → Contains q y → Step Bag (Bagged q) Dequeue (Bagged (without_one y q)) (Replied.Value (Held y))
 take_out [] y there = absurd (nothing_in y there)
 take_out (x ∷ q) y there = (y, there, refl, refl)
 
-taken_out : (q : List ℤ) (next : State) (reply : Reply) → Step Bag (Bagged q) Dequeue next reply
-    → ((q ≡ []) × (next ≡ Bagged []) × (reply ≡ Replied.Value Nil)) ⊎ ((y : ℤ) × Contains q y × (next ≡ Bagged (without_one y q)) × (reply ≡ Replied.Value (Int y)))
+taken_out : (q : List Item) (next : State) (reply : Reply) → Step Bag (Bagged q) Dequeue next reply
+    → ((q ≡ []) × (next ≡ Bagged []) × (reply ≡ Replied.Value Nil)) ⊎ ((y : Item) × Contains q y × (next ≡ Bagged (without_one y q)) × (reply ≡ Replied.Value (Held y)))
 taken_out [] next reply steps = inl (refl, steps.0, steps.1)
 taken_out (x ∷ q) next reply steps = inr steps
 
-same_number : {x y : ℤ} → Replied.Value (Int x) ≡ Replied.Value (Int y) → x ≡ y
-same_number e = cc
+same_item : {x y : Item} → Replied.Value (Held x) ≡ Replied.Value (Held y) → x ≡ y
+same_item e = cc
 
-no_number : {y : ℤ} → Replied.Value Nil ≡ Replied.Value (Int y) → ⊥
-no_number e = cc
+no_item : {y : Item} → Replied.Value Nil ≡ Replied.Value (Held y) → ⊥
+no_item e = cc
 
--- behind an enqueue the others do as ahead of it, where a number is inside for each dequeue
-behind_enqueue : (x : ℤ) (given : Reply) (others : List (ℕ × Call × Reply)) (q : List ℤ) (mid : State) → count_by (λ o. hinders Bag (Enqueue x) given o.1) others ≤ length q → Takes (Step Bag) (Bagged q) others mid
-    → (m : List ℤ) × (mid ≡ Bagged m) × Takes (Step Bag) (Bagged (bag_of (x ∷ q))) others (Bagged (bag_of (x ∷ m)))
+-- behind an enqueue the others do as ahead of it, where an item is inside for each dequeue
+behind_enqueue : (x : Item) (given : Reply) (others : List (ℕ × Call × Reply)) (q : List Item) (mid : State) → count_by (λ o. hinders Bag (Enqueue x) given o.1) others ≤ length q → Takes (Step Bag) (Bagged q) others mid
+    → (m : List Item) × (mid ≡ Bagged m) × Takes (Step Bag) (Bagged (bag_of (x ∷ q))) others (Bagged (bag_of (x ∷ m)))
 behind_enqueue x given [] q mid few takes = (q, sym takes, refl)
 behind_enqueue x given ((p, Enqueue y, r) ∷ others) q mid few takes =
     let next = subst (λ s. Takes (Step Bag) s others mid) takes.1.0 takes.2 in
@@ -97,16 +98,16 @@ behind_enqueue x given ((p, Dequeue, r) ∷ others) q mid few takes =
           )
     ]
   where
-    later : (x : ℤ) (q : List ℤ) (y : ℤ) → Contains q y → Contains (x ∷ q) y
+    later : (x : Item) (q : List Item) (y : Item) → Contains q y → Contains (x ∷ q) y
     later x q y there = (suc there.0, omega (arith, there.1), there.2)
 behind_enqueue x given ((p, _, r) ∷ others) q mid few takes = absurd takes.1
 
 -- behind a dequeue that finds what is inside the others come to the same end, where one that found it as well comes last
-behind_dequeue : (v : ℤ) (others : List (ℕ × Call × Reply)) (q : List ℤ) (mid last : State) → Contains q v → Takes (Step Bag) (Bagged q) others mid → Step Bag mid Dequeue last (Replied.Value (Int v))
+behind_dequeue : (v : Item) (others : List (ℕ × Call × Reply)) (q : List Item) (mid last : State) → Contains q v → Takes (Step Bag) (Bagged q) others mid → Step Bag mid Dequeue last (Replied.Value (Held v))
     → (again : List (ℕ × Call × Reply)) × IsPermutation others again × Takes (Step Bag) (Bagged (without_one v q)) again last
-behind_dequeue v [] q mid last there takes steps = elim (taken_out q last (Replied.Value (Int v)) (subst (λ s. Step Bag s Dequeue last (Replied.Value (Int v))) (sym takes) steps)) [
+behind_dequeue v [] q mid last there takes steps = elim (taken_out q last (Replied.Value (Held v)) (subst (λ s. Step Bag s Dequeue last (Replied.Value (Held v))) (sym takes) steps)) [
   | inl none ↦ absurd (nothing_in v (subst (λ l. Contains l v) none.0 there))
-  | inr some ↦ ([], IsPermutation-refl [], ap (λ w. Bagged (without_one w q)) (same_number some.3) ∙ sym some.2)
+  | inr some ↦ ([], IsPermutation-refl [], ap (λ w. Bagged (without_one w q)) (same_item some.3) ∙ sym some.2)
 ]
 behind_dequeue v ((p, Enqueue y, r) ∷ others) q mid last there takes steps =
     let next = subst (λ s. Takes (Step Bag) s others mid) takes.1.0 takes.2 in
@@ -122,7 +123,7 @@ behind_dequeue v ((p, Dequeue, r) ∷ others) q mid last there takes steps = eli
       others ++ (p, Dequeue, r) ∷ [],
       IsPermutation-sym _ _ (IsPermutation-to_front others (p, Dequeue, r)),
       takes_last (Step Bag) others (Bagged (without_one v q)) mid last (p, Dequeue, r) (subst (λ s. Takes (Step Bag) s others mid) (some.2 ∙ ap (λ w. Bagged (without_one w q)) same) takes.2)
-          (subst (Step Bag mid Dequeue last) (sym (some.3 ∙ ap (λ w. Replied.Value (Int w)) same)) steps),
+          (subst (Step Bag mid Dequeue last) (sym (some.3 ∙ ap (λ w. Replied.Value (Held w)) same)) steps),
     )
     | inr differ ↦
         let next = subst (λ s. Takes (Step Bag) s others mid) some.2 takes.2 in
@@ -141,28 +142,28 @@ behind_dequeue v ((p, Dequeue, r) ∷ others) q mid last there takes steps = eli
 behind_dequeue v ((p, _, r) ∷ others) q mid last there takes steps = absurd takes.1
 
 -- what isn't inside is found only where it is enqueued
-stays_out : (v : ℤ) (others : List (ℕ × Call × Reply)) (q : List ℤ) (mid : State) → (Contains q v → ⊥) → count_by (λ o. hinders Bag Dequeue (Replied.Value (Int v)) o.1) others ≤ 0 → Takes (Step Bag) (Bagged q) others mid
-    → (m : List ℤ) × (mid ≡ Bagged m) × (Contains m v → ⊥)
+stays_out : (v : Item) (others : List (ℕ × Call × Reply)) (q : List Item) (mid : State) → (Contains q v → ⊥) → count_by (λ o. hinders Bag Dequeue (Replied.Value (Held v)) o.1) others ≤ 0 → Takes (Step Bag) (Bagged q) others mid
+    → (m : List Item) × (mid ≡ Bagged m) × (Contains m v → ⊥)
 stays_out v [] q mid out none takes = (q, sym takes, out)
 stays_out v ((p, Enqueue y, r) ∷ others) q mid out none takes =
-    let counted = none_counted (λ (o : ℕ × Call × Reply). hinders Bag Dequeue (Replied.Value (Int v)) o.1) (p, Enqueue y, r) others none in
+    let counted = none_counted (λ (o : ℕ × Call × Reply). hinders Bag Dequeue (Replied.Value (Held v)) o.1) (p, Enqueue y, r) others none in
     stays_out v others (bag_of (y ∷ q)) mid
     (λ there. elim (first_or_rest y q v (from_bag (y ∷ q) v there)) [
-      | inl same ↦ true≢false (sym ((Decides-int_eq v y).1 (sym same)) ∙ counted.0)
+      | inl same ↦ true≢false (sym ((Decides-item_eq v y).1 (sym same)) ∙ counted.0)
       | inr later ↦ out later
     ])
     counted.1 (subst (λ s. Takes (Step Bag) s others mid) takes.1.0 takes.2)
 stays_out v ((p, Dequeue, r) ∷ others) q mid out none takes =
-    let counted = none_counted (λ (o : ℕ × Call × Reply). hinders Bag Dequeue (Replied.Value (Int v)) o.1) (p, Dequeue, r) others none in
+    let counted = none_counted (λ (o : ℕ × Call × Reply). hinders Bag Dequeue (Replied.Value (Held v)) o.1) (p, Dequeue, r) others none in
     elim (taken_out q takes.0 r takes.1) [
       | inl empty ↦ stays_out v others [] mid (λ there. nothing_in v there) counted.1 (subst (λ s. Takes (Step Bag) s others mid) empty.1 takes.2)
       | inr some ↦ stays_out v others (without_one some.0 q) mid (λ there. out (was_in some.0 v q there)) counted.1 (subst (λ s. Takes (Step Bag) s others mid) some.2 takes.2)
     ]
 stays_out v ((p, _, r) ∷ others) q mid out none takes = absurd takes.1
 
--- each dequeue takes out one number at most
-left_inside : (others : List (ℕ × Call × Reply)) (q : List ℤ) (mid : State) → Takes (Step Bag) (Bagged q) others mid
-    → (m : List ℤ) × (mid ≡ Bagged m) × (length q ≤ length m + count_by (λ o. hinders Bag Dequeue (Replied.Value Nil) o.1) others)
+-- each dequeue takes out one item at most
+left_inside : (others : List (ℕ × Call × Reply)) (q : List Item) (mid : State) → Takes (Step Bag) (Bagged q) others mid
+    → (m : List Item) × (mid ≡ Bagged m) × (length q ≤ length m + count_by (λ o. hinders Bag Dequeue (Replied.Value Nil) o.1) others)
 left_inside [] q mid takes = (q, sym takes, omega arith)
 left_inside ((p, Enqueue y, r) ∷ others) q mid takes =
     let many = count_no (λ (o : ℕ × Call × Reply). hinders Bag Dequeue (Replied.Value Nil) o.1) (p, Enqueue y, r) others refl in
@@ -184,28 +185,28 @@ left_inside ((p, Dequeue, r) ∷ others) q mid takes =
 left_inside ((p, _, r) ∷ others) q mid takes = absurd takes.1
 
 -- a dequeue that finds nothing leaves nothing
-finds_nothing : (m : List ℤ) (last : State) → Step Bag (Bagged m) Dequeue last (Replied.Value Nil) → (m ≡ []) × (last ≡ Bagged [])
+finds_nothing : (m : List Item) (last : State) → Step Bag (Bagged m) Dequeue last (Replied.Value Nil) → (m ≡ []) × (last ≡ Bagged [])
 finds_nothing m last steps = elim (taken_out m last (Replied.Value Nil) steps) [
   | inl none ↦ (none.0, none.1)
-  | inr some ↦ absurd (no_number some.3)
+  | inr some ↦ absurd (no_item some.3)
 ]
 
-empty_list : (q : List ℤ) → length q ≡ 0 → q ≡ []
+empty_list : (q : List Item) → length q ≡ 0 → q ≡ []
 empty_list [] e = refl
 empty_list (x ∷ q) e = absurd (omega (arith, e))
 
-inside : (v : ℤ) (q : List ℤ) → has_number v q ≡ true → Contains q v
-inside v q e = let is = Any-from_list_any (λ y. int_eq y v) q e in subst (Contains q) ((Decides-int_eq is.1 v).0 is.4) (is.0, is.2, is.3)
+inside : (v : Item) (q : List Item) → has_item v q ≡ true → Contains q v
+inside v q e = let is = Any-from_list_any (λ y. item_eq y v) q e in subst (Contains q) ((Decides-item_eq is.1 v).0 is.4) (is.0, is.2, is.3)
 
-is_inside : (v : ℤ) (q : List ℤ) → Contains q v → has_number v q ≡ true
-is_inside v q there = list_any-from_Any (λ y. int_eq y v) q (there.0, v, there.1, there.2, (Decides-int_eq v v).1 refl)
+is_inside : (v : Item) (q : List Item) → Contains q v → has_item v q ≡ true
+is_inside v q there = list_any-from_Any (λ y. item_eq y v) q (there.0, v, there.1, there.2, (Decides-item_eq v v).1 refl)
 
-no_step : (state : State) (call : Call) (next : State) (reply : Reply) → Step Bag state call next reply → (q : List ℤ) × (state ≡ Bagged q)
+no_step : (state : State) (call : Call) (next : State) (reply : Reply) → Step Bag state call next reply → (q : List Item) × (state ≡ Bagged q)
 no_step (Bagged q) call next reply steps = (q, refl)
 no_step _ call next reply steps = absurd steps
 
 -- from what is no bag nothing goes
-no_first : (state : State) → ((q : List ℤ) → state ≡ Bagged q → ⊥) → (call : Call) (reply : Reply) (others : List (ℕ × Call × Reply)) (mid last : State) → Takes (Step Bag) state others mid → Step Bag mid call last reply
+no_first : (state : State) → ((q : List Item) → state ≡ Bagged q → ⊥) → (call : Call) (reply : Reply) (others : List (ℕ × Call × Reply)) (mid last : State) → Takes (Step Bag) state others mid → Step Bag mid call last reply
     → IsFirst (Step Bag) state call reply others last
 no_first state never call reply [] mid last takes steps = let is = no_step state call last reply (subst (λ s. Step Bag s call last reply) (sym takes) steps) in absurd (never is.0 is.1)
 no_first state never call reply (x ∷ others) mid last takes steps = let is = no_step state x.1 takes.0 x.2 takes.1 in absurd (never is.0 is.1)
@@ -221,17 +222,17 @@ calls_go_first Bag (Bagged q) (Enqueue x) reply many says others mid last few ta
     let h = behind_enqueue x reply others q mid (omega (arith, few, within)) takes in
     let end = subst (λ s. Step Bag s (Enqueue x) last reply) h.1 steps in
     (Bagged (bag_of (x ∷ q)), (refl, end.1), others, IsPermutation-refl others, subst (Takes (Step Bag) (Bagged (bag_of (x ∷ q))) others) (sym end.0) h.2)
-calls_go_first Bag (Bagged q) Dequeue (Replied.Value (Int v)) many says others mid last few takes steps = elim (cases_Bool (has_number v q)) [
+calls_go_first Bag (Bagged q) Dequeue (Replied.Value (Held v)) many says others mid last few takes steps = elim (cases_Bool (has_item v q)) [
   | inl yes' ↦
       let there = inside v q yes' in
       let h = behind_dequeue v others q mid last there takes steps in
       (Bagged (without_one v q), take_out q v there, h.0, h.1, h.2)
   | inr no' ↦
-      let none = from_eq many 0 (or_first (nat_eq many 0) (has_number v q) says no') in
+      let none = from_eq many 0 (or_first (nat_eq many 0) (has_item v q) says no') in
       let h = stays_out v others q mid (λ there. true≢false (sym (is_inside v q there) ∙ no')) (omega (arith, few, none)) takes in
-      absurd (elim (taken_out h.0 last (Replied.Value (Int v)) (subst (λ s. Step Bag s Dequeue last (Replied.Value (Int v))) h.1 steps)) [
-        | inl empty ↦ no_number (sym empty.2)
-        | inr some ↦ h.2 (subst (Contains h.0) (sym (same_number some.3)) some.1)
+      absurd (elim (taken_out h.0 last (Replied.Value (Held v)) (subst (λ s. Step Bag s Dequeue last (Replied.Value (Held v))) h.1 steps)) [
+        | inl empty ↦ no_item (sym empty.2)
+        | inr some ↦ h.2 (subst (Contains h.0) (sym (same_item some.3)) some.1)
       ])
 ]
 calls_go_first Bag (Bagged q) Dequeue (Replied.Value Nil) many says others mid last few takes steps =

@@ -1,8 +1,10 @@
 -- The sequential objects: where each kind begins, the functions that it has, and the steps that it takes.
-use Rattle.std.specs.Prelude.{◌≡◌, ℤ, Bool, true, false, [], ◌∷◌, ◌++◌, Contains}
+use Rattle.std.specs.Prelude.{◌≡◌, Bool, true, false, [], ◌∷◌, ◌++◌, Contains}
+use Rattle.lin_events.specs.declared.items.Item.{Item}
+use Rattle.lin_events.specs.Items.{item_cmp}
 use Rattle.lin_events.specs.declared.calls.Name.{Name}
 use Rattle.lin_events.specs.declared.calls.Name.TheVariants as Named
-use Rattle.lin_events.specs.declared.calls.Val.TheVariants.{Nil, Int}
+use Rattle.lin_events.specs.declared.calls.Val.TheVariants.{Nil, Item as Held}
 use Rattle.lin_events.specs.declared.calls.Call.{Call}
 use Rattle.lin_events.specs.declared.calls.Call.TheVariants.{Read, Write, Cas, Enqueue, Dequeue, Add, Acquire, Release}
 use Rattle.lin_events.specs.declared.calls.Reply.{Reply}
@@ -11,7 +13,7 @@ use Rattle.lin_lists.specs.Sets.{with_member}
 use Rattle.lin_objects.specs.declared.kinds.Kind.{Kind}
 use Rattle.lin_objects.specs.declared.kinds.Kind.TheVariants.{Register, CasRegister, Fifo, Set, Mutex, Bag}
 use Rattle.lin_objects.specs.declared.states.State.{State}
-use Rattle.lin_objects.specs.declared.states.State.TheVariants.{Value, Queue, Members, Held}
+use Rattle.lin_objects.specs.declared.states.State.TheVariants.{Value, Queue, Members, Held as Locked}
 use Rattle.lin_objects.specs.declared.states.State.TheVariants.{Bag as Bagged}
 use Rattle.lin_objects.specs.Bags.{bag_of, without_one}
 
@@ -21,7 +23,7 @@ start Register = Value Nil
 start CasRegister = Value Nil
 start Fifo = Queue []
 start Set = Members []
-start Mutex = Held false
+start Mutex = Locked false
 start Bag = Bagged []
 
 -- the functions that objects of the kind have
@@ -49,13 +51,13 @@ Step CasRegister (Value v) Read next reply = (next ≡ Value v) × (reply ≡ Re
 Step CasRegister (Value v) (Write w) next reply = (next ≡ Value w) × (reply ≡ Replied.Done)
 Step CasRegister (Value v) (Cas from to) next reply = (v ≡ from) × (next ≡ Value to) × (reply ≡ Replied.Done)
 Step Fifo (Queue q) (Enqueue x) next reply = (next ≡ Queue (q ++ x ∷ [])) × (reply ≡ Replied.Done)
-Step Fifo (Queue (x ∷ q)) Dequeue next reply = (next ≡ Queue q) × (reply ≡ Replied.Value (Int x))
+Step Fifo (Queue (x ∷ q)) Dequeue next reply = (next ≡ Queue q) × (reply ≡ Replied.Value (Held x))
 Step Fifo (Queue []) Dequeue next reply = (next ≡ Queue []) × (reply ≡ Replied.Value Nil)
-Step Set (Members s) (Add x) next reply = (next ≡ Members (with_member x s)) × (reply ≡ Replied.Done)
+Step Set (Members s) (Add x) next reply = (next ≡ Members (with_member item_cmp x s)) × (reply ≡ Replied.Done)
 Step Set (Members s) Read next reply = (next ≡ Members s) × (reply ≡ Replied.Members s)
-Step Mutex (Held false) Acquire next reply = (next ≡ Held true) × (reply ≡ Replied.Done)
-Step Mutex (Held true) Release next reply = (next ≡ Held false) × (reply ≡ Replied.Done)
+Step Mutex (Locked false) Acquire next reply = (next ≡ Locked true) × (reply ≡ Replied.Done)
+Step Mutex (Locked true) Release next reply = (next ≡ Locked false) × (reply ≡ Replied.Done)
 Step Bag (Bagged q) (Enqueue x) next reply = (next ≡ Bagged (bag_of (x ∷ q))) × (reply ≡ Replied.Done)
 Step Bag (Bagged []) Dequeue next reply = (next ≡ Bagged []) × (reply ≡ Replied.Value Nil)
-Step Bag (Bagged (x ∷ q)) Dequeue next reply = (y : ℤ) × Contains (x ∷ q) y × (next ≡ Bagged (without_one y (x ∷ q))) × (reply ≡ Replied.Value (Int y))
+Step Bag (Bagged (x ∷ q)) Dequeue next reply = (y : Item) × Contains (x ∷ q) y × (next ≡ Bagged (without_one y (x ∷ q))) × (reply ≡ Replied.Value (Held y))
 Step _ _ _ next reply = ⊥

@@ -1,15 +1,16 @@
 -- Total operations (Herlihy and Wing 1990, section 2): calls that an object takes wherever it stands, and replies that show which calls it took.
-use Rattle.std.specs.Prelude.{◌≡◌, ◌≢◌, ◌++◌, ◌∷◌, ℤ, List, [], Bool, true, false, Contains}
+use Rattle.std.specs.Prelude.{◌≡◌, ◌≢◌, ◌++◌, ◌∷◌, List, [], Bool, true, false, Contains}
 use Rattle.std.specs.List.{list_any}
-use Rattle.std.specs.Ordering.{int_eq}
 use Rattle.std.proofs.Common.{refl, sym, ap, subst, true≢false, ◌∙◌, ⊎_elim}
-use Rattle.std.proofs.lemmas.Bool.Decides.{Decides-int_eq}
 use Rattle.std.proofs.lemmas.List.Folds.{Any-from_list_any, list_any-from_Any}
-use Rattle.lin_lists.specs.lemmas.Rising.{contains_first, with_has, with_keeps, with_adds_none}
+use Rattle.lin_events.specs.declared.items.Item.{Item}
+use Rattle.lin_events.specs.Sameness.{Decides-item_eq}
+use Rattle.lin_events.specs.Items.{item_cmp, item_eq}
+use Rattle.lin_events.specs.lemmas.Rising.{contains_first, with_has, with_keeps, with_adds_none}
 use Rattle.lin_events.specs.declared.calls.Call.{Call}
 use Rattle.lin_events.specs.declared.calls.Call.TheVariants.{Read, Enqueue, Dequeue, Add}
 use Rattle.lin_events.specs.declared.calls.Reply.{Reply}
-use Rattle.lin_events.specs.declared.calls.Val.TheVariants.{Nil, Int}
+use Rattle.lin_events.specs.declared.calls.Val.TheVariants.{Nil, Item as Held}
 use Rattle.lin_events.specs.declared.calls.Reply.TheVariants as Replied
 use Rattle.lin_objects.specs.declared.kinds.Kind.{Kind}
 use Rattle.lin_objects.specs.declared.kinds.Kind.TheVariants.{Fifo, Set, Bag}
@@ -47,18 +48,18 @@ pub record IsShown {S : Type 0} (step : S → Call → S → Reply → Type 0) (
   pub other : (state end next last : S) (before reply told : Reply) (between : Call) → between ≢ call → step state reads end before → shows before ≡ false → step state between next reply
       → step next reads last told → shows told ≡ false
 
--- the number is one of these
-abbrev pub has_number : ℤ → List ℤ → Bool
-has_number x members = list_any (λ y. int_eq y x) members
+-- the item is one of these
+abbrev pub has_item : Item → List Item → Bool
+has_item x members = list_any (λ y. item_eq y x) members
 
 -- whether the reply shows that the call was taken
 abbrev pub shows : Call → Reply → Bool
-shows (Add x) (Replied.Members members) = has_number x members
+shows (Add x) (Replied.Members members) = has_item x members
 shows _ _ = false
 
 -- whether the state has taken it
 abbrev pub has_taken : State → Call → Bool
-has_taken (Members members) (Add x) = has_number x members
+has_taken (Members members) (Add x) = has_item x members
 has_taken _ _ = false
 
 -- which calls are known to have replies that show the other: the reads of a set, its adds
@@ -110,20 +111,20 @@ bags_stay state last is (goes {next} {call} {reply} s way) = bags_stay next last
 
 queue_takes : (state : State) → IsQueue state → (call : Call) → total Fifo call ≡ true → (next : State) × (reply : Reply) × Step Fifo state call next reply
 queue_takes (Queue q) is (Enqueue x) t = (Queue (q ++ x ∷ []), Replied.Done, (refl, refl))
-queue_takes (Queue (x ∷ q)) is Dequeue t = (Queue q, Replied.Value (Int x), (refl, refl))
+queue_takes (Queue (x ∷ q)) is Dequeue t = (Queue q, Replied.Value (Held x), (refl, refl))
 queue_takes (Queue []) is Dequeue t = (Queue [], Replied.Value Nil, (refl, refl))
 queue_takes (Queue q) is _ t = absurd (true≢false (sym t))
 queue_takes _ is call t = absurd is
 
 set_takes : (state : State) → IsSet state → (call : Call) → total Set call ≡ true → (next : State) × (reply : Reply) × Step Set state call next reply
-set_takes (Members m) is (Add x) t = (Members (with_member x m), Replied.Done, (refl, refl))
+set_takes (Members m) is (Add x) t = (Members (with_member item_cmp x m), Replied.Done, (refl, refl))
 set_takes (Members m) is Read t = (Members m, Replied.Members m, (refl, refl))
 set_takes (Members m) is _ t = absurd (true≢false (sym t))
 set_takes _ is call t = absurd is
 
 bag_takes : (state : State) → IsBag state → (call : Call) → total Bag call ≡ true → (next : State) × (reply : Reply) × Step Bag state call next reply
 bag_takes (Bagged q) is (Enqueue x) t = (Bagged (bag_of (x ∷ q)), Replied.Done, (refl, refl))
-bag_takes (Bagged (x ∷ q)) is Dequeue t = (Bagged (without_one x (x ∷ q)), Replied.Value (Int x), (x, contains_first x q, refl, refl))
+bag_takes (Bagged (x ∷ q)) is Dequeue t = (Bagged (without_one x (x ∷ q)), Replied.Value (Held x), (x, contains_first x q, refl, refl))
 bag_takes (Bagged []) is Dequeue t = (Bagged [], Replied.Value Nil, (refl, refl))
 bag_takes (Bagged q) is _ t = absurd (true≢false (sym t))
 bag_takes _ is call t = absurd is
@@ -135,48 +136,48 @@ totals_are_taken Bag state way call t = bag_takes state (bags_stay (Bagged []) s
 totals_are_taken Set state way call t = set_takes state (sets_stay (Members []) state tt way) call t
 totals_are_taken _ state way call t = absurd (true≢false (sym t))
 
--- the number is in the set
-abbrev InSet : State → ℤ → Type 0
+-- the item is in the set
+abbrev InSet : State → Item → Type 0
 InSet (Members s) n = Contains s n
 InSet state n = ⊥
 
-kept : (state next : State) (call : Call) (reply : Reply) (n : ℤ) → Step Set state call next reply → InSet state n → InSet next n
+kept : (state next : State) (call : Call) (reply : Reply) (n : Item) → Step Set state call next reply → InSet state n → InSet next n
 kept (Members s) next (Add x) reply n step has = subst (λ t. InSet t n) (sym step.0) (with_keeps x n s has)
 kept (Members s) next Read reply n step has = subst (λ t. InSet t n) (sym step.0) has
 kept (Members s) next _ reply n step has = absurd step
 kept _ next call reply n step has = absurd has
 
-keeps : (state last : State) (n : ℤ) → Reaches (Step Set) state last → InSet state n → InSet last n
+keeps : (state last : State) (n : Item) → Reaches (Step Set) state last → InSet state n → InSet last n
 keeps state last n stays has = has
 keeps state last n (goes {next} {call} {reply} step way) has = keeps next last n way (kept state next call reply n step has)
 
-added : (state next : State) (n : ℤ) (reply : Reply) → Step Set state (Add n) next reply → InSet next n
+added : (state next : State) (n : Item) (reply : Reply) → Step Set state (Add n) next reply → InSet next n
 added (Members s) next n reply step = subst (λ t. InSet t n) (sym step.0) (with_has n s)
 added _ next n reply step = absurd step
 
-number_there : (n : ℤ) (s : List ℤ) → Contains s n → has_number n s ≡ true
-number_there n s has = list_any-from_Any (λ y. int_eq y n) s (has.0, n, has.1, has.2, (Decides-int_eq n n).1 refl)
+item_there : (n : Item) (s : List Item) → Contains s n → has_item n s ≡ true
+item_there n s has = list_any-from_Any (λ y. item_eq y n) s (has.0, n, has.1, has.2, (Decides-item_eq n n).1 refl)
 
-number_not : (n : ℤ) (s : List ℤ) → (Contains s n → ⊥) → has_number n s ≡ false
-number_not n s none = by (has_number n s) refl
+item_not : (n : Item) (s : List Item) → (Contains s n → ⊥) → has_item n s ≡ false
+item_not n s none = by (has_item n s) refl
   where
-    by : (b : Bool) → has_number n s ≡ b → has_number n s ≡ false
+    by : (b : Bool) → has_item n s ≡ b → has_item n s ≡ false
     by false e = e
-    by true e = let a = Any-from_list_any (λ y. int_eq y n) s e in absurd (none (subst (Contains s) ((Decides-int_eq a.1 n).0 a.4) (a.0, a.2, a.3)))
+    by true e = let a = Any-from_list_any (λ y. item_eq y n) s e in absurd (none (subst (Contains s) ((Decides-item_eq a.1 n).0 a.4) (a.0, a.2, a.3)))
 
 -- a read shows what is in the set
-read_shows : (state end : State) (n : ℤ) (told : Reply) → Step Set state Read end told → InSet state n → shows (Add n) told ≡ true
-read_shows (Members s) end n told step has = subst (λ r. shows (Add n) r ≡ true) (sym step.1) (number_there n s has)
+read_shows : (state end : State) (n : Item) (told : Reply) → Step Set state Read end told → InSet state n → shows (Add n) told ≡ true
+read_shows (Members s) end n told step has = subst (λ r. shows (Add n) r ≡ true) (sym step.1) (item_there n s has)
 read_shows _ end n told step has = absurd has
 
 -- and nothing else
-read_hides : (state end next last : State) (n : ℤ) (before reply told : Reply) (between : Call) → between ≢ Add n → Step Set state Read end before → shows (Add n) before ≡ false
+read_hides : (state end next last : State) (n : Item) (before reply told : Reply) (between : Call) → between ≢ Add n → Step Set state Read end before → shows (Add n) before ≡ false
     → Step Set state between next reply → Step Set next Read last told → shows (Add n) told ≡ false
 read_hides (Members s) end next last n before reply told (Add x) other first hidden step second =
-    let then' : Step Set (Members (with_member x s)) Read last told = subst (λ m. Step Set m Read last told) step.0 second in
-    subst (λ r. shows (Add n) r ≡ false) (sym then'.1) (number_not n (with_member x s) (λ has. ⊎_elim
+    let then' : Step Set (Members (with_member item_cmp x s)) Read last told = subst (λ m. Step Set m Read last told) step.0 second in
+    subst (λ r. shows (Add n) r ≡ false) (sym then'.1) (item_not n (with_member item_cmp x s) (λ has. ⊎_elim
     (λ (e : n ≡ x). other (ap Add (sym e)))
-    (λ (h : Contains s n). true≢false (sym (number_there n s h) ∙ subst (λ r. shows (Add n) r ≡ false) first.1 hidden))
+    (λ (h : Contains s n). true≢false (sym (item_there n s h) ∙ subst (λ r. shows (Add n) r ≡ false) first.1 hidden))
     (with_adds_none x n s has)))
 read_hides (Members s) end next last n before reply told Read other first hidden step second =
     let then' : Step Set (Members s) Read last told = subst (λ m. Step Set m Read last told) step.0 second in
@@ -184,7 +185,7 @@ read_hides (Members s) end next last n before reply told Read other first hidden
 read_hides (Members s) end next last n before reply told _ other first hidden step second = absurd step
 read_hides _ end next last n before reply told between other first hidden step second = absurd first
 
-read_lacks : (state end : State) (n : ℤ) (told : Reply) → has_taken state (Add n) ≡ false → Step Set state Read end told → shows (Add n) told ≡ false
+read_lacks : (state end : State) (n : Item) (told : Reply) → has_taken state (Add n) ≡ false → Step Set state Read end told → shows (Add n) told ≡ false
 read_lacks (Members s) end n told none step = subst (λ r. shows (Add n) r ≡ false) (sym step.1) none
 read_lacks _ end n told none step = absurd step
 

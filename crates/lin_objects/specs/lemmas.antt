@@ -1,3 +1,4 @@
+pub mod Order
 pub mod Bags
 pub mod Counted
 pub mod Outs

@@ -22,7 +22,7 @@ use std::alloc::Global;
 /// An object of the kind.
 ///
 /// Each call has at most one outcome, which takes memory for one state and time linear in the state; but a dequeue of an unordered queue
-/// has one for each different number inside.
+/// has one for each different item inside.
 #[derive(Clone, Copy, Debug, PartialEq, Eq)]
 pub struct Any {
     pub kind: Kind,
@@ -98,7 +98,7 @@ impl SeqObject for Any {
     }
 
     /// All, but for adds to a set, its reads, and what doesn't matter to an unordered queue: there enqueues are hindered by dequeues,
-    /// which might find nothing without them, dequeues that found a number by enqueues of it, and those that found nothing by others.
+    /// which might find nothing without them, dequeues that found an item by enqueues of it, and those that found nothing by others.
     fn is_hindered(&self, call: &Call, reply: &Reply, other: &Call) -> bool {
         match (self.kind, call, reply, other) {
             (Kind::Set, Call::Add(_), _, Call::Add(_)) => false,
@@ -111,7 +111,7 @@ impl SeqObject for Any {
         }
     }
 
-    /// Where nothing hinders it. An enqueue of an unordered queue also where a number is inside for each dequeue; a dequeue where what it
+    /// Where nothing hinders it. An enqueue of an unordered queue also where an item is inside for each dequeue; a dequeue where what it
     /// found is inside, or, if it found nothing, where nothing is, or where the others can't take out all that is.
     fn goes_first(&self, state: &State, call: &Call, reply: &Reply, hindering: usize) -> bool {
         match (self.kind, state, call, reply) {
@@ -142,7 +142,7 @@ impl SeqObject for Any {
 
     fn has_taken(&self, state: &State, call: &Call) -> bool {
         match (state, call) {
-            (State::Members(members), Call::Add(number)) => members.as_slice().contains(number),
+            (State::Members(members), Call::Add(item)) => members.as_slice().contains(item),
             _ => false,
         }
     }
@@ -172,7 +172,7 @@ impl SeqObject for Any {
 }
 
 impl Any {
-    /// The state that the object goes to when the call gets this reply, if it may. Where nothing shares the numbers of a set or
+    /// The state that the object goes to when the call gets this reply, if it may. Where nothing shares the items of a set or
     /// a queue, what an add or an enqueue puts in joins them, without a copy.
     pub fn next(
         &self,
@@ -188,12 +188,12 @@ impl Any {
             return bag_next(alloc, state, call, reply);
         }
         match (self.kind, state, call, reply) {
-            (Kind::Fifo, State::Queue(mut queue), Call::Enqueue(number), Reply::Done) => {
-                queue.push(*number)?;
+            (Kind::Fifo, State::Queue(mut queue), Call::Enqueue(item), Reply::Done) => {
+                queue.push(*item)?;
                 Ok(Some(State::Queue(queue)))
             }
-            (Kind::Set, State::Members(mut members), Call::Add(number), Reply::Done) => {
-                members.insert(*number)?;
+            (Kind::Set, State::Members(mut members), Call::Add(item), Reply::Done) => {
+                members.insert(*item)?;
                 Ok(Some(State::Members(members)))
             }
             (kind, state, call, reply) => only_next(alloc, kind, &state, call, reply),
@@ -206,8 +206,8 @@ fn is_hindered_dequeue(value: &Val, other: &Call) -> bool
     ensures { result ≡ hinders Kind.Bag Call.Dequeue (Reply.Value value.now) other.now }
 {
     match (value, other) {
-        (Val::Int(found), Call::Enqueue(number)) => found == number,
-        (Val::Int(_), Call::Dequeue) => false,
+        (Val::Item(found), Call::Enqueue(item)) => found == item,
+        (Val::Item(_), Call::Dequeue) => false,
         (Val::Nil, Call::Enqueue(_)) => false,
         _ => true,
     }
@@ -219,7 +219,7 @@ fn dequeue_goes_first(bag: &IntBag, value: &Val, hindering: usize) -> bool
 {
     let inside = bag.as_slice();
     match value {
-        Val::Int(number) => hindering == 0 || inside.contains(number),
+        Val::Item(item) => hindering == 0 || inside.contains(item),
         Val::Nil => inside.is_empty() || hindering < inside.len(),
     }
 }
@@ -306,15 +306,15 @@ fn fifo_step(
     ensures { IfOk result (IsOnlyStep Kind.Fifo state.now call.now) }
 {
     match (state, call) {
-        (State::Queue(queue), Call::Enqueue(number)) => {
+        (State::Queue(queue), Call::Enqueue(item)) => {
             let mut next = queue.copy()?;
-            next.push(*number)?;
+            next.push(*item)?;
             Ok(Some((State::Queue(next), Reply::Done)))
         }
         (State::Queue(queue), Call::Dequeue) => match queue.as_slice().first() {
-            Some(number) => {
+            Some(item) => {
                 let next = queue.without_first()?;
-                Ok(Some((State::Queue(next), Reply::Value(Val::Int(*number)))))
+                Ok(Some((State::Queue(next), Reply::Value(Val::Item(*item)))))
             }
             None => Ok(Some((State::Queue(IntQueue::new(alloc)), Reply::Value(Val::Nil)))),
         },
@@ -327,9 +327,9 @@ fn set_step(state: &State, call: &Call) -> Result<Option<(State, Reply)>, OutOfM
     ensures { IfOk result (IsOnlyStep Kind.Set state.now call.now) }
 {
     match (state, call) {
-        (State::Members(members), Call::Add(number)) => {
+        (State::Members(members), Call::Add(item)) => {
             let mut next = members.copy()?;
-            next.insert(*number)?;
+            next.insert(*item)?;
             Ok(Some((State::Members(next), Reply::Done)))
         }
         (State::Members(members), Call::Read) => {

@@ -1,51 +1,51 @@
 //! The states of objects.
-ghost use Rattle.std.specs.Prelude.{◌≡◌, ◌∷◌, ◌++◌, ◌<◌, [], List, ℤ, length, drop, IfOk, OnOk, OnErr};
+ghost use Rattle.std.specs.Prelude.{◌≡◌, ◌∷◌, ◌++◌, ◌<◌, [], List, length, drop, IfOk, OnOk, OnErr};
 ghost use Rattle.std.specs.Cmp.Lexicographic.{pointwise, lists_equiv, lists_per};
-ghost use Rattle.std.specs.Cmp.{int_eq_equiv, partial_equiv_from_equiv};
-ghost use Rattle.std.specs.Ordering.{int_eq};
+ghost use Rattle.std.specs.Cmp.{partial_equiv_from_equiv};
 ghost use Rattle.std.specs.Hash.{same_Alike};
-ghost use Rattle.lin_events.specs.Numbers.{hashed};
-ghost use Rattle.lin_events.specs.Sameness.{numbers_Decides};
+ghost use Rattle.lin_events.specs.declared.items.Item.{Item as ItemOf};
+ghost use Rattle.lin_events.specs.Items.{hashed, item_eq};
+ghost use Rattle.lin_events.specs.Sameness.{item_eq_equiv, items_Decides};
 
 use crate::bags::IntBag;
-use lin_events::{IntSet, Numbers, OutOfMemory, Val};
+use lin_events::{IntSet, Item, Items, OutOfMemory, Val};
 use std::alloc::Global;
 use std::hash::{Hash, Hasher};
 use std::marker::Model;
 
-/// Numbers that wait in a queue, the oldest first. Copies share them.
+/// Items that wait in a queue, the oldest first. Copies share them.
 #[derive(Drop)]
 pub struct IntQueue {
-    numbers: Numbers,
+    items: Items,
 }
 
 impl Model for IntQueue {
-    ghost Value = { List ℤ };
+    ghost Value = { List ItemOf };
 
-    ghost view = { λ a. a.numbers };
+    ghost view = { λ a. a.items };
 }
 
 impl PartialEq for IntQueue {
-    ghost eq = { λ v w. pointwise int_eq v w };
+    ghost eq = { λ v w. pointwise item_eq v w };
 
-    ghost laws = { lists_per (partial_equiv_from_equiv int_eq_equiv) };
+    ghost laws = { lists_per (partial_equiv_from_equiv item_eq_equiv) };
 
     fn eq(&self, other: &Self) -> bool {
-        self.numbers == other.numbers
+        self.items == other.items
     }
 }
 
 impl Eq for IntQueue {
-    ghost laws = { lists_equiv int_eq_equiv };
+    ghost laws = { lists_equiv item_eq_equiv };
 }
 
 impl Hash for IntQueue {
     ghost hash_input = { hashed };
 
-    ghost respects_eq = { (same_Alike hashed numbers_Decides).fed };
+    ghost respects_eq = { (same_Alike hashed items_Decides).fed };
 
     fn hash<H: Hasher>(&self, state: &mut H) {
-        self.numbers.hash(state);
+        self.items.hash(state);
     }
 }
 
@@ -55,49 +55,49 @@ impl IntQueue {
         ensures { result ≡ [] }
     {
         IntQueue {
-            numbers: Numbers::new(alloc),
+            items: Items::new(alloc),
         }
     }
 
-    /// The queue of these numbers, the oldest first.
-    pub fn from_vec(alloc: Global, items: Vec<i64>) -> Result<Self, OutOfMemory>
+    /// The queue of these items, the oldest first.
+    pub fn from_vec(alloc: Global, items: Vec<Item>) -> Result<Self, OutOfMemory>
         ensures { IfOk result (λ queue. queue ≡ items.items) }
     {
-        let numbers = Numbers::from_vec(alloc, items)?;
-        Ok(IntQueue { numbers })
+        let items = Items::from_vec(alloc, items)?;
+        Ok(IntQueue { items })
     }
 
-    /// The numbers, the oldest first.
-    pub fn as_slice(&self) -> &[i64]
+    /// The items, the oldest first.
+    pub fn as_slice(&self) -> &[Item]
         ensures { result.now ≡ self.now }
     {
-        self.numbers.as_slice()
+        self.items.as_slice()
     }
 
     /// An equal queue.
     pub fn copy(&self) -> Result<IntQueue, OutOfMemory>
         ensures { IfOk result (λ copy. copy ≡ self.now) }
     {
-        let numbers = self.numbers.copy()?;
-        Ok(IntQueue { numbers })
+        let items = self.items.copy()?;
+        Ok(IntQueue { items })
     }
 
-    /// Puts a number behind those that wait; refused, the queue is unchanged. Only where copies share the numbers are these copied.
-    pub(crate) fn push(&mut self, number: i64) -> Result<(), OutOfMemory>
-        ensures ok { OnOk result (self.new ≡ self.old ++ number ∷ []) }
+    /// Puts an item behind those that wait; refused, the queue is unchanged. Only where copies share the items are these copied.
+    pub(crate) fn push(&mut self, item: Item) -> Result<(), OutOfMemory>
+        ensures ok { OnOk result (self.new ≡ self.old ++ item ∷ []) }
         ensures err { OnErr result (self.new ≡ self.old) }
     {
-        let count = self.numbers.as_slice().len();
-        self.numbers.insert(count, number)
+        let count = self.items.as_slice().len();
+        self.items.insert(count, item)
     }
 
-    /// A queue of all but the oldest number, in time linear in those that wait.
+    /// A queue of all but the oldest item, in time linear in those that wait.
     pub(crate) fn without_first(&self) -> Result<IntQueue, OutOfMemory>
         requires { 0 < length self.now }
         ensures { IfOk result (λ next. next ≡ drop 1 self.now) }
     {
-        let numbers = self.numbers.without_first()?;
-        Ok(IntQueue { numbers })
+        let items = self.items.without_first()?;
+        Ok(IntQueue { items })
     }
 }
 
@@ -117,7 +117,7 @@ pub enum State {
 }
 
 impl State {
-    /// An equal state. Queues and sets, ordered or not, share their numbers, so it takes no memory.
+    /// An equal state. Queues and sets, ordered or not, share their items, so it takes no memory.
     pub fn copy(&self, _alloc: Global) -> Result<State, OutOfMemory>
         ensures { IfOk result (λ copy. copy ≡ self.now) }
     {

@@ -13,7 +13,7 @@ use crate::states::State;
 use lin_events::{Call, OutOfMemory, Reply, Val};
 use std::alloc::Global;
 
-/// Leaves in `out` what comes of taking each different number out, which a dequeue may do where there is one.
+/// Leaves in `out` what comes of taking each different item out, which a dequeue may do where there is one.
 fn taken_out(alloc: Global, bag: &IntBag, out: &mut Vec<(State, Reply)>) -> Result<(), OutOfMemory>
     requires empty { out.old.items ≡ [] }
     requires some { 0 < length bag.now }
@@ -21,7 +21,7 @@ fn taken_out(alloc: Global, bag: &IntBag, out: &mut Vec<(State, Reply)>) -> Resu
 {
     for at in 0..bag.as_slice().len() {
         if is_first(bag.as_slice(), at) {
-            let reply = Reply::Value(Val::Int(bag.as_slice()[at]));
+            let reply = Reply::Value(Val::Item(bag.as_slice()[at]));
             out.push((State::Bag(bag.without(alloc, at)?), reply))?;
         }
     }
@@ -39,9 +39,9 @@ pub(crate) fn bag_outcomes(
     ensures { OnOk result (AreAllSteps BagKind state.now call.now out.new.items) }
 {
     match (state, call) {
-        (State::Bag(bag), Call::Enqueue(number)) => {
+        (State::Bag(bag), Call::Enqueue(item)) => {
             let mut next = bag.copy()?;
-            next.insert(*number)?;
+            next.insert(*item)?;
             out.push((State::Bag(next), Reply::Done))?;
             Ok(())
         }
@@ -69,7 +69,7 @@ fn left(alloc: Global, bag: IntBag, value: &Val) -> Result<Option<State>, OutOfM
                 Ok(None)
             }
         }
-        Val::Int(number) => match place_of(bag.as_slice(), *number) {
+        Val::Item(item) => match place_of(bag.as_slice(), *item) {
             Some(at) => Ok(Some(State::Bag(bag.without(alloc, at)?))),
             None => Ok(None),
         },
@@ -87,8 +87,8 @@ pub(crate) fn bag_next(
     ensures none { IfOk result (λ found. IfNone found ((next : StateOf) → Step BagKind state call.now next reply.now → ⊥)) }
 {
     match (state, call, reply) {
-        (State::Bag(mut bag), Call::Enqueue(number), Reply::Done) => {
-            bag.insert(*number)?;
+        (State::Bag(mut bag), Call::Enqueue(item), Reply::Done) => {
+            bag.insert(*item)?;
             Ok(Some(State::Bag(bag)))
         }
         (State::Bag(bag), Call::Dequeue, Reply::Value(value)) => left(alloc, bag, value),

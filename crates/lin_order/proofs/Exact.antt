@@ -1,7 +1,8 @@
 -- The sets of all configurations of the prefixes of a history without a legal order refute it.
-use Rattle.std.proofs.Common.{◌≡◌, ℕ, ℤ, suc, ◌+◌, Bool, List, [], ◌∷◌, length, Contains, Some, take, refl, sym, ap, subst, ◌∙◌, arith, add-one}
+use Rattle.std.proofs.Common.{◌≡◌, ℕ, suc, ◌+◌, Bool, List, [], ◌∷◌, length, Contains, Some, take, refl, sym, ap, subst, ◌∙◌, arith, add-one}
 use Rattle.std.proofs.lemmas.Option.{slice_get_within}
 use Rattle.std.proofs.lemmas.List.{take_all}
+use Rattle.lin_events.specs.declared.items.Item.{Item}
 use Rattle.lin_events.specs.declared.calls.Name.{Name}
 use Rattle.lin_events.specs.declared.events.Body.{Body}
 use Rattle.lin_events.specs.declared.events.Body.TheVariants.{Invoke, Ok, Fail, Info}
@@ -24,7 +25,7 @@ none_if_nothing : {A : Type 0} (xs : List A) → ((x : A) → Contains xs x → 
 none_if_nothing [] nothing = refl
 none_if_nothing (x ∷ xs) nothing = absurd (nothing x (0, omega arith, refl))
 
-module _ (functions : ℤ → Name → Bool) (h : List Event) (kind : Kind) (sets : List (List Config)) (count : length sets ≡ length h + 1)
+module _ (functions : Item → Name → Bool) (h : List Event) (kind : Kind) (sets : List (List Config)) (count : length sets ≡ length h + 1)
     (exact : (i : ℕ) (set : List Config) → IsSet sets i set → AreConfigurations kind (take i h) set)
     (alternates : (n : ℕ) → IsAlternating functions (take n h)) (fails : IsLinearizableBy (start kind) (Step kind) h → ⊥) where
   -- what an event leaves of a configuration is one

@@ -1,9 +1,10 @@
 -- The open operations of a history that grows.
-use Rattle.std.proofs.Common.{◌≡◌, ℕ, ℤ, ◌+◌, ◌<◌, ◌≤◌, Bool, true, false, not, List, [], ◌∷◌, ◌++◌, length, Contains, ◌↔◌, IsTrue, inl, inr, refl, sym, ap, subst, ◌∙◌, arith, take, get_or, add-one}
+use Rattle.std.proofs.Common.{◌≡◌, ℕ, ◌+◌, ◌<◌, ◌≤◌, Bool, true, false, not, List, [], ◌∷◌, ◌++◌, length, Contains, ◌↔◌, IsTrue, inl, inr, refl, sym, ap, subst, ◌∙◌, arith, take, get_or, add-one}
 use Rattle.std.proofs.lemmas.Bool.{cases_eq}
 use Rattle.std.proofs.lemmas.List.{length-take-le}
 use Rattle.std.proofs.lemmas.Option.{slice_get_within, slice_get-get_or, get_or_from_slice_get}
 use Rattle.std.proofs.lemmas.List.Elements.{Contains-append_left, Contains-push, Contains-push_cases}
+use Rattle.lin_events.specs.declared.items.Item.{Item}
 use Rattle.lin_events.specs.declared.calls.Call.{Call}
 use Rattle.lin_events.specs.declared.calls.Name.{Name}
 use Rattle.lin_events.specs.declared.calls.Reply.{Reply}
@@ -27,7 +28,7 @@ fail_returns body name is = subst IsReturning (sym is) tt
 
 module _ (h : List Event) (at n : ℕ) (before : at < n) where
   -- an operation whose end, if it has one, is past or no return, is open in the first events
-  still_open : (process : ℕ) (key : ℤ) (call : Call) → IsOperation h at process key call → ((end : ℕ) (ending : Event) → end < n → IsEnd h at end ending → IsReturning ending.body → ⊥) → IsOpenAt (take n h) at
+  still_open : (process : ℕ) (key : Item) (call : Call) → IsOperation h at process key call → ((end : ℕ) (ending : Event) → end < n → IsEnd h at end ending → IsReturning ending.body → ⊥) → IsOpenAt (take n h) at
   still_open process key call op never = (
     process,
     key,
@@ -39,7 +40,7 @@ module _ (h : List Event) (at n : ℕ) (before : at < n) where
     },
   )
 
-  pub never_ended : (process : ℕ) (key : ℤ) (call : Call) → IsOperation h at process key call → ((end : ℕ) (ending : Event) → IsEnd h at end ending → ⊥) → IsOpenAt (take n h) at
+  pub never_ended : (process : ℕ) (key : Item) (call : Call) → IsOperation h at process key call → ((end : ℕ) (ending : Event) → IsEnd h at end ending → ⊥) → IsOpenAt (take n h) at
   never_ended process key call op never = still_open process key call op (λ end ending inside e returns. never end ending e)
 
   module _ (end : ℕ) (ending : Event) (e : IsEnd h at end ending) where

@@ -1,8 +1,9 @@
 -- Each set of a refutation holds all configurations of its prefix.
 use Rattle.std.proofs.Math.Seq.{take-suc}
-use Rattle.std.proofs.Common.{◌≡◌, ℕ, ℤ, zero, suc, ◌+◌, ◌<◌, ◌≤◌, Bool, List, [], ◌∷◌, ◌++◌, length, Contains, Some, slice_get, take, refl, sym, ap, subst, ◌∙◌, arith, add-one}
+use Rattle.std.proofs.Common.{◌≡◌, ℕ, zero, suc, ◌+◌, ◌<◌, ◌≤◌, Bool, List, [], ◌∷◌, ◌++◌, length, Contains, Some, slice_get, take, refl, sym, ap, subst, ◌∙◌, arith, add-one}
 use Rattle.std.proofs.lemmas.Option.{get_or_from_slice_get}
 use Rattle.std.proofs.lemmas.List.{take_all}
+use Rattle.lin_events.specs.declared.items.Item.{Item}
 use Rattle.lin_events.specs.declared.calls.Name.{Name}
 use Rattle.lin_events.specs.declared.events.Body.{Body}
 use Rattle.lin_events.specs.declared.events.Body.TheVariants.{Invoke, Ok, Fail, Info}
@@ -37,7 +38,7 @@ along : (kind : Kind) (h : List Event) (set : List Config) → IsClosed kind h s
 along kind h set closed b c order none there = there
 along kind h set closed b c order (more {d = d} {p = p} before placing) there = closed d c p (along kind h set closed b d _ before there) placing
 
-module _ (functions : ℤ → Name → Bool) (h : List Event) (kind : Kind) (sets : List (List Config)) (is : IsRefutation h kind sets) where
+module _ (functions : Item → Name → Bool) (h : List Event) (kind : Kind) (sets : List (List Config)) (is : IsRefutation h kind sets) where
   -- from the prefix of one event fewer
   next : (n : ℕ) → n < length h → (event : Event) → IsEvent h n event → IsAlternating functions (with_event (take n h) event) → (before after : List Config)
       → ((b : Config) → IsConfiguration (start kind) (Step kind) (take n h) b → Contains before b)

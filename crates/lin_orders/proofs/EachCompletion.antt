@@ -1,11 +1,13 @@
 -- A history with each kind of completion is well-formed.
-use Rattle.std.proofs.Common.{◌≡◌, ℕ, ℤ, zero, suc, ◌<◌, true, pos, List, ◌⊎◌, inl, inr, refl, sym, ap, subst, ◌∙◌, arith, take}
+use Rattle.std.proofs.Common.{◌≡◌, ℕ, zero, suc, ◌<◌, true, pos, List, ◌⊎◌, inl, inr, refl, sym, ap, subst, ◌∙◌, arith, take}
+use Rattle.lin_events.specs.declared.items.Item.{Item}
+use Rattle.lin_events.specs.declared.items.Item.TheVariants.{Int}
 use Rattle.lin_events.specs.declared.calls.Call.{Call}
 use Rattle.lin_events.specs.declared.calls.Call.TheVariants.{Read, Write}
 use Rattle.lin_events.specs.declared.calls.Name.{Name}
 use Rattle.lin_events.specs.declared.calls.Name.TheVariants as Named
 use Rattle.lin_events.specs.declared.calls.Reply.TheVariants.{Done}
-use Rattle.lin_events.specs.declared.calls.Val.TheVariants.{Int}
+use Rattle.lin_events.specs.declared.calls.Val.TheVariants.{Item as Held}
 use Rattle.lin_events.specs.declared.events.Body.TheVariants.{Invoke, Ok, Fail, Info}
 use Rattle.lin_events.specs.declared.events.Event.{Event}
 use Rattle.lin_events.specs.Alternation.{IsReturn, IsAlternating}
@@ -20,15 +22,15 @@ not_of : (h : List Event) (k process : ℕ) (e : Event) → IsEvent h k e → (e
 not_of h k process e there other of_it = other (ap (λ (x : Event). x.process) (one_event h k e of_it.0 there of_it.1) ∙ of_it.2)
 
 first_ends : IsEnd each_completion 0 2 (event 0 (Ok Named.Write Done))
-first_ends = record { process = 0; key = pos 0; call = Write (Int (pos 1)); begins = refl; later = omega arith; ends = refl; same = refl; least = least }
+first_ends = record { process = 0; key = Int (pos 0); call = Write (Held (Int (pos 1))); begins = refl; later = omega arith; ends = refl; same = refl; least = least }
   where
     least : (k : ℕ) → 0 < k → k < 2 → IsOf each_completion 0 k → ⊥
     least zero after before of_it = omega arith
-    least (suc zero) after before of_it = not_of each_completion 1 0 (event 1 (Invoke (Write (Int (pos 2))))) refl (λ e. omega arith) of_it
+    least (suc zero) after before of_it = not_of each_completion 1 0 (event 1 (Invoke (Write (Held (Int (pos 2)))))) refl (λ e. omega arith) of_it
     least (suc (suc k)) after before of_it = omega arith
 
 second_ends : IsEnd each_completion 1 3 (event 1 (Fail Named.Write))
-second_ends = record { process = 1; key = pos 0; call = Write (Int (pos 2)); begins = refl; later = omega arith; ends = refl; same = refl; least = least }
+second_ends = record { process = 1; key = Int (pos 0); call = Write (Held (Int (pos 2))); begins = refl; later = omega arith; ends = refl; same = refl; least = least }
   where
     least : (k : ℕ) → 1 < k → k < 3 → IsOf each_completion 1 k → ⊥
     least zero after before of_it = omega arith
@@ -37,10 +39,10 @@ second_ends = record { process = 1; key = pos 0; call = Write (Int (pos 2)); beg
     least (suc (suc (suc k))) after before of_it = omega arith
 
 last_ends : IsEnd each_completion 4 5 (event 0 (Info Named.Read))
-last_ends = record { process = 0; key = pos 0; call = Read; begins = refl; later = omega arith; ends = refl; same = refl; least = λ k after before of_it. omega arith }
+last_ends = record { process = 0; key = Int (pos 0); call = Read; begins = refl; later = omega arith; ends = refl; same = refl; least = λ k after before of_it. omega arith }
 
 -- the invocations, with their processes
-module _ (process : ℕ) (key : ℤ) (call : Call) where
+module _ (process : ℕ) (key : Item) (call : Call) where
   is_at : (k : ℕ) (e : Event) → IsEvent each_completion k e → IsOperation each_completion k process key call → e ≡ record { process = process; key = key; body = Invoke call }
   is_at k e there is = one_event each_completion k e _ there is
 
@@ -55,9 +57,9 @@ module _ (process : ℕ) (key : ℤ) (call : Call) where
 
   allowed : (k : ℕ) → IsOperation each_completion k process key call → of_registers key (name_of call) ≡ true
   allowed k is = elim (calls k is) [
-    | inl first ↦ by (Write (Int (pos 1))) 0 refl (subst (λ j. IsOperation each_completion j process key call) first.0 is) refl
+    | inl first ↦ by (Write (Held (Int (pos 1)))) 0 refl (subst (λ j. IsOperation each_completion j process key call) first.0 is) refl
     | inr other ↦ elim other [
-      | inl second ↦ by (Write (Int (pos 2))) 1 refl (subst (λ j. IsOperation each_completion j process key call) second.0 is) refl
+      | inl second ↦ by (Write (Held (Int (pos 2)))) 1 refl (subst (λ j. IsOperation each_completion j process key call) second.0 is) refl
       | inr last ↦ by Read 4 refl (subst (λ j. IsOperation each_completion j process key call) last.0 is) refl
     ]
   ]
@@ -65,11 +67,11 @@ module _ (process : ℕ) (key : ℤ) (call : Call) where
       same_call : {a b : Call} → Invoke a ≡ Invoke b → a ≡ b
       same_call e = cc
 
-      by : (a : Call) (k : ℕ) {p : ℕ} → IsOperation each_completion k p (pos 0) a → IsOperation each_completion k process key call → of_registers key (name_of a) ≡ true
+      by : (a : Call) (k : ℕ) {p : ℕ} → IsOperation each_completion k p (Int (pos 0)) a → IsOperation each_completion k process key call → of_registers key (name_of a) ≡ true
           → of_registers key (name_of call) ≡ true
       by a k there is yes' = subst (λ c. of_registers key (name_of c) ≡ true) (same_call (ap (λ (x : Event). x.body) (is_at k _ there is))) yes'
 
-returned : (at later process : ℕ) (key other : ℤ) (call again : Call) → at < later → IsOperation each_completion at process key call → IsOperation each_completion later process other again
+returned : (at later process : ℕ) (key other : Item) (call again : Call) → at < later → IsOperation each_completion at process key call → IsOperation each_completion later process other again
     → (end : ℕ) × (end < later) × IsReturn each_completion at end
 returned at later process key other call again below is then = elim (calls process key call at is) [
   | inl first ↦ elim (calls process other again later then) [
@@ -105,10 +107,10 @@ completed end ending name there is = by end there
     is_it k e here at_k ended = subst (λ x. Completes x.body name → Ended k x name) (one_event each_completion k e ending here at_k) ended is
 
     by : (k : ℕ) → IsEvent each_completion k ending → Ended k ending name
-    by zero at_k = is_it 0 (event 0 (Invoke (Write (Int (pos 1))))) refl at_k (λ none. absurd none)
-    by (suc zero) at_k = is_it 1 (event 1 (Invoke (Write (Int (pos 2))))) refl at_k (λ none. absurd none)
-    by (suc (suc zero)) at_k = is_it 2 (event 0 (Ok Named.Write Done)) refl at_k (λ named. (0, Write (Int (pos 1)), refl, named, first_ends))
-    by (suc (suc (suc zero))) at_k = is_it 3 (event 1 (Fail Named.Write)) refl at_k (λ named. (1, Write (Int (pos 2)), refl, named, second_ends))
+    by zero at_k = is_it 0 (event 0 (Invoke (Write (Held (Int (pos 1)))))) refl at_k (λ none. absurd none)
+    by (suc zero) at_k = is_it 1 (event 1 (Invoke (Write (Held (Int (pos 2)))))) refl at_k (λ none. absurd none)
+    by (suc (suc zero)) at_k = is_it 2 (event 0 (Ok Named.Write Done)) refl at_k (λ named. (0, Write (Held (Int (pos 1))), refl, named, first_ends))
+    by (suc (suc (suc zero))) at_k = is_it 3 (event 1 (Fail Named.Write)) refl at_k (λ named. (1, Write (Held (Int (pos 2))), refl, named, second_ends))
     by (suc (suc (suc (suc zero)))) at_k = is_it 4 (event 0 (Invoke Read)) refl at_k (λ none. absurd none)
     by (suc (suc (suc (suc (suc zero))))) at_k = is_it 5 (event 0 (Info Named.Read)) refl at_k (λ named. (4, Read, refl, named, last_ends))
     by (suc (suc (suc (suc (suc (suc k)))))) at_k = cc

@@ -1,11 +1,12 @@
 -- Parts of longer histories, and of prefixes.
-use Rattle.std.proofs.Common.{◌≡◌, ◌≢◌, ◌<◌, ◌≤◌, ◌+◌, ◌↔◌, ℕ, zero, suc, ℤ, true, cond, List, [], ◌∷◌, ◌++◌, length, length-take, get_or, slice_get, take, All, AllPairs, Contains, Some, append-nil, inl, inr, sym, ap, subst, ◌∙◌, arith}
-use Rattle.std.specs.Ordering.{int_eq}
+use Rattle.std.proofs.Common.{◌≡◌, ◌≢◌, ◌<◌, ◌≤◌, ◌+◌, ◌↔◌, ℕ, zero, suc, true, cond, List, [], ◌∷◌, ◌++◌, length, length-take, get_or, slice_get, take, All, AllPairs, Contains, Some, append-nil, inl, inr, sym, ap, subst, ◌∙◌, arith}
 use Rattle.std.proofs.lemmas.Bool.{cases_lt, false_from_ne_true}
-use Rattle.std.proofs.lemmas.Bool.Decides.{Decides-int_eq}
 use Rattle.std.proofs.lemmas.Option.{same_Some, slice_get_within, slice_get-get_or, get_or_from_slice_get}
 use Rattle.std.proofs.lemmas.List.Elements.{All-push, All-weaker, Contains-append_left, Contains-push, filter-append}
 use Rattle.std.proofs.lemmas.List.Quantifiers.{all_pairs_push}
+use Rattle.lin_events.specs.declared.items.Item.{Item}
+use Rattle.lin_events.specs.Sameness.{Decides-item_eq}
+use Rattle.lin_events.specs.Items.{item_eq}
 use Rattle.lin_events.specs.declared.events.Event.{Event}
 use Rattle.lin_orders.specs.Orders.{is_of_key}
 use Rattle.lin_orders.specs.Parts.{part, ArePositionsOf, IsNth, IsCut}
@@ -25,7 +26,7 @@ no_positions_lem key = record {
 pub read_take : {X : Type 0} (c : ℕ) (xs : List X) (k : ℕ) (d : X) → k < length (take c xs) → (k < c) × (slice_get xs k ≡ Some (get_or (take c xs) k d))
 read_take c xs k d inside = get_from_take c xs k (get_or (take c xs) k d) (slice_get-get_or (take c xs) k d inside)
 
-module _ (key : ℤ) (h : List Event) (event : Event) where
+module _ (key : Item) (h : List Event) (event : Event) where
   kept : (at : ℕ) → is_of_key h key at ≡ true → is_of_key (h ++ event ∷ []) key at ≡ true
   kept at of_it = let found = event_of_key h key at of_it in of_key_event (h ++ event ∷ []) key at found.0 (get_left h event at found.0 found.1) found.2
 
@@ -62,15 +63,15 @@ module _ (key : ℤ) (h : List Event) (event : Event) where
 
 pub parts_grow_lem : PartsGrow
 parts_grow_lem key h event = record {
-  more = λ is. filter-append (λ e. int_eq e.key key) h (event ∷ []) ∙ ap (λ b. part key h ++ cond b (event ∷ []) []) ((Decides-int_eq event.key key).1 is);
-  same = λ other. filter-append (λ e. int_eq e.key key) h (event ∷ [])
-      ∙ ap (λ b. part key h ++ cond b (event ∷ []) []) (false_from_ne_true (int_eq event.key key) (λ yes'. other ((Decides-int_eq event.key key).0 yes')))
+  more = λ is. filter-append (λ e. item_eq e.key key) h (event ∷ []) ∙ ap (λ b. part key h ++ cond b (event ∷ []) []) ((Decides-item_eq event.key key).1 is);
+  same = λ other. filter-append (λ e. item_eq e.key key) h (event ∷ [])
+      ∙ ap (λ b. part key h ++ cond b (event ∷ []) []) (false_from_ne_true (item_eq event.key key) (λ yes'. other ((Decides-item_eq event.key key).0 yes')))
       ∙ append-nil (part key h);
   position = λ positions is are. one_more key h event positions are is;
   no_position = λ positions other are. none_more key h event positions are other;
 }
 
-module _ (key : ℤ) (h : List Event) (positions : List ℕ) (count n : ℕ) (are : ArePositionsOf key h positions) (cut : IsCut positions count n) where
+module _ (key : Item) (h : List Event) (positions : List ℕ) (count n : ℕ) (are : ArePositionsOf key h positions) (cut : IsCut positions count n) where
   few_positions : ArePositionsOf key (take n h) (take count positions)
   few_positions = record {
     rising = λ i j d before within.

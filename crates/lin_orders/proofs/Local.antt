@@ -1,9 +1,10 @@
 -- Locality: linearizable for each object, and as a whole.
-use Rattle.std.proofs.Common.{◌≢◌, ℕ, zero, suc, ℤ, List, [], ◌∷◌, map, AllPairs, Contains, inl, inr, refl, sym, subst, arith}
+use Rattle.std.proofs.Common.{◌≢◌, ℕ, zero, suc, List, [], ◌∷◌, map, AllPairs, Contains, inl, inr, refl, sym, subst, arith}
 use Rattle.std.specs.List.{AllZip}
 use Rattle.std.proofs.lemmas.Option.{same_Some}
 use Rattle.std.proofs.lemmas.List.Elements.{All-weaker, Contains-append_right}
 use Rattle.std.proofs.lemmas.List.Kept.{AllPairs-cons}
+use Rattle.lin_events.specs.declared.items.Item.{Item}
 use Rattle.lin_events.specs.declared.events.Event.{Event}
 use Rattle.lin_events.specs.Operations.{IsEvent}
 use Rattle.lin_objects.specs.Steps.{start}
@@ -28,11 +29,11 @@ absent_keys_lem kinds h key absent = record {
 }
 
 -- the keys of a history, each once
-record AreKeys (h : List Event) (keys : List ℤ) : Type 0 where
+record AreKeys (h : List Event) (keys : List Item) : Type 0 where
   pub distinct : AllPairs (λ x y. x ≢ y) keys
   pub complete : (at : ℕ) (event : Event) → IsEvent h at event → Contains keys event.key
 
-keys_exist : (h : List Event) → (keys : List ℤ) × AreKeys h keys
+keys_exist : (h : List Event) → (keys : List Item) × AreKeys h keys
 keys_exist [] = ([], record { distinct = λ i j d before within. absurd (omega arith); complete = λ at event stands. cc })
 keys_exist (e ∷ h) =
     let rest = keys_exist h in
@@ -47,7 +48,7 @@ keys_exist (e ∷ h) =
       )
     ]
   where
-    first_or : (keys : List ℤ) → Contains keys e.key → ((at : ℕ) (event : Event) → IsEvent h at event → Contains keys event.key) → (at : ℕ) (event : Event) → IsEvent (e ∷ h) at event → Contains keys event.key
+    first_or : (keys : List Item) → Contains keys e.key → ((at : ℕ) (event : Event) → IsEvent h at event → Contains keys event.key) → (at : ℕ) (event : Event) → IsEvent (e ∷ h) at event → Contains keys event.key
     first_or keys here rest zero event stands = subst (λ (x : Event). Contains keys x.key) (same_Some e event stands) here
     first_or keys here rest (suc at) event stands = rest at event stands
 
@@ -61,6 +62,6 @@ is_local_lem kinds h = (
       (merged.0, merged_orders_lem kinds h parts merged.0 (record { keys = keys.0; distinct = keys.1.distinct; legal = legal_of each keys.0; complete = keys.1.complete }) merged.1),
 )
   where
-    legal_of : (each : (key : ℤ) → IsLinearizableFor kinds key h) (keys : List ℤ) → AllZip (λ key order. IsLegalOrderFor kinds key h order) keys (map (λ key. (each key).0) keys)
+    legal_of : (each : (key : Item) → IsLinearizableFor kinds key h) (keys : List Item) → AllZip (λ key order. IsLegalOrderFor kinds key h order) keys (map (λ key. (each key).0) keys)
     legal_of each [] = tt
     legal_of each (key ∷ keys) = ((each key).1, legal_of each keys)

@@ -1,10 +1,13 @@
 -- Legal orders for the objects, merged, are a legal order of the whole.
-use Rattle.std.proofs.Common.{◌≡◌, ◌≢◌, ◌<◌, ◌≤◌, ◌⊎◌, ℕ, zero, suc, ℤ, pos, Bool, true, false, nat_eq, List, [], ◌∷◌, length, get_or, map, filter, All, AllPairs, Contains, inl, inr, refl, sym, ap, subst, ◌∙◌, arith}
-use Rattle.std.specs.Ordering.{int_eq}
+use Rattle.std.proofs.Common.{◌≡◌, ◌≢◌, ◌<◌, ◌≤◌, ◌⊎◌, ℕ, zero, suc, pos, Bool, true, false, nat_eq, List, [], ◌∷◌, length, get_or, map, filter, All, AllPairs, Contains, inl, inr, refl, sym, ap, subst, ◌∙◌, arith}
 use Rattle.std.proofs.lemmas.Bool.{cases_eq, cases_lt, cases_order, false_from_ne_true}
-use Rattle.std.proofs.lemmas.Bool.Decides.{Decides-int_eq, Decides-eqb}
+use Rattle.std.proofs.lemmas.Bool.Decides.{Decides-eqb}
 use Rattle.std.proofs.lemmas.List.{get_or_default, get_or_past}
 use Rattle.std.proofs.lemmas.List.Elements.{All-contains, All-map, All-weaker, Contains-get_or}
+use Rattle.lin_events.specs.declared.items.Item.{Item}
+use Rattle.lin_events.specs.declared.items.Item.TheVariants.{Int}
+use Rattle.lin_events.specs.Sameness.{Decides-item_eq}
+use Rattle.lin_events.specs.Items.{item_eq}
 use Rattle.lin_events.specs.declared.events.Body.TheVariants.{Invoke}
 use Rattle.lin_events.specs.declared.events.Event.{Event}
 use Rattle.lin_events.specs.declared.calls.Call.{Call}
@@ -21,18 +24,18 @@ use Rattle.lin_orders.proofs.Positions.{event_of_key, of_key_event}
 use Rattle.lin_lists.specs.lemmas.Filters.{in_map, from_map, filter_of_map, filter_none, pairs_kept, pairs_map, map_pairs, zip_at, zip_length}
 
 -- a position is of one key
-one_key : (h : List Event) (key other : ℤ) (at : ℕ) → is_of_key h key at ≡ true → is_of_key h other at ≡ true → key ≡ other
+one_key : (h : List Event) (key other : Item) (at : ℕ) → is_of_key h key at ≡ true → is_of_key h other at ≡ true → key ≡ other
 one_key h key other at of_it of_other =
     let a = event_of_key h key at of_it in
     let b = event_of_key h other at of_other in
     sym a.2 ∙ ap (λ (e : Event). e.key) (one_event h at a.0 b.0 a.1 b.1) ∙ b.2
 
 -- where a key stands in a list, or that it stands nowhere
-pub key_cases : (keys : List ℤ) (key : ℤ) → Contains keys key ⊎ All (λ k. k ≢ key) keys
+pub key_cases : (keys : List Item) (key : Item) → Contains keys key ⊎ All (λ k. k ≢ key) keys
 key_cases [] key = inr (λ k d inside. absurd (omega arith))
-key_cases (k ∷ keys) key = by (int_eq k key) (Decides-int_eq k key).0 (λ same. (Decides-int_eq k key).1 same) (key_cases keys key)
+key_cases (k ∷ keys) key = by (item_eq k key) (Decides-item_eq k key).0 (λ same. (Decides-item_eq k key).1 same) (key_cases keys key)
   where
-    first_or : (k ≢ key) → All (λ k. k ≢ key) keys → (n : ℕ) (d : ℤ) → n < length (k ∷ keys) → get_or (k ∷ keys) n d ≢ key
+    first_or : (k ≢ key) → All (λ k. k ≢ key) keys → (n : ℕ) (d : Item) → n < length (k ∷ keys) → get_or (k ∷ keys) n d ≢ key
     first_or differ none zero d inside = differ
     first_or differ none (suc n) d inside = none n d (omega arith)
 
@@ -42,26 +45,26 @@ key_cases (k ∷ keys) key = by (int_eq k key) (Decides-int_eq k key).0 (λ same
     by false same back (inr none) = inr (first_or (λ e. let never = back e in cc) none)
 
 -- an operation of the part of a key
-record IsOfPart (kinds : ℤ → Kind) (h : List Event) (keys : List ℤ) (parts : List (List Placed)) (number : ℕ) (p : Placed) : Type 0 where
+record IsOfPart (kinds : Item → Kind) (h : List Event) (keys : List Item) (parts : List (List Placed)) (number : ℕ) (p : Placed) : Type 0 where
   pub inside : number < length keys
-  pub legal : IsLegalOrderFor kinds (get_or keys number (pos 0)) h (get_or parts number [])
+  pub legal : IsLegalOrderFor kinds (get_or keys number (Int (pos 0))) h (get_or parts number [])
   pub there : Contains (get_or parts number []) p
-  pub of_key : is_of_key h (get_or keys number (pos 0)) p.at ≡ true
+  pub of_key : is_of_key h (get_or keys number (Int (pos 0))) p.at ≡ true
 
-module _ (kinds : ℤ → Kind) (h : List Event) (parts : List (List Placed)) (are : AreLegalParts kinds h parts) (operations : List (ℕ × Placed)) where
-  abbrev key_of : ℕ → ℤ
-  key_of number = get_or are.keys number (pos 0)
+module _ (kinds : Item → Kind) (h : List Event) (parts : List (List Placed)) (are : AreLegalParts kinds h parts) (operations : List (ℕ × Placed)) where
+  abbrev key_of : ℕ → Item
+  key_of number = get_or are.keys number (Int (pos 0))
 
   legal_part : (number : ℕ) → number < length are.keys → IsLegalOrderFor kinds (key_of number) h (get_or parts number [])
-  legal_part number inside = zip_at (λ key order. IsLegalOrderFor kinds key h order) are.keys parts number (pos 0) [] are.legal inside
+  legal_part number inside = zip_at (λ key order. IsLegalOrderFor kinds key h order) are.keys parts number (Int (pos 0)) [] are.legal inside
 
   -- parts of two numbers are of two keys
   other_key : (m n : ℕ) → m < length are.keys → n < length are.keys → m ≢ n → key_of m ≢ key_of n
   other_key m n first second differ same = elim (cases_order m n) [
     | inl one ↦ differ one
     | inr either ↦ elim either [
-      | inl below ↦ are.distinct m n (pos 0) below second same
-      | inr above ↦ are.distinct n m (pos 0) above first (sym same)
+      | inl below ↦ are.distinct m n (Int (pos 0)) below second same
+      | inr above ↦ are.distinct n m (Int (pos 0)) above first (sym same)
     ]
   ]
 
@@ -138,17 +141,17 @@ module _ (kinds : ℤ → Kind) (h : List Event) (parts : List (List Placed)) (a
                 ∙ sym (false_from_ne_true (nat_eq (get_or operations k d).0 number) (λ same. differ ((Decides-eqb (get_or operations k d).0 number).0 same)))
           ]
 
-      part_none : (key : ℤ) → All (λ k. k ≢ key) are.keys → part_of h key (map (λ (p : ℕ × Placed). p.1) operations) ≡ []
+      part_none : (key : Item) → All (λ k. k ≢ key) are.keys → part_of h key (map (λ (p : ℕ × Placed). p.1) operations) ≡ []
       part_none key none = filter_of_map (λ (p : ℕ × Placed). p.1) (λ p. is_of_key h key p.at) (λ p. false) operations
           (λ k d within. false_from_ne_true (is_of_key h key (get_or operations k d).1.at) (λ of_it.
           let of_part = is_of_part (get_or operations k d) (Contains-get_or operations k d within) in
-          none (get_or operations k d).0 (pos 0) of_part.inside (one_key h (key_of (get_or operations k d).0) key (get_or operations k d).1.at of_part.of_key of_it)))
+          none (get_or operations k d).0 (Int (pos 0)) of_part.inside (one_key h (key_of (get_or operations k d).0) key (get_or operations k d).1.at of_part.of_key of_it)))
           ∙ ap (map (λ (p : ℕ × Placed). p.1)) (filter_none operations)
 
-      each_legal : (key : ℤ) → IsLegalFor (kinds key) h (part_of h key (map (λ (p : ℕ × Placed). p.1) operations))
+      each_legal : (key : Item) → IsLegalFor (kinds key) h (part_of h key (map (λ (p : ℕ × Placed). p.1) operations))
       each_legal key = elim (key_cases are.keys key) [
         | inl there ↦
-            let is : key_of there.0 ≡ key = get_or_default are.keys there.0 (pos 0) key there.1 ∙ there.2 in
+            let is : key_of there.0 ≡ key = get_or_default are.keys there.0 (Int (pos 0)) key there.1 ∙ there.2 in
             subst (λ k. IsLegalFor (kinds k) h (part_of h k (map (λ (p : ℕ × Placed). p.1) operations))) is
             (subst (IsLegalFor (kinds (key_of there.0)) h) (sym (part_found there.0 there.1)) (legal_part there.0 there.1).legal)
         | inr none ↦ subst (IsLegalFor (kinds key) h) (sym (part_none key none)) (start (kinds key), refl)
@@ -158,7 +161,7 @@ pub merged_orders_lem : MergedOrdersAreLegal
 merged_orders_lem kinds h parts order are merged = subst (IsLegalOrder kinds h) merged.order_of (record {
   order_of = record {
     operations = each kinds h parts are merged.operations merged.parts_of (λ p. (call : Call) × IsCall h p.at call × Unit {0}) (λ number inside.
-        All-weaker (λ p. (call : Call) × IsCall h p.at call × (is_of_key h (get_or are.keys number (pos 0)) p.at ≡ true)) (λ p. (call : Call) × IsCall h p.at call × Unit {0}) (λ p is. (is.0, is.1, tt))
+        All-weaker (λ p. (call : Call) × IsCall h p.at call × (is_of_key h (get_or are.keys number (Int (pos 0))) p.at ≡ true)) (λ p. (call : Call) × IsCall h p.at call × Unit {0}) (λ p is. (is.0, is.1, tt))
         (get_or parts number []) (legal_part kinds h parts are merged.operations number inside).order_of.operations);
     once = once kinds h parts are merged.operations merged.parts_of merged.in_time;
     none_failed = each kinds h parts are merged.operations merged.parts_of (λ p. IsFailed h p.at → ⊥) (λ number inside. (legal_part kinds h parts are merged.operations number inside).order_of.none_failed);
@@ -166,8 +169,8 @@ merged_orders_lem kinds h parts order are merged = subst (IsLegalOrder kinds h) 
         let e = ok.1 in
         let event : Event = record { process = e.process; key = e.key; body = Invoke e.call } in
         let there = are.complete at event e.begins in
-        let is : get_or are.keys there.0 (pos 0) ≡ e.key = get_or_default are.keys there.0 (pos 0) e.key there.1 ∙ there.2 in
-        let placed = (legal_part kinds h parts are merged.operations there.0 there.1).order_of.each_ok at end reply (of_key_event h (get_or are.keys there.0 (pos 0)) at event e.begins (sym is)) ok in
+        let is : get_or are.keys there.0 (Int (pos 0)) ≡ e.key = get_or_default are.keys there.0 (Int (pos 0)) e.key there.1 ∙ there.2 in
+        let placed = (legal_part kinds h parts are merged.operations there.0 there.1).order_of.each_ok at end reply (of_key_event h (get_or are.keys there.0 (Int (pos 0))) at event e.begins (sym is)) ok in
         in_whole there.0 (record { at = at; reply = reply }) placed;
     real_time = real_time kinds h parts are merged.operations merged.parts_of merged.in_time;
   };

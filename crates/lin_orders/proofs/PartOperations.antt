@@ -1,6 +1,7 @@
 -- Operations of a part, and of the whole.
-use Rattle.std.proofs.Common.{◌≡◌, ◌<◌, ◌≤◌, ◌↔◌, ◌⊎◌, ℕ, ℤ, Bool, true, List, inl, inr, refl, sym, ap, subst, ◌∙◌, arith}
+use Rattle.std.proofs.Common.{◌≡◌, ◌<◌, ◌≤◌, ◌↔◌, ◌⊎◌, ℕ, Bool, true, List, inl, inr, refl, sym, ap, subst, ◌∙◌, arith}
 use Rattle.std.proofs.lemmas.Bool.{cases_order}
+use Rattle.lin_events.specs.declared.items.Item.{Item}
 use Rattle.lin_events.specs.declared.events.Body.{Body}
 use Rattle.lin_events.specs.declared.events.Body.TheVariants.{Invoke, Ok, Fail, Info}
 use Rattle.lin_events.specs.declared.events.Event.{Event}
@@ -31,16 +32,16 @@ module _ (h : List Event) where
       let found = call_since h at event stands call is in
       subst (λ p. IsOperation h at p event.key call) (ap (λ (e : Event). e.process) (one_event h at _ event found.1 stands) ∙ same) found.1
 
-  of_operation : (at process : ℕ) (key : ℤ) (call : Call) → IsOperation h at process key call → IsOf h process at
+  of_operation : (at process : ℕ) (key : Item) (call : Call) → IsOperation h at process key call → IsOf h process at
   of_operation at process key call op = (record { process = process; key = key; body = Invoke call }, op, refl)
 
   return_ends : (at end : ℕ) → IsReturn h at end → (ending : Event) × IsEnd h at end ending
   return_ends at end (inl ok) = (ok.1.0, ok.1.1)
   return_ends at end (inr failed) = (failed.0, failed.1)
 
-module _ (functions : ℤ → Name → Bool) (h : List Event) (alternates : IsAlternating functions h) where
+module _ (functions : Item → Name → Bool) (h : List Event) (alternates : IsAlternating functions h) where
   -- an operation whose process has a later event ends no later than there
-  end_by : (at process k : ℕ) (key : ℤ) (call : Call) → IsOperation h at process key call → at < k → IsOf h process k → (end : ℕ) × (ending : Event) × IsEnd h at end ending × (end ≤ k)
+  end_by : (at process k : ℕ) (key : Item) (call : Call) → IsOperation h at process key call → at < k → IsOf h process k → (end : ℕ) × (ending : Event) × IsEnd h at end ending × (end ≤ k)
   end_by at process k key call op below of_it = elim (body_cases of_it.0.body) [
     | inl invokes ↦
         let back = alternates.returned at k process key of_it.0.key call invokes.0 below op (operation_of h k process of_it.0 invokes.0 of_it.1 of_it.2 invokes.1) in
@@ -81,7 +82,7 @@ module _ (functions : ℤ → Name → Bool) (h : List Event) (alternates : IsAl
         ]
   ]
 
-  module _ (key : ℤ) (positions : List ℕ) (are : ArePositionsOf key h positions) where
+  module _ (key : Item) (positions : List ℕ) (are : ArePositionsOf key h positions) where
     -- an event at a position of the key is of the key
     key_at : (at : ℕ) (event : Event) → is_of_key h key at ≡ true → IsEvent h at event → event.key ≡ key
     key_at at event of_it stands = let found = event_of_key h key at of_it in ap (λ (x : Event). x.key) (one_event h at event found.0 stands found.1) ∙ found.2

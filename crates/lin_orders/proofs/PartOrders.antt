@@ -1,8 +1,9 @@
 -- Orders of a part, and of the whole for its key.
-use Rattle.std.proofs.Common.{◌≡◌, ◌<◌, ℕ, suc, ℤ, Some, List, [], ◌∷◌, length, get_or, All, AllPairs, Contains, IsTrue, refl, sym, ap, subst, ◌∙◌, arith}
+use Rattle.std.proofs.Common.{◌≡◌, ◌<◌, ℕ, suc, Some, List, [], ◌∷◌, length, get_or, All, AllPairs, Contains, IsTrue, refl, sym, ap, subst, ◌∙◌, arith}
 use Rattle.std.specs.List.{AllZip}
 use Rattle.std.proofs.lemmas.Option.{same_Some, get_or_from_slice_get}
 use Rattle.std.proofs.lemmas.List.Elements.{AllZip-get_or, length_all_zip, Contains-get_or}
+use Rattle.lin_events.specs.declared.items.Item.{Item}
 use Rattle.lin_events.specs.declared.events.Body.TheVariants.{Invoke}
 use Rattle.lin_events.specs.declared.events.Event.{Event}
 use Rattle.lin_events.specs.declared.calls.Call.{Call}
@@ -76,7 +77,7 @@ module _ (scope other : ℕ → Type 0) (h g : List Event) (names : ℕ → ℕ 
   carry_run step from to (p ∷ xs) (q ∷ ys) zip run =
       (run.0, run.1, agrees.call p.at q.at run.0 zip.0.0 run.2, subst (step from run.0 run.1) zip.0.1 run.3, carry_run step run.1 to xs ys zip.1 run.4)
 
-module _ (key : ℤ) (h : List Event) (positions : List ℕ) (are : ArePositionsOf key h positions) (is : IsPartOf positions (part key h) h)
+module _ (key : Item) (h : List Event) (positions : List ℕ) (are : ArePositionsOf key h positions) (is : IsPartOf positions (part key h) h)
     (inside : (n at end : ℕ) (reply : Reply) → IsNth positions n at → IsOk h at end reply → (m : ℕ) × IsNth positions m end × IsOk (part key h) n m reply)
     (outside : (n at m : ℕ) (reply : Reply) → IsNth positions n at → IsOk (part key h) n m reply → (end : ℕ) × IsNth positions m end × IsOk h at end reply) where
   outwards : Agrees (λ n. Unit {0}) (λ at. IsTrue (is_of_key h key at)) (part key h) h (λ n at. IsNth positions n at)

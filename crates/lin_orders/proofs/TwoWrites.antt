@@ -1,12 +1,13 @@
 -- The configurations of two writes at once.
 use Rattle.std.proofs.Common.{◌≡◌, ℕ, zero, suc, ◌<◌, pos, List, [], ◌∷◌, ◌++◌, All, Contains, ◌⊎◌, inl, inr, refl, sym, ap, subst, ◌∙◌, arith}
 use Rattle.std.proofs.lemmas.List.Elements.{All-contains}
+use Rattle.lin_events.specs.declared.items.Item.TheVariants.{Int}
 use Rattle.lin_events.specs.declared.calls.Call.{Call}
 use Rattle.lin_events.specs.declared.calls.Call.TheVariants.{Write}
 use Rattle.lin_events.specs.declared.calls.Reply.{Reply}
 use Rattle.lin_events.specs.declared.calls.Reply.TheVariants.{Done}
 use Rattle.lin_events.specs.declared.calls.Val.{Val}
-use Rattle.lin_events.specs.declared.calls.Val.TheVariants.{Nil, Int}
+use Rattle.lin_events.specs.declared.calls.Val.TheVariants.{Nil, Item as Held}
 use Rattle.lin_events.specs.declared.events.Body.TheVariants.{Invoke}
 use Rattle.lin_events.specs.declared.events.Event.{Event}
 use Rattle.lin_events.specs.Operations.{IsOperation, IsEnd, IsOpen}
@@ -32,10 +33,10 @@ abbrev Ends : List Placed → State × List (ℕ × Reply) → Type 0
 Ends o c = EndsIn (start Register) (Step Register) two_writes o c
 
 abbrev first_write : Call
-first_write = Write (Int (pos 1))
+first_write = Write (Held (Int (pos 1)))
 
 abbrev second_write : Call
-second_write = Write (Int (pos 2))
+second_write = Write (Held (Int (pos 2)))
 
 abbrev first : Placed
 first = record { at = 0; reply = Done }
@@ -46,14 +47,14 @@ second = record { at = 1; reply = Done }
 no_end : (at end : ℕ) (ending : Event) → IsEnd two_writes at end ending → ⊥
 no_end at zero ending e = let later : at < 0 = e.later in omega arith
 no_end zero (suc zero) ending e =
-    let caller = one_caller two_writes 0 0 e.process (pos 0) e.key first_write e.call refl e.begins in
+    let caller = one_caller two_writes 0 0 e.process (Int (pos 0)) e.key first_write e.call refl e.begins in
     let ender = ap (λ (x : Event). x.process) (one_event two_writes 1 (event 1 (Invoke second_write)) ending refl e.ends) in
     let same = e.same in
     omega arith
 no_end (suc at) (suc zero) ending e = let later : suc at < 1 = e.later in omega arith
 no_end at (suc (suc end)) ending e = let there = e.ends in cc
 
-all_open : (at process : ℕ) (call : Call) → IsOperation two_writes at process (pos 0) call → IsOpen two_writes at process (pos 0) call
+all_open : (at process : ℕ) (call : Call) → IsOperation two_writes at process (Int (pos 0)) call → IsOpen two_writes at process (Int (pos 0)) call
 all_open at process call begins = record { begins = begins; no_ok = λ end reply ok. no_end at end ok.0 ok.1; no_fail = λ f. no_end at f.0 f.1 f.2 }
 
 -- the five orders, and where they end
@@ -62,26 +63,26 @@ none_placed =
     ends_kept (start Register) (Step Register) (event 0 (Invoke first_write) ∷ []) (event 1 (Invoke second_write)) (invoke_quiet _ second_write refl) [] _
     (ends_kept (start Register) (Step Register) [] (event 0 (Invoke first_write)) (invoke_quiet _ first_write refl) [] _ (start_lem (start Register) (Step Register)).0)
 
-place_first : (o : List Placed) (v : Val) (before after : List (ℕ × Reply)) → IsAdded 0 Done before after → Ends o (Value v, before) → Ends (o ++ first ∷ []) (Value (Int (pos 1)), after)
-place_first o v before after added so_far = placing_lem (start Register) (Step Register) two_writes o (Value v, before) (Value (Int (pos 1)), after) first so_far
-    (record { process = 0; key = pos 0; call = first_write; is_open = all_open 0 0 first_write refl; steps = (refl, refl); added = added })
+place_first : (o : List Placed) (v : Val) (before after : List (ℕ × Reply)) → IsAdded 0 Done before after → Ends o (Value v, before) → Ends (o ++ first ∷ []) (Value (Held (Int (pos 1))), after)
+place_first o v before after added so_far = placing_lem (start Register) (Step Register) two_writes o (Value v, before) (Value (Held (Int (pos 1))), after) first so_far
+    (record { process = 0; key = Int (pos 0); call = first_write; is_open = all_open 0 0 first_write refl; steps = (refl, refl); added = added })
 
-place_second : (o : List Placed) (v : Val) (before after : List (ℕ × Reply)) → IsAdded 1 Done before after → Ends o (Value v, before) → Ends (o ++ second ∷ []) (Value (Int (pos 2)), after)
-place_second o v before after added so_far = placing_lem (start Register) (Step Register) two_writes o (Value v, before) (Value (Int (pos 2)), after) second so_far
-    (record { process = 1; key = pos 0; call = second_write; is_open = all_open 1 1 second_write refl; steps = (refl, refl); added = added })
+place_second : (o : List Placed) (v : Val) (before after : List (ℕ × Reply)) → IsAdded 1 Done before after → Ends o (Value v, before) → Ends (o ++ second ∷ []) (Value (Held (Int (pos 2))), after)
+place_second o v before after added so_far = placing_lem (start Register) (Step Register) two_writes o (Value v, before) (Value (Held (Int (pos 2))), after) second so_far
+    (record { process = 1; key = Int (pos 0); call = second_write; is_open = all_open 1 1 second_write refl; steps = (refl, refl); added = added })
 
-first_placed : Ends (first ∷ []) (Value (Int (pos 1)), (0, Done) ∷ [])
+first_placed : Ends (first ∷ []) (Value (Held (Int (pos 1))), (0, Done) ∷ [])
 first_placed = place_first [] Nil [] ((0, Done) ∷ []) (add_alone 0 Done) none_placed
 
-second_placed : Ends (second ∷ []) (Value (Int (pos 2)), (1, Done) ∷ [])
+second_placed : Ends (second ∷ []) (Value (Held (Int (pos 2))), (1, Done) ∷ [])
 second_placed = place_second [] Nil [] ((1, Done) ∷ []) (add_alone 1 Done) none_placed
 
-second_last : Ends (first ∷ second ∷ []) (Value (Int (pos 2)), (0, Done) ∷ (1, Done) ∷ [])
-second_last = place_second (first ∷ []) (Int (pos 1)) ((0, Done) ∷ []) ((0, Done) ∷ (1, Done) ∷ [])
+second_last : Ends (first ∷ second ∷ []) (Value (Held (Int (pos 2))), (0, Done) ∷ (1, Done) ∷ [])
+second_last = place_second (first ∷ []) (Held (Int (pos 1))) ((0, Done) ∷ []) ((0, Done) ∷ (1, Done) ∷ [])
     (add_later 1 Done (0, Done) [] (add_alone 0 Done).rising ((1, Done) ∷ []) (omega arith) (add_alone 1 Done)) first_placed
 
-first_last : Ends (second ∷ first ∷ []) (Value (Int (pos 1)), (0, Done) ∷ (1, Done) ∷ [])
-first_last = place_first (second ∷ []) (Int (pos 2)) ((1, Done) ∷ []) ((0, Done) ∷ (1, Done) ∷ [])
+first_last : Ends (second ∷ first ∷ []) (Value (Held (Int (pos 1))), (0, Done) ∷ (1, Done) ∷ [])
+first_last = place_first (second ∷ []) (Held (Int (pos 2))) ((1, Done) ∷ []) ((0, Done) ∷ (1, Done) ∷ [])
     (add_first 0 Done (1, Done) [] (add_alone 1 Done).rising (omega arith)) second_placed
 
 -- a step that an order takes is one of the two writes
@@ -94,11 +95,11 @@ a_write v p call next is step = by p.at p.reply is step
     by : (at : ℕ) (reply : Reply) → IsCall two_writes at call → Step Register (Value v) call next reply
         → ((record { at = at; reply = reply } ≡ first) ⊎ (record { at = at; reply = reply } ≡ second)) × (w : Val) × (next ≡ Value w)
     by zero reply is step =
-        let t = taken 0 (Int (pos 1)) reply (0, pos 0, refl) is step in
-        (inl (λ i. record { at = 0; reply = t.1 i }), Int (pos 1), t.0)
+        let t = taken 0 (Held (Int (pos 1))) reply (0, Int (pos 0), refl) is step in
+        (inl (λ i. record { at = 0; reply = t.1 i }), Held (Int (pos 1)), t.0)
     by (suc zero) reply is step =
-        let t = taken 1 (Int (pos 2)) reply (1, pos 0, refl) is step in
-        (inr (λ i. record { at = 1; reply = t.1 i }), Int (pos 2), t.0)
+        let t = taken 1 (Held (Int (pos 2))) reply (1, Int (pos 0), refl) is step in
+        (inr (λ i. record { at = 1; reply = t.1 i }), Held (Int (pos 2)), t.0)
     by (suc (suc at)) reply is step = let there = is.2 in cc
 
 three_differ : (a b c : ℕ) → a < 2 → b < 2 → c < 2 → (a ≡ b → ⊥) → (a ≡ c → ⊥) → (b ≡ c → ⊥) → ⊥

@@ -1,6 +1,7 @@
 -- What one more event makes of the configurations of a history that has one object. Each law holds for any object, given by where it
 -- begins and which steps it takes, and speaks of well-formed histories.
-use Rattle.std.specs.Prelude.{◌≡◌, ◌↔◌, ℕ, ℤ, Bool, List, [], ◌∷◌, ◌++◌, Contains, take}
+use Rattle.std.specs.Prelude.{◌≡◌, ◌↔◌, ℕ, Bool, List, [], ◌∷◌, ◌++◌, Contains, take}
+use Rattle.lin_events.specs.declared.items.Item.{Item}
 use Rattle.lin_events.specs.declared.events.Body.TheVariants.{Invoke, Ok, Fail, Info}
 use Rattle.lin_events.specs.declared.events.Event.{Event}
 use Rattle.lin_events.specs.declared.calls.Call.{Call}
@@ -33,7 +34,7 @@ pub record AfterInvocation {S : Type 0} (start : S) (step : S → Call → S →
   pub old : (c : S × List (ℕ × Reply)) → IsConfiguration start step (with_event h event) c → ((reply : Reply) → Contains c.1 (event.process, reply) → ⊥) → IsConfiguration start step h c
 
 abbrev pub InvocationLaw : {S : Type 0} → S → (S → Call → S → Reply → Type 0) → Type 0
-InvocationLaw start step = (functions : ℤ → Name → Bool) (h : List Event) (event : Event) (call : Call) → event.body ≡ Invoke call
+InvocationLaw start step = (functions : Item → Name → Bool) (h : List Event) (event : Event) (call : Call) → event.body ≡ Invoke call
     → IsWellFormed functions (with_event h event) → AfterInvocation start step h event
 
 -- after an ok: the configurations in which the operation is placed with this reply, without it
@@ -44,23 +45,23 @@ pub record AfterOk {S : Type 0} (start : S) (step : S → Call → S → Reply �
       → (placed : List (ℕ × Reply)) × EndsIn start step h order (c.0, placed) × IsAdded event.process reply c.1 placed
 
 abbrev pub OkLaw : {S : Type 0} → S → (S → Call → S → Reply → Type 0) → Type 0
-OkLaw start step = (functions : ℤ → Name → Bool) (h : List Event) (event : Event) (name : Name) (reply : Reply) → event.body ≡ Ok name reply
+OkLaw start step = (functions : Item → Name → Bool) (h : List Event) (event : Event) (name : Name) (reply : Reply) → event.body ≡ Ok name reply
     → IsWellFormed functions (with_event h event) → AfterOk start step h event reply
 
 -- after a fail: the configurations in which the operation isn't placed
 abbrev pub FailLaw : {S : Type 0} → S → (S → Call → S → Reply → Type 0) → Type 0
-FailLaw {S} start step = (functions : ℤ → Name → Bool) (h : List Event) (event : Event) (name : Name) → event.body ≡ Fail name → IsWellFormed functions (with_event h event)
+FailLaw {S} start step = (functions : Item → Name → Bool) (h : List Event) (event : Event) (name : Name) → event.body ≡ Fail name → IsWellFormed functions (with_event h event)
     → (order : List Placed) (c : S × List (ℕ × Reply))
     → EndsIn start step (with_event h event) order c ↔ (EndsIn start step h order c × ((reply : Reply) → Contains c.1 (event.process, reply) → ⊥))
 
 -- after an info: the same ones
 abbrev pub InfoLaw : {S : Type 0} → S → (S → Call → S → Reply → Type 0) → Type 0
-InfoLaw {S} start step = (functions : ℤ → Name → Bool) (h : List Event) (event : Event) (name : Name) → event.body ≡ Info name → IsWellFormed functions (with_event h event)
+InfoLaw {S} start step = (functions : Item → Name → Bool) (h : List Event) (event : Event) (name : Name) → event.body ≡ Info name → IsWellFormed functions (with_event h event)
     → (order : List Placed) (c : S × List (ℕ × Reply)) → EndsIn start step (with_event h event) order c ↔ EndsIn start step h order c
 
 -- each legal order ends in a configuration, so a history has one exactly when it is linearizable
 abbrev pub LegalOrdersEnd : {S : Type 0} → S → (S → Call → S → Reply → Type 0) → Type 0
-LegalOrdersEnd {S} start step = (functions : ℤ → Name → Bool) (h : List Event) (order : List Placed) → IsWellFormed functions h
+LegalOrdersEnd {S} start step = (functions : Item → Name → Bool) (h : List Event) (order : List Placed) → IsWellFormed functions h
     → IsLegalOrderBy start step h order → (c : S × List (ℕ × Reply)) × EndsIn start step h order c
 
 -- each prefix of a linearizable history is linearizable

@@ -1,6 +1,7 @@
 -- Configurations of a history that has one object: where its legal orders end, and what they place of the open operations. They are
 -- defined by whole orders, not event by event.
-use Rattle.std.specs.Prelude.{◌≡◌, ◌≢◌, ◌⊎◌, ◌+◌, ◌<◌, ℕ, ℤ, List, [], ◌∷◌, ◌++◌, length, All, AllPairs, Contains}
+use Rattle.std.specs.Prelude.{◌≡◌, ◌≢◌, ◌⊎◌, ◌+◌, ◌<◌, ℕ, List, [], ◌∷◌, ◌++◌, length, All, AllPairs, Contains}
+use Rattle.lin_events.specs.declared.items.Item.{Item}
 use Rattle.lin_events.specs.declared.events.Event.{Event}
 use Rattle.lin_events.specs.declared.calls.Call.{Call}
 use Rattle.lin_events.specs.declared.calls.Reply.{Reply}
@@ -16,8 +17,8 @@ IsRising placed = AllPairs (λ p q. p.0 < q.0) placed
 -- the open operations of the order with their replies, each named by its process
 pub record IsPlacedBy (h : List Event) (order : List Placed) (placed : List (ℕ × Reply)) : Type 0 where
   pub rising : IsRising placed
-  pub sound : (process : ℕ) (reply : Reply) → Contains placed (process, reply) → (at : ℕ) × (key : ℤ) × (call : Call) × IsOpen h at process key call × Places order at reply
-  pub complete : (at process : ℕ) (key : ℤ) (call : Call) (reply : Reply) → IsOpen h at process key call → Places order at reply → Contains placed (process, reply)
+  pub sound : (process : ℕ) (reply : Reply) → Contains placed (process, reply) → (at : ℕ) × (key : Item) × (call : Call) × IsOpen h at process key call × Places order at reply
+  pub complete : (at process : ℕ) (key : Item) (call : Call) (reply : Reply) → IsOpen h at process key call → Places order at reply → Contains placed (process, reply)
 
 -- the order is legal, ends in this state, and has just these open operations, with these replies
 pub record EndsIn {S : Type 0} (start : S) (step : S → Call → S → Reply → Type 0) (h : List Event) (order : List Placed) (c : S × List (ℕ × Reply)) : Type 0 where
@@ -41,7 +42,7 @@ pub record IsAdded (process : ℕ) (reply : Reply) (without with_it : List (ℕ 
 -- an operation that is open in the history and has no place yet is placed, by a step of the object
 pub record IsPlacing {S : Type 0} (step : S → Call → S → Reply → Type 0) (h : List Event) (c : S × List (ℕ × Reply)) (p : Placed) (d : S × List (ℕ × Reply)) : Type 0 where
   pub process : ℕ
-  pub key : ℤ
+  pub key : Item
   pub call : Call
   pub is_open : IsOpen h p.at process key call
   pub steps : step c.0 call d.0 p.reply

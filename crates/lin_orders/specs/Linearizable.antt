@@ -1,5 +1,6 @@
 -- Legal orders, and which histories are linearizable (Herlihy and Wing 1990, sections 2 and 3).
-use Rattle.std.specs.Prelude.{◌≡◌, ◌+◌, ℕ, ℤ, List, [], ◌∷◌, take}
+use Rattle.std.specs.Prelude.{◌≡◌, ◌+◌, ℕ, List, [], ◌∷◌, take}
+use Rattle.lin_events.specs.declared.items.Item.{Item}
 use Rattle.lin_events.specs.declared.events.Event.{Event}
 use Rattle.lin_events.specs.declared.calls.Call.{Call}
 use Rattle.lin_events.specs.declared.calls.Reply.{Reply}
@@ -22,25 +23,25 @@ abbrev pub IsLegalFor : Kind → List Event → List Placed → Type 0
 IsLegalFor kind h order = IsRun (start kind) (Step kind) h order
 
 -- each object, of the kind that its key has, runs through its part of the order
-abbrev pub IsLegal : (ℤ → Kind) → List Event → List Placed → Type 0
-IsLegal kinds h order = (key : ℤ) → IsLegalFor (kinds key) h (part_of h key order)
+abbrev pub IsLegal : (Item → Kind) → List Event → List Placed → Type 0
+IsLegal kinds h order = (key : Item) → IsLegalFor (kinds key) h (part_of h key order)
 
 -- a legal order of the history
-pub record IsLegalOrder (kinds : ℤ → Kind) (h : List Event) (order : List Placed) : Type 0 where
+pub record IsLegalOrder (kinds : Item → Kind) (h : List Event) (order : List Placed) : Type 0 where
   pub order_of : IsOrder h order
   pub legal : IsLegal kinds h order
 
 -- a legal order of the history for one object
-pub record IsLegalOrderFor (kinds : ℤ → Kind) (key : ℤ) (h : List Event) (order : List Placed) : Type 0 where
+pub record IsLegalOrderFor (kinds : Item → Kind) (key : Item) (h : List Event) (order : List Placed) : Type 0 where
   pub order_of : IsOrderFor key h order
   pub legal : IsLegalFor (kinds key) h order
 
 -- the history is linearizable
-abbrev pub IsLinearizable : (ℤ → Kind) → List Event → Type 0
+abbrev pub IsLinearizable : (Item → Kind) → List Event → Type 0
 IsLinearizable kinds h = (order : List Placed) × IsLegalOrder kinds h order
 
 -- the history is linearizable for one object
-abbrev pub IsLinearizableFor : (ℤ → Kind) → ℤ → List Event → Type 0
+abbrev pub IsLinearizableFor : (Item → Kind) → Item → List Event → Type 0
 IsLinearizableFor kinds key h = (order : List Placed) × IsLegalOrderFor kinds key h order
 
 -- a legal order of a history that has one object, which begins here and takes these steps

@@ -1,7 +1,8 @@
 -- Orders for the objects of a history, merged into one order of the whole (locality: Herlihy and Wing 1990, section 3).
-use Rattle.std.specs.Prelude.{◌≡◌, ◌≢◌, ◌≤◌, ◌<◌, ◌↔◌, ◌==◌, ℕ, ℤ, List, [], map, filter, length, AllPairs, Contains, slice_index_or}
+use Rattle.std.specs.Prelude.{◌≡◌, ◌≢◌, ◌≤◌, ◌<◌, ◌↔◌, ◌==◌, ℕ, List, [], map, filter, length, AllPairs, Contains, slice_index_or}
 use Rattle.std.specs.List.{AllZip}
 use Rattle.std.specs.Global.{Vec}
+use Rattle.lin_events.specs.declared.items.Item.{Item}
 use Rattle.lin_events.specs.declared.events.Event.{Event}
 use Rattle.lin_events.specs.Operations.{IsEvent}
 use Rattle.lin_objects.specs.declared.kinds.Kind.{Kind}
@@ -23,23 +24,23 @@ pub record IsMerged (parts : List (List Placed)) (order : List Placed) : Type 0 
       → (k : ℕ) × (k ≤ j) × ((slice_index_or operations k d).0 ≡ (slice_index_or operations j d).0) × ((slice_index_or operations i d).1.at ≤ (slice_index_or operations k d).1.at)
 
 -- each part is a legal order for a key of its own, and each key of the history has its part
-pub record AreLegalParts (kinds : ℤ → Kind) (h : List Event) (parts : List (List Placed)) : Type 0 where
-  pub keys : List ℤ
+pub record AreLegalParts (kinds : Item → Kind) (h : List Event) (parts : List (List Placed)) : Type 0 where
+  pub keys : List Item
   pub distinct : AllPairs (λ x y. x ≢ y) keys
   pub legal : AllZip (λ key order. IsLegalOrderFor kinds key h order) keys parts
   pub complete : (at : ℕ) (event : Event) → IsEvent h at event → Contains keys event.key
 
 -- legal orders for the objects, merged, are a legal order of the whole
 abbrev pub MergedOrdersAreLegal : Type 0
-MergedOrdersAreLegal = (kinds : ℤ → Kind) (h : List Event) (parts : List (List Placed)) (order : List Placed) → AreLegalParts kinds h parts → IsMerged parts order → IsLegalOrder kinds h order
+MergedOrdersAreLegal = (kinds : Item → Kind) (h : List Event) (parts : List (List Placed)) (order : List Placed) → AreLegalParts kinds h parts → IsMerged parts order → IsLegalOrder kinds h order
 
 -- the empty order is a legal one for an object that has no event
 abbrev pub AbsentKeysAreLegal : Type 0
-AbsentKeysAreLegal = (kinds : ℤ → Kind) (h : List Event) (key : ℤ) → ((at : ℕ) (event : Event) → IsEvent h at event → event.key ≢ key) → IsLegalOrderFor kinds key h []
+AbsentKeysAreLegal = (kinds : Item → Kind) (h : List Event) (key : Item) → ((at : ℕ) (event : Event) → IsEvent h at event → event.key ≢ key) → IsLegalOrderFor kinds key h []
 
 -- locality: a history is linearizable exactly when it is so for each object
 abbrev pub IsLocal : Type 0
-IsLocal = (kinds : ℤ → Kind) (h : List Event) → IsLinearizable kinds h ↔ ((key : ℤ) → IsLinearizableFor kinds key h)
+IsLocal = (kinds : Item → Kind) (h : List Event) → IsLinearizable kinds h ↔ ((key : Item) → IsLinearizableFor kinds key h)
 
 -- the operations of each part
 abbrev pub lists_of : List (Vec Placed) → List (List Placed)

@@ -1,8 +1,9 @@
 -- Orders of the operations of a history (Herlihy and Wing 1990, section 2). An operation is the position of its invocation, and
 -- real time is the order of events in the history.
-use Rattle.std.specs.Prelude.{◌≢◌, ◌<◌, ℕ, ℤ, Bool, false, List, All, AllPairs, Contains, IsTrue, filter, slice_get}
+use Rattle.std.specs.Prelude.{◌≢◌, ◌<◌, ℕ, Bool, false, List, All, AllPairs, Contains, IsTrue, filter, slice_get}
 use Rattle.std.specs.Option.{option_map_or}
-use Rattle.std.specs.Ordering.{int_eq}
+use Rattle.lin_events.specs.declared.items.Item.{Item}
+use Rattle.lin_events.specs.Items.{item_eq}
 use Rattle.lin_events.specs.declared.events.Event.{Event}
 use Rattle.lin_events.specs.declared.calls.Call.{Call}
 use Rattle.lin_events.specs.declared.calls.Reply.{Reply}
@@ -15,7 +16,7 @@ IsBefore h earlier later = (end : ℕ) × (reply : Reply) × IsOk h earlier end 
 
 -- the position is an operation, with this call
 abbrev pub IsCall : List Event → ℕ → Call → Type 0
-IsCall h at call = (process : ℕ) × (key : ℤ) × IsOperation h at process key call
+IsCall h at call = (process : ℕ) × (key : Item) × IsOperation h at process key call
 
 -- the order places the operation, with this reply
 abbrev pub Places : List Placed → ℕ → Reply → Type 0
@@ -40,13 +41,13 @@ abbrev pub IsOrder : List Event → List Placed → Type 0
 IsOrder h order = IsOrderOf (λ at. Unit {0}) h order
 
 -- whether the event at the position is of the key
-abbrev pub is_of_key : List Event → ℤ → ℕ → Bool
-is_of_key h key at = option_map_or (λ event. int_eq event.key key) (slice_get h at) false
+abbrev pub is_of_key : List Event → Item → ℕ → Bool
+is_of_key h key at = option_map_or (λ event. item_eq event.key key) (slice_get h at) false
 
 -- an order of the history for one object, in positions of the whole history
-abbrev pub IsOrderFor : ℤ → List Event → List Placed → Type 0
+abbrev pub IsOrderFor : Item → List Event → List Placed → Type 0
 IsOrderFor key h order = IsOrderOf (λ at. IsTrue (is_of_key h key at)) h order
 
 -- the part of an order that is of the key
-abbrev pub part_of : List Event → ℤ → List Placed → List Placed
+abbrev pub part_of : List Event → Item → List Placed → List Placed
 part_of h key order = filter (λ p. is_of_key h key p.at) order

@@ -1,17 +1,18 @@
 -- The part of a history that is of one object (Herlihy and Wing 1990, section 2), and where its events stand in the whole.
-use Rattle.std.specs.Prelude.{◌≡◌, ◌<◌, ◌↔◌, ℕ, ℤ, List, Some, All, AllPairs, Contains, IsTrue, filter, filter_map, map, slice_get, slice_index}
+use Rattle.std.specs.Prelude.{◌≡◌, ◌<◌, ◌↔◌, ℕ, List, Some, All, AllPairs, Contains, IsTrue, filter, filter_map, map, slice_get, slice_index}
 use Rattle.std.specs.List.{AllZip}
-use Rattle.std.specs.Ordering.{int_eq}
+use Rattle.lin_events.specs.declared.items.Item.{Item}
+use Rattle.lin_events.specs.Items.{item_eq}
 use Rattle.lin_events.specs.declared.events.Event.{Event}
 use Rattle.lin_orders.specs.declared.placed.Placed.{Placed}
 use Rattle.lin_orders.specs.Orders.{is_of_key}
 
 -- the events of the key, in their order
-abbrev pub part : ℤ → List Event → List Event
-part key h = filter (λ event. int_eq event.key key) h
+abbrev pub part : Item → List Event → List Event
+part key h = filter (λ event. item_eq event.key key) h
 
 -- just the positions of the events of the key, strictly rising
-pub record ArePositionsOf (key : ℤ) (h : List Event) (positions : List ℕ) : Type 0 where
+pub record ArePositionsOf (key : Item) (h : List Event) (positions : List ℕ) : Type 0 where
   pub rising : AllPairs (λ i j. i < j) positions
   pub sound : All (λ at. IsTrue (is_of_key h key at)) positions
   pub complete : (at : ℕ) → IsTrue (is_of_key h key at) → Contains positions at

@@ -1,6 +1,7 @@
 -- What the parts of `check_order` decide, and what the tables hold that it makes on its way: words of private contracts.
-use Rattle.std.specs.Prelude.{◌≡◌, ◌≢◌, ◌<◌, ℕ, ℤ, List, Bool, true, false, length, Option, Some, None, All, AllPairs, slice_index_or, slice_get, unwrap_or}
-use Rattle.std.specs.Ordering.{int_eq}
+use Rattle.std.specs.Prelude.{◌≡◌, ◌≢◌, ◌<◌, ℕ, List, Bool, true, false, length, Option, Some, None, All, AllPairs, slice_index_or, slice_get, unwrap_or}
+use Rattle.lin_events.specs.declared.items.Item.{Item}
+use Rattle.lin_events.specs.Items.{item_eq}
 use Rattle.lin_events.specs.declared.events.Event.{Event}
 use Rattle.lin_events.specs.declared.calls.Call.{Call}
 use Rattle.lin_events.specs.declared.calls.Reply.{Reply}
@@ -12,7 +13,7 @@ use Rattle.lin_orders.specs.declared.placed.Placed.{Placed}
 use Rattle.lin_orders.specs.Orders.{IsBefore, IsCall, Places}
 
 -- the position is an operation on the key, with this call
-abbrev pub IsCallOn : List Event → ℕ → ℤ → Call → Type 0
+abbrev pub IsCallOn : List Event → ℕ → Item → Call → Type 0
 IsCallOn h at key call = (process : ℕ) × IsOperation h at process key call
 
 -- `next` is the least later position of the process of the event at `at`
@@ -60,10 +61,10 @@ abbrev pub KeepsRealTime : List Event → List Placed → Type 0
 KeepsRealTime h order = AllPairs (λ p q. IsBefore h q.at p.at → ⊥) order
 
 -- the state of each object, by its key: the one listed, else its start
-abbrev pub state_of : (ℤ → Kind) → (ℤ → Option State) → ℤ → State
+abbrev pub state_of : (Item → Kind) → (Item → Option State) → Item → State
 state_of kinds listed key = unwrap_or (listed key) (start (kinds key))
 
 -- the object of the key took a step by this call with this reply, and all others stay
-pub record Moves (kinds : ℤ → Kind) (old new : ℤ → Option State) (key : ℤ) (call : Call) (reply : Reply) : Type 0 where
+pub record Moves (kinds : Item → Kind) (old new : Item → Option State) (key : Item) (call : Call) (reply : Reply) : Type 0 where
   pub steps : Step (kinds key) (state_of kinds old key) call (state_of kinds new key) reply
-  pub others : (other : ℤ) → int_eq key other ≡ false → new other ≡ old other
+  pub others : (other : Item) → item_eq key other ≡ false → new other ≡ old other

@@ -1,7 +1,8 @@
 //! Whether an order is legal: whether each object runs through its part of it.
-ghost use Rattle.std.specs.Prelude.{◌≡◌, ◌↔◌, ℤ, false, IsTrue, IfOk, MatchBool};
-ghost use Rattle.std.specs.Ordering.{int_eq};
+ghost use Rattle.std.specs.Prelude.{◌≡◌, ◌↔◌, false, IsTrue, IfOk, MatchBool};
 ghost use Rattle.std.specs.HashMap.{get};
+ghost use Rattle.lin_events.specs.declared.items.Item.{Item as ItemOf};
+ghost use Rattle.lin_events.specs.Items.{item_eq};
 ghost use Rattle.lin_objects.specs.Kinds.{kind_of};
 ghost use Rattle.lin_objects.specs.Steps.{Step};
 ghost use Rattle.lin_orders.specs.Linearizable.{IsLegal};
@@ -9,7 +10,7 @@ ghost use Rattle.lin_orders.specs.Tables.{NamesOperations, state_of};
 ghost use Rattle.lin_orders.specs.inner.Tables.{IsFound, IsRefused, IsTaken};
 
 use crate::placed::Placed;
-use lin_events::{Body, Call, Event, OutOfMemory, Reply};
+use lin_events::{Body, Call, Event, Item, OutOfMemory, Reply};
 use lin_objects::{Any, Kinds, SeqObject, State, replies_decide};
 use std::alloc::Global;
 use std::collections::HashMap;
@@ -20,14 +21,14 @@ use std::collections::HashMap;
 fn next_state(
     alloc: Global,
     kinds: &Kinds,
-    states: &mut HashMap<i64, State>,
-    key: i64,
+    states: &mut HashMap<Item, State>,
+    key: Item,
     call: &Call,
     reply: &Reply,
 ) -> Result<Option<State>, OutOfMemory>
-    ensures found { let state = state_of (kind_of kinds.now) (get int_eq states.old) key in
+    ensures found { let state = state_of (kind_of kinds.now) (get item_eq states.old) key in
         IfOk result (IsFound (λ next. Step (kind_of kinds.now key) state call.now next reply.now)) }
-    ensures others { (other : ℤ) → int_eq key other ≡ false → get int_eq states.new other ≡ get int_eq states.old other }
+    ensures others { (other : ItemOf) → item_eq key other ≡ false → get item_eq states.new other ≡ get item_eq states.old other }
 {
     let object = Any {
         kind: kinds.of(key),
@@ -45,11 +46,11 @@ fn take_step(
     kinds: &Kinds,
     event: &Event,
     reply: &Reply,
-    states: &mut HashMap<i64, State>,
+    states: &mut HashMap<Item, State>,
 ) -> Result<bool, OutOfMemory>
     ensures { IfOk result (λ taken. MatchBool taken
-        (IsTaken (kind_of kinds.now) (get int_eq states.old) (get int_eq states.new) event.now reply.now)
-        (IsRefused (kind_of kinds.now) (get int_eq states.old) event.now reply.now)) }
+        (IsTaken (kind_of kinds.now) (get item_eq states.old) (get item_eq states.new) event.now reply.now)
+        (IsRefused (kind_of kinds.now) (get item_eq states.old) event.now reply.now)) }
 {
     let Body::Invoke(call) = &event.body else {
         return Ok(false);

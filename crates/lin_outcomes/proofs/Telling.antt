@@ -1,18 +1,19 @@
 -- What is told of all that some order shows.
-use Rattle.std.proofs.Common.{◌≡◌, ◌+◌, ◌<◌, ℕ, ℤ, zero, suc, false, List, [], ◌∷◌, length, get_or, map, take, All, refl, sym, ap, subst, ◌∙◌, arith, is_lt}
+use Rattle.std.proofs.Common.{◌≡◌, ◌+◌, ◌<◌, ℕ, zero, suc, false, List, [], ◌∷◌, length, get_or, map, take, All, refl, sym, ap, subst, ◌∙◌, arith, is_lt}
 use Rattle.std.specs.Prelude.{◌≢◌}
 use Rattle.std.specs.List.{AllZip}
 use Rattle.std.specs.List.Sorted.{IsPermutation}
 use Rattle.std.proofs.lemmas.List.{get_or-map, length-map}
 use Rattle.std.proofs.lemmas.List.Elements.{All-map}
 use Rattle.std.proofs.lemmas.List.Sorted.{All-permutation, Contains-permutation, IsPermutation-map}
+use Rattle.lin_events.specs.declared.items.Item.{Item}
 use Rattle.lin_lists.specs.lemmas.Taken.{element_at}
 use Rattle.lin_orders.specs.declared.placed.Placed.{Placed}
 use Rattle.lin_possible.specs.After.{IsWay}
 use Rattle.lin_possible.specs.Possible.{AreShown}
-use Rattle.lin_words.specs.declared.tables.Item.{Item}
+use Rattle.lin_words.specs.declared.tables.Entry.{Entry}
 use Rattle.lin_outcomes.specs.Ranks.{IsRisingBy, rank_cmp}
-use Rattle.lin_outcomes.specs.Outcomes.{AreAll, IsItem, IsListing}
+use Rattle.lin_outcomes.specs.Outcomes.{AreAll, IsEntry, IsListing}
 use Rattle.lin_outcomes.specs.Words.{leading_to}
 use Rattle.lin_outcomes.specs.inner.Telling.{AreTold, IsTold, Leads, rank_in}
 use Rattle.lin_outcomes.specs.declared.listing.Leading.{Leading}
@@ -43,7 +44,7 @@ words_at xs ys same k d e within =
     sym (get_or-map words_of xs k d [] within) ∙ ap (λ l. get_or l k []) same ∙ get_or-map words_of ys k e [] (omega arith)
 
 -- found in another order, told in the same
-pub told_in_order : {T : Type 0} (shows : List Placed → T → Type 0) (tells : ℕ → List Placed → Type 0) (rank : T → ℕ × List ℤ) (words : T → List ℕ) (found : List (T × ℕ)) (told sorted : List Told)
+pub told_in_order : {T : Type 0} (shows : List Placed → T → Type 0) (tells : ℕ → List Placed → Type 0) (rank : T → ℕ × List Item) (words : T → List ℕ) (found : List (T × ℕ)) (told sorted : List Told)
     → AreShown shows tells found → AllZip (IsTold rank words) found told → IsPermutation told sorted → IsRisingBy (λ t. rank_in t.rank) sorted → AreTold shows tells rank words sorted
 told_in_order {T} shows tells rank words found told sorted shown zip perm rising =
     let other = zip_permuted (IsTold rank words) found told sorted zip perm in
@@ -59,7 +60,7 @@ told_in_order {T} shows tells rank words found told sorted shown zip perm rising
       rising = rising;
     }
 
-module _ {T : Type 0} (shows : List Placed → T → Type 0) (tells : ℕ → List Placed → Type 0) (rank : T → ℕ × List ℤ) (words : T → List ℕ) (told : List Told) (are : AreTold shows tells rank words told) where
+module _ {T : Type 0} (shows : List Placed → T → Type 0) (tells : ℕ → List Placed → Type 0) (rank : T → ℕ × List Item) (words : T → List ℕ) (told : List Told) (are : AreTold shows tells rank words told) where
   abbrev what_of : T × ℕ → T
   what_of e = e.0
 
@@ -109,38 +110,38 @@ module _ {T : Type 0} (shows : List Placed → T → Type 0) (tells : ℕ → Li
   all_words = words_zip are.found told are.each
 
 -- the lines tell of what was found
-module _ {T : Type 0} (shows : List Placed → T → Type 0) (rank : T → ℕ × List ℤ) (words : T → List ℕ) (by : Leading) where
+module _ {T : Type 0} (shows : List Placed → T → Type 0) (rank : T → ℕ × List Item) (words : T → List ℕ) (by : Leading) where
   abbrev IsShown : T × ℕ → Type 0
   IsShown e = (order : List Placed) × IsWay by.possible.now e.1 order × shows order e.0
 
-  abbrev IsLine : T → Item → Type 0
-  IsLine what item = IsItem shows words (leading_to by.call) by.events.now what item
+  abbrev IsLine : T → Entry → Type 0
+  IsLine what entry = IsEntry shows words (leading_to by.call) by.events.now what entry
 
-  line_of : (e : T × ℕ) (t : Told) (item : Item) → IsShown e → IsTold rank words e t → Leads by t item → IsLine e.0 item
-  line_of e t item s is leads = record {
+  line_of : (e : T × ℕ) (t : Told) (entry : Entry) → IsShown e → IsTold rank words e t → Leads by t entry → IsLine e.0 entry
+  line_of e t entry s is leads = record {
     told = leads.same ∙ is.worded;
     order = s.0;
     shown = s.2;
     after = leads.after s.0 (subst (λ w. IsWay by.possible.now w s.0) (sym is.way) s.1);
   }
 
-  pub lines_of : (most : ℕ) (found : List (T × ℕ)) (told : List Told) (items : List Item) → All IsShown found → AllZip (IsTold rank words) found told → AllZip (Leads by) (take most told) items
-      → AllZip IsLine (take most (map (λ (e : T × ℕ). e.0) found)) items
+  pub lines_of : (most : ℕ) (found : List (T × ℕ)) (told : List Told) (entries : List Entry) → All IsShown found → AllZip (IsTold rank words) found told → AllZip (Leads by) (take most told) entries
+      → AllZip IsLine (take most (map (λ (e : T × ℕ). e.0) found)) entries
   lines_of zero found told [] s zip leads = tt
-  lines_of zero found told (item ∷ items) s zip leads = absurd leads
+  lines_of zero found told (entry ∷ entries) s zip leads = absurd leads
   lines_of (suc n) [] [] [] s zip leads = tt
-  lines_of (suc n) [] [] (item ∷ items) s zip leads = absurd leads
-  lines_of (suc n) [] (t ∷ ts) items s zip leads = absurd zip
-  lines_of (suc n) (e ∷ es) [] items s zip leads = absurd zip
+  lines_of (suc n) [] [] (entry ∷ entries) s zip leads = absurd leads
+  lines_of (suc n) [] (t ∷ ts) entries s zip leads = absurd zip
+  lines_of (suc n) (e ∷ es) [] entries s zip leads = absurd zip
   lines_of (suc n) (e ∷ es) (t ∷ ts) [] s zip leads = absurd leads
-  lines_of (suc n) (e ∷ es) (t ∷ ts) (item ∷ items) s zip leads =
-      (line_of e t item (s 0 e (omega arith)) zip.0 leads.0, lines_of n es ts items (λ k d within. s (suc k) d (omega arith)) zip.1 leads.1)
+  lines_of (suc n) (e ∷ es) (t ∷ ts) (entry ∷ entries) s zip leads =
+      (line_of e t entry (s 0 e (omega arith)) zip.0 leads.0, lines_of n es ts entries (λ k d within. s (suc k) d (omega arith)) zip.1 leads.1)
 
 -- of all of them the first are listed
-pub listing_from : {T : Type 0} (shows : List Placed → T → Type 0) (rank : T → ℕ × List ℤ) (words : T → List ℕ) (by : Leading) (told : List Told) (are : AreTold shows (IsWay by.possible.now) rank words told) (most : ℕ) (listed : Listed)
-    → listed.count ≡ length told → AllZip (Leads by) (take most told) listed.items.items
-    → IsListing (IsItem shows words (leading_to by.call) by.events.now) most (all_told shows (IsWay by.possible.now) rank words told are) listed
+pub listing_from : {T : Type 0} (shows : List Placed → T → Type 0) (rank : T → ℕ × List Item) (words : T → List ℕ) (by : Leading) (told : List Told) (are : AreTold shows (IsWay by.possible.now) rank words told) (most : ℕ) (listed : Listed)
+    → listed.count ≡ length told → AllZip (Leads by) (take most told) listed.entries.items
+    → IsListing (IsEntry shows words (leading_to by.call) by.events.now) most (all_told shows (IsWay by.possible.now) rank words told are) listed
 listing_from shows rank words by told are most listed counted leads = record {
   counted = counted ∙ all_long shows (IsWay by.possible.now) rank words told are;
-  items = lines_of shows rank words by most are.found told listed.items.items are.shown.sound are.each leads;
+  entries = lines_of shows rank words by most are.found told listed.entries.items are.shown.sound are.each leads;
 }

@@ -1,7 +1,8 @@
 -- What a failing operation could have returned, and what the object could be before its end: by the legal orders of the events before that
 -- (Herlihy and Wing 1990, section 2).
-use Rattle.std.specs.Prelude.{◌≡◌, ◌≢◌, ◌↔◌, ℕ, ℤ, List, All, AllPairs, Contains, IsTrue, Option, Some, None, length, map, option_map, take}
+use Rattle.std.specs.Prelude.{◌≡◌, ◌≢◌, ◌↔◌, ℕ, List, All, AllPairs, Contains, IsTrue, Option, Some, None, length, map, option_map, take}
 use Rattle.std.specs.List.{AllZip}
+use Rattle.lin_events.specs.declared.items.Item.{Item}
 use Rattle.lin_events.specs.declared.calls.Call.{Call}
 use Rattle.lin_events.specs.declared.calls.Reply.{Reply}
 use Rattle.lin_events.specs.declared.events.Event.{Event}
@@ -11,7 +12,7 @@ use Rattle.lin_objects.specs.declared.states.State.{State}
 use Rattle.lin_orders.specs.declared.placed.Placed.{Placed}
 use Rattle.lin_possible.specs.Possible.{Answers, LeavesIn}
 use Rattle.lin_words.specs.Values.{state_text}
-use Rattle.lin_words.specs.declared.tables.Item.{Item}
+use Rattle.lin_words.specs.declared.tables.Entry.{Entry}
 use Rattle.lin_outcomes.specs.declared.listing.Listed.{Listed}
 use Rattle.lin_outcomes.specs.declared.outcomes.Before.{Before}
 use Rattle.lin_outcomes.specs.declared.outcomes.Outcomes.{Outcomes}
@@ -31,26 +32,26 @@ failing_of b = record { kind = b.kind; events = b.events.now; call = b.call; pro
 
 -- no operation of the process crashed
 abbrev pub HasNotCrashed : List Event → ℕ → Type 0
-HasNotCrashed h process = (at : ℕ) (key : ℤ) (call : Call) → IsOperation h at process key call → IsCrashed h at → ⊥
+HasNotCrashed h process = (at : ℕ) (key : Item) (call : Call) → IsOperation h at process key call → IsCrashed h at → ⊥
 
 -- all that some order shows, each once, rising
-pub record AreAll {T : Type 0} (shows : List Placed → T → Type 0) (rank : T → ℕ × List ℤ) (all : List T) : Type 0 where
+pub record AreAll {T : Type 0} (shows : List Placed → T → Type 0) (rank : T → ℕ × List Item) (all : List T) : Type 0 where
   pub sound : All (λ what. (order : List Placed) × shows order what) all
   pub complete : (order : List Placed) (what : T) → shows order what → Contains all what
   pub once : AllPairs ◌≢◌ all
   pub rising : IsRisingBy rank all
 
 -- its words, and the last operations that some order which shows it has ahead
-pub record IsItem {T : Type 0} (shows : List Placed → T → Type 0) (words : T → List ℕ) (ahead : List Placed → List Placed) (h : List Event) (what : T) (item : Item) : Type 0 where
-  pub told : item.words.items ≡ words what
+pub record IsEntry {T : Type 0} (shows : List Placed → T → Type 0) (words : T → List ℕ) (ahead : List Placed → List Placed) (h : List Event) (what : T) (entry : Entry) : Type 0 where
+  pub told : entry.words.items ≡ words what
   pub order : List Placed
   pub shown : shows order what
-  pub after : item.after.items ≡ after_text h (ahead order)
+  pub after : entry.after.items ≡ after_text h (ahead order)
 
 -- of all of them the first, at most so many, and how many there are
-pub record IsListing {T : Type 0} (is_item : T → Item → Type 0) (most : ℕ) (all : List T) (listed : Listed) : Type 0 where
+pub record IsListing {T : Type 0} (is_entry : T → Entry → Type 0) (most : ℕ) (all : List T) (listed : Listed) : Type 0 where
   pub counted : listed.count ≡ length all
-  pub items : AllZip is_item (take most all) listed.items.items
+  pub entries : AllZip is_entry (take most all) listed.entries.items
 
 -- all states that the object could have
 abbrev pub AreStates : Kind → List Event → List State → Type 0
@@ -71,6 +72,6 @@ pub record AreOutcomes (f : Failing) (outcomes : Outcomes) : Type 0 where
   pub states : List State
   pub are_replies : AreReplies f replies
   pub are_states : AreStates f.kind f.events states
-  pub replies_listed : IsListing (IsItem (Answers f.kind f.events f.process) (reply_words (members_in f.recorded)) (ahead_of f.call) f.events) (most_of f.recorded) replies outcomes.replies
-  pub states_listed : IsListing (IsItem (LeavesIn f.kind f.events) state_text (λ order. order) f.events) 3 states outcomes.states
+  pub replies_listed : IsListing (IsEntry (Answers f.kind f.events f.process) (reply_words (members_in f.recorded)) (ahead_of f.call) f.events) (most_of f.recorded) replies outcomes.replies
+  pub states_listed : IsListing (IsEntry (LeavesIn f.kind f.events) state_text (λ order. order) f.events) 3 states outcomes.states
   pub just_that : IsTrue outcomes.is_just_that ↔ (map (reply_words (members_in f.recorded)) replies ≡ map state_text states)

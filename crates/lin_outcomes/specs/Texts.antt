@@ -27,7 +27,7 @@ more_text zero = []
 more_text (suc more) = counted (codes "  and ") (suc more) (codes " more\n")
 
 abbrev pub listed_text : Listed → List ℕ
-listed_text listed = list_text listed.items.items ++ more_text (listed.count - length listed.items.items)
+listed_text listed = list_text listed.entries.items ++ more_text (listed.count - length listed.entries.items)
 
 -- with more configurations than the budget nothing is listed
 abbrev pub not_listed : ℕ → List ℕ

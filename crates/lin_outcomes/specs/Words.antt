@@ -1,6 +1,7 @@
 -- The words of what was possible, and of the operations that lead to it.
-use Rattle.std.specs.Prelude.{ℕ, ℤ, ◌==◌, ◌-◌, not, List, [], ◌∷◌, ◌++◌, Option, Some, None, codes, drop, length, nat_le, slice_get, if◌then◌else◌}
+use Rattle.std.specs.Prelude.{ℕ, ◌==◌, ◌-◌, not, List, [], ◌∷◌, ◌++◌, Option, Some, None, codes, drop, length, nat_le, slice_get, if◌then◌else◌}
 use Rattle.std.specs.List.{join_by, take_while}
+use Rattle.lin_events.specs.declared.items.Item.{Item}
 use Rattle.lin_events.specs.declared.calls.Reply.{Reply}
 use Rattle.lin_events.specs.declared.calls.Reply.TheVariants.{Done, Value, Members}
 use Rattle.lin_events.specs.declared.events.Body.{Body}
@@ -12,18 +13,18 @@ use Rattle.lin_words.specs.Values.{items_text, reply_text}
 use Rattle.lin_outcomes.specs.Ranks.{lacked}
 
 -- what a set has besides another, and what it lacks of it
-abbrev pub difference_text : List ℤ → List ℤ → List ℕ
+abbrev pub difference_text : List Item → List Item → List ℕ
 difference_text [] [] = []
 difference_text [] (y ∷ ys) = codes "without " ++ items_text (y ∷ ys)
 difference_text (x ∷ xs) [] = codes "with " ++ items_text (x ∷ xs)
 difference_text (x ∷ xs) (y ∷ ys) = (codes "with " ++ items_text (x ∷ xs)) ++ codes " " ++ (codes "without " ++ items_text (y ∷ ys))
 
 -- members are told against those that were recorded, if members were
-abbrev pub members_words : Option (List ℤ) → List ℤ → List ℕ
+abbrev pub members_words : Option (List Item) → List Item → List ℕ
 members_words None xs = reply_text (Members xs)
 members_words (Some recorded) xs = difference_text (lacked recorded xs) (lacked xs recorded)
 
-abbrev pub reply_words : Option (List ℤ) → Reply → List ℕ
+abbrev pub reply_words : Option (List Item) → Reply → List ℕ
 reply_words recorded Done = reply_text Done
 reply_words recorded (Value v) = reply_text (Value v)
 reply_words recorded (Members xs) = members_words recorded xs

@@ -1,43 +1,43 @@
 //! How two sets differ.
 ghost use Rattle.std.specs.Prelude.{◌≡◌, ◌++◌, ◌+◌, codes, length, IfOk, OnOk};
 ghost use Rattle.std.specs.List.{list_any};
-ghost use Rattle.std.specs.Ordering.{int_eq};
+ghost use Rattle.lin_events.specs.Items.{item_cmp, item_eq};
 ghost use Rattle.lin_lists.specs.Sets.{IsRising};
 ghost use Rattle.lin_words.specs.Values.{items_text};
 ghost use Rattle.lin_outcomes.specs.Ranks.{lacked};
 ghost use Rattle.lin_outcomes.specs.Words.{difference_text};
 
-use lin_events::IntSet;
+use lin_events::{IntSet, Item};
 use lin_words::put_items;
 use std::alloc::{AllocError, Global};
 
 /// What the one set has besides the other, and what it lacks of it.
 #[derive(Drop)]
 pub(crate) struct Difference {
-    pub(crate) more: Vec<i64>,
-    pub(crate) lacking: Vec<i64>,
+    pub(crate) more: Vec<Item>,
+    pub(crate) lacking: Vec<Item>,
 }
 
-/// Whether the number is among the rising ones.
-fn has(items: &[i64], number: i64) -> bool
-    requires { IsRising items.now }
-    ensures { result ≡ list_any (int_eq number) items.now }
+/// Whether the item is among the rising ones.
+fn has(items: &[Item], item: Item) -> bool
+    requires { IsRising item_cmp items.now }
+    ensures { result ≡ list_any (item_eq item) items.now }
 {
-    match items.binary_search(&number) {
+    match items.binary_search(&item) {
         Ok(_) => true,
         Err(_) => false,
     }
 }
 
-/// The numbers of the one set that the other lacks.
-fn lacked_by(alloc: Global, set: &IntSet, other: &IntSet) -> Result<Vec<i64>, AllocError>
-    ensures { IfOk result (λ numbers. numbers.items ≡ lacked other.now set.now) }
+/// The items of the one set that the other lacks.
+fn lacked_by(alloc: Global, set: &IntSet, other: &IntSet) -> Result<Vec<Item>, AllocError>
+    ensures { IfOk result (λ items. items.items ≡ lacked other.now set.now) }
 {
     let others = other.as_slice();
     set.as_slice()
         .iter()
         .copied()
-        .filter(|number| !has(others, *number))
+        .filter(|item| !has(others, *item))
         .collect(alloc)
 }
 
@@ -51,7 +51,7 @@ impl Difference {
         Ok(Difference { more, lacking })
     }
 
-    /// How many numbers only one of the sets has.
+    /// How many items only one of the sets has.
     pub(crate) fn count(&self) -> usize
         ensures { result ≡ length self.now.more.items + length self.now.lacking.items }
     {
@@ -67,7 +67,7 @@ impl Difference {
 }
 
 /// Puts last what a set has besides.
-fn put_with(words: &mut Vec<u8>, more: &[i64]) -> Result<(), AllocError>
+fn put_with(words: &mut Vec<u8>, more: &[Item]) -> Result<(), AllocError>
     ensures { OnOk result (words.new.items ≡ words.old.items ++ (codes "with " ++ items_text more.now)) }
 {
     words.extend_from_slice(b"with ")?;
@@ -75,7 +75,7 @@ fn put_with(words: &mut Vec<u8>, more: &[i64]) -> Result<(), AllocError>
 }
 
 /// Puts last what a set lacks.
-fn put_without(words: &mut Vec<u8>, lacking: &[i64]) -> Result<(), AllocError>
+fn put_without(words: &mut Vec<u8>, lacking: &[Item]) -> Result<(), AllocError>
     ensures { OnOk result (words.new.items ≡ words.old.items ++ (codes "without " ++ items_text lacking.now)) }
 {
     words.extend_from_slice(b"without ")?;
@@ -83,7 +83,7 @@ fn put_without(words: &mut Vec<u8>, lacking: &[i64]) -> Result<(), AllocError>
 }
 
 /// Puts last what a set has besides, and what it lacks.
-fn put_difference(words: &mut Vec<u8>, more: &[i64], lacking: &[i64]) -> Result<(), AllocError>
+fn put_difference(words: &mut Vec<u8>, more: &[Item], lacking: &[Item]) -> Result<(), AllocError>
     ensures { OnOk result (words.new.items ≡ words.old.items ++ difference_text more.now lacking.now) }
 {
     match (more, lacking) {

@@ -7,13 +7,13 @@ use crate::after::{leading, put_after};
 use crate::told::Told;
 use lin_events::{Event, OutOfMemory};
 use lin_possible::Possible;
-use lin_words::Item;
+use lin_words::Entry;
 use std::alloc::Global;
 
 /// What was possible: how many there are, and the first of them.
 #[derive(Drop)]
 pub struct Listed {
-    pub items: Vec<Item>,
+    pub entries: Vec<Entry>,
     pub count: usize,
 }
 
@@ -27,8 +27,8 @@ pub(crate) struct Leading<'a> {
 }
 
 /// The line of a state or a reply.
-fn item_of(alloc: Global, leading_by: &Leading, told: &Told) -> Result<Item, OutOfMemory>
-    ensures { IfOk result (λ item. Leads leading_by.now told.now item) }
+fn entry_of(alloc: Global, leading_by: &Leading, told: &Told) -> Result<Entry, OutOfMemory>
+    ensures { IfOk result (λ entry. Leads leading_by.now told.now entry) }
 {
     let order = leading_by.possible.order(alloc, told.way)?;
     let mut after = Vec::new(alloc);
@@ -38,18 +38,18 @@ fn item_of(alloc: Global, leading_by: &Leading, told: &Told) -> Result<Item, Out
         leading(order.as_slice(), leading_by.call),
     )?;
     let words = Vec::from_slice(alloc, told.words.as_slice())?;
-    Ok(Item { words, after })
+    Ok(Entry { words, after })
 }
 
 /// Their lines.
-fn items_of(alloc: Global, leading_by: &Leading, told: &[Told]) -> Result<Vec<Item>, OutOfMemory>
-    ensures { IfOk result (λ items. AllZip (Leads leading_by.now) told.now items.items) }
+fn entries_of(alloc: Global, leading_by: &Leading, told: &[Told]) -> Result<Vec<Entry>, OutOfMemory>
+    ensures { IfOk result (λ entries. AllZip (Leads leading_by.now) told.now entries.items) }
 {
-    let mut items = Vec::new(alloc);
-    for entry in told {
-        items.push(item_of(alloc, leading_by, entry)?)?;
+    let mut entries = Vec::new(alloc);
+    for one in told {
+        entries.push(entry_of(alloc, leading_by, one)?)?;
     }
-    Ok(items)
+    Ok(entries)
 }
 
 /// The first of them, at most so many.
@@ -69,11 +69,11 @@ pub(crate) fn listed_of(
     told: &[Told],
     most: usize,
 ) -> Result<Listed, OutOfMemory>
-    ensures { IfOk result (λ listed. (listed.count ≡ length told.now) × AllZip (Leads leading_by.now) (take most told.now) listed.items.items) }
+    ensures { IfOk result (λ listed. (listed.count ≡ length told.now) × AllZip (Leads leading_by.now) (take most told.now) listed.entries.items) }
 {
-    let items = items_of(alloc, leading_by, first_of(told, most))?;
+    let entries = entries_of(alloc, leading_by, first_of(told, most))?;
     Ok(Listed {
-        items,
+        entries,
         count: told.len(),
     })
 }

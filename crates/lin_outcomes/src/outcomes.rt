@@ -1,5 +1,6 @@
 //! What an operation could have returned, and what the object could be.
-ghost use Rattle.std.specs.Prelude.{◌≡◌, ℤ, Bool, IfOk, option_map};
+ghost use Rattle.std.specs.Prelude.{◌≡◌, Bool, IfOk, option_map};
+ghost use Rattle.lin_events.specs.declared.items.Item.{Item as ItemOf};
 ghost use Rattle.lin_events.specs.declared.calls.Name.{Name as NameOf};
 ghost use Rattle.lin_events.specs.WellFormed.{IsWellFormed};
 ghost use Rattle.lin_possible.specs.After.{IsAfter};
@@ -54,7 +55,7 @@ pub fn outcomes_of(
     possible: &Possible,
 ) -> Result<Outcomes, OutOfMemory>
     requires after { IsAfter possible.now before.now.kind before.now.events.now }
-    requires well_formed { (functions : ℤ → NameOf → Bool) × IsWellFormed functions before.now.events.now }
+    requires well_formed { (functions : ItemOf → NameOf → Bool) × IsWellFormed functions before.now.events.now }
     requires running { HasNotCrashed before.now.events.now before.now.process }
     ensures { IfOk result (λ outcomes. AreOutcomes (failing_of before.now) outcomes) }
 {

@@ -1,10 +1,10 @@
 //! By what states and replies are sorted.
 ghost use Rattle.std.specs.Prelude.{◌≡◌, IfOk, option_map};
-ghost use Rattle.lin_outcomes.specs.Ranks.{members_in, members_rank as members_rank_of, rank_cmp, reply_rank as reply_rank_of, state_numbers as state_numbers_of, state_rank as state_rank_of, value_numbers as value_numbers_of};
+ghost use Rattle.lin_outcomes.specs.Ranks.{members_in, members_rank as members_rank_of, rank_cmp, reply_rank as reply_rank_of, state_items as state_items_of, state_rank as state_rank_of, value_items as value_items_of};
 ghost use Rattle.lin_outcomes.specs.inner.Telling.{rank_in};
 
 use crate::differences::Difference;
-use lin_events::{IntSet, Reply, Val};
+use lin_events::{IntSet, Item, Reply, Val};
 use lin_objects::State;
 use std::alloc::{AllocError, Global};
 use std::cmp::Ordering;
@@ -12,10 +12,10 @@ use std::cmp::Ordering;
 /// By what a state or a reply is sorted.
 #[derive(Drop)]
 pub(crate) struct Rank {
-    /// How many numbers it has alone or lacks, where it is told against another one.
+    /// How many items it has alone or lacks, where it is told against another one.
     differing: usize,
     /// The first difference decides, and a beginning comes first.
-    numbers: Vec<i64>,
+    items: Vec<Item>,
 }
 
 impl Rank {
@@ -25,33 +25,33 @@ impl Rank {
     {
         match self.differing.cmp(&other.differing) {
             Ordering::Less => Ordering::Less,
-            Ordering::Equal => self.numbers.as_slice().cmp(other.numbers.as_slice()),
+            Ordering::Equal => self.items.as_slice().cmp(other.items.as_slice()),
             Ordering::Greater => Ordering::Greater,
         }
     }
 }
 
-/// Nil comes first, then the numbers.
-fn value_numbers(alloc: Global, value: Val) -> Result<Vec<i64>, AllocError>
-    ensures { IfOk result (λ numbers. numbers.items ≡ value_numbers_of value) }
+/// Nil comes first, then the items.
+fn value_items(alloc: Global, value: Val) -> Result<Vec<Item>, AllocError>
+    ensures { IfOk result (λ items. items.items ≡ value_items_of value) }
 {
     match value {
         Val::Nil => Ok(Vec::new(alloc)),
-        Val::Int(number) => Vec::from_slice(alloc, &[number]),
+        Val::Item(item) => Vec::from_slice(alloc, &[item]),
     }
 }
 
-/// Queues, sets and bags rise by their numbers, and a free lock comes before one that is held.
-fn state_numbers(alloc: Global, state: &State) -> Result<Vec<i64>, AllocError>
-    ensures { IfOk result (λ numbers. numbers.items ≡ state_numbers_of state.now) }
+/// Queues, sets and bags rise by their items, and a free lock comes before one that is held.
+fn state_items(alloc: Global, state: &State) -> Result<Vec<Item>, AllocError>
+    ensures { IfOk result (λ items. items.items ≡ state_items_of state.now) }
 {
     match state {
-        State::Value(value) => value_numbers(alloc, *value),
+        State::Value(value) => value_items(alloc, *value),
         State::Queue(queue) => Vec::from_slice(alloc, queue.as_slice()),
         State::Members(members) => Vec::from_slice(alloc, members.as_slice()),
         State::Bag(bag) => Vec::from_slice(alloc, bag.as_slice()),
         State::Held(false) => Ok(Vec::new(alloc)),
-        State::Held(true) => Vec::from_slice(alloc, &[1]),
+        State::Held(true) => Vec::from_slice(alloc, &[Item::Int(1)]),
     }
 }
 
@@ -61,7 +61,7 @@ pub(crate) fn state_rank(alloc: Global, state: &State) -> Result<Rank, AllocErro
 {
     Ok(Rank {
         differing: 0,
-        numbers: state_numbers(alloc, state)?,
+        items: state_items(alloc, state)?,
     })
 }
 
@@ -75,7 +75,7 @@ pub(crate) fn recorded_members<'a>(recorded: Option<&'a Reply>) -> Option<&'a In
     }
 }
 
-/// How many numbers only one of the sets has; none where there is no other one.
+/// How many items only one of the sets has; none where there is no other one.
 fn differing(
     alloc: Global,
     recorded: Option<&IntSet>,
@@ -101,11 +101,11 @@ fn members_rank(
     ensures { IfOk result (λ rank. rank_in rank ≡ members_rank_of (option_map (λ m. m.now) recorded.entry) members.now) }
 {
     let differing = differing(alloc, recorded, members)?;
-    let numbers = Vec::from_slice(alloc, members.as_slice())?;
-    Ok(Rank { differing, numbers })
+    let items = Vec::from_slice(alloc, members.as_slice())?;
+    Ok(Rank { differing, items })
 }
 
-/// By what the reply is sorted: nil comes first, then the numbers; members rise as sets do.
+/// By what the reply is sorted: nil comes first, then the items; members rise as sets do.
 pub(crate) fn reply_rank(
     alloc: Global,
     recorded: Option<&IntSet>,
@@ -113,13 +113,13 @@ pub(crate) fn reply_rank(
 ) -> Result<Rank, AllocError>
     ensures { IfOk result (λ rank. rank_in rank ≡ reply_rank_of (option_map (λ m. m.now) recorded.entry) reply.now) }
 {
-    let numbers = match reply {
+    let items = match reply {
         Reply::Done => Vec::new(alloc),
-        Reply::Value(value) => value_numbers(alloc, *value)?,
+        Reply::Value(value) => value_items(alloc, *value)?,
         Reply::Members(members) => return members_rank(alloc, recorded, members),
     };
     Ok(Rank {
         differing: 0,
-        numbers,
+        items,
     })
 }

@@ -1,5 +1,6 @@
 //! The lines that tell what was possible.
-ghost use Rattle.std.specs.Prelude.{◌≡◌, ◌++◌, ◌-◌, ℤ, Bool, List, MatchOption, OnOk, map, option_map};
+ghost use Rattle.std.specs.Prelude.{◌≡◌, ◌++◌, ◌-◌, Bool, List, MatchOption, OnOk, map, option_map};
+ghost use Rattle.lin_events.specs.declared.items.Item.{Item as ItemOf};
 ghost use Rattle.lin_events.specs.declared.calls.Name.{Name as NameOf};
 ghost use Rattle.lin_events.specs.declared.events.Event.{Event as EventOf};
 ghost use Rattle.lin_events.specs.WellFormed.{IsWellFormed};
@@ -59,8 +60,8 @@ fn put_more(text: &mut Vec<u8>, more: usize) -> Result<(), AllocError>
 fn put_listed(text: &mut Vec<u8>, listed: &Listed) -> Result<(), AllocError>
     ensures { OnOk result (text.new.items ≡ text.old.items ++ listed_text listed.now) }
 {
-    put_list(text, listed.items.as_slice())?;
-    put_more(text, listed.count.saturating_sub(listed.items.len()))
+    put_list(text, listed.entries.as_slice())?;
+    put_more(text, listed.count.saturating_sub(listed.entries.len()))
 }
 
 /// Puts last that something isn't listed, since there are more configurations than the budget.
@@ -221,7 +222,7 @@ pub fn put_was(
     kind: Kind,
     possible: Option<&Possible>,
 ) -> Result<(), OutOfMemory>
-    ensures { OnOk result (MatchOption possible.entry (text.new.items ≡ text.old.items) (λ p. (functions : ℤ → NameOf → Bool) (h : List EventOf) → IsWellFormed functions h → IsAfter p.now kind h
+    ensures { OnOk result (MatchOption possible.entry (text.new.items ≡ text.old.items) (λ p. (functions : ItemOf → NameOf → Bool) (h : List EventOf) → IsWellFormed functions h → IsAfter p.now kind h
         → (states : List StateOf) × AreStates kind h states × (text.new.items ≡ text.old.items ++ was_text kind (map state_text states)))) }
 {
     let Some(possible) = possible else {

@@ -1,6 +1,7 @@
 //! States and replies in the order in which they are listed.
-ghost use Rattle.std.specs.Prelude.{◌≡◌, ◌↔◌, ℤ, Bool, IfOk, IsPermutation, IsTrue, List, map, option_map};
+ghost use Rattle.std.specs.Prelude.{◌≡◌, ◌↔◌, Bool, IfOk, IsPermutation, IsTrue, List, map, option_map};
 ghost use Rattle.std.specs.List.{AllZip};
+ghost use Rattle.lin_events.specs.declared.items.Item.{Item as ItemOf};
 ghost use Rattle.lin_events.specs.declared.calls.Name.{Name as NameOf};
 ghost use Rattle.lin_events.specs.declared.events.Event.{Event as EventOf};
 ghost use Rattle.lin_events.specs.WellFormed.{IsWellFormed};
@@ -117,7 +118,7 @@ fn in_order(mut told: Vec<Told>) -> Vec<Told>
 
 /// What the object could be, rising.
 pub(crate) fn states_told(alloc: Global, possible: &Possible) -> Result<Vec<Told>, OutOfMemory>
-    ensures { IfOk result (λ told. (functions : ℤ → NameOf → Bool) (kind : KindOf) (h : List EventOf) → IsWellFormed functions h → IsAfter possible.now kind h
+    ensures { IfOk result (λ told. (functions : ItemOf → NameOf → Bool) (kind : KindOf) (h : List EventOf) → IsWellFormed functions h → IsAfter possible.now kind h
         → AreTold (LeavesIn kind h) (IsWay possible.now) state_rank_of state_text told.items) }
 {
     let found = possible.states(alloc)?;
@@ -131,7 +132,7 @@ pub(crate) fn replies_told(
     process: u64,
     recorded: Option<&Reply>,
 ) -> Result<Vec<Told>, OutOfMemory>
-    ensures { IfOk result (λ told. (functions : ℤ → NameOf → Bool) (kind : KindOf) (h : List EventOf) → IsWellFormed functions h → IsAfter possible.now kind h → HasNotCrashed h process
+    ensures { IfOk result (λ told. (functions : ItemOf → NameOf → Bool) (kind : KindOf) (h : List EventOf) → IsWellFormed functions h → IsAfter possible.now kind h → HasNotCrashed h process
         → AreTold (Answers kind h process) (IsWay possible.now) (reply_rank_of (members_in (option_map (λ r. r.now) recorded.entry))) (reply_words_of (members_in (option_map (λ r. r.now) recorded.entry))) told.items) }
 {
     let found = possible.replies(alloc, process)?;

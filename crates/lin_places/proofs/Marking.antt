@@ -14,7 +14,7 @@ use Rattle.lin_places.specs.Places.{place_at, row_of, Begins, alone, inside, Are
 use Rattle.lin_places.specs.inner.Marks.{IsPutBehind, IsMarkedOne, IsPut, StandsAt, Follow, another, IsAmong, IsStanding, IsSound, IsUnsound, AreMarked}
 use Rattle.lin_places.specs.declared.place.Place.{Place}
 use Rattle.lin_places.specs.declared.place.Cursor.{Cursor}
-use Rattle.lin_events.specs.declared.numbers.OutOfMemory.{OutOfMemory}
+use Rattle.lin_events.specs.declared.lists.OutOfMemory.{OutOfMemory}
 use Rattle.lin_places.specs.declared.mark.Maps.{Maps}
 use Rattle.lin_places.specs.declared.mark.Maps.TheVariants as maps
 use Rattle.lin_places.proofs.Tails.{short_tail, tail_is}

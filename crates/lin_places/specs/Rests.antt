@@ -3,7 +3,7 @@
 use Rattle.std.specs.Prelude.{◌≡◌, ℕ, ◌+◌, Bool, true, List, ◌++◌, drop, Result, Ok, Err}
 use Rattle.lin_edn.specs.Skimming.{HasSeen}
 use Rattle.lin_places.specs.inner.Marks.{Fits, IsReadTo, Ends}
-use Rattle.lin_events.specs.declared.numbers.OutOfMemory.{OutOfMemory}
+use Rattle.lin_events.specs.declared.lists.OutOfMemory.{OutOfMemory}
 use Rattle.lin_places.specs.declared.place.Place.{Place}
 use Rattle.lin_places.specs.declared.mark.Read.{Read}
 use Rattle.lin_places.specs.declared.places.Rest.{Rest}

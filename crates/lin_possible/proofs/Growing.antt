@@ -1,7 +1,8 @@
 -- Members that are put last, one after the other, each led to by rounds: what a member of a frontier shows.
-use Rattle.std.proofs.Common.{◌≡◌, ◌⊎◌, ℕ, ℤ, zero, suc, ◌+◌, ◌<◌, ◌≤◌, Bool, true, false, true≢false, not, ◌&&◌, List, [], ◌∷◌, ◌++◌, length, length-append, Contains, All, take, get_or, inl, inr, refl, sym, ap, subst, ◌∙◌, append_assoc, arith, Option, Some, None}
+use Rattle.std.proofs.Common.{◌≡◌, ◌⊎◌, ℕ, zero, suc, ◌+◌, ◌<◌, ◌≤◌, Bool, true, false, true≢false, not, ◌&&◌, List, [], ◌∷◌, ◌++◌, length, length-append, Contains, All, take, get_or, inl, inr, refl, sym, ap, subst, ◌∙◌, append_assoc, arith, Option, Some, None}
 use Rattle.std.proofs.lemmas.List.{append-nil}
 use Rattle.std.proofs.lemmas.List.Elements.{All-append, All-weaker, Contains-append_left, Contains-push, Contains-push_cases}
+use Rattle.lin_events.specs.declared.items.Item.{Item}
 use Rattle.lin_events.specs.declared.calls.Call.{Call}
 use Rattle.lin_events.specs.declared.calls.Name.{Name}
 use Rattle.lin_events.specs.declared.calls.Reply.{Reply}
@@ -60,7 +61,7 @@ either (y ∷ xs) ys x there = by there.0 there.1 there.2 (λ rest. either xs ys
 module _ {S : Type 0} (start : S) (step : S → Call → S → Reply → Type 0) (observes : Call → Bool) (pending : List Open) where
   -- rounds lead to the one member where they lead to the other
   abbrev pub Leads : List (ℕ × (Placed × Option ℕ)) → Member S × Path → List (ℕ × (Placed × Option ℕ)) → Member S × Path → Type 0
-  Leads first m nodes n = (functions : ℤ → Name → Bool) (h : List Event) → IsWellFormed functions h → IsPending h pending → IsSpelled start step observes h first m → IsSpelled start step observes h nodes n
+  Leads first m nodes n = (functions : Item → Name → Bool) (h : List Event) → IsWellFormed functions h → IsPending h pending → IsSpelled start step observes h first m → IsSpelled start step observes h nodes n
 
   pub leads_itself : (first nodes : List (ℕ × (Placed × Option ℕ))) (m : Member S × Path) → IsGrown first nodes → Leads first m nodes m
   leads_itself first nodes m grown functions h well opened s = spelled_stays start step observes h first nodes m grown s
@@ -280,7 +281,7 @@ module _ {S : Type 0} (start : S) (step : S → Call → S → Reply → Type 0)
   -- of the members before place `at` all is told
   pub record IsTelling (observers : List Open) (members : List (Member S × Path)) (at : ℕ) (first nodes : List (ℕ × (Placed × Option ℕ))) (now : List (Member S × Path)) : Type 0 where
     pub nodes_grown : IsGrown first nodes
-    pub spelled : (functions : ℤ → Name → Bool) (h : List Event) → IsWellFormed functions h → IsPending h pending → ((m : Member S × Path) → Contains members m → IsSpelled start step observes h first m)
+    pub spelled : (functions : Item → Name → Bool) (h : List Event) → IsWellFormed functions h → IsPending h pending → ((m : Member S × Path) → Contains members m → IsSpelled start step observes h first m)
         → (n : Member S × Path) → Contains now n → IsSpelled start step observes h nodes n
     pub told : (m : Member S × Path) → Contains (take at members) m → IsTold step pending observers m now
 

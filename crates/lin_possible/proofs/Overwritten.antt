@@ -1,6 +1,7 @@
 -- Where the object is overwritten, what the members of its frontier show is all that is possible: an update that was overwritten, or is placed last, can be placed
 -- on the member itself, with the same outcome.
-use Rattle.std.proofs.Common.{◌≡◌, ◌⊎◌, ℕ, ℤ, Bool, true, false, true≢false, IsTrue, List, Contains, inl, inr, refl, sym, ap, subst, ◌∙◌}
+use Rattle.std.proofs.Common.{◌≡◌, ◌⊎◌, ℕ, Bool, true, false, true≢false, IsTrue, List, Contains, inl, inr, refl, sym, ap, subst, ◌∙◌}
+use Rattle.lin_events.specs.declared.items.Item.{Item}
 use Rattle.lin_events.specs.declared.calls.Call.{Call}
 use Rattle.lin_events.specs.declared.calls.Name.{Name}
 use Rattle.lin_events.specs.declared.calls.Reply.{Reply}
@@ -45,7 +46,7 @@ decide : (b : Bool) → (b ≡ true) ⊎ (b ≡ false)
 decide true = inl refl
 decide false = inr refl
 
-module _ {S : Type 0} (start : S) (step : S → Call → S → Reply → Type 0) (observes : Call → Bool) (overwriting : IsOverwriting start step observes) (functions : ℤ → Name → Bool) (h : List Event) (alternates : IsAlternating functions h)
+module _ {S : Type 0} (start : S) (step : S → Call → S → Reply → Type 0) (observes : Call → Bool) (overwriting : IsOverwriting start step observes) (functions : Item → Name → Bool) (h : List Event) (alternates : IsAlternating functions h)
     (pending observers : List Open) (opened : IsPending h pending) (watching : AreWatching observes pending observers) (m : Member S × Path) (reached : Reaches step start m.0.state) (rising : IsRising m.0.placed)
     (now : List (Member S × Path)) (told : IsTold step pending observers m now) where
   -- a member has the state, or places the pair
@@ -89,7 +90,7 @@ module _ {S : Type 0} (start : S) (step : S → Call → S → Reply → Type 0)
   put_in process reply placed sorted absent = insert_added process reply placed sorted (none_from process placed absent)
 
   -- an update that is open, wherever it takes a step
-  module _ (x : ℕ × Reply) (at : ℕ) (key : ℤ) (call : Call) (is_open : IsOpen h at x.0 key call) (update : observes call ≡ false) (from next : S) (steps : step from call next x.1) where
+  module _ (x : ℕ × Reply) (at : ℕ) (key : Item) (call : Call) (is_open : IsOpen h at x.0 key call) (update : observes call ≡ false) (from next : S) (steps : step from call next x.1) where
     follows_by : ((other : Reply) → Contains m.0.placed (x.0, other) → ⊥) → Follows next
     follows_by none =
         let o = open_pending h pending opened at x.0 key call is_open in
@@ -233,7 +234,7 @@ module _ {S : Type 0} (start : S) (step : S → Call → S → Reply → Type 0)
         ]
 
 -- what is told of all members of a frontier is all that is possible
-pub told_after : (possible : Possible) (kind : Kind) (h : List Event) → IsOverwriting (start kind) (Step kind) (observes kind) → TrailEndsLaw (start kind) (Step kind) → WellFormedIsAlternating → (functions : ℤ → Name → Bool) → IsWellFormed functions h
+pub told_after : (possible : Possible) (kind : Kind) (h : List Event) → IsOverwriting (start kind) (Step kind) (observes kind) → TrailEndsLaw (start kind) (Step kind) → WellFormedIsAlternating → (functions : Item → Name → Bool) → IsWellFormed functions h
     → (pending observers : List Open) → IsPending h pending → AreWatching (observes kind) pending observers → (members : List (Member State × Path)) (nodes : List (ℕ × (Placed × Option ℕ)))
     → IsCovering (start kind) (Step kind) (observes kind) true h members nodes
     → ((m : Member State × Path) → Contains members m → IsTold (Step kind) pending observers m possible.members.items)

@@ -1,11 +1,12 @@
 -- What members show, gathered, is all that legal orders show: the possible states, and what an open operation could have been answered.
-use Rattle.std.proofs.Common.{is_some, true, false, true≢false, ◌≡◌, ◌≢◌, ℕ, ℤ, ◌+◌, Bool, List, [], ◌∷◌, ◌++◌, Contains, get_or, take, Some, None, slice_get, inl, inr, refl, sym, ap, subst, ◌∙◌, arith, add-one}
+use Rattle.std.proofs.Common.{is_some, true, false, true≢false, ◌≡◌, ◌≢◌, ℕ, ◌+◌, Bool, List, [], ◌∷◌, ◌++◌, Contains, get_or, take, Some, None, slice_get, inl, inr, refl, sym, ap, subst, ◌∙◌, arith, add-one}
 use Rattle.std.specs.Cmp.{decided}
 use Rattle.std.specs.Map.{keys_of, lookup}
 use Rattle.std.specs.Prelude.{Decides}
 use Rattle.std.proofs.lemmas.Map.Views.{Contains-keys_from_lookup, IsSome-lookup_from_Contains}
 use Rattle.std.proofs.lemmas.List.Elements.{Contains-append_left, Contains-get_or, Contains-push, Contains-push_cases}
 use Rattle.std.proofs.lemmas.List.Quantifiers.{all_pairs_push}
+use Rattle.lin_events.specs.declared.items.Item.{Item}
 use Rattle.lin_events.specs.declared.calls.Reply.{Reply}
 use Rattle.lin_events.specs.declared.calls.Name.{Name}
 use Rattle.lin_events.specs.declared.events.Event.{Event}
@@ -149,7 +150,7 @@ gathered_next {T} shows members i m old now is taken before = record {
     last : Contains (take (i + 1) members) m
     last = subst (λ l. Contains l m) (sym longer) (Contains-push (take i members) m)
 
-module _ (possible : Possible) (kind : Kind) (h : List Event) (is : IsAfter possible kind h) (ends : LegalOrdersEnd (start kind) (Step kind)) (functions : ℤ → Name → Bool)
+module _ (possible : Possible) (kind : Kind) (h : List Event) (is : IsAfter possible kind h) (ends : LegalOrdersEnd (start kind) (Step kind)) (functions : Item → Name → Bool)
     (well_formed : IsWellFormed functions h) where
   -- the states of all members are all possible ones
   pub states_shown : RepliesDecide → (found : List (State × ℕ)) → IsGathered (λ (m : Led). λ state. m.0.state ≡ state) possible.members.items found → AreShown (LeavesIn kind h) (IsWay possible) found

@@ -1,6 +1,7 @@
 -- What an object could be after some events, and what an operation that is open then could have returned: by the legal orders of the events
 -- (Herlihy and Wing 1990, section 2).
-use Rattle.std.specs.Prelude.{◌≢◌, ℕ, ℤ, List, All, AllPairs, Contains, map}
+use Rattle.std.specs.Prelude.{◌≢◌, ℕ, List, All, AllPairs, Contains, map}
+use Rattle.lin_events.specs.declared.items.Item.{Item}
 use Rattle.lin_events.specs.declared.events.Event.{Event}
 use Rattle.lin_events.specs.declared.calls.Call.{Call}
 use Rattle.lin_events.specs.declared.calls.Reply.{Reply}
@@ -21,7 +22,7 @@ pub record LeavesIn (kind : Kind) (h : List Event) (order : List Placed) (state 
 pub record Answers (kind : Kind) (h : List Event) (process : ℕ) (order : List Placed) (reply : Reply) : Type 0 where
   pub legal : IsLegalOrderAs kind h order
   pub at : ℕ
-  pub key : ℤ
+  pub key : Item
   pub call : Call
   pub is_open : IsOpen h at process key call
   pub placed : Places order at reply

@@ -1,5 +1,6 @@
 //! What an object could be after some events, and what an operation that is open then could have been answered.
-ghost use Rattle.std.specs.Prelude.{◌≡◌, ◌⊎◌, ℕ, ℤ, Bool, List, Contains, IfOk, IfSome, IfNone, OnOk, Ok, None, take};
+ghost use Rattle.std.specs.Prelude.{◌≡◌, ◌⊎◌, ℕ, Bool, List, Contains, IfOk, IfSome, IfNone, OnOk, Ok, None, take};
+ghost use Rattle.lin_events.specs.declared.items.Item.{Item as ItemOf};
 ghost use Rattle.lin_events.specs.declared.calls.Name.{Name as NameOf};
 ghost use Rattle.lin_events.specs.declared.calls.Reply.{Reply as ReplyOf};
 ghost use Rattle.lin_events.specs.declared.events.Event.{Event as EventOf};
@@ -133,7 +134,7 @@ impl Possible {
         budget: u32,
     ) -> Result<Option<Possible>, OutOfMemory>
         requires legal { IsLinearizableAs kind events.now }
-        requires well_formed { (functions : ℤ → NameOf → Bool) × IsWellFormed functions events.now }
+        requires well_formed { (functions : ItemOf → NameOf → Bool) × IsWellFormed functions events.now }
         ensures after { IfOk result (λ found. IfSome found (λ possible. IsAfter possible kind events.now)) }
         ensures over { result ≡ Ok None → (n : ℕ) × IsOver (start_of kind) (StepOf kind) (take n events.now) budget }
     {
@@ -167,7 +168,7 @@ impl Possible {
 
     /// What the object could be: each state once, with a way.
     pub fn states(&self, alloc: Global) -> Result<Vec<(State, usize)>, OutOfMemory>
-        ensures { IfOk result (λ found. (functions : ℤ → NameOf → Bool) (kind : KindOf) (h : List EventOf) → IsWellFormed functions h → IsAfter self.now kind h
+        ensures { IfOk result (λ found. (functions : ItemOf → NameOf → Bool) (kind : KindOf) (h : List EventOf) → IsWellFormed functions h → IsAfter self.now kind h
             → AreShown (LeavesIn kind h) (IsWay self.now) found.items) }
     {
         each_order_ends();
@@ -183,7 +184,7 @@ impl Possible {
 
     /// What the open operation of the process, which has not crashed, could have been answered: each reply once, with a way.
     pub fn replies(&self, alloc: Global, process: u64) -> Result<Vec<(Reply, usize)>, OutOfMemory>
-        ensures { IfOk result (λ found. (functions : ℤ → NameOf → Bool) (kind : KindOf) (h : List EventOf) → IsWellFormed functions h → IsAfter self.now kind h → (HasCrashed h process → ⊥)
+        ensures { IfOk result (λ found. (functions : ItemOf → NameOf → Bool) (kind : KindOf) (h : List EventOf) → IsWellFormed functions h → IsAfter self.now kind h → (HasCrashed h process → ⊥)
             → AreShown (Answers kind h process) (IsWay self.now) found.items) }
     {
         each_order_ends();
@@ -206,7 +207,7 @@ impl Possible {
     /// Some way: it tells a legal order, if there is one.
     pub fn first(&self) -> Option<usize>
         ensures legal { IfSome result (λ way. (kind : KindOf) (h : List EventOf) → IsAfter self.now kind h → (order : List PlacedOf) × IsWay self.now way order × IsLegalOrderAs kind h order) }
-        ensures none { IfNone result ((functions : ℤ → NameOf → Bool) (kind : KindOf) (h : List EventOf) → IsWellFormed functions h → IsAfter self.now kind h → IsLinearizableAs kind h → ⊥) }
+        ensures none { IfNone result ((functions : ItemOf → NameOf → Bool) (kind : KindOf) (h : List EventOf) → IsWellFormed functions h → IsAfter self.now kind h → IsLinearizableAs kind h → ⊥) }
     {
         each_order_ends();
         match self.members.first() {

@@ -1,5 +1,6 @@
 //! A compressed frontier over the events of one object, from the first to the last.
-ghost use Rattle.std.specs.Prelude.{◌≡◌, ◌+◌, true, false, ℕ, ℤ, Bool, List, IfOk, IfSome, IfNone, OnOk, Ok, length, take};
+ghost use Rattle.std.specs.Prelude.{◌≡◌, ◌+◌, true, false, ℕ, Bool, List, IfOk, IfSome, IfNone, OnOk, Ok, length, take};
+ghost use Rattle.lin_events.specs.declared.items.Item.{Item as ItemOf};
 ghost use Rattle.lin_events.specs.declared.calls.Name.{Name as NameOf};
 ghost use Rattle.lin_events.specs.declared.events.Event.{Event as EventOf};
 ghost use Rattle.lin_events.specs.Operations.{IsEvent};
@@ -96,10 +97,10 @@ impl Run {
         scratch: &mut Scratch<Any>,
     ) -> Result<Taken, OutOfMemory>
         ensures kind { kind_of self.new ≡ kind_of self.old }
-        ensures next { result ≡ Ok Taken.Next → (functions : ℤ → NameOf → Bool) (h : List EventOf) → IsWellFormed functions h → IsEvent h at event.now → IsKnown self.old h at → IsKnown self.new h (at + 1) }
-        ensures empty { result ≡ Ok Taken.Empty → (functions : ℤ → NameOf → Bool) (h : List EventOf) → IsWellFormed functions h → IsEvent h at event.now → IsKnown self.old h at
+        ensures next { result ≡ Ok Taken.Next → (functions : ItemOf → NameOf → Bool) (h : List EventOf) → IsWellFormed functions h → IsEvent h at event.now → IsKnown self.old h at → IsKnown self.new h (at + 1) }
+        ensures empty { result ≡ Ok Taken.Empty → (functions : ItemOf → NameOf → Bool) (h : List EventOf) → IsWellFormed functions h → IsEvent h at event.now → IsKnown self.old h at
             → IsLinearizableAs (kind_of self.old) (take (at + 1) h) → ⊥ }
-        ensures over { result ≡ Ok Taken.Over → (functions : ℤ → NameOf → Bool) (h : List EventOf) → IsWellFormed functions h → IsEvent h at event.now → IsKnown self.old h at
+        ensures over { result ≡ Ok Taken.Over → (functions : ItemOf → NameOf → Bool) (h : List EventOf) → IsWellFormed functions h → IsEvent h at event.now → IsKnown self.old h at
             → (n : ℕ) × IsOver (start_of (kind_of self.old)) (StepOf (kind_of self.old)) (take n h) budget }
     {
         beginnings_are_well_formed();
@@ -138,7 +139,7 @@ impl Run {
     fn open(&mut self, at: usize, event: &Event) -> Result<Taken, OutOfMemory>
         ensures others { self.new ≡ record self.old { pending = self.new.pending } }
         ensures next { IfOk result (λ taken. taken ≡ Taken.Next) }
-        ensures opened { OnOk result ((functions : ℤ → NameOf → Bool) (h : List EventOf) → IsNextEvent functions h self.old.pending.items at event.now → IsPending (with_event h event.now) self.new.pending.items) }
+        ensures opened { OnOk result ((functions : ItemOf → NameOf → Bool) (h : List EventOf) → IsNextEvent functions h self.old.pending.items at event.now → IsPending (with_event h event.now) self.new.pending.items) }
     {
         take_in_open(&mut self.pending, at, event)?;
         Ok(Taken::Next)
@@ -154,7 +155,7 @@ impl Run {
     /// What the members show, where the object is overwritten.
     pub(crate) fn told(&mut self, alloc: Global) -> Result<Vec<Member<State>>, OutOfMemory>
         requires { overwrites_of (kind_of self.old) ≡ true }
-        ensures { IfOk result (λ list. (functions : ℤ → NameOf → Bool) (h : List EventOf) → IsWellFormed functions h → IsKnown self.old h (length h)
+        ensures { IfOk result (λ list. (functions : ItemOf → NameOf → Bool) (h : List EventOf) → IsWellFormed functions h → IsKnown self.old h (length h)
             → IsAfter (record { nodes = self.new.nodes; members = list }) (kind_of self.old) h) }
     {
         well_formed_is_alternating();
@@ -176,9 +177,9 @@ impl Run {
         budget: u32,
     ) -> Result<Option<Vec<Member<State>>>, OutOfMemory>
         requires { overwrites_of (kind_of self.old) ≡ false }
-        ensures listing { IfOk result (λ found. IfSome found (λ list. (functions : ℤ → NameOf → Bool) (h : List EventOf) → IsWellFormed functions h → IsKnown self.old h (length h)
+        ensures listing { IfOk result (λ found. IfSome found (λ list. (functions : ItemOf → NameOf → Bool) (h : List EventOf) → IsWellFormed functions h → IsKnown self.old h (length h)
             → IsListingOf (start_of (kind_of self.old)) (StepOf (kind_of self.old)) (observes_of (kind_of self.old)) h list.items self.new.nodes)) }
-        ensures over { IfOk result (λ found. IfNone found ((functions : ℤ → NameOf → Bool) (h : List EventOf) → IsWellFormed functions h → IsKnown self.old h (length h)
+        ensures over { IfOk result (λ found. IfNone found ((functions : ItemOf → NameOf → Bool) (h : List EventOf) → IsWellFormed functions h → IsKnown self.old h (length h)
             → IsOver (start_of (kind_of self.old)) (StepOf (kind_of self.old)) h budget)) }
     {
         let members = members_of(&self.object, alloc, &self.frontier)?;

@@ -1,5 +1,6 @@
 //! What the members of a frontier show where the object is overwritten: what they are come to by few operations, and not all that they lead to.
-ghost use Rattle.std.specs.Prelude.{◌≡◌, ◌&&◌, not, ℕ, ℤ, All, Bool, Contains, List, IfOk, OnOk};
+ghost use Rattle.std.specs.Prelude.{◌≡◌, ◌&&◌, not, ℕ, All, Bool, Contains, List, IfOk, OnOk};
+ghost use Rattle.lin_events.specs.declared.items.Item.{Item as ItemOf};
 ghost use Rattle.lin_events.specs.declared.calls.Name.{Name as NameOf};
 ghost use Rattle.lin_events.specs.declared.calls.Reply.{Reply as ReplyOf};
 ghost use Rattle.lin_events.specs.declared.events.Event.{Event as EventOf};
@@ -217,7 +218,7 @@ impl<'a, O: SeqObject> Telling<'a, O> {
     ) -> Result<Vec<Member<O::State>>, OutOfMemory>
         ensures told { IfOk result (λ out. (observers : List OpenOf) × AreWatching (O.observing self.now.object.now) self.now.pending.now observers
             × ((m : MemberOf O.State × PathOf) → Contains members.now m → IsTold (O.step self.now.object.now) self.now.pending.now observers m out.items)) }
-        ensures spelled { IfOk result (λ out. (functions : ℤ → NameOf → Bool) (h : List EventOf) → IsWellFormed functions h → IsPending h self.now.pending.now
+        ensures spelled { IfOk result (λ out. (functions : ItemOf → NameOf → Bool) (h : List EventOf) → IsWellFormed functions h → IsPending h self.now.pending.now
             → ((m : MemberOf O.State × PathOf) → Contains members.now m → IsSpelled (O.starts self.now.object.now) (O.step self.now.object.now) (O.observing self.now.object.now) h nodes.old m)
             → (n : MemberOf O.State × PathOf) → Contains out.items n → IsSpelled (O.starts self.now.object.now) (O.step self.now.object.now) (O.observing self.now.object.now) h nodes.new n) }
     {

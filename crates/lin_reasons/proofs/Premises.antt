@@ -1,5 +1,6 @@
 -- What a certificate of some kind of object says by its form.
-use Rattle.std.proofs.Common.{◌≡◌, ℕ, ℤ, List, [], Option, append-nil, refl, subst, sym}
+use Rattle.std.proofs.Common.{◌≡◌, ℕ, List, [], Option, append-nil, refl, subst, sym}
+use Rattle.lin_events.specs.declared.items.Item.{Item}
 use Rattle.lin_events.specs.declared.calls.Val.{Val}
 use Rattle.lin_events.specs.declared.events.Event.{Event}
 use Rattle.lin_objects.specs.declared.kinds.Kind.{Kind}
@@ -39,9 +40,9 @@ module _ (told : Told) where
   -- a certificate of another kind of object is told elsewhere
   pub nothing_put : (c : Certificate) (text names : List ℕ)
       → ((read : ℕ) → c ≡ Shape read → ⊥)
-      → ((at : ℕ) (n : ℤ) → c ≡ Unwritten at n → ⊥)
+      → ((at : ℕ) (n : Item) → c ≡ Unwritten at n → ⊥)
       → ((at : ℕ) (v : Val) → c ≡ Overwritten at v → ⊥)
-      → ((v : Val) (n : ℤ) (early late : ℕ) (back : Option (ℕ × ℕ)) → c ≡ Crossed v n early late back → ⊥)
+      → ((v : Val) (n : Item) (early late : ℕ) (back : Option (ℕ × ℕ)) → c ≡ Crossed v n early late back → ⊥)
       → ArePut (IsReasonOfRegister told c) text text names names
   nothing_put (Shape read) text names a b d e = absurd (a read refl)
   nothing_put (Unwritten at n) text names a b d e = absurd (b at n refl)

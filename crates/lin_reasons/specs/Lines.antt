@@ -1,12 +1,13 @@
 -- The lines that tell a certificate, form by form.
-use Rattle.std.specs.Prelude.{ℕ, ℤ, List, [], ◌++◌, Option, Some, None, codes, decimal, if◌then◌else◌, length, nat_eq, slice_get}
-use Rattle.std.specs.Fmt.{signed_decimal}
+use Rattle.std.specs.Prelude.{ℕ, List, [], ◌++◌, Option, Some, None, codes, decimal, if◌then◌else◌, length, nat_eq, slice_get}
 use Rattle.std.specs.List.{flat_map}
+use Rattle.lin_events.specs.declared.items.Item.{Item}
 use Rattle.lin_events.specs.declared.calls.Name.{Name}
 use Rattle.lin_events.specs.declared.calls.Name.TheVariants as Named
 use Rattle.lin_events.specs.declared.calls.Reply.{Reply}
 use Rattle.lin_events.specs.declared.calls.Reply.TheVariants.{Done, Value, Members}
 use Rattle.lin_events.specs.declared.calls.Val.{Val}
+use Rattle.lin_formats.specs.Items.{item_text}
 use Rattle.lin_words.specs.Operations.{name_text}
 use Rattle.lin_words.specs.Values.{value_text}
 use Rattle.lin_reasons.specs.Series.{fact_text, failures_text, sides_text, times_text}
@@ -33,14 +34,14 @@ shape_why (Some reply) = reply_why reply
 abbrev pub shape_text : Told → ℕ → List ℕ
 shape_text told read = shape_why (reply_at told read) ++ fact_text told Returned read
 
--- nothing leaves the number that the operation needs
-abbrev pub unwritten_text : Told → ℕ → ℤ → List ℕ → List ℕ
-unwritten_text told at n failed = codes "why: nothing leaves " ++ signed_decimal n ++ codes "\n" ++ fact_text told Returned at
+-- nothing leaves the item that the operation needs
+abbrev pub unwritten_text : Told → ℕ → Item → List ℕ → List ℕ
+unwritten_text told at n failed = codes "why: nothing leaves " ++ item_text n ++ codes "\n" ++ fact_text told Returned at
     ++ failures_text told (codes "  no other operation leaves it\n") failed
 
--- nothing adds the number that the read has
-abbrev pub unadded_text : Told → ℕ → ℤ → List ℕ → List ℕ
-unadded_text told at n failed = codes "why: nothing adds " ++ signed_decimal n ++ codes "\n" ++ fact_text told Returned at
+-- nothing adds the item that the read has
+abbrev pub unadded_text : Told → ℕ → Item → List ℕ → List ℕ
+unadded_text told at n failed = codes "why: nothing adds " ++ item_text n ++ codes "\n" ++ fact_text told Returned at
     ++ failures_text told (codes "  no operation adds it\n") failed
 
 -- an operation that leaves the value, and one behind it that leaves some value
@@ -77,54 +78,54 @@ abbrev pub crossed_text : Told → Val → Val → ℕ × ℕ → Option (ℕ ×
 crossed_text told v w pair back = codes "why: crossed values " ++ value_text v ++ codes " and " ++ value_text w
     ++ crossed_back_text told v w back ++ held_text told w v pair
 
--- the number was taken out oftener than it was put in
-abbrev pub taken_text : Told → ℤ → List ℕ → List ℕ → List ℕ → List ℕ
-taken_text told n done may failed = codes "why: " ++ signed_decimal n ++ codes " was taken out " ++ times_text (length done)
+-- the item was taken out oftener than it was put in
+abbrev pub taken_text : Told → Item → List ℕ → List ℕ → List ℕ → List ℕ
+taken_text told n done may failed = codes "why: " ++ item_text n ++ codes " was taken out " ++ times_text (length done)
     ++ codes " and put in at most " ++ times_text (length may) ++ codes "\n" ++ sides_text told done may failed
 
 -- the one returned before the other was called
 abbrev pub turn_text : Told → List ℕ → ℕ → ℕ → List ℕ
 turn_text told head first second = head ++ in_turn_text told first second ++ codes "\n"
 
--- the number was taken out only after the dequeue, or not at all
-abbrev pub not_taken_out_text : Told → ℕ → ℤ → List ℕ
+-- the item was taken out only after the dequeue, or not at all
+abbrev pub not_taken_out_text : Told → ℕ → Item → List ℕ
 not_taken_out_text told dequeue n = codes "  taken out: " ++ returned_text told dequeue ++ codes ", and nothing that may have taken "
-    ++ signed_decimal n ++ codes " out was called before\n"
+    ++ item_text n ++ codes " out was called before\n"
 
-abbrev pub taken_out_text : Told → ℕ → ℤ → Option ℕ → List ℕ
+abbrev pub taken_out_text : Told → ℕ → Item → Option ℕ → List ℕ
 taken_out_text told dequeue n None = not_taken_out_text told dequeue n
 taken_out_text told dequeue n (Some taker) = turn_text told (codes "  taken out: ") dequeue taker
 
--- the other number passed the number
-abbrev pub passed_why : ℤ → ℤ → List ℕ
-passed_why n other = codes "why: " ++ signed_decimal other ++ codes " passed " ++ signed_decimal n ++ codes "\n"
+-- the other item passed the item
+abbrev pub passed_why : Item → Item → List ℕ
+passed_why n other = codes "why: " ++ item_text other ++ codes " passed " ++ item_text n ++ codes "\n"
 
-abbrev pub passed_text : Told → ℕ × ℕ → ℕ → ℤ → ℤ → Option ℕ → List ℕ
+abbrev pub passed_text : Told → ℕ × ℕ → ℕ → Item → Item → Option ℕ → List ℕ
 passed_text told puts dequeue n other taker = passed_why n other ++ turn_text told (codes "  put in: ") puts.0 puts.1 ++ taken_out_text told dequeue n taker
 
--- the number was in the queue, and the dequeue found nothing
-abbrev pub inside_text : Told → ℕ → ℕ → ℤ → List ℕ
-inside_text told enqueue dequeue n = codes "why: " ++ signed_decimal n ++ codes " was in the queue\n"
+-- the item was in the queue, and the dequeue found nothing
+abbrev pub inside_text : Told → ℕ → ℕ → Item → List ℕ
+inside_text told enqueue dequeue n = codes "why: " ++ item_text n ++ codes " was in the queue\n"
     ++ turn_text told (codes "  put in: ") enqueue dequeue
-    ++ codes "  taken out: nothing that may have taken " ++ signed_decimal n ++ codes " out was called before " ++ returned_text told dequeue ++ codes "\n"
+    ++ codes "  taken out: nothing that may have taken " ++ item_text n ++ codes " out was called before " ++ returned_text told dequeue ++ codes "\n"
 
--- the set had the number before the operation was called
-abbrev pub in_before_text : Told → ℕ → ℤ → ℕ → List ℕ
+-- the set had the item before the operation was called
+abbrev pub in_before_text : Told → ℕ → Item → ℕ → List ℕ
 in_before_text told earlier n later = codes "  in: " ++ had_text told earlier n ++ codes ", " ++ called_text told later ++ codes "\n"
 
--- the read found the one number and lacks the other
-abbrev pub found_text : Told → ℕ → ℤ → ℤ → List ℕ
-found_text told read n other = codes "  " ++ returned_text told read ++ codes " with " ++ signed_decimal n ++ codes " and without " ++ signed_decimal other ++ codes "\n"
+-- the read found the one item and lacks the other
+abbrev pub found_text : Told → ℕ → Item → Item → List ℕ
+found_text told read n other = codes "  " ++ returned_text told read ++ codes " with " ++ item_text n ++ codes " and without " ++ item_text other ++ codes "\n"
 
-abbrev pub lost_text : Told → ℕ → ℕ → ℤ → List ℕ
-lost_text told earlier read n = codes "why: " ++ signed_decimal n ++ codes " was lost\n" ++ in_before_text told earlier n read
-    ++ codes "  " ++ returned_text told read ++ codes " without " ++ signed_decimal n ++ codes "\n"
+abbrev pub lost_text : Told → ℕ → ℕ → Item → List ℕ
+lost_text told earlier read n = codes "why: " ++ item_text n ++ codes " was lost\n" ++ in_before_text told earlier n read
+    ++ codes "  " ++ returned_text told read ++ codes " without " ++ item_text n ++ codes "\n"
 
-abbrev pub split_text : Told → ℕ × ℕ → ℤ → ℤ → List ℕ
+abbrev pub split_text : Told → ℕ × ℕ → Item → Item → List ℕ
 split_text told reads n other = codes "why: two reads exclude each other\n" ++ found_text told reads.0 n other ++ found_text told reads.1 other n
 
-abbrev pub late_text : Told → ℕ × ℕ → ℕ → ℤ → ℤ → List ℕ
-late_text told before read n other = codes "why: " ++ signed_decimal n ++ codes " was in before " ++ signed_decimal other ++ codes " was added\n"
+abbrev pub late_text : Told → ℕ × ℕ → ℕ → Item → Item → List ℕ
+late_text told before read n other = codes "why: " ++ item_text n ++ codes " was in before " ++ item_text other ++ codes " was added\n"
     ++ in_before_text told before.0 n before.1 ++ found_text told read other n
 
 -- a lock's call in the past

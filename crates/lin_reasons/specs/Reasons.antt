@@ -1,10 +1,11 @@
 -- What the lines of a certificate tell, form by form, and which operations they name. Lists are of all operations that the form speaks of.
-use Rattle.std.specs.Prelude.{◌≡◌, ◌+◌, ◌-◌, ◌<◌, ◌⊎◌, ℕ, ℤ, List, [], ◌∷◌, ◌++◌, All, Contains, Option, None, Some, length, map, option_to_list, slice_get, take}
+use Rattle.std.specs.Prelude.{◌≡◌, ◌+◌, ◌-◌, ◌<◌, ◌⊎◌, ℕ, List, [], ◌∷◌, ◌++◌, All, Contains, Option, None, Some, length, map, option_to_list, slice_get, take}
 use Rattle.std.specs.List.{flat_map}
+use Rattle.lin_events.specs.declared.items.Item.{Item}
 use Rattle.lin_events.specs.declared.calls.Name.{Name}
 use Rattle.lin_events.specs.declared.calls.Name.TheVariants as Named
 use Rattle.lin_events.specs.declared.calls.Val.{Val}
-use Rattle.lin_events.specs.declared.calls.Val.TheVariants.{Nil, Int}
+use Rattle.lin_events.specs.declared.calls.Val.TheVariants.{Nil, Item as Held}
 use Rattle.lin_events.specs.declared.events.Event.{Event}
 use Rattle.lin_objects.specs.declared.kinds.Kind.{Kind}
 use Rattle.lin_failures.specs.Adding.{Adds}
@@ -21,15 +22,15 @@ use Rattle.lin_reasons.specs.Series.{firsts}
 use Rattle.lin_reasons.specs.Sides.{named_sides}
 use Rattle.lin_reasons.specs.declared.told.Told.{Told}
 
--- the lines tell that nothing leaves the number, and of those that failed to
-pub record IsUnwrittenTold (told : Told) (at : ℕ) (n : ℤ) (lines names : List ℕ) : Type 0 where
+-- the lines tell that nothing leaves the item, and of those that failed to
+pub record IsUnwrittenTold (told : Told) (at : ℕ) (n : Item) (lines names : List ℕ) : Type 0 where
   pub failed : List ℕ
-  pub all_failed : IsListing (Fails told.events.now (λ call. Leaves call (Int n))) failed
+  pub all_failed : IsListing (Fails told.events.now (λ call. Leaves call (Held n))) failed
   pub put : lines ≡ unwritten_text told at n failed
   pub named : names ≡ at ∷ firsts failed
 
--- the lines tell that nothing adds the number, and of those that failed to
-pub record IsUnaddedTold (told : Told) (read : ℕ) (n : ℤ) (lines names : List ℕ) : Type 0 where
+-- the lines tell that nothing adds the item, and of those that failed to
+pub record IsUnaddedTold (told : Told) (read : ℕ) (n : Item) (lines names : List ℕ) : Type 0 where
   pub failed : List ℕ
   pub all_failed : IsListing (Fails told.events.now (λ call. Adds call n)) failed
   pub put : lines ≡ unadded_text told read n failed
@@ -38,12 +39,12 @@ pub record IsUnaddedTold (told : Told) (read : ℕ) (n : ℤ) (lines names : Lis
 -- so many operations that leave the value are told
 abbrev pub most_told : Val → ℕ
 most_told Nil = 2
-most_told (Int v) = 3
+most_told (Held v) = 3
 
 -- where the value is the one that the register begins with, an operation is told that left some value instead
 abbrev pub IsFirstOver : List Event → ℕ → Val → Option ℕ → Type 0
 IsFirstOver h at Nil (Some over) = Overwrites h at over
-IsFirstOver h at (Int v) None = Unit {0}
+IsFirstOver h at (Held v) None = Unit {0}
 IsFirstOver h at _ _ = ⊥
 
 -- both operations of each pair
@@ -71,8 +72,8 @@ abbrev pub all_four : ℕ × ℕ → Option (ℕ × ℕ) → List ℕ
 all_four pair None = both_of pair
 all_four pair (Some back) = both_of back ++ both_of pair
 
--- the lines tell how often the number was taken out, and how often it can have been put in
-pub record IsTakenTold (told : Told) (n : ℤ) (lines names : List ℕ) : Type 0 where
+-- the lines tell how often the item was taken out, and how often it can have been put in
+pub record IsTakenTold (told : Told) (n : Item) (lines names : List ℕ) : Type 0 where
   pub done : List ℕ
   pub may : List ℕ
   pub failed : List ℕ
@@ -82,8 +83,8 @@ pub record IsTakenTold (told : Told) (n : ℤ) (lines names : List ℕ) : Type 0
   pub put : lines ≡ taken_text told n done may failed
   pub named : names ≡ named_sides done may failed
 
--- the lines tell which dequeue took the number first, if one did
-pub record IsPassedTold (told : Told) (enqueue later dequeue : ℕ) (n other : ℤ) (lines names : List ℕ) : Type 0 where
+-- the lines tell which dequeue took the item first, if one did
+pub record IsPassedTold (told : Told) (enqueue later dequeue : ℕ) (n other : Item) (lines names : List ℕ) : Type 0 where
   pub takes : List ℕ
   pub all_takes : IsListing (TookOut told.events.now n) takes
   pub put : lines ≡ passed_text told (enqueue, later) dequeue n other (slice_get takes 0)
@@ -111,7 +112,7 @@ abbrev pub IsReasonOfRegister : Told → Certificate → List ℕ → List ℕ �
 IsReasonOfRegister told (Form.Shape read) lines names = (lines ≡ shape_text told read) × (names ≡ read ∷ [])
 IsReasonOfRegister told (Form.Unwritten at n) lines names = IsUnwrittenTold told at n lines names
 IsReasonOfRegister told (Form.Overwritten at v) lines names = IsOverwrittenTold told at v lines names
-IsReasonOfRegister told (Form.Crossed v w early late back) lines names = (lines ≡ crossed_text told v (Int w) (early, late) back) × (names ≡ all_four (early, late) back)
+IsReasonOfRegister told (Form.Crossed v w early late back) lines names = (lines ≡ crossed_text told v (Held w) (early, late) back) × (names ≡ all_four (early, late) back)
 IsReasonOfRegister told _ lines names = (lines ≡ []) × (names ≡ [])
 
 abbrev pub IsReasonOfQueue : Told → Certificate → List ℕ → List ℕ → Type 0

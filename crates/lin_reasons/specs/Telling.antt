@@ -1,6 +1,6 @@
 -- How the operations of one object are told: in words, and where in the whole history they were called, returned or failed.
-use Rattle.std.specs.Prelude.{ℕ, ℤ, Bool, true, false, List, [], ◌++◌, Option, Some, None, codes, if◌then◌else◌, option_map, slice_get, unwrap_or}
-use Rattle.std.specs.Fmt.{signed_decimal}
+use Rattle.std.specs.Prelude.{ℕ, Bool, true, false, List, [], ◌++◌, Option, Some, None, codes, if◌then◌else◌, option_map, slice_get, unwrap_or}
+use Rattle.lin_events.specs.declared.items.Item.{Item}
 use Rattle.lin_events.specs.declared.calls.Call.{Call}
 use Rattle.lin_events.specs.declared.calls.Call.TheVariants.{Read, Acquire}
 use Rattle.lin_events.specs.declared.calls.Reply.{Reply}
@@ -8,6 +8,7 @@ use Rattle.lin_events.specs.declared.calls.Reply.TheVariants as Replied
 use Rattle.lin_events.specs.declared.events.Body.{Body}
 use Rattle.lin_events.specs.declared.events.Body.TheVariants.{Invoke, Ok}
 use Rattle.lin_events.specs.declared.events.Event.{Event}
+use Rattle.lin_formats.specs.Items.{item_text}
 use Rattle.lin_words.specs.Operations.{operation_text}
 use Rattle.lin_words.specs.Spots.{spot_text}
 use Rattle.lin_reasons.specs.declared.told.Told.{Told}
@@ -105,9 +106,9 @@ did_text told Failed at = failed_text told at
 abbrev pub in_turn_text : Told → ℕ → ℕ → List ℕ
 in_turn_text told first second = returned_text told first ++ codes ", " ++ called_text told second
 
--- the set had the number when the operation returned: a read tells it
-abbrev pub number_behind : Bool → ℤ → List ℕ
-number_behind reads n = if reads then codes " with " ++ signed_decimal n else []
+-- the set had the item when the operation returned: a read tells it
+abbrev pub item_behind : Bool → Item → List ℕ
+item_behind reads n = if reads then codes " with " ++ item_text n else []
 
-abbrev pub had_text : Told → ℕ → ℤ → List ℕ
-had_text told at n = op_text told at ++ number_behind (is_read (call_in (slice_get told.events.now at))) n ++ codes " returned at " ++ end_spot told at
+abbrev pub had_text : Told → ℕ → Item → List ℕ
+had_text told at n = op_text told at ++ item_behind (is_read (call_in (slice_get told.events.now at))) n ++ codes " returned at " ++ end_spot told at

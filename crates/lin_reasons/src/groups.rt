@@ -9,7 +9,7 @@ ghost use Rattle.lin_certificates.specs.Certificates.{Overwrites};
 ghost use Rattle.lin_certificates.specs.Words.{Counts, Returned, Updates};
 ghost use Rattle.lin_reasons.specs.Groups.{Fails, IsBetween, IsInGroup, IsOfAnswers, IsOfCalls};
 
-use lin_events::{Call, Event, Reply, Val};
+use lin_events::{Call, Event, Item, Reply, Val};
 use lin_orders::{call_at, is_failed, ok_end};
 
 /// A sort of calls.
@@ -19,8 +19,8 @@ pub(crate) enum Calls {
     Leaves(Val),
     /// It leaves some value in a register.
     Updates,
-    /// It adds the number to a set, or puts it into a queue.
-    Adds(i64),
+    /// It adds the item to a set, or puts it into a queue.
+    Adds(Item),
     Acquires,
     Releases,
 }
@@ -30,8 +30,8 @@ pub(crate) enum Calls {
 pub(crate) enum Answers {
     /// The call is of the sort.
     Called(Calls),
-    /// It took the number out of a queue.
-    Takes(i64),
+    /// It took the item out of a queue.
+    Takes(Item),
 }
 
 /// A group of operations.
@@ -73,24 +73,24 @@ fn updates(call: &Call) -> bool
     }
 }
 
-/// Whether the call adds the number to a set, or puts it into a queue.
-fn adds(call: &Call, number: i64) -> bool
-    ensures { IsTrue result ↔ Adds call.now number }
+/// Whether the call adds the item to a set, or puts it into a queue.
+fn adds(call: &Call, item: Item) -> bool
+    ensures { IsTrue result ↔ Adds call.now item }
 {
     match call {
-        Call::Add(added) => *added == number,
-        Call::Enqueue(added) => *added == number,
+        Call::Add(added) => *added == item,
+        Call::Enqueue(added) => *added == item,
         _ => false,
     }
 }
 
-/// Whether the call with this reply takes the number out.
-fn takes(call: &Call, reply: &Reply, number: i64) -> bool
-    ensures { IsTrue result ↔ Takes call.now reply.now number }
+/// Whether the call with this reply takes the item out.
+fn takes(call: &Call, reply: &Reply, item: Item) -> bool
+    ensures { IsTrue result ↔ Takes call.now reply.now item }
 {
     match call {
         Call::Dequeue => match reply {
-            Reply::Value(Val::Int(found)) => *found == number,
+            Reply::Value(Val::Item(found)) => *found == item,
             _ => false,
         },
         _ => false,
@@ -104,7 +104,7 @@ fn is_of_calls(call: &Call, calls: &Calls) -> bool
     match calls {
         Calls::Leaves(value) => leaves(call, *value),
         Calls::Updates => updates(call),
-        Calls::Adds(number) => adds(call, *number),
+        Calls::Adds(item) => adds(call, *item),
         Calls::Acquires => matches!(call, Call::Acquire),
         Calls::Releases => matches!(call, Call::Release),
     }
@@ -116,7 +116,7 @@ fn is_of_answers(call: &Call, reply: &Reply, answers: &Answers) -> bool
 {
     match answers {
         Answers::Called(calls) => is_of_calls(call, calls),
-        Answers::Takes(number) => takes(call, reply, *number),
+        Answers::Takes(item) => takes(call, reply, *item),
     }
 }
 

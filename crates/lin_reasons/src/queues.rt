@@ -12,7 +12,8 @@ use crate::series::put_how_often;
 use crate::sides::{Sides, name_sides, put_sides, sides_of};
 use crate::told::{Told, put_in_turn, put_returned};
 use lin_certificates::Certificate;
-use lin_formats::put_integer;
+use lin_events::Item;
+use lin_formats::put_item;
 use std::alloc::{AllocError, Global};
 
 /// Puts a line last that begins so and says that the one operation returned and the other was called.
@@ -31,17 +32,17 @@ pub(crate) fn put_turn(
     Ok(())
 }
 
-/// Puts the lines last of a number that was taken out oftener than it can have been put in.
+/// Puts the lines last of an item that was taken out oftener than it can have been put in.
 fn put_taken_lines(
     text: &mut Vec<u8>,
     told: &Told,
-    number: i64,
+    item: Item,
     sides: &Sides,
 ) -> Result<(), AllocError>
-    ensures { OnOk result (text.new.items ≡ text.old.items ++ taken_text told.now number sides.now.done.items sides.now.may.items sides.now.failed.items) }
+    ensures { OnOk result (text.new.items ≡ text.old.items ++ taken_text told.now item sides.now.done.items sides.now.may.items sides.now.failed.items) }
 {
     text.extend_from_slice(b"why: ")?;
-    put_integer(text, number)?;
+    put_item(text, item)?;
     text.extend_from_slice(b" was taken out ")?;
     put_how_often(text, sides.done.as_slice())?;
     text.extend_from_slice(b" and put in at most ")?;
@@ -51,83 +52,83 @@ fn put_taken_lines(
     Ok(())
 }
 
-/// Puts the lines last of a number that was taken out too often, and the operations that they name.
+/// Puts the lines last of an item that was taken out too often, and the operations that they name.
 fn put_taken(
     text: &mut Vec<u8>,
     names: &mut Vec<usize>,
     told: &Told,
-    number: i64,
+    item: Item,
     alloc: Global,
 ) -> Result<(), AllocError>
     requires { IsNextTable told.now.events.now told.now.ends.now }
-    ensures { OnOk result (ArePut (IsTakenTold told.now number) text.old.items text.new.items names.old.items names.new.items) }
+    ensures { OnOk result (ArePut (IsTakenTold told.now item) text.old.items text.new.items names.old.items names.new.items) }
 {
-    let sides = sides_of(told, Answers::Takes(number), Calls::Adds(number), alloc)?;
-    put_taken_lines(text, told, number, &sides)?;
+    let sides = sides_of(told, Answers::Takes(item), Calls::Adds(item), alloc)?;
+    put_taken_lines(text, told, item, &sides)?;
     name_sides(names, &sides)?;
     Ok(())
 }
 
-/// Puts a line last that says that the number wasn't taken out before the dequeue.
+/// Puts a line last that says that the item wasn't taken out before the dequeue.
 fn put_not_taken_out(
     text: &mut Vec<u8>,
     told: &Told,
     dequeue: usize,
-    number: i64,
+    item: Item,
 ) -> Result<(), AllocError>
-    ensures { OnOk result (text.new.items ≡ text.old.items ++ not_taken_out_text told.now dequeue number) }
+    ensures { OnOk result (text.new.items ≡ text.old.items ++ not_taken_out_text told.now dequeue item) }
 {
     text.extend_from_slice(b"  taken out: ")?;
     put_returned(text, told, dequeue)?;
     text.extend_from_slice(b", and nothing that may have taken ")?;
-    put_integer(text, number)?;
+    put_item(text, item)?;
     text.extend_from_slice(b" out was called before\n")?;
     Ok(())
 }
 
-/// Puts a line last that says that the number was taken out only behind the dequeue, first by this one, or not at all.
+/// Puts a line last that says that the item was taken out only behind the dequeue, first by this one, or not at all.
 fn put_taken_out(
     text: &mut Vec<u8>,
     told: &Told,
     dequeue: usize,
-    number: i64,
+    item: Item,
     taker: Option<usize>,
 ) -> Result<(), AllocError>
-    ensures { OnOk result (text.new.items ≡ text.old.items ++ taken_out_text told.now dequeue number taker) }
+    ensures { OnOk result (text.new.items ≡ text.old.items ++ taken_out_text told.now dequeue item taker) }
 {
     match taker {
         Some(taker) => put_turn(text, told, b"  taken out: ", dequeue, taker),
-        None => put_not_taken_out(text, told, dequeue, number),
+        None => put_not_taken_out(text, told, dequeue, item),
     }
 }
 
-/// Puts a line last that says which number passed which.
-fn put_passed_why(text: &mut Vec<u8>, number: i64, other: i64) -> Result<(), AllocError>
-    ensures { OnOk result (text.new.items ≡ text.old.items ++ passed_why number other) }
+/// Puts a line last that says which item passed which.
+fn put_passed_why(text: &mut Vec<u8>, item: Item, other: Item) -> Result<(), AllocError>
+    ensures { OnOk result (text.new.items ≡ text.old.items ++ passed_why item other) }
 {
     text.extend_from_slice(b"why: ")?;
-    put_integer(text, other)?;
+    put_item(text, other)?;
     text.extend_from_slice(b" passed ")?;
-    put_integer(text, number)?;
+    put_item(text, item)?;
     text.push(b'\n')?;
     Ok(())
 }
 
-/// Puts the lines last of a number that the other one passed, and that was taken out first by this dequeue, or not at all.
+/// Puts the lines last of an item that the other one passed, and that was taken out first by this dequeue, or not at all.
 fn put_passed_lines(
     text: &mut Vec<u8>,
     told: &Told,
     puts: (usize, usize),
     dequeue: usize,
-    number: i64,
-    other: i64,
+    item: Item,
+    other: Item,
     taker: Option<usize>,
 ) -> Result<(), AllocError>
-    ensures { OnOk result (text.new.items ≡ text.old.items ++ passed_text told.now puts dequeue number other taker) }
+    ensures { OnOk result (text.new.items ≡ text.old.items ++ passed_text told.now puts dequeue item other taker) }
 {
-    put_passed_why(text, number, other)?;
+    put_passed_why(text, item, other)?;
     put_turn(text, told, b"  put in: ", puts.0, puts.1)?;
-    put_taken_out(text, told, dequeue, number, taker)?;
+    put_taken_out(text, told, dequeue, item, taker)?;
     Ok(())
 }
 
@@ -141,46 +142,46 @@ fn first_of(list: &[usize]) -> Option<usize>
     }
 }
 
-/// Puts the lines last of a number that the other one passed, and the operations that they name. These are two enqueues and a dequeue.
+/// Puts the lines last of an item that the other one passed, and the operations that they name. These are two enqueues and a dequeue.
 fn put_passed(
     text: &mut Vec<u8>,
     names: &mut Vec<usize>,
     told: &Told,
     operations: (usize, usize, usize),
-    number: i64,
-    other: i64,
+    item: Item,
+    other: Item,
     alloc: Global,
 ) -> Result<(), AllocError>
     requires { IsNextTable told.now.events.now told.now.ends.now }
-    ensures { OnOk result (ArePut (IsPassedTold told.now operations.0 operations.1 operations.2 number other) text.old.items text.new.items names.old.items names.new.items) }
+    ensures { OnOk result (ArePut (IsPassedTold told.now operations.0 operations.1 operations.2 item other) text.old.items text.new.items names.old.items names.new.items) }
 {
     let (enqueue, later, dequeue) = operations;
-    let group = Group::Returned(Answers::Takes(number));
+    let group = Group::Returned(Answers::Takes(item));
     let takes = all_of(told, &group, alloc)?;
     let taker = first_of(takes.as_slice());
-    put_passed_lines(text, told, (enqueue, later), dequeue, number, other, taker)?;
+    put_passed_lines(text, told, (enqueue, later), dequeue, item, other, taker)?;
     name_pair(names, (enqueue, later))?;
     names.push(dequeue)?;
     name_some(names, taker)?;
     Ok(())
 }
 
-/// Puts the lines last of a number that was in the queue when the dequeue found nothing.
+/// Puts the lines last of an item that was in the queue when the dequeue found nothing.
 fn put_inside(
     text: &mut Vec<u8>,
     told: &Told,
     enqueue: usize,
     dequeue: usize,
-    number: i64,
+    item: Item,
 ) -> Result<(), AllocError>
-    ensures { OnOk result (text.new.items ≡ text.old.items ++ inside_text told.now enqueue dequeue number) }
+    ensures { OnOk result (text.new.items ≡ text.old.items ++ inside_text told.now enqueue dequeue item) }
 {
     text.extend_from_slice(b"why: ")?;
-    put_integer(text, number)?;
+    put_item(text, item)?;
     text.extend_from_slice(b" was in the queue\n")?;
     put_turn(text, told, b"  put in: ", enqueue, dequeue)?;
     text.extend_from_slice(b"  taken out: nothing that may have taken ")?;
-    put_integer(text, number)?;
+    put_item(text, item)?;
     text.extend_from_slice(b" out was called before ")?;
     put_returned(text, told, dequeue)?;
     text.push(b'\n')?;
@@ -200,23 +201,23 @@ pub(crate) fn put_queue_reason(
     ensures { OnOk result (ArePut (IsReasonOfQueue told.now certificate.now) text.old.items text.new.items names.old.items names.new.items) }
 {
     match certificate {
-        Certificate::Taken { number } => put_taken(text, names, told, *number, alloc),
+        Certificate::Taken { item } => put_taken(text, names, told, *item, alloc),
         Certificate::Passed {
             enqueue,
             later,
             dequeue,
-            number,
+            item,
             other,
         } => {
             let operations = (*enqueue, *later, *dequeue);
-            put_passed(text, names, told, operations, *number, *other, alloc)
+            put_passed(text, names, told, operations, *item, *other, alloc)
         }
         Certificate::Inside {
             enqueue,
             dequeue,
-            number,
+            item,
         } => {
-            put_inside(text, told, *enqueue, *dequeue, *number)?;
+            put_inside(text, told, *enqueue, *dequeue, *item)?;
             name_pair(names, (*enqueue, *dequeue))?;
             Ok(())
         }

@@ -13,8 +13,8 @@ use crate::naming::{name_four, name_pairs, name_some};
 use crate::series::{FIRSTS, firsts_of, put_fact, put_failures};
 use crate::told::{Told, Verb, put_called, put_end_spot, put_in_turn, reply_of};
 use lin_certificates::Certificate;
-use lin_events::{Reply, Val};
-use lin_formats::{put_integer, put_number};
+use lin_events::{Item, Reply, Val};
+use lin_formats::{put_item, put_number};
 use lin_words::put_value;
 use std::alloc::{AllocError, Global};
 
@@ -65,40 +65,40 @@ pub(crate) fn put_shape(text: &mut Vec<u8>, told: &Told, read: usize) -> Result<
     put_fact(text, told, Verb::Returned, read)
 }
 
-/// Puts the lines last that say that nothing leaves the number that the operation needs: these failed.
+/// Puts the lines last that say that nothing leaves the item that the operation needs: these failed.
 fn put_unwritten_lines(
     text: &mut Vec<u8>,
     told: &Told,
     operation: usize,
-    number: i64,
+    item: Item,
     failed: &[usize],
 ) -> Result<(), AllocError>
-    ensures { OnOk result (text.new.items ≡ text.old.items ++ unwritten_text told.now operation number failed.now) }
+    ensures { OnOk result (text.new.items ≡ text.old.items ++ unwritten_text told.now operation item failed.now) }
 {
     text.extend_from_slice(b"why: nothing leaves ")?;
-    put_integer(text, number)?;
+    put_item(text, item)?;
     text.push(b'\n')?;
     put_fact(text, told, Verb::Returned, operation)?;
     put_failures(text, told, b"  no other operation leaves it\n", failed)?;
     Ok(())
 }
 
-/// Puts the lines last of a number that nothing leaves, and the operations that they name.
+/// Puts the lines last of an item that nothing leaves, and the operations that they name.
 fn put_unwritten(
     text: &mut Vec<u8>,
     names: &mut Vec<usize>,
     told: &Told,
     operation: usize,
-    number: i64,
+    item: Item,
     alloc: Global,
 ) -> Result<(), AllocError>
     requires { IsNextTable told.now.events.now told.now.ends.now }
-    ensures { OnOk result (ArePut (IsUnwrittenTold told.now operation number) text.old.items text.new.items names.old.items names.new.items) }
+    ensures { OnOk result (ArePut (IsUnwrittenTold told.now operation item) text.old.items text.new.items names.old.items names.new.items) }
 {
-    let group = Group::Fails(Calls::Leaves(Val::Int(number)));
+    let group = Group::Fails(Calls::Leaves(Val::Item(item)));
     let list = all_of(told, &group, alloc)?;
     let failed = list.as_slice();
-    put_unwritten_lines(text, told, operation, number, failed)?;
+    put_unwritten_lines(text, told, operation, item, failed)?;
     names.push(operation)?;
     names.extend_from_slice(firsts_of(failed, FIRSTS))?;
     Ok(())
@@ -110,7 +110,7 @@ fn most_told(value: Val) -> usize
 {
     match value {
         Val::Nil => 2,
-        Val::Int(_) => 3,
+        Val::Item(_) => 3,
     }
 }
 
@@ -130,7 +130,7 @@ fn first_over(
             let over = latest_of(told, &Group::Overwrites(operation), alloc)?;
             Ok(Some(over))
         }
-        Val::Int(_) => Ok(None),
+        Val::Item(_) => Ok(None),
     }
 }
 
@@ -359,21 +359,21 @@ pub(crate) fn put_register_reason(
             names.push(*read)?;
             Ok(())
         }
-        Certificate::Unwritten { operation, number } => {
-            put_unwritten(text, names, told, *operation, *number, alloc)
+        Certificate::Unwritten { operation, item } => {
+            put_unwritten(text, names, told, *operation, *item, alloc)
         }
         Certificate::Overwritten { operation, value } => {
             put_overwritten(text, names, told, *operation, *value, alloc)
         }
         Certificate::Crossed {
             value,
-            number,
+            item,
             early,
             late,
             back,
         } => {
             let pair = (*early, *late);
-            put_crossed(text, told, *value, Val::Int(*number), pair, *back)?;
+            put_crossed(text, told, *value, Val::Item(*item), pair, *back)?;
             name_four(names, pair, *back)?;
             Ok(())
         }

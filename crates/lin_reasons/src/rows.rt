@@ -1,7 +1,7 @@
 //! Histories of one object, a line each, and the lines that tell why they have no legal order.
 use crate::{Told, put_reason};
 use lin_certificates::find_certificate;
-use lin_events::{Body, Call, Event, IntSet, Name, Reply, Val};
+use lin_events::{Body, Call, Event, IntSet, Item, Name, Reply, Val};
 use lin_objects::Kind;
 use lin_orders::ends_of;
 use lin_places::Place;
@@ -26,7 +26,7 @@ fn body(rt: &(impl Abort + AllocGlobal), step: Step) -> Body {
         Step::Reads(members) => {
             let mut items = Vec::new(rt.alloc());
             for member in members {
-                items.push(*member).expect(rt, "memory");
+                items.push(Item::Int(*member)).expect(rt, "memory");
             }
             let set = IntSet::from_members(rt.alloc(), items).expect(rt, "memory");
             Body::Ok(Name::Read, Reply::Members(set))
@@ -41,7 +41,7 @@ fn events(rt: &(impl Abort + AllocGlobal), steps: &[(u64, Step)]) -> Vec<Event> 
     for (process, step) in steps {
         let event = Event {
             process: *process,
-            key: 0,
+            key: Item::Int(0),
             body: body(rt, *step),
         };
         events.push(event).expect(rt, "memory");
@@ -91,19 +91,19 @@ const DEQUEUE: Step = Step::Calls(Call::Dequeue);
 const ACQUIRE: Step = Step::Calls(Call::Acquire);
 
 fn write(number: i64) -> Step {
-    Step::Calls(Call::Write(Val::Int(number)))
+    Step::Calls(Call::Write(Val::Item(Item::Int(number))))
 }
 
 fn enqueue(number: i64) -> Step {
-    Step::Calls(Call::Enqueue(number))
+    Step::Calls(Call::Enqueue(Item::Int(number)))
 }
 
 fn add(number: i64) -> Step {
-    Step::Calls(Call::Add(number))
+    Step::Calls(Call::Add(Item::Int(number)))
 }
 
 fn gets(number: i64) -> Step {
-    Step::Gets(Val::Int(number))
+    Step::Gets(Val::Item(Item::Int(number)))
 }
 
 #[test]

@@ -11,142 +11,143 @@ use crate::queues::put_queue_reason;
 use crate::series::{FIRSTS, firsts_of, put_fact, put_failures};
 use crate::told::{Told, Verb, put_called, put_had, put_returned};
 use lin_certificates::Certificate;
-use lin_formats::put_integer;
+use lin_events::Item;
+use lin_formats::put_item;
 use std::alloc::{AllocError, Global};
 
-/// Puts the lines last that say that nothing adds the number that the read has: these failed.
+/// Puts the lines last that say that nothing adds the item that the read has: these failed.
 fn put_unadded_lines(
     text: &mut Vec<u8>,
     told: &Told,
     read: usize,
-    number: i64,
+    item: Item,
     failed: &[usize],
 ) -> Result<(), AllocError>
-    ensures { OnOk result (text.new.items ≡ text.old.items ++ unadded_text told.now read number failed.now) }
+    ensures { OnOk result (text.new.items ≡ text.old.items ++ unadded_text told.now read item failed.now) }
 {
     text.extend_from_slice(b"why: nothing adds ")?;
-    put_integer(text, number)?;
+    put_item(text, item)?;
     text.push(b'\n')?;
     put_fact(text, told, Verb::Returned, read)?;
     put_failures(text, told, b"  no operation adds it\n", failed)?;
     Ok(())
 }
 
-/// Puts the lines last of a number that nothing adds, and the operations that they name.
+/// Puts the lines last of an item that nothing adds, and the operations that they name.
 fn put_unadded(
     text: &mut Vec<u8>,
     names: &mut Vec<usize>,
     told: &Told,
     read: usize,
-    number: i64,
+    item: Item,
     alloc: Global,
 ) -> Result<(), AllocError>
     requires { IsNextTable told.now.events.now told.now.ends.now }
-    ensures { OnOk result (ArePut (IsUnaddedTold told.now read number) text.old.items text.new.items names.old.items names.new.items) }
+    ensures { OnOk result (ArePut (IsUnaddedTold told.now read item) text.old.items text.new.items names.old.items names.new.items) }
 {
-    let group = Group::Fails(Calls::Adds(number));
+    let group = Group::Fails(Calls::Adds(item));
     let list = all_of(told, &group, alloc)?;
     let failed = list.as_slice();
-    put_unadded_lines(text, told, read, number, failed)?;
+    put_unadded_lines(text, told, read, item, failed)?;
     names.push(read)?;
     names.extend_from_slice(firsts_of(failed, FIRSTS))?;
     Ok(())
 }
 
-/// Puts a line last that says that the set had the number before the later operation was called.
+/// Puts a line last that says that the set had the item before the later operation was called.
 fn put_in_before(
     text: &mut Vec<u8>,
     told: &Told,
     earlier: usize,
-    number: i64,
+    item: Item,
     later: usize,
 ) -> Result<(), AllocError>
-    ensures { OnOk result (text.new.items ≡ text.old.items ++ in_before_text told.now earlier number later) }
+    ensures { OnOk result (text.new.items ≡ text.old.items ++ in_before_text told.now earlier item later) }
 {
     text.extend_from_slice(b"  in: ")?;
-    put_had(text, told, earlier, number)?;
+    put_had(text, told, earlier, item)?;
     text.extend_from_slice(b", ")?;
     put_called(text, told, later)?;
     text.push(b'\n')?;
     Ok(())
 }
 
-/// Puts a line last that says that the read found the one number and lacks the other.
+/// Puts a line last that says that the read found the one item and lacks the other.
 fn put_found(
     text: &mut Vec<u8>,
     told: &Told,
     read: usize,
-    number: i64,
-    other: i64,
+    item: Item,
+    other: Item,
 ) -> Result<(), AllocError>
-    ensures { OnOk result (text.new.items ≡ text.old.items ++ found_text told.now read number other) }
+    ensures { OnOk result (text.new.items ≡ text.old.items ++ found_text told.now read item other) }
 {
     text.extend_from_slice(b"  ")?;
     put_returned(text, told, read)?;
     text.extend_from_slice(b" with ")?;
-    put_integer(text, number)?;
+    put_item(text, item)?;
     text.extend_from_slice(b" and without ")?;
-    put_integer(text, other)?;
+    put_item(text, other)?;
     text.push(b'\n')?;
     Ok(())
 }
 
-/// Puts the lines last of a number that was lost.
+/// Puts the lines last of an item that was lost.
 fn put_lost(
     text: &mut Vec<u8>,
     told: &Told,
     earlier: usize,
     read: usize,
-    number: i64,
+    item: Item,
 ) -> Result<(), AllocError>
-    ensures { OnOk result (text.new.items ≡ text.old.items ++ lost_text told.now earlier read number) }
+    ensures { OnOk result (text.new.items ≡ text.old.items ++ lost_text told.now earlier read item) }
 {
     text.extend_from_slice(b"why: ")?;
-    put_integer(text, number)?;
+    put_item(text, item)?;
     text.extend_from_slice(b" was lost\n")?;
-    put_in_before(text, told, earlier, number, read)?;
+    put_in_before(text, told, earlier, item, read)?;
     text.extend_from_slice(b"  ")?;
     put_returned(text, told, read)?;
     text.extend_from_slice(b" without ")?;
-    put_integer(text, number)?;
+    put_item(text, item)?;
     text.push(b'\n')?;
     Ok(())
 }
 
-/// Puts the lines last of two reads, each of which has a number that the other lacks.
+/// Puts the lines last of two reads, each of which has an item that the other lacks.
 fn put_split(
     text: &mut Vec<u8>,
     told: &Told,
     reads: (usize, usize),
-    number: i64,
-    other: i64,
+    item: Item,
+    other: Item,
 ) -> Result<(), AllocError>
-    ensures { OnOk result (text.new.items ≡ text.old.items ++ split_text told.now reads number other) }
+    ensures { OnOk result (text.new.items ≡ text.old.items ++ split_text told.now reads item other) }
 {
     text.extend_from_slice(b"why: two reads exclude each other\n")?;
-    put_found(text, told, reads.0, number, other)?;
-    put_found(text, told, reads.1, other, number)?;
+    put_found(text, told, reads.0, item, other)?;
+    put_found(text, told, reads.1, other, item)?;
     Ok(())
 }
 
-/// Puts the lines last of a number that was in before the other one was added.
+/// Puts the lines last of an item that was in before the other one was added.
 fn put_late(
     text: &mut Vec<u8>,
     told: &Told,
     before: (usize, usize),
     read: usize,
-    number: i64,
-    other: i64,
+    item: Item,
+    other: Item,
 ) -> Result<(), AllocError>
-    ensures { OnOk result (text.new.items ≡ text.old.items ++ late_text told.now before read number other) }
+    ensures { OnOk result (text.new.items ≡ text.old.items ++ late_text told.now before read item other) }
 {
     text.extend_from_slice(b"why: ")?;
-    put_integer(text, number)?;
+    put_item(text, item)?;
     text.extend_from_slice(b" was in before ")?;
-    put_integer(text, other)?;
+    put_item(text, other)?;
     text.extend_from_slice(b" was added\n")?;
-    put_in_before(text, told, before.0, number, before.1)?;
-    put_found(text, told, read, other, number)?;
+    put_in_before(text, told, before.0, item, before.1)?;
+    put_found(text, told, read, other, item)?;
     Ok(())
 }
 
@@ -163,25 +164,25 @@ pub(crate) fn put_set_reason(
     ensures { OnOk result (ArePut (IsReasonOfSet told.now certificate.now) text.old.items text.new.items names.old.items names.new.items) }
 {
     match certificate {
-        Certificate::Unadded { read, number } => {
-            put_unadded(text, names, told, *read, *number, alloc)
+        Certificate::Unadded { read, item } => {
+            put_unadded(text, names, told, *read, *item, alloc)
         }
         Certificate::Lost {
             earlier,
             read,
-            number,
+            item,
         } => {
-            put_lost(text, told, *earlier, *read, *number)?;
+            put_lost(text, told, *earlier, *read, *item)?;
             name_pair(names, (*earlier, *read))?;
             Ok(())
         }
         Certificate::Split {
             first,
             second,
-            number,
+            item,
             other,
         } => {
-            put_split(text, told, (*first, *second), *number, *other)?;
+            put_split(text, told, (*first, *second), *item, *other)?;
             name_pair(names, (*first, *second))?;
             Ok(())
         }
@@ -189,10 +190,10 @@ pub(crate) fn put_set_reason(
             earlier,
             add,
             read,
-            number,
+            item,
             other,
         } => {
-            put_late(text, told, (*earlier, *add), *read, *number, *other)?;
+            put_late(text, told, (*earlier, *add), *read, *item, *other)?;
             name_pair(names, (*earlier, *add))?;
             names.push(*read)?;
             Ok(())

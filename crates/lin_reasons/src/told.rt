@@ -1,9 +1,9 @@
 //! The operations of one object in words, and where in the whole history they were called, returned or failed.
 ghost use Rattle.std.specs.Prelude.{◌≡◌, ◌++◌, option_map, slice_get, OnOk};
-ghost use Rattle.lin_reasons.specs.Telling.{call_in, called_text, did_text, end_at, end_spot, failed_text, number_behind, had_text, in_turn_text, is_acquire as calls_acquire, is_read as calls_read, op_text, position_of as position, reply_behind_end, returned_text, spot_at, without_members as plain};
+ghost use Rattle.lin_reasons.specs.Telling.{call_in, called_text, did_text, end_at, end_spot, failed_text, had_text, in_turn_text, is_acquire as calls_acquire, is_read as calls_read, item_behind, op_text, position_of as position, reply_behind_end, returned_text, spot_at, without_members as plain};
 
-use lin_events::{Body, Call, Event, Reply};
-use lin_formats::put_integer;
+use lin_events::{Body, Call, Event, Item, Reply};
+use lin_formats::put_item;
 use lin_places::Place;
 use lin_words::{put_operation, put_spot};
 use std::alloc::AllocError;
@@ -203,29 +203,29 @@ pub(crate) fn put_in_turn(
     put_called(line, told, second)
 }
 
-/// Puts last that a read found the number.
-fn put_found(line: &mut Vec<u8>, reads: bool, number: i64) -> Result<(), AllocError>
-    ensures { OnOk result (line.new.items ≡ line.old.items ++ number_behind reads number) }
+/// Puts last that a read found the item.
+fn put_found(line: &mut Vec<u8>, reads: bool, item: Item) -> Result<(), AllocError>
+    ensures { OnOk result (line.new.items ≡ line.old.items ++ item_behind reads item) }
 {
     if !reads {
         return Ok(());
     }
     line.extend_from_slice(b" with ")?;
-    put_integer(line, number)
+    put_item(line, item)
 }
 
-/// Puts last that an operation returned, and, if it is a read, that it found the number.
+/// Puts last that an operation returned, and, if it is a read, that it found the item.
 pub(crate) fn put_had(
     line: &mut Vec<u8>,
     told: &Told,
     at: usize,
-    number: i64,
+    item: Item,
 ) -> Result<(), AllocError>
-    ensures { OnOk result (line.new.items ≡ line.old.items ++ had_text told.now at number) }
+    ensures { OnOk result (line.new.items ≡ line.old.items ++ had_text told.now at item) }
 {
     put_op(line, told, at)?;
     let reads = is_read(told, at);
-    put_found(line, reads, number)?;
+    put_found(line, reads, item)?;
     line.extend_from_slice(b" returned at ")?;
     put_end_spot(line, told, at)?;
     Ok(())

@@ -1,7 +1,7 @@
 //! A search for operations of a register that conflict, among values that one update leaves. Whatever it finds is checked; that it finds
 //! something isn't promised.
 use crate::acts::{Act, Acts};
-use lin_events::{Event, OutOfMemory, Val};
+use lin_events::{Event, Item, OutOfMemory, Val};
 use lin_failures::{Block, Conflict};
 use std::alloc::Global;
 use std::collections::HashMap;
@@ -28,9 +28,9 @@ struct Zone {
 /// What a search has at hand.
 #[derive(Drop)]
 struct Search {
-    zones: HashMap<i64, Zone>,
+    zones: HashMap<Item, Zone>,
     /// Values behind which operations returned, and where the last of these did, the latest last.
-    recent: Vec<(i64, usize)>,
+    recent: Vec<(Item, usize)>,
     /// The operation that was the first to return of those behind which the register does not hold nil, where it did, and the value.
     first: Option<(usize, usize, Val)>,
     /// Whether an update leaves nil.
@@ -51,11 +51,11 @@ impl Search {
 
     /// An update was invoked that leaves the value.
     fn invoked(&mut self, update: usize, value: Val) -> Result<(), OutOfMemory> {
-        let Val::Int(number) = value else {
+        let Val::Item(item) = value else {
             self.is_nil_left = true;
             return Ok(());
         };
-        let zone = match self.zones.get(&number) {
+        let zone = match self.zones.get(&item) {
             Some(zone) => Zone {
                 is_doubled: true,
                 ..*zone
@@ -67,7 +67,7 @@ impl Search {
                 late: update,
             },
         };
-        self.zones.insert(number, zone)?;
+        self.zones.insert(item, zone)?;
         Ok(())
     }
 
@@ -78,13 +78,13 @@ impl Search {
         value: Val,
         at: usize,
     ) -> Result<Option<Conflict>, OutOfMemory> {
-        let Val::Int(number) = value else {
+        let Val::Item(item) = value else {
             return Ok(self.found_nil(operation));
         };
         if self.first.is_none() {
             self.first = Some((operation, at, value));
         }
-        let Some(zone) = self.zones.get(&number) else {
+        let Some(zone) = self.zones.get(&item) else {
             return Ok(Some(Conflict::Unwritten { operation, value }));
         };
         let zone = Zone {
@@ -92,9 +92,9 @@ impl Search {
             late: zone.late.max(operation),
             ..*zone
         };
-        self.zones.insert(number, zone)?;
-        self.note(number, at)?;
-        Ok(self.crossing(number, zone))
+        self.zones.insert(item, zone)?;
+        self.note(item, at)?;
+        Ok(self.crossing(item, zone))
     }
 
     /// An operation returned that found nil.
@@ -111,20 +111,20 @@ impl Search {
     }
 
     /// Notes that an operation returned behind which the register held the value.
-    fn note(&mut self, number: i64, at: usize) -> Result<(), OutOfMemory> {
+    fn note(&mut self, item: Item, at: usize) -> Result<(), OutOfMemory> {
         if let Some(last) = self.recent.last_mut()
-            && last.0 == number
+            && last.0 == item
         {
             last.1 = at;
             return Ok(());
         }
-        self.recent.push((number, at))?;
+        self.recent.push((item, at))?;
         Ok(())
     }
 
     /// A value whose operations conflict with those of this one.
-    fn crossing(&mut self, number: i64, zone: Zone) -> Option<Conflict> {
-        let block = block_of(number, zone)?;
+    fn crossing(&mut self, item: Item, zone: Zone) -> Option<Conflict> {
+        let block = block_of(item, zone)?;
         let (_, end) = zone.early?;
         for (other, at) in self.recent.iter().rev() {
             self.steps = self.steps.saturating_add(1);
@@ -132,7 +132,7 @@ impl Search {
                 return None;
             }
             if let Some(found) = self.zones.get(other)
-                && *other != number
+                && *other != item
                 && are_crossed(zone, *found)
             {
                 return Some(Conflict::Crossed(block, block_of(*other, *found)?));
@@ -143,13 +143,13 @@ impl Search {
 }
 
 /// The operations of a value that one update leaves.
-fn block_of(number: i64, zone: Zone) -> Option<Block> {
+fn block_of(item: Item, zone: Zone) -> Option<Block> {
     if zone.is_doubled {
         return None;
     }
     let (early, _) = zone.early?;
     Some(Block {
-        value: Val::Int(number),
+        value: Val::Item(item),
         update: zone.update,
         early,
         late: zone.late,

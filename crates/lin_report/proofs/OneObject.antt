@@ -1,10 +1,11 @@
 -- Of a history of one object, what is found of the whole is found of the object.
-use Rattle.std.proofs.Common.{◌≡◌, ◌-◌, ℕ, ℤ, Bool, true, false, List, [], ◌∷◌, length, take, inl, inr, refl, sym, subst, ◌∙◌, arith, slice_index_or}
-use Rattle.std.specs.Ordering.{int_eq}
+use Rattle.std.proofs.Common.{◌≡◌, ◌-◌, ℕ, Bool, true, false, List, [], ◌∷◌, length, take, inl, inr, refl, sym, subst, ◌∙◌, arith, slice_index_or}
 use Rattle.std.proofs.lemmas.Bool.{false≢true}
-use Rattle.std.proofs.lemmas.Bool.Decides.{Decides-int_eq}
 use Rattle.std.proofs.lemmas.List.Elements.{Contains-push_cases}
 use Rattle.lin_events.specs.declared.events.Event.{Event}
+use Rattle.lin_events.specs.declared.items.Item.{Item}
+use Rattle.lin_events.specs.Items.{item_eq}
+use Rattle.lin_events.specs.Sameness.{Decides-item_eq}
 use Rattle.lin_events.specs.Operations.{IsEvent}
 use Rattle.lin_lists.specs.lemmas.Lists.{get_taken}
 use Rattle.lin_orders.specs.Linearizable.{IsLinearizable, IsLinearizableFor}
@@ -18,29 +19,29 @@ use Rattle.lin_session.specs.declared.answers.Verdict.TheVariants.{IllFormed, Ye
 use Rattle.lin_lists.specs.lemmas.Taken.{Contains-slice_get}
 
 -- a list of one element
-pub one_listed : (xs : List ℤ) (d : ℤ) → length xs ≡ 1 → xs ≡ slice_index_or xs 0 d ∷ []
+pub one_listed : (xs : List Item) (d : Item) → length xs ≡ 1 → xs ≡ slice_index_or xs 0 d ∷ []
 one_listed [] d one = absurd (omega (arith, one))
 one_listed (x ∷ []) d one = refl
 one_listed (x ∷ y ∷ xs) d one = absurd (omega (arith, one))
 
 -- each event is of the only key
-pub only_key : (h : List Event) (key : ℤ) → AreKeys h (key ∷ []) → (at : ℕ) (event : Event) → IsEvent h at event → event.key ≡ key
+pub only_key : (h : List Event) (key : Item) → AreKeys h (key ∷ []) → (at : ℕ) (event : Event) → IsEvent h at event → event.key ≡ key
 only_key h key are at event stands = elim (Contains-push_cases [] key event.key ((are.each event.key).1 (event, Contains-slice_get h at event stands, refl))) [
   | inl (k, within, is) ↦ absurd (omega arith)
   | inr same ↦ sym same
 ]
 
-module _ (local : IsLocal) (absent : AbsentKeysAreLegal) (now : Present) (key : ℤ) (only : (at : ℕ) (event : Event) → IsEvent now.history at event → event.key ≡ key) where
+module _ (local : IsLocal) (absent : AbsentKeysAreLegal) (now : Present) (key : Item) (only : (at : ℕ) (event : Event) → IsEvent now.history at event → event.key ≡ key) where
   -- a beginning of the history is linearizable, if it is for the object
   linearizable_if : (n : ℕ) → IsLinearizableFor (kinds_in now) key (take n now.history) → IsLinearizable (kinds_in now) (take n now.history)
-  linearizable_if n linear = (local (kinds_in now) (take n now.history)).1 (λ x. by x (int_eq x key) refl)
+  linearizable_if n linear = (local (kinds_in now) (take n now.history)).1 (λ x. by x (item_eq x key) refl)
     where
-      by : (x : ℤ) (b : Bool) → int_eq x key ≡ b → IsLinearizableFor (kinds_in now) x (take n now.history)
-      by x true e = subst (λ k. IsLinearizableFor (kinds_in now) k (take n now.history)) (sym ((Decides-int_eq x key).0 e)) linear
+      by : (x : Item) (b : Bool) → item_eq x key ≡ b → IsLinearizableFor (kinds_in now) x (take n now.history)
+      by x true e = subst (λ k. IsLinearizableFor (kinds_in now) k (take n now.history)) (sym ((Decides-item_eq x key).0 e)) linear
       by x false e = (
         [],
         absent (kinds_in now) (take n now.history) x (λ at event stands same.
-            false≢true (sym e ∙ (Decides-int_eq x key).1 (sym same ∙ only at event (get_taken n now.history at event stands).1))),
+            false≢true (sym e ∙ (Decides-item_eq x key).1 (sym same ∙ only at event (get_taken n now.history at event stands).1))),
       )
 
   of_object : (verdict : Verdict) → IsWholeVerdict (kinds_in now) now.budget now.history verdict → IsObjectVerdict (kinds_in now) now.budget now.history key verdict

@@ -1,6 +1,7 @@
 -- From what is found where an object is refuted to what is told of it.
-use Rattle.std.proofs.Common.{◌≡◌, ◌≢◌, ◌≤◌, ◌-◌, ◌+◌, ◌∷◌, ◌++◌, [], ℕ, ℤ, List, length, take, ap, ◌∙◌, add-one}
+use Rattle.std.proofs.Common.{◌≡◌, ◌≢◌, ◌≤◌, ◌-◌, ◌+◌, ◌∷◌, ◌++◌, [], ℕ, List, length, take, ap, ◌∙◌, add-one}
 use Rattle.lin_events.specs.declared.events.Event.{Event}
+use Rattle.lin_events.specs.declared.items.Item.{Item}
 use Rattle.lin_events.specs.Operations.{IsEvent}
 use Rattle.lin_events.specs.WellFormed.{IsWellFormed}
 use Rattle.lin_events.specs.WellFormedLaws.{BeginningsAreWellFormed}
@@ -18,17 +19,17 @@ use Rattle.lin_session.specs.declared.answers.Scope.TheVariants.{Object}
 use Rattle.lin_session.specs.declared.answers.Verdict.TheVariants.{No}
 
 -- one more event of a prefix is one more of the part, or none
-pub part_more : PartsGrow → (key : ℤ) (h : List Event) (at : ℕ) (event : Event) → IsEvent h at event → event.key ≡ key → part key (take (at + 1) h) ≡ part key (take at h) ++ event ∷ []
+pub part_more : PartsGrow → (key : Item) (h : List Event) (at : ℕ) (event : Event) → IsEvent h at event → event.key ≡ key → part key (take (at + 1) h) ≡ part key (take at h) ++ event ∷ []
 part_more grow key h at event stands same =
     ap (λ n. part key (take n h)) (add-one at) ∙ ap (part key) (take_next at h event stands) ∙ (grow key (take at h) event).more same
 
-pub part_same : PartsGrow → (key : ℤ) (h : List Event) (at : ℕ) (event : Event) → IsEvent h at event → event.key ≢ key → part key (take (at + 1) h) ≡ part key (take at h)
+pub part_same : PartsGrow → (key : Item) (h : List Event) (at : ℕ) (event : Event) → IsEvent h at event → event.key ≢ key → part key (take (at + 1) h) ≡ part key (take at h)
 part_same grow key h at event stands other =
     ap (λ n. part key (take n h)) (add-one at) ∙ ap (part key) (take_next at h event stands) ∙ (grow key (take at h) event).same other
 
 -- a prefix that is refuted, behind one that is linearizable, is the shortest that fails
 pub refuted_no : RefutationsExcludeOrders → BeginningsAreWellFormed → PartsAreWellFormed → LinearizableByPart
-    → (now : Present) (key : ℤ) (n : ℕ) (sets : List (List Config)) → IsWellFormed (functions_of (kinds_in now)) now.history → n ≤ length now.history
+    → (now : Present) (key : Item) (n : ℕ) (sets : List (List Config)) → IsWellFormed (functions_of (kinds_in now)) now.history → n ≤ length now.history
     → IsLinearizableFor (kinds_in now) key (take (n - 1) now.history) → Refutes now key n sets → IsVerdict now (Object key) (No n)
 refuted_no exclude beginnings parts linear now key n sets fine within before refutes =
     let F = functions_of (kinds_in now) in

@@ -1,5 +1,5 @@
--- The commands that lines write: a word, and behind it numbers, a word for a kind, or one operation map.
-use Rattle.std.specs.Prelude.{◌≡◌, ◌≢◌, ◌⊎◌, ℕ, ◌+◌, ◌-◌, ◌^◌, ◌==◌, nat_lt, Bool, List, [], ◌∷◌, length, take, drop, slice_index, Option, None, Some, Result, Ok, Err, ℤ, codes, if◌then◌else◌}
+-- The commands that lines write: a word, and behind it numbers, a key, a word for a kind, or one operation map.
+use Rattle.std.specs.Prelude.{◌≡◌, ◌≢◌, ◌⊎◌, ℕ, ◌+◌, ◌-◌, ◌^◌, ◌==◌, nat_lt, Bool, List, [], ◌∷◌, length, take, drop, slice_index, Option, None, Some, Result, Ok, Err, codes, if◌then◌else◌}
 use Rattle.std.specs.Str.{bytes_eq}
 use Rattle.lin_edn.specs.Grammar.{Spells, IsBlankText, IsUnfinished}
 use Rattle.lin_edn.specs.Reading.{Refuses}
@@ -8,13 +8,15 @@ use Rattle.lin_edn.specs.declared.EdnCause.{EdnCause}
 use Rattle.lin_edn.specs.declared.EdnCause.TheVariants as edn
 use Rattle.lin_history.specs.Table.{event}
 use Rattle.lin_events.specs.declared.events.Event.{Event as EventOf}
+use Rattle.lin_events.specs.declared.items.Item.{Item}
 use Rattle.lin_history.specs.declared.table.EventFault.{EventFault}
 use Rattle.lin_objects.specs.declared.kinds.Kind.{Kind}
 use Rattle.lin_session.specs.declared.answers.Scope.{Scope}
 use Rattle.lin_session.specs.declared.answers.Scope.TheVariants as scope
 use Rattle.lin_session.specs.declared.edits.Edit.{Edit as EditOf}
 use Rattle.lin_session.specs.declared.edits.Edit.TheVariants as edit
-use Rattle.lin_formats.specs.Integers.{integer_of, number_of}
+use Rattle.lin_formats.specs.Integers.{number_of}
+use Rattle.lin_formats.specs.Items.{item_in}
 use Rattle.lin_formats.specs.Kinds.{kind_named}
 use Rattle.lin_formats.specs.Parts.{Part, words_from}
 use Rattle.lin_report.specs.declared.commands.Command.{Command}
@@ -85,10 +87,10 @@ number_in most words =
     or_refused BadNumber (number_of most word.text) (λ n. Ok n))
 
 -- the key that the only word writes
-abbrev pub key_in : List Part → Result ℤ CommandFault
+abbrev pub key_in : List Part → Result Item CommandFault
 key_in words =
     or_refused BadWords (only words) (λ word.
-    or_refused BadNumber (integer_of word.text) (λ key. Ok key))
+    or_refused BadNumber (item_in word.text) (λ key. Ok key))
 
 -- what a question is about: the object of the key that the only word writes, or the whole where there is none
 abbrev pub scope_in : List Part → Result Scope CommandFault
@@ -96,10 +98,10 @@ scope_in [] = Ok scope.Whole
 scope_in (first ∷ words) = made_of scope.Object (key_in (first ∷ words))
 
 -- a key and its kind
-abbrev pub key_and_kind : List Part → Result (ℤ × Kind) CommandFault
+abbrev pub key_and_kind : List Part → Result (Item × Kind) CommandFault
 key_and_kind words =
     or_refused BadWords (both words) (λ (key, word).
-    or_refused BadNumber (integer_of key.text) (λ k.
+    or_refused BadNumber (item_in key.text) (λ k.
     or_refused BadKind (kind_named word.text) (λ kind. Ok (k, kind))))
 
 -- what `replace` says: behind the number stands a map

@@ -1,7 +1,8 @@
 -- What is right to tell of why an answer is what it is.
-use Rattle.std.specs.Prelude.{◌≡◌, ◌-◌, ◌++◌, ◌⊎◌, ℕ, ℤ, List, Option, Some, None, Result, codes, count_by, decimal, length, nat_eq, take}
+use Rattle.std.specs.Prelude.{◌≡◌, ◌-◌, ◌++◌, ◌⊎◌, ℕ, List, Option, Some, None, Result, codes, count_by, decimal, length, nat_eq, take}
 use Rattle.std.specs.Io.KnownBytes.{IsAtEnd}
 use Rattle.lin_events.specs.declared.events.Event.{Event}
+use Rattle.lin_events.specs.declared.items.Item.{Item}
 use Rattle.lin_session.specs.Answers.{IsAnswer, verdict_of}
 use Rattle.lin_session.specs.Edits.{Present}
 use Rattle.lin_session.specs.declared.answers.Answer.{Answer}
@@ -53,7 +54,7 @@ pub record IsExplanation (format : Format) (now : Present) (asked : Asked) (plac
 abbrev pub line_count : List ℕ → ℕ
 line_count text = count_by (λ c. nat_eq c 10) text
 
-abbrev pub key_of : Scope → Option ℤ
+abbrev pub key_of : Scope → Option Item
 key_of (Object key) = Some key
 key_of Whole = None
 

@@ -1,7 +1,8 @@
 -- What is right to print where a history is drawn. Nothing is said of a picture itself.
-use Rattle.std.specs.Prelude.{◌≡◌, ◌++◌, ◌⊎◌, ℕ, ℤ, true, List, Option, Result, codes}
+use Rattle.std.specs.Prelude.{◌≡◌, ◌++◌, ◌⊎◌, ℕ, true, List, Option, Result, codes}
 use Rattle.std.specs.Io.KnownBytes.{IsAtEnd}
 use Rattle.lin_events.specs.declared.events.Event.{Event}
+use Rattle.lin_events.specs.declared.items.Item.{Item}
 use Rattle.lin_session.specs.Answers.{IsAnswer, verdict_of}
 use Rattle.lin_session.specs.Edits.{Present}
 use Rattle.lin_session.specs.declared.answers.Answer.{Answer}
@@ -17,18 +18,18 @@ use Rattle.lin_report.specs.Reports.{IsPrintRun, answer_status, answer_text, is_
 use Rattle.lin_report.specs.declared.formats.Format.TheVariants.{Text}
 
 -- an answer that is right, for the object of the key or the whole; of a history that isn't well-formed its line is all that is printed
-pub record IsDrawing (now : Present) (key : Option ℤ) (text : List ℕ) (status : Status) : Type 0 where
+pub record IsDrawing (now : Present) (key : Option Item) (text : List ℕ) (status : Status) : Type 0 where
   pub answer : Answer
   pub is_answer : IsAnswer now (scope_of key) answer
   pub says : is_ill_formed (verdict_of answer) ≡ true → text ≡ answer_text (verdict_of answer) ++ codes "\n"
   pub status_is : status ≡ answer_status (verdict_of answer)
 
 -- What is right to print of the bytes of a file, with the status: why they are refused; or a drawing of the history that they are.
-abbrev pub IsRightDrawing : Settings → Option ℤ → List ℕ → Option (List ℕ) → List ℕ → Status → Type 0
+abbrev pub IsRightDrawing : Settings → Option Item → List ℕ → Option (List ℕ) → List ℕ → Status → Type 0
 IsRightDrawing settings key bytes left text status =
     ((refusal : Refusal) × AreRefused settings.keyed bytes refusal × StopsFor refusal left × (text ≡ refusal_line Text refusal) × (status ≡ ends.Refused))
     ⊎ ((events : List Event) × IsWhole settings.keyed bytes events × IsAtEnd left × IsDrawing (opened settings events) key text status)
 
 -- what a run reads and writes, and how it ends
-abbrev pub IsDrawRun : Settings → Option ℤ → Option (List ℕ) → Option (List ℕ) → Option (List ℕ) → Option (List ℕ) → Result Status RunFault → Type 0
+abbrev pub IsDrawRun : Settings → Option Item → Option (List ℕ) → Option (List ℕ) → Option (List ℕ) → Option (List ℕ) → Result Status RunFault → Type 0
 IsDrawRun settings key old new before after result = IsPrintRun (IsRightDrawing settings key) old new before after result

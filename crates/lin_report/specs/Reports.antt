@@ -1,9 +1,9 @@
 -- The text of a report, and what is right to report of a history and of a file.
-use Rattle.std.specs.Prelude.{◌≡◌, ◌≤◌, ◌^◌, ◌++◌, ◌⊎◌, if◌then◌else◌, ℕ, ℤ, Bool, true, false, List, [], Option, Result, Ok, Err, All, codes, decimal, length, map, take}
-use Rattle.std.specs.Fmt.{signed_decimal}
+use Rattle.std.specs.Prelude.{◌≡◌, ◌≤◌, ◌^◌, ◌++◌, ◌⊎◌, if◌then◌else◌, ℕ, Bool, true, false, List, [], Option, Result, Ok, Err, All, codes, decimal, length, map, take}
 use Rattle.std.specs.Io.KnownBytes.{Appends, Consumes, IsAtEnd, Keeps}
 use Rattle.std.specs.List.{flat_map, join_by}
 use Rattle.lin_events.specs.declared.events.Event.{Event}
+use Rattle.lin_events.specs.declared.items.Item.{Item}
 use Rattle.lin_objects.specs.declared.kinds.Kind.{Kind}
 use Rattle.lin_objects.specs.Kinds.{same_for_all}
 use Rattle.lin_json.specs.Answers.{answer_json, checked_json, object_json}
@@ -16,6 +16,7 @@ use Rattle.lin_session.specs.declared.answers.Verdict.TheVariants.{IllFormed, Ye
 use Rattle.lin_formats.specs.VerdictTexts.{cause_text, refusal_text}
 use Rattle.lin_formats.specs.Histories.{StopsFor}
 use Rattle.lin_formats.specs.Inputs.{AreRefused, IsWhole}
+use Rattle.lin_formats.specs.Items.{item_text}
 use Rattle.lin_formats.specs.Kinds.{kind_text}
 use Rattle.lin_formats.specs.Verdicts.{IsReadTooFar}
 use Rattle.lin_formats.specs.declared.verdicts.Refusal.{Refusal}
@@ -51,9 +52,9 @@ answer_status (Undecided at) = ends.Undecided
 
 -- the line of an object
 abbrev pub line_text : Kind → Finding → List ℕ
-line_text kind found = codes "object " ++ signed_decimal found.key ++ codes " " ++ kind_text kind ++ codes ": " ++ (answer_text found.verdict ++ codes "\n")
+line_text kind found = codes "object " ++ item_text found.key ++ codes " " ++ kind_text kind ++ codes ": " ++ (answer_text found.verdict ++ codes "\n")
 
-abbrev pub lines_text : (ℤ → Kind) → List Finding → List ℕ
+abbrev pub lines_text : (Item → Kind) → List Finding → List ℕ
 lines_text kinds found = flat_map (λ f. line_text (kinds f.key) f) found
 
 -- the line that names so many events and objects
@@ -64,7 +65,7 @@ counts_text events objects = codes "events " ++ decimal events ++ codes " object
 abbrev pub json_object : Kind → Finding → List ℕ
 json_object kind found = object_json found.key kind (answer_status found.verdict) (answer_text found.verdict)
 
-abbrev pub json_objects : (ℤ → Kind) → List Finding → List ℕ
+abbrev pub json_objects : (Item → Kind) → List Finding → List ℕ
 json_objects kinds found = join_by (λ f. json_object (kinds f.key) f) (codes ",") found
 
 -- The report of a history of so many keys: what is found of its objects, and of the whole. As text there is a line that counts, one for each object,
@@ -80,23 +81,23 @@ abbrev pub told_text : Verdict → List ℕ → List ℕ
 told_text verdict lines = answer_text verdict ++ codes "\n" ++ lines
 
 -- what is found of the objects of these keys, one after another; each may be any answer that is right
-pub record AreFindings (now : Present) (keys : List ℤ) (found : List Finding) : Type 0 where
+pub record AreFindings (now : Present) (keys : List Item) (found : List Finding) : Type 0 where
   pub listed : map (λ f. f.key) found ≡ keys
   pub each : All (λ f. IsVerdict now (Object f.key) f.verdict) found
 
 -- What is found of a history: of each of its keys, rising, what is found of its object, and what is found of the whole. Of a history that isn't
 -- well-formed no object is named.
-pub record AreFound (now : Present) (keys : List ℤ) (found : List Finding) (whole : Verdict) : Type 0 where
+pub record AreFound (now : Present) (keys : List Item) (found : List Finding) (whole : Verdict) : Type 0 where
   pub are_keys : AreKeys now.history keys
   pub objects : AreFindings now (if is_ill_formed whole then [] else keys) found
   pub is_whole : IsVerdict now Whole whole
 
 abbrev pub HasFound : Present → Findings → Type 0
-HasFound now f = (keys : List ℤ) × (f.keys ≡ length keys) × AreFound now keys f.objects.items f.whole
+HasFound now f = (keys : List Item) × (f.keys ≡ length keys) × AreFound now keys f.objects.items f.whole
 
 -- what is right to report, and the status of a run that ends with it: what is found of the history, and of the whole
 pub record IsReport (format : Format) (now : Present) (text : List ℕ) (status : Status) : Type 0 where
-  pub keys : List ℤ
+  pub keys : List Item
   pub found : List Finding
   pub whole : Verdict
   pub are_found : AreFound now keys found whole

@@ -1,8 +1,9 @@
 -- What a run of commands reads and writes.
-use Rattle.std.specs.Prelude.{◌≡◌, ◌≢◌, ◌==◌, ◌≤◌, ◌-◌, ◌^◌, ◌++◌, ◌∷◌, [], ◌⊎◌, if◌then◌else◌, nat_lt, ℕ, ℤ, Bool, true, false, List, Option, None, Some, Result, Ok, Err, codes, decimal, length, take, unwrap_or}
+use Rattle.std.specs.Prelude.{◌≡◌, ◌≢◌, ◌==◌, ◌≤◌, ◌-◌, ◌^◌, ◌++◌, ◌∷◌, [], ◌⊎◌, if◌then◌else◌, nat_lt, ℕ, Bool, true, false, List, Option, None, Some, Result, Ok, Err, codes, decimal, length, take, unwrap_or}
 use Rattle.std.specs.Option.{option_or}
 use Rattle.std.specs.Io.KnownBytes.{Appends, Consumes, IsAtEnd}
 use Rattle.lin_events.specs.declared.events.Event.{Event}
+use Rattle.lin_events.specs.declared.items.Item.{Item}
 use Rattle.lin_history.specs.declared.follow.FollowFault.{FollowFault}
 use Rattle.lin_history.specs.declared.follow.FollowFault.TheVariants as fault
 use Rattle.lin_history.specs.Stream.{IsStream}
@@ -78,7 +79,7 @@ IsEditReply edit before after text =
 
 -- What is written of the refutation of an object, and the status where that is an answer: how many events the shortest prefix has
 -- that fails it; an answer that isn't a no; or, of a no whose sets the budget may not hold, that they are too large.
-abbrev pub IsRefuteReply : Present → ℤ → List ℕ → Option Status → Type 0
+abbrev pub IsRefuteReply : Present → Item → List ℕ → Option Status → Type 0
 IsRefuteReply now key text status =
     ((n : ℕ) × IsVerdict now (scope.Object key) (verdict.No n)
     × (text ≡ codes "refuted prefix " ++ decimal n ++ codes "\n") × (status ≡ Some status_of.No))

@@ -10,7 +10,7 @@ ghost use Rattle.lin_report.specs.MapCommands.{IsBlankOrNot, IsMade};
 
 use crate::senses::{Sense, Target, sense_of};
 use lin_edn::{EdnCause, EdnFault, Next, next_element, places, readings_are_unique};
-use lin_events::Event;
+use lin_events::{Event, Item};
 use lin_history::{EventFault, NextEvent, next_event};
 use lin_session::{Edit, Scope};
 use std::alloc::Global;
@@ -35,7 +35,7 @@ pub enum Command {
     /// The events that the file has now.
     Pull,
     /// A refutation of one object.
-    Refute(i64),
+    Refute(Item),
     /// Why the answer is what it is, for the whole or for one object.
     Explain(Scope),
 }
@@ -49,7 +49,7 @@ pub enum CommandFault {
     /// There are more or fewer words than the command has.
     #[error("2 BadWords")]
     BadWords,
-    /// A word is no number where one is due, or a number that is too large.
+    /// A word is no number or no key where one is due, or a number that is too large.
     #[error("3 BadNumber")]
     BadNumber,
     /// A word is no kind where one is due.
@@ -148,7 +148,7 @@ fn read_map(
 /// The command that a line writes, given without its end; `None` where it has no word. One byte 13 at its end is passed over.
 ///
 /// With `keyed`, the values of operation maps are pairs of a key and a value. Tested in this order: the length, the first word,
-/// the number of words, numbers from left to right, the word for a kind, and then the map.
+/// the number of words, numbers and keys from left to right, the word for a kind, and then the map.
 ///
 /// Errors: as `CommandFault` tells; want of memory only where the line has a place for a map.
 pub fn read_command(

@@ -15,7 +15,7 @@ use crate::explaining::scope_of;
 use crate::formats::Format;
 use crate::sessions::session_of;
 use lin_draw::picture_with_places;
-use lin_events::{Event, OutOfMemory};
+use lin_events::{Event, Item, OutOfMemory};
 use lin_explain::{Asked, explanation_of, read_placed};
 use lin_formats::{Counted, History, RunFault, Settings, Status, write_whole};
 use lin_places::Places;
@@ -42,7 +42,7 @@ fn picture_of(
 fn drawing_of(
     alloc: Global,
     settings: Settings,
-    key: Option<i64>,
+    key: Option<Item>,
     events: Vec<Event>,
     places: &Places,
 ) -> Result<Answered, OutOfMemory>
@@ -73,7 +73,7 @@ fn drawing_of(
 fn find<R: Read>(
     alloc: Global,
     settings: Settings,
-    key: Option<i64>,
+    key: Option<Item>,
     file: &mut Counted<R>,
 ) -> Result<Answered, RunFault>
     requires budget { (1 ≤ settings.budget) × (settings.budget ≤ 1000000) }
@@ -97,7 +97,7 @@ fn find<R: Read>(
 pub fn draw<R: Read, W: Write>(
     alloc: Global,
     settings: Settings,
-    key: Option<i64>,
+    key: Option<Item>,
     file: &mut Counted<R>,
     out: &mut Counted<W>,
 ) -> Result<Status, RunFault>

@@ -17,7 +17,7 @@ use crate::formats::Format;
 use crate::json_explanations::{json_explanation, json_refused};
 use crate::replies::Reply;
 use crate::sessions::session_of;
-use lin_events::{Event, OutOfMemory};
+use lin_events::{Event, Item, OutOfMemory};
 use lin_explain::{Asked, Explanation, Placed, explanation_of, read_placed, refusal_lines};
 use lin_formats::{
     Counted, History, Refusal, RunFault, Settings, Status, put_number, refusal_words, write_whole,
@@ -31,7 +31,7 @@ use std::io::{Read, Write};
 #[derive(Clone, Copy, Debug, PartialEq, Eq)]
 pub struct Question {
     /// The object of this key, or the whole.
-    pub key: Option<i64>,
+    pub key: Option<Item>,
     /// Whether a yes ends with its order.
     pub with_order: bool,
     /// How the explanation is printed.
@@ -39,7 +39,7 @@ pub struct Question {
 }
 
 /// The object of a key, or the whole.
-pub fn scope_of(key: Option<i64>) -> Scope
+pub fn scope_of(key: Option<Item>) -> Scope
     ensures { result ≡ scope_for key }
 {
     match key {
@@ -49,7 +49,7 @@ pub fn scope_of(key: Option<i64>) -> Scope
 }
 
 /// The key of a scope, if it is of one.
-fn key_of(scope: Scope) -> Option<i64>
+fn key_of(scope: Scope) -> Option<Item>
     ensures { result ≡ key_in scope }
 {
     match scope {

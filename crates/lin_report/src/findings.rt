@@ -7,7 +7,7 @@ ghost use Rattle.lin_report.specs.Reports as said;
 ghost use Rattle.lin_report.specs.Reports.{AreFindings, HasFound};
 
 use crate::answers::is_ill_formed;
-use lin_events::OutOfMemory;
+use lin_events::{Item, OutOfMemory};
 use lin_orders::{absent_keys_are_legal, linearizability_is_local};
 use lin_session::{Scope, Session, Verdict};
 use std::alloc::Global;
@@ -15,7 +15,7 @@ use std::alloc::Global;
 /// What is found of the object of a key.
 #[derive(Clone, Copy)]
 pub struct Finding {
-    pub key: i64,
+    pub key: Item,
     pub verdict: Verdict,
 }
 
@@ -33,7 +33,7 @@ pub struct Findings {
 fn find_objects(
     alloc: Global,
     session: &mut Session,
-    keys: &[i64],
+    keys: &[Item],
 ) -> Result<Vec<Finding>, OutOfMemory>
     ensures found { IfOk result (λ found. AreFindings session.old.present keys.now found.items) }
     ensures present { session.new.present ≡ session.old.present }
@@ -50,7 +50,7 @@ fn find_objects(
 fn find_each(
     alloc: Global,
     session: &mut Session,
-    keys: &[i64],
+    keys: &[Item],
     whole: Verdict,
 ) -> Result<Vec<Finding>, OutOfMemory>
     requires keys { AreKeys session.old.present.history keys.now }

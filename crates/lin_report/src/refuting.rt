@@ -12,7 +12,7 @@ ghost use Rattle.lin_report.specs.Runs.{IsCommandReply, IsRefuteReply};
 use crate::answers::verdict_of;
 use crate::commands::Command;
 use crate::replies::{Reply, answered};
-use lin_events::{Event, OutOfMemory, beginnings_are_well_formed};
+use lin_events::{Event, Item, OutOfMemory, beginnings_are_well_formed};
 use lin_formats::{Status, put_number};
 use lin_order::{Refutation, check_refutation, refutations_exclude_orders};
 use lin_orders::{parts_grow, parts_keep_operations, parts_keep_orders};
@@ -23,7 +23,7 @@ use std::alloc::{AllocError, Global};
 fn events_of(
     alloc: Global,
     session: &Session,
-    key: i64,
+    key: Item,
     count: usize,
 ) -> Result<Vec<Event>, OutOfMemory>
     requires { count ≤ length session.now.present.history }
@@ -57,7 +57,7 @@ fn refuted_line(alloc: Global, prefix: usize) -> Result<Vec<u8>, AllocError>
 fn checked(
     alloc: Global,
     session: &Session,
-    key: i64,
+    key: Item,
     prefix: usize,
     refutation: &Refutation,
 ) -> Result<Option<Reply>, OutOfMemory>
@@ -81,7 +81,7 @@ fn checked(
 }
 
 /// A refutation of the object, or its answer where that isn't a no.
-pub fn refute(alloc: Global, session: &mut Session, key: i64) -> Result<Reply, OutOfMemory>
+pub fn refute(alloc: Global, session: &mut Session, key: Item) -> Result<Reply, OutOfMemory>
     ensures { IfOk result (λ reply. IsCommandReply (Command.Refute key) session.old.present session.new.present reply.text.items reply.status) }
 {
     answers_are_verdicts();

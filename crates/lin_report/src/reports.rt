@@ -9,7 +9,7 @@ use crate::findings::{Finding, Findings, find};
 use crate::formats::Format;
 use crate::json_reports::put_json_report;
 use lin_events::OutOfMemory;
-use lin_formats::{Status, kind_word, put_integer, put_number};
+use lin_formats::{Status, kind_word, put_item, put_number};
 use lin_objects::Kind;
 use lin_session::{Session, Verdict};
 use std::alloc::{AllocError, Global};
@@ -40,7 +40,7 @@ fn put_line(alloc: Global, text: &mut Vec<u8>, kind: Kind, found: Finding) -> Re
     ensures { OnOk result (text.new.items ≡ text.old.items ++ line_text kind found) }
 {
     text.extend_from_slice(b"object ")?;
-    put_integer(text, found.key)?;
+    put_item(text, found.key)?;
     text.extend_from_slice(b" ")?;
     text.extend_from_slice(kind_word(kind).as_bytes())?;
     text.extend_from_slice(b": ")?;

@@ -5,8 +5,8 @@ ghost use Rattle.lin_report.specs.Commands as said;
 ghost use Rattle.lin_report.specs.MapCommands.{IsWithin};
 
 use crate::commands::{Command, CommandFault};
-use lin_events::Event;
-use lin_formats::{Word, integer, kind_named, next_word, number};
+use lin_events::{Event, Item};
+use lin_formats::{Word, item_in, kind_named, next_word, number};
 use lin_objects::Kind;
 use lin_session::{Edit, Scope};
 
@@ -147,14 +147,14 @@ fn number_in(line: &[u8], from: usize, most: u64) -> Result<u64, CommandFault>
 }
 
 /// The key that the only word behind a place writes.
-fn key_in(line: &[u8], from: usize) -> Result<i64, CommandFault>
+fn key_in(line: &[u8], from: usize) -> Result<Item, CommandFault>
     requires { from ≤ length line.now }
     ensures { result ≡ said.key_in (words_from from (drop from line.now)) }
 {
     let Some(word) = only_word(line, from) else {
         return Err(CommandFault::BadWords);
     };
-    integer(word.text).ok_or(CommandFault::BadNumber)
+    item_in(word.text).ok_or(CommandFault::BadNumber)
 }
 
 /// The object of the key that the only word behind a place writes, or the whole where there is none.
@@ -168,14 +168,14 @@ fn scope_in(line: &[u8], from: usize) -> Result<Scope, CommandFault>
     Ok(Scope::Object(key_in(line, from)?))
 }
 
-fn key_and_kind(line: &[u8], from: usize) -> Result<(i64, Kind), CommandFault>
+fn key_and_kind(line: &[u8], from: usize) -> Result<(Item, Kind), CommandFault>
     requires { from ≤ length line.now }
     ensures { result ≡ said.key_and_kind (words_from from (drop from line.now)) }
 {
     let Some((key, kind)) = both_words(line, from) else {
         return Err(CommandFault::BadWords);
     };
-    let Some(key) = integer(key.text) else {
+    let Some(key) = item_in(key.text) else {
         return Err(CommandFault::BadNumber);
     };
     match kind_named(kind.text) {

@@ -3,7 +3,8 @@ ghost use Rattle.lin_rows.specs.Histories.{IsScanned};
 
 use crate::words::first_number;
 use crate::{
-    Body, Call, Event, Kind, Kinds, Meter, Name, Reply, Scan, Shape, Val, look_back, orders, words,
+    Body, Call, Event, Item, Kind, Kinds, Meter, Name, Reply, Scan, Shape, Val, look_back, orders,
+    words,
 };
 use std::alloc::Global;
 
@@ -91,7 +92,7 @@ fn read_at(at: u64) -> Event {
     };
     Event {
         process,
-        key: 0,
+        key: Item::Int(0),
         body,
     }
 }

@@ -19,7 +19,7 @@ mod words;
 // What is called of the crates below is named here alone.
 use histories::History;
 use lin_edn::{Edn, Inside, Next, Series, Skim, nested_until, next_element};
-use lin_events::{Body, Call, Event, IntSet, Meter, Name, Reply, Shape, Val};
+use lin_events::{Body, Call, Event, IntSet, Item, Meter, Name, Reply, Shape, Val};
 use lin_history::{EventFault, Follow, FollowFault, NextEvent, event_of, next_event};
 use lin_objects::{Any, IntBag, IntQueue, Kind, Kinds, SeqObject, State};
 use lin_orders::{Placed, check_order, merge};

@@ -1,6 +1,6 @@
 //! Rows about sequential objects and their kinds.
-use crate::shown::{put_reply, put_state};
-use crate::{Any, Call, IntBag, IntQueue, Kind, Kinds, Name, Reply, SeqObject, State, words};
+use crate::shown::{put_items, put_reply, put_state};
+use crate::{Any, Call, IntBag, IntQueue, Item, Kind, Kinds, Name, Reply, SeqObject, State, words};
 use std::alloc::Global;
 
 const NAMES: [Name; 8] = [
@@ -173,20 +173,20 @@ pub fn has_taken(alloc: Global, text: &str, out: &mut String) -> Option<()> {
     write!(out, "{}", object.has_taken(&state, call)).ok()
 }
 
-/// `queue NUMBERS`: a copy of the queue of the numbers.
+/// `queue ITEMS`: a copy of the queue of the items.
 pub fn queue(alloc: Global, text: &str, out: &mut String) -> Option<()> {
-    let numbers = words::numbers(alloc, text)?;
-    let queue = IntQueue::from_vec(alloc, numbers).ok()?;
+    let items = words::items(alloc, text)?;
+    let queue = IntQueue::from_vec(alloc, items).ok()?;
     let copy = queue.copy().ok()?;
-    write!(out, "{:?}", copy.as_slice()).ok()
+    put_items(out, copy.as_slice())
 }
 
-/// `bag NUMBERS`: a copy of the bag of the numbers.
+/// `bag ITEMS`: a copy of the bag of the items.
 pub fn bag(alloc: Global, text: &str, out: &mut String) -> Option<()> {
-    let numbers = words::numbers(alloc, text)?;
-    let bag = IntBag::from_vec(alloc, numbers).ok()?;
+    let items = words::items(alloc, text)?;
+    let bag = IntBag::from_vec(alloc, items).ok()?;
     let copy = bag.copy().ok()?;
-    write!(out, "{:?}", copy.as_slice()).ok()
+    put_items(out, copy.as_slice())
 }
 
 /// Gives the keys from the first to the last a kind, up to the first refusal.
@@ -195,7 +195,7 @@ fn name_keys(kinds: &mut Kinds, keys: &str, kind: Kind, out: &mut String) -> Opt
     let first = first.parse::<i64>().ok()?;
     let last = last.parse::<i64>().ok()?;
     for key in first..=last {
-        if let Err(fault) = kinds.set(key, kind) {
+        if let Err(fault) = kinds.set(Item::Int(key), kind) {
             return write!(out, "{fault:?} ").ok();
         }
     }
@@ -209,7 +209,7 @@ pub fn kinds(alloc: Global, text: &str, out: &mut String) -> Option<()> {
     for word in rest.split_whitespace() {
         match word.split_once('=') {
             Some((keys, kind)) => name_keys(&mut kinds, keys, words::kind(kind)?, out)?,
-            None => write!(out, "{:?} ", kinds.of(word.parse::<i64>().ok()?)).ok()?,
+            None => write!(out, "{:?} ", kinds.of(words::item(word)?)).ok()?,
         }
     }
     Some(())

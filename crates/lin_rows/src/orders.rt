@@ -1,6 +1,6 @@
 //! Rows about orders of a history.
 use crate::shown::put_order;
-use crate::{Event, Kinds, Placed, Reply, Val, check_order, merge, words};
+use crate::{Event, Item, Kinds, Placed, Reply, Val, check_order, merge, words};
 use std::alloc::Global;
 
 /// `order KINDS|OPERATIONS`: whether the operations are a legal order of the history.
@@ -92,7 +92,7 @@ fn pair(alloc: Global, at: usize, count: usize) -> Option<Vec<Placed>> {
     };
     let read = Placed {
         at: at.checked_add(count)?,
-        reply: Reply::Value(Val::Int(1)),
+        reply: Reply::Value(Val::Item(Item::Int(1))),
     };
     vec![in alloc; write, read].ok()
 }

@@ -1,18 +1,37 @@
 //! How answers are shown.
-use crate::{Body, Event, EventFault, Name, Placed, Reply, State, Val};
+use crate::{Body, Event, EventFault, Item, Name, Placed, Reply, State, Val};
+
+fn put_item(out: &mut String, item: Item) -> Option<()> {
+    match item {
+        Item::Int(number) => write!(out, "{number}").ok(),
+        Item::Bool(truth) => write!(out, "{truth}").ok(),
+    }
+}
 
 fn put_value(out: &mut String, value: Val) -> Option<()> {
     match value {
         Val::Nil => out.push_str("nil").ok(),
-        Val::Int(number) => write!(out, "{number}").ok(),
+        Val::Item(item) => put_item(out, item),
     }
+}
+
+/// The items in brackets.
+pub fn put_items(out: &mut String, items: &[Item]) -> Option<()> {
+    out.push('[').ok()?;
+    for (at, item) in items.iter().enumerate() {
+        if at > 0 {
+            out.push_str(", ").ok()?;
+        }
+        put_item(out, *item)?;
+    }
+    out.push(']').ok()
 }
 
 pub fn put_reply(out: &mut String, reply: &Reply) -> Option<()> {
     match reply {
         Reply::Done => out.push_str("done").ok(),
         Reply::Value(value) => put_value(out, *value),
-        Reply::Members(members) => write!(out, "{:?}", members.as_slice()).ok(),
+        Reply::Members(members) => put_items(out, members.as_slice()),
     }
 }
 
@@ -20,10 +39,10 @@ pub fn put_reply(out: &mut String, reply: &Reply) -> Option<()> {
 pub fn put_state(out: &mut String, state: &State) -> Option<()> {
     match state {
         State::Value(value) => put_value(out, *value),
-        State::Queue(queue) => write!(out, "{:?}", queue.as_slice()).ok(),
-        State::Members(members) => write!(out, "{:?}", members.as_slice()).ok(),
+        State::Queue(queue) => put_items(out, queue.as_slice()),
+        State::Members(members) => put_items(out, members.as_slice()),
         State::Held(held) => write!(out, "{held}").ok(),
-        State::Bag(bag) => write!(out, "{:?}", bag.as_slice()).ok(),
+        State::Bag(bag) => put_items(out, bag.as_slice()),
     }
 }
 
@@ -47,8 +66,9 @@ fn put_body(out: &mut String, body: &Body) -> Option<()> {
 /// The process, the key where it isn't 0, and what the event says.
 pub fn put_event(out: &mut String, event: &Event) -> Option<()> {
     write!(out, "{}", event.process).ok()?;
-    if event.key != 0 {
-        write!(out, "@{}", event.key).ok()?;
+    if event.key != Item::Int(0) {
+        out.push('@').ok()?;
+        put_item(out, event.key)?;
     }
     put_body(out, &event.body)
 }

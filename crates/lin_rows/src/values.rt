@@ -1,5 +1,5 @@
 //! Rows about events and what they are made of.
-use crate::shown::{put_event, put_said};
+use crate::shown::{put_event, put_items, put_said};
 use crate::{IntSet, Meter, Next, NextEvent, event_of, next_element, next_event, words};
 use std::alloc::Global;
 use std::mem;
@@ -41,7 +41,7 @@ pub fn copy(alloc: Global, word: &str, out: &mut String) -> Option<()> {
     write!(out, ", equal: {}", copy == event).ok()
 }
 
-/// `set WORDS`: a set and another, both empty at first. A number is put into the set, `copy` makes the other one a copy of it, and
+/// `set WORDS`: a set and another, both empty at first. An item is put into the set, `copy` makes the other one a copy of it, and
 /// `swap` swaps the two.
 pub fn set(alloc: Global, text: &str, out: &mut String) -> Option<()> {
     let mut set = IntSet::new(alloc);
@@ -50,10 +50,12 @@ pub fn set(alloc: Global, text: &str, out: &mut String) -> Option<()> {
         match word {
             "copy" => other = set.copy().ok()?,
             "swap" => mem::swap(&mut set, &mut other),
-            _ => set.insert(word.parse::<i64>().ok()?).ok()?,
+            _ => set.insert(words::item(word)?).ok()?,
         }
     }
-    write!(out, "{:?} {:?}", set.as_slice(), other.as_slice()).ok()
+    put_items(out, set.as_slice())?;
+    out.push(' ').ok()?;
+    put_items(out, other.as_slice())
 }
 
 /// `meter WORDS`: what is counted once each of the words `scan`, `step` and `try` was ticked.

@@ -3,7 +3,7 @@
 //! An event is `PROCESS/TYPE/FUNCTION`, as `0/invoke/read`, with the value behind it, as `0/invoke/write/7`, and with a key other
 //! than 0 as `0@1/ok/write`. A call is `write/7`, a reply `done`, `nil`, `7` or `[1,2]`, and an operation of an order the position of its
 //! invocation with its reply, as `4:7`.
-use crate::{Any, Body, Call, Event, Kind, Kinds, NextEvent, Placed, Reply, next_event};
+use crate::{Any, Body, Call, Event, Item, Kind, Kinds, NextEvent, Placed, Reply, next_event};
 use std::alloc::Global;
 
 /// The first word, and what stands behind the space that ends it.
@@ -31,6 +31,23 @@ pub fn numbers(alloc: Global, words: &str) -> Option<Vec<i64>> {
         numbers.push(word.parse::<i64>().ok()?).ok()?;
     }
     Some(numbers)
+}
+
+/// A key, or an element or a value that isn't nil.
+pub fn item(word: &str) -> Option<Item> {
+    match word {
+        "false" => Some(Item::Bool(false)),
+        "true" => Some(Item::Bool(true)),
+        _ => Some(Item::Int(word.parse::<i64>().ok()?)),
+    }
+}
+
+pub fn items(alloc: Global, words: &str) -> Option<Vec<Item>> {
+    let mut items = Vec::new(alloc);
+    for word in words.split_whitespace() {
+        items.push(item(word)?).ok()?;
+    }
+    Some(items)
 }
 
 pub fn kind(word: &str) -> Option<Kind> {
@@ -67,7 +84,7 @@ pub fn event(alloc: Global, word: &str) -> Option<Event> {
     let (process, key) = client.split_once('@').unwrap_or((client, "0"));
     let map = map_of(alloc, process, rest)?;
     let mut event = event_of_map(alloc, map.as_str())?;
-    event.key = key.parse::<i64>().ok()?;
+    event.key = item(key)?;
     Some(event)
 }
 
@@ -107,7 +124,7 @@ pub fn kinds(alloc: Global, text: &str) -> Option<Kinds> {
     let mut kinds = Kinds::new(alloc, kind(default)?);
     for word in rest.split_whitespace() {
         let (key, name) = word.split_once('=')?;
-        kinds.set(key.parse::<i64>().ok()?, kind(name)?).ok()?;
+        kinds.set(item(key)?, kind(name)?).ok()?;
     }
     Some(kinds)
 }

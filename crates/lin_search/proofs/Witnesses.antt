@@ -1,11 +1,12 @@
 -- A legal order of a history, all of whose events are of one key, is one of the key's object.
-use Rattle.std.proofs.Common.{◌≡◌, ◌<◌, ◌+◌, ℕ, zero, suc, ℤ, Bool, true, false, cond, List, [], ◌∷◌, ◌++◌, All, filter, get_or, length, slice_get, take, refl, ap, subst, ◌∙◌, arith}
+use Rattle.std.proofs.Common.{◌≡◌, ◌<◌, ◌+◌, ℕ, zero, suc, Bool, true, false, cond, List, [], ◌∷◌, ◌++◌, All, filter, get_or, length, slice_get, take, refl, ap, subst, ◌∙◌, arith}
 use Rattle.std.specs.Option.{option_map_or}
-use Rattle.std.specs.Ordering.{int_eq}
 use Rattle.std.proofs.Math.Seq.{take-suc}
-use Rattle.std.proofs.lemmas.Bool.Decides.{Decides-int_eq}
 use Rattle.std.proofs.lemmas.List.Elements.{filter_map-append}
 use Rattle.std.proofs.lemmas.Option.{get_or_from_slice_get, slice_get_within}
+use Rattle.lin_events.specs.declared.items.Item.{Item}
+use Rattle.lin_events.specs.Sameness.{Decides-item_eq}
+use Rattle.lin_events.specs.Items.{item_eq}
 use Rattle.lin_events.specs.declared.calls.Call.{Call}
 use Rattle.lin_events.specs.declared.events.Body.TheVariants.{Invoke}
 use Rattle.lin_events.specs.declared.events.Event.{Event}
@@ -24,15 +25,15 @@ kept_all {X} p (x ∷ xs) all =
     ap (λ b. cond b (x ∷ filter p xs) (filter p xs)) (all zero x (omega arith)) ∙ ap (λ l. x ∷ l) (kept_all p xs (λ k d within. all (suc k) d (omega (arith, within))))
 
 -- an operation of the history is of the key
-of_key : (key : ℤ) (h : List Event) → All (λ event. event.key ≡ key) h → (at : ℕ) (call : Call) → IsCall h at call → is_of_key h key at ≡ true
+of_key : (key : Item) (h : List Event) → All (λ event. event.key ≡ key) h → (at : ℕ) (call : Call) → IsCall h at call → is_of_key h key at ≡ true
 of_key key h all at call is =
     let event : Event = record { process = is.0; key = is.1; body = Invoke call } in
     let within = slice_get_within h at event is.2 in
     let same : is.1 ≡ key = subst (λ (e : Event). e.key ≡ key) (get_or_from_slice_get h at event event is.2) (all at event within) in
-    ap (λ o. option_map_or (λ (e : Event). int_eq e.key key) o false) is.2 ∙ (Decides-int_eq is.1 key).1 same
+    ap (λ o. option_map_or (λ (e : Event). item_eq e.key key) o false) is.2 ∙ (Decides-item_eq is.1 key).1 same
 
 -- so the whole order is the part of it that is of the key
-pub legal_as : (kind : Kind) (key : ℤ) (h : List Event) (order : List Placed) → All (λ event. event.key ≡ key) h → IsLegalOrder (kind_of (same_for_all kind)) h order → IsLegalOrderAs kind h order
+pub legal_as : (kind : Kind) (key : Item) (h : List Event) (order : List Placed) → All (λ event. event.key ≡ key) h → IsLegalOrder (kind_of (same_for_all kind)) h order → IsLegalOrderAs kind h order
 legal_as kind key h order all legal =
     let whole : part_of h key order ≡ order = kept_all (λ (p : Placed). is_of_key h key p.at) order
     (λ k d within. let p = legal.order_of.operations k d within in of_key key h all (get_or order k d).at p.0 p.1) in

@@ -51,7 +51,7 @@ impl Making {
             copies.inside = copies.inside.saturating_sub(1);
             self.order.push(Placed {
                 at: dequeue,
-                reply: Reply::Value(Val::Int(copies.number)),
+                reply: Reply::Value(Val::Item(copies.item)),
             })?;
         }
         Ok(())

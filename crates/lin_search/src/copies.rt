@@ -1,10 +1,10 @@
-//! What the operations of a bag did, as far as its whole history tells. Copies of a number are alike.
+//! What the operations of a bag did, as far as its whole history tells. Copies of an item are alike.
 use crate::operations::{NEVER, Operation, Span, gathered};
-use lin_events::{Body, Call, Event, OutOfMemory, Reply, Val};
+use lin_events::{Body, Call, Event, Item, OutOfMemory, Reply, Val};
 use std::alloc::Global;
 use std::collections::HashMap;
 
-/// A dequeue that took a number out.
+/// A dequeue that took an item out.
 #[derive(Clone, Copy)]
 pub struct Exit {
     pub dequeue: Span,
@@ -13,10 +13,10 @@ pub struct Exit {
     spare: usize,
 }
 
-/// The operations of a number, on the way through the history.
+/// The operations of an item, on the way through the history.
 #[derive(Drop)]
 pub struct Copies {
-    pub number: i64,
+    pub item: Item,
     /// How many copies are in the bag.
     pub inside: usize,
     /// Whether it is listed with those that have some there.
@@ -36,9 +36,9 @@ pub struct Copies {
 }
 
 impl Copies {
-    fn new(alloc: Global, number: i64) -> Copies {
+    fn new(alloc: Global, item: Item) -> Copies {
         Copies {
-            number,
+            item,
             inside: 0,
             is_listed: false,
             exits: Vec::new(alloc),
@@ -178,8 +178,8 @@ pub enum Moment {
 pub struct Bag {
     pub copies: Vec<Copies>,
     pub moments: Vec<Option<Moment>>,
-    /// Where the copies of a number are.
-    places: HashMap<i64, usize>,
+    /// Where the copies of an item are.
+    places: HashMap<Item, usize>,
 }
 
 impl Bag {
@@ -196,7 +196,7 @@ impl Bag {
         })
     }
 
-    /// That of the events, if no number is taken out more often than it can be put in before.
+    /// That of the events, if no item is taken out more often than it can be put in before.
     pub fn of(alloc: Global, events: &[Event]) -> Result<Option<Bag>, OutOfMemory> {
         let mut operations = gathered(alloc, events)?;
         operations.sort_unstable_by_key(|operation| operation.span.end);
@@ -207,14 +207,14 @@ impl Bag {
         Ok(if bag.count_spares() { Some(bag) } else { None })
     }
 
-    /// Where the copies of the number are.
-    fn place_of(&mut self, alloc: Global, number: i64) -> Result<usize, OutOfMemory> {
-        if let Some(place) = self.places.get(&number) {
+    /// Where the copies of the item are.
+    fn place_of(&mut self, alloc: Global, item: Item) -> Result<usize, OutOfMemory> {
+        if let Some(place) = self.places.get(&item) {
             return Ok(*place);
         }
         let place = self.copies.len();
-        self.copies.push(Copies::new(alloc, number))?;
-        self.places.insert(number, place)?;
+        self.copies.push(Copies::new(alloc, item))?;
+        self.places.insert(item, place)?;
         Ok(place)
     }
 
@@ -232,15 +232,15 @@ impl Bag {
         events: &[Event],
     ) -> Result<(), OutOfMemory> {
         let span = operation.span;
-        if let Call::Enqueue(number) = operation.call {
-            let copies = self.place_of(alloc, number)?;
+        if let Call::Enqueue(item) = operation.call {
+            let copies = self.place_of(alloc, item)?;
             self.note(span.begin, Moment::EnqueueBegins(copies, span));
             self.note(span.end, Moment::EnqueueEnds(copies, span));
             return Ok(());
         }
         match events.get(span.end).map(|event| &event.body) {
-            Some(Body::Ok(_, Reply::Value(Val::Int(number)))) => {
-                self.add_exit(alloc, *number, span)
+            Some(Body::Ok(_, Reply::Value(Val::Item(item)))) => {
+                self.add_exit(alloc, *item, span)
             }
             Some(_) => {
                 self.note(span.begin, Moment::VainBegins);
@@ -254,9 +254,9 @@ impl Bag {
         }
     }
 
-    /// The dequeue took the number out.
-    fn add_exit(&mut self, alloc: Global, number: i64, dequeue: Span) -> Result<(), OutOfMemory> {
-        let place = self.place_of(alloc, number)?;
+    /// The dequeue took the item out.
+    fn add_exit(&mut self, alloc: Global, item: Item, dequeue: Span) -> Result<(), OutOfMemory> {
+        let place = self.place_of(alloc, item)?;
         if let Some(copies) = self.copies.get_mut(place) {
             let rank = copies.add_exit(dequeue)?;
             self.note(dequeue.begin, Moment::DequeueBegins(place, rank));

@@ -1,13 +1,13 @@
-//! What the operations of a queue did, as far as its whole history tells, where each number is put in once.
+//! What the operations of a queue did, as far as its whole history tells, where each item is put in once.
 use crate::operations::{NEVER, Operation, Span, gathered};
-use lin_events::{Body, Call, Event, OutOfMemory, Reply, Val};
+use lin_events::{Body, Call, Event, Item, OutOfMemory, Reply, Val};
 use std::alloc::Global;
 use std::collections::HashMap;
 
-/// A number that is put in a queue.
+/// An item that is put in a queue.
 #[derive(Clone, Copy)]
 pub struct Element {
-    pub number: i64,
+    pub item: Item,
     pub enqueue: Span,
     /// The dequeue that found it, if one did.
     pub dequeue: Option<Span>,
@@ -44,7 +44,7 @@ pub struct Queue {
 }
 
 impl Queue {
-    /// That of the events, if each number is put in once, and taken out only where it is put in, and once.
+    /// That of the events, if each item is put in once, and taken out only where it is put in, and once.
     pub fn of(alloc: Global, events: &[Event]) -> Result<Option<Queue>, OutOfMemory> {
         let operations = gathered(alloc, events)?;
         let mut queue = Queue {
@@ -65,21 +65,21 @@ impl Queue {
         Ok(Some(queue))
     }
 
-    /// Notes the enqueues; where the numbers stand among the elements, unless one is put in twice.
+    /// Notes the enqueues; where the items stand among the elements, unless one is put in twice.
     fn put_in(
         &mut self,
         alloc: Global,
         operations: &[Operation],
-    ) -> Result<Option<HashMap<i64, usize>>, OutOfMemory> {
+    ) -> Result<Option<HashMap<Item, usize>>, OutOfMemory> {
         let mut places = HashMap::new(alloc);
         for operation in operations {
-            if let Call::Enqueue(number) = operation.call {
-                if places.contains_key(&number) {
+            if let Call::Enqueue(item) = operation.call {
+                if places.contains_key(&item) {
                     return Ok(None);
                 }
-                places.insert(number, self.elements.len())?;
+                places.insert(item, self.elements.len())?;
                 self.elements.push(Element {
-                    number,
+                    item,
                     enqueue: operation.span,
                     dequeue: None,
                     group: NEVER,
@@ -92,7 +92,7 @@ impl Queue {
     /// Notes the dequeue, unless it found what isn't there.
     fn take_out(
         &mut self,
-        places: &HashMap<i64, usize>,
+        places: &HashMap<Item, usize>,
         operation: &Operation,
         events: &[Event],
     ) -> Result<bool, OutOfMemory> {
@@ -100,14 +100,11 @@ impl Queue {
             self.open.push(operation.span.begin)?;
             return Ok(true);
         };
-        let Body::Ok(_, Reply::Value(Val::Int(number))) = event.body else {
+        let Body::Ok(_, Reply::Value(Val::Item(item))) = event.body else {
             self.vain.push(operation.span)?;
             return Ok(true);
         };
-        let Some(element) = places
-            .get(&number)
-            .and_then(|at| self.elements.get_mut(*at))
-        else {
+        let Some(element) = places.get(&item).and_then(|at| self.elements.get_mut(*at)) else {
             return Ok(false);
         };
         let is_first = element.dequeue.is_none();

@@ -1,4 +1,4 @@
-//! A search for a legal order of a queue's operations, of numbers that are put in once each: the order of the elements is looked for
+//! A search for a legal order of a queue's operations, of items that are put in once each: the order of the elements is looked for
 //! first, and then each operation stands where it returns at the latest. Whatever it finds is checked; that it finds one isn't promised.
 use crate::elements::{Element, Queue};
 use crate::ranks::{Vacancy, ranked, vacancies};
@@ -47,7 +47,7 @@ impl<'a> Making<'a> {
             if let Some(element) = self.elements.get(rank) {
                 self.order.push(Placed {
                     at: element.out_from(),
-                    reply: Reply::Value(Val::Int(element.number)),
+                    reply: Reply::Value(Val::Item(element.item)),
                 })?;
             }
         }

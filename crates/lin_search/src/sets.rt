@@ -1,7 +1,7 @@
 //! A search for a legal order of a set's operations: the set only grows, so what reads found tells their order. Whatever it finds is
 //! checked; that it finds one isn't promised.
 use crate::operations::{NEVER, Operation, Span, gathered};
-use lin_events::{Body, Call, Event, OutOfMemory, Reply};
+use lin_events::{Body, Call, Event, Item, OutOfMemory, Reply};
 use lin_orders::Placed;
 use std::alloc::Global;
 use std::collections::HashMap;
@@ -10,25 +10,25 @@ use std::collections::HashMap;
 #[derive(Clone, Copy)]
 pub struct Found<'a> {
     pub span: Span,
-    pub members: &'a [i64],
+    pub members: &'a [Item],
 }
 
-/// What is known of the adds of a number.
+/// What is known of the adds of an item.
 #[derive(Clone, Copy)]
-struct Number {
+struct Adds {
     /// The add that was invoked first.
     first: usize,
     /// The first of the levels that have it, or `NEVER`.
     level: usize,
 }
 
-/// Reads that found equally many numbers make a level. Where there is an order, these are the same numbers.
+/// Reads that found equally many items make a level. Where there is an order, these are the same items.
 #[derive(Clone, Copy)]
 struct Level {
     size: usize,
     /// The place behind which all reads of earlier levels can be done.
     from: usize,
-    /// The place behind which all its numbers can be in.
+    /// The place behind which all its items can be in.
     full: usize,
     /// The place behind which all its reads can be done too.
     done: usize,
@@ -53,7 +53,7 @@ pub fn found_by<'a>(operation: &Operation, events: &'a [Event]) -> Option<Found<
     }
 }
 
-/// The reads that returned, those with the fewest numbers first.
+/// The reads that returned, those with the fewest items first.
 fn reads<'a>(
     alloc: Global,
     operations: &[Operation],
@@ -69,48 +69,48 @@ fn reads<'a>(
     Ok(reads)
 }
 
-/// The numbers that are added.
-fn added(alloc: Global, operations: &[Operation]) -> Result<HashMap<i64, Number>, OutOfMemory> {
-    let mut numbers = HashMap::new(alloc);
+/// The items that are added.
+fn added(alloc: Global, operations: &[Operation]) -> Result<HashMap<Item, Adds>, OutOfMemory> {
+    let mut adds = HashMap::new(alloc);
     for operation in operations {
-        if let Call::Add(number) = operation.call
-            && !numbers.contains_key(&number)
+        if let Call::Add(item) = operation.call
+            && !adds.contains_key(&item)
         {
-            let first = Number {
+            let first = Adds {
                 first: operation.span.begin,
                 level: NEVER,
             };
-            numbers.insert(number, first)?;
+            adds.insert(item, first)?;
         }
     }
-    Ok(numbers)
+    Ok(adds)
 }
 
-/// Numbers that the read found, and no read of an earlier level, are of this one. The place behind which all of them can be in, if they
+/// Items that the read found, and no read of an earlier level, are of this one. The place behind which all of them can be in, if they
 /// are added.
 fn settle(
-    numbers: &mut HashMap<i64, Number>,
+    adds: &mut HashMap<Item, Adds>,
     read: &Found,
     level: usize,
 ) -> Result<Option<usize>, OutOfMemory> {
     let mut full = 0;
     for member in read.members {
-        let Some(number) = numbers.get(member).copied() else {
+        let Some(known) = adds.get(member).copied() else {
             return Ok(None);
         };
-        full = number.first.max(full);
-        if number.level == NEVER {
-            numbers.insert(*member, Number { level, ..number })?;
+        full = known.first.max(full);
+        if known.level == NEVER {
+            adds.insert(*member, Adds { level, ..known })?;
         }
     }
     Ok(Some(full))
 }
 
-/// The levels of the reads, if each number that they found is added.
+/// The levels of the reads, if each item that they found is added.
 fn levels(
     alloc: Global,
     reads: &[Found],
-    numbers: &mut HashMap<i64, Number>,
+    adds: &mut HashMap<Item, Adds>,
 ) -> Result<Option<Vec<Level>>, OutOfMemory> {
     let mut levels: Vec<Level> = Vec::new(alloc);
     for read in reads {
@@ -122,7 +122,7 @@ fn levels(
             continue;
         }
         let from = levels.last().map_or(0, |level| level.done);
-        let Some(full) = settle(numbers, read, levels.len())? else {
+        let Some(full) = settle(adds, read, levels.len())? else {
             return Ok(None);
         };
         let full = full.max(from);
@@ -137,17 +137,17 @@ fn levels(
 }
 
 /// Where an add may stand, if it has to.
-fn spot_of(operation: &Operation, number: Number, levels: &[Level]) -> Option<Spot> {
-    let is_first = number.level != NEVER && number.first == operation.span.begin;
+fn spot_of(operation: &Operation, adds: Adds, levels: &[Level]) -> Option<Spot> {
+    let is_first = adds.level != NEVER && adds.first == operation.span.begin;
     if operation.span.end == NEVER && !is_first {
         return None;
     }
-    let from = match levels.get(number.level) {
+    let from = match levels.get(adds.level) {
         Some(level) => level.from,
         None => levels.last().map_or(0, |level| level.done),
     };
     Some(Spot {
-        at: (operation.span.begin.max(from), number.level, false),
+        at: (operation.span.begin.max(from), adds.level, false),
         operation: operation.span,
     })
 }
@@ -156,13 +156,13 @@ fn spot_of(operation: &Operation, number: Number, levels: &[Level]) -> Option<Sp
 fn place_adds(
     spots: &mut Vec<Spot>,
     operations: &[Operation],
-    numbers: &HashMap<i64, Number>,
+    adds: &HashMap<Item, Adds>,
     levels: &[Level],
 ) -> Result<(), OutOfMemory> {
     for operation in operations {
-        if let Call::Add(number) = operation.call
-            && let Some(number) = numbers.get(&number)
-            && let Some(spot) = spot_of(operation, *number, levels)
+        if let Call::Add(item) = operation.call
+            && let Some(adds) = adds.get(&item)
+            && let Some(spot) = spot_of(operation, *adds, levels)
         {
             spots.push(spot)?;
         }
@@ -211,12 +211,12 @@ fn spelled(alloc: Global, spots: &[Spot], events: &[Event]) -> Result<Vec<Placed
 pub fn set_order(alloc: Global, events: &[Event]) -> Result<Option<Vec<Placed>>, OutOfMemory> {
     let operations = gathered(alloc, events)?;
     let reads = reads(alloc, &operations, events)?;
-    let mut numbers = added(alloc, &operations)?;
-    let Some(levels) = levels(alloc, &reads, &mut numbers)? else {
+    let mut adds = added(alloc, &operations)?;
+    let Some(levels) = levels(alloc, &reads, &mut adds)? else {
         return Ok(None);
     };
     let mut spots = Vec::new(alloc);
-    place_adds(&mut spots, &operations, &numbers, &levels)?;
+    place_adds(&mut spots, &operations, &adds, &levels)?;
     place_reads(&mut spots, &reads, &levels)?;
     spots.sort_unstable_by_key(|spot| spot.at);
     Ok(Some(spelled(alloc, &spots, events)?))

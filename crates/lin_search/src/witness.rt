@@ -2,7 +2,7 @@
 //!
 //! What goes through events counts a step for each of them: the search for an order, the check of it, the search for a failure, and the
 //! check of the conflict that it found. The check of an order counts a try for each operation of it.
-ghost use Rattle.std.specs.Prelude.{◌≡◌, ◌≢◌, ◌≤◌, ◌+◌, ◌*◌, ◌∷◌, ◌++◌, [], ℤ, None, Ok, All, IfOk, IfSome, IsTrue, OnOk, length};
+ghost use Rattle.std.specs.Prelude.{◌≡◌, ◌≢◌, ◌≤◌, ◌+◌, ◌*◌, ◌∷◌, ◌++◌, [], None, Ok, All, IfOk, IfSome, IsTrue, OnOk, length};
 ghost use Rattle.lin_events.specs.Meters.{ticked};
 ghost use Rattle.lin_objects.specs.declared.kinds.Kind.TheVariants.{Mutex};
 ghost use Rattle.lin_objects.specs.Kinds.{kind_of, same_for_all};
@@ -12,7 +12,7 @@ ghost use Rattle.lin_orders.specs.Parts.{events_at};
 use crate::bags::bag_order;
 use crate::queues::queue_order;
 use crate::sets::set_order;
-use lin_events::{Event, Meter, OutOfMemory};
+use lin_events::{Event, Item, Meter, OutOfMemory};
 use lin_failures::{
     BagConflict, Conflict, QueueConflict, SetConflict, bag_failure, is_bag_refuted,
     is_queue_refuted, is_refuted, is_set_refuted, queue_failure, set_failure,
@@ -102,7 +102,7 @@ fn attempted(
 }
 
 /// Whether all events are of the key.
-fn are_of(events: &[Event], key: i64) -> bool
+fn are_of(events: &[Event], key: Item) -> bool
     ensures { IsTrue result → All (λ event. event.key ≡ key) events.now }
 {
     for event in events {
@@ -146,7 +146,7 @@ fn shown(
     ensures most { meter.new.steps ≤ meter.old.steps + length events.now }
     ensures scans { meter.new.scans ≡ meter.old.scans }
 {
-    let key = events.first().map_or(0, |event| event.key);
+    let key = events.first().map_or(Item::Int(0), |event| event.key);
     if !are_of(events, key) {
         return Ok(None);
     }
@@ -181,7 +181,7 @@ fn shown_of(
 
 /// A legal order of the events at the places, which all are of one key, if one is found. Of events of several keys none is.
 ///
-/// Orders of registers, of sets, of bags, and of queues in which no number is put twice, are looked for. Takes time and memory linear in
+/// Orders of registers, of sets, of bags, and of queues in which no item is put twice, are looked for. Takes time and memory linear in
 /// the events, apart from how many operations are open at a time, from the time to sort them, and from what reads of sets found.
 /// `OutOfMemory` is answered only where memory was refused. The order names operations by their places among these events.
 ///
@@ -321,7 +321,7 @@ fn failing_of(
 
 /// Which of the events at the places is the one at which the shortest beginning without a legal order ends, if one is found.
 ///
-/// Looked at are registers, where values are left by one update each, queues, where numbers are put in once each, bags, and sets. Takes
+/// Looked at are registers, where values are left by one update each, queues, where items are put in once each, bags, and sets. Takes
 /// time and memory linear in the events, apart from how many operations are open at a time, and from what reads of sets found.
 /// `OutOfMemory` is answered only where memory was refused.
 ///

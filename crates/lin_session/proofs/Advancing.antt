@@ -1,7 +1,9 @@
 -- The object that is listed at a place, while its chain takes events in.
-use Rattle.std.proofs.Common.{None, ◌≡◌, ◌≢◌, ◌<◌, ◌≤◌, ◌+◌, ℕ, zero, suc, min, ℤ, pos, Bool, List, [], ◌∷◌, Some, length, slice_get, get_or, set, inl, inr, refl, sym, ap, subst, ◌∙◌, arith}
+use Rattle.std.proofs.Common.{None, ◌≡◌, ◌≢◌, ◌<◌, ◌≤◌, ℕ, zero, suc, min, pos, Bool, List, [], ◌∷◌, Some, length, slice_get, get_or, set, inl, inr, refl, sym, ap, subst, ◌∙◌, arith}
 use Rattle.std.proofs.lemmas.List.{length-set}
 use Rattle.std.proofs.lemmas.Option.{slice_get-get_or, slice_get_within, same_Some}
+use Rattle.lin_events.specs.declared.items.Item.{Item}
+use Rattle.lin_events.specs.declared.items.Item.TheVariants.{Int}
 use Rattle.lin_events.specs.declared.calls.Name.{Name}
 use Rattle.lin_events.specs.declared.events.Event.{Event}
 use Rattle.lin_events.specs.WellFormed.{IsWellFormed}
@@ -49,19 +51,19 @@ module _ (s : Objects) (i : ℕ) (listed : i < length s.keys.keys) (old : Object
         | inr elsewhere ↦ absurd (elsewhere.0 refl)
       ]
 
-  pub marks_stay : (new : Object) → new.mark ≡ old.mark → (x : ℤ) → mark_of (listed_marks s.keys.keys (set s.objects.items i new)) x ≡ mark_of (listed_marks s.keys.keys s.objects.items) x
+  pub marks_stay : (new : Object) → new.mark ≡ old.mark → (x : Item) → mark_of (listed_marks s.keys.keys (set s.objects.items i new)) x ≡ mark_of (listed_marks s.keys.keys s.objects.items) x
   marks_stay new mark = mark_set_same s.keys.keys s.objects.items i old new old_at mark
 
   -- its key
-  key_there : ℤ
-  key_there = get_or s.keys.keys i (pos 0)
+  key_there : Item
+  key_there = get_or s.keys.keys i (Int (pos 0))
 
   key_is : slice_get s.keys.keys i ≡ Some key_there
   unfolding key_there
-  key_is = slice_get-get_or s.keys.keys i (pos 0) listed
+  key_is = slice_get-get_or s.keys.keys i (Int (pos 0)) listed
 
-  module _ (spell : PositionsSpellParts) (budget : ℕ) (h : List Event) (all : split_in s ≡ length h) (kinds : ℤ → Kind) (kept : AreRight s kinds budget h) where
-    pub object_there : (key : ℤ) → slice_get s.keys.keys i ≡ Some key → IsObject kinds budget h s.split key old
+  module _ (spell : PositionsSpellParts) (budget : ℕ) (h : List Event) (all : split_in s ≡ length h) (kinds : Item → Kind) (kept : AreRight s kinds budget h) where
+    pub object_there : (key : Item) → slice_get s.keys.keys i ≡ Some key → IsObject kinds budget h s.split key old
     object_there key key_at = kept.each i key old key_at old_at
 
     is_there : IsObject kinds budget h s.split key_there old
@@ -76,7 +78,7 @@ module _ (s : Objects) (i : ℕ) (listed : i < length s.keys.keys) (old : Object
     pub right_there : IsRight old.chain (events_at h old.picks.items)
     right_there = right_spelled spell kinds budget h s.split key_there old all is_there
 
-    pub fine_there : PartsAreWellFormed → IsWellFormed (functions_of kinds) h → (functions : ℤ → Name → Bool) × IsWellFormed functions (events_at h old.picks.items)
+    pub fine_there : PartsAreWellFormed → IsWellFormed (functions_of kinds) h → (functions : Item → Name → Bool) × IsWellFormed functions (events_at h old.picks.items)
     fine_there law fine = (functions_of kinds, well_formed_spelled spell kinds budget h s.split key_there old all is_there law fine)
 
     -- what is kept once the chain took some in

@@ -1,10 +1,11 @@
 -- What is kept of the objects, around an event that leaves or comes.
-use Rattle.std.proofs.Common.{◌≡◌, ◌≢◌, ◌<◌, ◌≤◌, ◌+◌, ◌-◌, ℕ, ℤ, Bool, true, false, cond, min, List, ◌∷◌, ◌++◌, length, length-append, slice_get, set, take, Contains, Some, refl, sym, ap, subst, ◌∙◌, arith}
-use Rattle.std.specs.Ordering.{int_eq}
-use Rattle.std.proofs.lemmas.Bool.Decides.{Decides-int_eq}
+use Rattle.std.proofs.Common.{◌≡◌, ◌≢◌, ◌<◌, ◌≤◌, ◌+◌, ◌-◌, ℕ, Bool, true, false, cond, min, List, ◌∷◌, ◌++◌, length, length-append, slice_get, set, take, Contains, Some, refl, sym, ap, subst, ◌∙◌, arith}
 use Rattle.std.specs.Prelude.{not}
 use Rattle.std.proofs.lemmas.List.Elements.{filter-append}
 use Rattle.std.proofs.lemmas.List.Filters.{length-filter_both}
+use Rattle.lin_events.specs.declared.items.Item.{Item}
+use Rattle.lin_events.specs.Sameness.{Decides-item_eq}
+use Rattle.lin_events.specs.Items.{item_eq}
 use Rattle.lin_events.specs.declared.events.Event.{Event}
 use Rattle.lin_events.specs.Operations.{IsEvent}
 use Rattle.lin_objects.specs.declared.kinds.Kind.{Kind}
@@ -22,21 +23,21 @@ use Rattle.lin_session.proofs.Low.{rounded_below}
 use Rattle.lin_session.proofs.Marking.{IsMarkRight-touched, IsTouched, touched_over}
 use Rattle.lin_session.proofs.Overs.{IsEndOf-ahead}
 
-pub part-more : (key : ℤ) (event : Event) (h : List Event) → event.key ≡ key → part key (event ∷ h) ≡ event ∷ part key h
-part-more key event h same = ap (λ b. cond b (event ∷ part key h) (part key h)) ((Decides-int_eq event.key key).1 same)
+pub part-more : (key : Item) (event : Event) (h : List Event) → event.key ≡ key → part key (event ∷ h) ≡ event ∷ part key h
+part-more key event h same = ap (λ b. cond b (event ∷ part key h) (part key h)) ((Decides-item_eq event.key key).1 same)
 
-pub part-same : (key : ℤ) (event : Event) (h : List Event) → event.key ≢ key → part key (event ∷ h) ≡ part key h
-part-same key event h other = by (int_eq event.key key) refl
+pub part-same : (key : Item) (event : Event) (h : List Event) → event.key ≢ key → part key (event ∷ h) ≡ part key h
+part-same key event h other = by (item_eq event.key key) refl
   where
-    by : (b : Bool) → int_eq event.key key ≡ b → part key (event ∷ h) ≡ part key h
-    by true e = absurd (other ((Decides-int_eq event.key key).0 e))
+    by : (b : Bool) → item_eq event.key key ≡ b → part key (event ∷ h) ≡ part key h
+    by true e = absurd (other ((Decides-item_eq event.key key).0 e))
     by false e = ap (λ b. cond b (event ∷ part key h) (part key h)) e
 
-pub part_few : (key : ℤ) (h : List Event) → length (part key h) ≤ length h
-part_few key h = omega (arith, length-filter_both (λ (e : Event). int_eq e.key key) (λ e. not (int_eq e.key key)) (λ e. refl) h)
+pub part_few : (key : Item) (h : List Event) → length (part key h) ≤ length h
+part_few key h = omega (arith, length-filter_both (λ (e : Event). item_eq e.key key) (λ e. not (item_eq e.key key)) (λ e. refl) h)
 
 -- an object whose part and picks stay
-pub IsObject-same : (kinds : ℤ → Kind) (budget : ℕ) (h edited : List Event) (split : ℕ) (x : ℤ) (o : Object) → take split h ≡ take split edited → part x h ≡ part x edited
+pub IsObject-same : (kinds : Item → Kind) (budget : ℕ) (h edited : List Event) (split : ℕ) (x : Item) (o : Object) → take split h ≡ take split edited → part x h ≡ part x edited
     → IsObject kinds budget h split x o → IsObject kinds budget edited split x o
 IsObject-same kinds budget h edited split x o front same is = record {
   picked = subst (λ l. ArePositionsOf x l o.picks.items) front is.picked;
@@ -48,10 +49,10 @@ IsObject-same kinds budget h edited split x o front same is = record {
 }
 
 -- what a chain that was cut ahead of some events is right for
-abbrev pub StaysAhead : ℤ → List Event → ℕ → Chain → Chain → Type 0
+abbrev pub StaysAhead : Item → List Event → ℕ → Chain → Chain → Type 0
 StaysAhead key behind count old new = (ahead h edited : List Event) → count ≤ length ahead + length (part key behind) → IsRight old (ahead ++ h) → IsRight new (ahead ++ edited)
 
-module _ (kinds : ℤ → Kind) (budget : ℕ) (before behind : List Event) (event : Event) (key : ℤ) (same : event.key ≡ key) (split : ℕ) (ahead : split ≤ length before) (keys : List ℤ) (objects : List Object) where
+module _ (kinds : Item → Kind) (budget : ℕ) (before behind : List Event) (event : Event) (key : Item) (same : event.key ≡ key) (split : ℕ) (ahead : split ≤ length before) (keys : List Item) (objects : List Object) where
   abbrev with_it : List Event
   with_it = before ++ event ∷ behind
 
@@ -64,17 +65,17 @@ module _ (kinds : ℤ → Kind) (budget : ℕ) (before behind : List Event) (eve
   within_with : split ≤ length with_it
   within_with = omega (arith, length-append before (event ∷ behind))
 
-  others_part : (x : ℤ) → x ≢ key → part x with_it ≡ part x without
+  others_part : (x : Item) → x ≢ key → part x with_it ≡ part x without
   others_part x other =
-      filter-append (λ (e : Event). int_eq e.key x) before (event ∷ behind)
+      filter-append (λ (e : Event). item_eq e.key x) before (event ∷ behind)
       ∙ ap (λ l. part x before ++ l) (part-same x event behind (λ is. other (sym is ∙ same)))
-      ∙ sym (filter-append (λ (e : Event). int_eq e.key x) before behind)
+      ∙ sym (filter-append (λ (e : Event). item_eq e.key x) before behind)
 
   own_with : part key with_it ≡ part key before ++ event ∷ part key behind
-  own_with = filter-append (λ (e : Event). int_eq e.key key) before (event ∷ behind) ∙ ap (λ l. part key before ++ l) (part-more key event behind same)
+  own_with = filter-append (λ (e : Event). item_eq e.key key) before (event ∷ behind) ∙ ap (λ l. part key before ++ l) (part-more key event behind same)
 
   own_without : part key without ≡ part key before ++ part key behind
-  own_without = filter-append (λ (e : Event). int_eq e.key key) before behind
+  own_without = filter-append (λ (e : Event). item_eq e.key key) before behind
 
   known_without : AreKept kinds budget with_it split keys objects → (at : ℕ) (e : Event) → at < split → IsEvent without at e → Contains keys e.key
   known_without kept at e below stands = kept.known at e below (get_ahead before (event ∷ behind) behind at (omega arith) ∙ stands)
@@ -82,10 +83,10 @@ module _ (kinds : ℤ → Kind) (budget : ℕ) (before behind : List Event) (eve
   known_with : AreKept kinds budget without split keys objects → (at : ℕ) (e : Event) → at < split → IsEvent with_it at e → Contains keys e.key
   known_with kept at e below stands = kept.known at e below (get_ahead before behind (event ∷ behind) at (omega arith) ∙ stands)
 
-  other_without : (x : ℤ) (o : Object) → x ≢ key → IsObject kinds budget with_it split x o → IsObject kinds budget without split x o
+  other_without : (x : Item) (o : Object) → x ≢ key → IsObject kinds budget with_it split x o → IsObject kinds budget without split x o
   other_without x o other = IsObject-same kinds budget with_it without split x o (take_ahead split before (event ∷ behind) behind ahead) (others_part x other)
 
-  other_with : (x : ℤ) (o : Object) → x ≢ key → IsObject kinds budget without split x o → IsObject kinds budget with_it split x o
+  other_with : (x : Item) (o : Object) → x ≢ key → IsObject kinds budget without split x o → IsObject kinds budget with_it split x o
   other_with x o other = IsObject-same kinds budget without with_it split x o (take_ahead split before behind (event ∷ behind) ahead) (sym (others_part x other))
 
   -- the event leaves
@@ -155,8 +156,8 @@ module _ (kinds : ℤ → Kind) (budget : ℕ) (before behind : List Event) (eve
       AreKept-none kinds kinds budget budget without with_it split split keys objects kept within_with (known_with kept) (λ x o listed. other_with x o (λ is. absent (subst (Contains keys) is listed)))
 
 -- an equal event comes: the object of the key is touched, and its chain stays
-pub AreKept-touched : (kinds : ℤ → Kind) (budget : ℕ) (h : List Event) (split : ℕ) (keys : List ℤ) (objects : List Object) → AreKept kinds budget h split keys objects
-    → (i : ℕ) (key : ℤ) (old object : Object) → slice_get keys i ≡ Some key → slice_get objects i ≡ Some old → object.picks ≡ old.picks → object.count ≡ old.count → object.chain ≡ old.chain
+pub AreKept-touched : (kinds : Item → Kind) (budget : ℕ) (h : List Event) (split : ℕ) (keys : List Item) (objects : List Object) → AreKept kinds budget h split keys objects
+    → (i : ℕ) (key : Item) (old object : Object) → slice_get keys i ≡ Some key → slice_get objects i ≡ Some old → object.picks ≡ old.picks → object.count ≡ old.count → object.chain ≡ old.chain
     → (place : ℕ) → place ≤ old.count → object.mark ≡ touched place (rounded place) old.mark → AreKept kinds budget h split keys (set objects i object)
 AreKept-touched kinds budget h split keys objects kept i key old object key_at old_at picks count chain place inside mark =
     AreKept-one kinds kinds budget budget h h split split keys objects kept kept.within i key object key_at kept.known old old_at (λ is. record {

@@ -1,8 +1,9 @@
 -- From where the chain of an object stands to the answer for the object.
-use Rattle.std.proofs.Common.{Bool, true, false, nat_eq, if◌then◌else◌, ◌≡◌, ◌<◌, ◌-◌, ◌+◌, ℕ, ℤ, List, length, slice_get, slice_index, get_or, take, AllPairs, Option, None, Some, inl, inr, refl, sym, ap, subst, ◌∙◌, arith}
+use Rattle.std.proofs.Common.{Bool, true, false, nat_eq, if◌then◌else◌, ◌≡◌, ◌<◌, ◌-◌, ◌+◌, ℕ, List, length, slice_get, slice_index, get_or, take, AllPairs, Option, None, Some, inl, inr, refl, sym, ap, subst, ◌∙◌, arith}
 use Rattle.std.proofs.lemmas.Bool.{cases_order, cases_lt}
 use Rattle.std.proofs.lemmas.List.{take_all}
 use Rattle.std.proofs.lemmas.Option.{none-some, same_Some, slice_get_within, slice_get-get_or, get_or_from_slice_get}
+use Rattle.lin_events.specs.declared.items.Item.{Item}
 use Rattle.lin_events.specs.declared.events.Event.{Event}
 use Rattle.lin_events.specs.WellFormed.{IsWellFormed}
 use Rattle.lin_events.specs.WellFormedLaws.{BeginningsAreWellFormed}
@@ -59,10 +60,10 @@ cut_at picks i at rising here k p there =
     )
 
 -- where all events are told apart, an object's picks are just its positions
-pub whole_picked : (kinds : ℤ → Kind) (budget : ℕ) (h : List Event) (split : ℕ) (key : ℤ) (o : Object) → split ≡ length h → IsObject kinds budget h split key o → ArePositionsOf key h o.picks.items
+pub whole_picked : (kinds : Item → Kind) (budget : ℕ) (h : List Event) (split : ℕ) (key : Item) (o : Object) → split ≡ length h → IsObject kinds budget h split key o → ArePositionsOf key h o.picks.items
 whole_picked kinds budget h split key o all is = subst (λ l. ArePositionsOf key l o.picks.items) (take_all split h (omega arith)) is.picked
 
-module _ (spell : PositionsSpellParts) (kinds : ℤ → Kind) (budget : ℕ) (h : List Event) (split : ℕ) (key : ℤ) (old : Object) (all : split ≡ length h) (is : IsObject kinds budget h split key old) where
+module _ (spell : PositionsSpellParts) (kinds : Item → Kind) (budget : ℕ) (h : List Event) (split : ℕ) (key : Item) (old : Object) (all : split ≡ length h) (is : IsObject kinds budget h split key old) where
   picked : ArePositionsOf key h old.picks.items
   picked = whole_picked kinds budget h split key old all is
 
@@ -176,7 +177,7 @@ told_over chain count i told = by chain.found refl
     by (Failure at) e = absurd (cc (sym (ap (λ f. told_or chain.end (told_by f count)) e) ∙ told))
 
 -- the verdict for one object
-pub verdict_told : (kinds : ℤ → Kind) (budget : ℕ) (h : List Event) (key : ℤ) (failing over : Option ℕ) (told : Verdict) → IsFinding kinds budget h key failing over → IsTold failing over told
+pub verdict_told : (kinds : Item → Kind) (budget : ℕ) (h : List Event) (key : Item) (failing over : Option ℕ) (told : Verdict) → IsFinding kinds budget h key failing over → IsTold failing over told
     → IsObjectVerdict kinds budget h key told
 verdict_told kinds budget h key None None told is t = subst (IsObjectVerdict kinds budget h key) (sym t) is
 verdict_told kinds budget h key None (Some at) told is t = subst (IsObjectVerdict kinds budget h key) (sym t) is

@@ -1,6 +1,7 @@
 -- What is kept of the objects of a history, after a change.
-use Rattle.std.proofs.Common.{◌≡◌, ◌≢◌, ◌<◌, ◌≤◌, ℕ, ℤ, List, [], ◌∷◌, ◌++◌, length, slice_get, set, AllPairs, Contains, Some, inl, inr, sym, ap, subst, ◌∙◌, arith}
+use Rattle.std.proofs.Common.{◌≡◌, ◌≢◌, ◌<◌, ◌≤◌, ℕ, List, [], ◌∷◌, ◌++◌, length, slice_get, set, AllPairs, Contains, Some, inl, inr, sym, ap, subst, ◌∙◌, arith}
 use Rattle.std.proofs.lemmas.Option.{same_Some}
+use Rattle.lin_events.specs.declared.items.Item.{Item}
 use Rattle.lin_events.specs.declared.events.Event.{Event}
 use Rattle.lin_events.specs.Operations.{IsEvent}
 use Rattle.lin_objects.specs.declared.kinds.Kind.{Kind}
@@ -9,13 +10,13 @@ use Rattle.lin_session.specs.Objects.{IsObject, AreKept}
 use Rattle.lin_lists.specs.lemmas.Lists.{get_set_cases}
 use Rattle.lin_lists.specs.lemmas.Taken.{get_push_cases, one_place, Contains-slice_get}
 
-module _ (kinds other : ℤ → Kind) (budget after : ℕ) (h edited : List Event) (split later : ℕ) (keys : List ℤ) (objects : List Object) (kept : AreKept kinds budget h split keys objects)
+module _ (kinds other : Item → Kind) (budget after : ℕ) (h edited : List Event) (split later : ℕ) (keys : List Item) (objects : List Object) (kept : AreKept kinds budget h split keys objects)
     (within : later ≤ length edited) where
   -- the object of one key changes
-  pub AreKept-one : (i : ℕ) (key : ℤ) (object : Object) → slice_get keys i ≡ Some key
+  pub AreKept-one : (i : ℕ) (key : Item) (object : Object) → slice_get keys i ≡ Some key
       → ((at : ℕ) (event : Event) → at < later → IsEvent edited at event → Contains keys event.key)
       → (old : Object) → slice_get objects i ≡ Some old → (IsObject kinds budget h split key old → IsObject other after edited later key object)
-      → ((x : ℤ) (o : Object) → x ≢ key → IsObject kinds budget h split x o → IsObject other after edited later x o) → AreKept other after edited later keys (set objects i object)
+      → ((x : Item) (o : Object) → x ≢ key → IsObject kinds budget h split x o → IsObject other after edited later x o) → AreKept other after edited later keys (set objects i object)
   AreKept-one i key object key_at known old old_at one others = record {
     within = within;
     distinct = kept.distinct;
@@ -31,7 +32,7 @@ module _ (kinds other : ℤ → Kind) (budget after : ℕ) (h edited : List Even
 
   -- no object that is listed changes
   pub AreKept-none : ((at : ℕ) (event : Event) → at < later → IsEvent edited at event → Contains keys event.key)
-      → ((x : ℤ) (o : Object) → Contains keys x → IsObject kinds budget h split x o → IsObject other after edited later x o) → AreKept other after edited later keys objects
+      → ((x : Item) (o : Object) → Contains keys x → IsObject kinds budget h split x o → IsObject other after edited later x o) → AreKept other after edited later keys objects
   AreKept-none known others = record {
     within = within;
     distinct = kept.distinct;
@@ -40,10 +41,10 @@ module _ (kinds other : ℤ → Kind) (budget after : ℕ) (h edited : List Even
   }
 
   -- one more is listed
-  pub AreKept-more : (key : ℤ) (object : Object) → length objects ≡ length keys → AllPairs (λ x y. x ≢ y) (keys ++ key ∷ [])
+  pub AreKept-more : (key : Item) (object : Object) → length objects ≡ length keys → AllPairs (λ x y. x ≢ y) (keys ++ key ∷ [])
       → ((at : ℕ) (event : Event) → at < later → IsEvent edited at event → Contains (keys ++ key ∷ []) event.key)
       → IsObject other after edited later key object
-      → ((x : ℤ) (o : Object) → x ≢ key → IsObject kinds budget h split x o → IsObject other after edited later x o) → (Contains keys key → ⊥)
+      → ((x : Item) (o : Object) → x ≢ key → IsObject kinds budget h split x o → IsObject other after edited later x o) → (Contains keys key → ⊥)
       → AreKept other after edited later (keys ++ key ∷ []) (objects ++ object ∷ [])
   AreKept-more key object aligned distinct known one others absent = record {
     within = within;

@@ -1,7 +1,8 @@
 -- What it costs to judge the first of some objects.
-use Rattle.std.proofs.Common.{Bool, true, false, nat_le, if◌then◌else◌, ◌*◌, ◌≡◌, ◌+◌, ◌≤◌, ℕ, zero, suc, ℤ, List, [], ◌∷◌, Option, None, Some, length, slice_get, get_or, take, inl, inr, refl, sym, ◌∙◌, arith, ap}
+use Rattle.std.proofs.Common.{Bool, true, false, nat_le, if◌then◌else◌, ◌*◌, ◌≡◌, ◌+◌, ◌≤◌, ℕ, zero, suc, List, [], ◌∷◌, Option, None, Some, length, slice_get, get_or, take, inl, inr, refl, sym, ◌∙◌, arith, ap}
 use Rattle.std.specs.List.{sum_by}
 use Rattle.std.proofs.lemmas.Bool.{cases_lt}
+use Rattle.lin_events.specs.declared.items.Item.{Item}
 use Rattle.lin_events.specs.declared.events.Event.{Event}
 use Rattle.lin_objects.specs.declared.kinds.Kind.{Kind}
 use Rattle.lin_orders.specs.PartLaws.{PositionsSpellParts}
@@ -61,23 +62,23 @@ nothing_anew (Some first) = by (nat_le (2 * first) 0) refl
     by false e = omega (arith, ap (λ b. if b then 6 * 0 else 0) e)
 
 -- objects that cost no more than their keys do
-sum_listed : (budget : ℕ) (f : ℤ → ℕ) (keys : List ℤ) (objects : List Object) → length objects ≡ length keys
-    → ((i : ℕ) (key : ℤ) (o : Object) → slice_get keys i ≡ Some key → slice_get objects i ≡ Some o → cost_of budget o ≤ f key) → cost_of_all budget objects ≤ sum_by f keys
+sum_listed : (budget : ℕ) (f : Item → ℕ) (keys : List Item) (objects : List Object) → length objects ≡ length keys
+    → ((i : ℕ) (key : Item) (o : Object) → slice_get keys i ≡ Some key → slice_get objects i ≡ Some o → cost_of budget o ≤ f key) → cost_of_all budget objects ≤ sum_by f keys
 sum_listed budget f [] [] aligned each = omega arith
 sum_listed budget f [] (o ∷ objects) aligned each = absurd (omega (arith, aligned))
 sum_listed budget f (key ∷ keys) [] aligned each = absurd (omega (arith, aligned))
 sum_listed budget f (key ∷ keys) (o ∷ objects) aligned each =
     omega (arith, sum_head f key keys, each 0 key o refl refl, sum_listed budget f keys objects (omega (arith, aligned)) (λ i x p x_at p_at. each (suc i) x p x_at p_at))
 
-module _ (spell : PositionsSpellParts) (kinds : ℤ → Kind) (budget : ℕ) (h : List Event) (split : ℕ) (keys : List ℤ) (objects : List Object) (kept : AreKept kinds budget h split keys objects)
-    (aligned : length objects ≡ length keys) (all : split ≡ length h) (marks : ℤ → Mark) (same : AreSameMarks marks (mark_of (listed_marks keys objects))) where
-  pub number_of_picks : (i : ℕ) (key : ℤ) (o : Object) → slice_get keys i ≡ Some key → slice_get objects i ≡ Some o → length o.picks.items ≡ length (part key h)
+module _ (spell : PositionsSpellParts) (kinds : Item → Kind) (budget : ℕ) (h : List Event) (split : ℕ) (keys : List Item) (objects : List Object) (kept : AreKept kinds budget h split keys objects)
+    (aligned : length objects ≡ length keys) (all : split ≡ length h) (marks : Item → Mark) (same : AreSameMarks marks (mark_of (listed_marks keys objects))) where
+  pub number_of_picks : (i : ℕ) (key : Item) (o : Object) → slice_get keys i ≡ Some key → slice_get objects i ≡ Some o → length o.picks.items ≡ length (part key h)
   number_of_picks i key o key_at o_at = (spell key h o.picks.items (whole_picked kinds budget h split key o all (kept.each i key o key_at o_at))).length_of
 
-  pub mark_there : (i : ℕ) (key : ℤ) (o : Object) → slice_get keys i ≡ Some key → slice_get objects i ≡ Some o → marks key ≡ o.mark
+  pub mark_there : (i : ℕ) (key : Item) (o : Object) → slice_get keys i ≡ Some key → slice_get objects i ≡ Some o → marks key ≡ o.mark
   mark_there i key o key_at o_at = sym (same key) ∙ mark_listed keys objects (one_place keys kept.distinct) i key o key_at o_at
 
-  pub listed_cost : (i : ℕ) (key : ℤ) (o : Object) → slice_get keys i ≡ Some key → slice_get objects i ≡ Some o → cost_of budget o ≤ cost marks h key
+  pub listed_cost : (i : ℕ) (key : Item) (o : Object) → slice_get keys i ≡ Some key → slice_get objects i ≡ Some o → cost_of budget o ≤ cost marks h key
   listed_cost i key o key_at o_at =
       let is = (kept.each i key o key_at o_at).marked in
       let picks = number_of_picks i key o key_at o_at in
@@ -95,7 +96,7 @@ module _ (spell : PositionsSpellParts) (kinds : ℤ → Kind) (budget : ℕ) (h 
       omega (arith, listed, within)
 
   -- where nothing is due, all was taken in
-  pub settled_there : (asked : Scope) → IsNothingDue h asked marks → (i : ℕ) (key : ℤ) (o : Object) → IsOf asked key → slice_get keys i ≡ Some key → slice_get objects i ≡ Some o → IsSettled budget o
+  pub settled_there : (asked : Scope) → IsNothingDue h asked marks → (i : ℕ) (key : Item) (o : Object) → IsOf asked key → slice_get keys i ≡ Some key → slice_get objects i ≡ Some o → IsSettled budget o
   settled_there asked nothing i key o of_scope key_at o_at =
       let picks = number_of_picks i key o key_at o_at in
       elim (cases_lt 0 (length (part key h))) [
@@ -104,12 +105,12 @@ module _ (spell : PositionsSpellParts) (kinds : ℤ → Kind) (budget : ℕ) (h 
       ]
 
 -- so a question costs no more than what is due, and nothing where nothing is
-module _ (spell : PositionsSpellParts) (kinds : ℤ → Kind) (budget : ℕ) (h : List Event) (s : Objects) (kept : AreRight s kinds budget h) (all : split_in s ≡ length h) (marks : ℤ → Mark) (same : AreSameMarks marks (marks_in s)) where
+module _ (spell : PositionsSpellParts) (kinds : Item → Kind) (budget : ℕ) (h : List Event) (s : Objects) (kept : AreRight s kinds budget h) (all : split_in s ≡ length h) (marks : Item → Mark) (same : AreSameMarks marks (marks_in s)) where
   pub scope_cost : (asked : Scope) → IsCost budget s asked (cost_in marks h asked)
   scope_cost (scope.Object key) = λ i o key_at o_at. listed_cost spell kinds budget h s.split s.keys.keys s.objects.items kept s.aligned all marks same i key o key_at o_at
   scope_cost scope.Whole = whole_cost spell kinds budget h s.split s.keys.keys s.objects.items kept s.aligned all marks same
 
-  settled_one : (asked : Scope) → IsNothingDue h asked marks → (i : ℕ) (key : ℤ) (o : Object) → IsOf asked key → slice_get s.keys.keys i ≡ Some key → slice_get s.objects.items i ≡ Some o → IsSettled budget o
+  settled_one : (asked : Scope) → IsNothingDue h asked marks → (i : ℕ) (key : Item) (o : Object) → IsOf asked key → slice_get s.keys.keys i ≡ Some key → slice_get s.objects.items i ≡ Some o → IsSettled budget o
   settled_one = settled_there spell kinds budget h s.split s.keys.keys s.objects.items kept s.aligned all marks same
 
   pub scope_settled : (asked : Scope) → IsNothingDue h asked marks → AreSettled budget s asked

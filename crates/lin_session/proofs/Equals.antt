@@ -2,7 +2,8 @@
 use Rattle.std.specs.Prelude.{◌≡◌, true}
 use Rattle.std.proofs.Common.{refl, sym, ap, true≢false}
 use Rattle.std.proofs.lemmas.Bool.{and_parts}
-use Rattle.std.proofs.lemmas.Bool.Decides.{Decides-eqb, Decides-int_eq}
+use Rattle.std.proofs.lemmas.Bool.Decides.{Decides-eqb}
+use Rattle.lin_events.specs.Sameness.{Decides-item_eq}
 use Rattle.lin_events.specs.declared.calls.Name.{Name}
 use Rattle.lin_events.specs.declared.calls.Name.TheVariants as name
 use Rattle.lin_events.specs.declared.calls.Call.{Call}
@@ -35,9 +36,9 @@ call_same (call.Cas a b) (call.Cas c d) h =
     let first = val_same a c both.0 in
     let second = val_same b d both.1 in
     cc
-call_same (call.Enqueue a) (call.Enqueue b) h = ap call.Enqueue ((Decides-int_eq a b).0 h)
+call_same (call.Enqueue a) (call.Enqueue b) h = ap call.Enqueue ((Decides-item_eq a b).0 h)
 call_same call.Dequeue call.Dequeue h = refl
-call_same (call.Add a) (call.Add b) h = ap call.Add ((Decides-int_eq a b).0 h)
+call_same (call.Add a) (call.Add b) h = ap call.Add ((Decides-item_eq a b).0 h)
 call_same call.Acquire call.Acquire h = refl
 call_same call.Release call.Release h = refl
 call_same x y h = absurd (true≢false (sym h))
@@ -59,6 +60,6 @@ event_same x y h =
     let first = and_parts _ _ h in
     let second = and_parts _ _ first.1 in
     let process = (Decides-eqb x.process y.process).0 first.0 in
-    let key = (Decides-int_eq x.key y.key).0 second.0 in
+    let key = (Decides-item_eq x.key y.key).0 second.0 in
     let body = body_same x.body y.body second.1 in
     λ i. record { process = process i; key = key i; body = body i }

@@ -1,42 +1,42 @@
 -- Where keys are listed, and what stands there.
-use Rattle.std.proofs.Common.{◌≡◌, ◌<◌, ℕ, ℤ, Bool, true, false, List, [], ◌∷◌, ◌++◌, length, get_or, position, slice_get, Contains, Option, Some, None, Result, Ok, Err, refl, sym, ap, subst, ◌∙◌, arith, true≢false, if◌then◌else◌, is_some}
+use Rattle.std.proofs.Common.{◌≡◌, ◌<◌, ℕ, Bool, true, false, List, [], ◌∷◌, ◌++◌, length, get_or, position, slice_get, Contains, Option, Some, None, Result, Ok, Err, refl, sym, ap, subst, ◌∙◌, arith, true≢false, if◌then◌else◌, is_some}
 use Rattle.std.specs.Prelude.{IfErr, IfSome, IfNone, IsErrAnd, IsOk, OnErr}
-use Rattle.std.specs.Ordering.{int_eq}
 use Rattle.std.specs.List.{list_any}
-use Rattle.std.proofs.lemmas.Bool.Decides.{Decides-int_eq}
-use Rattle.std.proofs.lemmas.Cmp.{int_eq_equiv}
 use Rattle.std.proofs.lemmas.List.Quantifiers.{position-Some}
 use Rattle.std.proofs.lemmas.Map.Views.{list_any-from_Contains, Contains-from_any}
 use Rattle.std.proofs.lemmas.Option.{slice_get-get_or, slice_get_within, slice_get_read}
 use Rattle.indexmap.specs.IndexSet.{insert_key}
+use Rattle.lin_events.specs.declared.items.Item.{Item}
+use Rattle.lin_events.specs.Sameness.{Decides-item_eq, item_eq_equiv}
+use Rattle.lin_events.specs.Items.{item_eq}
 
 -- the place that a look-up gives is the key's
-pub found_at : (keys : List ℤ) (key : ℤ) (r : Option ℕ) → r ≡ position (int_eq key) keys → IfSome r (λ i. slice_get keys i ≡ Some key)
+pub found_at : (keys : List Item) (key : Item) (r : Option ℕ) → r ≡ position (item_eq key) keys → IfSome r (λ i. slice_get keys i ≡ Some key)
 found_at keys key None is = tt
 found_at keys key (Some i) is =
-    let p = position-Some (int_eq key) keys i key (sym is) in
-    slice_get-get_or keys i key p.0 ∙ ap Some (sym ((Decides-int_eq key (get_or keys i key)).0 p.1))
+    let p = position-Some (item_eq key) keys i key (sym is) in
+    slice_get-get_or keys i key p.0 ∙ ap Some (sym ((Decides-item_eq key (get_or keys i key)).0 p.1))
 
-pub not_found : (keys : List ℤ) (key : ℤ) (r : Option ℕ) → is_some r ≡ list_any (int_eq key) keys → IfNone r (Contains keys key → ⊥)
+pub not_found : (keys : List Item) (key : Item) (r : Option ℕ) → is_some r ≡ list_any (item_eq key) keys → IfNone r (Contains keys key → ⊥)
 not_found keys key (Some i) is = tt
-not_found keys key None is = λ there. true≢false (sym (list_any-from_Contains int_eq_equiv key keys there) ∙ sym is)
+not_found keys key None is = λ there. true≢false (sym (list_any-from_Contains item_eq_equiv key keys there) ∙ sym is)
 
 -- what stands at the place of a key
-pub object_at : {A : Type 0} (keys : List ℤ) (objects : List A) (i : ℕ) (key : ℤ) (object : A) → length objects ≡ length keys → slice_get keys i ≡ Some key → object ≡ get_or objects i object
+pub object_at : {A : Type 0} (keys : List Item) (objects : List A) (i : ℕ) (key : Item) (object : A) → length objects ≡ length keys → slice_get keys i ≡ Some key → object ≡ get_or objects i object
     → slice_get objects i ≡ Some object
 object_at keys objects i key object aligned key_at read =
     let within = slice_get_within keys i key key_at in
     slice_get_read objects (length objects) i object refl (omega arith) read
 
-pub object_within : {A : Type 0} (keys : List ℤ) (objects : List A) (i : ℕ) (object : A) → length objects ≡ length keys → i < length keys → object ≡ get_or objects i object → slice_get objects i ≡ Some object
+pub object_within : {A : Type 0} (keys : List Item) (objects : List A) (i : ℕ) (object : A) → length objects ≡ length keys → i < length keys → object ≡ get_or objects i object → slice_get objects i ≡ Some object
 object_within keys objects i object aligned within read = slice_get_read objects (length objects) i object refl (omega arith) read
 
 -- a key that isn't listed goes last
-pub inserted_last : (keys : List ℤ) (key : ℤ) → (Contains keys key → ⊥) → insert_key int_eq keys key ≡ keys ++ key ∷ []
-inserted_last keys key absent = by (list_any (int_eq key) keys) refl
+pub inserted_last : (keys : List Item) (key : Item) → (Contains keys key → ⊥) → insert_key item_eq keys key ≡ keys ++ key ∷ []
+inserted_last keys key absent = by (list_any (item_eq key) keys) refl
   where
-    by : (b : Bool) → list_any (int_eq key) keys ≡ b → insert_key int_eq keys key ≡ keys ++ key ∷ []
-    by true e = absurd (absent (Contains-from_any (λ x y. (Decides-int_eq x y).0) key keys e))
+    by : (b : Bool) → list_any (item_eq key) keys ≡ b → insert_key item_eq keys key ≡ keys ++ key ∷ []
+    by true e = absurd (absent (Contains-from_any (λ x y. (Decides-item_eq x y).0) key keys e))
     by false e = ap (λ b. if b then keys else keys ++ key ∷ []) e
 
 -- what holds holds after an error too

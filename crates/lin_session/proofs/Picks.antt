@@ -1,11 +1,12 @@
 -- The positions of a key's events in a prefix that grows and shrinks by one event.
-use Rattle.std.proofs.Common.{◌≡◌, ◌≢◌, ◌<◌, ◌-◌, ℕ, suc, ℤ, true, false, List, [], ◌∷◌, ◌++◌, length, slice_get, take, get_or, Contains, Some, None, Option, IsTrue, inl, inr, refl, sym, ap, subst, ◌∙◌, arith}
+use Rattle.std.proofs.Common.{◌≡◌, ◌≢◌, ◌<◌, ◌-◌, ℕ, suc, true, false, List, [], ◌∷◌, ◌++◌, length, slice_get, take, get_or, Contains, Some, None, Option, IsTrue, inl, inr, refl, sym, ap, subst, ◌∙◌, arith}
 use Rattle.std.specs.Option.{option_map_or}
-use Rattle.std.specs.Ordering.{int_eq}
 use Rattle.std.proofs.lemmas.Bool.{cases_order}
-use Rattle.std.proofs.lemmas.Bool.Decides.{Decides-int_eq}
 use Rattle.std.proofs.lemmas.List.{take-take, take_all, length-take-le}
 use Rattle.std.proofs.lemmas.Option.{same_Some, slice_get_within, get_or_from_slice_get}
+use Rattle.lin_events.specs.declared.items.Item.{Item}
+use Rattle.lin_events.specs.Sameness.{Decides-item_eq}
+use Rattle.lin_events.specs.Items.{item_eq}
 use Rattle.lin_events.specs.declared.events.Event.{Event}
 use Rattle.lin_events.specs.Operations.{IsEvent}
 use Rattle.lin_orders.specs.Orders.{is_of_key}
@@ -15,17 +16,17 @@ use Rattle.lin_lists.specs.lemmas.Lists.{get_taken, take_next}
 use Rattle.lin_lists.specs.lemmas.Taken.{get_of_take}
 
 -- an event of the key stands at the position
-pub event_of_key : (h : List Event) (key : ℤ) (at : ℕ) → IsTrue (is_of_key h key at) → (event : Event) × IsEvent h at event × (event.key ≡ key)
+pub event_of_key : (h : List Event) (key : Item) (at : ℕ) → IsTrue (is_of_key h key at) → (event : Event) × IsEvent h at event × (event.key ≡ key)
 event_of_key h key at of_it = by (slice_get h at) refl of_it
   where
-    by : (o : Option Event) → slice_get h at ≡ o → option_map_or (λ event. int_eq event.key key) o false ≡ true → (event : Event) × IsEvent h at event × (event.key ≡ key)
+    by : (o : Option Event) → slice_get h at ≡ o → option_map_or (λ event. item_eq event.key key) o false ≡ true → (event : Event) × IsEvent h at event × (event.key ≡ key)
     by None is of_none = cc
-    by (Some event) is of_event = (event, is, (Decides-int_eq event.key key).0 of_event)
+    by (Some event) is of_event = (event, is, (Decides-item_eq event.key key).0 of_event)
 
-pub of_key_event : (h : List Event) (key : ℤ) (at : ℕ) (event : Event) → IsEvent h at event → event.key ≡ key → IsTrue (is_of_key h key at)
-of_key_event h key at event stands is = ap (λ o. option_map_or (λ (e : Event). int_eq e.key key) o false) stands ∙ (Decides-int_eq event.key key).1 is
+pub of_key_event : (h : List Event) (key : Item) (at : ℕ) (event : Event) → IsEvent h at event → event.key ≡ key → IsTrue (is_of_key h key at)
+of_key_event h key at event stands is = ap (λ o. option_map_or (λ (e : Event). item_eq e.key key) o false) stands ∙ (Decides-item_eq event.key key).1 is
 
-module _ (h : List Event) (key : ℤ) (last : ℕ) (event : Event) (stands : IsEvent h last event) (picks : List ℕ) (picked : ArePositionsOf key (take (suc last) h) picks) where
+module _ (h : List Event) (key : Item) (last : ℕ) (event : Event) (stands : IsEvent h last event) (picks : List ℕ) (picked : ArePositionsOf key (take (suc last) h) picks) where
   of_nth : (k at : ℕ) → IsNth picks k at → (e : Event) × IsEvent h at e × (e.key ≡ key) × (at < suc last)
   of_nth k at nth =
       let read = get_or_from_slice_get picks k at at nth in
@@ -87,7 +88,7 @@ module _ (h : List Event) (key : ℤ) (last : ℕ) (event : Event) (stands : IsE
       subst (ArePositionsOf key (take last h)) (take_all (length picks) picks (omega arith))
       (subst (λ l. ArePositionsOf key l (take (length picks) picks)) (take-take last (suc last) h (omega arith)) cut)
 
-module _ (law : PartsGrow) (h : List Event) (key : ℤ) (last : ℕ) (event : Event) (stands : IsEvent h last event) (picks : List ℕ) (picked : ArePositionsOf key (take last h) picks) where
+module _ (law : PartsGrow) (h : List Event) (key : Item) (last : ℕ) (event : Event) (stands : IsEvent h last event) (picks : List ℕ) (picked : ArePositionsOf key (take last h) picks) where
   pub picks_more : event.key ≡ key → ArePositionsOf key (take (suc last) h) (picks ++ last ∷ [])
   picks_more same =
       let more = (law key (take last h) event).position picks same picked in

@@ -1,7 +1,8 @@
 -- What is kept of the objects under another budget.
-use Rattle.std.proofs.Common.{◌≡◌, ◌≤◌, ℕ, ℤ, List, length, map, slice_get, Option, None, Some, refl, sym, ap, subst, ◌∙◌}
+use Rattle.std.proofs.Common.{◌≡◌, ◌≤◌, ℕ, List, length, map, slice_get, Option, None, Some, refl, sym, ap, subst, ◌∙◌}
 use Rattle.std.specs.Option.{option_map}
 use Rattle.std.proofs.lemmas.Option.{none-some, same_Some, slice_get-map}
+use Rattle.lin_events.specs.declared.items.Item.{Item}
 use Rattle.lin_events.specs.declared.events.Event.{Event}
 use Rattle.lin_objects.specs.declared.kinds.Kind.{Kind}
 use Rattle.lin_orders.specs.Parts.{part}
@@ -19,7 +20,7 @@ mapped_at f objects i o at = by (slice_get objects i) refl (sym (slice_get-map f
     by None e is = absurd (none-some o (sym (ap (option_map f) e) ∙ is))
     by (Some old) e is = (old, e, same_Some (f old) o (sym (ap (option_map f) e) ∙ is))
 
-pub AreKept-raised : (kinds : ℤ → Kind) (budget larger : ℕ) (h : List Event) (split : ℕ) (keys : List ℤ) (objects : List Object) → AreKept kinds budget h split keys objects
+pub AreKept-raised : (kinds : Item → Kind) (budget larger : ℕ) (h : List Event) (split : ℕ) (keys : List Item) (objects : List Object) → AreKept kinds budget h split keys objects
     → AreKept kinds larger h split keys (map raised_object objects)
 AreKept-raised kinds budget larger h split keys objects kept = record {
   within = kept.within;
@@ -38,7 +39,7 @@ AreKept-raised kinds budget larger h split keys objects kept = record {
       });
 }
 
-pub AreKept-smaller : (kinds : ℤ → Kind) (budget smaller : ℕ) (h : List Event) (split : ℕ) (keys : List ℤ) (objects : List Object) → smaller ≤ budget → AreKept kinds budget h split keys objects
+pub AreKept-smaller : (kinds : Item → Kind) (budget smaller : ℕ) (h : List Event) (split : ℕ) (keys : List Item) (objects : List Object) → smaller ≤ budget → AreKept kinds budget h split keys objects
     → AreKept kinds smaller h split keys objects
 AreKept-smaller kinds budget smaller h split keys objects less kept = record {
   within = kept.within;

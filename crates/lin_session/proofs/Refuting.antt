@@ -1,9 +1,10 @@
 -- From sets that refute the events of an object to sets that refute it in a prefix of the history.
-use Rattle.std.proofs.Common.{◌≡◌, ◌<◌, ◌+◌, ℕ, zero, suc, ℤ, Bool, true, false, nat_eq, if◌then◌else◌, Some, None, List, Result, Ok, Err, ◌≢◌, length, slice_index, take, inl, inr, refl, sym, ap, subst, ◌∙◌, add-one, arith}
+use Rattle.std.proofs.Common.{◌≡◌, ◌<◌, ◌+◌, ℕ, zero, suc, Bool, true, false, nat_eq, if◌then◌else◌, Some, None, List, Result, Ok, Err, ◌≢◌, length, slice_index, take, inl, inr, refl, sym, ap, subst, ◌∙◌, add-one, arith}
 use Rattle.std.specs.Prelude.{IfErr}
 use Rattle.std.proofs.lemmas.Bool.{cases_lt}
 use Rattle.std.proofs.lemmas.List.{take_all}
 use Rattle.std.proofs.lemmas.Option.{slice_get-get_or}
+use Rattle.lin_events.specs.declared.items.Item.{Item}
 use Rattle.lin_events.specs.declared.events.Event.{Event}
 use Rattle.lin_objects.specs.declared.kinds.Kind.{Kind}
 use Rattle.lin_objects.specs.Steps.{Step, start}
@@ -34,7 +35,7 @@ refused_for (Ok x) P other large = tt
 refused_for (Err fault) P other large = ((λ is. other (ap Err is)), λ is. large (ap Err is))
 
 -- why a no is not refuted
-pub IsUnrefuted-fault : (now : Present) (key : ℤ) (n : ℕ) → IsAnswer now (ObjectOf key) (No n) → (fault : RefuteFault) → fault ≢ NotDead
+pub IsUnrefuted-fault : (now : Present) (key : Item) (n : ℕ) → IsAnswer now (ObjectOf key) (No n) → (fault : RefuteFault) → fault ≢ NotDead
     → (fault ≡ TooLarge → IsOverSomewhere (kinds_in now) now.budget now.history key) → IsUnrefuted now key fault
 IsUnrefuted-fault now key n answer NotDead other large = absurd (other refl)
 IsUnrefuted-fault now key n answer TooLarge other large = ((n, answer), large refl)
@@ -44,7 +45,7 @@ IsUnrefuted-fault now key n answer OutOfMemory other large = tt
 one_dead : (at i : ℕ) → Dead at ≡ Dead i → at ≡ i
 one_dead at i e = cc e
 
-module _ (spell : PositionsSpellParts) (up_to : PartsUpToPositions) (kinds : ℤ → Kind) (budget : ℕ) (h : List Event) (split : ℕ) (key : ℤ) (o : Object) (all : split ≡ length h) (is : IsObject kinds budget h split key o) where
+module _ (spell : PositionsSpellParts) (up_to : PartsUpToPositions) (kinds : Item → Kind) (budget : ℕ) (h : List Event) (split : ℕ) (key : Item) (o : Object) (all : split ≡ length h) (is : IsObject kinds budget h split key o) where
   picked : ArePositionsOf key h o.picks.items
   picked = whole_picked kinds budget h split key o all is
 

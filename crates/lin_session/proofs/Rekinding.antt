@@ -1,7 +1,8 @@
 -- What is kept of the objects, where one object changes its kind.
-use Rattle.std.proofs.Common.{◌≡◌, ◌≢◌, ◌≤◌, ℕ, ℤ, Bool, true, false, List, length, take, slice_get, set, Contains, Some, refl, sym, ap, subst, ◌∙◌, if◌then◌else◌}
-use Rattle.std.specs.Ordering.{int_eq}
-use Rattle.std.proofs.lemmas.Bool.Decides.{Decides-int_eq}
+use Rattle.std.proofs.Common.{◌≡◌, ◌≢◌, ◌≤◌, ℕ, Bool, true, false, List, length, take, slice_get, set, Contains, Some, refl, sym, ap, subst, ◌∙◌, if◌then◌else◌}
+use Rattle.lin_events.specs.declared.items.Item.{Item}
+use Rattle.lin_events.specs.Sameness.{Decides-item_eq}
+use Rattle.lin_events.specs.Items.{item_eq}
 use Rattle.lin_events.specs.declared.events.Event.{Event}
 use Rattle.lin_objects.specs.declared.kinds.Kind.{Kind}
 use Rattle.lin_orders.specs.Parts.{part, ArePositionsOf}
@@ -14,18 +15,18 @@ use Rattle.lin_chain.specs.declared.chain.End.TheVariants.{Over}
 use Rattle.lin_chain.specs.Ends.{IsEndOf}
 use Rattle.lin_session.proofs.Changes.{AreKept-one, AreKept-none}
 
-module _ (kinds other : ℤ → Kind) (key : ℤ) (kind : Kind) (change : (x : ℤ) → other x ≡ (if int_eq key x then kind else kinds x)) where
+module _ (kinds other : Item → Kind) (key : Item) (kind : Kind) (change : (x : Item) → other x ≡ (if item_eq key x then kind else kinds x)) where
   kind_there : other key ≡ kind
-  kind_there = change key ∙ ap (λ b. if b then kind else kinds key) ((Decides-int_eq key key).1 refl)
+  kind_there = change key ∙ ap (λ b. if b then kind else kinds key) ((Decides-item_eq key key).1 refl)
 
-  kind_elsewhere : (x : ℤ) → x ≢ key → other x ≡ kinds x
-  kind_elsewhere x apart = change x ∙ by (int_eq key x) refl
+  kind_elsewhere : (x : Item) → x ≢ key → other x ≡ kinds x
+  kind_elsewhere x apart = change x ∙ by (item_eq key x) refl
     where
-      by : (b : Bool) → int_eq key x ≡ b → (if int_eq key x then kind else kinds x) ≡ kinds x
-      by true e = absurd (apart (sym ((Decides-int_eq key x).0 e)))
+      by : (b : Bool) → item_eq key x ≡ b → (if item_eq key x then kind else kinds x) ≡ kinds x
+      by true e = absurd (apart (sym ((Decides-item_eq key x).0 e)))
       by false e = ap (λ b. if b then kind else kinds x) e
 
-  stays : (budget : ℕ) (h : List Event) (split : ℕ) (x : ℤ) (o : Object) → x ≢ key → IsObject kinds budget h split x o → IsObject other budget h split x o
+  stays : (budget : ℕ) (h : List Event) (split : ℕ) (x : Item) (o : Object) → x ≢ key → IsObject kinds budget h split x o → IsObject other budget h split x o
   stays budget h split x o apart is = record {
     picked = is.picked;
     kind = is.kind ∙ sym (kind_elsewhere x apart);
@@ -35,7 +36,7 @@ module _ (kinds other : ℤ → Kind) (key : ℤ) (kind : Kind) (change : (x : �
     over = λ at e. subst (λ k. IsEndOf k budget (part x h) (Over at)) (sym (kind_elsewhere x apart)) (is.over at e);
   }
 
-  module _ (budget : ℕ) (h : List Event) (split : ℕ) (keys : List ℤ) (objects : List Object) (kept : AreKept kinds budget h split keys objects) where
+  module _ (budget : ℕ) (h : List Event) (split : ℕ) (keys : List Item) (objects : List Object) (kept : AreKept kinds budget h split keys objects) where
     pub AreKept-rekinded : (i : ℕ) (old object : Object) → slice_get keys i ≡ Some key → slice_get objects i ≡ Some old → object.picks ≡ old.picks → object.count ≡ old.count
         → object.mark ≡ unasked → kind_in object.chain ≡ kind → ((part' : List Event) → IsRight object.chain part') → AreKept other budget h split keys (set objects i object)
     AreKept-rekinded i old object key_at old_at picks count mark kind_is right =

@@ -1,6 +1,7 @@
 -- From the verdict for one object, or for the whole, to the verdict, and from there to the answer.
-use Rattle.std.proofs.Common.{ℕ, ℤ}
+use Rattle.std.proofs.Common.{ℕ}
 use Rattle.std.specs.Global.{Vec}
+use Rattle.lin_events.specs.declared.items.Item.{Item}
 use Rattle.lin_events.specs.WellFormed.{IsWellFormed}
 use Rattle.lin_objects.specs.Kinds.{functions_of}
 use Rattle.lin_orders.specs.declared.placed.Placed.{Placed}
@@ -13,7 +14,7 @@ use Rattle.lin_session.specs.Answers.{kinds_in, IsAnswer, IsObjectVerdict, IsWho
 use Rattle.lin_session.specs.Edits.{Present}
 use Rattle.lin_session.specs.inner.Judgements.{IsOrderFor}
 
-pub IsVerdict-object : (now : Present) (key : ℤ) (verdict : Verdict) → IsWellFormed (functions_of (kinds_in now)) now.history → IsObjectVerdict (kinds_in now) now.budget now.history key verdict
+pub IsVerdict-object : (now : Present) (key : Item) (verdict : Verdict) → IsWellFormed (functions_of (kinds_in now)) now.history → IsObjectVerdict (kinds_in now) now.budget now.history key verdict
     → IsVerdict now (Object key) verdict
 IsVerdict-object now key (IllFormed at cause) fine is = absurd is
 IsVerdict-object now key Yes fine is = (fine, is)

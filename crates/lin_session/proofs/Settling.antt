@@ -1,9 +1,10 @@
 -- What is kept of the objects, once some were judged and their marks say so.
-use Rattle.std.proofs.Common.{◌≡◌, ◌≢◌, ◌<◌, ◌≤◌, ◌⊎◌, ℕ, ℤ, Bool, true, false, nat_lt, List, length, slice_get, set, map, AllPairs, Some, Contains, inl, inr, refl, sym, ap, subst, ◌∙◌, arith, if◌then◌else◌}
+use Rattle.std.proofs.Common.{◌≡◌, ◌≢◌, ◌<◌, ◌≤◌, ◌⊎◌, ℕ, Bool, true, false, nat_lt, List, length, slice_get, set, map, AllPairs, Some, Contains, inl, inr, refl, sym, ap, subst, ◌∙◌, arith, if◌then◌else◌}
 use Rattle.std.proofs.lemmas.Bool.{cases_lt}
 use Rattle.std.proofs.lemmas.Bool.Decides.{Decides-ltb}
 use Rattle.std.proofs.lemmas.List.{length-take-le}
 use Rattle.std.proofs.lemmas.Option.{same_Some, slice_get-get_or, slice_get_within}
+use Rattle.lin_events.specs.declared.items.Item.{Item}
 use Rattle.lin_events.specs.declared.events.Event.{Event}
 use Rattle.lin_objects.specs.declared.kinds.Kind.{Kind}
 use Rattle.lin_orders.specs.PartLaws.{PartsOfPrefixes, PositionsSpellParts}
@@ -33,8 +34,8 @@ use Rattle.lin_chain.specs.Ends.{IsEndOf}
 use Rattle.lin_session.proofs.Occurring.{event_there}
 
 -- the objects of the scope are marked, and the others stay
-abbrev pub AreSet : Scope → List ℤ → List Object → List Object → Type 0
-AreSet scope keys objects marked = (i : ℕ) (key : ℤ) (o : Object) → slice_get keys i ≡ Some key → slice_get objects i ≡ Some o
+abbrev pub AreSet : Scope → List Item → List Object → List Object → Type 0
+AreSet scope keys objects marked = (i : ℕ) (key : Item) (o : Object) → slice_get keys i ≡ Some key → slice_get objects i ≡ Some o
     → (IsOf scope key × (slice_get marked i ≡ Some (settled_object o))) ⊎ ((IsOf scope key → ⊥) × (slice_get marked i ≡ Some o))
 
 -- the mark of an object with events, and of one without
@@ -48,17 +49,17 @@ mark_none o none = by (nat_lt 0 (length o.picks.items)) refl
     by true e = let some = (Decides-ltb 0 (length o.picks.items)).0 e in absurd (omega (arith, some, none))
     by false e = ap (λ b. if b then answered_at (end_in o.chain) (ready_count o.chain) (length o.picks.items) else o.mark) e
 
-module _ (spell : PositionsSpellParts) (kinds : ℤ → Kind) (budget : ℕ) (h : List Event) (split : ℕ) (keys : List ℤ) (objects marked : List Object) (scope : Scope)
+module _ (spell : PositionsSpellParts) (kinds : Item → Kind) (budget : ℕ) (h : List Event) (split : ℕ) (keys : List Item) (objects marked : List Object) (scope : Scope)
     (all : split ≡ length h) (kept : AreKept kinds budget h split keys objects) (aligned : length objects ≡ length keys) (aligned_too : length marked ≡ length keys) (are : AreSet scope keys objects marked)
-    (judged : (i : ℕ) (key : ℤ) (o : Object) → IsOf scope key → slice_get keys i ≡ Some key → slice_get objects i ≡ Some o → IsJudged budget o) where
-  picks_of : (key : ℤ) (o : Object) → IsObject kinds budget h split key o → length o.picks.items ≡ length (part key h)
+    (judged : (i : ℕ) (key : Item) (o : Object) → IsOf scope key → slice_get keys i ≡ Some key → slice_get objects i ≡ Some o → IsJudged budget o) where
+  picks_of : (key : Item) (o : Object) → IsObject kinds budget h split key o → length o.picks.items ≡ length (part key h)
   picks_of key o is = (spell key h o.picks.items (whole_picked kinds budget h split key o all is)).length_of
 
   -- where its frontiers are over, its events are
-  over_told : (key : ℤ) (o : Object) → IsObject kinds budget h split key o → IsJudged budget o → (at : ℕ) → end_in o.chain ≡ Over at → IsEndOf (kinds key) budget (part key h) (Over at)
+  over_told : (key : Item) (o : Object) → IsObject kinds budget h split key o → IsJudged budget o → (at : ℕ) → end_in o.chain ≡ Over at → IsEndOf (kinds key) budget (part key h) (Over at)
   over_told key o is told at over = subst (λ k. IsEndOf k budget (part key h) (Over at)) is.kind (over_true o.chain (part key h) is.right budget at (told.stands ∙ over))
 
-  marked_one : (key : ℤ) (o : Object) → IsObject kinds budget h split key o → IsJudged budget o → IsObject kinds budget h split key (settled_object o)
+  marked_one : (key : Item) (o : Object) → IsObject kinds budget h split key o → IsJudged budget o → IsObject kinds budget h split key (settled_object o)
   marked_one key o is told = record {
     picked = is.picked;
     kind = is.kind;
@@ -78,7 +79,7 @@ module _ (spell : PositionsSpellParts) (kinds : ℤ → Kind) (budget : ℕ) (h 
   }
 
   -- what stood at a place of the list
-  there : (i : ℕ) (key : ℤ) → slice_get keys i ≡ Some key → (o : Object) × (slice_get objects i ≡ Some o)
+  there : (i : ℕ) (key : Item) → slice_get keys i ≡ Some key → (o : Object) × (slice_get objects i ≡ Some o)
   there i key key_at = let within = slice_get_within keys i key key_at in element_at objects i (omega (arith, within, aligned))
 
   pub AreKept-marked : AreKept kinds budget h split keys marked
@@ -95,14 +96,14 @@ module _ (spell : PositionsSpellParts) (kinds : ℤ → Kind) (budget : ℕ) (h 
         ];
   }
 
-  new_mark : (i : ℕ) (key : ℤ) (o : Object) → slice_get keys i ≡ Some key → slice_get marked i ≡ Some o → mark_of (listed_marks keys marked) key ≡ o.mark
+  new_mark : (i : ℕ) (key : Item) (o : Object) → slice_get keys i ≡ Some key → slice_get marked i ≡ Some o → mark_of (listed_marks keys marked) key ≡ o.mark
   new_mark = mark_listed keys marked (one_place keys kept.distinct)
 
-  old_mark : (i : ℕ) (key : ℤ) (o : Object) → slice_get keys i ≡ Some key → slice_get objects i ≡ Some o → mark_of (listed_marks keys objects) key ≡ o.mark
+  old_mark : (i : ℕ) (key : Item) (o : Object) → slice_get keys i ≡ Some key → slice_get objects i ≡ Some o → mark_of (listed_marks keys objects) key ≡ o.mark
   old_mark = mark_listed keys objects (one_place keys kept.distinct)
 
   -- the object that was asked about, and its mark before and after
-  asked_mark : (key : ℤ) → IsAsked h scope key → (o : Object) × IsObject kinds budget h split key o × IsJudged budget o
+  asked_mark : (key : Item) → IsAsked h scope key → (o : Object) × IsObject kinds budget h split key o × IsJudged budget o
       × (mark_of (listed_marks keys marked) key ≡ answered_at (end_in o.chain) (ready_count o.chain) (length o.picks.items)) × (mark_of (listed_marks keys objects) key ≡ o.mark)
   asked_mark key asked = elim (is_listed keys key) [
     | inl at ↦
@@ -152,7 +153,7 @@ module _ (spell : PositionsSpellParts) (kinds : ℤ → Kind) (budget : ℕ) (h 
   }
 
   -- what stands over is marked as over
-  pub marked_over : PartsOfPrefixes → (at : ℕ) (i : ℕ) (key : ℤ) (o : Object) → IsOf scope key → slice_get keys i ≡ Some key → slice_get objects i ≡ Some o → StandsOver at o
+  pub marked_over : PartsOfPrefixes → (at : ℕ) (i : ℕ) (key : Item) (o : Object) → IsOf scope key → slice_get keys i ≡ Some key → slice_get objects i ≡ Some o → StandsOver at o
       → IsMarkedOver h scope (mark_of (listed_marks keys marked)) at
   marked_over prefixes at i key o of_scope key_at o_at stands =
       let is = kept.each i key o key_at o_at in
@@ -169,7 +170,7 @@ module _ (spell : PositionsSpellParts) (kinds : ℤ → Kind) (budget : ℕ) (h 
       (key, asked, ap (λ (m : Mark). m.over) mark ∙ ap over_in stands.over ∙ ap Some (sym count))
 
 -- one object is marked
-pub AreSet-one : (keys : List ℤ) (objects : List Object) → AllPairs (λ x y. x ≢ y) keys → length objects ≡ length keys → (at : ℕ) (named : ℤ) (old new : Object) → slice_get keys at ≡ Some named → slice_get objects at ≡ Some old
+pub AreSet-one : (keys : List Item) (objects : List Object) → AllPairs (λ x y. x ≢ y) keys → length objects ≡ length keys → (at : ℕ) (named : Item) (old new : Object) → slice_get keys at ≡ Some named → slice_get objects at ≡ Some old
     → new ≡ settled_object old → AreSet (scope.Object named) keys objects (set objects at new)
 AreSet-one keys objects distinct aligned at named old new named_at old_at is = λ i key o key_at o_at.
     let within = slice_get_within objects i o o_at in
@@ -185,14 +186,14 @@ AreSet-one keys objects distinct aligned at named old new named_at old_at is = �
       )
     ]
 
-pub AreSet-none : (keys : List ℤ) (objects : List Object) (named : ℤ) → (Contains keys named → ⊥) → AreSet (scope.Object named) keys objects objects
+pub AreSet-none : (keys : List Item) (objects : List Object) (named : Item) → (Contains keys named → ⊥) → AreSet (scope.Object named) keys objects objects
 AreSet-none keys objects named absent = λ i key o key_at o_at. inr ((λ same. absent (subst (Contains keys) same (there_at keys i key key_at))), o_at)
 
-pub AreSet-all : (keys : List ℤ) (objects : List Object) → AreSet scope.Whole keys objects (map settled_object objects)
+pub AreSet-all : (keys : List Item) (objects : List Object) → AreSet scope.Whole keys objects (map settled_object objects)
 AreSet-all keys objects = λ i key o key_at o_at. inl (tt, slice_get-map settled_object objects i ∙ ap (option_map settled_object) o_at)
 
 -- where the marks before are the same
-pub AreMarked-since : (kinds : ℤ → Kind) (budget : ℕ) (h : List Event) (scope : Scope) (old mid new : ℤ → Mark) → AreSameMarks old mid → AreMarked kinds budget h scope mid new → AreMarked kinds budget h scope old new
+pub AreMarked-since : (kinds : Item → Kind) (budget : ℕ) (h : List Event) (scope : Scope) (old mid new : Item → Mark) → AreSameMarks old mid → AreMarked kinds budget h scope mid new → AreMarked kinds budget h scope old new
 AreMarked-since kinds budget h scope old mid new same are = record {
   settled = are.settled;
   over = are.over;

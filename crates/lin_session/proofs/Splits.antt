@@ -1,8 +1,9 @@
 -- What is kept of the objects, where one event less or one more is told apart.
-use Rattle.std.proofs.Common.{◌≡◌, ◌≢◌, ◌<◌, ◌≤◌, ◌+◌, ◌-◌, inl, inr, ℕ, suc, ℤ, List, [], ◌∷◌, ◌++◌, length, slice_get, set, take, AllPairs, Contains, Some, refl, sym, ap, subst, ◌∙◌, arith, add-one}
+use Rattle.std.proofs.Common.{◌≡◌, ◌≢◌, ◌<◌, ◌≤◌, ◌+◌, ◌-◌, inl, inr, ℕ, suc, List, [], ◌∷◌, ◌++◌, length, slice_get, set, take, AllPairs, Contains, Some, refl, sym, ap, subst, ◌∙◌, arith, add-one}
 use Rattle.std.proofs.lemmas.Bool.{cases_order}
 use Rattle.std.proofs.lemmas.List.Elements.{Contains-push, Contains-append_left}
 use Rattle.std.proofs.lemmas.Option.{same_Some, slice_get_within}
+use Rattle.lin_events.specs.declared.items.Item.{Item}
 use Rattle.lin_events.specs.declared.events.Event.{Event}
 use Rattle.lin_events.specs.Operations.{IsEvent}
 use Rattle.lin_objects.specs.declared.kinds.Kind.{Kind}
@@ -18,7 +19,7 @@ use Rattle.lin_session.proofs.Changes.{AreKept-one, AreKept-more}
 use Rattle.lin_session.proofs.Picks.{event_of_key, picks_less, picks_stay, picks_more, picks_same}
 
 -- the picks change alone
-picked_anew : (kinds : ℤ → Kind) (budget : ℕ) (h : List Event) (split later : ℕ) (key : ℤ) (old object : Object) → object.count ≡ old.count → object.chain ≡ old.chain → object.mark ≡ old.mark
+picked_anew : (kinds : Item → Kind) (budget : ℕ) (h : List Event) (split later : ℕ) (key : Item) (old object : Object) → object.count ≡ old.count → object.chain ≡ old.chain → object.mark ≡ old.mark
     → IsObject kinds budget h split key old → ArePositionsOf key (take later h) object.picks.items → IsObject kinds budget h later key object
 picked_anew kinds budget h split later key old object count chain mark is picked = record {
   picked = picked;
@@ -29,12 +30,12 @@ picked_anew kinds budget h split later key old object count chain mark is picked
   over = λ at e. is.over at (same_over old.mark object.mark at mark e);
 }
 
-module _ (kinds : ℤ → Kind) (budget : ℕ) (h : List Event) (last : ℕ) (event : Event) (stands : IsEvent h last event) (keys : List ℤ) (objects : List Object) where
+module _ (kinds : Item → Kind) (budget : ℕ) (h : List Event) (last : ℕ) (event : Event) (stands : IsEvent h last event) (keys : List Item) (objects : List Object) where
   module _ (law : PartsOfPrefixes) (kept : AreKept kinds budget h (suc last) keys objects) where
     known_less : (at : ℕ) (e : Event) → at < last → IsEvent h at e → Contains keys e.key
     known_less at e below there = kept.known at e (omega arith) there
 
-    other_less : (x : ℤ) (o : Object) → x ≢ event.key → IsObject kinds budget h (suc last) x o → IsObject kinds budget h last x o
+    other_less : (x : Item) (o : Object) → x ≢ event.key → IsObject kinds budget h (suc last) x o → IsObject kinds budget h last x o
     other_less x o other is = picked_anew kinds budget h (suc last) last x o o refl refl refl is (picks_stay h x last event stands o.picks.items is.picked law (λ same. other (sym same)))
 
     within_less : last ≤ length h
@@ -52,13 +53,13 @@ module _ (kinds : ℤ → Kind) (budget : ℕ) (h : List Event) (last : ℕ) (ev
     AreKept-less_unlisted absent = absurd (absent (kept.known last event (omega arith) stands))
 
   module _ (law : PartsGrow) (kept : AreKept kinds budget h last keys objects) where
-    other_more : (x : ℤ) (o : Object) → x ≢ event.key → IsObject kinds budget h last x o → IsObject kinds budget h (suc last) x o
+    other_more : (x : Item) (o : Object) → x ≢ event.key → IsObject kinds budget h last x o → IsObject kinds budget h (suc last) x o
     other_more x o other is = picked_anew kinds budget h last (suc last) x o o refl refl refl is (picks_same law h x last event stands o.picks.items is.picked (λ same. other (sym same)))
 
     within_more : suc last ≤ length h
     within_more = slice_get_within h last event stands
 
-    pub known_more : (keys' : List ℤ) → ((x : ℤ) → Contains keys x → Contains keys' x) → Contains keys' event.key → (at : ℕ) (e : Event) → at < suc last → IsEvent h at e → Contains keys' e.key
+    pub known_more : (keys' : List Item) → ((x : Item) → Contains keys x → Contains keys' x) → Contains keys' event.key → (at : ℕ) (e : Event) → at < suc last → IsEvent h at e → Contains keys' e.key
     known_more keys' stays new at e below there = elim (cases_order at last) [
       | inl equal ↦ subst (λ (x : Event). Contains keys' x.key) (same_Some _ _ (sym stands ∙ ap (slice_get h) (sym equal) ∙ there)) new
       | inr rest ↦ elim rest [
@@ -102,15 +103,15 @@ module _ (kinds : ℤ → Kind) (budget : ℕ) (h : List Event) (last : ℕ) (ev
         }) other_more absent
 
 -- a refused pick leaves what is kept
-pub AreKept-refused : (kinds : ℤ → Kind) (budget : ℕ) (h : List Event) (split : ℕ) (keys : List ℤ) (objects : List Object) → AreKept kinds budget h split keys objects
-    → (i : ℕ) (key : ℤ) (old object : Object) → slice_get keys i ≡ Some key → slice_get objects i ≡ Some old
+pub AreKept-refused : (kinds : Item → Kind) (budget : ℕ) (h : List Event) (split : ℕ) (keys : List Item) (objects : List Object) → AreKept kinds budget h split keys objects
+    → (i : ℕ) (key : Item) (old object : Object) → slice_get keys i ≡ Some key → slice_get objects i ≡ Some old
     → object.picks.items ≡ old.picks.items → object.count ≡ old.count → object.chain ≡ old.chain → object.mark ≡ old.mark → AreKept kinds budget h split keys (set objects i object)
 AreKept-refused kinds budget h split keys objects kept i key old object key_at old_at picks count chain mark =
     AreKept-one kinds kinds budget budget h h split split keys objects kept kept.within i key object key_at kept.known old old_at (λ is.
     picked_anew kinds budget h split split key old object count chain mark is (subst (ArePositionsOf key (take split h)) (sym picks) is.picked)) (λ x o other is. is)
 
 -- the same, of the lists as they are found
-pub AreKept-listed : (law : PartsGrow) (kinds : ℤ → Kind) (budget : ℕ) (h : List Event) (last later : ℕ) (event : Event) (key : ℤ) (keys keys' : List ℤ) (objects objects' : List Object) (object : Object)
+pub AreKept-listed : (law : PartsGrow) (kinds : Item → Kind) (budget : ℕ) (h : List Event) (last later : ℕ) (event : Event) (key : Item) (keys keys' : List Item) (objects objects' : List Object) (object : Object)
     → IsEvent h last event → event.key ≡ key → AreKept kinds budget h last keys objects → later ≡ last + 1 → keys' ≡ keys ++ key ∷ [] → objects' ≡ objects ++ object ∷ []
     → length objects ≡ length keys → AllPairs (λ x y. x ≢ y) keys' → (Contains keys key → ⊥) → object.picks.items ≡ last ∷ [] → object.count ≡ 0 → object.mark ≡ unasked → kind_in object.chain ≡ kinds key
     → ((part' : List Event) → IsRight object.chain part') → AreKept kinds budget h later keys' objects'

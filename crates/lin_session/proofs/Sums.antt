@@ -1,12 +1,13 @@
 -- Sums over the keys of a history.
-use Rattle.std.proofs.Common.{◌≡◌, ◌≢◌, ◌+◌, ◌<◌, ◌≤◌, ◌⊎◌, ℕ, suc, ℤ, Bool, true, false, cond, not, List, [], ◌∷◌, length, slice_get, Some, inl, inr, refl, sym, ap, ◌∙◌, arith}
+use Rattle.std.proofs.Common.{◌≡◌, ◌≢◌, ◌+◌, ◌<◌, ◌≤◌, ◌⊎◌, ℕ, suc, Bool, true, false, cond, not, List, [], ◌∷◌, length, slice_get, Some, inl, inr, refl, sym, ap, ◌∙◌, arith}
 use Rattle.std.specs.Prelude.{◌||◌, filter}
 use Rattle.std.specs.List.{list_any, sum_by}
-use Rattle.std.specs.Ordering.{int_eq}
 use Rattle.std.proofs.lemmas.Bool.{false≢true}
-use Rattle.std.proofs.lemmas.Bool.Decides.{Decides-int_eq}
 use Rattle.std.proofs.lemmas.List.Filters.{sum_by-filter_both}
 use Rattle.std.proofs.lemmas.List.Sums.{sum_by-cons}
+use Rattle.lin_events.specs.declared.items.Item.{Item}
+use Rattle.lin_events.specs.Sameness.{Decides-item_eq}
+use Rattle.lin_events.specs.Items.{item_eq}
 use Rattle.lin_events.specs.declared.events.Event.{Event}
 use Rattle.lin_orders.specs.Parts.{part}
 use Rattle.lin_session.specs.Work.{keys_of}
@@ -14,56 +15,56 @@ use Rattle.lin_session.proofs.Around.{part-same}
 use Rattle.lin_session.proofs.Listed.{IsOnce, once_head, once_rest}
 
 -- an element is in a list
-abbrev IsIn : ℤ → List ℤ → Type 0
-IsIn x xs = list_any (int_eq x) xs ≡ true
+abbrev IsIn : Item → List Item → Type 0
+IsIn x xs = list_any (item_eq x) xs ≡ true
 
 -- the other elements
-abbrev others : ℤ → List ℤ → List ℤ
-others x xs = filter (λ y. not (int_eq x y)) xs
+abbrev others : Item → List Item → List Item
+others x xs = filter (λ y. not (item_eq x y)) xs
 
-same_key : (x y : ℤ) → int_eq x y ≡ true → x ≡ y
-same_key x y e = (Decides-int_eq x y).0 e
+same_key : (x y : Item) → item_eq x y ≡ true → x ≡ y
+same_key x y e = (Decides-item_eq x y).0 e
 
-other_key : (x y : ℤ) → x ≢ y → int_eq x y ≡ false
-other_key x y other = by (int_eq x y) refl
+other_key : (x y : Item) → x ≢ y → item_eq x y ≡ false
+other_key x y other = by (item_eq x y) refl
   where
-    by : (b : Bool) → int_eq x y ≡ b → int_eq x y ≡ false
+    by : (b : Bool) → item_eq x y ≡ b → item_eq x y ≡ false
     by true e = absurd (other (same_key x y e))
     by false e = e
 
-pub sum_head : (f : ℤ → ℕ) (x : ℤ) (xs : List ℤ) → sum_by f (x ∷ xs) ≡ f x + sum_by f xs
+pub sum_head : (f : Item → ℕ) (x : Item) (xs : List Item) → sum_by f (x ∷ xs) ≡ f x + sum_by f xs
 sum_head f x xs = sum_by-cons f x xs
 
-in_others : (x z : ℤ) (ys : List ℤ) → x ≢ z → IsIn z ys → IsIn z (others x ys)
+in_others : (x z : Item) (ys : List Item) → x ≢ z → IsIn z ys → IsIn z (others x ys)
 in_others x z [] other there = absurd (false≢true there)
-in_others x z (y ∷ ys) other there = by (λ in_ys. in_others x z ys other in_ys) (int_eq z y) refl (int_eq x y) refl
+in_others x z (y ∷ ys) other there = by (λ in_ys. in_others x z ys other in_ys) (item_eq z y) refl (item_eq x y) refl
   where
-    by : (IsIn z ys → IsIn z (others x ys)) → (a : Bool) → int_eq z y ≡ a → (b : Bool) → int_eq x y ≡ b → IsIn z (others x (y ∷ ys))
+    by : (IsIn z ys → IsIn z (others x ys)) → (a : Bool) → item_eq z y ≡ a → (b : Bool) → item_eq x y ≡ b → IsIn z (others x (y ∷ ys))
     by rest true e true f = absurd (other (same_key x y f ∙ sym (same_key z y e)))
-    by rest true e false f = ap (λ c. list_any (int_eq z) (cond (not c) (y ∷ others x ys) (others x ys))) f ∙ ap (λ c. c || list_any (int_eq z) (others x ys)) e
+    by rest true e false f = ap (λ c. list_any (item_eq z) (cond (not c) (y ∷ others x ys) (others x ys))) f ∙ ap (λ c. c || list_any (item_eq z) (others x ys)) e
     by rest false e true f =
-        ap (λ c. list_any (int_eq z) (cond (not c) (y ∷ others x ys) (others x ys))) f ∙ rest (sym (ap (λ c. c || list_any (int_eq z) ys) e) ∙ there)
+        ap (λ c. list_any (item_eq z) (cond (not c) (y ∷ others x ys) (others x ys))) f ∙ rest (sym (ap (λ c. c || list_any (item_eq z) ys) e) ∙ there)
     by rest false e false f =
-        ap (λ c. list_any (int_eq z) (cond (not c) (y ∷ others x ys) (others x ys))) f ∙ ap (λ c. c || list_any (int_eq z) (others x ys)) e
-        ∙ rest (sym (ap (λ c. c || list_any (int_eq z) ys) e) ∙ there)
+        ap (λ c. list_any (item_eq z) (cond (not c) (y ∷ others x ys) (others x ys))) f ∙ ap (λ c. c || list_any (item_eq z) (others x ys)) e
+        ∙ rest (sym (ap (λ c. c || list_any (item_eq z) ys) e) ∙ there)
 
-others_sum : (f : ℤ → ℕ) (x : ℤ) (ys : List ℤ) → sum_by f (others x ys) ≤ sum_by f ys
-others_sum f x ys = omega (arith, sum_by-filter_both (λ y. not (int_eq x y)) (λ y. not (not (int_eq x y))) (λ y. refl) f ys)
+others_sum : (f : Item → ℕ) (x : Item) (ys : List Item) → sum_by f (others x ys) ≤ sum_by f ys
+others_sum f x ys = omega (arith, sum_by-filter_both (λ y. not (item_eq x y)) (λ y. not (not (item_eq x y))) (λ y. refl) f ys)
 
-taken_sum : (f : ℤ → ℕ) (x : ℤ) (ys : List ℤ) → IsIn x ys → f x + sum_by f (others x ys) ≤ sum_by f ys
+taken_sum : (f : Item → ℕ) (x : Item) (ys : List Item) → IsIn x ys → f x + sum_by f (others x ys) ≤ sum_by f ys
 taken_sum f x [] there = absurd (false≢true there)
-taken_sum f x (y ∷ ys) there = by (λ in_ys. taken_sum f x ys in_ys) (int_eq x y) refl
+taken_sum f x (y ∷ ys) there = by (λ in_ys. taken_sum f x ys in_ys) (item_eq x y) refl
   where
-    by : (IsIn x ys → f x + sum_by f (others x ys) ≤ sum_by f ys) → (b : Bool) → int_eq x y ≡ b → f x + sum_by f (others x (y ∷ ys)) ≤ sum_by f (y ∷ ys)
+    by : (IsIn x ys → f x + sum_by f (others x ys) ≤ sum_by f ys) → (b : Bool) → item_eq x y ≡ b → f x + sum_by f (others x (y ∷ ys)) ≤ sum_by f (y ∷ ys)
     by rest true e =
         let dropped = ap (λ c. sum_by f (cond (not c) (y ∷ others x ys) (others x ys))) e in
         omega (arith, dropped, ap f (same_key x y e), others_sum f x ys, sum_head f y ys)
     by rest false e =
         let kept = ap (λ c. sum_by f (cond (not c) (y ∷ others x ys) (others x ys))) e in
-        omega (arith, kept, sum_head f y (others x ys), sum_head f y ys, rest (sym (ap (λ c. c || list_any (int_eq x) ys) e) ∙ there))
+        omega (arith, kept, sum_head f y (others x ys), sum_head f y ys, rest (sym (ap (λ c. c || list_any (item_eq x) ys) e) ∙ there))
 
 -- a sum over keys that differ, and that are in another list unless they add nothing
-pub sum_within : (f : ℤ → ℕ) (xs ys : List ℤ) → IsOnce xs → ((i : ℕ) (x : ℤ) → slice_get xs i ≡ Some x → (f x ≡ 0) ⊎ IsIn x ys) → sum_by f xs ≤ sum_by f ys
+pub sum_within : (f : Item → ℕ) (xs ys : List Item) → IsOnce xs → ((i : ℕ) (x : Item) → slice_get xs i ≡ Some x → (f x ≡ 0) ⊎ IsIn x ys) → sum_by f xs ≤ sum_by f ys
 sum_within f [] ys once inside = omega arith
 sum_within f (x ∷ xs) ys once inside = elim (inside 0 x refl) [
   | inl nothing ↦ omega (arith, nothing, sum_head f x xs, sum_within f xs ys (once_rest x xs once) (λ i z at. inside (suc i) z at))
@@ -76,17 +77,17 @@ sum_within f (x ∷ xs) ys once inside = elim (inside 0 x refl) [
 ]
 
 -- a key with an event is one of the history's
-pub in_keys : (h : List Event) (x : ℤ) → 0 < length (part x h) → IsIn x (keys_of h)
+pub in_keys : (h : List Event) (x : Item) → 0 < length (part x h) → IsIn x (keys_of h)
 in_keys [] x some = absurd (omega (arith, some))
-in_keys (event ∷ h) x some = by (λ more. in_keys h x more) (int_eq event.key x) refl
+in_keys (event ∷ h) x some = by (λ more. in_keys h x more) (item_eq event.key x) refl
   where
-    by : (0 < length (part x h) → IsIn x (keys_of h)) → (b : Bool) → int_eq event.key x ≡ b → IsIn x (keys_of (event ∷ h))
-    by rest true e = ap (λ c. c || list_any (int_eq x) (others event.key (keys_of h))) ((Decides-int_eq x event.key).1 (sym (same_key event.key x e)))
+    by : (0 < length (part x h) → IsIn x (keys_of h)) → (b : Bool) → item_eq event.key x ≡ b → IsIn x (keys_of (event ∷ h))
+    by rest true e = ap (λ c. c || list_any (item_eq x) (others event.key (keys_of h))) ((Decides-item_eq x event.key).1 (sym (same_key event.key x e)))
     by rest false e =
-        let other : event.key ≢ x = λ same. absurd (false≢true (sym e ∙ (Decides-int_eq event.key x).1 same)) in
+        let other : event.key ≢ x = λ same. absurd (false≢true (sym e ∙ (Decides-item_eq event.key x).1 same)) in
         let more : 0 < length (part x h) = omega (arith, some, ap length (part-same x event h other)) in
-        ap (λ c. c || list_any (int_eq x) (others event.key (keys_of h))) (other_key x event.key (λ same. other (sym same))) ∙ in_others event.key x (keys_of h) other (rest more)
+        ap (λ c. c || list_any (item_eq x) (others event.key (keys_of h))) (other_key x event.key (λ same. other (sym same))) ∙ in_others event.key x (keys_of h) other (rest more)
 
-pub sum_same : (f g : ℤ → ℕ) (xs : List ℤ) → ((x : ℤ) → f x ≡ g x) → sum_by f xs ≡ sum_by g xs
+pub sum_same : (f g : Item → ℕ) (xs : List Item) → ((x : Item) → f x ≡ g x) → sum_by f xs ≡ sum_by g xs
 sum_same f g [] same = refl
 sum_same f g (x ∷ xs) same = omega (arith, same x, sum_head f x xs, sum_head g x xs, sum_same f g xs same)

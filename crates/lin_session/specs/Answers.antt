@@ -1,5 +1,6 @@
 -- What the answers to questions say of the present history.
-use Rattle.std.specs.Prelude.{◌≡◌, ◌+◌, ◌-◌, ◌≤◌, ℕ, ℤ, List, length, take}
+use Rattle.std.specs.Prelude.{◌≡◌, ◌+◌, ◌-◌, ◌≤◌, ℕ, List, length, take}
+use Rattle.lin_events.specs.declared.items.Item.{Item}
 use Rattle.lin_events.specs.declared.events.Event.{Event}
 use Rattle.lin_events.specs.declared.shapes.Shape.TheVariants.{Bad}
 use Rattle.lin_events.specs.Operations.{IsEvent}
@@ -19,7 +20,7 @@ use Rattle.lin_session.specs.declared.answers.Scope.TheVariants.{Object, Whole}
 use Rattle.lin_session.specs.Edits.{Present}
 
 -- the kind of each key's object
-abbrev pub kinds_in : Present → ℤ → Kind
+abbrev pub kinds_in : Present → Item → Kind
 kinds_in now = kind_of now.kinds
 
 -- the shortest prefix of the history that hasn't the property has so many events
@@ -29,29 +30,29 @@ pub record IsShortestWithout (holds : List Event → Type 0) (h : List Event) (n
   pub before : holds (take (n - 1) h)
 
 -- with the event at the position, which is of the key, the object has more configurations than the budget
-pub record IsOverAt (kinds : ℤ → Kind) (budget : ℕ) (h : List Event) (key : ℤ) (at : ℕ) : Type 0 where
+pub record IsOverAt (kinds : Item → Kind) (budget : ℕ) (h : List Event) (key : Item) (at : ℕ) : Type 0 where
   pub event : Event
   pub stands : IsEvent h at event
   pub same : event.key ≡ key
   pub over : IsOver (start (kinds key)) (Step (kinds key)) (part key (take (at + 1) h)) budget
 
 -- in some prefix of the history the object has more configurations than the budget
-abbrev pub IsOverSomewhere : (ℤ → Kind) → ℕ → List Event → ℤ → Type 0
+abbrev pub IsOverSomewhere : (Item → Kind) → ℕ → List Event → Item → Type 0
 IsOverSomewhere kinds budget h key = (n : ℕ) × IsOver (start (kinds key)) (Step (kinds key)) (part key (take n h)) budget
 
 -- of a well-formed history the answer for one object
-abbrev pub IsObjectAnswer : (ℤ → Kind) → ℕ → List Event → ℤ → Answer → Type 0
+abbrev pub IsObjectAnswer : (Item → Kind) → ℕ → List Event → Item → Answer → Type 0
 IsObjectAnswer kinds budget h key (IllFormed at cause) = ⊥
 IsObjectAnswer kinds budget h key (Yes order) = IsLegalOrderFor kinds key h order.items
 IsObjectAnswer kinds budget h key (No n) = IsShortestWithout (IsLinearizableFor kinds key) h n
 IsObjectAnswer kinds budget h key (Undecided at) = IsOverAt kinds budget h key at
 
 -- of a well-formed history the answer for the whole. Where it is undecided, no shorter failure is hidden: up to there the history is linearizable
-abbrev pub IsWholeAnswer : (ℤ → Kind) → ℕ → List Event → Answer → Type 0
+abbrev pub IsWholeAnswer : (Item → Kind) → ℕ → List Event → Answer → Type 0
 IsWholeAnswer kinds budget h (IllFormed at cause) = ⊥
 IsWholeAnswer kinds budget h (Yes order) = IsLegalOrder kinds h order.items
 IsWholeAnswer kinds budget h (No n) = IsShortestWithout (IsLinearizable kinds) h n
-IsWholeAnswer kinds budget h (Undecided at) = IsLinearizable kinds (take (at + 1) h) × (key : ℤ) × IsOverAt kinds budget h key at
+IsWholeAnswer kinds budget h (Undecided at) = IsLinearizable kinds (take (at + 1) h) × (key : Item) × IsOverAt kinds budget h key at
 
 abbrev pub IsScopeAnswer : Present → Scope → Answer → Type 0
 IsScopeAnswer now (Object key) answer = IsObjectAnswer (kinds_in now) now.budget now.history key answer
@@ -70,18 +71,18 @@ verdict_of (No n) = verdict.No n
 verdict_of (Undecided at) = verdict.Undecided at
 
 -- of a well-formed history the verdict for one object
-abbrev pub IsObjectVerdict : (ℤ → Kind) → ℕ → List Event → ℤ → Verdict → Type 0
+abbrev pub IsObjectVerdict : (Item → Kind) → ℕ → List Event → Item → Verdict → Type 0
 IsObjectVerdict kinds budget h key (verdict.IllFormed at cause) = ⊥
 IsObjectVerdict kinds budget h key verdict.Yes = IsLinearizableFor kinds key h
 IsObjectVerdict kinds budget h key (verdict.No n) = IsShortestWithout (IsLinearizableFor kinds key) h n
 IsObjectVerdict kinds budget h key (verdict.Undecided at) = IsOverAt kinds budget h key at
 
 -- of a well-formed history the verdict for the whole
-abbrev pub IsWholeVerdict : (ℤ → Kind) → ℕ → List Event → Verdict → Type 0
+abbrev pub IsWholeVerdict : (Item → Kind) → ℕ → List Event → Verdict → Type 0
 IsWholeVerdict kinds budget h (verdict.IllFormed at cause) = ⊥
 IsWholeVerdict kinds budget h verdict.Yes = IsLinearizable kinds h
 IsWholeVerdict kinds budget h (verdict.No n) = IsShortestWithout (IsLinearizable kinds) h n
-IsWholeVerdict kinds budget h (verdict.Undecided at) = IsLinearizable kinds (take (at + 1) h) × (key : ℤ) × IsOverAt kinds budget h key at
+IsWholeVerdict kinds budget h (verdict.Undecided at) = IsLinearizable kinds (take (at + 1) h) × (key : Item) × IsOverAt kinds budget h key at
 
 abbrev pub IsScopeVerdict : Present → Scope → Verdict → Type 0
 IsScopeVerdict now (Object key) verdict = IsObjectVerdict (kinds_in now) now.budget now.history key verdict

@@ -1,5 +1,6 @@
 -- What is kept of the objects of a history.
-use Rattle.std.specs.Prelude.{Option, None, ◌≡◌, ◌≢◌, ◌≤◌, ◌<◌, ◌⊎◌, ℕ, ℤ, List, [], ◌∷◌, Some, AllPairs, Contains, length, min, take, slice_get}
+use Rattle.std.specs.Prelude.{Option, None, ◌≡◌, ◌≢◌, ◌≤◌, ◌<◌, ◌⊎◌, ℕ, List, [], ◌∷◌, Some, AllPairs, Contains, length, min, take, slice_get}
+use Rattle.lin_events.specs.declared.items.Item.{Item}
 use Rattle.lin_events.specs.declared.events.Event.{Event}
 use Rattle.lin_events.specs.Operations.{IsEvent}
 use Rattle.lin_objects.specs.declared.kinds.Kind.{Kind}
@@ -35,7 +36,7 @@ pub record IsMarkRight (budget count : ℕ) (object : Object) : Type 0 where
   pub over : object.mark.due ≡ None → object.mark.over ≡ over_in (end_in object.chain)
 
 -- the object of the key, after a history whose first `split` events are told apart by their keys
-pub record IsObject (kinds : ℤ → Kind) (budget : ℕ) (h : List Event) (split : ℕ) (key : ℤ) (object : Object) : Type 0 where
+pub record IsObject (kinds : Item → Kind) (budget : ℕ) (h : List Event) (split : ℕ) (key : Item) (object : Object) : Type 0 where
   pub picked : ArePositionsOf key (take split h) object.picks.items
   pub kind : kind_in object.chain ≡ kinds key
   pub right : IsRight object.chain (part key h)
@@ -44,25 +45,25 @@ pub record IsObject (kinds : ℤ → Kind) (budget : ℕ) (h : List Event) (spli
   pub over : (at : ℕ) → object.mark.over ≡ Some at → IsEndOf (kinds key) budget (part key h) (Over at)
 
 -- each key of the first `split` events is listed, once, and at its place stands what is kept of its object
-pub record AreKept (kinds : ℤ → Kind) (budget : ℕ) (h : List Event) (split : ℕ) (keys : List ℤ) (objects : List Object) : Type 0 where
+pub record AreKept (kinds : Item → Kind) (budget : ℕ) (h : List Event) (split : ℕ) (keys : List Item) (objects : List Object) : Type 0 where
   pub within : split ≤ length h
   pub distinct : AllPairs (λ x y. x ≢ y) keys
   pub known : (at : ℕ) (event : Event) → at < split → IsEvent h at event → Contains keys event.key
-  pub each : (i : ℕ) (key : ℤ) (object : Object) → slice_get keys i ≡ Some key → slice_get objects i ≡ Some object → IsObject kinds budget h split key object
+  pub each : (i : ℕ) (key : Item) (object : Object) → slice_get keys i ≡ Some key → slice_get objects i ≡ Some object → IsObject kinds budget h split key object
 
 -- how many events are told apart
 abbrev pub split_in : Objects → ℕ
 split_in objects = objects.split
 
 -- each key with the mark of its object
-abbrev pub listed_marks : List ℤ → List Object → List (ℤ × Mark)
+abbrev pub listed_marks : List Item → List Object → List (Item × Mark)
 listed_marks [] objects = []
 listed_marks (key ∷ keys) [] = []
 listed_marks (key ∷ keys) (object ∷ objects) = (key, object.mark) ∷ listed_marks keys objects
 
-abbrev pub marked_keys : Objects → List (ℤ × Mark)
+abbrev pub marked_keys : Objects → List (Item × Mark)
 marked_keys objects = listed_marks objects.keys.keys objects.objects.items
 
 -- what is kept is right for the history, the kinds and the budget
-abbrev pub AreRight : Objects → (ℤ → Kind) → ℕ → List Event → Type 0
+abbrev pub AreRight : Objects → (Item → Kind) → ℕ → List Event → Type 0
 AreRight objects kinds budget h = AreKept kinds budget h objects.split objects.keys.keys objects.objects.items

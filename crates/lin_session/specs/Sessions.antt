@@ -1,5 +1,6 @@
 -- What contracts see of a session, and what is always true of one.
-use Rattle.std.specs.Prelude.{◌≡◌, ◌≤◌, ℕ, ℤ, List, Option, None, Some, length}
+use Rattle.std.specs.Prelude.{◌≡◌, ◌≤◌, ℕ, List, Option, None, Some, length}
+use Rattle.lin_events.specs.declared.items.Item.{Item}
 use Rattle.lin_events.specs.declared.meter.Meter.{Meter}
 use Rattle.lin_events.specs.WellFormed.{IsWellFormed}
 use Rattle.lin_objects.specs.Kinds.{functions_of, kind_of}
@@ -16,7 +17,7 @@ pub record Standing : Type 0 where
   pub present : Present
   pub meter : Meter
   pub low : Option ℕ
-  pub marks : List (ℤ × Mark)
+  pub marks : List (Item × Mark)
 
 -- of so many events, so many are taken in: all, or no fewer than the first that stand
 abbrev pub AreTakenIn : Option ℕ → ℕ → ℕ → Type 0

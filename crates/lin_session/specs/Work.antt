@@ -1,7 +1,8 @@
 -- What a question costs after edits: how many of the first events still stand as they were found.
-use Rattle.std.specs.Prelude.{◌≡◌, ◌+◌, ◌-◌, ◌*◌, ◌/◌, ◌||◌, ℕ, ℤ, min, not, nat_le, nat_lt, List, [], ◌∷◌, Option, None, Some, filter, length, take, if◌then◌else◌}
+use Rattle.std.specs.Prelude.{◌≡◌, ◌+◌, ◌-◌, ◌*◌, ◌/◌, ◌||◌, ℕ, min, not, nat_le, nat_lt, List, [], ◌∷◌, Option, None, Some, filter, length, take, if◌then◌else◌}
 use Rattle.std.specs.List.{sum_by}
-use Rattle.std.specs.Ordering.{int_eq}
+use Rattle.lin_events.specs.declared.items.Item.{Item}
+use Rattle.lin_events.specs.Items.{item_eq}
 use Rattle.lin_events.specs.declared.events.Event.{Event}
 use Rattle.lin_orders.specs.Orders.{is_of_key}
 use Rattle.lin_orders.specs.Parts.{part}
@@ -86,31 +87,31 @@ raised mark = by mark.over
     by (Some at) = record { due = rounded_too (least (taken_in mark) (Some (rounded at))); over = None; behind = None }
 
 -- how many of the first events are of the key
-abbrev pub count_before : List Event → ℤ → ℕ → ℕ
+abbrev pub count_before : List Event → Item → ℕ → ℕ
 count_before h key at = length (part key (take at h))
 
 -- an edit at the position touches the key's object at the number of its events before that; what stands is a multiple of 64
-abbrev pub touched_at : List Event → ℤ → ℕ → Mark → Mark
+abbrev pub touched_at : List Event → Item → ℕ → Mark → Mark
 touched_at h key at mark = touched (count_before h key at) (rounded (count_before h key at)) mark
 
 -- where only the first events stay, an object that loses one is touched
-abbrev pub truncated : List Event → ℤ → ℕ → Mark → Mark
+abbrev pub truncated : List Event → Item → ℕ → Mark → Mark
 truncated h key count mark = if nat_lt (count_before h key count) (length (part key h)) then touched_at h key count mark else mark
 
 -- What an edit makes of the mark of the key's object. It touches the object of an event that it puts in, takes out or replaces. An event that is put
 -- last leaves all those before as they were found.
-abbrev pub mark_after : Edit → Present → ℤ → Mark → Mark
-mark_after (Append event) now key mark = if int_eq event.key key then touched (length (part key now.history)) (length (part key now.history)) mark else mark
+abbrev pub mark_after : Edit → Present → Item → Mark → Mark
+mark_after (Append event) now key mark = if item_eq event.key key then touched (length (part key now.history)) (length (part key now.history)) mark else mark
 mark_after (Truncate count) now key mark = truncated now.history key count mark
-mark_after (Replace at event) now key mark = if int_eq event.key key || is_of_key now.history key at then touched_at now.history key at mark else mark
+mark_after (Replace at event) now key mark = if item_eq event.key key || is_of_key now.history key at then touched_at now.history key at mark else mark
 mark_after (Remove at) now key mark = if is_of_key now.history key at then touched_at now.history key at mark else mark
-mark_after (SetKind named kind) now key mark = if int_eq named key then touched 0 0 mark else mark
+mark_after (SetKind named kind) now key mark = if item_eq named key then touched 0 0 mark else mark
 mark_after (SetBudget budget) now key mark = if nat_lt now.budget budget then raised mark else mark
 
 -- the keys of the history, each once
-abbrev pub keys_of : List Event → List ℤ
+abbrev pub keys_of : List Event → List Item
 keys_of [] = []
-keys_of (event ∷ h) = event.key ∷ filter (λ key. not (int_eq event.key key)) (keys_of h)
+keys_of (event ∷ h) = event.key ∷ filter (λ key. not (item_eq event.key key)) (keys_of h)
 
 -- where at least half of the events are due, all may be searched besides, once: six steps for each
 abbrev pub searched : Option ℕ → ℕ → ℕ
@@ -118,23 +119,23 @@ searched None count = 0
 searched (Some first) count = if nat_le (2 * first) count then 6 * count else 0
 
 -- what a question about the object costs: as many steps as it has events behind those that stand, and those of a search
-abbrev pub cost : (ℤ → Mark) → List Event → ℤ → ℕ
+abbrev pub cost : (Item → Mark) → List Event → Item → ℕ
 cost marks h key = anew (marks key).due (length (part key h)) + searched (marks key).due (length (part key h))
 
 -- and one about the scope
-abbrev pub cost_in : (ℤ → Mark) → List Event → Scope → ℕ
+abbrev pub cost_in : (Item → Mark) → List Event → Scope → ℕ
 cost_in marks h (Object key) = cost marks h key
 cost_in marks h Whole = sum_by (cost marks h) (keys_of h)
 
 -- the mark of the key's object among those that are listed; about any other object no question was
-abbrev pub mark_of : List (ℤ × Mark) → ℤ → Mark
+abbrev pub mark_of : List (Item × Mark) → Item → Mark
 mark_of [] key = unasked
-mark_of ((x, mark) ∷ marks) key = if int_eq x key then mark else mark_of marks key
+mark_of ((x, mark) ∷ marks) key = if item_eq x key then mark else mark_of marks key
 
 -- all marks are the same
-abbrev pub AreSameMarks : (ℤ → Mark) → (ℤ → Mark) → Type 0
-AreSameMarks old new = (key : ℤ) → new key ≡ old key
+abbrev pub AreSameMarks : (Item → Mark) → (Item → Mark) → Type 0
+AreSameMarks old new = (key : Item) → new key ≡ old key
 
 -- the object of the key is touched, and no other one
-abbrev pub AreTouched : ℤ → ℕ → ℕ → (ℤ → Mark) → (ℤ → Mark) → Type 0
-AreTouched key place left old new = (x : ℤ) → new x ≡ (if int_eq key x then touched place left (old x) else old x)
+abbrev pub AreTouched : Item → ℕ → ℕ → (Item → Mark) → (Item → Mark) → Type 0
+AreTouched key place left old new = (x : Item) → new x ≡ (if item_eq key x then touched place left (old x) else old x)

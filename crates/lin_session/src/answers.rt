@@ -1,7 +1,7 @@
 //! What is asked of a history, and what is answered.
 ghost use Rattle.lin_session.specs.Answers.{AnswersAreVerdicts};
 
-use lin_events::Cause;
+use lin_events::{Cause, Item};
 use lin_order::Refutation;
 use lin_orders::Placed;
 
@@ -9,7 +9,7 @@ use lin_orders::Placed;
 #[derive(Clone, Copy, Debug, PartialEq, Eq)]
 pub enum Scope {
     /// The object of this key.
-    Object(i64),
+    Object(Item),
     /// All objects together.
     Whole,
 }

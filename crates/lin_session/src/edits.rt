@@ -1,5 +1,5 @@
 //! Edits of a history, and why one is refused.
-use lin_events::Event;
+use lin_events::{Event, Item};
 use lin_objects::Kind;
 
 /// One change to a history, to the kind of an object or to the budget. Positions count from 0.
@@ -14,7 +14,7 @@ pub enum Edit {
     /// The event at the position goes, and each later one moves one place forward.
     Remove(usize),
     /// The object of the key is of this kind.
-    SetKind(i64, Kind),
+    SetKind(Item, Kind),
     /// So many configurations may be kept for one object.
     SetBudget(u32),
 }

@@ -1,5 +1,6 @@
 //! What the chains of the objects tell of the history: verdicts, answers and refutations.
-ghost use Rattle.std.specs.Prelude.{◌≡◌, ◌≢◌, ◌+◌, ◌<◌, ◌≤◌, ℕ, ℤ, All, Contains, IsOk, IfErr, IfOk, OnOk, None, Ok, Some, length, slice_get, take};
+ghost use Rattle.std.specs.Prelude.{◌≡◌, ◌≢◌, ◌+◌, ◌<◌, ◌≤◌, ℕ, All, Contains, IsOk, IfErr, IfOk, OnOk, None, Ok, Some, length, slice_get, take};
+ghost use Rattle.lin_events.specs.declared.items.Item.{Item as ItemOf};
 ghost use Rattle.lin_events.specs.WellFormed.{IsWellFormed};
 ghost use Rattle.lin_objects.specs.declared.kinds.Kind.{Kind as KindOf};
 ghost use Rattle.lin_objects.specs.Kinds.{functions_of, kind_of};
@@ -20,7 +21,7 @@ use crate::kept::Objects;
 use crate::marks::least_of;
 use crate::present::Present;
 use lin_chain::RefuteFault;
-use lin_events::{Event, Meter, OutOfMemory, beginnings_are_well_formed};
+use lin_events::{Event, Item, Meter, OutOfMemory, beginnings_are_well_formed};
 use lin_order::Refutation;
 use lin_orders::{
     absent_keys_are_legal, linearizability_is_local, parts_keep_operations, parts_keep_orders,
@@ -69,7 +70,7 @@ impl Objects {
     pub(crate) fn refute(
         &mut self,
         alloc: Global,
-        key: i64,
+        key: Item,
         present: &Present<'_>,
         meter: &mut Meter,
     ) -> Result<Refuted, RefuteFault>
@@ -101,16 +102,16 @@ impl Objects {
     fn refutation(
         &self,
         alloc: Global,
-        key: i64,
+        key: Item,
         events: &[Event],
         budget: u32,
     ) -> Result<Refutation, RefuteFault>
         requires dead { (n : ℕ) × IsDeadFor self.now (Scope.Object key) n }
         requires split { split_in self.now ≡ length events.now }
-        requires right { (kinds : ℤ → KindOf) × AreRight self.now kinds budget events.now × IsWellFormed (functions_of kinds) events.now }
-        ensures refuted { IfOk result (λ refutation. (kinds : ℤ → KindOf) (n : ℕ) → AreRight self.now kinds budget events.now → IsDeadFor self.now (Scope.Object key) n
+        requires right { (kinds : ItemOf → KindOf) × AreRight self.now kinds budget events.now × IsWellFormed (functions_of kinds) events.now }
+        ensures refuted { IfOk result (λ refutation. (kinds : ItemOf → KindOf) (n : ℕ) → AreRight self.now kinds budget events.now → IsDeadFor self.now (Scope.Object key) n
             → IsRefutation (part key (take n events.now)) (kinds key) (sets_of refutation)) }
-        ensures unrefuted { IfErr result (λ fault. (fault ≢ RefuteFault.NotDead) × (fault ≡ RefuteFault.TooLarge → (kinds : ℤ → KindOf) → AreRight self.now kinds budget events.now → IsOverSomewhere kinds budget events.now key)) }
+        ensures unrefuted { IfErr result (λ fault. (fault ≢ RefuteFault.NotDead) × (fault ≡ RefuteFault.TooLarge → (kinds : ItemOf → KindOf) → AreRight self.now kinds budget events.now → IsOverSomewhere kinds budget events.now key)) }
     {
         positions_spell_parts();
         parts_of_prefixes();
@@ -158,17 +159,17 @@ impl Objects {
     /// Whether the object of the key is linearizable. All events are told apart, and are well-formed.
     fn judge_object(
         &mut self,
-        key: i64,
+        key: Item,
         events: &[Event],
         budget: u32,
         meter: &mut Meter,
     ) -> Result<Verdict, OutOfMemory>
         requires few { length events.now < usize.MAX }
         requires split { split_in self.old ≡ length events.now }
-        requires right { (kinds : ℤ → KindOf) × AreRight self.old kinds budget events.now × IsWellFormed (functions_of kinds) events.now }
+        requires right { (kinds : ItemOf → KindOf) × AreRight self.old kinds budget events.now × IsWellFormed (functions_of kinds) events.now }
         ensures split { split_in self.new ≡ split_in self.old }
-        ensures right { (kinds : ℤ → KindOf) → AreRight self.old kinds budget events.now → AreRight self.new kinds budget events.now }
-        ensures verdict { IfOk result (λ verdict. (kinds : ℤ → KindOf) → AreRight self.old kinds budget events.now → IsWellFormed (functions_of kinds) events.now → IsObjectVerdict kinds budget events.now key verdict) }
+        ensures right { (kinds : ItemOf → KindOf) → AreRight self.old kinds budget events.now → AreRight self.new kinds budget events.now }
+        ensures verdict { IfOk result (λ verdict. (kinds : ItemOf → KindOf) → AreRight self.old kinds budget events.now → IsWellFormed (functions_of kinds) events.now → IsObjectVerdict kinds budget events.now key verdict) }
         ensures alive { result ≡ Ok Verdict.Yes → AreAlive self.new (Scope.Object key) }
         ensures dead { (n : ℕ) → result ≡ Ok (Verdict.No n) → IsDeadFor self.new (Scope.Object key) n }
         ensures over { (at : ℕ) → result ≡ Ok (Verdict.Undecided at) → IsOverFor self.new (Scope.Object key) at }
@@ -199,10 +200,10 @@ impl Objects {
     ) -> Result<Verdict, OutOfMemory>
         requires few { length events.now < usize.MAX }
         requires split { split_in self.old ≡ length events.now }
-        requires right { (kinds : ℤ → KindOf) × AreRight self.old kinds budget events.now × IsWellFormed (functions_of kinds) events.now }
+        requires right { (kinds : ItemOf → KindOf) × AreRight self.old kinds budget events.now × IsWellFormed (functions_of kinds) events.now }
         ensures split { split_in self.new ≡ split_in self.old }
-        ensures right { (kinds : ℤ → KindOf) → AreRight self.old kinds budget events.now → AreRight self.new kinds budget events.now }
-        ensures verdict { IfOk result (λ verdict. (kinds : ℤ → KindOf) → AreRight self.old kinds budget events.now → IsWellFormed (functions_of kinds) events.now → IsWholeVerdict kinds budget events.now verdict) }
+        ensures right { (kinds : ItemOf → KindOf) → AreRight self.old kinds budget events.now → AreRight self.new kinds budget events.now }
+        ensures verdict { IfOk result (λ verdict. (kinds : ItemOf → KindOf) → AreRight self.old kinds budget events.now → IsWellFormed (functions_of kinds) events.now → IsWholeVerdict kinds budget events.now verdict) }
         ensures alive { result ≡ Ok Verdict.Yes → AreAlive self.new Scope.Whole }
         ensures over { (at : ℕ) → result ≡ Ok (Verdict.Undecided at) → IsOverFor self.new Scope.Whole at }
         ensures scans { meter.new.scans ≡ meter.old.scans }
@@ -230,11 +231,11 @@ impl Objects {
     ) -> Result<(Option<usize>, Option<usize>), OutOfMemory>
         requires few { length events.now < usize.MAX }
         requires split { split_in self.old ≡ length events.now }
-        requires right { (kinds : ℤ → KindOf) × AreRight self.old kinds budget events.now × IsWellFormed (functions_of kinds) events.now }
+        requires right { (kinds : ItemOf → KindOf) × AreRight self.old kinds budget events.now × IsWellFormed (functions_of kinds) events.now }
         ensures keys { self.new.keys ≡ self.old.keys }
         ensures split { split_in self.new ≡ split_in self.old }
-        ensures right { (kinds : ℤ → KindOf) → AreRight self.old kinds budget events.now → AreRight self.new kinds budget events.now }
-        ensures found { IfOk result (λ r. (kinds : ℤ → KindOf) → AreRight self.old kinds budget events.now → IsWellFormed (functions_of kinds) events.now → AreFound kinds budget events.now self.old.keys.keys r.0 r.1) }
+        ensures right { (kinds : ItemOf → KindOf) → AreRight self.old kinds budget events.now → AreRight self.new kinds budget events.now }
+        ensures found { IfOk result (λ r. (kinds : ItemOf → KindOf) → AreRight self.old kinds budget events.now → IsWellFormed (functions_of kinds) events.now → AreFound kinds budget events.now self.old.keys.keys r.0 r.1) }
         ensures alive { IfOk result (λ r. r.0 ≡ None → r.1 ≡ None → All IsAlive self.new.objects.items) }
         ensures over { IfOk result (λ r. (at : ℕ) → r.1 ≡ Some at → IsOverFor self.new Scope.Whole at) }
         ensures scans { meter.new.scans ≡ meter.old.scans }
@@ -265,11 +266,11 @@ impl Objects {
         requires listed { i < length self.old.keys.keys }
         requires few { length events.now < usize.MAX }
         requires split { split_in self.old ≡ length events.now }
-        requires right { (kinds : ℤ → KindOf) × AreRight self.old kinds budget events.now × IsWellFormed (functions_of kinds) events.now }
+        requires right { (kinds : ItemOf → KindOf) × AreRight self.old kinds budget events.now × IsWellFormed (functions_of kinds) events.now }
         ensures keys { self.new.keys ≡ self.old.keys }
         ensures split { split_in self.new ≡ split_in self.old }
-        ensures right { (kinds : ℤ → KindOf) → AreRight self.old kinds budget events.now → AreRight self.new kinds budget events.now }
-        ensures found { IfOk result (λ r. (kinds : ℤ → KindOf) (key : ℤ) → slice_get self.old.keys.keys i ≡ Some key → AreRight self.old kinds budget events.now → IsWellFormed (functions_of kinds) events.now → IsFinding kinds budget events.now key r.0 r.1) }
+        ensures right { (kinds : ItemOf → KindOf) → AreRight self.old kinds budget events.now → AreRight self.new kinds budget events.now }
+        ensures found { IfOk result (λ r. (kinds : ItemOf → KindOf) (key : ItemOf) → slice_get self.old.keys.keys i ≡ Some key → AreRight self.old kinds budget events.now → IsWellFormed (functions_of kinds) events.now → IsFinding kinds budget events.now key r.0 r.1) }
         ensures alive { IfOk result (λ r. r.0 ≡ None → r.1 ≡ None → (object : ObjectOf) → slice_get self.new.objects.items i ≡ Some object → IsAlive object) }
         ensures dead { IfOk result (λ r. (n : ℕ) (object : ObjectOf) → r.0 ≡ Some n → slice_get self.new.objects.items i ≡ Some object → IsDead n object) }
         ensures over { IfOk result (λ r. (at : ℕ) (object : ObjectOf) → r.1 ≡ Some at → slice_get self.new.objects.items i ≡ Some object → StandsOver at object) }

@@ -4,6 +4,7 @@ ghost use Rattle.std.specs.Prelude.{◌≡◌, length};
 use crate::marks::Mark;
 use indexmap::IndexSet;
 use lin_chain::Chain;
+use lin_events::Item;
 
 /// What is kept of one object.
 #[derive(Drop)]
@@ -21,7 +22,7 @@ pub(crate) struct Object {
 pub(crate) struct Objects {
     /// How many events, the first ones, are told apart by their keys.
     pub(crate) split: usize,
-    pub(crate) keys: IndexSet<i64>,
+    pub(crate) keys: IndexSet<Item>,
     pub(crate) objects: Vec<Object>,
     /// At the place of each key stands its object.
     ghost aligned: { length objects.items ≡ length keys.keys },

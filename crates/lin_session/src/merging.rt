@@ -1,6 +1,7 @@
 //! Legal orders of a history, out of those that its objects have.
-ghost use Rattle.std.specs.Prelude.{◌≡◌, ◌≢◌, ◌<◌, ℕ, ℤ, All, IfOk, IfSome, None, Some, length, slice_get};
+ghost use Rattle.std.specs.Prelude.{◌≡◌, ◌≢◌, ◌<◌, ℕ, All, IfOk, IfSome, None, Some, length, slice_get};
 ghost use Rattle.std.specs.List.{AllZip};
+ghost use Rattle.lin_events.specs.declared.items.Item.{Item as ItemOf};
 ghost use Rattle.lin_events.specs.WellFormed.{IsWellFormed};
 ghost use Rattle.lin_objects.specs.Kinds.{functions_of, kind_of};
 ghost use Rattle.lin_orders.specs.Linearizable.{IsLegalOrder, IsLegalOrderFor};
@@ -11,7 +12,7 @@ ghost use Rattle.lin_session.specs.Objects.{AreRight, split_in};
 
 use crate::answers::Scope;
 use crate::kept::Objects;
-use lin_events::{Event, OutOfMemory};
+use lin_events::{Event, Item, OutOfMemory};
 use lin_objects::Kinds;
 use lin_orders::{
     Placed, absent_keys_are_legal, merge, merged_orders_are_legal, parts_keep_orders,
@@ -86,7 +87,7 @@ impl Objects {
     fn order_of(
         &self,
         alloc: Global,
-        key: i64,
+        key: Item,
         events: &[Event],
         kinds: &Kinds,
     ) -> Result<Vec<Placed>, OutOfMemory>
@@ -116,7 +117,7 @@ impl Objects {
         requires split { split_in self.now ≡ length events.now }
         requires right { (budget : ℕ) × AreRight self.now (kind_of kinds.now) budget events.now }
         requires well_formed { IsWellFormed (functions_of (kind_of kinds.now)) events.now }
-        ensures { IfOk result (λ order. (key : ℤ) → slice_get self.now.keys.keys i ≡ Some key → IsLegalOrderFor (kind_of kinds.now) key events.now order.items) }
+        ensures { IfOk result (λ order. (key : ItemOf) → slice_get self.now.keys.keys i ≡ Some key → IsLegalOrderFor (kind_of kinds.now) key events.now order.items) }
     {
         positions_spell_parts();
         parts_keep_orders();

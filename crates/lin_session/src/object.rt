@@ -1,5 +1,6 @@
 //! What is kept of one object: where its events stand, and what is known of their legal orders.
-ghost use Rattle.std.specs.Prelude.{◌≡◌, ◌≢◌, ◌+◌, ◌-◌, ◌<◌, ◌≤◌, ◌∷◌, ◌++◌, [], ℕ, ℤ, List, Bool, All, None, min, IsOk, IsTrue, IfOk, IfSome, OnOk, OnErr, Ok, length, map, take};
+ghost use Rattle.std.specs.Prelude.{◌≡◌, ◌≢◌, ◌+◌, ◌-◌, ◌<◌, ◌≤◌, ◌∷◌, ◌++◌, [], ℕ, List, Bool, All, None, min, IsOk, IsTrue, IfOk, IfSome, OnOk, OnErr, Ok, length, map, take};
+ghost use Rattle.lin_events.specs.declared.items.Item.{Item as ItemOf};
 ghost use Rattle.lin_events.specs.declared.calls.Name.{Name as NameOf};
 ghost use Rattle.lin_events.specs.declared.events.Event.{Event as EventOf};
 ghost use Rattle.lin_events.specs.WellFormed.{IsWellFormed};
@@ -16,7 +17,7 @@ ghost use Rattle.lin_session.specs.Work.{rounded, touched, unasked};
 use crate::kept::Object;
 use crate::marks::{Mark, round_down};
 use lin_chain::{Chain, End};
-use lin_events::{Event, Meter, OutOfMemory};
+use lin_events::{Event, Item, Meter, OutOfMemory};
 use lin_objects::Kind;
 use lin_orders::Placed;
 use std::alloc::Global;
@@ -31,7 +32,7 @@ impl Object {
     ) -> Result<End, OutOfMemory>
         requires right { IsRightChain self.old.chain (events_at events.now self.old.picks.items) }
         requires inside { All (λ at. at < length events.now) self.old.picks.items }
-        requires well_formed { (functions : ℤ → NameOf → Bool) × IsWellFormed functions (events_at events.now self.old.picks.items) }
+        requires well_formed { (functions : ItemOf → NameOf → Bool) × IsWellFormed functions (events_at events.now self.old.picks.items) }
         requires known { self.old.mark.due ≡ None → IsKnownUnder budget (length self.old.picks.items) self.old.chain }
         ensures picks { self.new.picks ≡ self.old.picks }
         ensures count { self.new.count ≡ length self.old.picks.items }
@@ -111,7 +112,7 @@ impl Object {
     }
 
     /// What its chain took in of the events that stay ahead of these is kept.
-    pub(crate) fn cut_ahead_of(&mut self, key: i64, behind: &[Event])
+    pub(crate) fn cut_ahead_of(&mut self, key: Item, behind: &[Event])
         ensures picks { self.new.picks ≡ self.old.picks }
         ensures count { self.new.count ≡ self.old.count }
         ensures kind { kind_in self.new.chain ≡ kind_in self.old.chain }
@@ -126,7 +127,7 @@ impl Object {
     }
 
     /// The first of these events comes in place of an equal one: what its chain took in is kept.
-    pub(crate) fn touch_ahead_of(&mut self, key: i64, behind: &[Event])
+    pub(crate) fn touch_ahead_of(&mut self, key: Item, behind: &[Event])
         ensures picks { self.new.picks ≡ self.old.picks }
         ensures count { self.new.count ≡ self.old.count }
         ensures chain { self.new.chain ≡ self.old.chain }
@@ -188,7 +189,7 @@ fn rename(order: &mut Vec<Placed>, picks: &[usize])
 }
 
 /// How many of the events are of the key.
-fn number_of(key: i64, events: &[Event]) -> usize
+fn number_of(key: Item, events: &[Event]) -> usize
     ensures { result ≡ length (part key events.now) }
 {
     events.iter().filter(|event| event.key == key).count()

@@ -1,6 +1,7 @@
 //! The part of each object in the history: where its events stand, as the history is edited and its events are told apart.
-ghost use Rattle.std.specs.Prelude.{◌≡◌, ◌+◌, ◌<◌, ◌≤◌, ◌∷◌, ◌++◌, ◌||◌, [], ℕ, ℤ, List, Contains, IsOk, IfSome, IfNone, OnOk, OnErr, Some, remove, slice_set, if◌then◌else◌, length, min, nat_lt, slice_get};
-ghost use Rattle.std.specs.Ordering.{int_eq};
+ghost use Rattle.std.specs.Prelude.{◌≡◌, ◌+◌, ◌<◌, ◌≤◌, ◌∷◌, ◌++◌, ◌||◌, [], ℕ, List, Contains, IsOk, IfSome, IfNone, OnOk, OnErr, Some, remove, slice_set, if◌then◌else◌, length, min, nat_lt, slice_get};
+ghost use Rattle.lin_events.specs.declared.items.Item.{Item as ItemOf};
+ghost use Rattle.lin_events.specs.Items.{item_eq};
 ghost use Rattle.lin_events.specs.declared.events.Event.{Event as EventOf};
 ghost use Rattle.lin_objects.specs.declared.kinds.Kind.{Kind as KindOf};
 ghost use Rattle.lin_objects.specs.Kinds.{kind_of};
@@ -17,7 +18,7 @@ use crate::answers::Scope;
 use crate::kept::{Object, Objects};
 use crate::object::{mark_all, raise_all};
 use indexmap::IndexSet;
-use lin_events::{Event, OutOfMemory};
+use lin_events::{Event, Item, OutOfMemory};
 use lin_objects::{Kind, Kinds};
 use lin_orders::{parts_grow, parts_of_prefixes, positions_spell_parts};
 use std::alloc::Global;
@@ -25,8 +26,8 @@ use std::alloc::Global;
 impl Objects {
     /// No event was looked at.
     pub(crate) fn new(alloc: Global) -> Objects
-        ensures right { (kinds : ℤ → KindOf) (budget : ℕ) (h : List EventOf) → AreRight result kinds budget h }
-        ensures marks { (key : ℤ) → marks_in result key ≡ unasked }
+        ensures right { (kinds : ItemOf → KindOf) (budget : ℕ) (h : List EventOf) → AreRight result kinds budget h }
+        ensures marks { (key : ItemOf) → marks_in result key ≡ unasked }
     {
         Objects {
             split: 0,
@@ -36,7 +37,7 @@ impl Objects {
     }
 
     /// Where the key is listed. The key that was listed last needs no hash.
-    pub(crate) fn find(&self, key: i64) -> Option<usize>
+    pub(crate) fn find(&self, key: Item) -> Option<usize>
         ensures found { IfSome result (λ i. slice_get self.now.keys.keys i ≡ Some key) }
         ensures none { IfNone result (Contains self.now.keys.keys key → ⊥) }
     {
@@ -50,7 +51,7 @@ impl Objects {
     fn unsplit(&mut self, events: &[Event], at: usize)
         requires { split_in self.old ≤ length events.now }
         ensures split { split_in self.new ≡ min at (split_in self.old) }
-        ensures right { (kinds : ℤ → KindOf) (budget : ℕ) → AreRight self.old kinds budget events.now → AreRight self.new kinds budget events.now }
+        ensures right { (kinds : ItemOf → KindOf) (budget : ℕ) → AreRight self.old kinds budget events.now → AreRight self.new kinds budget events.now }
         ensures marks { AreSameMarks (marks_in self.old) (marks_in self.new) }
     {
         while self.split > at {
@@ -61,7 +62,7 @@ impl Objects {
     fn unsplit_last(&mut self, event: &Event)
         requires { 0 < split_in self.old }
         ensures split { split_in self.new + 1 ≡ split_in self.old }
-        ensures right { (kinds : ℤ → KindOf) (budget : ℕ) (h : List EventOf) → slice_get h (split_in self.new) ≡ Some event.now → AreRight self.old kinds budget h → AreRight self.new kinds budget h }
+        ensures right { (kinds : ItemOf → KindOf) (budget : ℕ) (h : List EventOf) → slice_get h (split_in self.new) ≡ Some event.now → AreRight self.old kinds budget h → AreRight self.new kinds budget h }
         ensures marks { AreSameMarks (marks_in self.old) (marks_in self.new) }
     {
         parts_of_prefixes();
@@ -77,9 +78,9 @@ impl Objects {
         requires place { at < length events.now }
         requires within { split_in self.old ≤ length events.now }
         ensures split { split_in self.new ≡ min at (split_in self.old) }
-        ensures right { (kinds : ℤ → KindOf) (budget : ℕ) → AreRight self.old kinds budget events.now → AreRight self.new kinds budget (remove events.now at) }
-        ensures marks { (kinds : ℤ → KindOf) (budget : ℕ) → AreRight self.old kinds budget events.now
-            → (x : ℤ) → marks_in self.new x ≡ (if is_of_key events.now x at then touched_at events.now x at (marks_in self.old x) else marks_in self.old x) }
+        ensures right { (kinds : ItemOf → KindOf) (budget : ℕ) → AreRight self.old kinds budget events.now → AreRight self.new kinds budget (remove events.now at) }
+        ensures marks { (kinds : ItemOf → KindOf) (budget : ℕ) → AreRight self.old kinds budget events.now
+            → (x : ItemOf) → marks_in self.new x ≡ (if is_of_key events.now x at then touched_at events.now x at (marks_in self.old x) else marks_in self.old x) }
     {
         self.unsplit(events, at);
         self.take_out(events[at].key, &events[at + 1..]);
@@ -90,9 +91,9 @@ impl Objects {
         requires place { at < length events.now }
         requires within { split_in self.old ≤ length events.now }
         requires few { length events.now < usize.MAX }
-        ensures right { (kinds : ℤ → KindOf) (budget : ℕ) → AreRight self.old kinds budget events.now → AreRight self.new kinds budget (slice_set events.now at event.now) }
-        ensures marks { (kinds : ℤ → KindOf) (budget : ℕ) → AreRight self.old kinds budget events.now
-            → (x : ℤ) → marks_in self.new x ≡ (if int_eq event.now.key x || is_of_key events.now x at then touched_at events.now x at (marks_in self.old x) else marks_in self.old x) }
+        ensures right { (kinds : ItemOf → KindOf) (budget : ℕ) → AreRight self.old kinds budget events.now → AreRight self.new kinds budget (slice_set events.now at event.now) }
+        ensures marks { (kinds : ItemOf → KindOf) (budget : ℕ) → AreRight self.old kinds budget events.now
+            → (x : ItemOf) → marks_in self.new x ≡ (if item_eq event.now.key x || is_of_key events.now x at then touched_at events.now x at (marks_in self.old x) else marks_in self.old x) }
     {
         self.leave(events, at);
         self.put_in(event.key, &events[at + 1..]);
@@ -102,19 +103,19 @@ impl Objects {
     pub(crate) fn replace_by_equal(&mut self, events: &[Event], at: usize)
         requires { at < length events.now }
         ensures split { split_in self.new ≡ split_in self.old }
-        ensures right { (kinds : ℤ → KindOf) (budget : ℕ) → AreRight self.old kinds budget events.now → AreRight self.new kinds budget events.now }
-        ensures marks { (kinds : ℤ → KindOf) (budget : ℕ) → AreRight self.old kinds budget events.now
-            → (x : ℤ) → marks_in self.new x ≡ (if is_of_key events.now x at then touched_at events.now x at (marks_in self.old x) else marks_in self.old x) }
+        ensures right { (kinds : ItemOf → KindOf) (budget : ℕ) → AreRight self.old kinds budget events.now → AreRight self.new kinds budget events.now }
+        ensures marks { (kinds : ItemOf → KindOf) (budget : ℕ) → AreRight self.old kinds budget events.now
+            → (x : ItemOf) → marks_in self.new x ≡ (if is_of_key events.now x at then touched_at events.now x at (marks_in self.old x) else marks_in self.old x) }
     {
         self.touch(events[at].key, &events[at..]);
     }
 
     /// The first of these events, which is of the key, comes in place of an equal one.
-    fn touch(&mut self, key: i64, behind: &[Event])
+    fn touch(&mut self, key: Item, behind: &[Event])
         ensures split { split_in self.new ≡ split_in self.old }
-        ensures right { (kinds : ℤ → KindOf) (budget : ℕ) (before : List EventOf)
+        ensures right { (kinds : ItemOf → KindOf) (budget : ℕ) (before : List EventOf)
             → AreRight self.old kinds budget (before ++ behind.now) → AreRight self.new kinds budget (before ++ behind.now) }
-        ensures marks { (kinds : ℤ → KindOf) (budget : ℕ) (before : List EventOf)
+        ensures marks { (kinds : ItemOf → KindOf) (budget : ℕ) (before : List EventOf)
             → AreRight self.old kinds budget (before ++ behind.now) → AreTouched key (length (part key before)) (rounded (length (part key before))) (marks_in self.old) (marks_in self.new) }
     {
         if let Some(i) = self.find(key) {
@@ -123,11 +124,11 @@ impl Objects {
     }
 
     /// An event of the key, ahead of these, leaves the history.
-    fn take_out(&mut self, key: i64, behind: &[Event])
+    fn take_out(&mut self, key: Item, behind: &[Event])
         ensures split { split_in self.new ≡ split_in self.old }
-        ensures right { (kinds : ℤ → KindOf) (budget : ℕ) (before : List EventOf) (event : EventOf) → event.key ≡ key → split_in self.old ≤ length before
+        ensures right { (kinds : ItemOf → KindOf) (budget : ℕ) (before : List EventOf) (event : EventOf) → event.key ≡ key → split_in self.old ≤ length before
             → AreRight self.old kinds budget (before ++ event ∷ behind.now) → AreRight self.new kinds budget (before ++ behind.now) }
-        ensures marks { (kinds : ℤ → KindOf) (budget : ℕ) (before : List EventOf) (event : EventOf) → event.key ≡ key
+        ensures marks { (kinds : ItemOf → KindOf) (budget : ℕ) (before : List EventOf) (event : EventOf) → event.key ≡ key
             → AreRight self.old kinds budget (before ++ event ∷ behind.now) → AreTouched key (length (part key before)) (rounded (length (part key before))) (marks_in self.old) (marks_in self.new) }
     {
         if let Some(i) = self.find(key) {
@@ -138,11 +139,11 @@ impl Objects {
     }
 
     /// An event of the key, ahead of these, comes into the history.
-    fn put_in(&mut self, key: i64, behind: &[Event])
+    fn put_in(&mut self, key: Item, behind: &[Event])
         ensures split { split_in self.new ≡ split_in self.old }
-        ensures right { (kinds : ℤ → KindOf) (budget : ℕ) (before : List EventOf) (event : EventOf) → event.key ≡ key → split_in self.old ≤ length before → length before + length behind.now < usize.MAX
+        ensures right { (kinds : ItemOf → KindOf) (budget : ℕ) (before : List EventOf) (event : EventOf) → event.key ≡ key → split_in self.old ≤ length before → length before + length behind.now < usize.MAX
             → AreRight self.old kinds budget (before ++ behind.now) → AreRight self.new kinds budget (before ++ event ∷ behind.now) }
-        ensures marks { (kinds : ℤ → KindOf) (budget : ℕ) (before : List EventOf)
+        ensures marks { (kinds : ItemOf → KindOf) (budget : ℕ) (before : List EventOf)
             → AreRight self.old kinds budget (before ++ behind.now) → AreTouched key (length (part key before)) (rounded (length (part key before))) (marks_in self.old) (marks_in self.new) }
     {
         if let Some(i) = self.find(key) {
@@ -153,10 +154,10 @@ impl Objects {
     }
 
     /// An event of the key comes last.
-    pub(crate) fn put_last(&mut self, key: i64)
+    pub(crate) fn put_last(&mut self, key: Item)
         ensures split { split_in self.new ≡ split_in self.old }
-        ensures right { (kinds : ℤ → KindOf) (budget : ℕ) (h : List EventOf) (event : EventOf) → event.key ≡ key → length h < usize.MAX → AreRight self.old kinds budget h → AreRight self.new kinds budget (h ++ event ∷ []) }
-        ensures marks { (kinds : ℤ → KindOf) (budget : ℕ) (h : List EventOf) → AreRight self.old kinds budget h → AreTouched key (length (part key h)) (length (part key h)) (marks_in self.old) (marks_in self.new) }
+        ensures right { (kinds : ItemOf → KindOf) (budget : ℕ) (h : List EventOf) (event : EventOf) → event.key ≡ key → length h < usize.MAX → AreRight self.old kinds budget h → AreRight self.new kinds budget (h ++ event ∷ []) }
+        ensures marks { (kinds : ItemOf → KindOf) (budget : ℕ) (h : List EventOf) → AreRight self.old kinds budget h → AreTouched key (length (part key h)) (length (part key h)) (marks_in self.old) (marks_in self.new) }
     {
         if let Some(i) = self.find(key) {
             let object = &mut self.objects[i];
@@ -166,9 +167,9 @@ impl Objects {
     }
 
     /// The object of the key is of this kind.
-    pub(crate) fn rekind(&mut self, key: i64, kind: Kind)
-        ensures right { (kinds other : ℤ → KindOf) (budget : ℕ) (h : List EventOf) → ((x : ℤ) → other x ≡ (if int_eq key x then kind else kinds x)) → AreRight self.old kinds budget h → AreRight self.new other budget h }
-        ensures marks { (kinds : ℤ → KindOf) (budget : ℕ) (h : List EventOf) → AreRight self.old kinds budget h → AreTouched key 0 0 (marks_in self.old) (marks_in self.new) }
+    pub(crate) fn rekind(&mut self, key: Item, kind: Kind)
+        ensures right { (kinds other : ItemOf → KindOf) (budget : ℕ) (h : List EventOf) → ((x : ItemOf) → other x ≡ (if item_eq key x then kind else kinds x)) → AreRight self.old kinds budget h → AreRight self.new other budget h }
+        ensures marks { (kinds : ItemOf → KindOf) (budget : ℕ) (h : List EventOf) → AreRight self.old kinds budget h → AreTouched key 0 0 (marks_in self.old) (marks_in self.new) }
     {
         if let Some(i) = self.find(key) {
             let object = &mut self.objects[i];
@@ -180,8 +181,8 @@ impl Objects {
     /// The budget was the one, and is the other one now.
     pub(crate) fn rebudget(&mut self, before: u32, after: u32)
         ensures split { split_in self.new ≡ split_in self.old }
-        ensures right { (kinds : ℤ → KindOf) (h : List EventOf) → AreRight self.old kinds before h → AreRight self.new kinds after h }
-        ensures marks { (key : ℤ) → marks_in self.new key ≡ (if nat_lt before after then raised (marks_in self.old key) else marks_in self.old key) }
+        ensures right { (kinds : ItemOf → KindOf) (h : List EventOf) → AreRight self.old kinds before h → AreRight self.new kinds after h }
+        ensures marks { (key : ItemOf) → marks_in self.new key ≡ (if nat_lt before after then raised (marks_in self.old key) else marks_in self.old key) }
     {
         if before < after {
             raise_all(&mut self.objects);
@@ -191,11 +192,11 @@ impl Objects {
     /// All objects of the scope that have an event were judged, and what was asked of them is answered.
     pub(crate) fn mark(&mut self, scope: Scope)
         ensures split { split_in self.new ≡ split_in self.old }
-        ensures right { (kinds : ℤ → KindOf) (budget : ℕ) (h : List EventOf) → split_in self.old ≡ length h → AreRight self.old kinds budget h → AreJudged budget self.old scope
+        ensures right { (kinds : ItemOf → KindOf) (budget : ℕ) (h : List EventOf) → split_in self.old ≡ length h → AreRight self.old kinds budget h → AreJudged budget self.old scope
             → AreRight self.new kinds budget h }
-        ensures marks { (kinds : ℤ → KindOf) (budget : ℕ) (h : List EventOf) → split_in self.old ≡ length h → AreRight self.old kinds budget h → AreJudged budget self.old scope
+        ensures marks { (kinds : ItemOf → KindOf) (budget : ℕ) (h : List EventOf) → split_in self.old ≡ length h → AreRight self.old kinds budget h → AreJudged budget self.old scope
             → AreMarked kinds budget h scope (marks_in self.old) (marks_in self.new) }
-        ensures told { (kinds : ℤ → KindOf) (budget : ℕ) (h : List EventOf) → split_in self.old ≡ length h → AreRight self.old kinds budget h → AreJudged budget self.old scope
+        ensures told { (kinds : ItemOf → KindOf) (budget : ℕ) (h : List EventOf) → split_in self.old ≡ length h → AreRight self.old kinds budget h → AreJudged budget self.old scope
             → (at : ℕ) → IsOverFor self.old scope at → IsMarkedOver h scope (marks_in self.new) at }
     {
         positions_spell_parts();
@@ -232,12 +233,12 @@ impl Objects {
         Ok(())
     }
 
-    fn split_next(&mut self, alloc: Global, key: i64, kind: Kind) -> Result<(), OutOfMemory>
+    fn split_next(&mut self, alloc: Global, key: Item, kind: Kind) -> Result<(), OutOfMemory>
         requires room { split_in self.old < usize.MAX }
         ensures split { OnOk result (split_in self.new ≡ split_in self.old + 1) }
-        ensures next { OnOk result ((kinds : ℤ → KindOf) (budget : ℕ) (h : List EventOf) (event : EventOf) → slice_get h (split_in self.old) ≡ Some event → event.key ≡ key → kinds key ≡ kind
+        ensures next { OnOk result ((kinds : ItemOf → KindOf) (budget : ℕ) (h : List EventOf) (event : EventOf) → slice_get h (split_in self.old) ≡ Some event → event.key ≡ key → kinds key ≡ kind
             → AreRight self.old kinds budget h → AreRight self.new kinds budget h) }
-        ensures same { OnErr result ((kinds : ℤ → KindOf) (budget : ℕ) (h : List EventOf) → AreRight self.old kinds budget h → AreRight self.new kinds budget h) }
+        ensures same { OnErr result ((kinds : ItemOf → KindOf) (budget : ℕ) (h : List EventOf) → AreRight self.old kinds budget h → AreRight self.new kinds budget h) }
         ensures marks { AreSameMarks (marks_in self.old) (marks_in self.new) }
     {
         match self.find(key) {
@@ -251,9 +252,9 @@ impl Objects {
         requires room { split_in self.old < usize.MAX }
         requires listed { i < length self.old.keys.keys }
         ensures split { OnOk result (split_in self.new ≡ split_in self.old + 1) }
-        ensures next { OnOk result ((kinds : ℤ → KindOf) (budget : ℕ) (h : List EventOf) (event : EventOf) → slice_get h (split_in self.old) ≡ Some event → slice_get self.old.keys.keys i ≡ Some event.key
+        ensures next { OnOk result ((kinds : ItemOf → KindOf) (budget : ℕ) (h : List EventOf) (event : EventOf) → slice_get h (split_in self.old) ≡ Some event → slice_get self.old.keys.keys i ≡ Some event.key
             → AreRight self.old kinds budget h → AreRight self.new kinds budget h) }
-        ensures same { OnErr result ((kinds : ℤ → KindOf) (budget : ℕ) (h : List EventOf) → AreRight self.old kinds budget h → AreRight self.new kinds budget h) }
+        ensures same { OnErr result ((kinds : ItemOf → KindOf) (budget : ℕ) (h : List EventOf) → AreRight self.old kinds budget h → AreRight self.new kinds budget h) }
         ensures marks { AreSameMarks (marks_in self.old) (marks_in self.new) }
     {
         parts_grow();
@@ -264,13 +265,13 @@ impl Objects {
     }
 
     /// Lists a key that is not listed yet, and whose first event is the next one.
-    fn add(&mut self, alloc: Global, key: i64, kind: Kind) -> Result<(), OutOfMemory>
+    fn add(&mut self, alloc: Global, key: Item, kind: Kind) -> Result<(), OutOfMemory>
         requires room { split_in self.old < usize.MAX }
         requires absent { Contains self.old.keys.keys key → ⊥ }
         ensures split { OnOk result (split_in self.new ≡ split_in self.old + 1) }
-        ensures next { OnOk result ((kinds : ℤ → KindOf) (budget : ℕ) (h : List EventOf) (event : EventOf) → slice_get h (split_in self.old) ≡ Some event → event.key ≡ key → kinds key ≡ kind
+        ensures next { OnOk result ((kinds : ItemOf → KindOf) (budget : ℕ) (h : List EventOf) (event : EventOf) → slice_get h (split_in self.old) ≡ Some event → event.key ≡ key → kinds key ≡ kind
             → AreRight self.old kinds budget h → AreRight self.new kinds budget h) }
-        ensures same { OnErr result ((kinds : ℤ → KindOf) (budget : ℕ) (h : List EventOf) → AreRight self.old kinds budget h → AreRight self.new kinds budget h) }
+        ensures same { OnErr result ((kinds : ItemOf → KindOf) (budget : ℕ) (h : List EventOf) → AreRight self.old kinds budget h → AreRight self.new kinds budget h) }
         ensures marks { AreSameMarks (marks_in self.old) (marks_in self.new) }
     {
         parts_grow();

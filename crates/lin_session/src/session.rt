@@ -1,5 +1,6 @@
 //! A history that is edited, with what was found of it kept up to date.
-ghost use Rattle.std.specs.Prelude.{◌≡◌, ◌≢◌, ◌↔◌, ◌<◌, ◌≤◌, ◌⊎◌, ◌+◌, ◌-◌, ◌∷◌, ◌++◌, [], ℕ, ℤ, true, false, Contains, Err, None, Ok, Some, IfOk, IfErr, IfSome, IfNone, IsOk, OnOk, OnErr, length, slice_get, slice_set, remove, take, if◌then◌else◌};
+ghost use Rattle.std.specs.Prelude.{◌≡◌, ◌≢◌, ◌↔◌, ◌<◌, ◌≤◌, ◌⊎◌, ◌+◌, ◌-◌, ◌∷◌, ◌++◌, [], ℕ, true, false, Contains, Err, None, Ok, Some, IfOk, IfErr, IfSome, IfNone, IsOk, OnOk, OnErr, length, slice_get, slice_set, remove, take, if◌then◌else◌};
+ghost use Rattle.lin_events.specs.declared.items.Item.{Item as ItemOf};
 ghost use Rattle.lin_events.specs.WellFormed.{IsWellFormed};
 ghost use Rattle.lin_objects.specs.declared.kinds.Kind.{Kind as KindOf};
 ghost use Rattle.lin_objects.specs.Kinds.{functions_of, is_named, kind_of, named_count, same_for_all, with_kind};
@@ -22,7 +23,7 @@ use crate::marks::{least_of, round_down};
 use crate::present::Present;
 use indexmap::IndexSet;
 use lin_chain::{End, RefuteFault};
-use lin_events::{Event, Meter, OutOfMemory, Shape};
+use lin_events::{Event, Item, Meter, OutOfMemory, Shape};
 use lin_objects::{Kind, Kinds, KindsFault};
 use lin_wellformed::Scan;
 use std::alloc::Global;
@@ -67,7 +68,7 @@ impl Session {
     pub fn new(alloc: Global, default: Kind, budget: u32) -> Result<Session, EditFault>
         ensures opened { IfOk result (λ session. session.present ≡ record { history = []; kinds = same_for_all default; budget = budget }) }
         ensures settled { IfOk result (λ session. session.low ≡ None) }
-        ensures marks { IfOk result (λ session. (key : ℤ) → mark_of session.marks key ≡ unasked) }
+        ensures marks { IfOk result (λ session. (key : ItemOf) → mark_of session.marks key ≡ unasked) }
         ensures unused { IfOk result (λ session. session.meter ≡ record { scans = 0; steps = 0; tries = 0 }) }
         ensures refused { (result ≡ Err EditFault.BadBudget) ↔ (IsBudget budget → ⊥) }
         ensures fault { IfErr result (λ fault. fault ≡ EditFault.BadBudget) }
@@ -89,7 +90,7 @@ impl Session {
     ) -> Result<Session, EditFault>
         ensures opened { IfOk result (λ session. session.present ≡ record { history = events.items; kinds = same_for_all default; budget = budget }) }
         ensures unsettled { IfOk result (λ session. session.low ≡ Some 0) }
-        ensures marks { IfOk result (λ session. (key : ℤ) → mark_of session.marks key ≡ unasked) }
+        ensures marks { IfOk result (λ session. (key : ItemOf) → mark_of session.marks key ≡ unasked) }
         ensures unused { IfOk result (λ session. session.meter ≡ record { scans = 0; steps = 0; tries = 0 }) }
         ensures refused { (result ≡ Err EditFault.BadBudget) ↔ (IsBudget budget → ⊥) }
         ensures full { (result ≡ Err EditFault.Full) ↔ (IsBudget budget × (1000000 < length events.items)) }
@@ -128,7 +129,7 @@ impl Session {
     }
 
     /// The kind of the key's object.
-    pub fn kind_of(&self, key: i64) -> Kind
+    pub fn kind_of(&self, key: Item) -> Kind
         ensures { result ≡ kind_of self.now.present.kinds key }
     {
         self.kinds.of(key)
@@ -150,13 +151,13 @@ impl Session {
 
     /// Where an object is marked as over, its events up to there have more configurations than the budget.
     pub fn overs_are_right(&self)
-        ensures { (key : ℤ) (at : ℕ) → (mark_of self.now.marks key).over ≡ Some at → IsEndOf (kinds_in self.now.present key) self.now.present.budget (part key self.now.present.history) (End.Over at) }
+        ensures { (key : ItemOf) (at : ℕ) → (mark_of self.now.marks key).over ≡ Some at → IsEndOf (kinds_in self.now.present key) self.now.present.budget (part key self.now.present.history) (End.Over at) }
     {
         let _budget = self.budget;
     }
 
     /// The keys of the history, each once, rising. Looks at each event, and takes memory for the keys alone, which it sorts.
-    pub fn objects(&self, alloc: Global) -> Result<Vec<i64>, OutOfMemory>
+    pub fn objects(&self, alloc: Global) -> Result<Vec<Item>, OutOfMemory>
         ensures { IfOk result (λ keys. AreKeys self.now.present.history keys.items) }
     {
         let mut keys = keys_of(alloc, &self.events)?;
@@ -254,7 +255,7 @@ impl Session {
     ///
     /// The sets speak of the object's events in the prefix of the answer. `TooLarge` is answered only for an object that is a
     /// no, and only where some prefix has more configurations of it than the budget; `OutOfMemory` as by `ask`; `NotDead` never.
-    pub fn refute(&mut self, alloc: Global, key: i64) -> Result<Refuted, RefuteFault>
+    pub fn refute(&mut self, alloc: Global, key: Item) -> Result<Refuted, RefuteFault>
         ensures refuted { IfOk result (IsRefuted self.old.present key) }
         ensures unrefuted { IfErr result (IsUnrefuted self.old.present key) }
         ensures present { self.new.present ≡ self.old.present }
@@ -302,7 +303,7 @@ impl Session {
         ensures same { OnErr result (self.new ≡ self.old) }
         ensures idle { self.new.meter ≡ self.old.meter }
         ensures low { OnOk result (self.new.low ≡ low_after edit self.old.present self.old.low) }
-        ensures marks { OnOk result ((x : ℤ) → mark_of self.new.marks x ≡ mark_after edit self.old.present x (mark_of self.old.marks x)) }
+        ensures marks { OnOk result ((x : ItemOf) → mark_of self.new.marks x ≡ mark_after edit self.old.present x (mark_of self.old.marks x)) }
     {
         match edit {
             Edit::Append(event) => match self.append(event) {
@@ -339,7 +340,7 @@ impl Session {
         ensures same { OnErr result (self.new ≡ self.old) }
         ensures idle { self.new.meter ≡ self.old.meter }
         ensures low { OnOk result (self.new.low ≡ low_after (Edit.Append event) self.old.present self.old.low) }
-        ensures marks { OnOk result ((x : ℤ) → mark_of self.new.marks x ≡ mark_after (Edit.Append event) self.old.present x (mark_of self.old.marks x)) }
+        ensures marks { OnOk result ((x : ItemOf) → mark_of self.new.marks x ≡ mark_after (Edit.Append event) self.old.present x (mark_of self.old.marks x)) }
     {
         if self.events.len() >= EVENTS {
             return Err((event, EditFault::Full));
@@ -361,7 +362,7 @@ impl Session {
         ensures same { OnErr result (self.new ≡ self.old) }
         ensures idle { self.new.meter ≡ self.old.meter }
         ensures low { OnOk result (self.new.low ≡ low_after (Edit.Truncate count) self.old.present self.old.low) }
-        ensures marks { OnOk result ((x : ℤ) → mark_of self.new.marks x ≡ mark_after (Edit.Truncate count) self.old.present x (mark_of self.old.marks x)) }
+        ensures marks { OnOk result ((x : ItemOf) → mark_of self.new.marks x ≡ mark_after (Edit.Truncate count) self.old.present x (mark_of self.old.marks x)) }
     {
         if count > self.events.len() {
             return Err(EditFault::BadPosition);
@@ -379,7 +380,7 @@ impl Session {
         ensures same { OnErr result (self.new ≡ self.old) }
         ensures idle { self.new.meter ≡ self.old.meter }
         ensures low { OnOk result (self.new.low ≡ low_after (Edit.Replace at event) self.old.present self.old.low) }
-        ensures marks { OnOk result ((x : ℤ) → mark_of self.new.marks x ≡ mark_after (Edit.Replace at event) self.old.present x (mark_of self.old.marks x)) }
+        ensures marks { OnOk result ((x : ItemOf) → mark_of self.new.marks x ≡ mark_after (Edit.Replace at event) self.old.present x (mark_of self.old.marks x)) }
     {
         if at >= self.events.len() {
             return Err((event, EditFault::BadPosition));
@@ -403,7 +404,7 @@ impl Session {
         ensures same { OnErr result (self.new ≡ self.old) }
         ensures idle { self.new.meter ≡ self.old.meter }
         ensures low { OnOk result (self.new.low ≡ low_after (Edit.Remove at) self.old.present self.old.low) }
-        ensures marks { OnOk result ((x : ℤ) → mark_of self.new.marks x ≡ mark_after (Edit.Remove at) self.old.present x (mark_of self.old.marks x)) }
+        ensures marks { OnOk result ((x : ItemOf) → mark_of self.new.marks x ≡ mark_after (Edit.Remove at) self.old.present x (mark_of self.old.marks x)) }
     {
         if at >= self.events.len() {
             return Err(EditFault::BadPosition);
@@ -415,14 +416,14 @@ impl Session {
         Ok(())
     }
 
-    fn set_kind(&mut self, key: i64, kind: Kind) -> Result<(), EditFault>
+    fn set_kind(&mut self, key: Item, kind: Kind) -> Result<(), EditFault>
         ensures made { OnOk result (self.new.present ≡ record self.old.present { kinds = with_kind key kind self.old.present.kinds }) }
         ensures full { (result ≡ Err EditFault.Full) ↔ ((named_count self.old.present.kinds ≡ 65536) × (is_named self.old.present.kinds key ≡ false)) }
         ensures fault { IfErr result (λ fault. (fault ≡ EditFault.Full) ⊎ (fault ≡ EditFault.OutOfMemory)) }
         ensures same { OnErr result (self.new ≡ self.old) }
         ensures idle { self.new.meter ≡ self.old.meter }
         ensures low { OnOk result (self.new.low ≡ low_after (Edit.SetKind key kind) self.old.present self.old.low) }
-        ensures marks { OnOk result ((x : ℤ) → mark_of self.new.marks x ≡ mark_after (Edit.SetKind key kind) self.old.present x (mark_of self.old.marks x)) }
+        ensures marks { OnOk result ((x : ItemOf) → mark_of self.new.marks x ≡ mark_after (Edit.SetKind key kind) self.old.present x (mark_of self.old.marks x)) }
     {
         match self.kinds.set(key, kind) {
             Ok(()) => {}
@@ -443,7 +444,7 @@ impl Session {
         ensures same { OnErr result (self.new ≡ self.old) }
         ensures idle { self.new.meter ≡ self.old.meter }
         ensures low { OnOk result (self.new.low ≡ low_after (Edit.SetBudget budget) self.old.present self.old.low) }
-        ensures marks { OnOk result ((x : ℤ) → mark_of self.new.marks x ≡ mark_after (Edit.SetBudget budget) self.old.present x (mark_of self.old.marks x)) }
+        ensures marks { OnOk result ((x : ItemOf) → mark_of self.new.marks x ≡ mark_after (Edit.SetBudget budget) self.old.present x (mark_of self.old.marks x)) }
     {
         if !is_budget(budget) {
             return Err(EditFault::BadBudget);
@@ -458,8 +459,8 @@ impl Session {
 fn cut_back(events: &mut Vec<Event>, objects: &mut Objects, count: usize)
     requires { split_in objects.old ≤ length events.old.items }
     ensures left { events.new.items ≡ take count events.old.items }
-    ensures right { (kinds : ℤ → KindOf) (budget : ℕ) → AreRight objects.old kinds budget events.old.items → AreRight objects.new kinds budget events.new.items }
-    ensures marks { (kinds : ℤ → KindOf) (budget : ℕ) → AreRight objects.old kinds budget events.old.items → (x : ℤ) → marks_in objects.new x ≡ truncated events.old.items x count (marks_in objects.old x) }
+    ensures right { (kinds : ItemOf → KindOf) (budget : ℕ) → AreRight objects.old kinds budget events.old.items → AreRight objects.new kinds budget events.new.items }
+    ensures marks { (kinds : ItemOf → KindOf) (budget : ℕ) → AreRight objects.old kinds budget events.old.items → (x : ItemOf) → marks_in objects.new x ≡ truncated events.old.items x count (marks_in objects.old x) }
 {
     while events.len() > count {
         drop_last(events, objects);
@@ -472,9 +473,9 @@ fn drop_last(events: &mut Vec<Event>, objects: &mut Objects)
     requires within { split_in objects.old ≤ length events.old.items }
     ensures left { events.new.items ≡ take (length events.old.items - 1) events.old.items }
     ensures within { split_in objects.new ≤ length events.new.items }
-    ensures right { (kinds : ℤ → KindOf) (budget : ℕ) → AreRight objects.old kinds budget events.old.items → AreRight objects.new kinds budget events.new.items }
-    ensures marks { (kinds : ℤ → KindOf) (budget : ℕ) → AreRight objects.old kinds budget events.old.items
-        → (x : ℤ) → marks_in objects.new x ≡ (if is_of_key events.old.items x (length events.old.items - 1) then touched_at events.old.items x (length events.old.items - 1) (marks_in objects.old x) else marks_in objects.old x) }
+    ensures right { (kinds : ItemOf → KindOf) (budget : ℕ) → AreRight objects.old kinds budget events.old.items → AreRight objects.new kinds budget events.new.items }
+    ensures marks { (kinds : ItemOf → KindOf) (budget : ℕ) → AreRight objects.old kinds budget events.old.items
+        → (x : ItemOf) → marks_in objects.new x ≡ (if is_of_key events.old.items x (length events.old.items - 1) then touched_at events.old.items x (length events.old.items - 1) (marks_in objects.old x) else marks_in objects.old x) }
 {
     let last = events.len() - 1;
     objects.leave(events, last);
@@ -482,8 +483,8 @@ fn drop_last(events: &mut Vec<Event>, objects: &mut Objects)
 }
 
 /// The keys of the events. Where the key that was listed last comes again, no hash is needed.
-fn keys_of(alloc: Global, events: &[Event]) -> Result<Vec<i64>, OutOfMemory>
-    ensures { IfOk result (λ keys. (key : ℤ) → Contains keys.items key ↔ Occurs events.now key) }
+fn keys_of(alloc: Global, events: &[Event]) -> Result<Vec<Item>, OutOfMemory>
+    ensures { IfOk result (λ keys. (key : ItemOf) → Contains keys.items key ↔ Occurs events.now key) }
 {
     let mut keys = IndexSet::new(alloc);
     for event in events {

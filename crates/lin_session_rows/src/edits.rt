@@ -136,7 +136,7 @@ pub fn truncate(board: &mut Board, rest: &str, out: &mut String) -> Option<()> {
 /// `kind KEY KIND`: the object of the key is of the kind.
 pub fn set_kind(board: &mut Board, rest: &str, out: &mut String) -> Option<()> {
     let (key, word) = words::first_word(rest);
-    let key = key.parse::<i64>().ok()?;
+    let key = words::key(key)?;
     make(board, Edit::SetKind(key, words::kind(word)?), out)
 }
 

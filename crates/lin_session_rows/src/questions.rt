@@ -2,6 +2,7 @@
 use crate::board::Board;
 use crate::shown::put_verdict;
 use crate::words;
+use lin_events::Item;
 use lin_order::{Refutation, check_refutation};
 use lin_session::{Refuted, Scope};
 use std::alloc::Global;
@@ -22,7 +23,7 @@ pub fn order(alloc: Global, board: &mut Board, rest: &str, out: &mut String) -> 
 fn put_refutation(
     alloc: Global,
     board: &Board,
-    key: i64,
+    key: Item,
     prefix: usize,
     refutation: &Refutation,
     out: &mut String,
@@ -35,7 +36,7 @@ fn put_refutation(
 
 /// `refute KEY`: the prefix that is refuted, what is answered in place of that, or why there is no refutation.
 pub fn refute(alloc: Global, board: &mut Board, rest: &str, out: &mut String) -> Option<()> {
-    let key = rest.parse::<i64>().ok()?;
+    let key = words::key(rest)?;
     match board.session.refute(alloc, key) {
         Ok(Refuted::No { prefix, refutation }) => {
             put_refutation(alloc, board, key, prefix, &refutation, out)

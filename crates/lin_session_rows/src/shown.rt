@@ -1,16 +1,36 @@
 //! Rows that look at the session or at its last answer, and how answers are shown.
 use crate::board::{Board, Counts};
-use lin_events::{Body, Event, Name, Reply, Val};
+use crate::words;
+use lin_events::{Body, Event, Item, Name, Reply, Val};
 use lin_orders::Placed;
 use lin_session::Verdict;
 use std::alloc::Global;
+
+fn put_item(out: &mut String, item: Item) -> Option<()> {
+    match item {
+        Item::Int(number) => write!(out, "{number}").ok(),
+        Item::Bool(truth) => write!(out, "{truth}").ok(),
+    }
+}
+
+/// The items in brackets.
+fn put_items(out: &mut String, items: &[Item]) -> Option<()> {
+    out.push('[').ok()?;
+    for (at, item) in items.iter().enumerate() {
+        if at > 0 {
+            out.push_str(", ").ok()?;
+        }
+        put_item(out, *item)?;
+    }
+    out.push(']').ok()
+}
 
 fn put_reply(out: &mut String, reply: &Reply) -> Option<()> {
     match reply {
         Reply::Done => out.push_str("done").ok(),
         Reply::Value(Val::Nil) => out.push_str("nil").ok(),
-        Reply::Value(Val::Int(number)) => write!(out, "{number}").ok(),
-        Reply::Members(members) => write!(out, "{:?}", members.as_slice()).ok(),
+        Reply::Value(Val::Item(item)) => put_item(out, *item),
+        Reply::Members(members) => put_items(out, members.as_slice()),
     }
 }
 
@@ -33,7 +53,8 @@ fn put_body(out: &mut String, body: &Body) -> Option<()> {
 
 /// The process with the key, and what the event says.
 pub fn put_event(out: &mut String, event: &Event) -> Option<()> {
-    write!(out, "{}@{}", event.process, event.key).ok()?;
+    write!(out, "{}@", event.process).ok()?;
+    put_item(out, event.key)?;
     put_body(out, &event.body)
 }
 
@@ -62,14 +83,14 @@ pub fn event(board: &Board, rest: &str, out: &mut String) -> Option<()> {
 
 /// `kind-of KEY`: the kind of its object.
 pub fn kind_of(board: &Board, rest: &str, out: &mut String) -> Option<()> {
-    let key = rest.parse::<i64>().ok()?;
+    let key = words::key(rest)?;
     write!(out, "{:?}", board.session.kind_of(key)).ok()
 }
 
 /// `objects`: the keys of the history.
 pub fn objects(alloc: Global, board: &Board, out: &mut String) -> Option<()> {
     let keys = board.session.objects(alloc).ok()?;
-    write!(out, "{:?}", keys.as_slice()).ok()
+    put_items(out, keys.as_slice())
 }
 
 fn put_placed(out: &mut String, order: &[Placed]) -> Option<()> {

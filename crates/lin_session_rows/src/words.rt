@@ -3,7 +3,7 @@
 //! An event is `PROCESS/TYPE/FUNCTION`, as `0/invoke/read`, with the value behind it, as `0/invoke/write/7` or `0/invoke/cas/1,2`, and with
 //! a key other than 0 as `0@1/ok/write`. A value is nil, a number or, as `<3`, the set of the numbers from 0 on that are below that one.
 //! Where events are repeated, `#` is the number of the turn, from 0 on.
-use lin_events::{Body, Call, Event, IntSet, Name, Reply, Val};
+use lin_events::{Body, Call, Event, IntSet, Item, Name, Reply, Val};
 use lin_objects::Kind;
 use lin_session::Scope;
 use std::alloc::Global;
@@ -25,12 +25,17 @@ pub fn kind(word: &str) -> Option<Kind> {
     }
 }
 
+/// The key of that number.
+pub fn key(word: &str) -> Option<Item> {
+    Some(Item::Int(word.parse::<i64>().ok()?))
+}
+
 /// A key, or `whole`.
 pub fn scope(word: &str) -> Option<Scope> {
     if word == "whole" {
         return Some(Scope::Whole);
     }
-    Some(Scope::Object(word.parse::<i64>().ok()?))
+    Some(Scope::Object(key(word)?))
 }
 
 fn number(turn: i64, word: &str) -> Option<i64> {
@@ -44,7 +49,7 @@ fn value(turn: i64, word: &str) -> Option<Val> {
     if word == "nil" {
         return Some(Val::Nil);
     }
-    Some(Val::Int(number(turn, word)?))
+    Some(Val::Item(Item::Int(number(turn, word)?)))
 }
 
 /// A call that puts a value in place of another one.
@@ -59,8 +64,8 @@ fn swap(turn: i64, word: &str) -> Option<Call> {
 fn put_in(turn: i64, function: &str, word: &str) -> Option<Call> {
     let number = number(turn, word)?;
     match function {
-        "enqueue" => Some(Call::Enqueue(number)),
-        "add" => Some(Call::Add(number)),
+        "enqueue" => Some(Call::Enqueue(Item::Int(number))),
+        "add" => Some(Call::Add(Item::Int(number))),
         _ => None,
     }
 }
@@ -91,7 +96,7 @@ fn name(function: &str) -> Option<Name> {
 fn members(alloc: Global, end: &str) -> Option<Reply> {
     let mut members = IntSet::new(alloc);
     for number in 0..end.parse::<i64>().ok()? {
-        members.insert(number).ok()?;
+        members.insert(Item::Int(number)).ok()?;
     }
     Some(Reply::Members(members))
 }
@@ -126,10 +131,10 @@ fn body(alloc: Global, turn: i64, text: &str) -> Option<Body> {
 }
 
 /// The process and the key of an event.
-fn client(turn: i64, text: &str) -> Option<(u64, i64)> {
+fn client(turn: i64, text: &str) -> Option<(u64, Item)> {
     let (process, key) = text.split_once('@').unwrap_or((text, "0"));
     let process = u64::try_from(number(turn, process)?).ok()?;
-    Some((process, number(turn, key)?))
+    Some((process, Item::Int(number(turn, key)?)))
 }
 
 pub fn event(alloc: Global, turn: i64, word: &str) -> Option<Event> {

@@ -1,6 +1,6 @@
 //! A chain that is dead, and what refutes it.
 use lin_chain::{Chain, End};
-use lin_events::{Body, Call, Event, Meter, Name, Reply, Shape, Val};
+use lin_events::{Body, Call, Event, Item, Meter, Name, Reply, Shape, Val};
 use lin_objects::{Kind, Kinds};
 use lin_order::check_refutation;
 use lin_wellformed::Scan;
@@ -10,7 +10,7 @@ use std::test::Fail;
 fn event(process: u64, body: Body) -> Event {
     Event {
         process,
-        key: 0,
+        key: Item::Int(0),
         body,
     }
 }
@@ -19,7 +19,7 @@ fn event(process: u64, body: Body) -> Event {
 fn sets_of_a_dead_chain_pass_the_check(rt: HostRuntime) -> Result<(), Fail> {
     let alloc = rt.alloc();
     let events = [
-        event(0, Body::Invoke(Call::Write(Val::Int(1)))),
+        event(0, Body::Invoke(Call::Write(Val::Item(Item::Int(1))))),
         event(0, Body::Ok(Name::Write, Reply::Done)),
         event(1, Body::Invoke(Call::Read)),
         event(1, Body::Ok(Name::Read, Reply::Value(Val::Nil))),

@@ -1,9 +1,10 @@
 -- Scans that are right, and stay so.
-use Rattle.std.proofs.Common.{◌≡◌, ◌≢◌, ℕ, ℤ, ◌+◌, ◌-◌, ◌^◌, min, ◌<◌, ◌≤◌, zero, suc, Bool, true, false, List, [], ◌∷◌, ◌++◌, length, take, ◌⊎◌, inl, inr, refl, sym, ap, ◌∙◌, subst, arith, cond, true≢false, nat_eq, add-one}
+use Rattle.std.proofs.Common.{◌≡◌, ◌≢◌, ℕ, ◌+◌, ◌-◌, ◌^◌, min, ◌<◌, ◌≤◌, zero, suc, Bool, true, false, List, [], ◌∷◌, ◌++◌, length, take, ◌⊎◌, inl, inr, refl, sym, ap, ◌∙◌, subst, arith, cond, true≢false, nat_eq, add-one}
 use Rattle.std.proofs.lemmas.Bool.{cases_lt}
 use Rattle.std.proofs.lemmas.Bool.Decides.{Decides-eqb}
 use Rattle.std.proofs.lemmas.List.{take-take, take_all, length-take, length-take-le}
 use Rattle.std.proofs.lemmas.Option.{slice_get_within}
+use Rattle.lin_events.specs.declared.items.Item.{Item}
 use Rattle.lin_events.specs.declared.calls.Name.{Name}
 use Rattle.lin_events.specs.declared.events.Event.{Event}
 use Rattle.lin_events.specs.declared.meter.Meter.{Meter}
@@ -28,13 +29,13 @@ abbrev pub IsOver : List Event → Scan → Type 0
 IsOver h scan = (length h ≤ ready_count scan) ⊎ (scan.shape ≢ Good)
 
 -- the bad event is one of those that were taken in
-bad_taken : (kinds : ℤ → Kind) (h : List Event) (scan : Scan) (at : ℕ) (cause : Cause) → IsRight scan kinds h → scan.shape ≡ Bad at cause → at < ready_count scan
+bad_taken : (kinds : Item → Kind) (h : List Event) (scan : Scan) (at : ℕ) (cause : Cause) → IsRight scan kinds h → scan.shape ≡ Bad at cause → at < ready_count scan
 bad_taken kinds h scan at cause right bad =
     let was : IsShape (functions_of kinds) (take (ready_count scan) h) (Bad at cause) = subst (IsShape (functions_of kinds) (take (ready_count scan) h)) bad right.shaped in
     (get_taken (ready_count scan) h at was.0.event was.0.stands).0
 
 -- so the table has no more than those
-table_within : (kinds : ℤ → Kind) (h : List Event) (scan : Scan) → IsRight scan kinds h → count_in scan.table ≤ ready_count scan
+table_within : (kinds : Item → Kind) (h : List Event) (scan : Scan) → IsRight scan kinds h → count_in scan.table ≤ ready_count scan
 table_within kinds h scan right = by scan.shape refl
   where
     by : (shape : Shape) → scan.shape ≡ shape → count_in scan.table ≤ ready_count scan
@@ -77,20 +78,20 @@ module _ (decided : EventsDecideStatuses) (others : OtherStatusesStay) where
 
 module _ (beginnings : BadWithinBeginnings) where
   -- what is bad in a beginning is bad
-  bad_longer : (functions : ℤ → Name → Bool) (h : List Event) (n at : ℕ) (cause : Cause) → IsBad functions (take n h) at cause → IsBad functions h at cause
+  bad_longer : (functions : Item → Name → Bool) (h : List Event) (n at : ℕ) (cause : Cause) → IsBad functions (take n h) at cause → IsBad functions h at cause
   bad_longer functions h n at cause bad = ((beginnings functions h n at cause).0 bad).1
 
   -- and what is bad inside a beginning is bad in it
-  bad_shorter : (functions : ℤ → Name → Bool) (h : List Event) (n at : ℕ) (cause : Cause) → at < n → IsBad functions h at cause → IsBad functions (take n h) at cause
+  bad_shorter : (functions : Item → Name → Bool) (h : List Event) (n at : ℕ) (cause : Cause) → at < n → IsBad functions h at cause → IsBad functions (take n h) at cause
   bad_shorter functions h n at cause below bad = (beginnings functions h n at cause).1 (below, bad)
 
   -- what the event's process is before it, and that no event so far is bad
-  record Before (kinds : ℤ → Kind) (h : List Event) (scan : Scan) (event : Event) : Type 0 where
+  record Before (kinds : Item → Kind) (h : List Event) (scan : Scan) (event : Event) : Type 0 where
     all : count_in scan.table ≡ ready_count scan
     good : (k : ℕ) (cause : Cause) → k < ready_count scan → IsBad (functions_of kinds) h k cause → ⊥
     found : IsStatus (take (ready_count scan) h) event.process (status_at scan.table (count_in scan.table) event.process)
 
-  before_event : (kinds : ℤ → Kind) (h : List Event) (scan : Scan) (event : Event) → IsRight scan kinds h → scan.shape ≡ Good → Before kinds h scan event
+  before_event : (kinds : Item → Kind) (h : List Event) (scan : Scan) (event : Event) → IsRight scan kinds h → scan.shape ≡ Good → Before kinds h scan event
   before_event kinds h scan event right good = record {
     all = all;
     good = λ k cause below bad. was k cause (bad_shorter (functions_of kinds) h (ready_count scan) k cause below bad);
@@ -105,7 +106,7 @@ module _ (beginnings : BadWithinBeginnings) where
 
   module _ (decided : EventsDecideStatuses) (others : OtherStatusesStay) (good_where : NoCauseIsGood) where
     -- one more event, that is not bad
-    pub right_next : (kinds : ℤ → Kind) (h : List Event) (old : Scan) (table : Statuses) (event : Event) → IsRight old kinds h → old.shape ≡ Good → IsEvent h (ready_count old) event
+    pub right_next : (kinds : Item → Kind) (h : List Event) (old : Scan) (table : Statuses) (event : Event) → IsRight old kinds h → old.shape ≡ Good → IsEvent h (ready_count old) event
         → ((cause : Cause) → Holds (functions_of kinds) (status_at old.table (count_in old.table) event.process) event cause → ⊥) → count_in table ≡ count_in old.table + 1
         → ((k process : ℕ) → k ≤ count_in old.table → status_at table k process ≡ status_at old.table k process)
         → ((process : ℕ) → status_at table (count_in old.table + 1) process ≡ cond (nat_eq event.process process) (left_by event) (status_at old.table (count_in old.table) process))
@@ -133,7 +134,7 @@ module _ (beginnings : BadWithinBeginnings) where
             ]
 
   -- one more event, that is bad: its table is as the one before it
-  pub right_bad : (kinds : ℤ → Kind) (h : List Event) (old : Scan) (table : Statuses) (event : Event) (cause : Cause) → IsRight old kinds h → old.shape ≡ Good → IsEvent h (ready_count old) event
+  pub right_bad : (kinds : Item → Kind) (h : List Event) (old : Scan) (table : Statuses) (event : Event) (cause : Cause) → IsRight old kinds h → old.shape ≡ Good → IsEvent h (ready_count old) event
       → IsFirstCause (functions_of kinds) (status_at old.table (count_in old.table) event.process) event cause → count_in table ≡ count_in old.table
       → ((k process : ℕ) → k ≤ count_in old.table → status_at table k process ≡ status_at old.table k process)
       → IsRight (record { ready = ready_count old + 1; shape = Bad (ready_count old) cause; table = table }) kinds h
@@ -153,7 +154,7 @@ module _ (beginnings : BadWithinBeginnings) where
       so_far = before_event kinds h old event right good
 
   -- behind a bad event, any more or less can be taken in
-  pub right_past : (kinds : ℤ → Kind) (h : List Event) (scan : Scan) (n at : ℕ) (cause : Cause) → IsRight scan kinds h → scan.shape ≡ Bad at cause → at < n → n ≤ length h → IsRight (record scan { ready = n }) kinds h
+  pub right_past : (kinds : Item → Kind) (h : List Event) (scan : Scan) (n at : ℕ) (cause : Cause) → IsRight scan kinds h → scan.shape ≡ Bad at cause → at < n → n ≤ length h → IsRight (record scan { ready = n }) kinds h
   right_past kinds h scan n at cause right bad behind within = record {
     within = within;
     shaped = subst (IsShape (functions_of kinds) (take n h)) (sym bad) (
@@ -171,7 +172,7 @@ module _ (beginnings : BadWithinBeginnings) where
       inside = bad_taken kinds h scan at cause right bad
 
   -- where the loop ends, the rest may be taken in
-  pub settled_right : (kinds : ℤ → Kind) (h : List Event) (scan : Scan) → IsRight scan kinds h → IsOver h scan → IsRight (record scan { ready = length h }) kinds h
+  pub settled_right : (kinds : Item → Kind) (h : List Event) (scan : Scan) → IsRight scan kinds h → IsOver h scan → IsRight (record scan { ready = length h }) kinds h
   settled_right kinds h scan right (inl all) = subst (λ n. IsRight (record scan { ready = n }) kinds h) (omega (arith, right.within)) right
   settled_right kinds h scan right (inr bad) = by scan.shape refl
     where
@@ -180,7 +181,7 @@ module _ (beginnings : BadWithinBeginnings) where
       by (Bad at cause) is = right_past kinds h scan (length h) at cause right is (omega (arith, right.within, bad_taken kinds h scan at cause right is)) (omega arith)
 
   -- events are taken back as far as the bad one, or further: none is bad then
-  pub right_fewer : (kinds : ℤ → Kind) (h : List Event) (scan : Scan) (n : ℕ) (table : Statuses) → IsRight scan kinds h → n ≤ count_in scan.table → count_in table ≡ n
+  pub right_fewer : (kinds : Item → Kind) (h : List Event) (scan : Scan) (n : ℕ) (table : Statuses) → IsRight scan kinds h → n ≤ count_in scan.table → count_in table ≡ n
       → ((k process : ℕ) → k ≤ n → status_at table k process ≡ status_at scan.table k process) → IsRight (record { ready = n; shape = Good; table = table }) kinds h
   right_fewer kinds h scan n table right upto count before = record {
     within = let most = table_within kinds h scan right in omega (arith, right.within);
@@ -205,7 +206,7 @@ module _ (beginnings : BadWithinBeginnings) where
           was.1 k cause (omega arith) (bad_shorter (functions_of kinds) h (ready_count scan) k cause (omega arith) bad)
 
   -- or not as far: the bad one stays
-  pub right_behind : (kinds : ℤ → Kind) (h : List Event) (scan : Scan) (n : ℕ) → IsRight scan kinds h → count_in scan.table < n → n ≤ ready_count scan → IsRight (record scan { ready = n }) kinds h
+  pub right_behind : (kinds : Item → Kind) (h : List Event) (scan : Scan) (n : ℕ) → IsRight scan kinds h → count_in scan.table < n → n ≤ ready_count scan → IsRight (record scan { ready = n }) kinds h
   right_behind kinds h scan n right behind upto = by scan.shape refl
     where
       by : (shape : Shape) → scan.shape ≡ shape → IsRight (record scan { ready = n }) kinds h
@@ -215,11 +216,11 @@ module _ (beginnings : BadWithinBeginnings) where
           right_past kinds h scan n at cause right bad (omega arith) (omega (arith, right.within))
 
 -- a scan that took in all events has their shape
-pub right_shape : (kinds : ℤ → Kind) (h : List Event) (scan : Scan) → IsRight scan kinds h → ready_count scan ≡ length h → IsShape (functions_of kinds) h scan.shape
+pub right_shape : (kinds : Item → Kind) (h : List Event) (scan : Scan) → IsRight scan kinds h → ready_count scan ≡ length h → IsShape (functions_of kinds) h scan.shape
 right_shape kinds h scan right all = subst (λ l. IsShape (functions_of kinds) l scan.shape) (take_all (ready_count scan) h (omega arith)) right.shaped
 
 -- a scan is right for what agrees with the events that it took in
-pub right_alike : SameFunctionsSameShape → (at : ℕ) (kinds other : ℤ → Kind) (h edited : List Event) (scan : Scan) → ready_count scan ≤ at → AgreeBefore at kinds other h edited → IsRight scan kinds h → IsRight scan other edited
+pub right_alike : SameFunctionsSameShape → (at : ℕ) (kinds other : Item → Kind) (h edited : List Event) (scan : Scan) → ready_count scan ≤ at → AgreeBefore at kinds other h edited → IsRight scan kinds h → IsRight scan other edited
 right_alike same_shape at kinds other h edited scan upto agree right = record {
   within = omega (arith, length-take-le (ready_count scan) h right.within, ap length same, length-take (ready_count scan) edited);
   shaped = subst (λ l. IsShape (functions_of other) l scan.shape) same (same_shape (functions_of kinds) (functions_of other) (take (ready_count scan) h) scan.shape (λ k event stands. ap (λ kind. allows kind) (alike k event stands)) right.shaped);
@@ -242,7 +243,7 @@ right_alike same_shape at kinds other h edited scan upto agree right = record {
         agree.keys k event (omega arith) there.1
 
 -- while a scan settles: it is right, has taken in no less than at first, and has counted each event that it looked at
-pub record Settling (kinds : ℤ → Kind) (h : List Event) (first now : Scan) (before meter : Meter) : Type 0 where
+pub record Settling (kinds : Item → Kind) (h : List Event) (first now : Scan) (before meter : Meter) : Type 0 where
   pub right : IsRight now kinds h
   pub grown : ready_count first ≤ ready_count now
   pub counted : meter ≡ record before { scans = ticked before.scans (looked_at now.shape (ready_count now) - ready_count first) }
@@ -252,7 +253,7 @@ ticked_most count zero = omega arith
 ticked_most count (suc more) = let rest = ticked_most count more in omega arith
 
 -- no more is looked at than was taken in
-looked_most : (kinds : ℤ → Kind) (h : List Event) (scan : Scan) → IsRight scan kinds h → looked_at scan.shape (ready_count scan) ≤ ready_count scan
+looked_most : (kinds : Item → Kind) (h : List Event) (scan : Scan) → IsRight scan kinds h → looked_at scan.shape (ready_count scan) ≤ ready_count scan
 looked_most kinds h scan right = by scan.shape refl
   where
     by : (shape : Shape) → scan.shape ≡ shape → looked_at scan.shape (ready_count scan) ≤ ready_count scan
@@ -262,7 +263,7 @@ looked_most kinds h scan right = by scan.shape refl
         let inside = bad_taken kinds h scan at cause right bad in
         omega arith
 
-pub settling_start : (kinds : ℤ → Kind) (h : List Event) (scan : Scan) (meter : Meter) → IsRight scan kinds h → Settling kinds h scan scan meter meter
+pub settling_start : (kinds : Item → Kind) (h : List Event) (scan : Scan) (meter : Meter) → IsRight scan kinds h → Settling kinds h scan scan meter meter
 settling_start kinds h scan meter right = record {
   right = right;
   grown = omega arith;
@@ -272,7 +273,7 @@ settling_start kinds h scan meter right = record {
     none : 0 ≡ looked_at scan.shape (ready_count scan) - ready_count scan
     none = let most = looked_most kinds h scan right in omega arith
 
-pub settling_next : (kinds : ℤ → Kind) (h : List Event) (first now new : Scan) (before meter more : Meter) → Settling kinds h first now before meter → now.shape ≡ Good
+pub settling_next : (kinds : Item → Kind) (h : List Event) (first now new : Scan) (before meter more : Meter) → Settling kinds h first now before meter → now.shape ≡ Good
     → IsRight new kinds h → ready_count new ≡ ready_count now + 1 → looked_at new.shape (ready_count new) ≡ ready_count now + 1
     → more ≡ record meter { scans = min (meter.scans + 1) (2 ^ 64 - 1) } → Settling kinds h first new before more
 settling_next kinds h first now new before meter more settling good right count looked ticks = record {
@@ -288,7 +289,7 @@ settling_next kinds h first now new before meter more settling good right count 
         omega arith
 
 -- and nothing more is looked at
-pub settled_looked : (kinds : ℤ → Kind) (h : List Event) (scan : Scan) → IsRight scan kinds h → IsOver h scan → looked_at scan.shape (ready_count scan) ≡ looked_at scan.shape (length h)
+pub settled_looked : (kinds : Item → Kind) (h : List Event) (scan : Scan) → IsRight scan kinds h → IsOver h scan → looked_at scan.shape (ready_count scan) ≡ looked_at scan.shape (length h)
 settled_looked kinds h scan right (inl all) = ap (λ n. looked_at scan.shape n) (omega (arith, right.within))
 settled_looked kinds h scan right (inr bad) = by scan.shape refl
   where
@@ -297,7 +298,7 @@ settled_looked kinds h scan right (inr bad) = by scan.shape refl
     by (Bad at cause) is = ap (λ s. looked_at s (ready_count scan)) is ∙ sym (ap (λ s. looked_at s (length h)) is)
 
 -- so many ticks at most
-pub settled_most : (kinds : ℤ → Kind) (h : List Event) (first now : Scan) (before meter : Meter) → Settling kinds h first now before meter → meter.scans ≤ before.scans + (ready_count now - ready_count first)
+pub settled_most : (kinds : Item → Kind) (h : List Event) (first now : Scan) (before meter : Meter) → Settling kinds h first now before meter → meter.scans ≤ before.scans + (ready_count now - ready_count first)
 settled_most kinds h first now before meter settling =
     let most = looked_most kinds h now settling.right in
     let ticks = ticked_most before.scans (looked_at now.shape (ready_count now) - ready_count first) in

@@ -1,5 +1,6 @@
 -- What a scan knows of a history: its first events, as many as the scan took in.
-use Rattle.std.specs.Prelude.{◌≡◌, ◌+◌, ◌<◌, ◌≤◌, ℕ, ℤ, List, length, take}
+use Rattle.std.specs.Prelude.{◌≡◌, ◌+◌, ◌<◌, ◌≤◌, ℕ, List, length, take}
+use Rattle.lin_events.specs.declared.items.Item.{Item}
 use Rattle.lin_events.specs.declared.events.Event.{Event}
 use Rattle.lin_events.specs.Operations.{IsEvent}
 use Rattle.lin_objects.specs.declared.kinds.Kind.{Kind}
@@ -20,14 +21,14 @@ good_count Good count = count
 good_count (Bad at cause) count = at
 
 -- the scan has the shape of the events that it took in; its table has those before the bad one, and what each process was after each of them
-pub record IsRight (scan : Scan) (kinds : ℤ → Kind) (h : List Event) : Type 0 where
+pub record IsRight (scan : Scan) (kinds : Item → Kind) (h : List Event) : Type 0 where
   pub within : ready_count scan ≤ length h
   pub shaped : IsShape (functions_of kinds) (take (ready_count scan) h) scan.shape
   pub counted : count_in scan.table ≡ good_count scan.shape (ready_count scan)
   pub listed : (k process : ℕ) → k ≤ count_in scan.table → IsStatus (take k h) process (status_at scan.table k process)
 
 -- the two histories have the same events before the position, and their kinds agree on the keys of these
-pub record AgreeBefore (at : ℕ) (kinds other : ℤ → Kind) (h edited : List Event) : Type 0 where
+pub record AgreeBefore (at : ℕ) (kinds other : Item → Kind) (h edited : List Event) : Type 0 where
   pub events : take at h ≡ take at edited
   pub keys : (k : ℕ) (event : Event) → k < at → IsEvent h k event → kinds event.key ≡ other event.key
 

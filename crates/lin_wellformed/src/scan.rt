@@ -1,5 +1,6 @@
 //! Well-formedness, kept up to date with a history that grows and is edited.
-ghost use Rattle.std.specs.Prelude.{◌≡◌, ◌+◌, ◌-◌, ◌/◌, ◌<◌, ◌≤◌, min, ℤ, List, length, IfOk, OnOk, OnErr, IsOk};
+ghost use Rattle.std.specs.Prelude.{◌≡◌, ◌+◌, ◌-◌, ◌/◌, ◌<◌, ◌≤◌, min, List, length, IfOk, OnOk, OnErr, IsOk};
+ghost use Rattle.lin_events.specs.declared.items.Item.{Item as ItemOf};
 ghost use Rattle.lin_events.specs.declared.events.Event.{Event as EventOf};
 ghost use Rattle.lin_events.specs.Meters.{ticked};
 ghost use Rattle.lin_events.specs.Operations.{IsEvent};
@@ -26,7 +27,7 @@ impl Scan {
     /// No event was looked at.
     pub fn new(alloc: Global) -> Scan
         ensures ready { ready_count result ≡ 0 }
-        ensures right { (kinds : ℤ → KindOf) (h : List EventOf) → IsRight result kinds h }
+        ensures right { (kinds : ItemOf → KindOf) (h : List EventOf) → IsRight result kinds h }
     {
         Scan {
             ready: 0,
@@ -56,7 +57,7 @@ impl Scan {
     pub fn cut(&mut self, at: usize)
         ensures back { ready_count self.new ≡ min at (ready_count self.old) }
         ensures same { ready_count self.old ≤ at → self.new ≡ self.old }
-        ensures right { (kinds other : ℤ → KindOf) (h edited : List EventOf) → IsRight self.old kinds h → AgreeBefore at kinds other h edited → IsRight self.new other edited }
+        ensures right { (kinds other : ItemOf → KindOf) (h edited : List EventOf) → IsRight self.old kinds h → AgreeBefore at kinds other h edited → IsRight self.new other edited }
     {
         bad_positions();
         if self.ready <= at {

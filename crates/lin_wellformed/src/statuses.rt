@@ -1,12 +1,13 @@
 //! What processes are between their events, and which events are bad for them.
-ghost use Rattle.std.specs.Prelude.{◌≡◌, ℤ, Bool};
+ghost use Rattle.std.specs.Prelude.{◌≡◌, Bool};
+ghost use Rattle.lin_events.specs.declared.items.Item.{Item as ItemOf};
 ghost use Rattle.lin_events.specs.declared.events.Body.TheVariants.{Invoke};
 ghost use Rattle.lin_events.specs.declared.events.Event.{Event as EventOf};
 ghost use Rattle.lin_events.specs.declared.calls.Name.{Name as NameOf};
 ghost use Rattle.lin_events.specs.WellFormed.{left_by, IsStatus, Completes, IsVerdict};
 ghost use Rattle.lin_objects.specs.Kinds.{kind_of, functions_of};
 
-use lin_events::{Body, Call, Cause, Event, Name, Status};
+use lin_events::{Body, Call, Cause, Event, Item, Name, Status};
 use lin_objects::{Any, Kinds, SeqObject};
 
 /// What the event leaves its process as.
@@ -48,7 +49,7 @@ pub fn first_cause(status: Status, event: &Event, kinds: &Kinds) -> Option<Cause
     }
 }
 
-fn cause_at_invocation(status: Status, call: &Call, key: i64, kinds: &Kinds) -> Option<Cause>
+fn cause_at_invocation(status: Status, call: &Call, key: Item, kinds: &Kinds) -> Option<Cause>
     ensures { (event : EventOf) → event.body ≡ Invoke call.now → event.key ≡ key → IsVerdict (functions_of (kind_of kinds.now)) status event result }
 {
     let object = Any {
@@ -62,8 +63,8 @@ fn cause_at_invocation(status: Status, call: &Call, key: i64, kinds: &Kinds) -> 
     }
 }
 
-fn cause_at_completion(status: Status, name: Name, key: i64) -> Option<Cause>
-    ensures { (functions : ℤ → NameOf → Bool) (event : EventOf) → Completes event.body name → event.key ≡ key → IsVerdict functions status event result }
+fn cause_at_completion(status: Status, name: Name, key: Item) -> Option<Cause>
+    ensures { (functions : ItemOf → NameOf → Bool) (event : EventOf) → Completes event.body name → event.key ≡ key → IsVerdict functions status event result }
 {
     match status {
         Status::Retired => Some(Cause::RetiredProcess),

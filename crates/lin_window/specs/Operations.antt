@@ -1,6 +1,7 @@
 -- The operation at which legal orders end, since when nothing else ran, what ran beside it, and how operations stand. All is said of the
 -- events of one object, by their places among these.
-use Rattle.std.specs.Prelude.{◌≡◌, ◌≢◌, ◌<◌, ◌≤◌, ℕ, ℤ, suc, List, length, AllPairs, Contains, ◌↔◌}
+use Rattle.std.specs.Prelude.{◌≡◌, ◌≢◌, ◌<◌, ◌≤◌, ℕ, suc, List, length, AllPairs, Contains, ◌↔◌}
+use Rattle.lin_events.specs.declared.items.Item.{Item}
 use Rattle.lin_events.specs.declared.calls.Call.{Call}
 use Rattle.lin_events.specs.declared.calls.Name.{Name}
 use Rattle.lin_events.specs.declared.events.Event.{Event}
@@ -44,7 +45,7 @@ pub record IsBeside (h : List Event) (call at : ℕ) : Type 0 where
 
 -- the operation is neither ok nor failed
 abbrev pub IsOpenAt : List Event → ℕ → Type 0
-IsOpenAt h at = (process : ℕ) × (key : ℤ) × (call : Call) × IsOpen h at process key call
+IsOpenAt h at = (process : ℕ) × (key : Item) × (call : Call) × IsOpen h at process key call
 
 -- the operation is open, or even crashed
 abbrev pub IsOfSort : List Event → Sort → ℕ → Type 0

@@ -1,6 +1,7 @@
 -- Tables of operations: which are shown, in which order they are chosen, and the words of their lines.
-use Rattle.std.specs.Prelude.{◌≡◌, ◌≢◌, ◌<◌, ◌≤◌, ◌⊎◌, ◌↔◌, ℕ, ℤ, zero, suc, List, [], ◌++◌, AllPairs, Contains, Option, Some, None, codes, decimal, length, option_map, slice_get, unwrap_or}
+use Rattle.std.specs.Prelude.{◌≡◌, ◌≢◌, ◌<◌, ◌≤◌, ◌⊎◌, ◌↔◌, ℕ, zero, suc, List, [], ◌++◌, AllPairs, Contains, Option, Some, None, codes, decimal, length, option_map, slice_get, unwrap_or}
 use Rattle.std.specs.List.{AllZip}
+use Rattle.lin_events.specs.declared.items.Item.{Item}
 use Rattle.lin_events.specs.declared.calls.Call.{Call}
 use Rattle.lin_events.specs.declared.calls.Reply.{Reply}
 use Rattle.lin_events.specs.declared.events.Event.{Event}
@@ -119,7 +120,7 @@ position_in picks at = unwrap_or (slice_get picks at) 0
 -- the positions of the invocation and of the end, where these stand in the file, and the operation with what became of it
 pub record IsRow (s : Told) (x : Chosen) (row : Row) : Type 0 where
   pub process : ℕ
-  pub key : ℤ
+  pub key : Item
   pub call : Call
   pub outcome : Outcome
   pub begins : IsOperation s.events x.at process key call

@@ -1,6 +1,6 @@
 //! Tables of short histories, and what is said of their operations.
 use crate::{Listed, Stretch, Window, put_operations};
-use lin_events::{Body, Call, Event, Name, Reply, Val};
+use lin_events::{Body, Call, Event, Item, Name, Reply, Val};
 use lin_orders::ends_of;
 use lin_places::Place;
 use std::process::Abort;
@@ -20,7 +20,7 @@ enum Step {
 fn body(step: Step) -> Body {
     match step {
         Step::Reads => Body::Invoke(Call::Read),
-        Step::Writes(number) => Body::Invoke(Call::Write(Val::Int(number))),
+        Step::Writes(number) => Body::Invoke(Call::Write(Val::Item(Item::Int(number)))),
         Step::IsDone => Body::Ok(Name::Write, Reply::Done),
         Step::Gets(value) => Body::Ok(Name::Read, Reply::Value(value)),
         Step::Fails => Body::Fail(Name::Write),
@@ -63,7 +63,7 @@ fn shows(
     for (at, (process, step)) in steps.iter().enumerate() {
         let event = Event {
             process: *process,
-            key: 0,
+            key: Item::Int(0),
             body: body(*step),
         };
         events.push(event).expect(rt, "memory");
@@ -131,7 +131,7 @@ fn write_that_fails(rt: HostRuntime) {
     let steps = [
         (0, Step::Writes(2)),
         (1, Step::Reads),
-        (1, Step::Gets(Val::Int(2))),
+        (1, Step::Gets(Val::Item(Item::Int(2)))),
         (0, Step::Fails),
     ];
     let window = Window {
@@ -156,7 +156,7 @@ fn write_that_crashed(rt: HostRuntime) {
         (1, Step::Reads),
         (1, Step::Gets(Val::Nil)),
         (1, Step::Reads),
-        (1, Step::Gets(Val::Int(5))),
+        (1, Step::Gets(Val::Item(Item::Int(5)))),
         (1, Step::Reads),
         (1, Step::Gets(Val::Nil)),
     ];
@@ -203,7 +203,7 @@ fn more_than_eight(rt: HostRuntime) {
         (7, Step::Writes(7)),
         (8, Step::Writes(8)),
         (9, Step::Reads),
-        (9, Step::Gets(Val::Int(99))),
+        (9, Step::Gets(Val::Item(Item::Int(99)))),
     ];
     let window = Window {
         call: 9,

@@ -1,17 +1,16 @@
 -- The words of operations and events, as an explanation tells them.
-use Rattle.std.specs.Prelude.{ℕ, ℤ, List, [], ◌++◌, Option, Some, None, codes, decimal}
-use Rattle.std.specs.Fmt.{signed_decimal}
+use Rattle.std.specs.Prelude.{ℕ, List, [], ◌++◌, Option, Some, None, codes, decimal}
 use Rattle.lin_events.specs.declared.calls.Call.{Call}
 use Rattle.lin_events.specs.declared.calls.Call.TheVariants.{Read, Write, Cas, Enqueue, Dequeue, Add, Acquire, Release}
 use Rattle.lin_events.specs.declared.calls.Name.{Name}
 use Rattle.lin_events.specs.declared.calls.Name.TheVariants as Named
-use Rattle.lin_events.specs.declared.calls.Val.{Val}
 use Rattle.lin_events.specs.declared.calls.Reply.{Reply}
 use Rattle.lin_events.specs.declared.calls.Reply.TheVariants.{Done, Value, Members}
 use Rattle.lin_events.specs.declared.events.Body.{Body}
 use Rattle.lin_events.specs.declared.events.Body.TheVariants.{Invoke, Ok, Fail, Info}
 use Rattle.lin_events.specs.declared.events.Event.{Event}
 use Rattle.lin_events.specs.Names.{name_of}
+use Rattle.lin_formats.specs.Items.{item_text}
 use Rattle.lin_words.specs.Values.{reply_text, value_text}
 
 abbrev pub name_text : Name → List ℕ
@@ -29,9 +28,9 @@ abbrev pub arguments_text : Call → List ℕ
 arguments_text Read = []
 arguments_text (Write v) = codes " " ++ value_text v
 arguments_text (Cas old new) = (codes " " ++ value_text old) ++ (codes " " ++ value_text new)
-arguments_text (Enqueue i) = codes " " ++ signed_decimal i
+arguments_text (Enqueue i) = codes " " ++ item_text i
 arguments_text Dequeue = []
-arguments_text (Add i) = codes " " ++ signed_decimal i
+arguments_text (Add i) = codes " " ++ item_text i
 arguments_text Acquire = []
 arguments_text Release = []
 

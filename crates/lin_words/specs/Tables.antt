@@ -1,7 +1,7 @@
 -- Tables of operations and lists of what was possible: lines whose columns are padded with spaces to the widest.
 use Rattle.std.specs.Prelude.{ℕ, List, [], ◌∷◌, ◌++◌, ◌-◌, Option, Some, None, codes, decimal, length, map, max, replicate, nat_eq, if◌then◌else◌}
 use Rattle.std.specs.List.{flat_map}
-use Rattle.lin_words.specs.declared.tables.Item.{Item}
+use Rattle.lin_words.specs.declared.tables.Entry.{Entry}
 use Rattle.lin_words.specs.declared.tables.Row.{Row}
 use Rattle.lin_words.specs.declared.tables.Span.{Span}
 use Rattle.lin_words.specs.declared.tables.Span.TheVariants.{Lines, Bytes, Nowhere}
@@ -34,8 +34,8 @@ line_text range span row = (row.mark ∷ codes " ") ++ padded range row.range.it
 abbrev pub table_text : List Row → List ℕ
 table_text rows = flat_map (line_text (widest (map (λ row. row.range.items) rows)) (widest (map (λ row. row.span.items) rows))) rows
 
-abbrev pub item_line : ℕ → Item → List ℕ
-item_line width item = codes "  " ++ padded width item.words.items ++ codes "  after " ++ item.after.items ++ codes "\n"
+abbrev pub entry_line : ℕ → Entry → List ℕ
+entry_line width entry = codes "  " ++ padded width entry.words.items ++ codes "  after " ++ entry.after.items ++ codes "\n"
 
-abbrev pub list_text : List Item → List ℕ
-list_text items = flat_map (item_line (widest (map (λ item. item.words.items) items))) items
+abbrev pub list_text : List Entry → List ℕ
+list_text entries = flat_map (entry_line (widest (map (λ entry. entry.words.items) entries))) entries

@@ -1,12 +1,12 @@
 //! The words of operations and events.
 ghost use Rattle.std.specs.Prelude.{◌≡◌, ◌++◌, codes, decimal, OnOk, option_map};
-ghost use Rattle.std.specs.Fmt.{signed_decimal};
+ghost use Rattle.lin_formats.specs.Items.{item_text};
 ghost use Rattle.lin_words.specs.Operations.{arguments_text, call_text, event_text, name_text, operation_text, process_text, reply_behind};
 ghost use Rattle.lin_words.specs.Values.{value_text};
 
 use crate::values::{put_reply, put_value};
-use lin_events::{Body, Call, Event, Name, Reply, Val};
-use lin_formats::{put_integer, put_number};
+use lin_events::{Body, Call, Event, Item, Name, Reply, Val};
+use lin_formats::{put_item, put_number};
 use std::alloc::AllocError;
 
 /// The word of a function.
@@ -33,12 +33,12 @@ fn put_value_behind(line: &mut Vec<u8>, value: Val) -> Result<(), AllocError>
     put_value(line, value)
 }
 
-/// Puts a space and a number last.
-fn put_integer_behind(line: &mut Vec<u8>, number: i64) -> Result<(), AllocError>
-    ensures { OnOk result (line.new.items ≡ line.old.items ++ (codes " " ++ signed_decimal number)) }
+/// Puts a space and an item last.
+fn put_item_behind(line: &mut Vec<u8>, item: Item) -> Result<(), AllocError>
+    ensures { OnOk result (line.new.items ≡ line.old.items ++ (codes " " ++ item_text item)) }
 {
     line.push(b' ')?;
-    put_integer(line, number)
+    put_item(line, item)
 }
 
 /// Puts what a call is given last, each behind a space.
@@ -51,8 +51,8 @@ fn put_arguments(line: &mut Vec<u8>, call: Call) -> Result<(), AllocError>
             put_value_behind(line, old)?;
             put_value_behind(line, new)
         }
-        Call::Enqueue(number) => put_integer_behind(line, number),
-        Call::Add(number) => put_integer_behind(line, number),
+        Call::Enqueue(item) => put_item_behind(line, item),
+        Call::Add(item) => put_item_behind(line, item),
         Call::Read | Call::Dequeue | Call::Acquire | Call::Release => Ok(()),
     }
 }

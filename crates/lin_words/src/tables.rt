@@ -1,7 +1,7 @@
 //! Tables of operations, and lists of what was possible, in columns.
 ghost use Rattle.std.specs.Prelude.{◌≡◌, ◌++◌, ◌∷◌, ◌-◌, [], codes, length, map, max, replicate, OnOk, Option};
 ghost use Rattle.std.specs.List.{flat_map};
-ghost use Rattle.lin_words.specs.Tables.{item_line, line_text as line_of, list_text, padded, place_column, range_text, span_text, table_text, widest};
+ghost use Rattle.lin_words.specs.Tables.{entry_line, line_text as line_of, list_text, padded, place_column, range_text, span_text, table_text, widest};
 
 use lin_formats::put_number;
 use std::alloc::AllocError;
@@ -29,7 +29,7 @@ pub struct Row {
 
 /// A line of a list: what was possible, and the operations that lead to it.
 #[derive(Drop)]
-pub struct Item {
+pub struct Entry {
     pub words: Vec<u8>,
     pub after: Vec<u8>,
 }
@@ -113,13 +113,13 @@ fn span_width(rows: &[Row]) -> usize
     width
 }
 
-/// How wide the words of the items are.
-fn words_width(items: &[Item]) -> usize
-    ensures { result ≡ widest (map (λ item. item.words.items) items.now) }
+/// How wide the words of the entries are.
+fn words_width(entries: &[Entry]) -> usize
+    ensures { result ≡ widest (map (λ entry. entry.words.items) entries.now) }
 {
     let mut width = 0;
-    for item in items {
-        width = wider(width, item.words.as_slice().len());
+    for entry in entries {
+        width = wider(width, entry.words.as_slice().len());
     }
     width
 }
@@ -161,25 +161,25 @@ pub fn put_table(text: &mut Vec<u8>, rows: &[Row]) -> Result<(), AllocError>
     Ok(())
 }
 
-/// Puts the line of an item last, with its end; its words are so wide.
-fn put_item(text: &mut Vec<u8>, item: &Item, width: usize) -> Result<(), AllocError>
-    ensures { OnOk result (text.new.items ≡ text.old.items ++ item_line width item.now) }
+/// Puts the line of an entry last, with its end; its words are so wide.
+fn put_entry(text: &mut Vec<u8>, entry: &Entry, width: usize) -> Result<(), AllocError>
+    ensures { OnOk result (text.new.items ≡ text.old.items ++ entry_line width entry.now) }
 {
     text.extend_from_slice(b"  ")?;
-    put_padded(text, &item.words, width)?;
+    put_padded(text, &entry.words, width)?;
     text.extend_from_slice(b"  after ")?;
-    text.extend_from_slice(&item.after)?;
+    text.extend_from_slice(&entry.after)?;
     text.push(b'\n')?;
     Ok(())
 }
 
-/// Puts a list last: a line for each item, in columns.
-pub fn put_list(text: &mut Vec<u8>, items: &[Item]) -> Result<(), AllocError>
-    ensures { OnOk result (text.new.items ≡ text.old.items ++ list_text items.now) }
+/// Puts a list last: a line for each entry, in columns.
+pub fn put_list(text: &mut Vec<u8>, entries: &[Entry]) -> Result<(), AllocError>
+    ensures { OnOk result (text.new.items ≡ text.old.items ++ list_text entries.now) }
 {
-    let width = words_width(items);
-    for item in items {
-        put_item(text, item, width)?;
+    let width = words_width(entries);
+    for entry in entries {
+        put_entry(text, entry, width)?;
     }
     Ok(())
 }

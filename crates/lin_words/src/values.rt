@@ -1,15 +1,15 @@
 //! The words of values, and of where an object stands.
 ghost use Rattle.std.specs.Prelude.{◌≡◌, ◌++◌, ◌∷◌, [], codes, OnOk};
-ghost use Rattle.std.specs.Fmt.{signed_decimal};
 ghost use Rattle.std.specs.List.{join_by};
+ghost use Rattle.lin_formats.specs.Items.{item_text};
 ghost use Rattle.lin_words.specs.Values.{between, items_text, reply_text, state_text, value_text};
 
-use lin_events::{Reply, Val};
-use lin_formats::{put_integer, put_members, put_number};
+use lin_events::{Item, Reply, Val};
+use lin_formats::{put_item, put_members, put_number};
 use lin_objects::State;
 use std::alloc::AllocError;
 
-/// So many numbers of a set or a queue are told, and how many there are.
+/// So many items of a set or a queue are told, and how many there are.
 const TOLD: usize = 8;
 
 /// Puts the words of a value last.
@@ -18,29 +18,29 @@ pub fn put_value(line: &mut Vec<u8>, value: Val) -> Result<(), AllocError>
 {
     match value {
         Val::Nil => line.extend_from_slice(b"nil"),
-        Val::Int(number) => put_integer(line, number),
+        Val::Item(item) => put_item(line, item),
     }
 }
 
-/// Puts numbers last, with commas between them; of more than eight the first eight, and how many there are.
-pub fn put_items(line: &mut Vec<u8>, numbers: &[i64]) -> Result<(), AllocError>
-    ensures { OnOk result (line.new.items ≡ line.old.items ++ items_text numbers.now) }
+/// Puts items last, with commas between them; of more than eight the first eight, and how many there are.
+pub fn put_items(line: &mut Vec<u8>, items: &[Item]) -> Result<(), AllocError>
+    ensures { OnOk result (line.new.items ≡ line.old.items ++ items_text items.now) }
 {
-    if numbers.len() <= TOLD {
-        return put_members(line, numbers);
+    if items.len() <= TOLD {
+        return put_members(line, items);
     }
-    put_members(line, &numbers[..TOLD])?;
+    put_members(line, &items[..TOLD])?;
     line.extend_from_slice(b",... ")?;
-    put_number(line, numbers.len() as u64)?;
+    put_number(line, items.len() as u64)?;
     line.extend_from_slice(b" in all")
 }
 
-/// Puts numbers last between two brackets.
-fn put_between(line: &mut Vec<u8>, left: u8, numbers: &[i64], right: u8) -> Result<(), AllocError>
-    ensures { OnOk result (line.new.items ≡ line.old.items ++ between left numbers.now right) }
+/// Puts items last between two brackets.
+fn put_between(line: &mut Vec<u8>, left: u8, items: &[Item], right: u8) -> Result<(), AllocError>
+    ensures { OnOk result (line.new.items ≡ line.old.items ++ between left items.now right) }
 {
     line.push(left)?;
-    put_items(line, numbers)?;
+    put_items(line, items)?;
     line.push(right)?;
     Ok(())
 }

@@ -1,6 +1,7 @@
 -- Looking back from each position, and looking at operations: both say the same of a history.
-use Rattle.std.proofs.Common.{◌≡◌, ℕ, ℤ, ◌<◌, ◌≤◌, Bool, true, List, take, ◌⊎◌, inl, inr, refl, sym, ap, ◌∙◌, subst, arith, slice_get}
+use Rattle.std.proofs.Common.{◌≡◌, ℕ, ◌<◌, ◌≤◌, Bool, true, List, take, ◌⊎◌, inl, inr, refl, sym, ap, ◌∙◌, subst, arith, slice_get}
 use Rattle.std.proofs.lemmas.Bool.{cases_lt, cases_order, cases_Bool}
+use Rattle.lin_events.specs.declared.items.Item.{Item}
 use Rattle.lin_events.specs.declared.calls.Call.{Call}
 use Rattle.lin_events.specs.declared.calls.Name.{Name}
 use Rattle.lin_events.specs.declared.events.Body.{Body}
@@ -53,23 +54,23 @@ status_until h process at n event stands same below none = status_here (take n h
     (λ k past of_it. let there = get_taken n h k of_it.0 of_it.1 in none k past there.0 (of_it.0, there.1, of_it.2))
 
 -- an event is what its parts say
-event_is : (event : Event) (process : ℕ) (key : ℤ) (body : Body) → event.process ≡ process → event.key ≡ key → event.body ≡ body → event ≡ (record { process = process; key = key; body = body })
+event_is : (event : Event) (process : ℕ) (key : Item) (body : Body) → event.process ≡ process → event.key ≡ key → event.body ≡ body → event ≡ (record { process = process; key = key; body = body })
 event_is event process key body p k b = λ i. record { process = p i; key = k i; body = b i }
 
 -- only an invocation leaves its process busy
-left_busy : (process : ℕ) (at : ℤ) (body : Body) (called : Name) (key : ℤ) → Busy called key ≡ left_by (record { process = process; key = at; body = body })
+left_busy : (process : ℕ) (at : Item) (body : Body) (called : Name) (key : Item) → Busy called key ≡ left_by (record { process = process; key = at; body = body })
     → (call : Call) × (body ≡ Invoke call) × (name_of call ≡ called) × (at ≡ key)
 left_busy process at (Invoke call) called key e = (call, refl, cc, cc)
 left_busy process at (Ok name reply) called key e = cc
 left_busy process at (Fail name) called key e = cc
 left_busy process at (Info name) called key e = cc
 
-module _ (functions : ℤ → Name → Bool) (h : List Event) (well : IsWellFormed functions h) where
+module _ (functions : Item → Name → Bool) (h : List Event) (well : IsWellFormed functions h) where
   -- no cause is the first that holds
   no_cause : (at : ℕ) (event : Event) (status : Status) → IsEvent h at event → IsStatus (take at h) event.process status → (cause : Cause) → IsFirstCause functions status event cause → ⊥
   no_cause at event status stands found cause caused = well at cause (record { event = event; stands = stands; status = status; found = found; caused = caused })
 
-  invoked : (at process : ℕ) (key : ℤ) (call : Call) → IsOperation h at process key call → functions key (name_of call) ≡ true
+  invoked : (at process : ℕ) (key : Item) (call : Call) → IsOperation h at process key call → functions key (name_of call) ≡ true
   invoked at process key call begins = let found = status_of h process at in by found.0 found.1
     where
       by : (status : Status) → IsStatus (take at h) process status → functions key (name_of call) ≡ true
@@ -126,7 +127,7 @@ module _ (functions : ℤ → Name → Bool) (h : List Event) (well : IsWellForm
   completed end ending name stands completes = let found = status_of h ending.process end in ended end ending name stands completes found.0 found.1
 
   -- a process that is called again has returned
-  module _ (at later process : ℕ) (key other : ℤ) (call again : Call) (past : at < later) (begins : IsOperation h at process key call) (calls : IsOperation h later process other again) where
+  module _ (at later process : ℕ) (key other : Item) (call again : Call) (past : at < later) (begins : IsOperation h at process key call) (calls : IsOperation h later process other again) where
     returned_by : (end : ℕ) (ending : Event) → at < end → end ≤ later → IsEvent h end ending → ending.process ≡ process → ((k : ℕ) → at < k → k < end → IsOf h process k → ⊥)
         → (body : Body) → ending.body ≡ body → (end : ℕ) × (end < later) × IsReturn h at end
     returned_by end ending after upto stands same least body is = by body is
@@ -156,17 +157,17 @@ module _ (functions : ℤ → Name → Bool) (h : List Event) (well : IsWellForm
             let found = subst (λ s. IsStatus (take more.0 h) process s) left (status_until h process end more.0 ending stands same more.1 more.4) in
             absurd (no_cause more.0 more.3.0 Retired more.3.1 (subst (λ p. IsStatus (take more.0 h) p Retired) (sym more.3.2) found) RetiredProcess (retired_first functions Retired more.3.0 refl))
 
-  returned : (at later process : ℕ) (key other : ℤ) (call again : Call) → at < later → IsOperation h at process key call → IsOperation h later process other again
+  returned : (at later process : ℕ) (key other : Item) (call again : Call) → at < later → IsOperation h at process key call → IsOperation h later process other again
       → (end : ℕ) × (end < later) × IsReturn h at end
   returned at later process key other call again past begins calls =
       let next = next_of h process at later past (record { process = process; key = other; body = Invoke again }, calls, refl) in
       returned_by at later process key other call again past begins calls next.0 next.3.0 next.1 next.2 next.3.1 next.3.2 next.4 next.3.0.body refl
 
-pub alternates : (functions : ℤ → Name → Bool) (h : List Event) → IsWellFormed functions h → IsAlternating functions h
+pub alternates : (functions : Item → Name → Bool) (h : List Event) → IsWellFormed functions h → IsAlternating functions h
 alternates functions h well = record { allowed = invoked functions h well; returned = returned functions h well; completed = completed functions h well }
 
 -- only an info leaves its process retired
-left_retired : (process : ℕ) (key : ℤ) (body : Body) → Retired ≡ left_by (record { process = process; key = key; body = body }) → (name : Name) × (body ≡ Info name)
+left_retired : (process : ℕ) (key : Item) (body : Body) → Retired ≡ left_by (record { process = process; key = key; body = body }) → (name : Name) × (body ≡ Info name)
 left_retired process key (Invoke call) e = cc
 left_retired process key (Ok name reply) e = cc
 left_retired process key (Fail name) e = cc
@@ -182,7 +183,7 @@ body_cases (Info name) = inr (name, refl)
 info_completes : (body : Body) (name : Name) → body ≡ Info name → Completes body name
 info_completes body name is = subst (λ b. Completes b name) (sym is) refl
 
-module _ (functions : ℤ → Name → Bool) (h : List Event) (alternating : IsAlternating functions h) where
+module _ (functions : Item → Name → Bool) (h : List Event) (alternating : IsAlternating functions h) where
   -- an operation that ends with an info does not return
   no_return : (at end other : ℕ) (ending : Event) (name : Name) → IsEnd h at end ending → ending.body ≡ Info name → IsReturn h at other → ⊥
   no_return at end other ending name is_end is (inl ok) = let same = ap (λ (e : Event). e.body) (one_end h at end other ending ok.1.0 is_end ok.1.1).1 in no (sym is ∙ same ∙ ok.1.3)
@@ -217,7 +218,7 @@ module _ (functions : ℤ → Name → Bool) (h : List Event) (alternating : IsA
       first : (i : ℕ) × (call : Call) × IsOperation h i ending.process ending.key call × (name_of call ≡ name) × IsEnd h i at ending
       first = alternating.completed at ending name ends (info_completes ending.body name is)
 
-      called : (later process : ℕ) (key : ℤ) (again : Call) → at < later → process ≡ event.process → IsOperation h later process key again → ⊥
+      called : (later process : ℕ) (key : Item) (again : Call) → at < later → process ≡ event.process → IsOperation h later process key again → ⊥
       called later process key again past of_it calls =
           let begins : IsOperation h first.0 process ending.key first.1 = subst (λ p. IsOperation h first.0 p ending.key first.1) (same ∙ sym of_it) first.2 in
           let inside : first.0 < at = first.4.later in
@@ -254,7 +255,7 @@ module _ (functions : ℤ → Name → Bool) (h : List Event) (alternating : IsA
       here = last_called k found.0 operation.0 event found.1 found.2 operation.4
 
   -- what was called last has not returned
-  no_event_since : (k : ℕ) (event : Event) (at : ℕ) (latest : Event) (process : ℕ) → IsLast (take k h) process at latest → (end : ℕ) → end < k → (key : ℤ) (call : Call) → IsOperation h at process key call → IsReturn h at end → ⊥
+  no_event_since : (k : ℕ) (event : Event) (at : ℕ) (latest : Event) (process : ℕ) → IsLast (take k h) process at latest → (end : ℕ) → end < k → (key : Item) (call : Call) → IsOperation h at process key call → IsReturn h at end → ⊥
   no_event_since k event at latest process last end below key call begins returns = by returns
     where
       ends : (ending : Event) → IsEnd h at end ending → ⊥
@@ -294,8 +295,8 @@ module _ (functions : ℤ → Name → Bool) (h : List Event) (alternating : IsA
   none_holds k event status stands (inr found) OtherCall holds = holds.5 (one_busy holds.2 holds.0 holds.3 event.key (sym holds.4 ∙ busy_before k event status stands found holds.0 holds.1))
   none_holds k event status stands (inr found) OtherKey holds = holds.5 (one_key holds.2 holds.0 holds.3 event.key (sym holds.4 ∙ busy_before k event status stands found holds.0 holds.1))
 
-pub well_formed_again : (functions : ℤ → Name → Bool) (h : List Event) → IsAlternating functions h → IsWellFormed functions h
+pub well_formed_again : (functions : Item → Name → Bool) (h : List Event) → IsAlternating functions h → IsWellFormed functions h
 well_formed_again functions h alternating k cause bad = none_holds functions h alternating k bad.event bad.status bad.stands bad.found cause bad.caused.holds
 
-pub beginning_is_well_formed : (functions : ℤ → Name → Bool) (h : List Event) (n : ℕ) → IsWellFormed functions h → IsWellFormed functions (take n h)
+pub beginning_is_well_formed : (functions : Item → Name → Bool) (h : List Event) (n : ℕ) → IsWellFormed functions h → IsWellFormed functions (take n h)
 beginning_is_well_formed functions h n well = λ k cause bad. well k cause (bad_longer functions h n k cause bad)

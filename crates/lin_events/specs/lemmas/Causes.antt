@@ -1,6 +1,7 @@
 -- The table of causes, row by row: which is the first that holds.
-use Rattle.std.proofs.Common.{◌≡◌, ◌≢◌, ℤ, Bool, ◌<◌, false, inl, inr, refl, sym, ◌∙◌, subst, arith}
+use Rattle.std.proofs.Common.{◌≡◌, ◌≢◌, Bool, ◌<◌, false, inl, inr, refl, sym, ◌∙◌, subst, arith}
 use Rattle.std.proofs.lemmas.Bool.{cases_order}
+use Rattle.lin_events.specs.declared.items.Item.{Item}
 use Rattle.lin_events.specs.declared.calls.Call.{Call}
 use Rattle.lin_events.specs.declared.calls.Name.{Name}
 use Rattle.lin_events.specs.declared.events.Body.{Body}
@@ -24,13 +25,13 @@ one_completion (Ok name reply) a b at_a at_b = sym at_a ∙ at_b
 one_completion (Fail name) a b at_a at_b = sym at_a ∙ at_b
 one_completion (Info name) a b at_a at_b = sym at_a ∙ at_b
 
-pub one_busy : (a b : Name) (x y : ℤ) → Busy a x ≡ Busy b y → a ≡ b
+pub one_busy : (a b : Name) (x y : Item) → Busy a x ≡ Busy b y → a ≡ b
 one_busy a b x y e = cc
 
-pub one_key : (a b : Name) (x y : ℤ) → Busy a x ≡ Busy b y → x ≡ y
+pub one_key : (a b : Name) (x y : Item) → Busy a x ≡ Busy b y → x ≡ y
 one_key a b x y e = cc
 
-module _ (functions : ℤ → Name → Bool) (status : Status) (event : Event) where
+module _ (functions : Item → Name → Bool) (status : Status) (event : Event) where
   pub retired_first : status ≡ Retired → IsFirstCause functions status event RetiredProcess
   retired_first retired = record { holds = retired; first = first }
     where
@@ -39,7 +40,7 @@ module _ (functions : ℤ → Name → Bool) (status : Status) (event : Event) w
       first BusyProcess below h = omega arith
       first _ below h = omega arith
 
-  pub busy_first : (call : Call) (called : Name) (key : ℤ) → status ≡ Busy called key → event.body ≡ Invoke call → IsFirstCause functions status event BusyProcess
+  pub busy_first : (call : Call) (called : Name) (key : Item) → status ≡ Busy called key → event.body ≡ Invoke call → IsFirstCause functions status event BusyProcess
   busy_first call called key busy invokes = record { holds = (call, invokes, called, key, busy); first = first }
     where
       first : (other : Cause) → number other < 2 → Holds functions status event other → ⊥
@@ -63,7 +64,7 @@ module _ (functions : ℤ → Name → Bool) (status : Status) (event : Event) w
       first NotOfKind below h = no_completion event.body h.0 name h.1 completes
       first _ below h = omega arith
 
-  pub call_first : (name called : Name) (key : ℤ) → status ≡ Busy called key → Completes event.body name → called ≢ name → IsFirstCause functions status event OtherCall
+  pub call_first : (name called : Name) (key : Item) → status ≡ Busy called key → Completes event.body name → called ≢ name → IsFirstCause functions status event OtherCall
   call_first name called key busy completes differ = record { holds = (name, completes, called, key, busy, differ); first = first }
     where
       first : (other : Cause) → number other < 5 → Holds functions status event other → ⊥
@@ -73,7 +74,7 @@ module _ (functions : ℤ → Name → Bool) (status : Status) (event : Event) w
       first NoInvocation below h = let idle = h.2 in cc
       first _ below h = omega arith
 
-  pub key_first : (name : Name) (key : ℤ) → status ≡ Busy name key → Completes event.body name → key ≢ event.key → IsFirstCause functions status event OtherKey
+  pub key_first : (name : Name) (key : Item) → status ≡ Busy name key → Completes event.body name → key ≢ event.key → IsFirstCause functions status event OtherKey
   key_first name key busy completes differ = record { holds = (name, completes, name, key, busy, differ); first = first }
     where
       first : (other : Cause) → number other < 6 → Holds functions status event other → ⊥
@@ -127,7 +128,7 @@ one_number OtherKey OtherCall e = absurd (omega (arith, e))
 one_number OtherKey OtherKey e = refl
 
 -- one cause is the first that holds
-pub one_first : (functions : ℤ → Name → Bool) (status : Status) (event : Event) (a b : Cause) → IsFirstCause functions status event a → IsFirstCause functions status event b → a ≡ b
+pub one_first : (functions : Item → Name → Bool) (status : Status) (event : Event) (a b : Cause) → IsFirstCause functions status event a → IsFirstCause functions status event b → a ≡ b
 one_first functions status event a b is_a is_b = elim (cases_order (number a) (number b)) [
   | inl same ↦ one_number a b same
   | inr differ ↦ elim differ [

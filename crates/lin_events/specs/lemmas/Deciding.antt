@@ -1,8 +1,9 @@
 -- What can be decided: names, keys, and whether an event is of a process; and the nearest events of a process.
-use Rattle.std.proofs.Common.{◌≡◌, ℕ, ℤ, ◌<◌, ◌≤◌, zero, suc, Bool, true, false, List, ◌⊎◌, inl, inr, refl, sym, ap, ◌∙◌, subst, arith, true≢false, Option, Some, None, slice_get}
-use Rattle.std.specs.Ordering.{int_eq}
+use Rattle.std.proofs.Common.{◌≡◌, ℕ, ◌<◌, ◌≤◌, zero, suc, Bool, true, false, List, ◌⊎◌, inl, inr, refl, sym, ap, ◌∙◌, subst, arith, true≢false, Option, Some, None, slice_get}
 use Rattle.std.proofs.lemmas.Bool.{cases_lt, cases_eq}
-use Rattle.std.proofs.lemmas.Bool.Decides.{Decides-int_eq}
+use Rattle.lin_events.specs.declared.items.Item.{Item}
+use Rattle.lin_events.specs.Items.{item_eq}
+use Rattle.lin_events.specs.Sameness.{Decides-item_eq}
 use Rattle.lin_events.specs.declared.calls.Name.{Name}
 use Rattle.lin_events.specs.declared.calls.Name.TheVariants.{Read, Write, Cas, Enqueue, Dequeue, Add, Acquire, Release}
 use Rattle.lin_events.specs.declared.events.Event.{Event}
@@ -27,12 +28,12 @@ name_cases Acquire _ = inr (λ e. cc)
 name_cases Release Release = inl refl
 name_cases Release _ = inr (λ e. cc)
 
-pub key_cases : (x y : ℤ) → (x ≡ y) ⊎ (x ≡ y → ⊥)
-key_cases x y = by (int_eq x y) refl
+pub key_cases : (x y : Item) → (x ≡ y) ⊎ (x ≡ y → ⊥)
+key_cases x y = by (item_eq x y) refl
   where
-    by : (b : Bool) → int_eq x y ≡ b → (x ≡ y) ⊎ (x ≡ y → ⊥)
-    by true e = inl ((Decides-int_eq x y).0 e)
-    by false e = inr (λ same. true≢false (sym ((Decides-int_eq x y).1 same) ∙ e))
+    by : (b : Bool) → item_eq x y ≡ b → (x ≡ y) ⊎ (x ≡ y → ⊥)
+    by true e = inl ((Decides-item_eq x y).0 e)
+    by false e = inr (λ same. true≢false (sym ((Decides-item_eq x y).1 same) ∙ e))
 
 pub of_cases : (h : List Event) (process k : ℕ) → IsOf h process k ⊎ (IsOf h process k → ⊥)
 of_cases h process k = by (slice_get h k) refl

@@ -1,7 +1,8 @@
 -- One more event: which operations begin, end and are open as before.
-use Rattle.std.proofs.Common.{◌≡◌, ℕ, ℤ, ◌<◌, Bool, List, [], ◌∷◌, ◌++◌, length, length-append, Some, ◌⊎◌, inl, inr, sym, ap, subst, ◌∙◌, arith}
+use Rattle.std.proofs.Common.{◌≡◌, ℕ, ◌<◌, Bool, List, [], ◌∷◌, ◌++◌, length, length-append, Some, ◌⊎◌, inl, inr, sym, ap, subst, ◌∙◌, arith}
 use Rattle.std.proofs.lemmas.Bool.{cases_order}
 use Rattle.std.proofs.lemmas.Option.{slice_get_within}
+use Rattle.lin_events.specs.declared.items.Item.{Item}
 use Rattle.lin_events.specs.declared.calls.Call.{Call}
 use Rattle.lin_events.specs.declared.calls.Name.{Name}
 use Rattle.lin_events.specs.declared.calls.Reply.{Reply}
@@ -18,14 +19,14 @@ one_invoked : {a b : Call} → Invoke a ≡ Invoke b → a ≡ b
 one_invoked e = cc
 
 -- an operation has one process and one call
-pub one_caller : (h : List Event) (at p q : ℕ) (key other : ℤ) (call again : Call) → IsOperation h at p key call → IsOperation h at q other again → p ≡ q
+pub one_caller : (h : List Event) (at p q : ℕ) (key other : Item) (call again : Call) → IsOperation h at p key call → IsOperation h at q other again → p ≡ q
 one_caller h at p q key other call again a b = ap (λ (e : Event). e.process) (one_event h at _ _ a b)
 
-pub one_call : (h : List Event) (at p q : ℕ) (key other : ℤ) (call again : Call) → IsOperation h at p key call → IsOperation h at q other again → call ≡ again
+pub one_call : (h : List Event) (at p q : ℕ) (key other : Item) (call again : Call) → IsOperation h at p key call → IsOperation h at q other again → call ≡ again
 one_call h at p q key other call again a b = one_invoked (ap (λ (e : Event). e.body) (one_event h at _ _ a b))
 
 -- where operations alternate, a process has one open operation
-pub one_open : (functions : ℤ → Name → Bool) (h : List Event) → IsAlternating functions h → (i j process : ℕ) (key other : ℤ) (c d : Call)
+pub one_open : (functions : Item → Name → Bool) (h : List Event) → IsAlternating functions h → (i j process : ℕ) (key other : Item) (c d : Call)
     → IsOpen h i process key c → IsOpen h j process other d → i ≡ j
 one_open functions h alternates i j process key other c d open_i open_j = elim (cases_order i j) [
   | inl same ↦ same
@@ -35,11 +36,11 @@ one_open functions h alternates i j process key other c d open_i open_j = elim (
   ]
 ]
   where
-    returned : (i end : ℕ) (key : ℤ) (c : Call) → IsOpen h i process key c → IsReturn h i end → ⊥
+    returned : (i end : ℕ) (key : Item) (c : Call) → IsOpen h i process key c → IsReturn h i end → ⊥
     returned i end key c open_i (inl ok) = open_i.no_ok end ok.0 ok.1
     returned i end key c open_i (inr failed) = open_i.no_fail (end, failed.0, failed.1, failed.2, failed.3)
 
-    never : (i j : ℕ) (key other : ℤ) (c d : Call) → IsOpen h i process key c → IsOpen h j process other d → i < j → ⊥
+    never : (i j : ℕ) (key other : Item) (c d : Call) → IsOpen h i process key c → IsOpen h j process other d → i < j → ⊥
     never i j key other c d open_i open_j below =
         let ended = alternates.returned i j process key other c d below open_i.begins open_j.begins in
         returned i ended.0 key c open_i ended.2
@@ -48,10 +49,10 @@ pub end_inside : (h : List Event) (at end : ℕ) (ending : Event) → IsEnd h at
 end_inside h at end ending e = slice_get_within h end ending e.ends
 
 module _ (h : List Event) (event : Event) where
-  pub operation_kept : (at p : ℕ) (key : ℤ) (call : Call) → IsOperation h at p key call → IsOperation (h ++ event ∷ []) at p key call
+  pub operation_kept : (at p : ℕ) (key : Item) (call : Call) → IsOperation h at p key call → IsOperation (h ++ event ∷ []) at p key call
   operation_kept at p key call is = get_left h event at _ is
 
-  pub operation_before : (at p : ℕ) (key : ℤ) (call : Call) → (at ≡ length h → ⊥) → IsOperation (h ++ event ∷ []) at p key call → IsOperation h at p key call
+  pub operation_before : (at p : ℕ) (key : Item) (call : Call) → (at ≡ length h → ⊥) → IsOperation (h ++ event ∷ []) at p key call → IsOperation h at p key call
   operation_before at p key call other is = elim (get_cases h event at _ is) [
     | inl old ↦ old
     | inr new ↦ absurd (other new.0)
@@ -120,7 +121,7 @@ module _ (h : List Event) (event : Event) where
     | inr new ↦ absurd (other f.3 (ap (λ (x : Event). x.body) new.1 ∙ f.4))
   ]
 
-  pub open_before : (at p : ℕ) (key : ℤ) (call : Call) → (at ≡ length h → ⊥) → IsOpen (h ++ event ∷ []) at p key call → IsOpen h at p key call
+  pub open_before : (at p : ℕ) (key : Item) (call : Call) → (at ≡ length h → ⊥) → IsOpen (h ++ event ∷ []) at p key call → IsOpen h at p key call
   open_before at p key call other o = record {
     begins = operation_before at p key call other o.begins;
     no_ok = λ end reply ok. o.no_ok end reply (ok_kept at end reply ok);
@@ -129,7 +130,7 @@ module _ (h : List Event) (event : Event) where
 
   -- what was open stays so, if the event is no ok and no fail
   pub open_kept : ((name : Name) (reply : Reply) → event.body ≡ Ok name reply → ⊥) → ((name : Name) → event.body ≡ Fail name → ⊥)
-      → (at p : ℕ) (key : ℤ) (call : Call) → IsOpen h at p key call → IsOpen (h ++ event ∷ []) at p key call
+      → (at p : ℕ) (key : Item) (call : Call) → IsOpen h at p key call → IsOpen (h ++ event ∷ []) at p key call
   open_kept no_ok no_fail at p key call o = record {
     begins = operation_kept at p key call o.begins;
     no_ok = λ end reply ok. o.no_ok end reply (ok_before no_ok at end reply ok);
@@ -137,7 +138,7 @@ module _ (h : List Event) (event : Event) where
   }
 
   -- or if it is of another process
-  pub open_other : (at p : ℕ) (key : ℤ) (call : Call) → (p ≡ event.process → ⊥) → IsOpen h at p key call → IsOpen (h ++ event ∷ []) at p key call
+  pub open_other : (at p : ℕ) (key : Item) (call : Call) → (p ≡ event.process → ⊥) → IsOpen h at p key call → IsOpen (h ++ event ∷ []) at p key call
   open_other at p key call other o = record {
     begins = operation_kept at p key call o.begins;
     no_ok = λ end reply ok. elim (end_cases at end _ ok.1) [
@@ -171,8 +172,8 @@ module _ (h : List Event) (event : Event) where
           omega arith
 
   -- a completion that was added ends an operation that was open
-  pub completes : (functions : ℤ → Name → Bool) → IsAlternating functions (h ++ event ∷ []) → (name : Name) → Completes event.body name
-      → (at : ℕ) × (key : ℤ) × (call : Call) × IsOpen h at event.process key call × IsEnd (h ++ event ∷ []) at (length h) event
+  pub completes : (functions : Item → Name → Bool) → IsAlternating functions (h ++ event ∷ []) → (name : Name) → Completes event.body name
+      → (at : ℕ) × (key : Item) × (call : Call) × IsOpen h at event.process key call × IsEnd (h ++ event ∷ []) at (length h) event
   completes functions alternates name is =
       let ended = alternates.completed (length h) event name (get_last h event) is in
       let e = ended.4 in
@@ -193,7 +194,7 @@ module _ (h : List Event) (event : Event) where
           let many = length-append h (event ∷ []) in
           omega arith
 
-  pub alternates_before : (functions : ℤ → Name → Bool) → IsAlternating functions (h ++ event ∷ []) → IsAlternating functions h
+  pub alternates_before : (functions : Item → Name → Bool) → IsAlternating functions (h ++ event ∷ []) → IsAlternating functions h
   alternates_before functions alternates = record {
     allowed = λ at p key call is. alternates.allowed at p key call (operation_kept at p key call is);
     returned = λ at later p key other call again below is then.

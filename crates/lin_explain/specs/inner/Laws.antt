@@ -1,5 +1,6 @@
 -- Where the failure that a no is about comes from: words of private contracts.
-use Rattle.std.specs.Prelude.{◌≡◌, ◌-◌, ℕ, ℤ, Bool, List, [], ◌∷◌, ◌++◌, take}
+use Rattle.std.specs.Prelude.{◌≡◌, ◌-◌, ℕ, Bool, List, [], ◌∷◌, ◌++◌, take}
+use Rattle.lin_events.specs.declared.items.Item.{Item}
 use Rattle.lin_events.specs.declared.calls.Name.{Name}
 use Rattle.lin_events.specs.declared.events.Event.{Event}
 use Rattle.lin_events.specs.Operations.{IsEvent}
@@ -17,7 +18,7 @@ use Rattle.lin_explain.specs.Own.{without_last}
 
 -- the events of an object of the kind are well-formed, and have a legal order
 pub record IsLegalHistory (kind : Kind) (h : List Event) : Type 0 where
-  pub well_formed : (functions : ℤ → Name → Bool) × IsWellFormed functions h
+  pub well_formed : (functions : Item → Name → Bool) × IsWellFormed functions h
   pub legal : IsLinearizableAs kind h
 
 -- No order of the events is legal, but the events without the last one have a legal order. The last one is the ok or the fail of an operation, and no
@@ -30,7 +31,7 @@ pub record IsFailure (kind : Kind) (h : List Event) (ending : Event) : Type 0 wh
 
 -- each event with which legal orders end is such
 abbrev pub FailuresEnd : Kind → Type 0
-FailuresEnd kind = (functions : ℤ → Name → Bool) (ahead : List Event) (ending : Event) → IsWellFormed functions (ahead ++ ending ∷ [])
+FailuresEnd kind = (functions : Item → Name → Bool) (ahead : List Event) (ending : Event) → IsWellFormed functions (ahead ++ ending ∷ [])
     → IsLinearizableAs kind ahead → (IsLinearizableAs kind (ahead ++ ending ∷ []) → ⊥) → IsFailure kind (ahead ++ ending ∷ []) ending
 
 -- so is the last event of the shortest prefix that a no names, for its object

@@ -1,5 +1,6 @@
 -- The events of one object, as they are gathered: words of private contracts.
-use Rattle.std.specs.Prelude.{◌≡◌, ℤ, List, Option}
+use Rattle.std.specs.Prelude.{◌≡◌, List, Option}
+use Rattle.lin_events.specs.declared.items.Item.{Item}
 use Rattle.lin_events.specs.declared.events.Event.{Event}
 use Rattle.lin_orders.specs.Parts.{ArePositionsOf, part}
 use Rattle.lin_places.specs.declared.place.Place.{Place}
@@ -7,7 +8,7 @@ use Rattle.lin_window.specs.Tables.{Told}
 use Rattle.lin_explain.specs.declared.own.Own.{Own}
 
 -- just the events of the key in the history, and where they stand
-pub record IsOwn (key : ℤ) (h : List Event) (own : Own) : Type 0 where
+pub record IsOwn (key : Item) (h : List Event) (own : Own) : Type 0 where
   pub events_of : own.events.items ≡ part key h
   pub positions : ArePositionsOf key h own.picks.items
 

@@ -1,4 +1,4 @@
--- Where operations of a register hold a number: cited by its search's private functions.
+-- Where operations of a register hold a value: cited by its search's private functions.
 use Rattle.std.specs.Prelude.{◌≡◌, ◌⊎◌, ℕ, List}
 use Rattle.lin_events.specs.declared.calls.Call.{Call}
 use Rattle.lin_events.specs.declared.calls.Call.TheVariants.{Read, Write, Cas}

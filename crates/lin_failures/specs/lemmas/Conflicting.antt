@@ -1,13 +1,14 @@
 -- Registers have no legal order of operations that conflict.
-use Rattle.std.proofs.Common.{◌≡◌, ◌≢◌, None, Some, ◌<◌, ◌+◌, ℕ, ℤ, zero, suc, List, [], ◌∷◌, ◌++◌, AllPairs, Contains, length, get_or, inl, inr, refl, sym, ap, subst, ◌∙◌, arith, length-append, append_assoc}
+use Rattle.std.proofs.Common.{◌≡◌, ◌≢◌, None, Some, ◌<◌, ◌+◌, ℕ, zero, suc, List, [], ◌∷◌, ◌++◌, AllPairs, Contains, length, get_or, inl, inr, refl, sym, ap, subst, ◌∙◌, arith, length-append, append_assoc}
 use Rattle.std.proofs.lemmas.List.{get_or_append_left, get_or-append-add}
 use Rattle.std.proofs.lemmas.List.Elements.{Contains-append_cases, Contains-append_right}
+use Rattle.lin_events.specs.declared.items.Item.{Item}
 use Rattle.lin_events.specs.declared.calls.Call.{Call}
 use Rattle.lin_events.specs.declared.calls.Call.TheVariants.{Read, Write, Cas}
 use Rattle.lin_events.specs.declared.calls.Reply.{Reply}
 use Rattle.lin_events.specs.declared.calls.Reply.TheVariants as Replied
 use Rattle.lin_events.specs.declared.calls.Val.{Val}
-use Rattle.lin_events.specs.declared.calls.Val.TheVariants.{Nil, Int}
+use Rattle.lin_events.specs.declared.calls.Val.TheVariants.{Nil, Item as Held}
 use Rattle.lin_events.specs.declared.events.Event.{Event}
 use Rattle.lin_objects.specs.declared.kinds.Kind.{Kind}
 use Rattle.lin_objects.specs.declared.kinds.Kind.TheVariants.{Register, CasRegister}
@@ -264,10 +265,10 @@ module _ (kind : Kind) (is_register : IsRegister kind) (h : List Event) where
         held_v : HeldIn order v v_early
         held_v = ok_held v v_early v_end second.early_one
 
-pub no_nil : (v : Val) (n : ℤ) → v ≡ Int n → v ≡ Nil → ⊥
+pub no_nil : (v : Val) (n : Item) → v ≡ Held n → v ≡ Nil → ⊥
 no_nil v n is none = let both = sym is ∙ none in apart both
   where
-    apart : Int n ≡ Nil → ⊥
+    apart : Held n ≡ Nil → ⊥
     apart e = cc
 
 pub never_left : (h : List Event) (v : Val) → ((at : ℕ) (call : Call) → IsCall h at call → Leaves call v → None ≡ Some at) → IsNeverLeft h v

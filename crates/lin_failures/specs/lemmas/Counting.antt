@@ -1,8 +1,9 @@
--- How often numbers are put in and taken out, in an order that an object runs through.
-use Rattle.std.proofs.Common.{◌≡◌, ◌≢◌, ◌<◌, ◌≤◌, ◌+◌, ℕ, ℤ, suc, List, [], ◌∷◌, ◌++◌, ◌⊎◌, AllPairs, Contains, length, inl, inr, refl, sym, ap, subst, ◌∙◌, arith, length-append, append_assoc}
+-- How often items are put in and taken out, in an order that an object runs through.
+use Rattle.std.proofs.Common.{◌≡◌, ◌≢◌, ◌<◌, ◌≤◌, ◌+◌, ℕ, suc, List, [], ◌∷◌, ◌++◌, ◌⊎◌, AllPairs, Contains, length, inl, inr, refl, sym, ap, subst, ◌∙◌, arith, length-append, append_assoc}
 use Rattle.std.proofs.lemmas.Bool.{cases_lt}
 use Rattle.std.proofs.lemmas.List.Elements.{All-contains, Contains-append_cases, Contains-append_left, Contains-append_right}
 use Rattle.std.proofs.lemmas.List.Kept.{AllPairs-cons}
+use Rattle.lin_events.specs.declared.items.Item.{Item}
 use Rattle.lin_lists.specs.lemmas.Elements.{all_of, first_or_rest, nothing_in, pairs_left}
 use Rattle.lin_events.specs.declared.calls.Call.{Call}
 use Rattle.lin_events.specs.declared.calls.Call.TheVariants.{Dequeue}
@@ -32,7 +33,7 @@ pairs_rest R x xs all i j d before within = all (suc i) (suc j) d (omega (arith,
 pub first_apart : {A : Type 0} (R : A → A → Type 0) (x : A) (xs : List A) → AllPairs R (x ∷ xs) → (y : A) → Contains xs y → R x y
 first_apart R x xs all y there = across R (x ∷ []) xs x y all (0, omega arith, refl) there
 
--- different numbers that stand in a list are at most as many as it has
+-- different items that stand in a list are at most as many as it has
 pub no_more : (xs ys : List ℕ) → AllPairs ◌≢◌ xs → ((x : ℕ) → Contains xs x → Contains ys x) → length xs ≤ length ys
 no_more [] ys apart inside = omega arith
 no_more (x ∷ xs) ys apart inside =
@@ -148,21 +149,21 @@ module _ (P : Placed → Type 0) where
       let many = least.1 in
       omega (arith, fits, many)
 
--- the operation puts one of the numbers in, and takes one of them out
-abbrev pub Puts : List Event → List ℤ → Placed → Type 0
-Puts h numbers p = (call : Call) × IsCall h p.at call × OfOne numbers (Adds call)
+-- the operation puts one of the items in, and takes one of them out
+abbrev pub Puts : List Event → List Item → Placed → Type 0
+Puts h items p = (call : Call) × IsCall h p.at call × OfOne items (Adds call)
 
-abbrev pub TakesOut : List Event → List ℤ → Placed → Type 0
-TakesOut h numbers p = (call : Call) × IsCall h p.at call × OfOne numbers (Takes call p.reply)
+abbrev pub TakesOut : List Event → List Item → Placed → Type 0
+TakesOut h items p = (call : Call) × IsCall h p.at call × OfOne items (Takes call p.reply)
 
--- how a step changes how many of the numbers there are: it puts one in, takes one out, or does neither
-abbrev pub Changes : ℕ → ℕ → Call → Reply → List ℤ → Type 0
-Changes before after call reply numbers = (OfOne numbers (Adds call) × (OfOne numbers (Takes call reply) → ⊥) × (after ≡ before + 1))
-    ⊎ ((OfOne numbers (Takes call reply) × (OfOne numbers (Adds call) → ⊥) × (before ≡ after + 1)) ⊎ ((OfOne numbers (Adds call) → ⊥) × (OfOne numbers (Takes call reply) → ⊥) × (after ≡ before)))
+-- how a step changes how many of the items there are: it puts one in, takes one out, or does neither
+abbrev pub Changes : ℕ → ℕ → Call → Reply → List Item → Type 0
+Changes before after call reply items = (OfOne items (Adds call) × (OfOne items (Takes call reply) → ⊥) × (after ≡ before + 1))
+    ⊎ ((OfOne items (Takes call reply) × (OfOne items (Adds call) → ⊥) × (before ≡ after + 1)) ⊎ ((OfOne items (Adds call) → ⊥) × (OfOne items (Takes call reply) → ⊥) × (after ≡ before)))
 
-module _ (kind : Kind) (inside : State → List ℤ → ℕ) (each : (s next : State) (call : Call) (reply : Reply) (numbers : List ℤ) → Step kind s call next reply → Changes (inside s numbers) (inside next numbers) call reply numbers) (h : List Event) where
+module _ (kind : Kind) (inside : State → List Item → ℕ) (each : (s next : State) (call : Call) (reply : Reply) (items : List Item) → Step kind s call next reply → Changes (inside s items) (inside next items) call reply items) (h : List Event) where
   -- what is put in, and was there, is taken out, or still there
-  pub counted : (s t : State) (ns : List ℤ) (order : List Placed) → AllPairs (λ x y. x.at ≢ y.at) order → Runs (Step kind) h s order t
+  pub counted : (s t : State) (ns : List Item) (order : List Placed) → AllPairs (λ x y. x.at ≢ y.at) order → Runs (Step kind) h s order t
       → (puts : List ℕ) × (takes : List ℕ) × Chosen (Puts h ns) order puts × Chosen (TakesOut h ns) order takes × (inside s ns + length puts ≡ inside t ns + length takes)
   counted s t ns [] once run = ([], [], chosen_empty (Puts h ns), chosen_empty (TakesOut h ns), ap (λ u. inside u ns + 0) run)
   counted s t ns (q ∷ order) once run =
@@ -184,12 +185,12 @@ module _ (kind : Kind) (inside : State → List ℤ → ℕ) (each : (s next : S
         ]
       ]
 
-  module _ (begins : (numbers : List ℤ) → inside (start kind) numbers ≡ 0) (order : List Placed) (legal : IsLegalOrderBy (start kind) (Step kind) h order) where
+  module _ (begins : (items : List Item) → inside (start kind) items ≡ 0) (order : List Placed) (legal : IsLegalOrderBy (start kind) (Step kind) h order) where
     none_failed : (p : Placed) → Contains order p → IsFailed h p.at → ⊥
     none_failed p there = All-contains (λ (x : Placed). IsFailed h x.at → ⊥) order p legal.order_of.none_failed there
 
-    -- no number is taken out more often than it is put in
-    pub overtaken : (n : ℤ) (puts takes : ℕ) → AtMost puts (MayPut h n) → AtLeast takes (Took h n) → puts < takes → ⊥
+    -- no item is taken out more often than it is put in
+    pub overtaken : (n : Item) (puts takes : ℕ) → AtMost puts (MayPut h n) → AtLeast takes (Took h n) → puts < takes → ⊥
     overtaken n puts takes most least fewer =
         let ns = n ∷ [] in
         let all = counted (start kind) legal.legal.0 ns order legal.order_of.once legal.legal.1 in
@@ -202,7 +203,7 @@ module _ (kind : Kind) (inside : State → List ℤ → ℕ) (each : (s next : S
         omega (arith, none, sum, few, many, fewer)
 
     -- round a dequeue that found nothing
-    module _ (ns : List ℤ) (before after : List Placed) (d : Placed) (split : order ≡ before ++ d ∷ after) (end : ℕ) (found : FoundNothing h d.at end) where
+    module _ (ns : List Item) (before after : List Placed) (d : Placed) (split : order ≡ before ++ d ∷ after) (end : ℕ) (found : FoundNothing h d.at end) where
       real_time : AllPairs (λ x y. IsBefore h y.at x.at → ⊥) (before ++ d ∷ after)
       real_time = subst (AllPairs (λ x y. IsBefore h y.at x.at → ⊥)) split legal.order_of.real_time
 
@@ -252,8 +253,8 @@ module _ (kind : Kind) (inside : State → List ℤ → ℕ) (each : (s next : S
             ),
           )
 
-    -- ahead of a dequeue that found nothing, as many of the numbers were taken out as put in
-    pub left_inside : (empties : (s next : State) (numbers : List ℤ) → Step kind s Dequeue next (Replied.Value Nil) → inside s numbers ≡ 0) (ns : List ℤ) (at end puts takes : ℕ)
+    -- ahead of a dequeue that found nothing, as many of the items were taken out as put in
+    pub left_inside : (empties : (s next : State) (items : List Item) → Step kind s Dequeue next (Replied.Value Nil) → inside s items ≡ 0) (ns : List Item) (at end puts takes : ℕ)
         → FoundNothing h at end → AtMost takes (λ x. OfOne ns (λ n. MayTakeBy h n end x)) → AtLeast puts (λ x. OfOne ns (λ n. PutBefore h n at x)) → takes < puts → ⊥
     left_inside empties ns at end puts takes found most least fewer =
         let d : Placed = record { at = at; reply = Replied.Value Nil } in

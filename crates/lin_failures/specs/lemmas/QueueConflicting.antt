@@ -1,13 +1,14 @@
 -- Queues have no legal order of operations that conflict.
-use Rattle.std.proofs.Common.{◌≡◌, ◌≢◌, ◌<◌, ℕ, ℤ, List, [], ◌∷◌, ◌++◌, ◌⊎◌, AllPairs, Contains, length, inl, inr, refl, sym, ap, subst, ◌∙◌, arith, append_assoc}
+use Rattle.std.proofs.Common.{◌≡◌, ◌≢◌, ◌<◌, ℕ, List, [], ◌∷◌, ◌++◌, ◌⊎◌, AllPairs, Contains, length, inl, inr, refl, sym, ap, subst, ◌∙◌, arith, append_assoc}
 use Rattle.std.proofs.lemmas.Bool.{cases_lt}
 use Rattle.std.proofs.lemmas.Option.{slice_get_within}
 use Rattle.std.proofs.lemmas.List.Elements.{All-contains, Contains-append_cases, Contains-append_left, Contains-append_right}
+use Rattle.lin_events.specs.declared.items.Item.{Item}
 use Rattle.lin_events.specs.declared.calls.Call.{Call}
 use Rattle.lin_events.specs.declared.calls.Call.TheVariants.{Enqueue, Dequeue, Add}
 use Rattle.lin_events.specs.declared.calls.Reply.{Reply}
 use Rattle.lin_events.specs.declared.calls.Reply.TheVariants as Replied
-use Rattle.lin_events.specs.declared.calls.Val.TheVariants.{Nil, Int}
+use Rattle.lin_events.specs.declared.calls.Val.TheVariants.{Nil, Item as Held}
 use Rattle.lin_events.specs.declared.events.Event.{Event}
 use Rattle.lin_events.specs.Operations.{IsFailed, IsOk}
 use Rattle.lin_objects.specs.declared.kinds.Kind.TheVariants.{Fifo}
@@ -25,22 +26,22 @@ use Rattle.lin_failures.specs.Adding.{Adds, IsAddedOnce, IsNotAddedBy}
 use Rattle.lin_failures.specs.QueueConflicts.{Takes, PutAt, TookAt, IsBehind, IsPassing, IsNotTakenBy}
 use Rattle.lin_failures.specs.lemmas.Conflicting.{across, parted}
 
--- the number is in the queue
-abbrev InQueue : State → ℤ → Type 0
+-- the item is in the queue
+abbrev InQueue : State → Item → Type 0
 InQueue (Queue q) n = Contains q n
 InQueue state n = ⊥
 
-pub one_alone : (x n : ℤ) → Contains (x ∷ []) n → x ≡ n
+pub one_alone : (x n : Item) → Contains (x ∷ []) n → x ≡ n
 one_alone x n there = elim (first_or_rest x [] n there) [
   | inl same ↦ same
   | inr none ↦ absurd (nothing_in n none)
 ]
 
-same_number : (x n : ℤ) (reply : Reply) → reply ≡ Replied.Value (Int x) → Takes Dequeue reply n → x ≡ n
-same_number x n reply is takes = subst (λ r. Takes Dequeue r n) is takes
+same_item : (x n : Item) (reply : Reply) → reply ≡ Replied.Value (Held x) → Takes Dequeue reply n → x ≡ n
+same_item x n reply is takes = subst (λ r. Takes Dequeue r n) is takes
 
--- where the queue doesn't have the number, it takes a put to do so
-stays_out : (s next : State) (call : Call) (reply : Reply) (n : ℤ) → Step Fifo s call next reply → (InQueue s n → ⊥) → (Adds call n → ⊥) → (InQueue next n → ⊥) × (Takes call reply n → ⊥)
+-- where the queue doesn't have the item, it takes a put to do so
+stays_out : (s next : State) (call : Call) (reply : Reply) (n : Item) → Step Fifo s call next reply → (InQueue s n → ⊥) → (Adds call n → ⊥) → (InQueue next n → ⊥) × (Takes call reply n → ⊥)
 stays_out (Queue q) next (Enqueue x) reply n step out none = (
   λ has. elim (Contains-append_cases q (x ∷ []) n (subst (λ t. InQueue t n) step.0 has)) [
     | inl there ↦ out there
@@ -50,20 +51,20 @@ stays_out (Queue q) next (Enqueue x) reply n step out none = (
 )
 stays_out (Queue (x ∷ q)) next Dequeue reply n step out none = (
   λ has. out (Contains-append_right (x ∷ []) q n (subst (λ t. InQueue t n) step.0 has)),
-  λ takes. out (subst (Contains (x ∷ q)) (same_number x n reply step.1 takes) (0, omega arith, refl)),
+  λ takes. out (subst (Contains (x ∷ q)) (same_item x n reply step.1 takes) (0, omega arith, refl)),
 )
 stays_out (Queue []) next Dequeue reply n step out none =
     (λ has. nothing_in n (subst (λ t. InQueue t n) step.0 has), λ takes. subst (λ r. Takes Dequeue r n) step.1 takes)
 stays_out (Queue q) next call reply n step out none = absurd step
 stays_out s next call reply n step out none = absurd step
 
--- what may come of a call where the number is in the queue, behind some and ahead of others
-abbrev View : List ℤ → List ℤ → ℤ → Call → State → Reply → Type 0
-View a b n call next reply = ((x : ℤ) × (call ≡ Enqueue x) × (next ≡ Queue (a ++ n ∷ (b ++ x ∷ []))))
-    ⊎ (((call ≡ Dequeue) × (a ≡ []) × (reply ≡ Replied.Value (Int n)) × (next ≡ Queue b))
-    ⊎ ((y : ℤ) × (more : List ℤ) × (call ≡ Dequeue) × (a ≡ y ∷ more) × (reply ≡ Replied.Value (Int y)) × (next ≡ Queue (more ++ n ∷ b))))
+-- what may come of a call where the item is in the queue, behind some and ahead of others
+abbrev View : List Item → List Item → Item → Call → State → Reply → Type 0
+View a b n call next reply = ((x : Item) × (call ≡ Enqueue x) × (next ≡ Queue (a ++ n ∷ (b ++ x ∷ []))))
+    ⊎ (((call ≡ Dequeue) × (a ≡ []) × (reply ≡ Replied.Value (Held n)) × (next ≡ Queue b))
+    ⊎ ((y : Item) × (more : List Item) × (call ≡ Dequeue) × (a ≡ y ∷ more) × (reply ≡ Replied.Value (Held y)) × (next ≡ Queue (more ++ n ∷ b))))
 
-view : (a b : List ℤ) (n : ℤ) (call : Call) (next : State) (reply : Reply) → Step Fifo (Queue (a ++ n ∷ b)) call next reply → View a b n call next reply
+view : (a b : List Item) (n : Item) (call : Call) (next : State) (reply : Reply) → Step Fifo (Queue (a ++ n ∷ b)) call next reply → View a b n call next reply
 view [] b n (Enqueue x) next reply step = inl (x, refl, step.0)
 view (y ∷ a) b n (Enqueue x) next reply step = inl (x, refl, step.0 ∙ ap Queue (append_assoc (y ∷ a) (n ∷ b) (x ∷ [])))
 view [] b n Dequeue next reply step = inr (inl (refl, refl, step.1, step.0))
@@ -71,26 +72,26 @@ view (y ∷ a) b n Dequeue next reply step = inr (inr (y, a, refl, refl, step.1,
 view [] b n call next reply step = absurd step
 view (y ∷ a) b n call next reply step = absurd step
 
-put_step : (s next : State) (call : Call) (reply : Reply) (n : ℤ) → Step Fifo s call next reply → Adds call n → (q : List ℤ) × (s ≡ Queue q) × (next ≡ Queue (q ++ n ∷ []))
+put_step : (s next : State) (call : Call) (reply : Reply) (n : Item) → Step Fifo s call next reply → Adds call n → (q : List Item) × (s ≡ Queue q) × (next ≡ Queue (q ++ n ∷ []))
 put_step (Queue q) next (Enqueue x) reply n step puts = (q, refl, step.0 ∙ ap (λ z. Queue (q ++ z ∷ [])) puts)
 put_step (Queue q) next (Add x) reply n step puts = absurd step
 put_step (Queue q) next call reply n step puts = absurd puts
 put_step s next call reply n step puts = absurd step
 
-pub takes_call : (call : Call) (reply : Reply) (n : ℤ) → Takes call reply n → call ≡ Dequeue
+pub takes_call : (call : Call) (reply : Reply) (n : Item) → Takes call reply n → call ≡ Dequeue
 takes_call Dequeue reply n takes = refl
 takes_call call reply n takes = absurd takes
 
-takes_it : (call : Call) (reply : Reply) (n : ℤ) → call ≡ Dequeue → reply ≡ Replied.Value (Int n) → Takes call reply n
+takes_it : (call : Call) (reply : Reply) (n : Item) → call ≡ Dequeue → reply ≡ Replied.Value (Held n) → Takes call reply n
 takes_it call reply n is gives = subst (λ c. Takes c reply n) (sym is) (subst (λ r. Takes Dequeue r n) (sym gives) refl)
 
--- what a dequeue found is neither ahead of the number nor the number
-abbrev IsNotAhead : List ℤ → ℤ → Reply → Type 0
-IsNotAhead a n reply = ((y : ℤ) → Contains a y → reply ≡ Replied.Value (Int y) → ⊥) × (reply ≡ Replied.Value (Int n) → ⊥)
+-- what a dequeue found is neither ahead of the item nor the item
+abbrev IsNotAhead : List Item → Item → Reply → Type 0
+IsNotAhead a n reply = ((y : Item) → Contains a y → reply ≡ Replied.Value (Held y) → ⊥) × (reply ≡ Replied.Value (Held n) → ⊥)
 
 module _ (h : List Event) where
-  -- where no operation of an order puts in a number that the queue did not have, it never has it, and none takes it out
-  never_had : (s t : State) (n : ℤ) (order : List Placed) → Runs (Step Fifo) h s order t → (InQueue s n → ⊥)
+  -- where no operation of an order puts in an item that the queue did not have, it never has it, and none takes it out
+  never_had : (s t : State) (n : Item) (order : List Placed) → Runs (Step Fifo) h s order t → (InQueue s n → ⊥)
       → ((p : Placed) (call : Call) → Contains order p → IsCall h p.at call → Adds call n → ⊥)
       → (InQueue t n → ⊥) × ((p : Placed) (call : Call) → Contains order p → IsCall h p.at call → Takes call p.reply n → ⊥)
   never_had s t n [] run out none = (subst (λ u. InQueue u n → ⊥) run out, λ p call there is takes. nothing_in p there)
@@ -108,8 +109,8 @@ module _ (h : List Event) where
         ],
       )
 
-  -- a number that is in the queue once, and isn't put in again, is taken out once
-  taken_once : (a b : List ℤ) (n : ℤ) (t : State) (before after : List Placed) (d : Placed) (c : Call)
+  -- an item that is in the queue once, and isn't put in again, is taken out once
+  taken_once : (a b : List Item) (n : Item) (t : State) (before after : List Placed) (d : Placed) (c : Call)
       → Runs (Step Fifo) h (Queue (a ++ n ∷ b)) (before ++ d ∷ after) t → (Contains a n → ⊥) → (Contains b n → ⊥)
       → ((p : Placed) (call : Call) → Contains (before ++ d ∷ after) p → IsCall h p.at call → Adds call n → ⊥)
       → IsCall h d.at c → Takes c d.reply n → (p : Placed) (call : Call) → Contains after p → IsCall h p.at call → Takes call p.reply n → ⊥
@@ -123,7 +124,7 @@ module _ (h : List Event) where
               (λ r x in_rest. none r x (Contains-append_right (d ∷ []) after r in_rest)) in
               rest.1 p call there at_p again
           | inr v ↦
-              let same : v.0 ≡ n = same_number v.0 n d.reply v.4 (subst (λ x. Takes x d.reply n) v.2 takes_here) in
+              let same : v.0 ≡ n = same_item v.0 n d.reply v.4 (subst (λ x. Takes x d.reply n) v.2 takes_here) in
               not_a (subst (Contains a) same (subst (λ l. Contains l v.0) (sym v.3) (0, omega arith, refl)))
         ]
       ]
@@ -147,8 +148,8 @@ module _ (h : List Event) where
         ]
       ]
 
-  -- nothing passes a number that is in the queue and isn't taken out
-  passed : (a b : List ℤ) (n : ℤ) (t : State) (before after : List Placed) (d : Placed)
+  -- nothing passes an item that is in the queue and isn't taken out
+  passed : (a b : List Item) (n : Item) (t : State) (before after : List Placed) (d : Placed)
       → Runs (Step Fifo) h (Queue (a ++ n ∷ b)) (before ++ d ∷ after) t → IsCall h d.at Dequeue → IsNotAhead a n d.reply
       → ((p : Placed) (call : Call) → Contains before p → IsCall h p.at call → Takes call p.reply n → ⊥) → ⊥
   passed a b n t [] after d run is away none = elim (view a b n run.0 run.1 d.reply run.3) [
@@ -159,7 +160,7 @@ module _ (h : List Event) where
     ]
   ]
     where
-      differ : {x : ℤ} → Dequeue ≡ Enqueue x → ⊥
+      differ : {x : Item} → Dequeue ≡ Enqueue x → ⊥
       differ e = cc
   passed a b n t (q ∷ before) after d run is away none =
       let none_later : (r : Placed) (x : Call) → Contains before r → IsCall h r.at x → Takes x r.reply n → ⊥ = λ r x in_rest. none r x (Contains-append_right (q ∷ []) before r in_rest) in
@@ -173,30 +174,30 @@ module _ (h : List Event) where
         ]
       ]
 
-  -- operations that stand in the order and take the number out
-  abbrev TakesIn : List Placed → ℤ → ℕ → Type 0
+  -- operations that stand in the order and take the item out
+  abbrev TakesIn : List Placed → Item → ℕ → Type 0
   TakesIn order n at = (p : Placed) × (call : Call) × Contains order p × IsCall h p.at call × Takes call p.reply n × (p.at ≡ at)
 
   module _ (order : List Placed) (legal : IsLegalOrderBy (start Fifo) (Step Fifo) h order) where
-    takes_in : (n : ℤ) (at end : ℕ) → TookAt h at n end → TakesIn order n at
+    takes_in : (n : Item) (at end : ℕ) → TookAt h at n end → TakesIn order n at
     takes_in n at end took = (record { at = at; reply = took.1 }, took.0, legal.order_of.each_ok at end took.1 tt took.3, took.2, took.4, refl)
 
     none_failed : (p : Placed) → Contains order p → IsFailed h p.at → ⊥
     none_failed p there = All-contains (λ (x : Placed). IsFailed h x.at → ⊥) order p legal.order_of.none_failed there
 
-    begins_out : (n : ℤ) → InQueue (start Fifo) n → ⊥
+    begins_out : (n : Item) → InQueue (start Fifo) n → ⊥
     begins_out n has = nothing_in n has
 
     -- nothing is taken out that is never put in
-    pub unput : (n : ℤ) (at end : ℕ) → IsNotAddedBy h n (length h) → TookAt h at n end → ⊥
+    pub unput : (n : Item) (at end : ℕ) → IsNotAddedBy h n (length h) → TookAt h at n end → ⊥
     unput n at end never took =
         let p = takes_in n at end took in
         let all = never_had (start Fifo) legal.legal.0 n order legal.legal.1 (begins_out n)
         (λ q c there is puts. let within = slice_get_within h q.at _ is.2 in none_failed q there (never q.at c (omega (arith, within)) is puts)) in
         all.1 p.0 p.1 p.2 p.3 p.4
 
-    -- round an operation that puts a number in
-    module _ (n : ℤ) (before after : List Placed) (e : Placed) (call : Call) (split : order ≡ before ++ e ∷ after) (is : IsCall h e.at call) (puts : Adds call n) where
+    -- round an operation that puts an item in
+    module _ (n : Item) (before after : List Placed) (e : Placed) (call : Call) (split : order ≡ before ++ e ∷ after) (is : IsCall h e.at call) (puts : Adds call n) where
       run : (m : State) × Runs (Step Fifo) h (start Fifo) before m × Runs (Step Fifo) h m (e ∷ after) legal.legal.0
       run = runs_split (Step Fifo) h (start Fifo) legal.legal.0 before (e ∷ after) (subst (λ l. Runs (Step Fifo) h (start Fifo) l legal.legal.0) split legal.legal.1)
 
@@ -219,7 +220,7 @@ module _ (h : List Event) where
       first = subst (λ c. Adds c n) (one_call h e.at call run.2.0 is run.2.2) puts
 
       -- the queue before it
-      held : (q : List ℤ) × (run.0 ≡ Queue q) × Runs (Step Fifo) h (Queue (q ++ n ∷ [])) after legal.legal.0
+      held : (q : List Item) × (run.0 ≡ Queue q) × Runs (Step Fifo) h (Queue (q ++ n ∷ [])) after legal.legal.0
       held =
           let s = put_step run.0 run.2.1 run.2.0 e.reply n run.2.3 first in
           (s.0, s.1, subst (λ x. Runs (Step Fifo) h x after legal.legal.0) s.2 run.2.4)
@@ -238,34 +239,34 @@ module _ (h : List Event) where
 
       module _ (end : ℕ) (ok : (reply : Reply) × IsOk h e.at end reply) where
         -- what is only put in after it returned isn't in the queue before it
-        put_late : (x : ℤ) → IsNotAddedBy h x end → (p : Placed) (c : Call) → Contains before p → IsCall h p.at c → Adds c x → ⊥
+        put_late : (x : Item) → IsNotAddedBy h x end → (p : Placed) (c : Call) → Contains before p → IsCall h p.at c → Adds c x → ⊥
         put_late x late_puts p c there at_p puts_x = elim (cases_lt end p.at) [
           | inl later ↦ across (λ y z. IsBefore h z.at y.at → ⊥) before (e ∷ after) p e real_time there (0, omega arith, refl) (end, ok.0, ok.1, later)
           | inr sooner ↦ none_failed p (early p there) (late_puts p.at c sooner at_p puts_x)
         ]
 
-        not_held : (x : ℤ) → IsNotAddedBy h x end → (InQueue run.0 x → ⊥) × ((p : Placed) (c : Call) → Contains before p → IsCall h p.at c → Takes c p.reply x → ⊥)
+        not_held : (x : Item) → IsNotAddedBy h x end → (InQueue run.0 x → ⊥) × ((p : Placed) (c : Call) → Contains before p → IsCall h p.at c → Takes c p.reply x → ⊥)
         not_held x late_puts = never_had (start Fifo) run.0 x before run.1 (begins_out x) (put_late x late_puts)
 
         not_early : (at : ℕ) (reply : Reply) → IsCall h at Dequeue → IsBehind h at reply n end → Contains before (record { at = at; reply = reply }) → ⊥
         not_early at (Replied.Value Nil) is_d passing there =
             across (λ y z. IsBefore h z.at y.at → ⊥) before (e ∷ after) (record { at = at; reply = Replied.Value Nil }) e real_time there (0, omega arith, refl) (end, ok.0, ok.1, passing)
-        not_early at (Replied.Value (Int x)) is_d passing there = let none = not_held x passing.1 in none.1 (record { at = at; reply = Replied.Value (Int x) }) Dequeue there is_d refl
+        not_early at (Replied.Value (Held x)) is_d passing there = let none = not_held x passing.1 in none.1 (record { at = at; reply = Replied.Value (Held x) }) Dequeue there is_d refl
         not_early at reply is_d passing there = absurd passing
 
         not_ahead : (at : ℕ) (reply : Reply) → IsBehind h at reply n end → IsNotAhead held.0 n reply
         not_ahead at (Replied.Value Nil) passing = (λ y has e. differ y e, λ e. differ n e)
           where
-            differ : (y : ℤ) → Replied.Value Nil ≡ Replied.Value (Int y) → ⊥
+            differ : (y : Item) → Replied.Value Nil ≡ Replied.Value (Held y) → ⊥
             differ y e = cc
-        not_ahead at (Replied.Value (Int x)) passing =
+        not_ahead at (Replied.Value (Held x)) passing =
             (λ y has e. let none = not_held x passing.1 in none.0 (subst (λ s. InQueue s x) (sym held.1) (subst (Contains held.0) (sym (same y e)) has)), λ e. passing.0 (same n e))
           where
-            same : (y : ℤ) → Replied.Value (Int x) ≡ Replied.Value (Int y) → x ≡ y
+            same : (y : Item) → Replied.Value (Held x) ≡ Replied.Value (Held y) → x ≡ y
             same y e = cc
         not_ahead at reply passing = absurd passing
 
-        -- so it doesn't pass the number, unless that is taken out ahead of it
+        -- so it doesn't pass the item, unless that is taken out ahead of it
         not_passed : (at : ℕ) (reply : Reply) → IsCall h at Dequeue → Contains order (record { at = at; reply = reply }) → IsBehind h at reply n end
             → ((sooner later : List Placed) → after ≡ sooner ++ (record { at = at; reply = reply }) ∷ later → (p : Placed) (c : Call) → Contains sooner p → IsCall h p.at c → Takes c p.reply n → ⊥) → ⊥
         not_passed at reply is_d there passing none =
@@ -328,8 +329,8 @@ module _ (h : List Event) where
         taken_twice at other p r differ =
             two p.0 r.0 p.1 r.1 (taken_after p.0 p.1 p.2 p.3 p.4) (taken_after r.0 r.1 r.2 r.3 r.4) p.3 r.3 p.4 r.4 (λ same. differ (sym p.5 ∙ same ∙ r.5))
 
-    -- a number that is put in once isn't taken out twice
-    pub twice : (n : ℤ) (put at end other until : ℕ) → IsAddedOnce h put n → TookAt h at n end → TookAt h other n until → at ≢ other → ⊥
+    -- an item that is put in once isn't taken out twice
+    pub twice : (n : Item) (put at end other until : ℕ) → IsAddedOnce h put n → TookAt h at n end → TookAt h other n until → at ≢ other → ⊥
     twice n put at end other until only one two_of differ =
         let p = takes_in n at end one in
         let r = takes_in n other until two_of in
@@ -343,7 +344,7 @@ module _ (h : List Event) where
         all.1 p.0 p.1 p.2 p.3 p.4
 
     -- what was put in later isn't taken out before it
-    pub passed_later : (n : ℤ) (put end at until later close : ℕ) → IsAddedOnce h put n → PutAt h put n end → IsPassing h at n end until → TookAt h later n close → until < later → ⊥
+    pub passed_later : (n : Item) (put end at until later close : ℕ) → IsAddedOnce h put n → PutAt h put n end → IsPassing h at n end until → TookAt h later n close → until < later → ⊥
     passed_later n put end at until later close only shown passing took before_it =
         let e : Placed = record { at = put; reply = shown.1 } in
         let parts = parted order e (legal.order_of.each_ok put end shown.1 tt shown.3) in
@@ -365,7 +366,7 @@ module _ (h : List Event) where
         ])
 
     -- nor where nothing takes it out ahead
-    pub passed_over : (n : ℤ) (put end at until : ℕ) → PutAt h put n end → IsPassing h at n end until → IsNotTakenBy h n until → ⊥
+    pub passed_over : (n : Item) (put end at until : ℕ) → PutAt h put n end → IsPassing h at n end until → IsNotTakenBy h n until → ⊥
     passed_over n put end at until shown passing untaken =
         let e : Placed = record { at = put; reply = shown.1 } in
         let parts = parted order e (legal.order_of.each_ok put end shown.1 tt shown.3) in

@@ -1,10 +1,9 @@
 -- Sets have no legal order of operations that conflict.
-use Rattle.std.proofs.Common.{◌≡◌, ◌≢◌, ◌<◌, ℕ, ℤ, List, [], ◌∷◌, ◌++◌, AllPairs, Contains, inl, inr, refl, sym, ap, subst, ◌∙◌, arith, append_assoc}
-use mir.Val.{to_z, of_z, SFits}
-use mir.Syntax.{w64}
+use Rattle.std.proofs.Common.{◌≡◌, ◌≢◌, ◌<◌, ℕ, List, [], ◌∷◌, ◌++◌, AllPairs, Contains, inl, inr, refl, sym, ap, subst, ◌∙◌, arith, append_assoc}
 use Rattle.std.proofs.lemmas.Bool.{cases_lt}
-use Rattle.std.proofs.lemmas.Int.{to_z-of_z}
 use Rattle.std.proofs.lemmas.List.Elements.{All-contains, Contains-append_cases, Contains-append_left, Contains-append_right}
+use Rattle.lin_events.specs.Items.{item_cmp}
+use Rattle.lin_events.specs.declared.items.Item.{Item}
 use Rattle.lin_events.specs.declared.calls.Call.{Call}
 use Rattle.lin_events.specs.declared.calls.Call.TheVariants.{Read, Add}
 use Rattle.lin_events.specs.declared.calls.Reply.{Reply}
@@ -12,7 +11,7 @@ use Rattle.lin_events.specs.declared.calls.Reply.TheVariants as Replied
 use Rattle.lin_events.specs.declared.events.Event.{Event}
 use Rattle.lin_events.specs.Operations.{IsFailed}
 use Rattle.lin_lists.specs.Sets.{with_member}
-use Rattle.lin_lists.specs.lemmas.Rising.{with_has, with_keeps, with_adds_none}
+use Rattle.lin_events.specs.lemmas.Rising.{with_has, with_keeps, with_adds_none}
 use Rattle.lin_objects.specs.declared.kinds.Kind.TheVariants.{Set}
 use Rattle.lin_objects.specs.declared.states.State.{State}
 use Rattle.lin_objects.specs.declared.states.State.TheVariants.{Members}
@@ -27,46 +26,42 @@ use Rattle.lin_failures.specs.Adding.{Adds, IsNotAddedBy}
 use Rattle.lin_failures.specs.SetConflicts.{Has, Lacks, HadAt, LackedAt, FoundAt}
 use Rattle.lin_failures.specs.lemmas.Conflicting.{across, parted}
 
--- a number as a call holds it
-pub as_held : (n : ℤ) → SFits w64 n → to_z w64 (of_z w64 n) ≡ n
-as_held n fits = to_z-of_z w64 n fits
-
--- the number is in the set
-abbrev InSet : State → ℤ → Type 0
+-- the item is in the set
+abbrev InSet : State → Item → Type 0
 InSet (Members s) n = Contains s n
 InSet state n = ⊥
 
--- a set that has the number keeps it
-kept : (s next : State) (call : Call) (reply : Reply) (n : ℤ) → Step Set s call next reply → InSet s n → InSet next n
+-- a set that has the item keeps it
+kept : (s next : State) (call : Call) (reply : Reply) (n : Item) → Step Set s call next reply → InSet s n → InSet next n
 kept (Members s) next (Add x) reply n step has = subst (λ t. InSet t n) (sym step.0) (with_keeps x n s has)
 kept (Members s) next Read reply n step has = subst (λ t. InSet t n) (sym step.0) has
 kept (Members s) next call reply n step has = absurd step
 kept s next call reply n step has = absurd has
 
 -- it has what it has behind the call
-had : (s next : State) (call : Call) (reply : Reply) (n : ℤ) → Step Set s call next reply → Has call reply n → InSet next n
-had (Members s) next (Add x) reply n step has = subst (λ t. InSet t n) (sym step.0) (subst (Contains (with_member x s)) has (with_has x s))
+had : (s next : State) (call : Call) (reply : Reply) (n : Item) → Step Set s call next reply → Has call reply n → InSet next n
+had (Members s) next (Add x) reply n step has = subst (λ t. InSet t n) (sym step.0) (subst (Contains (with_member item_cmp x s)) has (with_has x s))
 had (Members s) next Read (Replied.Members t) n step has = subst (λ u. InSet u n) (sym step.0) (subst (λ u. Contains u n) (same step.1) has)
   where
-    same : {u v : List ℤ} → Replied.Members u ≡ Replied.Members v → u ≡ v
+    same : {u v : List Item} → Replied.Members u ≡ Replied.Members v → u ≡ v
     same e = cc
 had (Members s) next Read reply n step has = absurd has
 had (Members s) next call reply n step has = absurd step
 had s next call reply n step has = absurd step
 
 -- what it has is found
-found : (s next : State) (call : Call) (reply : Reply) (n : ℤ) → Step Set s call next reply → InSet s n → Lacks call reply n → ⊥
+found : (s next : State) (call : Call) (reply : Reply) (n : Item) → Step Set s call next reply → InSet s n → Lacks call reply n → ⊥
 found (Members s) next Read (Replied.Members t) n step has lacks = lacks (subst (λ u. Contains u n) (same step.1) has)
   where
-    same : {u v : List ℤ} → Replied.Members u ≡ Replied.Members v → v ≡ u
+    same : {u v : List Item} → Replied.Members u ≡ Replied.Members v → v ≡ u
     same e = cc
 found (Members s) next Read reply n step has lacks = lacks
 found (Members s) next (Add x) reply n step has lacks = lacks
 found (Members s) next call reply n step has lacks = absurd step
 found s next call reply n step has lacks = absurd has
 
--- where it doesn't have the number, it takes an add to do so
-stays_out : (s next : State) (call : Call) (reply : Reply) (n : ℤ) → Step Set s call next reply → (InSet s n → ⊥) → (Adds call n → ⊥) → (InSet next n → ⊥) × (Has call reply n → ⊥)
+-- where it doesn't have the item, it takes an add to do so
+stays_out : (s next : State) (call : Call) (reply : Reply) (n : Item) → Step Set s call next reply → (InSet s n → ⊥) → (Adds call n → ⊥) → (InSet next n → ⊥) × (Has call reply n → ⊥)
 stays_out (Members s) next (Add x) reply n step out none = (
   λ has. elim (with_adds_none x n s (subst (λ t. InSet t n) step.0 has)) [
     | inl same ↦ none (sym same)
@@ -77,19 +72,19 @@ stays_out (Members s) next (Add x) reply n step out none = (
 stays_out (Members s) next Read (Replied.Members t) n step out none =
     (λ has. out (subst (λ u. InSet u n) step.0 has), λ has. out (subst (λ u. Contains u n) (same step.1) has))
   where
-    same : {u v : List ℤ} → Replied.Members u ≡ Replied.Members v → u ≡ v
+    same : {u v : List Item} → Replied.Members u ≡ Replied.Members v → u ≡ v
     same e = cc
 stays_out (Members s) next Read reply n step out none = (λ has. out (subst (λ u. InSet u n) step.0 has), λ has. has)
 stays_out (Members s) next call reply n step out none = absurd step
 stays_out s next call reply n step out none = absurd step
 
-not_both : (call : Call) (reply : Reply) (n : ℤ) → Has call reply n → Lacks call reply n → ⊥
+not_both : (call : Call) (reply : Reply) (n : Item) → Has call reply n → Lacks call reply n → ⊥
 not_both Read (Replied.Members s) n has lacks = lacks has
 not_both call reply n has lacks = lacks
 
 module _ (h : List Event) where
-  -- where no operation of an order adds a number that the set did not have, it never has it
-  never_had : (s t : State) (n : ℤ) (order : List Placed) → Runs (Step Set) h s order t → (InSet s n → ⊥)
+  -- where no operation of an order adds an item that the set did not have, it never has it
+  never_had : (s t : State) (n : Item) (order : List Placed) → Runs (Step Set) h s order t → (InSet s n → ⊥)
       → ((p : Placed) (call : Call) → Contains order p → IsCall h p.at call → Adds call n → ⊥)
       → (p : Placed) (call : Call) → Contains order p → IsCall h p.at call → Has call p.reply n → ⊥
   never_had s t n [] run out none p call there is has = nothing_in p there
@@ -105,7 +100,7 @@ module _ (h : List Event) where
       ]
 
   -- what the set has each read finds
-  always_found : (s t : State) (n : ℤ) (order : List Placed) → Runs (Step Set) h s order t → InSet s n
+  always_found : (s t : State) (n : Item) (order : List Placed) → Runs (Step Set) h s order t → InSet s n
       → (p : Placed) (call : Call) → Contains order p → IsCall h p.at call → Lacks call p.reply n → ⊥
   always_found s t n [] run has p call there is lacks = nothing_in p there
   always_found s t n (q ∷ order) run has p call there is lacks = elim (first_or_rest q order p there) [
@@ -116,28 +111,28 @@ module _ (h : List Event) where
     | inr rest ↦ always_found run.1 t n order run.4 (kept s run.1 run.0 q.reply n run.3 has) p call rest is lacks
   ]
 
-  -- operations that stand in the order, behind which the set has the number, and which found it without that
-  abbrev HasIn : List Placed → ℤ → ℕ → Type 0
+  -- operations that stand in the order, behind which the set has the item, and which found it without that
+  abbrev HasIn : List Placed → Item → ℕ → Type 0
   HasIn order n at = (p : Placed) × (call : Call) × Contains order p × IsCall h p.at call × Has call p.reply n × (p.at ≡ at)
 
-  abbrev LacksIn : List Placed → ℤ → ℕ → Type 0
+  abbrev LacksIn : List Placed → Item → ℕ → Type 0
   LacksIn order n at = (p : Placed) × (call : Call) × Contains order p × IsCall h p.at call × Lacks call p.reply n × (p.at ≡ at)
 
   module _ (order : List Placed) (legal : IsLegalOrderBy (start Set) (Step Set) h order) where
-    has_in : (n : ℤ) (at end : ℕ) → HadAt h at n end → HasIn order n at
+    has_in : (n : Item) (at end : ℕ) → HadAt h at n end → HasIn order n at
     has_in n at end had = (record { at = at; reply = had.1 }, had.0, legal.order_of.each_ok at end had.1 tt had.3, had.2, had.4, refl)
 
-    lacks_in : (n : ℤ) (at end : ℕ) → LackedAt h at n end → LacksIn order n at
+    lacks_in : (n : Item) (at end : ℕ) → LackedAt h at n end → LacksIn order n at
     lacks_in n at end lacked = (record { at = at; reply = lacked.1 }, lacked.0, legal.order_of.each_ok at end lacked.1 tt lacked.3, lacked.2, lacked.4, refl)
 
     none_failed : (p : Placed) → Contains order p → IsFailed h p.at → ⊥
     none_failed p there = All-contains (λ (x : Placed). IsFailed h x.at → ⊥) order p legal.order_of.none_failed there
 
-    begins_out : (n : ℤ) → InSet (start Set) n → ⊥
+    begins_out : (n : Item) → InSet (start Set) n → ⊥
     begins_out n has = nothing_in n has
 
     -- nothing is found that is never added, or only after the operation returned
-    pub unadded : (n : ℤ) (at end : ℕ) → IsNotAddedBy h n end → HadAt h at n end → ⊥
+    pub unadded : (n : Item) (at end : ℕ) → IsNotAddedBy h n end → HadAt h at n end → ⊥
     unfolding has_in
     unadded n at end never shown =
         let p = has_in n at end shown in
@@ -163,8 +158,8 @@ module _ (h : List Event) where
         ])
         p.0 p.1 (Contains-append_right parts.0 (p.0 ∷ []) p.0 (0, omega arith, refl)) p.3 p.4
 
-    -- round an operation behind which the set has a number
-    module _ (n : ℤ) (before after : List Placed) (q : Placed) (call : Call) (split : order ≡ before ++ q ∷ after) (is : IsCall h q.at call) (has : Has call q.reply n) where
+    -- round an operation behind which the set has an item
+    module _ (n : Item) (before after : List Placed) (q : Placed) (call : Call) (split : order ≡ before ++ q ∷ after) (is : IsCall h q.at call) (has : Has call q.reply n) where
       run : (m : State) × Runs (Step Set) h (start Set) before m × Runs (Step Set) h m (q ∷ after) legal.legal.0
       run = runs_split (Step Set) h (start Set) legal.legal.0 before (q ∷ after) (subst (λ l. Runs (Step Set) h (start Set) l legal.legal.0) split legal.legal.1)
 
@@ -199,7 +194,7 @@ module _ (h : List Event) where
           (end, shown.1, shown.3, subst (λ x. end < x) (sym p.5) late)
 
       -- and the set doesn't have behind it what is only added after that one returned
-      not_ahead : (m : ℤ) (at end : ℕ) (p : LacksIn order n at) → Has p.1 p.0.reply m → HadAt h q.at n end → IsNotAddedBy h m end → ⊥
+      not_ahead : (m : Item) (at end : ℕ) (p : LacksIn order n at) → Has p.1 p.0.reply m → HadAt h q.at n end → IsNotAddedBy h m end → ⊥
       not_ahead m at end p has_m shown late =
           never_had (start Set) run.0 m before run.1 (begins_out m)
           (λ x d there at_x adds. elim (cases_lt end x.at) [
@@ -210,16 +205,16 @@ module _ (h : List Event) where
           ])
           p.0 p.1 (ahead at p) p.3 has_m
 
-    -- a number that was there isn't lost
-    pub lost : (n : ℤ) (earlier end later until : ℕ) → HadAt h earlier n end → LackedAt h later n until → end < later → ⊥
+    -- an item that was there isn't lost
+    pub lost : (n : Item) (earlier end later until : ℕ) → HadAt h earlier n end → LackedAt h later n until → end < later → ⊥
     unfolding has_in
     lost n earlier end later until shown lacked late =
         let q = has_in n earlier end shown in
         let parts = parted order q.0 q.2 in
         not_later n parts.0 parts.1 q.0 q.1 parts.2 q.3 q.4 later end (lacks_in n later until lacked) shown late
 
-    -- where a read found a number, whatever was there before each add of that one is there too
-    pub ahead_of : (n m : ℤ) (earlier end read : ℕ) → HadAt h earlier m end → FoundAt h read n m → IsNotAddedBy h n end → ⊥
+    -- where a read found an item, whatever was there before each add of that one is there too
+    pub ahead_of : (n m : Item) (earlier end read : ℕ) → HadAt h earlier m end → FoundAt h read n m → IsNotAddedBy h n end → ⊥
     unfolding has_in
     ahead_of n m earlier end read shown seen late =
         let q = has_in m earlier end shown in
@@ -228,7 +223,7 @@ module _ (h : List Event) where
         not_ahead m parts.0 parts.1 q.0 q.1 parts.2 q.3 q.4 n read end p seen.4 shown late
 
     -- of two reads one found what the other did
-    pub apart : (n m : ℤ) (first second : ℕ) → FoundAt h first n m → FoundAt h second m n → ⊥
+    pub apart : (n m : Item) (first second : ℕ) → FoundAt h first n m → FoundAt h second m n → ⊥
     apart n m first second one other =
         let p : LacksIn order m first = (record { at = first; reply = one.1 }, one.0, legal.order_of.each_ok first one.3.0 one.1 tt one.3.1, one.2, one.5, refl) in
         let q : LacksIn order n second = (record { at = second; reply = other.1 }, other.0, legal.order_of.each_ok second other.3.0 other.1 tt other.3.1, other.2, other.5, refl) in

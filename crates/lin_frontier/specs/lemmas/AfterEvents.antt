@@ -1,9 +1,10 @@
 -- What an event makes of a frontier is the frontier after the event.
-use Rattle.std.proofs.Common.{◌≡◌, ℕ, ℤ, zero, suc, ◌<◌, Bool, false, List, [], ◌∷◌, ◌++◌, length, Contains, ◌⊎◌, inl, inr, refl, sym, ap, subst, ◌∙◌, append_assoc, arith, get_or}
+use Rattle.std.proofs.Common.{◌≡◌, ℕ, zero, suc, ◌<◌, Bool, false, List, [], ◌∷◌, ◌++◌, length, Contains, ◌⊎◌, inl, inr, refl, sym, ap, subst, ◌∙◌, append_assoc, arith, get_or}
 use Rattle.std.specs.Map.{keys_of}
 use Rattle.std.proofs.lemmas.List.{append-nil}
 use Rattle.std.proofs.lemmas.List.Elements.{All-contains, All-weaker, Contains-append_right}
 use Rattle.std.proofs.lemmas.Bool.{cases_eq}
+use Rattle.lin_events.specs.declared.items.Item.{Item}
 use Rattle.lin_events.specs.declared.calls.Call.{Call}
 use Rattle.lin_events.specs.declared.calls.Name.{Name}
 use Rattle.lin_events.specs.declared.calls.Reply.{Reply}
@@ -50,7 +51,7 @@ absent_or process (x ∷ xs) = elim (cases_eq x.0 process) [
   ]
 ]
 
-module _ {S : Type 0} (start : S) (step : S → Call → S → Reply → Type 0) (functions : ℤ → Name → Bool) (h : List Event) (pending : List Open) (at : ℕ) (event : Event)
+module _ {S : Type 0} (start : S) (step : S → Call → S → Reply → Type 0) (functions : Item → Name → Bool) (h : List Event) (pending : List Open) (at : ℕ) (event : Event)
     (next : IsNextEvent functions h pending at event) (entries : List ((S × List (ℕ × Reply)) × ℕ)) (before : List (ℕ × Placed)) (frontier : IsFrontier start step h entries before) where
   -- an invocation: what is reached from the configurations by placing the new operation, and behind it any that is open
   module _ (call : Call) (is : event.body ≡ Invoke call) (alternating : WellFormedIsAlternating) (placing : PlacingIsLegal start step) (law : InvocationLaw start step)
@@ -67,7 +68,7 @@ module _ {S : Type 0} (start : S) (step : S → Call → S → Reply → Type 0)
     new_open : IsOpen (with_event h event) (length h) event.process event.key call
     new_open = invoked h event call is
 
-    still_open : (at p : ℕ) (key : ℤ) (c : Call) → IsOpen h at p key c → IsOpen (with_event h event) at p key c
+    still_open : (at p : ℕ) (key : Item) (c : Call) → IsOpen h at p key c → IsOpen (with_event h event) at p key c
     still_open at p key c o = open_kept h event (λ name reply e. other_ok name reply (sym is ∙ e)) (λ name e. other_fail name (sym is ∙ e)) at p key c o
       where
         other_ok : (name : Name) (reply : Reply) → Invoke call ≡ Ok name reply → ⊥
@@ -88,7 +89,7 @@ module _ {S : Type 0} (start : S) (step : S → Call → S → Reply → Type 0)
     start_has b config = kept.complete b b (frontier.complete b config) (subst (λ x. IsKept event.process x b b) (sym is) refl)
 
     -- a step of the work list is a placing
-    step_placing : (o : Open) (key : ℤ) (b d : S × List (ℕ × Reply)) (p : Placed) → IsOpen (with_event h event) o.at o.process key o.call → (order : List Placed)
+    step_placing : (o : Open) (key : Item) (b d : S × List (ℕ × Reply)) (p : Placed) → IsOpen (with_event h event) o.at o.process key o.call → (order : List Placed)
         → EndsIn start step (with_event h event) order b → PlacesOne step o b p d → EndsIn start step (with_event h event) (order ++ p ∷ []) d
     step_placing o key b d p open' order ends places = placing (with_event h event) order b d p ends (record {
       process = o.process;

@@ -1,10 +1,11 @@
 -- What a completion leaves of a frontier is the frontier after it; and what a frontier says of its history.
-use Rattle.std.proofs.Common.{◌≡◌, ◌≢◌, ℕ, ℤ, zero, suc, ◌+◌, ◌<◌, Bool, true, ◌&&◌, List, [], ◌∷◌, length, take, Contains, All, AllPairs, refl, sym, ap, subst, arith, get_or}
+use Rattle.std.proofs.Common.{◌≡◌, ◌≢◌, ℕ, zero, suc, ◌+◌, ◌<◌, Bool, true, ◌&&◌, List, [], ◌∷◌, length, take, Contains, All, AllPairs, refl, sym, ap, subst, arith, get_or}
 use Rattle.std.specs.Map.{keys_of}
 use Rattle.std.specs.List.{IsDistinct}
 use Rattle.std.specs.Cmp.{IsEquivalence, on_equiv, and_equiv, decided}
 use Rattle.std.specs.Cmp.Lexicographic.{pointwise}
 use Rattle.std.proofs.lemmas.List.Elements.{All-contains, All-weaker, Contains-get_or}
+use Rattle.lin_events.specs.declared.items.Item.{Item}
 use Rattle.lin_events.specs.declared.calls.Call.{Call}
 use Rattle.lin_events.specs.declared.calls.Name.{Name}
 use Rattle.lin_events.specs.declared.calls.Reply.{Reply}
@@ -28,7 +29,7 @@ use Rattle.lin_frontier.specs.lemmas.Inserting.{absent_from, none_from, taken_ou
 pub configs_equivalent : {S : Type 0} {eq : S → S → Bool} → IsEquivalence eq → IsEquivalence (λ (c d : S × List (ℕ × Reply)). eq c.0 d.0 && pointwise pair_eq c.1 d.1)
 configs_equivalent laws = and_equiv (on_equiv (λ (a : _ × _). a.0) laws) (on_equiv (λ (a : _ × _). a.1) (decided (pointwise pair_eq) placed_Decides))
 
-module _ {S : Type 0} (start : S) (step : S → Call → S → Reply → Type 0) (functions : ℤ → Name → Bool) (h : List Event) (event : Event)
+module _ {S : Type 0} (start : S) (step : S → Call → S → Reply → Type 0) (functions : Item → Name → Bool) (h : List Event) (event : Event)
     (well_formed : IsWellFormed functions (with_event h event)) (entries new : List ((S × List (ℕ × Reply)) × ℕ)) (nodes : List (ℕ × Placed)) (frontier : IsFrontier start step h entries nodes)
     (distinct : AllPairs (λ a b. a.0 ≢ b.0) new) where
   noted : (c : S × List (ℕ × Reply)) (id : ℕ) → Contains entries (c, id) → IsNoted start step h nodes (c, id)
@@ -108,7 +109,7 @@ module _ {S : Type 0} (start : S) (step : S → Call → S → Reply → Type 0)
       record { found = take (budget + 1) (keys_of entries); many = parts.0; configurations = parts.1; distinct = parts.2 }
 
   -- an empty frontier
-  pub none_legal : (functions : ℤ → Name → Bool) (h : List Event) (entries : List ((S × List (ℕ × Reply)) × ℕ)) (nodes : List (ℕ × Placed)) → length entries ≡ 0 → LegalOrdersEnd start step
+  pub none_legal : (functions : Item → Name → Bool) (h : List Event) (entries : List ((S × List (ℕ × Reply)) × ℕ)) (nodes : List (ℕ × Placed)) → length entries ≡ 0 → LegalOrdersEnd start step
       → IsWellFormed functions h → IsFrontier start step h entries nodes → IsLinearizableBy start step h → ⊥
   none_legal functions h [] nodes empty law well_formed frontier legal =
       let ends = law functions h legal.0 well_formed legal.1 in

@@ -1,12 +1,14 @@
 -- What the code's search over a map's entries has found: cited by the contracts of private functions alone.
-use Rattle.std.specs.Prelude.{◌≡◌, ℤ, true, ◌||◌, List, [], ◌∷◌, ◌++◌, Option, Some, None, Result, Ok, Err, codes}
+use Rattle.std.specs.Prelude.{◌≡◌, true, ◌||◌, List, [], ◌∷◌, ◌++◌, Option, Some, None, Result, Ok, Err, codes}
 use Rattle.std.specs.Borrow.{Bor}
 use Rattle.lin_edn.specs.declared.Edn.{Edn}
 use Rattle.lin_edn.specs.View.{view}
-use Rattle.lin_edn.specs.Value.{Value, Entries, nil, int}
+use Rattle.lin_edn.specs.Value.{Value, Entries, nil, bool, int}
 use Rattle.lin_history.specs.Table.{is_several, here, under}
+use Rattle.lin_events.specs.declared.items.Item.{Item}
+use Rattle.lin_events.specs.declared.items.Item.TheVariants.{Int, Bool as Truth}
 use Rattle.lin_events.specs.declared.calls.Val.{Val}
-use Rattle.lin_events.specs.declared.calls.Val.TheVariants as val
+use Rattle.lin_events.specs.declared.calls.Val.TheVariants.{Nil, Item as Held}
 use Rattle.lin_events.specs.declared.events.Body.{Body}
 use Rattle.lin_events.specs.declared.events.Body.TheVariants as body
 use Rattle.lin_events.specs.declared.calls.Reply.{Reply}
@@ -18,10 +20,15 @@ use Rattle.lin_history.specs.declared.table.Given.TheVariants as given
 use Rattle.lin_history.specs.declared.table.EventFault.{EventFault}
 use Rattle.lin_history.specs.declared.table.EventFault.TheVariants.{DuplicateKey, BadValue, OutOfMemory}
 
--- the value that says nil or an integer
+-- the value that says an item
+abbrev pub item_value : Item → Value
+item_value (Int i) = int i
+item_value (Truth b) = bool b
+
+-- the value that says nil or an item
 abbrev pub value_of : Val → Value
-value_of val.Nil = nil
-value_of (val.Int i) = int i
+value_of Nil = nil
+value_of (Held i) = item_value i
 
 -- the value of an operation
 abbrev pub given_view : Given → Value
@@ -42,14 +49,14 @@ IsPut old v new (Err f) = (f ≡ DuplicateKey) × (is_several (found old ++ v �
 abbrev pub IsReply : Option Reply → Result Reply EventFault → Type 0
 IsReply wanted (Ok reply) = wanted ≡ Some reply
 IsReply wanted (Err BadValue) = wanted ≡ None
-IsReply wanted (Err OutOfMemory) = (is : List ℤ) × (wanted ≡ Some (Members is))
+IsReply wanted (Err OutOfMemory) = (is : List Item) × (wanted ≡ Some (Members is))
 IsReply wanted (Err _) = ⊥
 
 -- a body, or why there is none
 abbrev pub IsBody : Option Body → Result Body EventFault → Type 0
 IsBody wanted (Ok b) = wanted ≡ Some b
 IsBody wanted (Err BadValue) = wanted ≡ None
-IsBody wanted (Err OutOfMemory) = (is : List ℤ) × (wanted ≡ Some (body.Ok Read (Members is)))
+IsBody wanted (Err OutOfMemory) = (is : List Item) × (wanted ≡ Some (body.Ok Read (Members is)))
 IsBody wanted (Err _) = ⊥
 
 -- an entry is kept under its key, if it is one that counts and stood nowhere before

@@ -12,7 +12,7 @@ use Rattle.lin_history.specs.declared.follow.FollowFault.TheVariants as fault
 use Rattle.lin_history.specs.declared.follow.Read.{Read}
 use Rattle.lin_history.specs.declared.follow.Front.{Front}
 use Rattle.lin_history.specs.declared.follow.Front.TheVariants as front
-use Rattle.lin_events.specs.declared.numbers.OutOfMemory.{OutOfMemory}
+use Rattle.lin_events.specs.declared.lists.OutOfMemory.{OutOfMemory}
 
 -- what an element tells is put behind what was ready
 abbrev pub IsTold : Told → List Event → List Event → Result (Unit {0}) EventFault → Type 0

@@ -9,7 +9,7 @@ use Rattle.lin_history.specs.inner.Reads.{IsReadTo, IsPutBehind}
 use Rattle.lin_events.specs.declared.events.Event.{Event}
 use Rattle.lin_history.specs.declared.follow.Read.{Read}
 use Rattle.lin_history.specs.declared.follow.Rest.{Rest}
-use Rattle.lin_events.specs.declared.numbers.OutOfMemory.{OutOfMemory}
+use Rattle.lin_events.specs.declared.lists.OutOfMemory.{OutOfMemory}
 use Rattle.lin_history.specs.declared.row.Far.{Far}
 use Rattle.lin_history.specs.declared.row.Far.TheVariants as far
 use Rattle.lin_history.specs.declared.row.Row.{Row}

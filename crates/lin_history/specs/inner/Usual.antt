@@ -1,5 +1,5 @@
 -- What is read of a usual map without its elements: cited by the contracts of private functions alone.
-use Rattle.std.specs.Prelude.{◌≡◌, ℕ, ℤ, suc, ◌+◌, ◌<◌, ◌≤◌, Bool, true, false, List, [], ◌∷◌, length, drop, Option, Some, None, Ok, codes}
+use Rattle.std.specs.Prelude.{◌≡◌, ℕ, suc, ◌+◌, ◌<◌, ◌≤◌, Bool, true, false, List, [], ◌∷◌, length, drop, Option, Some, None, Ok, codes}
 use Rattle.lin_edn.specs.Grammar.{Element, Row, ShortBlanks, longest}
 use Rattle.std.specs.List.{slice_range}
 use Rattle.lin_edn.specs.Bytes.{Kind, a_set, a_vector}
@@ -14,6 +14,7 @@ use Rattle.lin_history.specs.declared.usual.Process.{Process}
 use Rattle.lin_history.specs.declared.usual.Process.TheVariants.{Number, Named}
 use Rattle.lin_history.specs.declared.usual.Taken.{Taken}
 use Rattle.lin_events.specs.declared.events.Event.{Event}
+use Rattle.lin_events.specs.declared.items.Item.{Item}
 
 -- a set, or a vector
 abbrev pub kind_of : Bool → Kind
@@ -30,7 +31,7 @@ IsPlaced s levels vs None = vs ≡ []
 IsPlaced s levels vs (Some p) = (v : Value) × (used : ℕ) × (vs ≡ bare v ∷ []) × IsValueAt s levels p v used
 
 -- the values under a key are one, or none, and say the object's key and the value
-abbrev pub AreParts : Bool → List Value → ℤ → Value → Type 0
+abbrev pub AreParts : Bool → List Value → Item → Value → Type 0
 AreParts keyed vs key v = (is_several vs ≡ false) × (parts_of keyed (or_nil vs) ≡ Some (key, v))
 
 -- a map with this process, type and function, and these values under `:value`, tells this

@@ -1,5 +1,6 @@
 -- Members and their rounds after an invocation, an info and a fail.
-use Rattle.std.proofs.Common.{◌≡◌, ℕ, ℤ, zero, suc, ◌<◌, Bool, true, false, List, [], ◌∷◌, ◌++◌, length, Contains, map, refl, sym, ap, subst, arith, get_or, Option, Some, None}
+use Rattle.std.proofs.Common.{◌≡◌, ℕ, zero, suc, ◌<◌, Bool, true, false, List, [], ◌∷◌, ◌++◌, length, Contains, map, refl, sym, ap, subst, arith, get_or, Option, Some, None}
+use Rattle.lin_events.specs.declared.items.Item.{Item}
 use Rattle.lin_events.specs.declared.calls.Call.{Call}
 use Rattle.lin_events.specs.declared.calls.Name.{Name}
 use Rattle.lin_events.specs.declared.calls.Reply.{Reply}
@@ -63,7 +64,7 @@ module _ {S : Type 0} (start : S) (step : S → Call → S → Reply → Type 0)
     trail = fewer observes h s.states s.rounds m.0 (copy_of observes pending m).0 refl refl (λ x there. (passed_by (λ (y : ℕ × (ℕ × Reply)). is_watching observes pending y.1.0) m.0.offers x there).0) s.trail;
   }
 
-  module _ (overwriting : Bool) (functions : ℤ → Name → Bool) (h : List Event) (event : Event) (well_formed : IsWellFormed functions (with_event h event)) (unique : EndsAreUnique)
+  module _ (overwriting : Bool) (functions : Item → Name → Bool) (h : List Event) (event : Event) (well_formed : IsWellFormed functions (with_event h event)) (unique : EndsAreUnique)
       (alternates : IsAlternating functions (with_event h event)) (pending : List Open) (opened : IsPending (with_event h event) pending) (nodes : List (ℕ × (Placed × Option ℕ))) (members out : List (Member S × Path)) where
     abbrev g : List Event
     g = with_event h event

@@ -1,5 +1,6 @@
 -- What the pending operations tell of processes: which watch, which have crashed, what a state gives to them, and which can be placed.
-use Rattle.std.proofs.Common.{◌≡◌, ℕ, ℤ, Bool, true, List, Contains, IsTrue, sym, ap, subst, ◌∙◌}
+use Rattle.std.proofs.Common.{◌≡◌, ℕ, Bool, true, List, Contains, IsTrue, sym, ap, subst, ◌∙◌}
+use Rattle.lin_events.specs.declared.items.Item.{Item}
 use Rattle.lin_events.specs.declared.calls.Call.{Call}
 use Rattle.lin_events.specs.declared.calls.Name.{Name}
 use Rattle.lin_events.specs.declared.calls.Reply.{Reply}
@@ -18,7 +19,7 @@ use Rattle.lin_members.specs.lemmas.Crashes.{crashed_open}
 
 module _ (h : List Event) (pending : List Open) (opened : IsPending h pending) where
   -- each open operation is pending
-  pub open_pending : (at process : ℕ) (key : ℤ) (call : Call) → IsOpen h at process key call → (o : Open) × Contains pending o × (o.at ≡ at) × (o.process ≡ process) × (o.call ≡ call)
+  pub open_pending : (at process : ℕ) (key : Item) (call : Call) → IsOpen h at process key call → (o : Open) × Contains pending o × (o.at ≡ at) × (o.process ≡ process) × (o.call ≡ call)
   open_pending at process key call is_open =
       let found = opened.complete at process key call is_open in
       let s = opened.sound found.0 found.1 in
@@ -39,7 +40,7 @@ module _ (h : List Event) (pending : List Open) (opened : IsPending h pending) w
       (found.0, found.1, found.3, (opened.crashed found.0 found.1).1 (subst (IsCrashed h) (sym found.2) c.4))
 
   -- of a process that has not crashed
-  pub pending_watching : EndsAreUnique → (functions : ℤ → Name → Bool) → IsAlternating functions h → (observes : Call → Bool) (o : Open) → Contains pending o → observes o.call ≡ true → (IsTrue o.crashed → ⊥)
+  pub pending_watching : EndsAreUnique → (functions : Item → Name → Bool) → IsAlternating functions h → (observes : Call → Bool) (o : Open) → Contains pending o → observes o.call ≡ true → (IsTrue o.crashed → ⊥)
       → IsWatching observes h o.process
   pending_watching unique functions alternates observes o there observer alive =
       let s = opened.sound o there in

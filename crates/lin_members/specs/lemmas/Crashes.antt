@@ -1,6 +1,7 @@
 -- Crashed processes, and what one more event keeps.
-use Rattle.std.proofs.Common.{◌≡◌, ℕ, zero, suc, ℤ, ◌<◌, Bool, List, [], ◌∷◌, length, ◌⊎◌, inl, inr, refl, sym, ap, subst, ◌∙◌, arith, Some}
+use Rattle.std.proofs.Common.{◌≡◌, ℕ, zero, suc, ◌<◌, Bool, List, [], ◌∷◌, length, ◌⊎◌, inl, inr, refl, sym, ap, subst, ◌∙◌, arith, Some}
 use Rattle.std.proofs.lemmas.Bool.{cases_eq}
+use Rattle.lin_events.specs.declared.items.Item.{Item}
 use Rattle.lin_events.specs.declared.calls.Name.{Name}
 use Rattle.lin_events.specs.declared.calls.Call.{Call}
 use Rattle.lin_events.specs.declared.calls.Reply.{Reply}
@@ -93,7 +94,7 @@ info_or (e ∷ es) process = elim (info_or es process) [
     by (suc at) event is info none differs = none at event is info
 
 -- an operation that ends with an info is open
-info_open : EndsAreUnique → (h : List Event) (at end process : ℕ) (ending : Event) (key : ℤ) (call : Call) (name : Name) → IsOperation h at process key call → IsEnd h at end ending → ending.body ≡ Info name
+info_open : EndsAreUnique → (h : List Event) (at end process : ℕ) (ending : Event) (key : Item) (call : Call) (name : Name) → IsOperation h at process key call → IsEnd h at end ending → ending.body ≡ Info name
     → IsOpen h at process key call
 info_open unique h at end process ending key call name begins e info = record {
   begins = begins;
@@ -102,7 +103,7 @@ info_open unique h at end process ending key call name begins e info = record {
 }
 
 -- whether a process has crashed
-pub crash_or : (functions : ℤ → Name → Bool) (h : List Event) → IsAlternating functions h → (process : ℕ) → HasCrashed h process ⊎ (HasCrashed h process → ⊥)
+pub crash_or : (functions : Item → Name → Bool) (h : List Event) → IsAlternating functions h → (process : ℕ) → HasCrashed h process ⊎ (HasCrashed h process → ⊥)
 crash_or functions h alternates process = elim (info_or h process) [
   | inl some ↦ inl (found some.0 some.1 some.2 some.3)
   | inr none ↦ inr (λ c. none c.4.0 c.4.1 c.4.2.ends (c.4.2.same ∙ one_caller h c.0 c.4.2.process process c.4.2.key c.1 c.4.2.call c.2 c.4.2.begins c.3, c.4.3, c.4.4))
@@ -164,11 +165,11 @@ module _ (h : List Event) (event : Event) where
     shut = λ at q key c none is_open. none;
   }
     where
-      kept : (at q : ℕ) (key : ℤ) (c : Call) → IsOpen h at q key c → IsOpen (with_event h event) at q key c
+      kept : (at q : ℕ) (key : Item) (c : Call) → IsOpen h at q key c → IsOpen (with_event h event) at q key c
       kept at q key c o = open_kept h event (λ name reply. invoke_no_ok is name reply) (λ name. invoke_no_fail is name) at q key c o
 
-  module _ (functions : ℤ → Name → Bool) (alternates : IsAlternating functions (with_event h event)) where
-    completed : (name : Name) → Completes event.body name → (at : ℕ) × (key : ℤ) × (call : Call) × IsOpen h at event.process key call × IsEnd (with_event h event) at (length h) event
+  module _ (functions : Item → Name → Bool) (alternates : IsAlternating functions (with_event h event)) where
+    completed : (name : Name) → Completes event.body name → (at : ℕ) × (key : Item) × (call : Call) × IsOpen h at event.process key call × IsEnd (with_event h event) at (length h) event
     completed name is = completes h event functions alternates name is
 
     -- an info: its process has crashed now
@@ -188,11 +189,11 @@ module _ (h : List Event) (event : Event) where
       shut = λ at q key c none is_open. none;
     }
       where
-        kept : (at q : ℕ) (key : ℤ) (c : Call) → IsOpen h at q key c → IsOpen (with_event h event) at q key c
+        kept : (at q : ℕ) (key : Item) (c : Call) → IsOpen h at q key c → IsOpen (with_event h event) at q key c
         kept at q key c o = open_kept h event (λ name reply. info_no_ok is name reply) (λ name. info_no_fail is name) at q key c o
 
     -- the open operation of the process ends at the event
-    pub open_ends : (name : Name) → Completes event.body name → (at : ℕ) (key : ℤ) (call : Call) → IsOpen h at event.process key call → IsEnd (with_event h event) at (length h) event
+    pub open_ends : (name : Name) → Completes event.body name → (at : ℕ) (key : Item) (call : Call) → IsOpen h at event.process key call → IsEnd (with_event h event) at (length h) event
     open_ends name is at key call o =
         let i = completed name is in
         subst (λ k. IsEnd (with_event h event) k (length h) event) (one_open functions h (alternates_before h event functions alternates) i.0 at event.process i.1 key i.2 call i.3 o) i.4
@@ -205,7 +206,7 @@ module _ (h : List Event) (event : Event) where
 
     -- after a return: what is open and crashed is as before, but for the process
     pub passes_return : (observes : Call → Bool) (name : Name) → Completes event.body name → ((other : Name) → event.body ≡ Info other → ⊥)
-        → ((at : ℕ) (key : ℤ) (call : Call) → IsEnd (with_event h event) at (length h) event → IsOpen (with_event h event) at event.process key call → ⊥)
+        → ((at : ℕ) (key : Item) (call : Call) → IsEnd (with_event h event) at (length h) event → IsOpen (with_event h event) at event.process key call → ⊥)
         → Passes observes h (with_event h event) (λ q. q ≡ event.process)
     passes_return observes name is no_info closes = record {
       crashes = crash_kept;
@@ -216,7 +217,7 @@ module _ (h : List Event) (event : Event) where
           closes at key c (open_ends name is at key c (open_before h event at event.process key c (λ e. not_last at key c e o) o)) o;
     }
       where
-        not_last : (at : ℕ) (key : ℤ) (c : Call) → at ≡ length h → IsOpen (with_event h event) at event.process key c → ⊥
+        not_last : (at : ℕ) (key : Item) (c : Call) → at ≡ length h → IsOpen (with_event h event) at event.process key c → ⊥
         not_last at key c e o = never event.body (ap (λ (x : Event). x.body) (some_same (sym (get_last h event) ∙ subst (λ k. IsEvent (with_event h event) k (record { process = event.process; key = key; body = Invoke c })) e o.begins))) is
           where
             some_same : {a b : Event} → Some a ≡ Some b → a ≡ b

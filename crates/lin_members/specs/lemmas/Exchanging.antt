@@ -1,8 +1,9 @@
 -- Exchanges of crashed operations that have the same call, and what they leave as it is.
-use Rattle.std.proofs.Common.{◌≡◌, ◌≢◌, ◌<◌, ℕ, ℤ, Bool, true, false, nat_eq, cond, List, [], ◌∷◌, Contains, ◌⊎◌, inl, inr, refl, sym, ap, subst, ◌∙◌, arith}
+use Rattle.std.proofs.Common.{◌≡◌, ◌≢◌, ◌<◌, ℕ, Bool, true, false, nat_eq, cond, List, [], ◌∷◌, Contains, ◌⊎◌, inl, inr, refl, sym, ap, subst, ◌∙◌, arith}
 use Rattle.std.proofs.lemmas.List.Elements.{Contains-append_right}
 use Rattle.std.proofs.lemmas.Bool.{cases_eq, cond-true, cond-false}
 use Rattle.std.proofs.lemmas.Bool.Decides.{Decides-eqb as Decides-nat_eq}
+use Rattle.lin_events.specs.declared.items.Item.{Item}
 use Rattle.lin_events.specs.declared.calls.Call.{Call}
 use Rattle.lin_events.specs.declared.calls.Name.{Name}
 use Rattle.lin_events.specs.declared.calls.Reply.{Reply}
@@ -21,7 +22,7 @@ use Rattle.lin_members.specs.lemmas.Following.{Passes}
 use Rattle.lin_frontier.specs.lemmas.Inserting.{first_or_rest, taken_out}
 
 -- the open operation of a process has one call
-pub open_call : (functions : ℤ → Name → Bool) (h : List Event) → IsAlternating functions h → (i j process : ℕ) (key other : ℤ) (c d : Call) → IsOpen h i process key c → IsOpen h j process other d → c ≡ d
+pub open_call : (functions : Item → Name → Bool) (h : List Event) → IsAlternating functions h → (i j process : ℕ) (key other : Item) (c d : Call) → IsOpen h i process key c → IsOpen h j process other d → c ≡ d
 open_call functions h alternates i j process key other c d open_i open_j =
     one_call h j process process key other c d (subst (λ k. IsOperation h k process key c) (one_open functions h alternates i j process key other c d open_i open_j) open_i.begins) open_j.begins
 
@@ -278,9 +279,9 @@ module _ {h : List Event} (e : Exchange h) where
       out : IsAdded process reply (without process others) others
       out = taken_out process reply others is.rising (subst (λ q. Contains others (q, reply)) stays (is.part (process, reply) added.has))
 
-  module _ (functions : ℤ → Name → Bool) (alternates : IsAlternating functions h) where
+  module _ (functions : Item → Name → Bool) (alternates : IsAlternating functions h) where
     -- the process in its place has an open operation of the same call
-    pub opens : (at q : ℕ) (key : ℤ) (call : Call) → IsOpen h at q key call → (other : ℕ) × (other_key : ℤ) × IsOpen h other (e.to q) other_key call
+    pub opens : (at q : ℕ) (key : Item) (call : Call) → IsOpen h at q key call → (other : ℕ) × (other_key : Item) × IsOpen h other (e.to q) other_key call
     opens at q key call is = elim (e.moves q) [
       | inl same ↦ (at, key, subst (λ p. IsOpen h at p key call) (sym same) is)
       | inr alike ↦ (
@@ -373,7 +374,7 @@ module _ {h : List Event} (e : Exchange h) where
             },
           )
 
-module _ {h : List Event} (functions : ℤ → Name → Bool) (alternates : IsAlternating functions h) (e f : Exchange h) where
+module _ {h : List Event} (functions : Item → Name → Bool) (alternates : IsAlternating functions h) (e f : Exchange h) where
   -- one exchange after another
   abbrev pub both : Exchange h
   both = record {

@@ -1,5 +1,6 @@
 -- A member that dominates a point of a way follows the rest of the way, also in another history.
-use Rattle.std.proofs.Common.{◌≡◌, ℕ, ℤ, Bool, false, List, Contains, ◌⊎◌, inl, inr, sym, subst}
+use Rattle.std.proofs.Common.{◌≡◌, ℕ, Bool, false, List, Contains, ◌⊎◌, inl, inr, sym, subst}
+use Rattle.lin_events.specs.declared.items.Item.{Item}
 use Rattle.lin_events.specs.declared.calls.Call.{Call}
 use Rattle.lin_events.specs.declared.calls.Reply.{Reply}
 use Rattle.lin_events.specs.declared.events.Event.{Event}
@@ -14,9 +15,9 @@ use Rattle.lin_members.specs.lemmas.Ways.{way_kept, way_was}
 -- what the one history keeps of the other, but for some processes whose operations ended
 pub record Passes (observes : Call → Bool) (h g : List Event) (ended : ℕ → Type 0) : Type 0 where
   pub crashes : (q : ℕ) → HasCrashed h q → HasCrashed g q
-  pub opens : (at q : ℕ) (key : ℤ) (call : Call) → (ended q → ⊥) → IsOpen h at q key call → IsOpen g at q key call
+  pub opens : (at q : ℕ) (key : Item) (call : Call) → (ended q → ⊥) → IsOpen h at q key call → IsOpen g at q key call
   pub watches : (q : ℕ) → (ended q → ⊥) → IsWatching observes h q → IsWatching observes g q ⊎ HasCrashed g q
-  pub shut : (at q : ℕ) (key : ℤ) (call : Call) → ended q → IsOpen g at q key call → ⊥
+  pub shut : (at q : ℕ) (key : Item) (call : Call) → ended q → IsOpen g at q key call → ⊥
 
 -- a way in the other history, beside a way in the one
 pub record Follows {S : Type 0} (step : S → Call → S → Reply → Type 0) (observes : Call → Bool) (h g : List Event) (b b' : S × List (ℕ × Reply)) (offers offers' : ℕ × Reply → Type 0)
@@ -30,9 +31,9 @@ pub record Follows {S : Type 0} (step : S → Call → S → Reply → Type 0) (
 
 module _ {S : Type 0} (step : S → Call → S → Reply → Type 0) (observes : Call → Bool) (h g : List Event) (s : S) (old new : List (ℕ × Reply)) (offers offers' : ℕ × Reply → Type 0)
     (gone keeps : ℕ × Reply → Type 0) (sorted : IsRising new) (part : (x : ℕ × Reply) → Contains new x → Contains old x) (rest : (x : ℕ × Reply) → Contains old x → Contains new x ⊎ gone x)
-    (offered : (x : ℕ × Reply) → keeps x → offers x → offers' x) (given : (x : ℕ × Reply) → keeps x → (at : ℕ) (key : ℤ) (call : Call) → IsOpen h at x.0 key call → IsOpen g at x.0 key call) where
+    (offered : (x : ℕ × Reply) → keeps x → offers x → offers' x) (given : (x : ℕ × Reply) → keeps x → (at : ℕ) (key : Item) (call : Call) → IsOpen h at x.0 key call → IsOpen g at x.0 key call) where
   pub follow : (c : S × List (ℕ × Reply)) (way : Way step observes h (s, old) c)
-      → ((at q : ℕ) (key : ℤ) (call : Call) (reply : Reply) → IsOpen h at q key call → observes call ≡ false → ((other : Reply) → Contains old (q, other) → ⊥) → Contains c.1 (q, reply) → IsOpen g at q key call)
+      → ((at q : ℕ) (key : Item) (call : Call) (reply : Reply) → IsOpen h at q key call → observes call ≡ false → ((other : Reply) → Contains old (q, other) → ⊥) → Contains c.1 (q, reply) → IsOpen g at q key call)
       → Follows step observes h g (s, old) (s, new) offers offers' gone keeps c way
   follow c here opens = record { placed = new; way' = here; sorted = sorted; part = part; rest = rest; offered = offered }
   follow c (more {c = d} way u) opens =
@@ -86,7 +87,7 @@ module _ {S : Type 0} (step : S → Call → S → Reply → Type 0) (observes :
   -- what meets a configuration of the one history, meets in the other history what the configuration is without the ended operations
   pub meets_by : (t : S) (q r : List (ℕ × Reply)) → IsRising r → ((x : ℕ × Reply) → Contains r x → Contains q x) → ((x : ℕ × Reply) → Contains r x → ended x.0 → ⊥)
       → ((x : ℕ × Reply) → Contains q x → Contains r x ⊎ ended x.0) → (is : Meets step observes h (s, old) offers t q)
-      → ((at p : ℕ) (key : ℤ) (call : Call) (reply : Reply) → IsOpen h at p key call → observes call ≡ false → ((other : Reply) → Contains old (p, other) → ⊥) → Contains is.placed (p, reply) → ended p → ⊥)
+      → ((at p : ℕ) (key : Item) (call : Call) (reply : Reply) → IsOpen h at p key call → observes call ≡ false → ((other : Reply) → Contains old (p, other) → ⊥) → Contains is.placed (p, reply) → ended p → ⊥)
       → Meets step observes g (s, new) offers' t r
   meets_by t q r rising smaller none splits is never =
       record {
@@ -156,7 +157,7 @@ module _ {S : Type 0} (step : S → Call → S → Reply → Type 0) (observes :
   -- the same of a member that dominates
   pub meets_over : (t : S) (q r : List (ℕ × Reply)) → IsRising r → ((x : ℕ × Reply) → Contains r x → Contains q x) → ((x : ℕ × Reply) → Contains r x → ended x.0 → ⊥)
       → ((x : ℕ × Reply) → Contains q x → Contains r x ⊎ ended x.0) → (is : Meets step observes h (s, old) offers t q)
-      → ((at p : ℕ) (key : ℤ) (call : Call) (reply : Reply) → IsOpen h at p key call → observes call ≡ false → ((other : Reply) → Contains old (p, other) → ⊥) → Contains is.placed (p, reply) → ended p → ⊥)
+      → ((at p : ℕ) (key : Item) (call : Call) (reply : Reply) → IsOpen h at p key call → observes call ≡ false → ((other : Reply) → Contains old (p, other) → ⊥) → Contains is.placed (p, reply) → ended p → ⊥)
       → Meets step observes g (m.state, m.placed) (IsOnOffer m) t r
   meets_over t q r rising smaller none splits is never =
       subst (λ b. Meets step observes g (b, m.placed) (IsOnOffer m) t r) (sym dominates.same)

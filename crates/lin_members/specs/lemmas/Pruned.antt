@@ -1,7 +1,8 @@
 -- What lists of pending operations tell of domination, and members with only the offers that somebody waits for.
-use Rattle.std.proofs.Common.{◌≡◌, ◌⊎◌, ◌&&◌, ℕ, ℤ, Bool, true, false, not, nat_eq, List, All, Contains, inl, inr, refl, sym, subst, get_or}
+use Rattle.std.proofs.Common.{◌≡◌, ◌⊎◌, ◌&&◌, ℕ, Bool, true, false, not, nat_eq, List, All, Contains, inl, inr, refl, sym, subst, get_or}
 use Rattle.std.proofs.lemmas.Bool.Decides.{Decides-eqb as Decides-nat_eq}
 use Rattle.std.proofs.lemmas.List.Elements.{All-contains, Contains-get_or}
+use Rattle.lin_events.specs.declared.items.Item.{Item}
 use Rattle.lin_events.specs.declared.calls.Call.{Call}
 use Rattle.lin_events.specs.declared.calls.Name.{Name}
 use Rattle.lin_events.specs.declared.calls.Reply.{Reply}
@@ -36,7 +37,7 @@ none_waits observes pending none q waits =
     (left_out (observes o.0.call) o.0.crashed (and_right (nat_eq o.0.process q) (observes o.0.call) o.2) (All-contains (λ (k : Open). (observes k.call && not k.crashed) ≡ false) pending o.0 none o.1))
     (subst (λ p. is_watching observes pending p ≡ true) (sym ((Decides-nat_eq o.0.process q).0 (and_left (nat_eq o.0.process q) (observes o.0.call) o.2))) waits)
 
-module _ (functions : ℤ → Name → Bool) (h : List Event) (pending : List Open) (opened : IsPending h pending) (unique : EndsAreUnique) (alternates : IsAlternating functions h) where
+module _ (functions : Item → Name → Bool) (h : List Event) (pending : List Open) (opened : IsPending h pending) (unique : EndsAreUnique) (alternates : IsAlternating functions h) where
   pub crashed_to : (q : ℕ) → is_crashed pending q ≡ true → HasCrashed h q
   crashed_to q c =
       let o = any_true (λ (o : Open). nat_eq o.process q && o.crashed) pending c in

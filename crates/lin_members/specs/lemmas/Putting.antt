@@ -1,6 +1,7 @@
 -- An observer put at the end of a round, and a new round.
-use Rattle.std.proofs.Common.{◌≡◌, ◌≢◌, ℕ, suc, ℤ, Bool, true, List, [], ◌∷◌, ◌++◌, length, length-append, Contains, ◌⊎◌, inl, inr, refl, sym, ap, subst, arith, Some, slice_get}
+use Rattle.std.proofs.Common.{◌≡◌, ◌≢◌, ℕ, suc, Bool, true, List, [], ◌∷◌, ◌++◌, length, length-append, Contains, ◌⊎◌, inl, inr, refl, sym, ap, subst, arith, Some, slice_get}
 use Rattle.std.proofs.lemmas.List.Elements.{All-contains, Contains-append_left, Contains-append_right, Contains-append_cases}
+use Rattle.lin_events.specs.declared.items.Item.{Item}
 use Rattle.lin_events.specs.declared.calls.Call.{Call}
 use Rattle.lin_events.specs.declared.calls.Reply.{Reply}
 use Rattle.lin_events.specs.declared.events.Event.{Event}
@@ -19,7 +20,7 @@ use Rattle.lin_frontier.specs.lemmas.Inserting.{first_or_rest}
 use Rattle.lin_members.specs.lemmas.Joining.{insert_pairs, Around, around, joined_push, last_state, put_many, put_was, round_of, runs_by_push, runs_joined, runs_put}
 
 -- an open operation put in the middle of an order, where nothing behind it is before it
-module _ (h : List Event) (front back : List Placed) (p : Placed) (process : ℕ) (key : ℤ) (call : Call) (is_open : IsOpen h p.at process key call) where
+module _ (h : List Event) (front back : List Placed) (p : Placed) (process : ℕ) (key : Item) (call : Call) (is_open : IsOpen h p.at process key call) where
   insert_cases : (y : Placed) → Contains (front ++ (p ∷ back)) y → Contains (front ++ back) y ⊎ (p ≡ y)
   insert_cases y there = elim (Contains-append_cases front (p ∷ back) y there) [
     | inl first ↦ inl (Contains-append_left front back y first)
@@ -83,7 +84,7 @@ module _ {S : Type 0} (start : S) (step : S → Call → S → Reply → Type 0)
   trail_ends states rounds c is = record { order_of = is.order_of; runs = runs_joined step h states rounds start c.0 is.runs; placed = is.placed }
 
   -- an offer stays one while its operation is open and others are put in rounds
-  pub offer_put : (states : List S) (rounds : List (List Placed)) (k : ℕ) (p : Placed) (process : ℕ) (key : ℤ) (call : Call) → IsOpen h p.at process key call
+  pub offer_put : (states : List S) (rounds : List (List Placed)) (k : ℕ) (p : Placed) (process : ℕ) (key : Item) (call : Call) → IsOpen h p.at process key call
       → (round at : ℕ) (x : ℕ × Reply) → IsOfferedIn step observes h states rounds round at x → IsOfferedIn step observes h states (put k p rounds) round at x
   offer_put states rounds k p process key call is_open round at x o = record {
     key = o.key;
@@ -140,7 +141,7 @@ module _ {S : Type 0} (start : S) (step : S → Call → S → Reply → Type 0)
   }
 
   -- with a new round
-  pub offer_longer : (states : List S) (rounds : List (List Placed)) (v : S) (p : Placed) (process : ℕ) (key : ℤ) (call : Call) → IsOpen h p.at process key call
+  pub offer_longer : (states : List S) (rounds : List (List Placed)) (v : S) (p : Placed) (process : ℕ) (key : Item) (call : Call) → IsOpen h p.at process key call
       → (round at : ℕ) (x : ℕ × Reply) → IsOfferedIn step observes h states rounds round at x → IsOfferedIn step observes h (states ++ v ∷ []) (begin_round p rounds) round at x
   offer_longer states rounds v p process key call is_open round at x o = record {
     key = o.key;

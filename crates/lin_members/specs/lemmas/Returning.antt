@@ -1,5 +1,6 @@
 -- After an ok: which members lead to all configurations.
-use Rattle.std.proofs.Common.{◌≡◌, ℕ, ℤ, Bool, true, false, List, Contains, inl, inr, refl, sym, subst, ◌∙◌, true≢false}
+use Rattle.std.proofs.Common.{◌≡◌, ℕ, Bool, true, false, List, Contains, inl, inr, refl, sym, subst, ◌∙◌, true≢false}
+use Rattle.lin_events.specs.declared.items.Item.{Item}
 use Rattle.lin_events.specs.declared.calls.Name.{Name}
 use Rattle.lin_events.specs.declared.calls.Call.{Call}
 use Rattle.lin_events.specs.declared.calls.Reply.{Reply}
@@ -24,7 +25,7 @@ use Rattle.lin_members.specs.lemmas.Crashes.{never_crashed, ok_no_info, passes_o
 use Rattle.lin_members.specs.lemmas.Exchanging.{both, exchange_on, exchanged_added, exchanged_both, exchanged_meets, exchanged_on, exchanged_without, fixed, fixed_from}
 use Rattle.lin_members.specs.lemmas.Taking.{IsHeld, IsStopped, at_stop, at_placing, on_from, placed_it, held_placed, rest_of}
 
-module _ {S : Type 0} (start : S) (step : S → Call → S → Reply → Type 0) (observes : Call → Bool) (unique : EndsAreUnique) (functions : ℤ → Name → Bool) (h : List Event) (event : Event)
+module _ {S : Type 0} (start : S) (step : S → Call → S → Reply → Type 0) (observes : Call → Bool) (unique : EndsAreUnique) (functions : Item → Name → Bool) (h : List Event) (event : Event)
     (name : Name) (reply : Reply) (body : event.body ≡ Ok name reply) (alternates : IsAlternating functions (with_event h event)) where
   pub not_crashed : HasCrashed h event.process → ⊥
   not_crashed c = never_crashed h event functions alternates unique name (subst (λ b. Completes b name) (sym body) refl) (λ other. ok_no_info body other) c
@@ -80,7 +81,7 @@ module _ {S : Type 0} (start : S) (step : S → Call → S → Reply → Type 0)
       }
 
     -- of members that didn't place the operation: on each way to where it may have the reply, some stop
-    pub ok_observer : ((at : ℕ) (key : ℤ) (call : Call) → IsOpen h at event.process key call → observes call ≡ true)
+    pub ok_observer : ((at : ℕ) (key : Item) (call : Call) → IsOpen h at event.process key call → observes call ≡ true)
         → ((m : Member S) → Contains members m → ((other : Reply) → Contains m.placed (event.process, other) → ⊥) → (c : S × List (ℕ × Reply)) (way : WayOf step observes h m c) → IsRising c.1
         → IsReady step observes h (IsOnOffer m) (m.state, m.placed) c way (event.process, reply) → IsStopped step observes h (with_event h event) others m c way)
         → IsComplete start step observes (with_event h event) others
@@ -142,7 +143,7 @@ module _ {S : Type 0} (start : S) (step : S → Call → S → Reply → Type 0)
     IsLedToBy n = (k : Member S) × Contains others k × LeadsToMember step observes (with_event h event) k n
 
     -- of members that didn't place the operation: what each way comes to by placing it with this reply, without it
-    pub ok_update : ((at : ℕ) (key : ℤ) (call : Call) → IsOpen h at event.process key call → observes call ≡ false)
+    pub ok_update : ((at : ℕ) (key : Item) (call : Call) → IsOpen h at event.process key call → observes call ≡ false)
         → ((m : Member S) → Contains members m → (c d : S × List (ℕ × Reply)) (way : WayOf step observes h m c) (u : IsUpdate step observes h c d) → u.1.process ≡ event.process → u.0.reply ≡ reply
         → (e : Exchange h) × (placed : List (ℕ × Reply)) × (n : Member S) × IsExchanged e c.1 placed × IsLedToBy n
         × DominatesAt observes (with_event h event) n d.0 placed (IsOffered step observes h (IsOnOffer m) (m.state, m.placed) d (more way u)))

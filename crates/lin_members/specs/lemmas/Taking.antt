@@ -1,6 +1,7 @@
 -- After an ok: members that placed the operation, and ways that come to it.
-use Rattle.std.proofs.Common.{◌≡◌, ℕ, ℤ, Bool, false, List, Contains, ◌⊎◌, inl, inr, sym, ap, subst}
+use Rattle.std.proofs.Common.{◌≡◌, ℕ, Bool, false, List, Contains, ◌⊎◌, inl, inr, sym, ap, subst}
 use Rattle.std.proofs.lemmas.Bool.{cases_eq}
+use Rattle.lin_events.specs.declared.items.Item.{Item}
 use Rattle.lin_events.specs.declared.calls.Name.{Name}
 use Rattle.lin_events.specs.declared.calls.Call.{Call}
 use Rattle.lin_events.specs.declared.calls.Reply.{Reply}
@@ -115,13 +116,13 @@ was_of process reply kept old added x there = elim (added.was x there) [
   | inr new ↦ inr (sym (ap (λ (y : ℕ × Reply). y.0) new))
 ]
 
-module _ {S : Type 0} (step : S → Call → S → Reply → Type 0) (observes : Call → Bool) (functions : ℤ → Name → Bool) (h : List Event) (event : Event) (name : Name) (reply : Reply)
+module _ {S : Type 0} (step : S → Call → S → Reply → Type 0) (observes : Call → Bool) (functions : Item → Name → Bool) (h : List Event) (event : Event) (name : Name) (reply : Reply)
     (body : event.body ≡ Ok name reply) (alternates : IsAlternating functions (with_event h event)) where
   -- from a point where the operation's pair, if it is there, is taken out
   pub on_by : (s : S) (old kept new : List (ℕ × Reply)) (offers offers' : ℕ × Reply → Type 0) → ((x : ℕ × Reply) → Contains kept x → Contains old x) → ((other : Reply) → Contains kept (event.process, other) → ⊥)
       → ((x : ℕ × Reply) → Contains old x → Contains kept x ⊎ (x.0 ≡ event.process)) → DoesFor observes (with_event h event) new offers' kept offers
       → (c : S × List (ℕ × Reply)) (placed : List (ℕ × Reply)) → IsAdded event.process reply c.1 placed → Meets step observes h (s, old) offers c.0 placed
-      → ((at : ℕ) (key : ℤ) (call : Call) → IsOpen h at event.process key call → observes call ≡ false → ((r : Reply) → Contains old (event.process, r) → ⊥) → ⊥)
+      → ((at : ℕ) (key : Item) (call : Call) → IsOpen h at event.process key call → observes call ≡ false → ((r : Reply) → Contains old (event.process, r) → ⊥) → ⊥)
       → Meets step observes (with_event h event) (s, new) offers' c.0 c.1
   on_by s old kept new offers offers' within absent leaves does c placed added is never =
       meets_by step observes h (with_event h event) (λ q. q ≡ event.process) (passes_ok h event functions alternates observes name reply body)
@@ -131,13 +132,13 @@ module _ {S : Type 0} (step : S → Call → S → Reply → Type 0) (observes :
       is (λ at p key call other is_open no' first there same. never at key call
       (subst (λ q. IsOpen h at q key call) same is_open) no' (subst (λ q. (r : Reply) → Contains old (q, r) → ⊥) same first))
 
-module _ {S : Type 0} (step : S → Call → S → Reply → Type 0) (observes : Call → Bool) (functions : ℤ → Name → Bool) (h : List Event) (event : Event) (name : Name) (reply : Reply)
+module _ {S : Type 0} (step : S → Call → S → Reply → Type 0) (observes : Call → Bool) (functions : Item → Name → Bool) (h : List Event) (event : Event) (name : Name) (reply : Reply)
     (body : event.body ≡ Ok name reply) (alternates : IsAlternating functions (with_event h event)) (others : List (Member S)) where
   -- of a member that dominates the point
   pub on_from : (s : S) (old kept : List (ℕ × Reply)) (offers : ℕ × Reply → Type 0) (n : Member S) → ((x : ℕ × Reply) → Contains kept x → Contains old x) → ((other : Reply) → Contains kept (event.process, other) → ⊥)
       → ((x : ℕ × Reply) → Contains old x → Contains kept x ⊎ (x.0 ≡ event.process)) → DominatesAt observes (with_event h event) n s kept offers
       → (c : S × List (ℕ × Reply)) (placed : List (ℕ × Reply)) → IsAdded event.process reply c.1 placed → Meets step observes h (s, old) offers c.0 placed
-      → ((at : ℕ) (key : ℤ) (call : Call) → IsOpen h at event.process key call → observes call ≡ false → ((r : Reply) → Contains old (event.process, r) → ⊥) → ⊥)
+      → ((at : ℕ) (key : Item) (call : Call) → IsOpen h at event.process key call → observes call ≡ false → ((r : Reply) → Contains old (event.process, r) → ⊥) → ⊥)
       → LeadsToCover step observes (with_event h event) n c
   on_from s old kept offers n within absent leaves dominates c placed added is never =
       to_covers step observes (with_event h event) n c (subst (λ b. Meets step observes (with_event h event) (b, n.placed) (IsOnOffer n) c.0 c.1) (sym dominates.same)

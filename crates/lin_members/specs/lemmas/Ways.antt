@@ -1,6 +1,7 @@
 -- Ways of a member: what they keep, and coverings without a list for the part.
-use Rattle.std.proofs.Common.{◌≡◌, ℕ, ℤ, ◌<◌, Bool, false, List, Contains, ◌⊎◌, inl, inr, refl, subst}
+use Rattle.std.proofs.Common.{◌≡◌, ℕ, ◌<◌, Bool, false, List, Contains, ◌⊎◌, inl, inr, refl, subst}
 use Rattle.std.proofs.lemmas.List.Elements.{All-contains}
+use Rattle.lin_events.specs.declared.items.Item.{Item}
 use Rattle.lin_events.specs.declared.calls.Call.{Call}
 use Rattle.lin_events.specs.declared.calls.Reply.{Reply}
 use Rattle.lin_events.specs.declared.events.Event.{Event}
@@ -33,7 +34,7 @@ module _ {S : Type 0} (step : S → Call → S → Reply → Type 0) (observes :
 
   -- what stands at the end of a way stood at its beginning, or is open and no observer
   pub way_was : (b c : S × List (ℕ × Reply)) → Way step observes h b c → (x : ℕ × Reply) → Contains c.1 x
-      → Contains b.1 x ⊎ ((at : ℕ) × (key : ℤ) × (call : Call) × IsOpen h at x.0 key call × (observes call ≡ false))
+      → Contains b.1 x ⊎ ((at : ℕ) × (key : Item) × (call : Call) × IsOpen h at x.0 key call × (observes call ≡ false))
   way_was b c here x there = inl there
   way_was b c (more {c = d} way u) x there = elim (u.1.added.was x there) [
     | inl old ↦ way_was b d way x old

@@ -1,5 +1,6 @@
 -- What the parts of `check_refutation` decide: words of private contracts.
-use Rattle.std.specs.Prelude.{◌≡◌, ◌+◌, ◌↔◌, ℕ, ℤ, List, [], Contains, length, take}
+use Rattle.std.specs.Prelude.{◌≡◌, ◌+◌, ◌↔◌, ℕ, List, [], Contains, length, take}
+use Rattle.lin_events.specs.declared.items.Item.{Item}
 use Rattle.lin_events.specs.declared.calls.Call.{Call}
 use Rattle.lin_events.specs.declared.calls.Reply.{Reply}
 use Rattle.lin_events.specs.declared.events.Body.{Body}
@@ -14,7 +15,7 @@ use Rattle.lin_order.specs.Refutations.{Config, IsSet, AreRising, IsClosed, IsLe
 
 -- an operation that is open begins at the position
 abbrev pub IsOpenAt : List Event → ℕ → Type 0
-IsOpenAt h at = (process : ℕ) × (key : ℤ) × (call : Call) × IsOpen h at process key call
+IsOpenAt h at = (process : ℕ) × (key : Item) × (call : Call) × IsOpen h at process key call
 
 -- just the positions of the open operations
 abbrev pub AreOpen : List Event → List ℕ → Type 0
@@ -41,7 +42,7 @@ HoldsSteps kind members c process call = (next : State) (reply : Reply) → Step
 
 -- whatever comes of the configuration by placing the operation at the position is a member
 abbrev pub HoldsPlacing : Kind → List Event → List Config → Config → ℕ → Type 0
-HoldsPlacing kind h members c at = (process : ℕ) (key : ℤ) (call : Call) → IsOperation h at process key call → HoldsSteps kind members c process call
+HoldsPlacing kind h members c at = (process : ℕ) (key : Item) (call : Call) → IsOperation h at process key call → HoldsSteps kind members c process call
 
 -- whatever the event leaves of the configuration is a member
 abbrev pub HoldsLeftOf : Event → List Config → Config → Type 0

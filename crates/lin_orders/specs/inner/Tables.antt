@@ -1,5 +1,6 @@
 -- What a table of ends tells of one position.
-use Rattle.std.specs.Prelude.{◌≡◌, ℤ, Option, Some, None}
+use Rattle.std.specs.Prelude.{◌≡◌, Option, Some, None}
+use Rattle.lin_events.specs.declared.items.Item.{Item}
 use Rattle.lin_events.specs.declared.events.Event.{Event}
 use Rattle.lin_events.specs.declared.events.Body.TheVariants.{Invoke}
 use Rattle.lin_events.specs.declared.calls.Call.{Call}
@@ -15,9 +16,9 @@ IsFound {S} passes None = (other : S) → passes other → ⊥
 IsFound passes (Some found) = passes found
 
 -- the object of the invocation took the step that gives this reply
-abbrev pub IsTaken : (ℤ → Kind) → (ℤ → Option State) → (ℤ → Option State) → Event → Reply → Type 0
+abbrev pub IsTaken : (Item → Kind) → (Item → Option State) → (Item → Option State) → Event → Reply → Type 0
 IsTaken kinds old new event reply = (call : Call) × (event.body ≡ Invoke call) × Moves kinds old new event.key call reply
 
 -- the event is no invocation, or its object has no step that gives this reply
-abbrev pub IsRefused : (ℤ → Kind) → (ℤ → Option State) → Event → Reply → Type 0
+abbrev pub IsRefused : (Item → Kind) → (Item → Option State) → Event → Reply → Type 0
 IsRefused kinds states event reply = (call : Call) (next : State) → event.body ≡ Invoke call → Step (kinds event.key) (state_of kinds states event.key) call next reply → ⊥

@@ -1,7 +1,8 @@
 -- Orders over another history that has the same operations, and over one with an event more.
-use Rattle.std.proofs.Common.{◌≡◌, ℕ, ℤ, ◌<◌, List, [], ◌∷◌, length, Contains, ◌⊎◌, inl, inr, get_or, refl, ap, subst, arith}
+use Rattle.std.proofs.Common.{◌≡◌, ℕ, ◌<◌, List, [], ◌∷◌, length, Contains, ◌⊎◌, inl, inr, get_or, refl, ap, subst, arith}
 use Rattle.std.proofs.lemmas.Bool.{cases_order}
 use Rattle.std.proofs.lemmas.List.Elements.{All-contains, Contains-append_right, Contains-get_or}
+use Rattle.lin_events.specs.declared.items.Item.{Item}
 use Rattle.lin_events.specs.declared.calls.Call.{Call}
 use Rattle.lin_events.specs.declared.calls.Reply.{Reply}
 use Rattle.lin_events.specs.declared.events.Event.{Event}
@@ -39,8 +40,8 @@ module _ (h : List Event) (o : List Placed) (is : IsOrder h o) where
 
 -- what the order places of the open operations, where the same ones are open
 pub placed_again : (h g : List Event) (o : List Placed) (placed : List (ℕ × Reply)) → IsPlacedBy h o placed
-    → ((at p : ℕ) (key : ℤ) (call : Call) (reply : Reply) → Places o at reply → IsOpen h at p key call → IsOpen g at p key call)
-    → ((at p : ℕ) (key : ℤ) (call : Call) (reply : Reply) → Places o at reply → IsOpen g at p key call → IsOpen h at p key call) → IsPlacedBy g o placed
+    → ((at p : ℕ) (key : Item) (call : Call) (reply : Reply) → Places o at reply → IsOpen h at p key call → IsOpen g at p key call)
+    → ((at p : ℕ) (key : Item) (call : Call) (reply : Reply) → Places o at reply → IsOpen g at p key call → IsOpen h at p key call) → IsPlacedBy g o placed
 placed_again h g o placed is to from = record {
   rising = is.rising;
   sound = λ p r there. let s = is.sound p r there in (s.0, s.1, s.2, to s.0 p s.1 s.2 r s.4 s.3, s.4);
@@ -95,7 +96,7 @@ module _ (h : List Event) (event : Event) where
   run_kept step o s t run = runs_again step h (with_event h event) o s t (λ p call there. call_kept h event p.at call) run
 
   -- what an order places was open before, if it is open after the event
-  pub was_open : (o : List Placed) → ((r : Reply) → Places o (length h) r → ⊥) → (at p : ℕ) (key : ℤ) (call : Call) (r : Reply) → Places o at r
+  pub was_open : (o : List Placed) → ((r : Reply) → Places o (length h) r → ⊥) → (at p : ℕ) (key : Item) (call : Call) (r : Reply) → Places o at r
       → IsOpen (with_event h event) at p key call → IsOpen h at p key call
   was_open o absent at p key call r there = open_before h event at p key call (λ e. absent r (subst (λ k. Places o k r) e there))
 

@@ -1,6 +1,7 @@
 -- After an ok, a fail or an info: which configurations stay.
-use Rattle.std.proofs.Common.{◌≡◌, ℕ, ℤ, ◌<◌, Bool, List, length, Contains, ◌↔◌, inl, inr, refl, sym, ap, subst, ◌∙◌, arith}
+use Rattle.std.proofs.Common.{◌≡◌, ℕ, ◌<◌, Bool, List, length, Contains, ◌↔◌, inl, inr, refl, sym, ap, subst, ◌∙◌, arith}
 use Rattle.std.proofs.lemmas.Bool.{cases_eq}
+use Rattle.lin_events.specs.declared.items.Item.{Item}
 use Rattle.lin_events.specs.declared.calls.Call.{Call}
 use Rattle.lin_events.specs.declared.calls.Name.{Name}
 use Rattle.lin_events.specs.declared.calls.Reply.{Reply}
@@ -38,19 +39,19 @@ fail_completes body name is = subst (λ b. Completes b name) (sym is) refl
 pub info_completes : (body : Body) (name : Name) → body ≡ Info name → Completes body name
 info_completes body name is = subst (λ b. Completes b name) (sym is) refl
 
-module _ (functions : ℤ → Name → Bool) (h : List Event) (event : Event) (name : Name) (alternates : IsAlternating functions (with_event h event)) (completing : Completes event.body name) where
+module _ (functions : Item → Name → Bool) (h : List Event) (event : Event) (name : Name) (alternates : IsAlternating functions (with_event h event)) (completing : Completes event.body name) where
   -- the operation that the event ends
-  ended : (at : ℕ) × (key : ℤ) × (call : Call) × IsOpen h at event.process key call × IsEnd (with_event h event) at (length h) event
+  ended : (at : ℕ) × (key : Item) × (call : Call) × IsOpen h at event.process key call × IsEnd (with_event h event) at (length h) event
   ended = completes h event functions alternates name completing
 
   -- each open operation of the process is that one
-  the_one : (at : ℕ) (key : ℤ) (call : Call) → IsOpen h at event.process key call → at ≡ ended.0
+  the_one : (at : ℕ) (key : Item) (call : Call) → IsOpen h at event.process key call → at ≡ ended.0
   the_one at key call is_open = one_open functions h (alternates_before h event functions alternates) at ended.0 event.process key ended.1 call ended.2 is_open ended.3
 
-  end_of_it : (at : ℕ) (key : ℤ) (call : Call) → IsOpen h at event.process key call → IsEnd (with_event h event) at (length h) event
+  end_of_it : (at : ℕ) (key : Item) (call : Call) → IsOpen h at event.process key call → IsEnd (with_event h event) at (length h) event
   end_of_it at key call is_open = subst (λ k. IsEnd (with_event h event) k (length h) event) (sym (the_one at key call is_open)) ended.4
 
-module _ {S : Type 0} (start : S) (step : S → Call → S → Reply → Type 0) (functions : ℤ → Name → Bool) (h : List Event) (event : Event) (name : Name) where
+module _ {S : Type 0} (start : S) (step : S → Call → S → Reply → Type 0) (functions : Item → Name → Bool) (h : List Event) (event : Event) (name : Name) where
   pub info_lem : event.body ≡ Info name → (o : List Placed) (c : S × List (ℕ × Reply)) → EndsIn start step (with_event h event) o c ↔ EndsIn start step h o c
   info_lem is_info o c = (
     λ is. ends_before start step h event (info_quiet event.body name is_info) o c (none_new h event name (info_completes event.body name is_info) o is.order_of) is,
@@ -110,15 +111,15 @@ module _ {S : Type 0} (start : S) (step : S → Call → S → Reply → Type 0)
     no_fail : (other : Name) → event.body ≡ Fail other → ⊥
     no_fail other is = cc
 
-    the_end : (at : ℕ) × (key : ℤ) × (call : Call) × IsOpen h at event.process key call × IsEnd (with_event h event) at (length h) event
+    the_end : (at : ℕ) × (key : Item) × (call : Call) × IsOpen h at event.process key call × IsEnd (with_event h event) at (length h) event
     the_end = ended functions h event name alternates (ok_completes event.body name reply is_ok)
 
-    the_place : (at : ℕ) (key : ℤ) (call : Call) → IsOpen h at event.process key call → at ≡ the_end.0
+    the_place : (at : ℕ) (key : Item) (call : Call) → IsOpen h at event.process key call → at ≡ the_end.0
     unfolding the_end
     the_place = the_one functions h event name alternates (ok_completes event.body name reply is_ok)
 
     -- it is no longer open
-    no_more : (at : ℕ) (key other : ℤ) (call again : Call) → IsOpen h at event.process key call → IsOpen (with_event h event) at event.process other again → ⊥
+    no_more : (at : ℕ) (key other : Item) (call again : Call) → IsOpen h at event.process key call → IsOpen (with_event h event) at event.process other again → ⊥
     no_more at key other call again before after =
         after.no_ok (length h) reply (event, end_of_it functions h event name alternates (ok_completes event.body name reply is_ok) at key call before, name, is_ok)
 

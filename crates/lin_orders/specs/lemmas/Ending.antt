@@ -1,9 +1,10 @@
 -- Where legal orders end: the empty one, and each of a well-formed history.
-use Rattle.std.proofs.Common.{◌≡◌, ◌≢◌, ℕ, ℤ, zero, suc, ◌<◌, Bool, List, [], ◌∷◌, ◌++◌, length, AllPairs, Option, ◌∙◌, ◌⊎◌, inl, inr, refl, sym, ap, subst, arith, Some, None, slice_get}
+use Rattle.std.proofs.Common.{◌≡◌, ◌≢◌, ℕ, zero, suc, ◌<◌, Bool, List, [], ◌∷◌, ◌++◌, length, AllPairs, Option, ◌∙◌, ◌⊎◌, inl, inr, refl, sym, ap, subst, arith, Some, None, slice_get}
 use Rattle.std.proofs.lemmas.Bool.{cases_eq, cases_lt}
 use Rattle.std.proofs.lemmas.Option.{slice_get_within}
 use Rattle.std.proofs.lemmas.List.{append-nil, append_assoc}
 use Rattle.std.proofs.lemmas.List.Elements.{Contains-append_left, Contains-append_right, Contains-push_cases}
+use Rattle.lin_events.specs.declared.items.Item.{Item}
 use Rattle.lin_events.specs.declared.calls.Call.{Call}
 use Rattle.lin_events.specs.declared.calls.Name.{Name}
 use Rattle.lin_events.specs.declared.calls.Reply.{Reply}
@@ -74,7 +75,7 @@ module _ (h : List Event) (at process : ℕ) where
           ]
 
   -- an operation is open, or not
-  pub open_or_not : (key : ℤ) (call : Call) → IsOperation h at process key call → IsOpen h at process key call ⊎ (IsOpen h at process key call → ⊥)
+  pub open_or_not : (key : Item) (call : Call) → IsOperation h at process key call → IsOpen h at process key call ⊎ (IsOpen h at process key call → ⊥)
   open_or_not key call begins = elim (next_below (length h)) [
     | inl found ↦ by found.3.0.body refl (record {
       process = process;
@@ -111,7 +112,7 @@ module _ (h : List Event) (at process : ℕ) where
       by {end} {ending} (Invoke again) is e = inl (unknown end ending (invoke_quiet ending.body again is) e)
       by {end} {ending} (Info name) is e = inl (unknown end ending (info_quiet ending.body name is) e)
 
-module _ (functions : ℤ → Name → Bool) (h : List Event) (alternates : IsAlternating functions h) where
+module _ (functions : Item → Name → Bool) (h : List Event) (alternates : IsAlternating functions h) where
   -- one more operation
   placed_more : (o : List Placed) (p : Placed) → AllPairs (λ q r. q.at ≢ r.at) (o ++ p ∷ []) → (call : Call) → IsCall h p.at call → (placed : List (ℕ × Reply)) → IsPlacedBy h o placed
       → (more : List (ℕ × Reply)) × IsPlacedBy h (o ++ p ∷ []) more

@@ -1,6 +1,7 @@
 -- After an invocation: its configurations are those from before, with open operations placed on them.
-use Rattle.std.proofs.Common.{◌≡◌, ℕ, ℤ, zero, suc, ◌<◌, Bool, List, [], ◌∷◌, ◌++◌, length, inl, inr, refl, ap, subst, arith, length-append}
+use Rattle.std.proofs.Common.{◌≡◌, ℕ, zero, suc, ◌<◌, Bool, List, [], ◌∷◌, ◌++◌, length, inl, inr, refl, ap, subst, arith, length-append}
 use Rattle.std.proofs.lemmas.List.Elements.{Contains-push_cases}
+use Rattle.lin_events.specs.declared.items.Item.{Item}
 use Rattle.lin_events.specs.declared.calls.Call.{Call}
 use Rattle.lin_events.specs.declared.calls.Name.{Name}
 use Rattle.lin_events.specs.declared.calls.Reply.{Reply}
@@ -18,7 +19,7 @@ use Rattle.lin_orders.specs.lemmas.Again.{is_placed}
 use Rattle.lin_orders.specs.lemmas.Quiet.{IsQuiet, ends_kept, ends_before, invoke_quiet}
 use Rattle.lin_orders.specs.lemmas.Placing.{unplace}
 
-module _ {S : Type 0} (start : S) (step : S → Call → S → Reply → Type 0) (functions : ℤ → Name → Bool) (h : List Event) (event : Event) (call : Call) (is_call : event.body ≡ Invoke call)
+module _ {S : Type 0} (start : S) (step : S → Call → S → Reply → Type 0) (functions : Item → Name → Bool) (h : List Event) (event : Event) (call : Call) (is_call : event.body ≡ Invoke call)
     (alternates : IsAlternating functions (with_event h event)) where
   quiet : IsQuiet event.body
   quiet = invoke_quiet event.body call is_call

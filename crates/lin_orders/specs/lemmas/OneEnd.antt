@@ -1,6 +1,7 @@
 -- Where operations end.
-use Rattle.std.proofs.Common.{◌≡◌, ℕ, ℤ, List, inl, inr, refl, sym, ap, subst, ◌∙◌, Some}
+use Rattle.std.proofs.Common.{◌≡◌, ℕ, List, inl, inr, refl, sym, ap, subst, ◌∙◌, Some}
 use Rattle.std.proofs.lemmas.Bool.{cases_order}
+use Rattle.lin_events.specs.declared.items.Item.{Item}
 use Rattle.lin_events.specs.declared.events.Event.{Event}
 use Rattle.lin_events.specs.declared.events.Body.TheVariants.{Invoke}
 use Rattle.lin_events.specs.declared.calls.Call.{Call}
@@ -40,7 +41,7 @@ module _ (h : List Event) (at : ℕ) where
   one_ending a b x y e f = one_event h b x y (subst (λ k. IsEvent h k x) (one_end a b x y e f) e.ends) f.ends
 
   -- the next position of its process is an operation's end
-  pub end_from_next : (process : ℕ) (key : ℤ) (call : Call) → IsOperation h at process key call → (next : ℕ) (event : Event) → IsNext h at next → IsEvent h next event → IsEnd h at next event
+  pub end_from_next : (process : ℕ) (key : Item) (call : Call) → IsOperation h at process key call → (next : ℕ) (event : Event) → IsNext h at next → IsEvent h next event → IsEnd h at next event
   end_from_next process key call begins next event is there =
       let p : is.process ≡ process = one_process h at is.process process is.here (record { process = process; key = key; body = Invoke call }, begins, refl) in
       record {

@@ -1,9 +1,10 @@
 -- Placing an open operation last, and taking it away again.
-use Rattle.std.proofs.Common.{◌≡◌, ◌≢◌, ℕ, ℤ, ◌<◌, Bool, List, [], ◌∷◌, ◌++◌, Contains, inl, inr, refl, sym, ap, subst, get_or, filter}
+use Rattle.std.proofs.Common.{◌≡◌, ◌≢◌, ℕ, ◌<◌, Bool, List, [], ◌∷◌, ◌++◌, Contains, inl, inr, refl, sym, ap, subst, get_or, filter}
 use Rattle.std.proofs.lemmas.List.Elements.{All-contains, All-push, Contains-append_left, Contains-push, Contains-push_cases, Contains-get_or}
 use Rattle.std.proofs.lemmas.List.Quantifiers.{all_pairs_push}
 use Rattle.std.proofs.lemmas.List.Kept.{AllPairs-filter}
 use Rattle.std.proofs.lemmas.Bool.{cases_eq}
+use Rattle.lin_events.specs.declared.items.Item.{Item}
 use Rattle.lin_events.specs.declared.calls.Call.{Call}
 use Rattle.lin_events.specs.declared.calls.Name.{Name}
 use Rattle.lin_events.specs.declared.calls.Reply.{Reply}
@@ -29,7 +30,7 @@ reply_of e = ap (λ (x : ℕ × Reply). x.1) e
 place_of : {p q : Placed} → p ≡ q → p.at ≡ q.at
 place_of e = ap (λ (x : Placed). x.at) e
 
-module _ (h : List Event) (o : List Placed) (p : Placed) (process : ℕ) (key : ℤ) (call : Call) (is_open : IsOpen h p.at process key call) where
+module _ (h : List Event) (o : List Placed) (p : Placed) (process : ℕ) (key : Item) (call : Call) (is_open : IsOpen h p.at process key call) where
   -- an order with an open operation that it lacks placed last is an order
   pub place_order : IsOrder h o → ((other : Reply) → Places o p.at other → ⊥) → IsOrder h (o ++ p ∷ [])
   place_order is absent = record {
@@ -80,7 +81,7 @@ module _ (h : List Event) (o : List Placed) (p : Placed) (process : ℕ) (key : 
     ];
   }
 
-  module _ (functions : ℤ → Name → Bool) (alternates : IsAlternating functions h) (after : List (ℕ × Reply)) (is : IsOrder h (o ++ p ∷ [])) (placed : IsPlacedBy h (o ++ p ∷ []) after) where
+  module _ (functions : Item → Name → Bool) (alternates : IsAlternating functions h) (after : List (ℕ × Reply)) (is : IsOrder h (o ++ p ∷ [])) (placed : IsPlacedBy h (o ++ p ∷ []) after) where
     -- what the order places is what it places without its last operation, and that one
     pub unplace_added : IsAdded process p.reply (filter (begins_other process) after) after
     unplace_added = record {
@@ -141,7 +142,7 @@ module _ {S : Type 0} (start : S) (step : S → Call → S → Reply → Type 0)
   }
 
   -- taking away the last operation, an open one
-  pub unplace : (functions : ℤ → Name → Bool) (h : List Event) → IsAlternating functions h → (o : List Placed) (p : Placed) (c : S × List (ℕ × Reply)) → EndsIn start step h (o ++ p ∷ []) c
+  pub unplace : (functions : Item → Name → Bool) (h : List Event) → IsAlternating functions h → (o : List Placed) (p : Placed) (c : S × List (ℕ × Reply)) → EndsIn start step h (o ++ p ∷ []) c
       → ((end : ℕ) (r : Reply) → IsOk h p.at end r → ⊥) → (b : S × List (ℕ × Reply)) × EndsIn start step h o b × IsPlacing step h b p c
   unplace functions h alternates o p c is no_ok =
       let halves = runs_split step h start c.0 o (p ∷ []) is.runs in

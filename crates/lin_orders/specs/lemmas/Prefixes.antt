@@ -1,11 +1,12 @@
 -- Prefixes of linearizable histories.
-use Rattle.std.proofs.Common.{◌≡◌, ◌<◌, ◌≤◌, ℕ, zero, suc, ℤ, true, false, cond, IsTrue, List, [], ◌∷◌, ◌++◌, length, All, AllPairs, Contains, get_or, take, drop, Some, slice_get, refl, sym, ap, subst, ◌∙◌, arith, inl, inr}
-use Rattle.std.specs.Ordering.{int_eq}
+use Rattle.std.proofs.Common.{◌≡◌, ◌<◌, ◌≤◌, ℕ, zero, suc, true, false, cond, IsTrue, List, [], ◌∷◌, ◌++◌, length, All, AllPairs, Contains, get_or, take, drop, Some, slice_get, refl, sym, ap, subst, ◌∙◌, arith, inl, inr}
 use Rattle.std.specs.Option.{option_map_or}
 use Rattle.std.proofs.lemmas.Bool.{cases_lt}
 use Rattle.std.proofs.lemmas.Option.{slice_get_past}
 use Rattle.std.proofs.lemmas.List.{length-take, get_or-take, length-take-le, take-append-drop}
 use Rattle.std.proofs.lemmas.List.Elements.{All-filter, All-take, All-weaker, All-contains, All-contains_itself, filter-append}
+use Rattle.lin_events.specs.declared.items.Item.{Item}
+use Rattle.lin_events.specs.Items.{item_eq}
 use Rattle.lin_events.specs.declared.events.Event.{Event}
 use Rattle.lin_events.specs.declared.calls.Call.{Call}
 use Rattle.lin_events.specs.declared.calls.Reply.{Reply}
@@ -78,13 +79,13 @@ module _ (h : List Event) (n : ℕ) where
   call_within : (at : ℕ) (call : Call) → at < n → IsCall h at call → IsCall (take n h) at call
   call_within at call below is = (is.0, is.1, get_of_take n h at below ∙ is.2)
 
-  key_within : (key : ℤ) (at : ℕ) → at < n → is_of_key (take n h) key at ≡ is_of_key h key at
-  key_within key at below = ap (λ o. option_map_or (λ event. int_eq event.key key) o false) (get_of_take n h at below)
+  key_within : (key : Item) (at : ℕ) → at < n → is_of_key (take n h) key at ≡ is_of_key h key at
+  key_within key at below = ap (λ o. option_map_or (λ event. item_eq event.key key) o false) (get_of_take n h at below)
 
-  key_whole : (key : ℤ) (at : ℕ) → is_of_key (take n h) key at ≡ true → is_of_key h key at ≡ true
+  key_whole : (key : Item) (at : ℕ) → is_of_key (take n h) key at ≡ true → is_of_key h key at ≡ true
   key_whole key at of_it = elim (cases_lt at n) [
     | inl below ↦ sym (key_within key at below) ∙ of_it
-    | inr past ↦ absurd (differ (sym (ap (λ o. option_map_or (λ (event : Event). int_eq event.key key) o false) (slice_get_past (take n h) at (length_at_most past))) ∙ of_it))
+    | inr past ↦ absurd (differ (sym (ap (λ o. option_map_or (λ (event : Event). item_eq event.key key) o false) (slice_get_past (take n h) at (length_at_most past))) ∙ of_it))
   ]
     where
       differ : false ≡ true → ⊥
@@ -100,7 +101,7 @@ module _ (h : List Event) (n : ℕ) where
       (run.0, run.1, call_within p.at run.0 (small 0 p (omega arith)) run.2, run.3, run_within step run.1 t o (λ k d l. small (suc k) d (omega arith)) run.4)
 
   -- the part of a key is the same in the prefix
-  part_within : (key : ℤ) (o : List Placed) → All (λ p. p.at < n) o → part_of (take n h) key o ≡ part_of h key o
+  part_within : (key : Item) (o : List Placed) → All (λ p. p.at < n) o → part_of (take n h) key o ≡ part_of h key o
   part_within key [] small = refl
   part_within key (p ∷ o) small =
       let rest = part_within key o (λ k d l. small (suc k) d (omega arith)) in

@@ -1,11 +1,12 @@
 -- Objects that run through orders.
-use Rattle.std.proofs.Common.{◌≡◌, ◌<◌, ℕ, suc, ◌+◌, ℤ, List, [], ◌∷◌, ◌++◌, length, Bool, true, false, cond, Option, None, refl, sym, ap, subst, ◌∙◌, take, drop, get_or, unwrap_or}
-use Rattle.std.specs.Ordering.{int_eq}
+use Rattle.std.proofs.Common.{◌≡◌, ◌<◌, ℕ, suc, ◌+◌, List, [], ◌∷◌, ◌++◌, length, Bool, true, false, cond, Option, None, refl, sym, ap, subst, ◌∙◌, take, drop, get_or, unwrap_or}
 use Rattle.std.specs.Option.{option_map_or}
 use Rattle.std.proofs.Math.Seq.{drop-cons}
-use Rattle.std.proofs.lemmas.Bool.Decides.{Decides-int_eq}
 use Rattle.std.proofs.lemmas.List.{append-nil, take-append-drop}
 use Rattle.std.proofs.lemmas.List.Elements.{filter-append}
+use Rattle.lin_events.specs.declared.items.Item.{Item}
+use Rattle.lin_events.specs.Sameness.{Decides-item_eq}
+use Rattle.lin_events.specs.Items.{item_eq}
 use Rattle.lin_events.specs.declared.events.Event.{Event}
 use Rattle.lin_events.specs.declared.calls.Call.{Call}
 use Rattle.lin_events.specs.declared.calls.Reply.{Reply}
@@ -48,23 +49,23 @@ module _ {S : Type 0} (step : S → Call → S → Reply → Type 0) (h : List E
       let next = decides s b.0 a.1 b.1 p.reply (subst (λ x. step s x a.1 p.reply) call a.3) b.3 in
       runs_one decides b.1 t u order (subst (λ x. Runs step h x order t) next a.4) b.4
 
-module _ (kinds : ℤ → Kind) (h : List Event) where
+module _ (kinds : Item → Kind) (h : List Event) where
   -- each object has run through its part of the order to the state that it is in
-  pub record HasRun (order : List Placed) (listed : ℤ → Option State) : Type 0 where
-    pub each : (key : ℤ) → Runs (Step (kinds key)) h (start (kinds key)) (part_of h key order) (state_of kinds listed key)
+  pub record HasRun (order : List Placed) (listed : Item → Option State) : Type 0 where
+    pub each : (key : Item) → Runs (Step (kinds key)) h (start (kinds key)) (part_of h key order) (state_of kinds listed key)
 
   -- the part of the key has a further operation if it is on the key
-  part_push : (key : ℤ) (order : List Placed) (p : Placed) (b : Bool) → is_of_key h key p.at ≡ b → part_of h key (order ++ p ∷ []) ≡ part_of h key order ++ cond b (p ∷ []) []
+  part_push : (key : Item) (order : List Placed) (p : Placed) (b : Bool) → is_of_key h key p.at ≡ b → part_of h key (order ++ p ∷ []) ≡ part_of h key order ++ cond b (p ∷ []) []
   part_push key order p b is = filter-append (λ q. is_of_key h key q.at) order (p ∷ []) ∙ ap (λ c. part_of h key order ++ cond c (p ∷ []) []) is
 
-  is_on : (at : ℕ) (key : ℤ) (call : Call) → IsCallOn h at key call → (other : ℤ) → is_of_key h other at ≡ int_eq key other
-  is_on at key call on other = ap (λ (o : Option Event). option_map_or (λ event. int_eq event.key other) o false) on.1
+  is_on : (at : ℕ) (key : Item) (call : Call) → IsCallOn h at key call → (other : Item) → is_of_key h other at ≡ item_eq key other
+  is_on at key call on other = ap (λ (o : Option Event). option_map_or (λ event. item_eq event.key other) o false) on.1
 
-  module _ (order : List Placed) (i : ℕ) (p : Placed) (inside : i < length order) (is : p ≡ get_or order i p) (key : ℤ) (call : Call) (on : IsCallOn h p.at key call) (listed : ℤ → Option State) (so_far : HasRun (take i order) listed) where
-    pub run_more : (now : ℤ → Option State) → Moves kinds listed now key call p.reply → HasRun (take (i + 1) order) now
-    run_more now moves = record { each = λ other. by other (int_eq key other) refl (Decides-int_eq key other).0 }
+  module _ (order : List Placed) (i : ℕ) (p : Placed) (inside : i < length order) (is : p ≡ get_or order i p) (key : Item) (call : Call) (on : IsCallOn h p.at key call) (listed : Item → Option State) (so_far : HasRun (take i order) listed) where
+    pub run_more : (now : Item → Option State) → Moves kinds listed now key call p.reply → HasRun (take (i + 1) order) now
+    run_more now moves = record { each = λ other. by other (item_eq key other) refl (Decides-item_eq key other).0 }
       where
-        by : (other : ℤ) (b : Bool) → int_eq key other ≡ b → (int_eq key other ≡ true → key ≡ other) → Runs (Step (kinds other)) h (start (kinds other)) (part_of h other (take (i + 1) order)) (state_of kinds now other)
+        by : (other : Item) (b : Bool) → item_eq key other ≡ b → (item_eq key other ≡ true → key ≡ other) → Runs (Step (kinds other)) h (start (kinds other)) (part_of h other (take (i + 1) order)) (state_of kinds now other)
         by other true on_it same =
             let part = part_push other (take i order) p true (is_on p.at key call on other ∙ on_it) in
             let key_is : key ≡ other = same on_it in
@@ -93,8 +94,8 @@ module _ (kinds : ℤ → Kind) (h : List Event) where
         stuck next.1 (subst (λ c. Step (kinds key) (state_of kinds listed key) c next.1 p.reply) same (subst (λ s. Step (kinds key) s next.0 next.1 p.reply) state next.3))
       where
         here : part_of h key (p ∷ drop (suc i) order) ≡ p ∷ part_of h key (drop (suc i) order)
-        here = ap (λ b. cond b (p ∷ part_of h key (drop (suc i) order)) (part_of h key (drop (suc i) order))) (is_on p.at key call on key ∙ (Decides-int_eq key key).1 refl)
+        here = ap (λ b. cond b (p ∷ part_of h key (drop (suc i) order)) (part_of h key (drop (suc i) order))) (is_on p.at key call on key ∙ (Decides-item_eq key key).1 refl)
 
 -- at first each object is at its start
-pub none_ran : (kinds : ℤ → Kind) (h : List Event) (listed : ℤ → Option State) → ((key : ℤ) → listed key ≡ None) → HasRun kinds h [] listed
+pub none_ran : (kinds : Item → Kind) (h : List Event) (listed : Item → Option State) → ((key : Item) → listed key ≡ None) → HasRun kinds h [] listed
 none_ran kinds h listed none = record { each = λ key. sym (ap (λ o. unwrap_or o (start (kinds key))) (none key)) }

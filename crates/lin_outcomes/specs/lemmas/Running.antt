@@ -1,7 +1,8 @@
 -- A process that goes on has not crashed.
-use Rattle.std.proofs.Common.{◌≡◌, ◌<◌, ℕ, ℤ, Bool, List, [], ◌∷◌, ◌++◌, length, inl, inr, sym, ap, subst, ◌∙◌, arith}
+use Rattle.std.proofs.Common.{◌≡◌, ◌<◌, ℕ, Bool, List, [], ◌∷◌, ◌++◌, length, inl, inr, sym, ap, subst, ◌∙◌, arith}
 use Rattle.std.proofs.lemmas.Bool.{cases_order}
 use Rattle.std.proofs.lemmas.Option.{slice_get_within}
+use Rattle.lin_events.specs.declared.items.Item.{Item}
 use Rattle.lin_lists.specs.lemmas.Lists.{get_last, get_left}
 use Rattle.lin_events.specs.declared.calls.Name.{Name}
 use Rattle.lin_events.specs.declared.events.Body.TheVariants.{Info}
@@ -27,7 +28,7 @@ return_place h at end other ending e returned = elim returned [
 ]
 
 -- where the next event is a completion, no operation of its process crashed before
-pub running_before : (functions : ℤ → Name → Bool) (h : List Event) (event : Event) (name : Name) → IsWellFormed functions (h ++ event ∷ []) → Completes event.body name → HasNotCrashed h event.process
+pub running_before : (functions : Item → Name → Bool) (h : List Event) (event : Event) (name : Name) → IsWellFormed functions (h ++ event ∷ []) → Completes event.body name → HasNotCrashed h event.process
 running_before functions h event name well is at key call begins crashed =
     let g = h ++ event ∷ [] in
     let alternating = alternates functions g well in

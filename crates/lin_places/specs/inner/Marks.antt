@@ -7,7 +7,7 @@ use Rattle.lin_history.specs.Sees.{most}
 use Rattle.lin_history.specs.Stream.{Told, Gives, IsStream}
 use Rattle.lin_history.specs.Table.{event}
 use Rattle.lin_events.specs.declared.events.Event.{Event}
-use Rattle.lin_events.specs.declared.numbers.OutOfMemory.{OutOfMemory}
+use Rattle.lin_events.specs.declared.lists.OutOfMemory.{OutOfMemory}
 use Rattle.lin_history.specs.declared.table.EventFault.{EventFault}
 use Rattle.lin_history.specs.declared.follow.FollowFault.{FollowFault}
 use Rattle.lin_places.specs.Places.{place_at, AreTags, is_row, Begins, ArePlaces, StopsAt, is_bad}

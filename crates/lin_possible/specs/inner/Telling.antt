@@ -1,5 +1,6 @@
 -- What members of a frontier show where the object is overwritten, as it is gathered: cited by the contracts of private functions alone.
-use Rattle.std.specs.Prelude.{◌≡◌, ℕ, ℤ, Bool, true, false, List, ◌++◌, Contains, Option, map}
+use Rattle.std.specs.Prelude.{◌≡◌, ℕ, Bool, true, false, List, ◌++◌, Contains, Option, map}
+use Rattle.lin_events.specs.declared.items.Item.{Item}
 use Rattle.lin_events.specs.declared.calls.Call.{Call}
 use Rattle.lin_events.specs.declared.calls.Name.{Name}
 use Rattle.lin_events.specs.declared.calls.Reply.{Reply}
@@ -22,7 +23,7 @@ Has members c = Contains (map config_of members) c
 pub record AreAdded {S : Type 0} (start : S) (step : S → Call → S → Reply → Type 0) (observes : Call → Bool) (pending : List Open) (m : Member S × Path) (first nodes : List (ℕ × (Placed × Option ℕ))) (old now : List (Member S × Path)) : Type 0 where
   pub added : List (Member S × Path)
   pub grown : now ≡ old ++ added
-  pub spelled : (functions : ℤ → Name → Bool) (h : List Event) → IsWellFormed functions h → IsPending h pending → IsSpelled start step observes h first m
+  pub spelled : (functions : Item → Name → Bool) (h : List Event) → IsWellFormed functions h → IsPending h pending → IsSpelled start step observes h first m
       → (n : Member S × Path) → Contains added n → IsSpelled start step observes h nodes n
 
 -- what taking the offer makes of the member is there

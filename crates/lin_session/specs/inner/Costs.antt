@@ -1,5 +1,6 @@
 -- What it costs to judge objects whose events are told apart.
-use Rattle.std.specs.Prelude.{◌≡◌, ◌+◌, ◌-◌, ◌≤◌, ◌⊎◌, ℕ, ℤ, List, [], ◌∷◌, All, Option, None, Some, length, slice_get}
+use Rattle.std.specs.Prelude.{◌≡◌, ◌+◌, ◌-◌, ◌≤◌, ◌⊎◌, ℕ, List, [], ◌∷◌, All, Option, None, Some, length, slice_get}
+use Rattle.lin_events.specs.declared.items.Item.{Item}
 use Rattle.lin_chain.specs.Chains.{IsAnswered, end_in, end_under, ready_count, ready_under}
 use Rattle.lin_session.specs.declared.answers.Scope.{Scope}
 use Rattle.lin_session.specs.declared.answers.Scope.TheVariants as scope
@@ -45,4 +46,4 @@ pub record IsJudged (budget : ℕ) (object : Object) : Type 0 where
 
 -- those of the scope were
 abbrev pub AreJudged : ℕ → Objects → Scope → Type 0
-AreJudged budget objects scope = (i : ℕ) (key : ℤ) (object : Object) → IsOf scope key → slice_get objects.keys.keys i ≡ Some key → slice_get objects.objects.items i ≡ Some object → IsJudged budget object
+AreJudged budget objects scope = (i : ℕ) (key : Item) (object : Object) → IsOf scope key → slice_get objects.keys.keys i ≡ Some key → slice_get objects.objects.items i ≡ Some object → IsJudged budget object

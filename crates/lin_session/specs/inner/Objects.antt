@@ -1,5 +1,6 @@
 -- What is found of objects that are kept, and what is left of their marks.
-use Rattle.std.specs.Prelude.{Option, None, ◌+◌, slice_index, ◌≡◌, ◌<◌, ℕ, ℤ, List, Some, length, nat_lt, if◌then◌else◌}
+use Rattle.std.specs.Prelude.{Option, None, ◌+◌, slice_index, ◌≡◌, ◌<◌, ℕ, List, Some, length, nat_lt, if◌then◌else◌}
+use Rattle.lin_events.specs.declared.items.Item.{Item}
 use Rattle.lin_orders.specs.Parts.{renamed}
 use Rattle.lin_chain.specs.Chains.{end_in, ready_count}
 use Rattle.lin_chain.specs.declared.chain.End.{End}
@@ -12,7 +13,7 @@ use Rattle.lin_session.specs.Work.{answered_at, mark_of, raised}
 use Rattle.lin_session.specs.Objects.{marked_keys}
 
 -- the mark of the key's object
-abbrev pub marks_in : Objects → ℤ → Mark
+abbrev pub marks_in : Objects → Item → Mark
 marks_in objects key = mark_of (marked_keys objects) key
 
 -- the object under a larger budget

@@ -1,6 +1,5 @@
 use Rattle.std.proofs.Common.{subst}
 use Rattle.std.proofs.lemmas.Bool.Decides.{Decides-eqb}
-use Rattle.lin_failures.specs.lemmas.SetConflicting.{as_held}
 use Rattle.lin_certificates.specs.Words.{Exactly}
 use Rattle.lin_certificates.specs.Certificates.{CanAdd}
 use Rattle.lin_certificates.proofs.Deciding.{both}
@@ -9,11 +8,8 @@ use Rattle.lin_certificates.proofs.queues.is_once.Goals as goal
 
 pub returns : goal.returns
 returns c =
-    let n = c.args.number in
-    let number = as_held n c.ranges.number in
-    let puts = rw number at c.count_of-puts.ensures in
-    let took = rw number at c.is_any-took.ensures in
+    let n = c.args.item in
     let P = CanAdd c.args.events.now n in
     let count = c.count_of-puts.result in
     let same = Decides-eqb count 1 in
-    both _ _ ((λ yes'. subst (λ k. Exactly k P) (same.0 yes') puts), λ is. same.1 (exactly_one P count 1 puts is)) took
+    both _ _ ((λ yes'. subst (λ k. Exactly k P) (same.0 yes') c.count_of-puts.ensures), λ is. same.1 (exactly_one P count 1 c.count_of-puts.ensures is)) c.is_any-took.ensures

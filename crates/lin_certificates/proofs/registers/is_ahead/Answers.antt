@@ -14,14 +14,14 @@ returns-in-Nil-None c =
     subst (λ back. IsTrue r ↔ IsAhead h c.args.value c.args.other back) (sym c.in-Nil-None.is-1)
     (subst (λ v. IsTrue r ↔ IsAhead h v c.args.other None) (sym c.in-Nil-None.is-0) nil)
 
-pub returns-in-Int-Some : goal.returns-in-Int-Some
-returns-in-Int-Some c =
+pub returns-in-Item-Some : goal.returns-in-Item-Some
+returns-in-Item-Some c =
     let h = c.args.events.now in
     let r = c.is_left_ahead.result in
-    let pair = c.in-Int-Some.pair in
-    let found = subst (λ v. IsTrue r ↔ IsLeftAhead h v c.args.other pair.0 pair.1) c.in-Int-Some.is-0 c.is_left_ahead.ensures in
-    subst (λ back. IsTrue r ↔ IsAhead h c.args.value c.args.other back) (sym c.in-Int-Some.is-1)
-    (subst (λ v. IsTrue r ↔ IsAhead h v c.args.other (Some pair)) (sym c.in-Int-Some.is-0) found)
+    let pair = c.in-Item-Some.pair in
+    let found = subst (λ v. IsTrue r ↔ IsLeftAhead h v c.args.other pair.0 pair.1) c.in-Item-Some.is-0 c.is_left_ahead.ensures in
+    subst (λ back. IsTrue r ↔ IsAhead h c.args.value c.args.other back) (sym c.in-Item-Some.is-1)
+    (subst (λ v. IsTrue r ↔ IsAhead h v c.args.other (Some pair)) (sym c.in-Item-Some.is-0) found)
 
 pub returns-in_default : goal.returns-in_default
 returns-in_default c = no_since (λ is.

@@ -1,5 +1,5 @@
 use Rattle.std.proofs.Common.{◌≡◌, ◌+◌, ◌∙◌, take, subst, sym, true≢false}
-use Rattle.std.proofs.lemmas.Bool.Decides.{Decides-int_eq}
+use Rattle.lin_events.specs.Sameness.{Decides-item_eq}
 use Rattle.lin_orders.specs.Parts.{ArePositionsOf, part}
 use Rattle.lin_explain.specs.inner.Own.{IsOwn}
 use Rattle.lin_explain.proofs.Parting.{with_one, without_one}
@@ -15,12 +15,12 @@ loop-at-preserved c =
     let so_far : (own.events.items ≡ part key (take at h)) × ArePositionsOf key (take at h) own.picks.items = (c.loop-at.invariant.events_of, c.loop-at.invariant.positions) in
     elim c.if-is_beside.branch [
       | then-is_beside+in_ok-take_in w ↦
-          let next = with_one c.parts_grow.ensures.more key h at c.in-Some.event.now c.in-Some.ensures.found own.events.items own.picks.items so_far ((Decides-int_eq c.in-Some.event.now.key key).0 (sym w.if-is_beside.ensures)) in
+          let next = with_one c.parts_grow.ensures.more key h at c.in-Some.event.now c.in-Some.ensures.found own.events.items own.picks.items so_far ((Decides-item_eq c.in-Some.event.now.key key).0 (sym w.if-is_beside.ensures)) in
           subst (IsOwn key (take (at + 1) h)) (sym w.own-is) (record {
             events_of = w.in_ok-take_in.ensures.0 ∙ next.0;
             positions = subst (ArePositionsOf key (take (at + 1) h)) (sym w.in_ok-take_in.ensures.1) next.1;
           })
       | else-is_beside w ↦
-          let next = without_one c.parts_grow.ensures.more key h at c.in-Some.event.now c.in-Some.ensures.found own.events.items own.picks.items so_far (λ same. true≢false (sym ((Decides-int_eq c.in-Some.event.now.key key).1 same) ∙ sym w.if-is_beside.ensures)) in
+          let next = without_one c.parts_grow.ensures.more key h at c.in-Some.event.now c.in-Some.ensures.found own.events.items own.picks.items so_far (λ same. true≢false (sym ((Decides-item_eq c.in-Some.event.now.key key).1 same) ∙ sym w.if-is_beside.ensures)) in
           subst (IsOwn key (take (at + 1) h)) (sym w.own-is) (record { events_of = next.0; positions = next.1 })
     ]

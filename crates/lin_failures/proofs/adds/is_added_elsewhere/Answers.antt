@@ -3,8 +3,6 @@ use Rattle.std.proofs.lemmas.Bool.{cases_lt}
 use Rattle.std.proofs.lemmas.Option.{slice_get_within}
 use Rattle.lin_events.specs.Operations.{IsFailed}
 use Rattle.lin_orders.specs.Orders.{IsCall}
-use Rattle.lin_failures.specs.Adding.{Adds}
-use Rattle.lin_failures.specs.lemmas.SetConflicting.{as_held}
 use Rattle.lin_failures.proofs.adds.is_added_elsewhere.Goals as goal
 
 pub loop-at-preserved : goal.loop-at-preserved
@@ -18,5 +16,4 @@ loop-at-preserved c k call within is adds = elim (cases_lt k c.loop-at.at) [
 
 pub returns : goal.returns
 returns c none at call is adds =
-    c.loop-at.invariant at call (omega (arith, c.loop-at-test.false, slice_get_within c.args.events.now at _ is.2)) is
-    (subst (Adds call) (sym (as_held c.args.number c.ranges.number)) adds)
+    c.loop-at.invariant at call (omega (arith, c.loop-at-test.false, slice_get_within c.args.events.now at _ is.2)) is adds

@@ -6,7 +6,7 @@ use Rattle.lin_failures.proofs.bag_conflict.puts_before.Goals as goal
 
 pub loop-at-preserved : goal.loop-at-preserved
 loop-at-preserved c =
-    let Is = λ (at : ℕ). OfOne c.args.numbers.now (λ n. PutBefore c.args.events.now n c.args.place at) in
+    let Is = λ (at : ℕ). OfOne c.args.items.now (λ n. PutBefore c.args.events.now n c.args.place at) in
     let below = c.loop-at.invariant.0 in
     elim c.if-is_one_put_before.branch [
       | then-is_one_put_before w ↦
@@ -18,4 +18,4 @@ loop-at-preserved c =
     ]
 
 pub returns : goal.returns
-returns c = least_of (λ at. OfOne c.args.numbers.now (λ n. PutBefore c.args.events.now n c.args.place at)) c.loop-at.puts c.loop-at.at c.loop-at.invariant.1
+returns c = least_of (λ at. OfOne c.args.items.now (λ n. PutBefore c.args.events.now n c.args.place at)) c.loop-at.puts c.loop-at.at c.loop-at.invariant.1

@@ -1,14 +1,13 @@
-use Rattle.std.proofs.Common.{◌<◌, ◌≤◌, ◌+◌, arith, sym, subst, to_z, of_z, w64}
+use Rattle.std.proofs.Common.{◌<◌, ◌≤◌, ◌+◌, arith, sym, subst}
 use Rattle.std.proofs.lemmas.Option.{slice_get_within}
 use Rattle.lin_failures.specs.BagConflicts.{AtMost, MayPut}
 use Rattle.lin_failures.specs.lemmas.Counting.{most_more, most_of, most_same}
-use Rattle.lin_failures.specs.lemmas.SetConflicting.{as_held}
 use Rattle.lin_failures.proofs.bag_conflict.puts_of.Goals.{then-is_add_at, else-is_add_at}
 use Rattle.lin_failures.proofs.bag_conflict.puts_of.Goals as goal
 
 pub loop-at-preserved : goal.loop-at-preserved
 loop-at-preserved c =
-    let Is = MayPut c.args.events.now (to_z w64 (of_z w64 c.args.number)) in
+    let Is = MayPut c.args.events.now c.args.item in
     let below = c.loop-at.invariant.0 in
     elim c.if-is_add_at.branch [
       | then-is_add_at w ↦
@@ -21,7 +20,6 @@ loop-at-preserved c =
 
 pub returns : goal.returns
 returns c =
-    let Is = MayPut c.args.events.now (to_z w64 (of_z w64 c.args.number)) in
+    let Is = MayPut c.args.events.now c.args.item in
     let ended = c.loop-at-test.false in
-    subst (λ n. AtMost c.loop-at.puts (MayPut c.args.events.now n)) (as_held c.args.number c.ranges.number)
-    (most_of Is c.loop-at.puts c.loop-at.at c.loop-at.invariant.1 (λ at is. let within = slice_get_within c.args.events.now at _ is.1.2 in omega (arith, ended, within)))
+    most_of Is c.loop-at.puts c.loop-at.at c.loop-at.invariant.1 (λ at is. let within = slice_get_within c.args.events.now at _ is.1.2 in omega (arith, ended, within))

@@ -7,7 +7,7 @@ use Rattle.lin_failures.proofs.bag_conflict.takes_by.Goals as goal
 
 pub loop-at-preserved : goal.loop-at-preserved
 loop-at-preserved c =
-    let Is = λ (at : ℕ). OfOne c.args.numbers.now (λ n. MayTakeBy c.args.events.now n c.args.place at) in
+    let Is = λ (at : ℕ). OfOne c.args.items.now (λ n. MayTakeBy c.args.events.now n c.args.place at) in
     let below = c.loop-at.invariant.0 in
     elim c.if-may_take_one_by.branch [
       | then-may_take_one_by w ↦
@@ -21,5 +21,5 @@ loop-at-preserved c =
 pub returns : goal.returns
 returns c =
     let ended = c.loop-at-test.false in
-    most_of (λ at. OfOne c.args.numbers.now (λ n. MayTakeBy c.args.events.now n c.args.place at)) c.loop-at.takes c.loop-at.at c.loop-at.invariant.1
+    most_of (λ at. OfOne c.args.items.now (λ n. MayTakeBy c.args.events.now n c.args.place at)) c.loop-at.takes c.loop-at.at c.loop-at.invariant.1
     (λ at is. let within = slice_get_within c.args.events.now at _ is.2.1.2 in omega (arith, ended, within))

@@ -8,7 +8,7 @@ returns c =
     let b = c.args.block.now in
     let block : IsBlock h b.value b.update b.early c.in-Some.end b.late =
     record {
-      some = no_nil b.value c.in-Int.field-0 c.in-Int.is;
+      some = no_nil b.value c.in-Item.field-0 c.in-Item.is;
       only = only_left h b.update b.value (c.is_left_by.ensures c.if-not-is_left_by.false);
       early_one = c.in-Some.ensures;
       late_one = c.has_late.ensures c.if-not-has_late.false;

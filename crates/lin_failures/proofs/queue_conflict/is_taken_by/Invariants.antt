@@ -5,4 +5,4 @@ use Rattle.lin_failures.specs.QueueConflicts.{IsLeftAt}
 use Rattle.lin_failures.proofs.queue_conflict.is_taken_by.Given as goal
 
 abbrev pub invariant-loop-at : goal.invariant-loop-at
-invariant-loop-at l = (k : ℕ) → k < l.at → IsCall l.events k Dequeue → IsLeftAt l.events l.number k
+invariant-loop-at l = (k : ℕ) → k < l.at → IsCall l.events k Dequeue → IsLeftAt l.events l.item k

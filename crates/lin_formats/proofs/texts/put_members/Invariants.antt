@@ -1,7 +1,7 @@
 use Rattle.std.proofs.Common.{◌≡◌, ◌++◌, codes, take}
-use Rattle.std.specs.Fmt.{signed_decimal}
 use Rattle.std.specs.List.{flat_map}
+use Rattle.lin_formats.specs.Items.{item_text}
 use Rattle.lin_formats.proofs.texts.put_members.Given as goal
 
 abbrev pub invariant-loop-member : goal.invariant-loop-member
-invariant-loop-member l = l.line.items ≡ l.initial.line.items ++ flat_map (λ x. codes "," ++ signed_decimal x) (take l.member-index l.others)
+invariant-loop-member l = l.line.items ≡ l.initial.line.items ++ flat_map (λ x. codes "," ++ item_text x) (take l.member-index l.others)

@@ -19,14 +19,14 @@ two (a ∷ []) h d e = absurd (omega arith)
 two (a ∷ b ∷ []) h d e = refl
 two (a ∷ b ∷ f ∷ es) h d e = absurd (omega arith)
 
-pub returns-then-items-ne2 : goal.returns-then-items-ne2
-returns-then-items-ne2 c = sym (other c.args.items.now c.if-items-ne2.true)
+pub returns-then-elements-ne2 : goal.returns-then-elements-ne2
+returns-then-elements-ne2 c = sym (other c.args.elements.now c.if-elements-ne2.true)
 
 pub returns : goal.returns
 returns c =
-    let here = two c.args.items.now c.if-items-ne2.false c.index-items-0.result c.index-items-1.result in
-    let first : view c.bare.result.now ≡ bare (view (get_or c.args.items.now 0 c.index-items-0.result)) =
-    c.bare.ensures ∙ ap (λ e. bare (view e)) c.index-items-0.is in
-    let second : view c.bare-2.result.now ≡ bare (view (get_or c.args.items.now 1 c.index-items-1.result)) =
-    c.bare-2.ensures ∙ ap (λ e. bare (view e)) c.index-items-1.is in
+    let here = two c.args.elements.now c.if-elements-ne2.false c.index-elements-0.result c.index-elements-1.result in
+    let first : view c.bare.result.now ≡ bare (view (get_or c.args.elements.now 0 c.index-elements-0.result)) =
+    c.bare.ensures ∙ ap (λ e. bare (view e)) c.index-elements-0.is in
+    let second : view c.bare-2.result.now ≡ bare (view (get_or c.args.elements.now 1 c.index-elements-1.result)) =
+    c.bare-2.ensures ∙ ap (λ e. bare (view e)) c.index-elements-1.is in
     cc

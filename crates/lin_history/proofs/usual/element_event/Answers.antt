@@ -1,8 +1,6 @@
-use Rattle.std.proofs.Common.{ℕ, ◌≤◌, List, IfSome, rules, SFits, w64, sym, subst}
-use Rattle.std.proofs.lemmas.Int.{to_z-of_z}
+use Rattle.std.proofs.Common.{ℕ, ◌≤◌, List, IfSome, sym, subst}
 use Rattle.lin_edn.specs.Value.{Value}
-use Rattle.lin_edn.specs.View.{view}
-use Rattle.lin_history.specs.inner.Usual.{IsPlaced, AreParts, TellsWith}
+use Rattle.lin_history.specs.inner.Usual.{IsPlaced, TellsWith}
 use Rattle.lin_history.proofs.usual.element_event.Goals as goal
 
 pub returns-then-not-is_value_told : goal.returns-then-not-is_value_told
@@ -12,7 +10,4 @@ returns-then-not-is_value_told c =
 
 pub returns : goal.returns
 returns c = λ levels vs low there.
-    let fits : SFits w64 c.in_ok-key.key = search rules in
-    let parts = c.in_ok-key.ensures levels vs low (subst (IsPlaced c.args.text.now levels vs) c.in_ok-place.was there) in
-    c.in_ok-told.ensures c.args.keyed vs
-    (subst (λ z. AreParts c.args.keyed vs z (view c.in_ok-key.value)) (sym (to_z-of_z w64 c.in_ok-key.key fits)) parts)
+    c.in_ok-told.ensures c.args.keyed vs (c.in_ok-key.ensures levels vs low (subst (IsPlaced c.args.text.now levels vs) c.in_ok-place.was there))

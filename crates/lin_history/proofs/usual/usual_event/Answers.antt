@@ -1,9 +1,7 @@
-use Rattle.std.proofs.Common.{codes, sym, subst, rules, SFits, w64}
-use Rattle.std.proofs.lemmas.Int.{to_z-of_z}
+use Rattle.std.proofs.Common.{codes, sym, subst}
 use Rattle.lin_edn.specs.Run.{run_value}
 use Rattle.lin_history.specs.Table.{under}
-use Rattle.lin_history.specs.inner.Fields.{value_of}
-use Rattle.lin_history.specs.inner.Usual.{AreParts, IsPlaced, IsProcess}
+use Rattle.lin_history.specs.inner.Usual.{IsPlaced, IsProcess}
 use Rattle.lin_history.proofs.Usuals.{usual_told, usual_named}
 use Rattle.lin_history.proofs.usual.usual_event.Goals as goal
 
@@ -20,15 +18,13 @@ returns-in-Some c = λ levels es low are.
     let process = run_value c.in_ok-place.place.at c.in_ok-word_of.field-0.now in
     let type = run_value c.in_ok-places.field-0.at c.in_ok-word_of-2.field-0.now in
     let function = run_value c.in_ok-places-2.field-0.at c.in_ok-word_of-3.field-0.now in
-    let fits : SFits w64 c.in-Some.key = search rules in
     usual_told c.args.keyed es process type function c.in-Number.number c.in_ok-event_type.event_type c.in_ok-name.name c.in_ok-told.told
     (c.in_ok-word_of.ensures levels _ (subst (IsPlaced s levels _) c.in_ok-place.was are.process))
     (c.in_ok-word_of-2.ensures levels _ (subst (IsPlaced s levels _) c.in_ok-places.was are.types))
     (c.in_ok-word_of-3.ensures levels _ (subst (IsPlaced s levels _) c.in_ok-places-2.was are.function))
     (subst (IsProcess process) c.in-Number.is c.in_ok-number.ensures) (sym (c.in_ok-event_type.ensures.run c.in_ok-places.field-0.at))
     (sym (c.in_ok-name.ensures.run c.in_ok-places-2.field-0.at)) (c.in_ok-told.ensures c.args.keyed (under (codes ":value") es)
-    (subst (λ z. AreParts c.args.keyed (under (codes ":value") es) z (value_of c.in-Some.value)) (sym (to_z-of_z w64 c.in-Some.key fits))
-    (c.in-Some.ensures levels (under (codes ":value") es) low are.values)))
+    (c.in-Some.ensures levels (under (codes ":value") es) low are.values))
 
 pub returns : goal.returns
 returns c = λ levels es low are.

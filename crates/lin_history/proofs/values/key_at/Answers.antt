@@ -1,9 +1,6 @@
-use Rattle.std.proofs.Common.{◌+◌, [], ◌∷◌, drop, subst, sym, rules, SFits, w64, arith}
-use Rattle.std.proofs.lemmas.Int.{to_z-of_z}
-use Rattle.std.specs.List.{slice_range}
+use Rattle.std.proofs.Common.{◌+◌, [], ◌∷◌, drop, subst, arith}
 use Rattle.lin_edn.specs.Grammar.{Row, empty, element}
-use Rattle.lin_edn.specs.Value.{int}
-use Rattle.lin_history.proofs.Maps.{vector_opens, integer_value}
+use Rattle.lin_history.proofs.Maps.{vector_opens}
 use Rattle.lin_history.proofs.values.key_at.Goals as goal
 
 pub returns-clause-opens : goal.returns-clause-opens
@@ -17,8 +14,5 @@ returns-clause-key c = λ n.
     let until = c.run_until-until.result in
     let a = c.run_until-until.ensures.within.0 in
     let b = c.if-until-at.false in
-    let word = slice_range s at until in
-    let fits : SFits w64 c.in_ok-key.key = search rules in
-    subst (λ z. Row n inner (drop inner s) (int z ∷ []) until (drop until s)) (sym (to_z-of_z w64 c.in_ok-key.key fits))
-    (subst (λ v. Row n inner (drop inner s) (v ∷ []) until (drop until s)) (integer_value at word c.in_ok-key.key (sym c.in_ok-key.ensures))
-    (element (c.white_until-at.ensures.row n inner (drop inner s) [] empty) (c.run_until-until.ensures.run (omega arith) n)))
+    subst (λ v. Row n inner (drop inner s) (v ∷ []) until (drop until s)) (c.in_ok-key.ensures at)
+    (element (c.white_until-at.ensures.row n inner (drop inner s) [] empty) (c.run_until-until.ensures.run (omega arith) n))

@@ -1,7 +1,6 @@
-use Rattle.std.proofs.Common.{◌+◌, [], ◌∷◌, drop, sym, subst, rules, SFits, w64, arith}
-use Rattle.std.proofs.lemmas.Int.{to_z-of_z}
-use Rattle.lin_edn.specs.Grammar.{Element, element}
-use Rattle.lin_edn.specs.Value.{int, vector, values_of}
+use Rattle.std.proofs.Common.{◌+◌, [], ◌∷◌, drop, arith}
+use Rattle.lin_edn.specs.Grammar.{element}
+use Rattle.lin_history.specs.inner.Fields.{item_value}
 use Rattle.lin_edn.specs.View.{view}
 use Rattle.lin_history.proofs.Maps.{two_in}
 use Rattle.lin_history.proofs.values.pair_at.Goals as goal
@@ -11,12 +10,9 @@ returns-clause-pair c =
     let s = c.args.text.now in
     let from = c.args.from in
     let inner = from + 1 in
-    let key = int c.in_ok-key.key in
+    let key = item_value c.in_ok-key.key in
     let value = view c.in_ok-value.value in
     let row = c.white_until-at.ensures.row 1 inner (drop inner s) (key ∷ []) (c.in_ok-key.ensures.key 1) in
-    let fits : SFits w64 c.in_ok-key.key = search rules in
-    subst (λ z. Element 2 from (drop from s) (vector (values_of (int z ∷ value ∷ []))) (c.white_until-last.result + 1) (drop (c.white_until-last.result + 1) s))
-    (sym (to_z-of_z w64 c.in_ok-key.key fits))
-    (two_in s from c.white_until-last.result 1 key value c.in_ok-key.ensures.opens
+    two_in s from c.white_until-last.result 1 key value c.in_ok-key.ensures.opens
     (c.white_until-last.ensures.row 1 inner (drop inner s) (key ∷ value ∷ []) (element row c.in_ok-value.ensures.value)) (let h = c.if-last-text.false in omega arith)
-    c.if-text-last-ne93.false)
+    c.if-text-last-ne93.false

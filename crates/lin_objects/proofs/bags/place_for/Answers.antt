@@ -1,25 +1,26 @@
-use Rattle.std.proofs.Common.{◌≡◌, ℕ, ℤ, ◌<◌, ◌<ℤ◌, ◌≤ℤ◌, pos, get_or, length, rules, arith, subst}
-use Rattle.std.proofs.lemmas.Int.{ints, to_z-of_z}
+use Rattle.std.proofs.Common.{◌≡◌, pos, get_or, length, true, true≢false, arith, subst, sym, ap, ◌∙◌}
+use Rattle.std.specs.Ordering.{is_ge, ordering_reverse}
 use Rattle.std.proofs.lemmas.List.{get_or_default}
-use mir.Val.{to_z, of_z}
-use mir.Syntax.{w64}
+use Rattle.lin_events.specs.declared.items.Item.{Item}
+use Rattle.lin_events.specs.declared.items.Item.TheVariants.{Int}
+use Rattle.lin_events.specs.Items.{item_cmp}
+use Rattle.lin_events.specs.Sameness.{items_total}
 use Rattle.lin_objects.specs.lemmas.Bags.{put_at}
+use Rattle.lin_objects.specs.lemmas.Order.{◌⊑◌}
 use Rattle.lin_objects.proofs.bags.place_for.Goals as goal
 
-pub returns-then-items-at-clause-put : goal.returns-then-items-at-clause-put
-returns-then-items-at-clause-put c =
+-- what is at least an item has that at most it
+from_ge : (x y : Item) → is_ge (item_cmp x y) ≡ true → y ⊑ x
+from_ge x y is over = true≢false (sym is ∙ ap is_ge (items_total.antisymm x y ∙ ap ordering_reverse over))
+
+pub returns-then-ge-clause-put : goal.returns-then-ge-clause-put
+returns-then-ge-clause-put c =
     let xs = c.args.items.now in
-    let x : ℤ = get_or xs c.loop-at.at (pos 0) in
-    let held : to_z w64 (of_z w64 x) ≡ x = to_z-of_z w64 x (search rules) in
-    let number : to_z w64 (of_z w64 c.args.number) ≡ c.args.number = to_z-of_z w64 c.args.number c.ranges.number in
-    let test = rw (held, number) at c.if-items-at.true in
-    let least : c.args.number ≤ℤ x = omega (arith, ints, test) in
-    let below = subst (λ z. (k : ℕ) (d : ℤ) → k < c.loop-at.at → get_or xs k d <ℤ z) number c.loop-at.invariant in
-    put_at c.args.number xs c.loop-at.at (omega arith) below (λ d within. subst (λ z. c.args.number ≤ℤ z) (get_or_default xs c.loop-at.at (pos 0) d within) least)
+    let x : Item = get_or xs c.loop-at.at (Int (pos 0)) in
+    let least : c.args.item ⊑ x = from_ge x c.args.item (sym c.ge.ensures ∙ c.if-ge.true) in
+    put_at c.args.item xs c.loop-at.at (omega arith) c.loop-at.invariant (λ d within. subst (λ z. c.args.item ⊑ z) (get_or_default xs c.loop-at.at (Int (pos 0)) d within) least)
 
 pub returns-clause-put : goal.returns-clause-put
 returns-clause-put c =
     let xs = c.args.items.now in
-    let number : to_z w64 (of_z w64 c.args.number) ≡ c.args.number = to_z-of_z w64 c.args.number c.ranges.number in
-    let below = subst (λ z. (k : ℕ) (d : ℤ) → k < c.loop-at.at → get_or xs k d <ℤ z) number c.loop-at.invariant in
-    put_at c.args.number xs (length xs) (omega arith) (λ k d h. below k d (omega arith)) (λ d h. absurd (omega arith))
+    put_at c.args.item xs (length xs) (omega arith) (λ k d h. c.loop-at.invariant k d (omega arith)) (λ d h. absurd (omega arith))

@@ -1,9 +1,9 @@
-use Rattle.std.proofs.Common.{◌≡◌, ℤ, ◌+◌, ◌<◌, ◌≤◌, ◌∷◌, ◌++◌, [], Some, length, get_or, pos, ap, rules, subst, sym, ◌∙◌}
+use Rattle.std.proofs.Common.{◌≡◌, ◌+◌, ◌<◌, ◌≤◌, ◌∷◌, ◌++◌, [], Some, length, get_or, pos, ap, subst, sym, ◌∙◌}
 use Rattle.std.specs.Global.{Vec}
 use Rattle.std.specs.Prelude.{slice_get}
-use Rattle.std.proofs.lemmas.Int.{to_z-of_z}
 use Rattle.std.proofs.lemmas.Option.{slice_get-get_or}
-use mir.Syntax.{w64}
+use Rattle.lin_events.specs.declared.items.Item.{Item}
+use Rattle.lin_events.specs.declared.items.Item.TheVariants.{Int}
 use Rattle.lin_objects.specs.inner.Taking.{IsAgainAt, IsFirstAt}
 use Rattle.lin_objects.specs.Bags.{without_one}
 use Rattle.lin_objects.specs.declared.states.State.{State}
@@ -24,16 +24,15 @@ pub loop-at-preserved : goal.loop-at-preserved
 loop-at-preserved c =
     let q = c.args.bag.now in
     let at = c.loop-at.at in
-    let y : ℤ = get_or q at (pos 0) in
-    let there : slice_get q at ≡ Some y = slice_get-get_or q at (pos 0) (subst (λ l. at < length l) c.as_slice-at-end.ensures.items c.loop-at-test.true) in
+    let y : Item = get_or q at (Int (pos 0)) in
+    let there : slice_get q at ≡ Some y = slice_get-get_or q at (Int (pos 0)) (subst (λ l. at < length l) c.as_slice-at-end.ensures.items c.loop-at-test.true) in
     elim c.if-is_first.branch [
       | then-is_first+in_ok-without+in_ok-push w ↦ (
           let first : IsFirstAt q at = subst (λ l. IsFirstAt l at) c.as_slice.ensures.items (c.is_first.ensures.first w.if-is_first.true) in
           let gone : w.in_ok-without.field-0 ≡ without_one y q = w.in_ok-without.ensures ∙ first_taken q at y there first in
-          let seen : ℤ = get_or w.as_slice-then-is_first.result.now at (pos 0) in
-          let number = to_z-of_z w64 seen (search rules) ∙ ap (λ l. get_or l at (pos 0)) w.as_slice-then-is_first.ensures.items in
+          let item = ap (λ l. get_or l at (Int (pos 0))) w.as_slice-then-is_first.ensures.items in
           let pushed : c.if-is_first.out.items ≡ c.loop-at.out.items ++ taken q y ∷ [] =
-          ap (λ (v : Vec (State × Reply)). v.items) w.out-is ∙ w.in_ok-push.ensures.items ∙ ap (λ p. c.loop-at.out.items ++ p ∷ []) (as_taken q y _ _ gone number) in
+          subst (λ p. c.if-is_first.out.items ≡ c.loop-at.out.items ++ p ∷ []) (as_taken q y _ _ gone item) (ap (λ (v : Vec (State × Reply)). v.items) w.out-is ∙ w.in_ok-push.ensures.items) in
           subst (AreTaken q (at + 1)) (sym pushed) (takes_first q at y c.loop-at.out.items there first c.loop-at.invariant))
       | else-is_first w ↦ (
           let again : IsAgainAt q at = subst (λ l. IsAgainAt l at) c.as_slice.ensures.items (c.is_first.ensures.again w.if-is_first.false) in

@@ -1,4 +1,4 @@
-use Rattle.std.proofs.Common.{◌≡◌, ◌++◌, ◌∷◌, [], ℕ, filter, sym, ◌∙◌, subst, ap}
+use Rattle.std.proofs.Common.{◌≡◌, ◌++◌, ◌∷◌, [], ℕ, List, filter, sym, ◌∙◌, subst, ap}
 use Rattle.lin_events.specs.declared.calls.Reply.{Reply}
 use Rattle.lin_orders.specs.Configurations.{IsAdded}
 use Rattle.lin_lists.specs.lemmas.Elements.{begins_other}
@@ -10,7 +10,8 @@ pub loop-pair-preserved : goal.loop-pair-preserved
 loop-pair-preserved c =
     let d = c.pair-item.result in
     let copied : (d.0, c.in_ok-reply.reply) ≡ d = λ i. (d.0, c.in_ok-reply.ensures i) in
-    c.in_ok-push.ensures.items ∙ ap (λ (x : ℕ × Reply). c.loop-pair.fewer.items ++ x ∷ []) copied ∙ ap (λ xs. xs ++ d ∷ []) c.loop-pair.invariant
+    let pushed : c.push.new.self.items ≡ c.loop-pair.fewer.items ++ d ∷ [] = c.in_ok-push.ensures.items ∙ ap (λ (x : ℕ × Reply). c.loop-pair.fewer.items ++ x ∷ []) copied in
+    pushed ∙ ap (λ (xs : List (ℕ × Reply)). xs ++ d ∷ []) c.loop-pair.invariant
     ∙ sym (kept_pair c.args.process c.args.placed.now c.loop-pair.pair-index d c.loop-pair-test.true c.pair-item.is c.if-pair-process.false)
 
 pub loop-pair-preserved-then-pair-process : goal.loop-pair-preserved-then-pair-process

@@ -1,8 +1,8 @@
 use Rattle.std.proofs.Common.{◌<◌, length, refl, rules}
-use Rattle.std.specs.Ordering.{int_eq}
 use Rattle.std.specs.HashMap.{get}
 use Rattle.std.proofs.lemmas.Option.{slice_get_read}
 use Rattle.std.proofs.lemmas.List.Elements.{All-contains}
+use Rattle.lin_events.specs.Items.{item_eq}
 use Rattle.lin_events.specs.declared.calls.Call.{Call}
 use Rattle.lin_objects.specs.Kinds.{kind_of}
 use Rattle.lin_orders.specs.Orders.{IsCall}
@@ -37,7 +37,7 @@ returns-then-not-taken c =
     let there = slice_get_read h _ p.at event refl inside c.index-events-placed.is in
     let stuck = said_no c.in_ok-taken.taken _ _ c.in_ok-taken.ensures c.if-not-taken.true in
     no_since (run_stuck (kind_of c.args.kinds.now) h c.args.order.now c.loop-placed.placed-index p c.loop-placed-test.true c.placed-item.is
-    event.key names.0 (call_on h p.at event there names.0 names.1) (get int_eq c.loop-placed.states) c.loop-placed.invariant c.replies_decide.ensures
+    event.key names.0 (call_on h p.at event there names.0 names.1) (get item_eq c.loop-placed.states) c.loop-placed.invariant c.replies_decide.ensures
     (λ next. stuck names.0 next (body_of h p.at event there names.0 names.1)))
 
 pub loop-placed-preserved : goal.loop-placed-preserved
@@ -50,9 +50,9 @@ loop-placed-preserved c =
     let there = slice_get_read h _ p.at event refl inside c.index-events-placed.is in
     let taken = said_yes c.in_ok-taken.taken _ _ c.in_ok-taken.ensures c.if-not-taken.false in
     run_more (kind_of c.args.kinds.now) h c.args.order.now c.loop-placed.placed-index p c.loop-placed-test.true c.placed-item.is
-    event.key taken.0 (call_since h p.at event there taken.0 taken.1) (get int_eq c.loop-placed.states) c.loop-placed.invariant (get int_eq c.take_step.new.states) taken.2
+    event.key taken.0 (call_since h p.at event there taken.0 taken.1) (get item_eq c.loop-placed.states) c.loop-placed.invariant (get item_eq c.take_step.new.states) taken.2
 
 pub returns : goal.returns
 returns c =
-    let ran = at_end c.args.order.now c.loop-placed.placed-index (λ o. HasRun (kind_of c.args.kinds.now) c.args.events.now o (get int_eq c.loop-placed.states)) c.loop-placed-test.false c.loop-placed.invariant in
-    yes_since (λ key. (state_of (kind_of c.args.kinds.now) (get int_eq c.loop-placed.states) key, ran.each key))
+    let ran = at_end c.args.order.now c.loop-placed.placed-index (λ o. HasRun (kind_of c.args.kinds.now) c.args.events.now o (get item_eq c.loop-placed.states)) c.loop-placed-test.false c.loop-placed.invariant in
+    yes_since (λ key. (state_of (kind_of c.args.kinds.now) (get item_eq c.loop-placed.states) key, ran.each key))

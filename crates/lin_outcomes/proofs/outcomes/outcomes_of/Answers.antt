@@ -1,6 +1,7 @@
-use Rattle.std.proofs.Common.{ℤ, List, Some, None, length, map, take, ap, sym, subst, ◌∙◌}
+use Rattle.std.proofs.Common.{List, Some, None, length, map, take, ap, sym, subst, ◌∙◌}
 use Rattle.std.specs.Prelude.{Option}
 use Rattle.std.specs.List.{AllZip}
+use Rattle.lin_events.specs.declared.items.Item.{Item}
 use Rattle.lin_possible.specs.After.{IsWay}
 use Rattle.lin_possible.specs.Possible.{Answers, LeavesIn}
 use Rattle.lin_words.specs.Values.{state_text}
@@ -18,7 +19,7 @@ returns c =
     let f : Failing = failing_of c.args.before.now in
     let way = IsWay c.args.possible.now in
     let functions = c.requires.well_formed.0 in
-    let members : Option (List ℤ) = members_in f.recorded in
+    let members : Option (List Item) = members_in f.recorded in
     let right = Answers f.kind f.events f.process in
     let left = LeavesIn f.kind f.events in
     let rank = reply_rank members in
@@ -41,11 +42,11 @@ returns c =
       are_states = all_are left way state_rank state_text states are_states;
       replies_listed = listing_from right rank words ahead replies are_replies (most_of f.recorded) c.in_ok-replies-2.replies
           (listed_replies.0 ∙ ap length c.as_slice-3.ensures.value)
-          (subst (λ n. AllZip (Leads ahead) (take n replies) c.in_ok-replies-2.replies.items.items) c.most_replies.ensures
-          (subst (λ l. AllZip (Leads ahead) (take c.most_replies.result l) c.in_ok-replies-2.replies.items.items) c.as_slice-3.ensures.value listed_replies.1));
+          (subst (λ n. AllZip (Leads ahead) (take n replies) c.in_ok-replies-2.replies.entries.items) c.most_replies.ensures
+          (subst (λ l. AllZip (Leads ahead) (take c.most_replies.result l) c.in_ok-replies-2.replies.entries.items) c.as_slice-3.ensures.value listed_replies.1));
       states_listed = listing_from left state_rank state_text last states are_states 3 c.in_ok-states-2.states
           (listed_states.0 ∙ ap length c.as_slice-4.ensures.value)
-          (subst (λ l. AllZip (Leads last) (take 3 l) c.in_ok-states-2.states.items.items) c.as_slice-4.ensures.value listed_states.1);
+          (subst (λ l. AllZip (Leads last) (take 3 l) c.in_ok-states-2.states.entries.items) c.as_slice-4.ensures.value listed_states.1);
       just_that = (
         λ yes'. of_replies ∙ sym (ap told_by c.as_slice.ensures.value) ∙ c.are_same_words-is_just_that.ensures.0 yes' ∙ ap told_by c.as_slice-2.ensures.value ∙ sym of_states,
         λ same. c.are_same_words-is_just_that.ensures.1 (ap told_by c.as_slice.ensures.value ∙ sym of_replies ∙ same ∙ of_states ∙ sym (ap told_by c.as_slice-2.ensures.value)),

@@ -1,4 +1,5 @@
-use Rattle.std.proofs.Common.{◌≡◌, ℤ, Bool, List, ◌++◌, MatchOption, map, ap, sym, subst, ◌∙◌}
+use Rattle.std.proofs.Common.{◌≡◌, Bool, List, ◌++◌, MatchOption, map, ap, sym, subst, ◌∙◌}
+use Rattle.lin_events.specs.declared.items.Item.{Item}
 use Rattle.lin_events.specs.declared.calls.Name.{Name}
 use Rattle.lin_events.specs.declared.events.Event.{Event}
 use Rattle.lin_events.specs.WellFormed.{IsWellFormed}
@@ -20,7 +21,7 @@ returns c =
     let kind = c.args.kind in
     let p = c.in-Some.possible.now in
     let told = c.in_ok-states.states.items in
-    subst (λ o. MatchOption o (new ≡ old) (λ p. (functions : ℤ → Name → Bool) (h : List Event) → IsWellFormed functions h → IsAfter p.now kind h
+    subst (λ o. MatchOption o (new ≡ old) (λ p. (functions : Item → Name → Bool) (h : List Event) → IsWellFormed functions h → IsAfter p.now kind h
     → (states : List State) × AreStates kind h states × (new ≡ old ++ was_text kind (map state_text states)))) (sym c.in-Some.is)
     (λ functions h well after.
     let are = c.in_ok-states.ensures functions kind h well after in

@@ -1,6 +1,7 @@
-use Rattle.std.proofs.Common.{List, ℤ, subst}
+use Rattle.std.proofs.Common.{List, subst}
 use Rattle.std.specs.Prelude.{Option, option_map}
 use Rattle.std.specs.List.{AllZip}
+use Rattle.lin_events.specs.declared.items.Item.{Item}
 use Rattle.lin_possible.specs.After.{IsWay}
 use Rattle.lin_possible.specs.Possible.{Answers}
 use Rattle.lin_outcomes.specs.Ranks.{members_in, reply_rank}
@@ -13,7 +14,7 @@ pub returns : goal.returns
 returns c = λ functions kind h well after running.
     let found = c.in_ok-found.found.items in
     let told = c.in_ok-all_replies.field-0.items in
-    let members : Option (List ℤ) = members_in (option_map (λ r. r.now) c.args.recorded) in
+    let members : Option (List Item) = members_in (option_map (λ r. r.now) c.args.recorded) in
     told_in_order (Answers kind h c.args.process) (IsWay c.args.possible.now) (reply_rank members) (reply_words members) found told c.in_order.result.items
     (c.in_ok-found.ensures functions kind h well after (λ crashed. running crashed.0 crashed.1 crashed.2 crashed.3 crashed.4))
     (subst (λ m. AllZip (IsTold (reply_rank m) (reply_words m)) found told) c.recorded_members-members.ensures

@@ -1,6 +1,5 @@
 use Rattle.std.proofs.Common.{codes}
-use Rattle.std.specs.Fmt.{signed_decimal}
-use Rattle.lin_failures.specs.lemmas.SetConflicting.{as_held}
+use Rattle.lin_formats.specs.Items.{item_text}
 use Rattle.lin_reasons.specs.Lines.{turn_text}
 use Rattle.lin_reasons.specs.Telling.{returned_text}
 use Rattle.lin_reasons.proofs.Chains.{puts9}
@@ -9,24 +8,23 @@ use Rattle.lin_reasons.proofs.queues.put_inside.Goals as goal
 pub returns : goal.returns
 returns c =
     let told = c.args.told.now in
-    let number = as_held c.args.number c.ranges.number in
     puts9 c.args.text.now.items
     (codes "why: ")
-    (signed_decimal c.args.number)
+    (item_text c.args.item)
     (codes " was in the queue\n")
     (turn_text told (codes "  put in: ") c.args.enqueue c.args.dequeue)
     (codes "  taken out: nothing that may have taken ")
-    (signed_decimal c.args.number)
+    (item_text c.args.item)
     (codes " out was called before ")
     (returned_text told c.args.dequeue)
     (codes "\n")
     _ _ _ _ _ _ _ _ _
     c.in_ok-extend_from_slice.ensures.items
-    (rw number at c.in_ok-put_integer.ensures.put)
+    c.in_ok-put_item.ensures.put
     c.in_ok-extend_from_slice-2.ensures.items
     c.in_ok-put_turn.ensures
     c.in_ok-extend_from_slice-3.ensures.items
-    (rw number at c.in_ok-put_integer-2.ensures.put)
+    c.in_ok-put_item-2.ensures.put
     c.in_ok-extend_from_slice-4.ensures.items
     c.in_ok-put_returned.ensures
     c.in_ok-push.ensures.items

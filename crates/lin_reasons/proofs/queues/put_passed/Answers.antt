@@ -1,5 +1,4 @@
 use Rattle.std.proofs.Common.{ℕ, [], ◌∷◌, ◌∙◌, ap, option_to_list, slice_get}
-use Rattle.lin_failures.specs.lemmas.SetConflicting.{as_held}
 use Rattle.lin_formats.specs.lemmas.Putting.{put_next}
 use Rattle.lin_reasons.specs.Lines.{passed_text}
 use Rattle.lin_reasons.specs.Reasons.{both_of}
@@ -8,10 +7,8 @@ use Rattle.lin_reasons.proofs.queues.put_passed.Goals as goal
 pub returns : goal.returns
 returns c =
     let told = c.args.told.now in
-    let n = c.args.number in
+    let n = c.args.item in
     let other = c.args.other in
-    let number = as_held n c.ranges.number in
-    let other_number = as_held other c.ranges.other in
     let o = c.args.operations in
     let puts : ℕ × ℕ = (o.0, o.1) in
     let takes = c.in_ok-takes.takes.items in
@@ -20,11 +17,11 @@ returns c =
     let three = put_next _ _ _ (both_of puts) (o.2 ∷ []) c.in_ok-name_pair.ensures c.in_ok-push.ensures.items in (
       passed_text told puts o.2 n other taker,
       o.0 ∷ o.1 ∷ o.2 ∷ option_to_list taker,
-      rw (number, other_number) at c.in_ok-put_passed_lines.ensures,
+      c.in_ok-put_passed_lines.ensures,
       put_next _ _ _ (o.0 ∷ o.1 ∷ o.2 ∷ []) (option_to_list taker) three c.in_ok-name_some.ensures,
       record {
         takes = takes;
-        all_takes = rw number at c.in_ok-takes.ensures;
+        all_takes = c.in_ok-takes.ensures;
         put = ap (passed_text told puts o.2 n other) taker_is;
         named = ap (λ t. o.0 ∷ o.1 ∷ o.2 ∷ option_to_list t) taker_is;
       },

@@ -1,6 +1,5 @@
 use Rattle.std.proofs.Common.{codes, length}
-use Rattle.std.specs.Fmt.{signed_decimal}
-use Rattle.lin_failures.specs.lemmas.SetConflicting.{as_held}
+use Rattle.lin_formats.specs.Items.{item_text}
 use Rattle.lin_reasons.specs.Series.{sides_text, times_text}
 use Rattle.lin_reasons.proofs.Chains.{puts8}
 use Rattle.lin_reasons.proofs.queues.put_taken_lines.Goals as goal
@@ -8,10 +7,9 @@ use Rattle.lin_reasons.proofs.queues.put_taken_lines.Goals as goal
 pub returns : goal.returns
 returns c =
     let told = c.args.told.now in
-    let number = as_held c.args.number c.ranges.number in
     puts8 c.args.text.now.items
     (codes "why: ")
-    (signed_decimal c.args.number)
+    (item_text c.args.item)
     (codes " was taken out ")
     (times_text (length c.args.sides.now.done.items))
     (codes " and put in at most ")
@@ -20,7 +18,7 @@ returns c =
     (sides_text told c.args.sides.now.done.items c.args.sides.now.may.items c.args.sides.now.failed.items)
     _ _ _ _ _ _ _ _
     c.in_ok-extend_from_slice.ensures.items
-    (rw number at c.in_ok-put_integer.ensures.put)
+    c.in_ok-put_item.ensures.put
     c.in_ok-extend_from_slice-2.ensures.items
     (rw c.as_slice.ensures.value at c.in_ok-put_how_often.ensures)
     c.in_ok-extend_from_slice-3.ensures.items

@@ -1,6 +1,4 @@
-use Rattle.std.proofs.Common.{OnOk, subst, sym, rules, w64}
-use mir.Val.{SFits}
-use Rattle.lin_failures.specs.lemmas.SetConflicting.{as_held}
+use Rattle.std.proofs.Common.{OnOk, subst, sym}
 use Rattle.lin_reasons.specs.Reasons.{ArePut, IsReasonOfRegister}
 use Rattle.lin_reasons.proofs.Premises.{nothing_put, overwritten_of}
 use Rattle.lin_reasons.proofs.registers.put_register_reason.Goals as goal
@@ -8,14 +6,6 @@ use Rattle.lin_reasons.proofs.registers.put_register_reason.Goals as goal
 pub put_overwritten-requires-clause-holds : goal.put_overwritten-requires-clause-holds
 put_overwritten-requires-clause-holds c =
     overwritten_of c.args.told.now.events.now c.args.certificate.now c.in-Overwritten.operation c.in-Overwritten.value c.in-Overwritten.is c.requires.holds
-
-pub returns-in-Unwritten : goal.returns-in-Unwritten
-returns-in-Unwritten c =
-    let told = c.args.told.now in
-    let fits : SFits w64 c.in-Unwritten.number = search rules in
-    let number = as_held c.in-Unwritten.number fits in
-    subst (λ x. OnOk c.put_unwritten.result (ArePut (IsReasonOfRegister told x) c.args.text.now.items c.put_unwritten.new.text.items c.args.names.now.items c.put_unwritten.new.names.items))
-    (sym c.in-Unwritten.is) (rw number at c.put_unwritten.ensures)
 
 pub returns-in-Overwritten : goal.returns-in-Overwritten
 returns-in-Overwritten c =

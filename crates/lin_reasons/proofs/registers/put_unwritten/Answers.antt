@@ -1,7 +1,6 @@
 use Rattle.std.proofs.Common.{[], ◌∷◌, ◌++◌, ◌∙◌, ap, refl, subst, sym}
-use Rattle.lin_events.specs.declared.calls.Val.TheVariants.{Int}
+use Rattle.lin_events.specs.declared.calls.Val.TheVariants.{Item as Held}
 use Rattle.lin_failures.specs.Conflicts.{Leaves}
-use Rattle.lin_failures.specs.lemmas.SetConflicting.{as_held}
 use Rattle.lin_formats.specs.lemmas.Putting.{put_next}
 use Rattle.lin_reasons.specs.Groups.{Fails, IsListing}
 use Rattle.lin_reasons.specs.Lines.{unwritten_text}
@@ -12,13 +11,12 @@ pub returns : goal.returns
 returns c =
     let told = c.args.told.now in
     let at = c.args.operation in
-    let n = c.args.number in
-    let number = as_held n c.ranges.number in
+    let n = c.args.item in
     let failed = c.as_slice-failed.result.now in
-    let listed = subst (IsListing (Fails told.events.now (λ call. Leaves call (Int n)))) (sym c.as_slice-failed.ensures.value) (rw number at c.in_ok-list.ensures) in (
+    let listed = subst (IsListing (Fails told.events.now (λ call. Leaves call (Held n)))) (sym c.as_slice-failed.ensures.value) c.in_ok-list.ensures in (
       unwritten_text told at n failed,
       at ∷ firsts failed,
-      rw number at c.in_ok-put_unwritten_lines.ensures,
+      c.in_ok-put_unwritten_lines.ensures,
       put_next _ _ _ (at ∷ []) (firsts failed) c.in_ok-push.ensures.items (c.in_ok-extend_from_slice.ensures.items ∙ ap (λ l. c.push.new.self.items ++ l) c.firsts_of.ensures),
       record { failed = failed; all_failed = listed; put = refl; named = refl },
     )

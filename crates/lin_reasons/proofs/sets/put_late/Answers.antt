@@ -1,6 +1,5 @@
 use Rattle.std.proofs.Common.{codes}
-use Rattle.std.specs.Fmt.{signed_decimal}
-use Rattle.lin_failures.specs.lemmas.SetConflicting.{as_held}
+use Rattle.lin_formats.specs.Items.{item_text}
 use Rattle.lin_reasons.specs.Lines.{found_text, in_before_text}
 use Rattle.lin_reasons.proofs.Chains.{puts7}
 use Rattle.lin_reasons.proofs.sets.put_late.Goals as goal
@@ -8,21 +7,19 @@ use Rattle.lin_reasons.proofs.sets.put_late.Goals as goal
 pub returns : goal.returns
 returns c =
     let told = c.args.told.now in
-    let number = as_held c.args.number c.ranges.number in
-    let other = as_held c.args.other c.ranges.other in
     puts7 c.args.text.now.items
     (codes "why: ")
-    (signed_decimal c.args.number)
+    (item_text c.args.item)
     (codes " was in before ")
-    (signed_decimal c.args.other)
+    (item_text c.args.other)
     (codes " was added\n")
-    (in_before_text told c.args.before.0 c.args.number c.args.before.1)
-    (found_text told c.args.read c.args.other c.args.number)
+    (in_before_text told c.args.before.0 c.args.item c.args.before.1)
+    (found_text told c.args.read c.args.other c.args.item)
     _ _ _ _ _ _ _
     c.in_ok-extend_from_slice.ensures.items
-    (rw number at c.in_ok-put_integer.ensures.put)
+    c.in_ok-put_item.ensures.put
     c.in_ok-extend_from_slice-2.ensures.items
-    (rw other at c.in_ok-put_integer-2.ensures.put)
+    c.in_ok-put_item-2.ensures.put
     c.in_ok-extend_from_slice-3.ensures.items
-    (rw number at c.in_ok-put_in_before.ensures)
-    (rw (number, other) at c.in_ok-put_found.ensures)
+    c.in_ok-put_in_before.ensures
+    c.in_ok-put_found.ensures

@@ -1,5 +1,4 @@
 use Rattle.std.proofs.Common.{codes}
-use Rattle.lin_failures.specs.lemmas.SetConflicting.{as_held}
 use Rattle.lin_reasons.specs.Lines.{found_text}
 use Rattle.lin_reasons.proofs.Chains.{puts3}
 use Rattle.lin_reasons.proofs.sets.put_split.Goals as goal
@@ -7,13 +6,11 @@ use Rattle.lin_reasons.proofs.sets.put_split.Goals as goal
 pub returns : goal.returns
 returns c =
     let told = c.args.told.now in
-    let number = as_held c.args.number c.ranges.number in
-    let other = as_held c.args.other c.ranges.other in
     puts3 c.args.text.now.items
     (codes "why: two reads exclude each other\n")
-    (found_text told c.args.reads.0 c.args.number c.args.other)
-    (found_text told c.args.reads.1 c.args.other c.args.number)
+    (found_text told c.args.reads.0 c.args.item c.args.other)
+    (found_text told c.args.reads.1 c.args.other c.args.item)
     _ _ _
     c.in_ok-extend_from_slice.ensures.items
-    (rw (number, other) at c.in_ok-put_found.ensures)
-    (rw (number, other) at c.in_ok-put_found-2.ensures)
+    c.in_ok-put_found.ensures
+    c.in_ok-put_found-2.ensures

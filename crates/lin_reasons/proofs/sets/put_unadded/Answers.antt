@@ -1,6 +1,5 @@
 use Rattle.std.proofs.Common.{[], ◌∷◌, ◌++◌, ◌∙◌, ap, refl, subst, sym}
 use Rattle.lin_failures.specs.Adding.{Adds}
-use Rattle.lin_failures.specs.lemmas.SetConflicting.{as_held}
 use Rattle.lin_formats.specs.lemmas.Putting.{put_next}
 use Rattle.lin_reasons.specs.Groups.{Fails, IsListing}
 use Rattle.lin_reasons.specs.Lines.{unadded_text}
@@ -11,13 +10,12 @@ pub returns : goal.returns
 returns c =
     let told = c.args.told.now in
     let read = c.args.read in
-    let n = c.args.number in
-    let number = as_held n c.ranges.number in
+    let n = c.args.item in
     let failed = c.as_slice-failed.result.now in
-    let listed = subst (IsListing (Fails told.events.now (λ call. Adds call n))) (sym c.as_slice-failed.ensures.value) (rw number at c.in_ok-list.ensures) in (
+    let listed = subst (IsListing (Fails told.events.now (λ call. Adds call n))) (sym c.as_slice-failed.ensures.value) c.in_ok-list.ensures in (
       unadded_text told read n failed,
       read ∷ firsts failed,
-      rw number at c.in_ok-put_unadded_lines.ensures,
+      c.in_ok-put_unadded_lines.ensures,
       put_next _ _ _ (read ∷ []) (firsts failed) c.in_ok-push.ensures.items (c.in_ok-extend_from_slice.ensures.items ∙ ap (λ l. c.push.new.self.items ++ l) c.firsts_of.ensures),
       record { failed = failed; all_failed = listed; put = refl; named = refl },
     )

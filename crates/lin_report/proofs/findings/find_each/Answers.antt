@@ -1,5 +1,5 @@
-use Rattle.std.proofs.Common.{◌≡◌, ◌∷◌, ◌∙◌, [], arith, length, of_z, pos, slice_index_or, subst, sym, to_z, w64}
-use Rattle.std.proofs.lemmas.Int.{to_z-of_z}
+use Rattle.std.proofs.Common.{◌≡◌, ◌∷◌, ◌∙◌, [], arith, length, pos, slice_index_or, subst, sym}
+use Rattle.lin_events.specs.declared.items.Item.TheVariants.{Int}
 use Rattle.lin_session.specs.Answers.{IsVerdict}
 use Rattle.lin_session.specs.Keys.{AreKeys}
 use Rattle.lin_session.specs.declared.answers.Scope.TheVariants.{Object}
@@ -12,13 +12,11 @@ pub returns-in-len1-clause-found : goal.returns-in-len1-clause-found
 returns-in-len1-clause-found c =
     let now = c.args.session.now.present in
     let keys = c.args.keys.now in
-    let key = slice_index_or keys 0 (pos 0) in
+    let key = slice_index_or keys 0 (Int (pos 0)) in
     let items = c.in_ok-from_slice.field-0.items in
     let one : length keys ≡ 1 = omega (arith, c.in-len1.len_at_least, c.in-len1.len_below) in
-    let listed = one_listed keys (pos 0) one in
+    let listed = one_listed keys (Int (pos 0)) one in
     let right : IsVerdict now (Object key) c.args.whole = verdict_of_object c.linearizability_is_local.ensures c.absent_keys_are_legal.ensures now key
     (only_key now.history key (subst (AreKeys now.history) listed c.requires.keys)) c.args.whole c.requires.whole in
-    let is_key : to_z w64 (of_z w64 key) ≡ key = grind (arith, to_z-of_z) in
-    let found = one_found now key (to_z w64 (of_z w64 key)) c.args.whole is_key (subst (λ k. IsVerdict now (Object k) c.args.whole) (sym is_key) right) in
     of_well_formed now keys c.args.whole items (sym c.is_ill_formed.ensures ∙ c.if-is_ill_formed.false)
-    (subst (λ ks. AreFindings now ks items) (sym listed) (subst (AreFindings now (key ∷ [])) (sym c.in_ok-from_slice.ensures.items) found))
+    (subst (λ ks. AreFindings now ks items) (sym listed) (subst (AreFindings now (key ∷ [])) (sym c.in_ok-from_slice.ensures.items) (one_found now key c.args.whole right)))

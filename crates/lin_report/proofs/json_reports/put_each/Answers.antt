@@ -1,5 +1,4 @@
-use Rattle.std.proofs.Common.{◌≡◌, ◌++◌, arith, codes, ℕ, List}
-use Rattle.std.proofs.lemmas.Int.{to_z-of_z}
+use Rattle.std.proofs.Common.{◌++◌, ◌∙◌, ap, codes, ℕ, List}
 use Rattle.lin_formats.specs.lemmas.Putting.{all_pieces}
 use Rattle.lin_session.specs.Answers.{kinds_in}
 use Rattle.lin_report.specs.Reports.{json_object}
@@ -9,6 +8,6 @@ use Rattle.lin_report.proofs.json_reports.put_each.Goals as goal
 pub returns : goal.returns
 returns c =
     let text : Finding → List ℕ = λ f. json_object (kinds_in c.args.session.now.present f.key) f in
-    let first : c.put_one.new.text.items ≡ c.args.text.now.items ++ text c.in-Some.first.now = grind (arith, to_z-of_z, c.in_ok-put_one.ensures, c.kind_of.ensures) in
+    let first = c.in_ok-put_one.ensures ∙ ap (λ kind. c.args.text.now.items ++ json_object kind c.in-Some.first.now) c.kind_of.ensures in
     all_pieces text (codes ",") c.args.found.now c.in-Some.others.now c.loop-other.other-index c.in-Some.first.now
     c.args.text.now.items c.put_one.new.text.items c.loop-other.text.items c.in-Some.ensures.cases c.loop-other-test.false first c.loop-other.invariant

@@ -1,6 +1,4 @@
-use Rattle.std.proofs.Common.{◌≡◌, ap, inl, refl, subst, take, ◌∙◌, to_z, of_z, w64}
-use Rattle.std.proofs.lemmas.Int.{to_z-of_z}
-use Rattle.lin_objects.specs.Kinds.{kind_of}
+use Rattle.std.proofs.Common.{inl, refl, subst, take, ◌∙◌}
 use Rattle.lin_orders.specs.Parts.{part}
 use Rattle.lin_order.specs.Refutations.{IsRefutation, sets_of}
 use Rattle.lin_session.specs.Refuting.{Refutes}
@@ -9,14 +7,12 @@ use Rattle.lin_report.proofs.refuting.checked.Goals as goal
 
 pub returns : goal.returns
 returns c =
-    let is_key : to_z w64 (of_z w64 c.args.key) ≡ c.args.key = to_z-of_z w64 c.args.key c.ranges.key in
     let now = c.args.session.now.present in
     let n = c.args.prefix in
     let sets = sets_of c.args.refutation.now in
     let shown = c.in_ok-check_refutation.ensures.0 c.if-not-branch.false in
-    let events = c.deref.ensures.value ∙ c.in_ok-events.ensures ∙ ap (λ k. part k (take n now.history)) is_key in
-    let kind = c.kind_of.ensures ∙ ap (kind_of now.kinds) is_key in
-    let refutes : Refutes now c.args.key n sets = subst (λ k. IsRefutation (part c.args.key (take n now.history)) k sets) kind (subst (λ l. IsRefutation l c.kind_of.result sets) events shown) in
+    let events = c.deref.ensures.value ∙ c.in_ok-events.ensures in
+    let refutes : Refutes now c.args.key n sets = subst (λ k. IsRefutation (part c.args.key (take n now.history)) k sets) c.kind_of.ensures (subst (λ l. IsRefutation l c.kind_of.result sets) events shown) in
     inl (
       n,
       refuted_no c.refutations_exclude_orders.ensures c.beginnings_are_well_formed.ensures c.parts_keep_operations.ensures.well_formed c.parts_keep_orders.ensures.linearizable

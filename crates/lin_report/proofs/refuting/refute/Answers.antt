@@ -1,5 +1,4 @@
-use Rattle.std.proofs.Common.{◌≡◌, inl, inr, subst, sym, ◌∙◌, to_z, of_z, w64}
-use Rattle.std.proofs.lemmas.Int.{to_z-of_z}
+use Rattle.std.proofs.Common.{inl, inr, subst, sym, ◌∙◌}
 use Rattle.lin_events.specs.WellFormed.{IsWellFormed}
 use Rattle.lin_objects.specs.Kinds.{functions_of}
 use Rattle.lin_session.specs.declared.answers.Answer.TheVariants.{No}
@@ -18,34 +17,25 @@ checked-requires-clause-well_formed c =
 
 pub returns-in-Some : goal.returns-in-Some
 returns-in-Some c =
-    let is_key : to_z w64 (of_z w64 c.args.key) ≡ c.args.key = to_z-of_z w64 c.args.key c.ranges.key in
     let text = c.in-Some.reply.text.items in
     let status = c.in-Some.reply.status in
     let told = rw c.in-Some.is at c.in_ok-reply-in-Ok-No.ensures in (
       c.refute.ensures.present,
-      subst (λ k. IsRefuteReply c.args.session.now.present k text status) is_key (subst (λ now. IsRefuteReply now (to_z w64 (of_z w64 c.args.key)) text status) c.refute.ensures.present told),
+      subst (λ now. IsRefuteReply now c.args.key text status) c.refute.ensures.present told,
     )
 
 pub returns-in_ok-text-in-Err-TooLarge : goal.returns-in_ok-text-in-Err-TooLarge
 returns-in_ok-text-in-Err-TooLarge c =
-    let is_key : to_z w64 (of_z w64 c.args.key) ≡ c.args.key = to_z-of_z w64 c.args.key c.ranges.key in
     let now = c.args.session.now.present in
-    let key = to_z w64 (of_z w64 c.args.key) in
     let large = rw c.in-Err-TooLarge.field-0-is at c.in-Err-TooLarge.ensures.unrefuted in
-    let verdict = c.answers_are_verdicts.ensures now (Object key) (No large.0.0) large.0.1 in (
-      c.refute.ensures.present,
-      subst (λ k. IsRefuteReply now k c.plain.result.text.items c.plain.result.status) is_key
-          (inr (inr ((large.0.0, verdict), large.1, c.plain.ensures.text ∙ c.in_ok-text-in-Err-TooLarge.ensures.items, c.plain.ensures.status))),
-    )
+    let verdict = c.answers_are_verdicts.ensures now (Object c.args.key) (No large.0.0) large.0.1 in
+    (c.refute.ensures.present, inr (inr ((large.0.0, verdict), large.1, c.plain.ensures.text ∙ c.in_ok-text-in-Err-TooLarge.ensures.items, c.plain.ensures.status)))
 
 pub returns-in-Ok-Not : goal.returns-in-Ok-Not
 returns-in-Ok-Not c =
-    let is_key : to_z w64 (of_z w64 c.args.key) ≡ c.args.key = to_z-of_z w64 c.args.key c.ranges.key in
     let now = c.args.session.now.present in
     let found = c.in-Ok-Not.answer in
     let told = rw c.in-Ok-Not.field-0-is at c.in-Ok-Not.ensures.refuted in
-    let verdict = c.answers_are_verdicts.ensures now (Object (to_z w64 (of_z w64 c.args.key))) found told.0 in
-    if_ok c.answered.result (λ reply is. (
-      c.refute.ensures.present,
-      subst (λ k. IsRefuteReply now k reply.text.items reply.status) is_key (inr (inl (verdict_of found, verdict, never_no found told.1, is.0, is.1))),
-    )) (rw c.verdict_of.ensures at c.answered.ensures)
+    let verdict = c.answers_are_verdicts.ensures now (Object c.args.key) found told.0 in
+    if_ok c.answered.result (λ reply is. (c.refute.ensures.present, inr (inl (verdict_of found, verdict, never_no found told.1, is.0, is.1))))
+    (rw c.verdict_of.ensures at c.answered.ensures)

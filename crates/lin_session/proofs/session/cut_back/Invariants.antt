@@ -1,4 +1,5 @@
-use Rattle.std.proofs.Common.{◌≡◌, ◌≤◌, ℕ, ℤ, length, take}
+use Rattle.std.proofs.Common.{◌≡◌, ◌≤◌, ℕ, length, take}
+use Rattle.lin_events.specs.declared.items.Item.{Item}
 use Rattle.lin_objects.specs.declared.kinds.Kind.{Kind}
 use Rattle.lin_session.specs.Objects.{AreRight, split_in}
 use Rattle.lin_session.specs.inner.Objects.{marks_in}
@@ -11,9 +12,9 @@ invariant-loop-events l = record {
   left : l.events.items ≡ take (length l.events.items) l.initial.events.items;
   enough : l.count ≤ length l.initial.events.items → l.count ≤ length l.events.items;
   few : length l.initial.events.items ≤ l.count → l.events.items ≡ l.initial.events.items;
-  right : (kinds : ℤ → Kind) (budget : ℕ) → AreRight l.initial.objects kinds budget l.initial.events.items → AreRight l.objects kinds budget l.events.items;
-  marks : (kinds : ℤ → Kind) (budget : ℕ) → AreRight l.initial.objects kinds budget l.initial.events.items
-      → (x : ℤ) → marks_in l.objects x ≡ truncated l.initial.events.items x (length l.events.items) (marks_in l.initial.objects x);
+  right : (kinds : Item → Kind) (budget : ℕ) → AreRight l.initial.objects kinds budget l.initial.events.items → AreRight l.objects kinds budget l.events.items;
+  marks : (kinds : Item → Kind) (budget : ℕ) → AreRight l.initial.objects kinds budget l.initial.events.items
+      → (x : Item) → marks_in l.objects x ≡ truncated l.initial.events.items x (length l.events.items) (marks_in l.initial.objects x);
 }
 
 abbrev pub decreases-loop-events : goal.decreases-loop-events

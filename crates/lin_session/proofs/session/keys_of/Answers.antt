@@ -1,8 +1,6 @@
-use Rattle.std.proofs.Common.{◌≡◌, ◌∙◌, ◌+◌, ◌++◌, ◌∷◌, [], ap, sym, subst, take, Contains, to_z, of_z, w64, rules}
-use Rattle.std.specs.Ordering.{int_eq}
-use Rattle.std.proofs.lemmas.Int.{to_z-of_z}
+use Rattle.std.proofs.Common.{◌≡◌, ◌∙◌, ◌+◌, ◌++◌, ◌∷◌, [], ap, sym, subst, take, Contains}
 use Rattle.std.proofs.lemmas.List.{take_all, take_more}
-use Rattle.indexmap.specs.IndexSet.{insert_key}
+use Rattle.lin_events.specs.Sameness.{item_same}
 use Rattle.lin_session.proofs.Keys.{AreKeysIn, AreKeysIn-inserted, AreKeysIn-passed}
 use Rattle.lin_lists.specs.lemmas.Taken.{Contains-slice_get}
 use Rattle.lin_session.proofs.session.keys_of.Goals as goal
@@ -15,15 +13,14 @@ loop-event-preserved c =
     let keys = c.loop-event.keys.keys in
     let event = c.event-item.result in
     let next : take (i + 1) h ≡ take i h ++ event ∷ [] = take_more h i event c.loop-event-test.true ∙ ap (λ e. take i h ++ e ∷ []) (sym c.event-item.is) in
-    let is_key : to_z w64 (of_z w64 event.key) ≡ event.key = to_z-of_z w64 event.key (search rules) in
     elim c.match-last.branch [
       | in-Some w ↦
           let last = w.in-Some.last.now in
-          let same : last ≡ event.key = sym (to_z-of_z w64 last (search rules)) ∙ ap (to_z w64) w.if-last-event.true ∙ is_key in
+          let same : last ≡ event.key = item_same last event.key (sym w.eq.ensures ∙ w.if-eq.true) in
           let listed : Contains keys event.key = subst (Contains keys) same (Contains-slice_get _ _ last (sym w.in-Some.ensures.key)) in
           rw next (rw w.keys-is (AreKeysIn-passed (take i h) keys event listed c.loop-event.invariant))
       | in_default+in_ok-insert-in_default w ↦
-          let inserted = w.in_ok-insert-in_default.ensures.keys ∙ ap (insert_key int_eq keys) is_key in
+          let inserted = w.in_ok-insert-in_default.ensures.keys in
           rw next (rw w.keys-is (rw inserted (AreKeysIn-inserted (take i h) keys event c.loop-event.invariant)))
     ]
 

@@ -1,5 +1,5 @@
 use Rattle.std.proofs.Common.{◌≡◌, ◌≢◌, ◌≤◌, ◌+◌, ◌∙◌, ℕ, true, false, Result, Ok, Err, IsOk, List, refl, sym, subst, arith, length}
-use Rattle.lin_events.specs.declared.numbers.OutOfMemory.{OutOfMemory}
+use Rattle.lin_events.specs.declared.lists.OutOfMemory.{OutOfMemory}
 use Rattle.lin_events.specs.declared.events.Event.{Event}
 use Rattle.lin_events.specs.declared.meter.Meter.{Meter}
 use Rattle.lin_objects.specs.declared.kinds.Kind.{Kind}

@@ -1,4 +1,5 @@
-use Rattle.std.proofs.Common.{ℤ, Bool, List, sym, subst, take}
+use Rattle.std.proofs.Common.{Bool, List, sym, subst, take}
+use Rattle.lin_events.specs.declared.items.Item.{Item}
 use Rattle.lin_events.specs.declared.calls.Name.{Name}
 use Rattle.lin_events.specs.declared.events.Event.{Event}
 use Rattle.lin_events.specs.Operations.{IsEvent}
@@ -12,12 +13,12 @@ use Rattle.lin_chain.proofs.Replaying.{next_event, event_taken}
 use Rattle.lin_chain.proofs.exact.Exact.take_in.Goals as goal
 use Rattle.lin_chain.proofs.exact.Exact.take_in.Goals.{In_ok-step}
 
-next : (c : In_ok-step) (functions : ℤ → Name → Bool) (h : List Event) → IsWellFormed functions h → IsEvent h c.args.at c.args.event.now → IsExact c.args.self.now h c.args.at
+next : (c : In_ok-step) (functions : Item → Name → Bool) (h : List Event) → IsWellFormed functions h → IsEvent h c.args.at c.args.event.now → IsExact c.args.self.now h c.args.at
     → IsNextEvent functions (take c.args.at h) c.args.self.now.pending.items c.args.at c.args.event.now
 next c functions h well there exact = next_event c.beginnings_are_well_formed.ensures functions h c.args.at c.args.event.now c.args.self.now.pending.items well there exact.opened
 
 -- the same, of the slice that was passed on
-passed : (c : In_ok-step) (functions : ℤ → Name → Bool) (h : List Event) → IsWellFormed functions h → IsEvent h c.args.at c.args.event.now → IsExact c.args.self.now h c.args.at
+passed : (c : In_ok-step) (functions : Item → Name → Bool) (h : List Event) → IsWellFormed functions h → IsEvent h c.args.at c.args.event.now → IsExact c.args.self.now h c.args.at
     → IsNextEvent functions (take c.args.at h) c.as_slice.result.now c.args.at c.args.event.now
 passed c functions h well there exact = subst (λ l. IsNextEvent functions (take c.args.at h) l c.args.at c.args.event.now) (sym c.as_slice.ensures.value) (next c functions h well there exact)
 

@@ -1,4 +1,5 @@
-use Rattle.std.proofs.Common.{ℤ, ◌+◌, ◌∙◌, Bool, List, ap, inl, inr, sym, subst, take}
+use Rattle.std.proofs.Common.{◌+◌, ◌∙◌, Bool, List, ap, inl, inr, sym, subst, take}
+use Rattle.lin_events.specs.declared.items.Item.{Item}
 use Rattle.lin_chain.specs.declared.replay.Replay.{Replay}
 use Rattle.lin_events.specs.declared.calls.Name.{Name}
 use Rattle.lin_events.specs.declared.events.Event.{Event}
@@ -16,12 +17,12 @@ use Rattle.lin_chain.proofs.replay.Replay.take_in.Goals.{In_ok-step}
 known : (c : In_ok-step) (h : List Event) → IsPrepared c.args.self.now h → IsKnown c.args.self.now.object.kind (take c.args.self.now.reached h) c.in-Some.frontier.now c.args.self.now.nodes c.args.self.now.pending.operations.items
 known c h prepared = prepared.known c.in-Some.frontier.now (subst (λ l. IsCurrent c.args.self.now.present l c.in-Some.frontier.now) c.deref.ensures.value c.in-Some.ensures.some)
 
-next : (c : In_ok-step) (functions : ℤ → Name → Bool) (h : List Event) → IsWellFormed functions h → IsEvent h c.args.self.now.reached c.args.event.now → IsPrepared c.args.self.now h
+next : (c : In_ok-step) (functions : Item → Name → Bool) (h : List Event) → IsWellFormed functions h → IsEvent h c.args.self.now.reached c.args.event.now → IsPrepared c.args.self.now h
     → IsNextEvent functions (take c.args.self.now.reached h) c.args.self.now.pending.operations.items c.args.self.now.reached c.args.event.now
 next c functions h well there prepared = next_event c.beginnings_are_well_formed.ensures functions h c.args.self.now.reached c.args.event.now c.args.self.now.pending.operations.items well there (known c h prepared).opened
 
 -- the same, of the slice that was passed on
-passed : (c : In_ok-step) (functions : ℤ → Name → Bool) (h : List Event) → IsWellFormed functions h → IsEvent h c.args.self.now.reached c.args.event.now → IsPrepared c.args.self.now h
+passed : (c : In_ok-step) (functions : Item → Name → Bool) (h : List Event) → IsWellFormed functions h → IsEvent h c.args.self.now.reached c.args.event.now → IsPrepared c.args.self.now h
     → IsNextEvent functions (take c.args.self.now.reached h) c.as_slice.result.now c.args.self.now.reached c.args.event.now
 passed c functions h well there prepared = subst (λ l. IsNextEvent functions (take c.args.self.now.reached h) l c.args.self.now.reached c.args.event.now) (sym c.as_slice.ensures) (next c functions h well there prepared)
 

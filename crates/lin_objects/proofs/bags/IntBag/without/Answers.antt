@@ -7,5 +7,5 @@ use Rattle.lin_objects.proofs.bags.IntBag.without.Goals as goal
 
 pub invariant_of-result : goal.invariant_of-result
 invariant_of-result c =
-    let left : c.in_ok-numbers.numbers ≡ remove c.args.self.now c.args.at = grind (arith, common_steps) in
+    let left : c.in_ok-items.items ≡ remove c.args.self.now c.args.at = grind (arith, common_steps) in
     subst NeverFalls (sym left) (falls_but c.args.self.now c.args.at c.as_slice.ensures.ordered)

@@ -1,11 +1,7 @@
-use Rattle.std.proofs.Common.{to_z, of_z, w64}
-use Rattle.std.proofs.lemmas.Int.{to_z-of_z}
-use Rattle.std.specs.Ordering.{int_eq}
-use Rattle.indexmap.specs.IndexSet.{insert_key}
-use Rattle.std.proofs.Common.{◌≡◌, ◌∙◌, ap, sym, subst, length, arith, ◌++◌, ◌∷◌, [], refl}
-use Rattle.std.proofs.lemmas.Bool.Decides.{Decides-int_eq}
+use Rattle.std.proofs.Common.{◌∙◌, ap, sym, subst, length, arith, ◌++◌, ◌∷◌, [], refl}
 use Rattle.std.proofs.lemmas.List.{length_push}
 use Rattle.std.proofs.lemmas.Map.Made.{AllPairs-from_IsDistinct}
+use Rattle.lin_events.specs.Sameness.{Decides-item_eq}
 use Rattle.lin_chain.specs.Chains.{kind_in, IsRight}
 use Rattle.lin_session.proofs.Found.{inserted_last}
 use Rattle.lin_session.specs.Objects.{listed_marks}
@@ -17,27 +13,24 @@ use Rattle.lin_session.proofs.kept.Objects.add.Goals as goal
 pub invariant_of-self-2 : goal.invariant_of-self-2
 invariant_of-self-2 c =
     let s = c.args.self.now in
-    let is_key : to_z w64 (of_z w64 c.args.key) ≡ c.args.key = to_z-of_z w64 c.args.key c.ranges.key in
-    let keys = ap length (c.in_ok-insert.ensures.keys ∙ ap (insert_key int_eq s.keys.keys) is_key ∙ inserted_last s.keys.keys c.args.key c.requires.absent) ∙ length_push s.keys.keys c.args.key in
+    let keys = ap length (c.in_ok-insert.ensures.keys ∙ inserted_last s.keys.keys c.args.key c.requires.absent) ∙ length_push s.keys.keys c.args.key in
     let objects = ap length (c.push_reserved.ensures.items ∙ ap (λ l. l ++ c.pick.new.self ∷ []) c.in_ok-reserve.ensures.items) ∙ length_push s.objects.items c.pick.new.self in
     record { aligned = omega (arith, keys, objects, s.aligned) }
 
 pub returns-clause-next : goal.returns-clause-next
 returns-clause-next c = λ kinds budget h event stands same kind kept.
     let s = c.args.self.now in
-    let is_key : to_z w64 (of_z w64 c.args.key) ≡ c.args.key = to_z-of_z w64 c.args.key c.ranges.key in
     AreKept-listed c.parts_grow.ensures.more kinds budget h s.split _ event c.args.key s.keys.keys _ s.objects.items _ c.pick.new.self stands same kept refl
-    (c.in_ok-insert.ensures.keys ∙ ap (insert_key int_eq s.keys.keys) is_key ∙ inserted_last s.keys.keys c.args.key c.requires.absent)
+    (c.in_ok-insert.ensures.keys ∙ inserted_last s.keys.keys c.args.key c.requires.absent)
     (c.push_reserved.ensures.items ∙ ap (λ l. l ++ c.pick.new.self ∷ []) c.in_ok-reserve.ensures.items) s.aligned
-    (AllPairs-from_IsDistinct Decides-int_eq _ c.in_ok-insert.ensures.unique) c.requires.absent
+    (AllPairs-from_IsDistinct Decides-item_eq _ c.in_ok-insert.ensures.unique) c.requires.absent
     (c.in_ok-pick.ensures.more ∙ ap (λ l. l ++ s.split ∷ []) c.new-object.ensures.picks) (c.in_ok-pick.ensures.count ∙ c.new-object.ensures.count) (c.pick.ensures.mark ∙ c.new-object.ensures.mark)
     (ap kind_in c.in_ok-pick.ensures.chain ∙ c.new-object.ensures.kind ∙ sym kind) (λ part'. subst (λ k. IsRight k part') (sym c.in_ok-pick.ensures.chain) (c.new-object.ensures.right part'))
 
 pub returns-clause-marks : goal.returns-clause-marks
 returns-clause-marks c = λ key.
     let s = c.args.self.now in
-    let is_key : to_z w64 (of_z w64 c.args.key) ≡ c.args.key = to_z-of_z w64 c.args.key c.ranges.key in
-    let keys = c.in_ok-insert.ensures.keys ∙ ap (insert_key int_eq s.keys.keys) is_key ∙ inserted_last s.keys.keys c.args.key c.requires.absent in
+    let keys = c.in_ok-insert.ensures.keys ∙ inserted_last s.keys.keys c.args.key c.requires.absent in
     let objects = c.push_reserved.ensures.items ∙ ap (λ l. l ++ c.pick.new.self ∷ []) c.in_ok-reserve.ensures.items in
     ap (λ k. mark_of (listed_marks k c.push_reserved.new.self.items) key) keys ∙ ap (λ o. mark_of (listed_marks (s.keys.keys ++ c.args.key ∷ []) o) key) objects
     ∙ mark_push s.keys.keys s.objects.items c.args.key c.pick.new.self s.aligned (c.pick.ensures.mark ∙ c.new-object.ensures.mark) key

@@ -1,5 +1,4 @@
 use Rattle.std.proofs.Common.{Ok, ap, subst, ◌∙◌}
-use Rattle.lin_objects.specs.Kinds.{kind_of}
 use Rattle.lin_session.specs.Answers.{IsVerdict}
 use Rattle.lin_session.specs.Edits.{Present}
 use Rattle.lin_session.proofs.Scopes.{IsAnswer-yes}

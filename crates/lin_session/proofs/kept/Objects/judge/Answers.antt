@@ -1,6 +1,6 @@
-use Rattle.std.proofs.Common.{◌≡◌, ◌≤◌, ◌+◌, ℕ, ℤ, Some, Contains, inl, inr, ap, sym, subst, ◌∙◌, arith, to_z, of_z, w64, rules}
-use Rattle.std.proofs.lemmas.Int.{to_z-of_z}
+use Rattle.std.proofs.Common.{◌≤◌, ◌+◌, ℕ, inl, inr, ap, sym, subst, arith}
 use Rattle.std.proofs.lemmas.Result.{IfOk-weaker}
+use Rattle.lin_events.specs.declared.items.Item.{Item}
 use Rattle.lin_events.specs.WellFormed.{IsWellFormed}
 use Rattle.lin_objects.specs.declared.kinds.Kind.{Kind}
 use Rattle.lin_objects.specs.Kinds.{functions_of, kind_of}
@@ -10,7 +10,6 @@ use Rattle.lin_session.specs.Objects.{AreRight}
 use Rattle.lin_session.proofs.Scopes.{IsVerdict-object, IsVerdict-whole}
 use Rattle.std.proofs.lemmas.Option.{slice_get_within}
 use Rattle.std.proofs.lemmas.Result.{on_ok_weaker}
-use Rattle.lin_session.specs.declared.answers.Scope.TheVariants as scope
 use Rattle.lin_session.specs.inner.Costs.{AreJudged, AreSettled, IsCost}
 use Rattle.lin_session.specs.inner.Judgements.{AreAlive, IsDeadFor, IsOverFor}
 use Rattle.lin_session.specs.inner.Objects.{marks_in}
@@ -41,12 +40,11 @@ returns-in-Object-clause-verdict c =
     let h = c.args.present.now.history.now in
     let key = c.in-Object.key in
     let now : Present = record { history = h; kinds = c.args.present.now.kinds.now; budget = c.args.present.now.budget } in
-    let is_key : to_z w64 (of_z w64 key) ≡ key = to_z-of_z w64 key (search rules) in
     IfOk-weaker c.judge_object.result
-    (λ verdict. (kinds : ℤ → Kind) → AreRight c.split.new.self kinds c.args.present.now.budget h → IsWellFormed (functions_of kinds) h → IsObjectVerdict kinds c.args.present.now.budget h (to_z w64 (of_z w64 key)) verdict)
+    (λ verdict. (kinds : Item → Kind) → AreRight c.split.new.self kinds c.args.present.now.budget h → IsWellFormed (functions_of kinds) h → IsObjectVerdict kinds c.args.present.now.budget h key verdict)
     (IsVerdict now c.args.scope)
     (λ verdict told.
-    let is = subst (λ k. IsObjectVerdict K c.args.present.now.budget h k verdict) is_key (told K (c.split.ensures.right c.args.present.now.budget c.requires.right) c.requires.well_formed) in
+    let is = told K (c.split.ensures.right c.args.present.now.budget c.requires.right) c.requires.well_formed in
     subst (λ s. IsVerdict now s verdict) (sym c.in-Object.is) (IsVerdict-object now key verdict c.requires.well_formed is)) c.judge_object.ensures.verdict
 
 pub returns-in-Whole-clause-verdict : goal.returns-in-Whole-clause-verdict
@@ -55,7 +53,7 @@ returns-in-Whole-clause-verdict c =
     let h = c.args.present.now.history.now in
     let now : Present = record { history = h; kinds = c.args.present.now.kinds.now; budget = c.args.present.now.budget } in
     IfOk-weaker c.judge_whole.result
-    (λ verdict. (kinds : ℤ → Kind) → AreRight c.split.new.self kinds c.args.present.now.budget h → IsWellFormed (functions_of kinds) h → IsWholeVerdict kinds c.args.present.now.budget h verdict)
+    (λ verdict. (kinds : Item → Kind) → AreRight c.split.new.self kinds c.args.present.now.budget h → IsWellFormed (functions_of kinds) h → IsWholeVerdict kinds c.args.present.now.budget h verdict)
     (IsVerdict now c.args.scope)
     (λ verdict told.
     let is = told K (c.split.ensures.right c.args.present.now.budget c.requires.right) c.requires.well_formed in
@@ -66,10 +64,8 @@ returns-in_err-split-clause-right c = c.split.ensures.right c.args.present.now.b
 
 pub returns-in-Object-clause-judged : goal.returns-in-Object-clause-judged
 returns-in-Object-clause-judged c =
-    let key = c.in-Object.key in
-    let is_key : to_z w64 (of_z w64 key) ≡ key = to_z-of_z w64 key (search rules) in
     on_ok_weaker c.judge_object.result
-    (λ judged. subst (AreJudged c.args.present.now.budget c.judge_object.new.self) (ap scope.Object is_key ∙ sym c.in-Object.is) judged)
+    (λ judged. subst (AreJudged c.args.present.now.budget c.judge_object.new.self) (sym c.in-Object.is) judged)
     c.judge_object.ensures.judged
 
 pub returns-in-Whole-clause-judged : goal.returns-in-Whole-clause-judged
@@ -91,15 +87,14 @@ object_steps : (c : After-judge_object) (n : ℕ) → IsCost c.args.present.now.
 object_steps c n most =
     let s = c.split.new.self in
     let key = c.in-Object.key in
-    let is_key : to_z w64 (of_z w64 key) ≡ key = to_z-of_z w64 key (search rules) in
     let costs = subst (λ q. IsCost c.args.present.now.budget s q n) c.in-Object.is most in
     elim (is_listed s.keys.keys key) [
       | inl at ↦
           let within = slice_get_within s.keys.keys at.0 key at.1 in
           let o = element_at s.objects.items at.0 (omega (arith, within, s.aligned)) in
-          omega (arith, c.judge_object.ensures.steps at.0 o.0 (at.1 ∙ ap Some (sym is_key)) o.1, costs at.0 o.0 at.1 o.1)
+          omega (arith, c.judge_object.ensures.steps at.0 o.0 at.1 o.1, costs at.0 o.0 at.1 o.1)
       | inr absent ↦
-          let idle = c.judge_object.ensures.idle (λ there. absent (subst (Contains s.keys.keys) is_key there)) in
+          let idle = c.judge_object.ensures.idle absent in
           omega (arith, ap (λ m. m.steps) idle)
     ]
 
@@ -116,31 +111,23 @@ returns-in-Whole-clause-steps c = let at = goal.at.returns-in-Whole-clause-steps
 
 pub returns-in-Object-clause-dead : goal.returns-in-Object-clause-dead
 returns-in-Object-clause-dead c = λ n is_no.
-    let key = c.in-Object.key in
-    let is_key : to_z w64 (of_z w64 key) ≡ key = to_z-of_z w64 key (search rules) in
-    subst (λ q. IsDeadFor c.judge_object.new.self q n) (ap scope.Object is_key ∙ sym c.in-Object.is) (c.judge_object.ensures.dead n is_no)
+    subst (λ q. IsDeadFor c.judge_object.new.self q n) (sym c.in-Object.is) (c.judge_object.ensures.dead n is_no)
 
 pub returns-in-Object-clause-alive : goal.returns-in-Object-clause-alive
 returns-in-Object-clause-alive c = λ is_yes.
-    let key = c.in-Object.key in
-    let is_key : to_z w64 (of_z w64 key) ≡ key = to_z-of_z w64 key (search rules) in
-    subst (AreAlive c.judge_object.new.self) (ap scope.Object is_key ∙ sym c.in-Object.is) (c.judge_object.ensures.alive is_yes)
+    subst (AreAlive c.judge_object.new.self) (sym c.in-Object.is) (c.judge_object.ensures.alive is_yes)
 
 pub returns-in-Object-clause-over : goal.returns-in-Object-clause-over
 returns-in-Object-clause-over c = λ at is_over.
-    let key = c.in-Object.key in
-    let is_key : to_z w64 (of_z w64 key) ≡ key = to_z-of_z w64 key (search rules) in
-    subst (λ q. IsOverFor c.judge_object.new.self q at) (ap scope.Object is_key ∙ sym c.in-Object.is) (c.judge_object.ensures.over at is_over)
+    subst (λ q. IsOverFor c.judge_object.new.self q at) (sym c.in-Object.is) (c.judge_object.ensures.over at is_over)
 
 pub returns-in-Whole-clause-over : goal.returns-in-Whole-clause-over
 returns-in-Whole-clause-over c = λ at is_over. subst (λ q. IsOverFor c.judge_whole.new.self q at) (sym c.in-Whole.is) (c.judge_whole.ensures.over at is_over)
 
 pub returns-in-Object-clause-idle : goal.returns-in-Object-clause-idle
 returns-in-Object-clause-idle c = λ apart nothing.
-    let key = c.in-Object.key in
-    let is_key : to_z w64 (of_z w64 key) ≡ key = to_z-of_z w64 key (search rules) in
     let all = subst (AreSettled c.args.present.now.budget c.split.new.self) c.in-Object.is (settled (goal.at.returns-in-Object-clause-idle c).In_ok-split nothing) in
-    c.judge_object.ensures.rests (λ i o key_at o_at. all i o (key_at ∙ ap Some is_key) o_at)
+    c.judge_object.ensures.rests all
 
 pub returns-in-Whole-clause-idle : goal.returns-in-Whole-clause-idle
 returns-in-Whole-clause-idle c = λ apart nothing.
@@ -148,10 +135,8 @@ returns-in-Whole-clause-idle c = λ apart nothing.
 
 pub returns-in-Object-clause-ready : goal.returns-in-Object-clause-ready
 returns-in-Object-clause-ready c = λ apart nothing.
-    let key = c.in-Object.key in
-    let is_key : to_z w64 (of_z w64 key) ≡ key = to_z-of_z w64 key (search rules) in
     let all = subst (AreSettled c.args.present.now.budget c.split.new.self) c.in-Object.is (settled (goal.at.returns-in-Object-clause-ready c).In_ok-split nothing) in
-    c.judge_object.ensures.settled (λ i o key_at o_at. all i o (key_at ∙ ap Some is_key) o_at)
+    c.judge_object.ensures.settled all
 
 pub returns-in-Whole-clause-ready : goal.returns-in-Whole-clause-ready
 returns-in-Whole-clause-ready c = λ apart nothing.

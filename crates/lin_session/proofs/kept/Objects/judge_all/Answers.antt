@@ -1,7 +1,9 @@
-use Rattle.std.proofs.Common.{◌≡◌, ◌<◌, inl, inr, ◌+◌, ℕ, ℤ, pos, Some, length, slice_get, get_or, take, sym, ap, subst, ◌∙◌, arith, add-one, suc}
+use Rattle.std.proofs.Common.{◌≡◌, ◌<◌, inl, inr, ◌+◌, ℕ, pos, Some, length, slice_get, get_or, take, sym, ap, subst, ◌∙◌, arith, add-one, suc}
 use Rattle.std.proofs.lemmas.Bool.{cases_order}
 use Rattle.std.proofs.lemmas.List.{take_all}
 use Rattle.std.proofs.lemmas.Option.{same_Some, slice_get-get_or, slice_get_within}
+use Rattle.lin_events.specs.declared.items.Item.{Item}
+use Rattle.lin_events.specs.declared.items.Item.TheVariants.{Int}
 use Rattle.lin_session.specs.inner.Judgements.{AreFound, StandsOver}
 use Rattle.lin_session.specs.declared.kept.Object.{Object}
 use Rattle.lin_session.specs.inner.Costs.{cost_of_all, IsSettled}
@@ -10,7 +12,7 @@ use Rattle.lin_session.proofs.Found.{not_ok}
 use Rattle.lin_lists.specs.lemmas.Taken.{element_at, All-at}
 use Rattle.lin_session.proofs.Wholes.{AreFound-next, least_is, least_none}
 use Rattle.lin_session.proofs.kept.Objects.judge_all.Goals as goal
-use Rattle.lin_session.proofs.kept.Objects.judge_all.Goals.{In_ok-found, In-loop-i}
+use Rattle.lin_session.proofs.kept.Objects.judge_all.Goals.{In-loop-i}
 
 pub judge_listed-requires-clause-right : goal.judge_listed-requires-clause-right
 judge_listed-requires-clause-right c = let r = c.requires.right in (r.0, c.loop-i.invariant.right r.0 r.1, r.2)
@@ -35,8 +37,8 @@ loop-i-preserved c =
     let h = c.args.events.now in
     let keys = c.args.self.now.keys.keys in
     let within : i < length keys = omega (arith, c.loop-i-test.true, c.len-i-end.ensures, c.args.self.now.objects.ok.0, c.args.self.now.aligned) in
-    let key : ℤ = get_or keys i (pos 0) in
-    let key_at : slice_get keys i ≡ Some key = slice_get-get_or keys i (pos 0) within in
+    let key : Item = get_or keys i (Int (pos 0)) in
+    let key_at : slice_get keys i ≡ Some key = slice_get-get_or keys i (Int (pos 0)) within in
     let f = c.loop-i.failing in
     let o = c.loop-i.over in
     record {

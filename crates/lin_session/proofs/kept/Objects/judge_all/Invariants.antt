@@ -1,4 +1,5 @@
-use Rattle.std.proofs.Common.{All, ◌≡◌, ◌<◌, ◌≤◌, ◌+◌, ℕ, ℤ, None, Some, take, slice_get}
+use Rattle.std.proofs.Common.{All, ◌≡◌, ◌<◌, ◌≤◌, ◌+◌, ℕ, None, Some, take, slice_get}
+use Rattle.lin_events.specs.declared.items.Item.{Item}
 use Rattle.lin_events.specs.WellFormed.{IsWellFormed}
 use Rattle.lin_objects.specs.declared.kinds.Kind.{Kind}
 use Rattle.lin_objects.specs.Kinds.{functions_of}
@@ -17,8 +18,8 @@ invariant-loop-i l = record {
   behind : (j : ℕ) (object : Object) → l.i ≤ j → slice_get l.self.objects.items j ≡ Some object → slice_get l.initial.self.objects.items j ≡ Some object;
   scans : l.meter.scans ≡ l.initial.meter.scans;
   split : split_in l.self ≡ split_in l.initial.self;
-  right : (kinds : ℤ → Kind) → AreRight l.initial.self kinds l.budget l.events → AreRight l.self kinds l.budget l.events;
-  found : (kinds : ℤ → Kind) → AreRight l.initial.self kinds l.budget l.events → IsWellFormed (functions_of kinds) l.events → AreFound kinds l.budget l.events (take l.i l.initial.self.keys.keys) l.failing l.over;
+  right : (kinds : Item → Kind) → AreRight l.initial.self kinds l.budget l.events → AreRight l.self kinds l.budget l.events;
+  found : (kinds : Item → Kind) → AreRight l.initial.self kinds l.budget l.events → IsWellFormed (functions_of kinds) l.events → AreFound kinds l.budget l.events (take l.i l.initial.self.keys.keys) l.failing l.over;
   marks : AreSameMarks (marks_in l.initial.self) (marks_in l.self);
   judged : (j : ℕ) (object : Object) → j < l.i → slice_get l.self.objects.items j ≡ Some object → IsJudged l.budget object;
   over : (at : ℕ) → l.over ≡ Some at → (j : ℕ) × (object : Object) × (j < l.i) × (slice_get l.self.objects.items j ≡ Some object) × StandsOver at object;

@@ -1,5 +1,6 @@
 use Rattle.std.specs.Global.{Vec}
-use Rattle.std.proofs.Common.{◌≡◌, ◌<◌, ℕ, ℤ, Some, All, length, slice_get, get_or, inl, inr, refl, sym, ap, subst, ◌∙◌, arith}
+use Rattle.std.proofs.Common.{◌≡◌, ◌<◌, ℕ, Some, All, length, slice_get, get_or, inl, inr, refl, sym, ap, subst, ◌∙◌, arith}
+use Rattle.lin_events.specs.declared.items.Item.{Item}
 use Rattle.lin_objects.specs.declared.kinds.Kind.{Kind}
 use Rattle.lin_orders.specs.Parts.{events_at, part}
 use Rattle.lin_chain.specs.Chains.{IsAnswered, kind_in, told_in}
@@ -16,7 +17,7 @@ use Rattle.lin_session.proofs.kept.Objects.judge_listed.Goals as goal
 use Rattle.lin_session.proofs.kept.Objects.judge_listed.Goals.{After-index_mut-object}
 
 -- what is known of the object that stands there
-there : (c : After-index_mut-object) (kinds : ℤ → Kind) → AreRight c.args.self.now kinds c.args.budget c.args.events.now → (key : ℤ) → slice_get c.args.self.now.keys.keys c.args.i ≡ Some key
+there : (c : After-index_mut-object) (kinds : Item → Kind) → AreRight c.args.self.now kinds c.args.budget c.args.events.now → (key : Item) → slice_get c.args.self.now.keys.keys c.args.i ≡ Some key
     → IsObject kinds c.args.budget c.args.events.now c.args.self.now.split key c.index_mut-object.result.now
 there c kinds kept = object_there c.args.self.now c.args.i c.requires.listed c.index_mut-object.result.now c.index_mut-object.ensures.value c.positions_spell_parts.ensures c.args.budget c.args.events.now c.requires.split kinds kept
 

@@ -1,6 +1,5 @@
-use Rattle.std.proofs.Common.{◌≡◌, ◌≤◌, ◌+◌, ◌-◌, ◌++◌, ◌∷◌, List, suc, length, take, drop, subst, sym, ap, ◌∙◌, arith, add-one, to_z, of_z, w64, rules}
+use Rattle.std.proofs.Common.{◌≡◌, ◌≤◌, ◌+◌, ◌-◌, ◌++◌, ◌∷◌, List, suc, length, take, drop, subst, sym, ap, ◌∙◌, arith, add-one}
 use Rattle.std.proofs.lemmas.List.{length-take-le, take_rest}
-use Rattle.std.proofs.lemmas.Int.{to_z-of_z}
 use Rattle.lin_events.specs.declared.events.Event.{Event}
 use Rattle.lin_session.specs.Objects.{AreRight, split_in}
 use Rattle.lin_lists.specs.lemmas.Taken.{split_at}
@@ -15,7 +14,7 @@ returns-clause-right c = λ kinds budget kept.
     let h = c.args.events.now in
     let at = c.args.at in
     let event = c.index-events-at.result in
-    let same = sym (to_z-of_z w64 event.key (search rules)) ∙ ap (λ (e : Event). to_z w64 (of_z w64 e.key)) c.index-events-at.is in
+    let same = ap (λ (e : Event). e.key) c.index-events-at.is in
     let ahead : split_in c.unsplit.new.self ≤ length (take at h) = omega (arith, length-take-le at h (omega (arith, c.requires.place)), c.unsplit.ensures.split) in
     let kept_now = subst (AreRight c.unsplit.new.self kinds budget) (sym (split_at h at event c.requires.place c.index-events-at.is)) (c.unsplit.ensures.right kinds budget kept) in
     let behind : List Event = take (length h - (at + 1)) (drop (at + 1) h) in
@@ -29,7 +28,7 @@ returns-clause-marks c = λ kinds budget kept x.
     let h = c.args.events.now in
     let at = c.args.at in
     let event = c.index-events-at.result in
-    let same = sym (to_z-of_z w64 event.key (search rules)) ∙ ap (λ (e : Event). to_z w64 (of_z w64 e.key)) c.index-events-at.is in
+    let same = ap (λ (e : Event). e.key) c.index-events-at.is in
     let kept_now = subst (AreRight c.unsplit.new.self kinds budget) (sym (split_at h at event c.requires.place c.index-events-at.is)) (c.unsplit.ensures.right kinds budget kept) in
     let behind : List Event = take (length h - (at + 1)) (drop (at + 1) h) in
     let rest : behind ≡ drop (suc at) h = take_rest h (at + 1) ∙ ap (λ n. drop n h) (add-one at) in

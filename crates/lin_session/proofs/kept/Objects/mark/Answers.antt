@@ -1,5 +1,4 @@
-use Rattle.std.proofs.Common.{◌≡◌, ◌∙◌, length, map, set, ap, sym, subst, slice_get, Some, Contains, to_z, of_z, w64, rules}
-use Rattle.std.proofs.lemmas.Int.{to_z-of_z}
+use Rattle.std.proofs.Common.{◌≡◌, ◌∙◌, length, map, set, sym, subst, slice_get, Some}
 use Rattle.std.proofs.lemmas.List.{length-set, length-map}
 use Rattle.lin_session.specs.Objects.{AreKept, listed_marks}
 use Rattle.lin_session.specs.inner.Objects.{settled_object}
@@ -10,15 +9,10 @@ use Rattle.lin_session.proofs.Settling.{AreSet, AreKept-marked, AreMarked-set, A
 use Rattle.lin_session.proofs.kept.Objects.mark.Goals as goal
 use Rattle.lin_session.proofs.kept.Objects.mark.Goals.{After-mark}
 
-key_at : (c : After-mark) → slice_get c.args.self.now.keys.keys c.in-Some.i ≡ Some c.in-Object.key
-key_at c =
-    let is_key : to_z w64 (of_z w64 c.in-Object.key) ≡ c.in-Object.key = to_z-of_z w64 c.in-Object.key (search rules) in
-    c.in-Some.ensures.found ∙ ap Some is_key
-
 old_at : (c : After-mark) → slice_get c.args.self.now.objects.items c.in-Some.i ≡ Some c.index_mut.result.now
 old_at c =
     let s = c.args.self.now in
-    object_at s.keys.keys s.objects.items c.in-Some.i c.in-Object.key c.index_mut.result.now s.aligned (key_at c) c.index_mut.ensures.value
+    object_at s.keys.keys s.objects.items c.in-Some.i c.in-Object.key c.index_mut.result.now s.aligned c.in-Some.ensures.found c.index_mut.ensures.value
 
 long : (c : After-mark) → length (set c.args.self.now.objects.items c.in-Some.i c.mark.new.self) ≡ length c.args.self.now.keys.keys
 long c = length-set c.args.self.now.objects.items c.in-Some.i c.mark.new.self ∙ c.args.self.now.aligned
@@ -27,7 +21,7 @@ pub returns-in-Some-clause-right : goal.returns-in-Some-clause-right
 returns-in-Some-clause-right c = λ kinds budget h all kept judged.
     let b = (goal.at.returns-in-Some-clause-right c).After-mark in
     let s = c.args.self.now in
-    let are = AreSet-one s.keys.keys s.objects.items kept.distinct s.aligned c.in-Some.i c.in-Object.key c.index_mut.result.now c.mark.new.self (key_at b) (old_at b) c.mark.ensures in
+    let are = AreSet-one s.keys.keys s.objects.items kept.distinct s.aligned c.in-Some.i c.in-Object.key c.index_mut.result.now c.mark.new.self c.in-Some.ensures.found (old_at b) c.mark.ensures in
     AreKept-marked c.positions_spell_parts.ensures kinds budget h s.split s.keys.keys s.objects.items _ c.args.scope all kept s.aligned (long b)
     (subst (λ q. AreSet q s.keys.keys s.objects.items (set s.objects.items c.in-Some.i c.mark.new.self)) (sym c.in-Object.is) are) judged
 
@@ -35,15 +29,14 @@ pub returns-in-Some-clause-marks : goal.returns-in-Some-clause-marks
 returns-in-Some-clause-marks c = λ kinds budget h all kept judged.
     let b = (goal.at.returns-in-Some-clause-marks c).After-mark in
     let s = c.args.self.now in
-    let are = AreSet-one s.keys.keys s.objects.items kept.distinct s.aligned c.in-Some.i c.in-Object.key c.index_mut.result.now c.mark.new.self (key_at b) (old_at b) c.mark.ensures in
+    let are = AreSet-one s.keys.keys s.objects.items kept.distinct s.aligned c.in-Some.i c.in-Object.key c.index_mut.result.now c.mark.new.self c.in-Some.ensures.found (old_at b) c.mark.ensures in
     AreMarked-set c.positions_spell_parts.ensures kinds budget h s.split s.keys.keys s.objects.items _ c.args.scope all kept s.aligned (long b)
     (subst (λ q. AreSet q s.keys.keys s.objects.items (set s.objects.items c.in-Some.i c.mark.new.self)) (sym c.in-Object.is) are) judged
 
 pub returns-in_default-clause-marks : goal.returns-in_default-clause-marks
 returns-in_default-clause-marks c = λ kinds budget h all kept judged.
     let s = c.args.self.now in
-    let is_key : to_z w64 (of_z w64 c.in-Object.key) ≡ c.in-Object.key = to_z-of_z w64 c.in-Object.key (search rules) in
-    let are = AreSet-none s.keys.keys s.objects.items c.in-Object.key (λ there. c.in_default.ensures.none (subst (Contains s.keys.keys) (sym is_key) there)) in
+    let are = AreSet-none s.keys.keys s.objects.items c.in-Object.key c.in_default.ensures.none in
     AreMarked-set c.positions_spell_parts.ensures kinds budget h s.split s.keys.keys s.objects.items s.objects.items c.args.scope all kept s.aligned s.aligned
     (subst (λ q. AreSet q s.keys.keys s.objects.items s.objects.items) (sym c.in-Object.is) are) judged
 
@@ -67,15 +60,14 @@ pub returns-in-Some-clause-told : goal.returns-in-Some-clause-told
 returns-in-Some-clause-told c = λ kinds budget h all kept judged at over.
     let b = (goal.at.returns-in-Some-clause-told c).After-mark in
     let s = c.args.self.now in
-    let are = AreSet-one s.keys.keys s.objects.items kept.distinct s.aligned c.in-Some.i c.in-Object.key c.index_mut.result.now c.mark.new.self (key_at b) (old_at b) c.mark.ensures in
+    let are = AreSet-one s.keys.keys s.objects.items kept.distinct s.aligned c.in-Some.i c.in-Object.key c.index_mut.result.now c.mark.new.self c.in-Some.ensures.found (old_at b) c.mark.ensures in
     marked_over c.positions_spell_parts.ensures kinds budget h s.split s.keys.keys s.objects.items _ c.args.scope all kept s.aligned (long b)
     (subst (λ q. AreSet q s.keys.keys s.objects.items (set s.objects.items c.in-Some.i c.mark.new.self)) (sym c.in-Object.is) are) judged c.parts_of_prefixes.ensures.prefixes at over.0 over.1 over.2 over.3 over.4 over.5 over.6
 
 pub returns-in_default-clause-told : goal.returns-in_default-clause-told
 returns-in_default-clause-told c = λ kinds budget h all kept judged at over.
     let s = c.args.self.now in
-    let is_key : to_z w64 (of_z w64 c.in-Object.key) ≡ c.in-Object.key = to_z-of_z w64 c.in-Object.key (search rules) in
-    let are = AreSet-none s.keys.keys s.objects.items c.in-Object.key (λ there. c.in_default.ensures.none (subst (Contains s.keys.keys) (sym is_key) there)) in
+    let are = AreSet-none s.keys.keys s.objects.items c.in-Object.key c.in_default.ensures.none in
     marked_over c.positions_spell_parts.ensures kinds budget h s.split s.keys.keys s.objects.items s.objects.items c.args.scope all kept s.aligned s.aligned
     (subst (λ q. AreSet q s.keys.keys s.objects.items s.objects.items) (sym c.in-Object.is) are) judged c.parts_of_prefixes.ensures.prefixes at over.0 over.1 over.2 over.3 over.4 over.5 over.6
 

@@ -1,8 +1,6 @@
 use Rattle.std.proofs.lemmas.Result.{IfOk-weaker}
-use Rattle.std.proofs.Common.{sym, subst}
 use Rattle.lin_objects.specs.Kinds.{kind_of}
 use Rattle.lin_orders.specs.Parts.{events_at}
-use Rattle.lin_session.specs.inner.Judgements.{IsAlive}
 use Rattle.lin_session.proofs.Advancing.{object_there, old_at, right_there, spelled_length}
 use Rattle.lin_session.proofs.Asking.{order_told}
 use Rattle.lin_session.proofs.kept.Objects.order_listed.Goals as goal

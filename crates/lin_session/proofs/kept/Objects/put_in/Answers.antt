@@ -1,48 +1,36 @@
-use Rattle.std.proofs.Common.{◌≡◌, ◌<◌, ◌-◌, ◌++◌, length, length-append, to_z, of_z, w64, Some, ◌∙◌, ap, sym, subst, slice_get, Contains, arith}
-use Rattle.std.proofs.lemmas.Int.{to_z-of_z}
+use Rattle.std.proofs.Common.{◌≡◌, ◌<◌, ◌-◌, ◌++◌, length, length-append, Some, ap, slice_get, arith}
 use Rattle.std.proofs.lemmas.List.Elements.{filter-append}
-use Rattle.std.specs.Ordering.{int_eq}
+use Rattle.lin_events.specs.Items.{item_eq}
 use Rattle.lin_events.specs.declared.events.Event.{Event}
 use Rattle.lin_orders.specs.Parts.{part}
 use Rattle.lin_session.specs.Work.{rounded}
 use Rattle.lin_session.proofs.Listed.{AreTouched-unlisted, marks_touched}
-use Rattle.lin_session.proofs.Around.{StaysAhead, AreKept-with, AreKept-with_unlisted, IsMarkRight-with, part_few}
+use Rattle.lin_session.proofs.Around.{AreKept-with, AreKept-with_unlisted, IsMarkRight-with, part_few}
 use Rattle.lin_session.proofs.Found.{object_at}
 use Rattle.lin_session.proofs.Marking.{IsTouched, touched_over}
 use Rattle.lin_session.proofs.kept.Objects.put_in.Goals as goal
 use Rattle.lin_session.proofs.kept.Objects.put_in.Goals.{After-cut_ahead_of, After-index_mut-object}
 
--- where the key is listed, and what stands there
-key_at : (c : After-index_mut-object) → slice_get c.args.self.now.keys.keys c.in-Some.i ≡ Some c.args.key
-key_at c =
-    let is_key : to_z w64 (of_z w64 c.args.key) ≡ c.args.key = to_z-of_z w64 c.args.key c.ranges.key in
-    c.in-Some.ensures.found ∙ ap Some is_key
-
+-- what stands where the key is listed
 old_at : (c : After-index_mut-object) → slice_get c.args.self.now.objects.items c.in-Some.i ≡ Some c.index_mut-object.result.now
 old_at c =
     let s = c.args.self.now in
-    object_at s.keys.keys s.objects.items c.in-Some.i c.args.key c.index_mut-object.result.now s.aligned (key_at c) c.index_mut-object.ensures.value
+    object_at s.keys.keys s.objects.items c.in-Some.i c.args.key c.index_mut-object.result.now s.aligned c.in-Some.ensures.found c.index_mut-object.ensures.value
 
 touch : (c : After-cut_ahead_of) → let old = c.index_mut-object.result.now in let place = old.count - length (part c.args.key c.args.behind.now) in IsTouched place (rounded place) old c.cut_ahead_of.new.self
-touch c =
-    let old = c.index_mut-object.result.now in
-    let is_key : to_z w64 (of_z w64 c.args.key) ≡ c.args.key = to_z-of_z w64 c.args.key c.ranges.key in
-    let place_is : old.count - length (part (to_z w64 (of_z w64 c.args.key)) c.args.behind.now) ≡ old.count - length (part c.args.key c.args.behind.now) =
-    ap (λ k. old.count - length (part k c.args.behind.now)) is_key in
-    subst (λ p. IsTouched p (rounded p) old c.cut_ahead_of.new.self) place_is (record { mark = c.cut_ahead_of.ensures.mark; kept = c.cut_ahead_of.ensures.left })
+touch c = record { mark = c.cut_ahead_of.ensures.mark; kept = c.cut_ahead_of.ensures.left }
 
 pub returns-in-Some-clause-right : goal.returns-in-Some-clause-right
 returns-in-Some-clause-right c = λ kinds budget before event same ahead few kept.
     let s = c.args.self.now in
-    let is_key : to_z w64 (of_z w64 c.args.key) ≡ c.args.key = to_z-of_z w64 c.args.key c.ranges.key in
     let b = (goal.at.returns-in-Some-clause-right c).After-index_mut-object in
     let t = touch (goal.at.returns-in-Some-clause-right c).After-cut_ahead_of in
     let old = c.index_mut-object.result.now in
     let fits : old.count < 18446744073709551615 =
-    omega (arith, few, (kept.each c.in-Some.i c.args.key old (key_at b) (old_at b)).counted, part_few c.args.key (before ++ c.args.behind.now), length-append before c.args.behind.now) in
-    AreKept-with kinds budget before c.args.behind.now event c.args.key same s.split ahead s.keys.keys s.objects.items kept c.in-Some.i old _ (key_at b) (old_at b)
+    omega (arith, few, (kept.each c.in-Some.i c.args.key old c.in-Some.ensures.found (old_at b)).counted, part_few c.args.key (before ++ c.args.behind.now), length-append before c.args.behind.now) in
+    AreKept-with kinds budget before c.args.behind.now event c.args.key same s.split ahead s.keys.keys s.objects.items kept c.in-Some.i old _ c.in-Some.ensures.found (old_at b)
     c.cut_ahead_of.ensures.picks (omega (arith, c.cut_ahead_of.ensures.count, c.saturating_add-object.ensures)) c.cut_ahead_of.ensures.kind
-    (subst (λ k. StaysAhead k c.args.behind.now old.count old.chain c.cut_ahead_of.new.self.chain) is_key c.cut_ahead_of.ensures.right)
+    c.cut_ahead_of.ensures.right
     (λ is. IsMarkRight-with kinds budget before c.args.behind.now event c.args.key same s.split ahead s.keys.keys s.objects.items old _ (omega (arith, c.cut_ahead_of.ensures.count, c.saturating_add-object.ensures, fits))
     (record { mark = t.mark; kept = t.kept }) is)
     (λ at e.
@@ -54,19 +42,17 @@ returns-in-Some-clause-marks c = λ kinds budget before kept.
     let s = c.args.self.now in
     let b = (goal.at.returns-in-Some-clause-marks c).After-index_mut-object in
     let h = before ++ c.args.behind.now in
-    let own = ap length (filter-append (λ (e : Event). int_eq e.key c.args.key) before c.args.behind.now) in
-    marks_touched kinds budget h s.split s.keys.keys s.objects.items kept c.in-Some.i c.args.key c.index_mut-object.result.now _ (key_at b) (old_at b) _ (length (part c.args.key before)) rounded
+    let own = ap length (filter-append (λ (e : Event). item_eq e.key c.args.key) before c.args.behind.now) in
+    marks_touched kinds budget h s.split s.keys.keys s.objects.items kept c.in-Some.i c.args.key c.index_mut-object.result.now _ c.in-Some.ensures.found (old_at b) _ (length (part c.args.key before)) rounded
     (touch (goal.at.returns-in-Some-clause-marks c).After-cut_ahead_of).mark
     (λ exact. omega (arith, exact, own, length-append (part c.args.key before) (part c.args.key c.args.behind.now)))
 
 pub returns-in_default-clause-right : goal.returns-in_default-clause-right
 returns-in_default-clause-right c = λ kinds budget before event same ahead few kept.
     let s = c.args.self.now in
-    let is_key : to_z w64 (of_z w64 c.args.key) ≡ c.args.key = to_z-of_z w64 c.args.key c.ranges.key in
-    AreKept-with_unlisted kinds budget before c.args.behind.now event c.args.key same s.split ahead s.keys.keys s.objects.items kept (λ there. c.in_default.ensures.none (subst (Contains s.keys.keys) (sym is_key) there))
+    AreKept-with_unlisted kinds budget before c.args.behind.now event c.args.key same s.split ahead s.keys.keys s.objects.items kept c.in_default.ensures.none
 
 pub returns-in_default-clause-marks : goal.returns-in_default-clause-marks
 returns-in_default-clause-marks c = λ kinds budget before kept.
     let s = c.args.self.now in
-    let is_key : to_z w64 (of_z w64 c.args.key) ≡ c.args.key = to_z-of_z w64 c.args.key c.ranges.key in
-    AreTouched-unlisted s.keys.keys s.objects.items c.args.key _ _ (λ there. c.in_default.ensures.none (subst (Contains s.keys.keys) (sym is_key) there))
+    AreTouched-unlisted s.keys.keys s.objects.items c.args.key _ _ c.in_default.ensures.none

@@ -1,5 +1,4 @@
-use Rattle.std.proofs.Common.{◌≡◌, ◌<◌, ◌+◌, ◌++◌, [], length, append-nil, to_z, of_z, w64, Some, ◌∙◌, ap, sym, subst, slice_get, Contains, refl, arith}
-use Rattle.std.proofs.lemmas.Int.{to_z-of_z}
+use Rattle.std.proofs.Common.{◌≡◌, ◌<◌, ◌+◌, ◌++◌, [], length, append-nil, Some, sym, subst, slice_get, refl, arith}
 use Rattle.lin_orders.specs.Parts.{part}
 use Rattle.lin_session.specs.Objects.{AreRight, IsMarkRight}
 use Rattle.lin_session.proofs.Listed.{AreTouched-unlisted, marks_touched}
@@ -10,16 +9,11 @@ use Rattle.lin_session.proofs.Marking.{IsMarkRight-last, touched_over}
 use Rattle.lin_session.proofs.kept.Objects.put_last.Goals as goal
 use Rattle.lin_session.proofs.kept.Objects.put_last.Goals.{After-cut_at_end, After-index_mut-object}
 
--- where the key is listed, and what stands there
-key_at : (c : After-index_mut-object) → slice_get c.args.self.now.keys.keys c.in-Some.i ≡ Some c.args.key
-key_at c =
-    let is_key : to_z w64 (of_z w64 c.args.key) ≡ c.args.key = to_z-of_z w64 c.args.key c.ranges.key in
-    c.in-Some.ensures.found ∙ ap Some is_key
-
+-- what stands where the key is listed
 old_at : (c : After-index_mut-object) → slice_get c.args.self.now.objects.items c.in-Some.i ≡ Some c.index_mut-object.result.now
 old_at c =
     let s = c.args.self.now in
-    object_at s.keys.keys s.objects.items c.in-Some.i c.args.key c.index_mut-object.result.now s.aligned (key_at c) c.index_mut-object.ensures.value
+    object_at s.keys.keys s.objects.items c.in-Some.i c.args.key c.index_mut-object.result.now s.aligned c.in-Some.ensures.found c.index_mut-object.ensures.value
 
 -- its chain stays right behind any events that it was right for
 stays : (c : After-cut_at_end) → StaysAhead c.args.key [] c.index_mut-object.result.now.count c.index_mut-object.result.now.chain c.cut_at_end.new.self.chain
@@ -31,10 +25,10 @@ returns-in-Some-clause-right c = λ kinds budget h event same few kept.
     let b = (goal.at.returns-in-Some-clause-right c).After-index_mut-object in
     let old = c.index_mut-object.result.now in
     let kept_now = subst (AreRight s kinds budget) (sym (append-nil h)) kept in
-    let was = kept.each c.in-Some.i c.args.key old (key_at b) (old_at b) in
+    let was = kept.each c.in-Some.i c.args.key old c.in-Some.ensures.found (old_at b) in
     let fits : old.count < 18446744073709551615 = omega (arith, few, was.counted, part_few c.args.key h) in
     let count : c.saturating_add-object.result ≡ old.count + 1 = omega (arith, c.cut_at_end.ensures.count, c.saturating_add-object.ensures, fits) in
-    AreKept-with kinds budget h [] event c.args.key same s.split kept.within s.keys.keys s.objects.items kept_now c.in-Some.i old _ (key_at b) (old_at b)
+    AreKept-with kinds budget h [] event c.args.key same s.split kept.within s.keys.keys s.objects.items kept_now c.in-Some.i old _ c.in-Some.ensures.found (old_at b)
     c.cut_at_end.ensures.picks (omega (arith, count)) c.cut_at_end.ensures.kind (stays (goal.at.returns-in-Some-clause-right c).After-cut_at_end)
     (λ is.
     let more = one_with kinds budget h [] event c.args.key same s.split kept.within s.keys.keys s.objects.items in
@@ -46,18 +40,16 @@ pub returns-in-Some-clause-marks : goal.returns-in-Some-clause-marks
 returns-in-Some-clause-marks c = λ kinds budget h kept.
     let s = c.args.self.now in
     let b = (goal.at.returns-in-Some-clause-marks c).After-index_mut-object in
-    marks_touched kinds budget h s.split s.keys.keys s.objects.items kept c.in-Some.i c.args.key c.index_mut-object.result.now _ (key_at b) (old_at b) c.index_mut-object.result.now.count (length (part c.args.key h)) (λ n. n)
+    marks_touched kinds budget h s.split s.keys.keys s.objects.items kept c.in-Some.i c.args.key c.index_mut-object.result.now _ c.in-Some.ensures.found (old_at b) c.index_mut-object.result.now.count (length (part c.args.key h)) (λ n. n)
     c.cut_at_end.ensures.mark (λ exact. exact)
 
 pub returns-in_default-clause-right : goal.returns-in_default-clause-right
 returns-in_default-clause-right c = λ kinds budget h event same few kept.
     let s = c.args.self.now in
-    let is_key : to_z w64 (of_z w64 c.args.key) ≡ c.args.key = to_z-of_z w64 c.args.key c.ranges.key in
     AreKept-with_unlisted kinds budget h [] event c.args.key same s.split kept.within s.keys.keys s.objects.items (subst (AreRight s kinds budget) (sym (append-nil h)) kept)
-    (λ there. c.in_default.ensures.none (subst (Contains s.keys.keys) (sym is_key) there))
+    c.in_default.ensures.none
 
 pub returns-in_default-clause-marks : goal.returns-in_default-clause-marks
 returns-in_default-clause-marks c = λ kinds budget h kept.
     let s = c.args.self.now in
-    let is_key : to_z w64 (of_z w64 c.args.key) ≡ c.args.key = to_z-of_z w64 c.args.key c.ranges.key in
-    AreTouched-unlisted s.keys.keys s.objects.items c.args.key _ _ (λ there. c.in_default.ensures.none (subst (Contains s.keys.keys) (sym is_key) there))
+    AreTouched-unlisted s.keys.keys s.objects.items c.args.key _ _ c.in_default.ensures.none

@@ -1,6 +1,6 @@
-use Rattle.std.proofs.Common.{◌≡◌, ℕ, ℤ, Bool, Some, slice_get, sym, subst, get_or, ◌<◌, length, to_z, of_z, w64}
-use Rattle.std.proofs.lemmas.Int.{to_z-of_z}
+use Rattle.std.proofs.Common.{◌≡◌, ℕ, Bool, Some, slice_get, sym, subst, get_or, ◌<◌, length}
 use Rattle.std.proofs.lemmas.Result.{IfOk-weaker}
+use Rattle.lin_events.specs.declared.items.Item.{Item}
 use Rattle.lin_objects.specs.Kinds.{functions_of}
 use Rattle.lin_chain.specs.declared.chain.End.TheVariants.{Dead}
 use Rattle.lin_chain.specs.Chains.{IsRight, told_in}
@@ -14,20 +14,15 @@ use Rattle.lin_session.proofs.Refuting.{over_in, refuted_in, refused_for}
 use Rattle.lin_session.proofs.kept.Objects.refutation.Goals as goal
 use Rattle.lin_session.proofs.kept.Objects.refutation.Goals.{After-deref}
 
--- where the key is listed, its object stands
-key_at : (c : After-deref) → slice_get c.args.self.now.keys.keys c.in-Some.i ≡ Some c.args.key
-key_at c =
-    let is_key : to_z w64 (of_z w64 c.args.key) ≡ c.args.key = to_z-of_z w64 c.args.key c.ranges.key in
-    subst (λ k. slice_get c.args.self.now.keys.keys c.in-Some.i ≡ Some k) is_key c.in-Some.ensures.found
-
+-- what stands where the key is listed
 stands : (c : After-deref) → slice_get c.args.self.now.objects.items c.in-Some.i ≡ Some c.index-object.result.now
 stands c =
     let s = c.args.self.now in
-    object_at s.keys.keys s.objects.items c.in-Some.i c.args.key c.index-object.result.now s.aligned (key_at c) c.index-object.ensures
+    object_at s.keys.keys s.objects.items c.in-Some.i c.args.key c.index-object.result.now s.aligned c.in-Some.ensures.found c.index-object.ensures
 
 -- the object, for the kinds that the caller knows
 there : (c : After-deref) → IsObject c.requires.right.0 c.args.budget c.args.events.now c.args.self.now.split c.args.key c.index-object.result.now
-there c = c.requires.right.1.each c.in-Some.i c.args.key c.index-object.result.now (key_at c) (stands c)
+there c = c.requires.right.1.each c.in-Some.i c.args.key c.index-object.result.now c.in-Some.ensures.found (stands c)
 
 pub refute-requires-clause-right : goal.refute-requires-clause-right
 refute-requires-clause-right c =
@@ -43,7 +38,7 @@ refute-requires-clause-inside c =
 
 pub refute-requires-clause-well_formed : goal.refute-requires-clause-well_formed
 refute-requires-clause-well_formed c =
-    subst (λ l. (functions : ℤ → Name → Bool) × IsWellFormed functions (events_at c.args.events.now l)) (sym c.deref.ensures.value) (
+    subst (λ l. (functions : Item → Name → Bool) × IsWellFormed functions (events_at c.args.events.now l)) (sym c.deref.ensures.value) (
       functions_of c.requires.right.0,
       well_formed_spelled c.positions_spell_parts.ensures c.requires.right.0 c.args.budget c.args.events.now c.args.self.now.split c.args.key c.index-object.result.now c.requires.split
           (there (goal.at.refute-requires-clause-well_formed c).After-deref) c.parts_keep_operations.ensures.well_formed c.requires.right.2,
@@ -56,15 +51,15 @@ returns-clause-refuted c =
     IfOk-weaker c.refute.result _ _
     (λ refutation refutes kinds n kept dead.
     refuted_in c.positions_spell_parts.ensures c.parts_of_prefixes.ensures.up_to kinds c.args.budget c.args.events.now c.args.self.now.split c.args.key o c.requires.split
-    (kept.each c.in-Some.i c.args.key o (key_at b) (stands b)) n _ (dead.1 c.in-Some.i o (key_at b) (stands b))
+    (kept.each c.in-Some.i c.args.key o c.in-Some.ensures.found (stands b)) n _ (dead.1 c.in-Some.i o c.in-Some.ensures.found (stands b))
     (rw (← c.deref.ensures.value) refutes)) c.refute.ensures.refuted
 
 pub returns-clause-unrefuted : goal.returns-clause-unrefuted
 returns-clause-unrefuted c =
     let b = (goal.at.returns-clause-unrefuted c).After-deref in
     let o = c.index-object.result.now in
-    let dead = c.requires.dead.1.1 c.in-Some.i o (key_at b) (stands b) in
+    let dead = c.requires.dead.1.1 c.in-Some.i o c.in-Some.ensures.found (stands b) in
     refused_for c.refute.result _ (λ is. (c.refute.ensures.not_dead.0 is) dead.at (subst (λ l. told_in o.chain (length l) ≡ Dead dead.at) (sym c.deref.ensures.value) dead.dead))
     (λ is kinds kept.
     over_in c.positions_spell_parts.ensures c.parts_of_prefixes.ensures.up_to kinds c.args.budget c.args.events.now c.args.self.now.split c.args.key o c.requires.split
-    (kept.each c.in-Some.i c.args.key o (key_at b) (stands b)) (rw (← c.deref.ensures.value) (c.refute.ensures.too_large is)))
+    (kept.each c.in-Some.i c.args.key o c.in-Some.ensures.found (stands b)) (rw (← c.deref.ensures.value) (c.refute.ensures.too_large is)))

@@ -1,5 +1,4 @@
-use Rattle.std.proofs.Common.{◌≡◌, ◌-◌, ◌++◌, ℕ, List, length, take, drop, take-append-drop, slice_get, Some, refl, subst, sym, ap, ◌∙◌, to_z, of_z, w64, rules}
-use Rattle.std.proofs.lemmas.Int.{to_z-of_z}
+use Rattle.std.proofs.Common.{◌≡◌, ◌-◌, ◌++◌, ℕ, List, length, take, drop, take-append-drop, slice_get, Some, refl, subst, sym, ap, ◌∙◌}
 use Rattle.std.proofs.lemmas.List.{take_rest}
 use Rattle.std.proofs.lemmas.Option.{slice_get_read}
 use Rattle.lin_events.specs.declared.events.Event.{Event}
@@ -23,7 +22,7 @@ returns-clause-marks c = λ kinds budget kept x.
     let h = c.args.events.now in
     let at = c.args.at in
     let event = c.index-events-at.result in
-    let same = sym (to_z-of_z w64 event.key (search rules)) ∙ ap (λ (e : Event). to_z w64 (of_z w64 e.key)) c.index-events-at.is in
+    let same = ap (λ (e : Event). e.key) c.index-events-at.is in
     let stands : slice_get h at ≡ Some event = slice_get_read h (length h) at event refl c.requires c.index-events-at.is in
     touched_where h at event _ stands same (marks_in c.args.self.now) (marks_in c.touch.new.self)
     (c.touch.ensures.marks kinds budget (take at h) (subst (AreRight c.args.self.now kinds budget) (sym (whole h at)) kept)) x

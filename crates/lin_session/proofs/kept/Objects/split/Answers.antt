@@ -1,5 +1,4 @@
-use Rattle.std.proofs.Common.{◌≡◌, Some, length, slice_get, refl, sym, ◌∙◌, arith, to_z, of_z, w64, rules}
-use Rattle.std.proofs.lemmas.Int.{to_z-of_z}
+use Rattle.std.proofs.Common.{◌≡◌, Some, length, slice_get, refl, sym, ◌∙◌, arith}
 use Rattle.std.proofs.lemmas.Option.{slice_get_read}
 use Rattle.lin_objects.specs.Kinds.{kind_of}
 use Rattle.lin_session.proofs.kept.Objects.split.Goals as goal
@@ -10,9 +9,8 @@ loop-self-preserved c =
     let event = c.index-events-self.result in
     let stands : slice_get events c.loop-self.self.split ≡ Some event =
     slice_get_read events (length events) c.loop-self.self.split event refl (omega (arith, c.loop-self-test.true)) c.index-events-self.is in
-    let is_key : to_z w64 (of_z w64 event.key) ≡ event.key = to_z-of_z w64 event.key (search rules) in
     record {
-      right = λ budget kept. c.in_ok-split_next.ensures.next (kind_of c.args.kinds.now) budget events event stands (sym is_key) (sym c.of.ensures) (c.loop-self.invariant.right budget kept);
+      right = λ budget kept. c.in_ok-split_next.ensures.next (kind_of c.args.kinds.now) budget events event stands refl (sym c.of.ensures) (c.loop-self.invariant.right budget kept);
       within = omega (arith, c.in_ok-split_next.ensures.split, c.loop-self-test.true);
       same = λ all. absurd (omega (arith, c.loop-self.invariant.apart all, c.loop-self-test.true));
       marks = λ key. c.split_next.ensures.marks key ∙ c.loop-self.invariant.marks key;

@@ -1,20 +1,16 @@
-use Rattle.std.proofs.Common.{◌∙◌, ap, sym, subst, length, Some, min, arith}
+use Rattle.std.proofs.Common.{◌≡◌, ◌++◌, ◌∷◌, [], ◌∙◌, ap, sym, subst, refl, length, Some, min, arith}
 use Rattle.lin_wellformed.specs.Scans.{ready_count}
 use Rattle.lin_session.specs.Sessions.{AreTakenIn}
 use Rattle.lin_session.specs.Work.{least}
 use Rattle.lin_session.proofs.Low.{some_left, AreTakenIn-edit}
-use Rattle.std.proofs.Common.{◌++◌, ◌∷◌, [], ◌∙◌, ap, to_z, of_z, w64, rules}
-use Rattle.std.proofs.lemmas.Int.{to_z-of_z}
 use Rattle.lin_session.specs.Objects.{AreRight}
-use Rattle.std.proofs.Common.{arith, sym, subst, length, ◌≡◌}
 use Rattle.std.proofs.lemmas.List.{length_push}
 use Rattle.lin_session.proofs.Before.{AgreeBefore-events, take-appended}
 use Rattle.lin_objects.specs.Kinds.{kind_of}
-use Rattle.lin_orders.specs.Parts.{part}
 use Rattle.lin_session.specs.declared.edits.Edit.TheVariants.{Append}
 use Rattle.lin_session.specs.inner.Objects.{marks_in}
 use Rattle.lin_session.specs.Sessions.{Standing}
-use Rattle.lin_session.specs.Work.{AreTouched, mark_after, mark_of}
+use Rattle.lin_session.specs.Work.{mark_after, mark_of}
 use Rattle.lin_session.proofs.Touching.{touched_last}
 use Rattle.lin_session.proofs.session.Session.append.Goals as goal
 
@@ -27,9 +23,8 @@ invariant_of-self-2 c = record {
       rw c.push_reserved.ensures.items (c.cut.ensures.right _ _ _ _ c.self.invariant.scanned (AgreeBefore-events _ _ _ _ (rw c.reserve.ensures.items (take-appended _ c.self.inside.events.items c.args.event at_end))));
   kept =
       let h = c.self.inside.events.items in
-      let is_key : to_z w64 (of_z w64 c.args.event.key) ≡ c.args.event.key = to_z-of_z w64 c.args.event.key (search rules) in
       let came : AreRight c.put_last.new.self (kind_of c.self.inside.kinds) c.self.inside.budget (h ++ c.args.event ∷ []) =
-      c.put_last.ensures.right (kind_of c.self.inside.kinds) c.self.inside.budget h c.args.event (sym is_key) (omega (arith, c.self.invariant.few)) c.self.invariant.kept in
+      c.put_last.ensures.right (kind_of c.self.inside.kinds) c.self.inside.budget h c.args.event refl (omega (arith, c.self.invariant.few)) c.self.invariant.kept in
       subst (AreRight c.put_last.new.self (kind_of c.self.inside.kinds) c.self.inside.budget) (sym (c.push_reserved.ensures.items ∙ ap (λ l. l ++ c.args.event ∷ []) c.reserve.ensures.items)) came;
   taken_in =
       let at_end : c.len-2.result ≡ length c.self.inside.events.items = rw (← c.reserve.ensures.items) (omega (arith, c.len-2.ensures, c.reserve.new.self.ok.0)) in
@@ -42,9 +37,8 @@ invariant_of-self-2 c = record {
 
 pub returns-clause-marks : goal.returns-clause-marks
 returns-clause-marks c = λ x.
-    let is_key : to_z w64 (of_z w64 c.args.event.key) ≡ c.args.event.key = to_z-of_z w64 c.args.event.key (search rules) in
     let h = c.self.inside.events.items in
     let old = marks_in c.self.inside.objects in
     let new = marks_in c.put_last.new.self in
-    let touch = subst (λ k. AreTouched k (length (part k h)) (length (part k h)) old new) is_key (c.put_last.ensures.marks (kind_of c.self.inside.kinds) c.self.inside.budget h c.self.invariant.kept) in
+    let touch = c.put_last.ensures.marks (kind_of c.self.inside.kinds) c.self.inside.budget h c.self.invariant.kept in
     subst (λ (s : Standing). new x ≡ mark_after (Append c.args.event) s.present x (mark_of s.marks x)) c.self.view_is (touched_last c.args.event.key h old new touch x)

@@ -1,5 +1,4 @@
-use Rattle.std.proofs.Common.{◌≡◌, None, sym, ap, length, subst, ◌∙◌, to_z, of_z, w64}
-use Rattle.std.proofs.lemmas.Int.{to_z-of_z}
+use Rattle.std.proofs.Common.{◌≡◌, None, sym, ap, length, subst, ◌∙◌}
 use Rattle.lin_events.specs.declared.meter.Meter.{Meter}
 use Rattle.lin_events.specs.WellFormed.{IsShape, IsWellFormed}
 use Rattle.lin_objects.specs.Kinds.{functions_of, kind_of}
@@ -23,11 +22,10 @@ refute-requires-clause-well_formed c =
 
 pub returns-in_err-refuted-in-Good-clause-unrefuted : goal.returns-in_err-refuted-in-Good-clause-unrefuted
 returns-in_err-refuted-in-Good-clause-unrefuted c =
-    let is_key : to_z w64 (of_z w64 c.args.key) ≡ c.args.key = to_z-of_z w64 c.args.key c.ranges.key in
     let fault = c.in_err-refuted-in-Good.field-0.0 in
     let told = rw c.deref-in-Good.ensures.value at c.in_err-refuted-in-Good.ensures.unrefuted in
     passed_on c.from_residual.result fault (IsUnrefuted c.args.self.now.present c.args.key) c.from_residual.ensures.1
-    (subst (λ (s : Standing). IsUnrefuted s.present c.args.key fault) c.self.view_is (subst (λ key. IsUnrefuted (record { history = c.self.inside.events.items; kinds = c.self.inside.kinds; budget = c.self.inside.budget }) key fault) is_key told))
+    (subst (λ (s : Standing). IsUnrefuted s.present c.args.key fault) c.self.view_is told)
 
 pub returns-in_err-refuted-in-Good-clause-known : goal.returns-in_err-refuted-in-Good-clause-known
 returns-in_err-refuted-in-Good-clause-known c = λ none bad.
@@ -59,7 +57,6 @@ invariant_of-self-in-Good c =
 
 pub returns-in_ok-refuted-in-Good-clause-marked : goal.returns-in_ok-refuted-in-Good-clause-marked
 returns-in_ok-refuted-in-Good-clause-marked c = λ fine.
-    let is_key : to_z w64 (of_z w64 c.args.key) ≡ c.args.key = to_z-of_z w64 c.args.key c.ranges.key in
     let K = kind_of c.self.inside.kinds in
     let h = c.deref-in-Good.result.now in
     let old = marks_in c.self.inside.objects in
@@ -67,8 +64,7 @@ returns-in_ok-refuted-in-Good-clause-marked c = λ fine.
     let are = c.mark.ensures.marks K c.self.inside.budget h c.in_ok-refuted-in-Good.ensures.split c.refute.ensures.right c.in_ok-refuted-in-Good.ensures.judged in
     subst (λ (s : Standing). AreMarked (kinds_in s.present) s.present.budget s.present.history (Object c.args.key) (mark_of s.marks) new) c.self.view_is
     (subst (λ l. AreMarked K c.self.inside.budget l (Object c.args.key) old new) c.deref-in-Good.ensures.value
-    (subst (λ k. AreMarked K c.self.inside.budget h (Object k) old new) is_key
-    (AreMarked-since K c.self.inside.budget h _ old (marks_in c.refute.new.self) new c.refute.ensures.marks are)))
+    (AreMarked-since K c.self.inside.budget h _ old (marks_in c.refute.new.self) new c.refute.ensures.marks are))
 
 pub returns-in_ok-refuted-in-Good-clause-ill_formed : goal.returns-in_ok-refuted-in-Good-clause-ill_formed
 returns-in_ok-refuted-in-Good-clause-ill_formed c = λ bad.
@@ -85,7 +81,6 @@ returns-in-Bad-clause-marked c = λ fine.
 
 pub returns-in_ok-refuted-in-Good-clause-idle : goal.returns-in_ok-refuted-in-Good-clause-idle
 returns-in_ok-refuted-in-Good-clause-idle c = λ none nothing.
-    let is_key : to_z w64 (of_z w64 c.args.key) ≡ c.args.key = to_z-of_z w64 c.args.key c.ranges.key in
     let F = functions_of (kind_of c.self.inside.kinds) in
     let h = c.self.inside.events.items in
     let old = marks_in c.self.inside.objects in
@@ -93,9 +88,8 @@ returns-in_ok-refuted-in-Good-clause-idle c = λ none nothing.
     let fine = subst (IsShape F h) c.in-Good.is (subst (λ l. IsShape F l c.in-Ok.shape) c.deref.ensures.value c.in-Ok.ensures.shape) in
     let there = sym c.deref-in-Good.ensures.value in
     let apart = c.self.invariant.apart low fine ∙ ap length there in
-    let nothing_named = subst (λ k. IsNothingDue (c.deref-in-Good.result.now) (Object k) old) (sym is_key)
-    (subst (λ l. IsNothingDue l (Object c.args.key) old) there (subst (λ (s : Standing). IsNothingDue s.present.history (Object c.args.key) (mark_of s.marks)) (sym c.self.view_is) nothing)) in
-    let same = c.refute.ensures.idle apart nothing_named in
+    let nothing_inside = subst (λ l. IsNothingDue l (Object c.args.key) old) there (subst (λ (s : Standing). IsNothingDue s.present.history (Object c.args.key) (mark_of s.marks)) (sym c.self.view_is) nothing) in
+    let same = c.refute.ensures.idle apart nothing_inside in
     let meter = ap (λ (s : Standing). s.meter) c.self.view_is in (
       ap (λ (m : Meter). m.steps) same ∙ c.settle.ensures.others.0 ∙ ap (λ (m : Meter). m.steps) meter,
       ap (λ (m : Meter). m.tries) same ∙ c.settle.ensures.others.1 ∙ ap (λ (m : Meter). m.tries) meter,
@@ -103,7 +97,6 @@ returns-in_ok-refuted-in-Good-clause-idle c = λ none nothing.
 
 pub returns-in_err-refuted-in-Good-clause-idle : goal.returns-in_err-refuted-in-Good-clause-idle
 returns-in_err-refuted-in-Good-clause-idle c = λ none nothing.
-    let is_key : to_z w64 (of_z w64 c.args.key) ≡ c.args.key = to_z-of_z w64 c.args.key c.ranges.key in
     let F = functions_of (kind_of c.self.inside.kinds) in
     let h = c.self.inside.events.items in
     let old = marks_in c.self.inside.objects in
@@ -111,9 +104,8 @@ returns-in_err-refuted-in-Good-clause-idle c = λ none nothing.
     let fine = subst (IsShape F h) c.in-Good.is (subst (λ l. IsShape F l c.in-Ok.shape) c.deref.ensures.value c.in-Ok.ensures.shape) in
     let there = sym c.deref-in-Good.ensures.value in
     let apart = c.self.invariant.apart low fine ∙ ap length there in
-    let nothing_named = subst (λ k. IsNothingDue (c.deref-in-Good.result.now) (Object k) old) (sym is_key)
-    (subst (λ l. IsNothingDue l (Object c.args.key) old) there (subst (λ (s : Standing). IsNothingDue s.present.history (Object c.args.key) (mark_of s.marks)) (sym c.self.view_is) nothing)) in
-    let same = c.refute.ensures.idle apart nothing_named in
+    let nothing_inside = subst (λ l. IsNothingDue l (Object c.args.key) old) there (subst (λ (s : Standing). IsNothingDue s.present.history (Object c.args.key) (mark_of s.marks)) (sym c.self.view_is) nothing) in
+    let same = c.refute.ensures.idle apart nothing_inside in
     let meter = ap (λ (s : Standing). s.meter) c.self.view_is in (
       ap (λ (m : Meter). m.steps) same ∙ c.settle.ensures.others.0 ∙ ap (λ (m : Meter). m.steps) meter,
       ap (λ (m : Meter). m.tries) same ∙ c.settle.ensures.others.1 ∙ ap (λ (m : Meter). m.tries) meter,

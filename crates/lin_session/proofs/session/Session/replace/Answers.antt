@@ -1,8 +1,8 @@
 use Rattle.std.proofs.Common.{◌≡◌, ◌∙◌, refl, ap, sym, subst, length, set, slice_get, Some, arith, if◌then◌else◌}
 use Rattle.std.specs.Prelude.{◌||◌}
-use Rattle.std.specs.Ordering.{int_eq}
 use Rattle.std.proofs.lemmas.List.{length-set, set-get_or}
 use Rattle.std.proofs.lemmas.Option.{slice_get_read}
+use Rattle.lin_events.specs.Items.{item_eq}
 use Rattle.lin_objects.specs.Kinds.{kind_of}
 use Rattle.lin_wellformed.specs.Scans.{ready_count}
 use Rattle.lin_orders.specs.Orders.{is_of_key}
@@ -71,4 +71,4 @@ returns-clause-marks c = λ x.
     let there = c.deref-2.ensures.value in
     let touch = c.replace.ensures.marks K c.self.inside.budget (subst (AreRight c.self.inside.objects K c.self.inside.budget) (sym there) c.self.invariant.kept) x in
     subst (λ (s : Standing). new ≡ mark_after (Replace c.args.at c.args.event) s.present x (mark_of s.marks x)) c.self.view_is
-    (subst (λ l. new ≡ (if int_eq c.args.event.key x || is_of_key l x c.args.at then touched_at l x c.args.at old else old)) there touch)
+    (subst (λ l. new ≡ (if item_eq c.args.event.key x || is_of_key l x c.args.at then touched_at l x c.args.at old else old)) there touch)

@@ -1,0 +1,67 @@
+-- Items, and lists of items that copies share.
+use Rattle.std.specs.Prelude.{◌≡◌, true, false, List, [], ◌∷◌, ◌+◌, ◌*◌, ◌%◌, ◌^◌, ℕ, Bool, Option, Some, None, Decides}
+use Rattle.std.proofs.Math.Bool.{beq}
+use Rattle.std.specs.Cmp.{IsTotalOrder}
+use Rattle.std.specs.Int.{cast_unsigned, w64}
+use Rattle.std.specs.Int.Bits.{bit_xor}
+use Rattle.std.specs.Ordering.{int_cmp, int_eq, bool_cmp}
+use Rattle.std.specs.declared.cmp.Ordering.{Ordering}
+use Rattle.std.specs.declared.cmp.Ordering.TheVariants.{Less, Equal, Greater}
+use Rattle.std.specs.Hash as fed
+use Rattle.std.specs.Hash.{HashWrites}
+use Rattle.std.specs.declared.rc.Rc.{Rc}
+use Rattle.std.specs.Global.{Vec}
+use Rattle.lin_events.specs.declared.items.Item.{Item}
+use Rattle.lin_events.specs.declared.items.Item.TheVariants.{Int, Bool as Truth}
+
+-- how two items compare: truth values, false first, and then integers rising
+abbrev pub item_cmp : Item → Item → Ordering
+item_cmp (Int a) (Int b) = int_cmp a b
+item_cmp (Int a) (Truth b) = Greater
+item_cmp (Truth a) (Int b) = Less
+item_cmp (Truth a) (Truth b) = bool_cmp a b
+
+-- whether two items are the same
+abbrev pub item_eq : Item → Item → Bool
+item_eq (Int a) (Int b) = int_eq a b
+item_eq (Int a) (Truth b) = false
+item_eq (Truth a) (Int b) = false
+item_eq (Truth a) (Truth b) = beq a b
+
+abbrev pub ItemsAreOrdered : Type 0
+ItemsAreOrdered = IsTotalOrder item_cmp
+
+-- items that the order doesn't tell apart, or that are equal by `==`, are one
+abbrev pub ItemsCompareAlike : Type 0
+ItemsCompareAlike = ((a b : Item) → item_cmp a b ≡ Equal → a ≡ b) × ((a b : Item) → Decides (item_eq a b) (a ≡ b))
+
+-- the items of the list, none where there is no list
+abbrev pub listed : {Z : Type 0} → Option (Rc (Vec Item) Z) → List Item
+listed None = []
+listed (Some rc) = rc.value.items
+
+-- a number for an item, which other items may have too
+abbrev pub code_of : Item → ℕ
+code_of (Truth false) = 2 ^ 62 + 1
+code_of (Truth true) = 2 ^ 63 + 2
+code_of (Int i) = cast_unsigned w64 i
+
+-- what is hashed of an item
+abbrev pub hashed_item : Item → HashWrites
+hashed_item x = fed.u64 (code_of x)
+
+-- the digest with one item more
+abbrev pub mixed : ℕ → Item → ℕ
+mixed digest x = bit_xor digest (code_of x) * 1099511628211 % 18446744073709551616
+
+-- from this digest on, that of the items
+abbrev pub digest_from : ℕ → List Item → ℕ
+digest_from digest [] = digest
+digest_from digest (x ∷ xs) = digest_from (mixed digest x) xs
+
+abbrev pub digest_of : List Item → ℕ
+digest_of items = digest_from 0 items
+
+-- what is hashed of the items
+abbrev pub hashed : List Item → HashWrites
+hashed items = fed.u64 (digest_of items)
