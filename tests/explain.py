@@ -122,9 +122,9 @@ class Sheet:
             ('{:process %s :type :ok :f :read}' % draw.choice(['-1', '"a"', 'nil', '9223372036854775808']), 4, 'BadProcess', ':process has to be an integer of at least 0, or the keyword of a nemesis'),
             ('#t {:process 0 :type :okay :f :read}', 5, 'BadType', ':type has to be :invoke, :ok, :fail or :info'),
             ('{:process 0 :type :ok :f :txn}', 6, 'BadFunction', ':f has to be :read, :write, :cas, :enqueue, :dequeue, :add, :acquire or :release'),
-            ('{:process 0 :type :ok :f :read :value %s}' % draw.choice(['5', '[5]', '[:a 5]', 'nil']), 7, 'BadKey', 'with --keyed each :value has to be a pair [key value]') if keyed else
+            ('{:process 0 :type :ok :f :read :value %s}' % draw.choice(['5', '[5]', '[a 5]', 'nil']), 7, 'BadKey', 'with --keyed each :value has to be a pair [key value]') if keyed else
             ('{:process 0 :type :invoke :f :%s :value %s}' % (draw.choice(['write', 'enqueue', 'add']), pair), 8, 'BadValue', None),
-            ('{:process 0 :type :invoke :f :write :value %s}' % (draw.choice(['[0 "a"]', '[0 1.5]']) if keyed else draw.choice(['"a"', ':a', '1.5', '#{0 5}', '[1 2 3]'])),
+            ('{:process 0 :type :invoke :f :write :value %s}' % (draw.choice(['[0 a]', '[0 1.5]']) if keyed else draw.choice(['a', '\\a', '1.5', '#{0 5}', '[1 2 3]'])),
              8, 'BadValue', ':value isn\'t one that this :f takes or gives')])
         left, right = ('', '') if what == 2 else draw.choice([('[', ']'), ('#h (', ')')])
         if left:

@@ -106,6 +106,14 @@ RUNS = [
          "replace 5 {:process 0, :type :ok, :f :read, :value [1 8]}", "ask 1", "report", "remove 4", "ask", "truncate 4", "order"],
     ),
     (
+        ["edit", "--keyed", FILE],
+        'p0 invoke write ["a b" :x]; p0 ok write ["a b" :x]; p1 invoke write [:k "x"]; p1 ok write [:k "x"]; p0 invoke read ["a b" nil]; p0 ok read ["a b" :x]',
+        ["pull", "ask", 'order "a b"', "order :k", "report", 'ask "new key"', "ask :new", 'kind #"c" set', 'append {:process 9, :type :invoke, :f :add, :value [#"c" :y]}',
+         'append {:process 9, :type :ok, :f :add, :value [#"c" nil]}', 'append {:process 9, :type :invoke, :f :read, :value [#"c" nil]}',
+         'append {:process 9, :type :ok, :f :read, :value [#"c" #{:y "z"}]}', "report", 'refute #"c"', "explain", 'replace 9 {:process 9, :type :ok, :f :read, :value [#"c" [:y]]}',
+         "order"],
+    ),
+    (
         ["edit", "--keyed", "--budget", "8", FILE],
         "p0 invoke write [1 1]; p1 invoke write [1 2]; p2 invoke write [1 3]; p3 invoke write [0 1]; p3 ok write [0 1]; "
         "p3 invoke read [0 nil]; p3 ok read [0 1]; p3 invoke read [0 nil]; p3 ok read [0 nil]",

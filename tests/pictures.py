@@ -4,7 +4,7 @@
 Each history goes through `lincheck draw`. A picture has to be an SVG of few sorts of elements, without links, within its sizes; its bars have to be
 operations of the object, each in the row of its process and of the sort that it is; and its dots a legal order of the object's events (of a no: of
 those before the last of the prefix), each on its bar, behind the invocation of each dot up to it and ahead of its bar's end. Below the rows stand the
-lines that `explain` tells.
+lines that `explain` tells. Last come values and keys of signs that XML has for itself, whose pictures have to show them as they are.
 
 usage: tests/pictures.py [HISTORIES] [SEED]   (builds what isn't built, unless LINCHECK in the environment names the program)
 """
@@ -13,6 +13,7 @@ import itertools
 import os
 import random
 import re
+import subprocess
 import sys
 import xml.etree.ElementTree as ElementTree
 from concurrent.futures import ProcessPoolExecutor
@@ -171,6 +172,19 @@ def random_runs(program, number, seed):
     return run.with_file(runs)
 
 
+def strange_words(program):
+    """A fault for each word that a picture doesn't show, in a value or in the name of an object, as it is spelled."""
+    faults = []
+    for word in ('"<&>"', '"]]>"', '":a"', "\"'\\\"\"", ':<!--', ':&amp', '"\u00e9\u20ac"'):
+        value = word if word.startswith('"') else ':' + word[1:]
+        lines = ['{:process 0 :type :%s :f :write :value [%s %s]}' % (type_, value, value) for type_ in ('invoke', 'ok')]
+        ran = subprocess.run([program, 'draw', '--keyed', '-'], input='\n'.join(lines).encode(), capture_output=True)
+        shown = [it.text or '' for it in ElementTree.fromstring(ran.stdout).iter(SPACE + 'text')]
+        if not any('object %s register' % value in it for it in shown) or 'write ' + value not in shown:
+            faults.append('%s is shown as %s' % (value, shown))
+    return faults
+
+
 def main():
     given = sys.argv[1:]
     histories, seed = int(given[0]) if given else HISTORIES, int(given[1]) if given[1:] else 1
@@ -179,6 +193,8 @@ def main():
     with ProcessPoolExecutor(os.cpu_count()) as pool:
         for right, wrong, counted in pool.map(random_runs, itertools.repeat(program), range(histories), itertools.repeat(seed), chunksize=8):
             passed, faults, counts = passed + right, faults + wrong, counts + counted
+    strange = strange_words(program)
+    passed, faults = passed + (not strange), faults + strange
     for fault in faults[:10]:
         print(fault)
     for name in sorted(counts):

@@ -18,4 +18,3 @@ pub mod Advancing
 pub mod ReturningAll
 pub mod Shown
 pub mod Tries
-mod Calls

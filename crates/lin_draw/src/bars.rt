@@ -4,6 +4,7 @@ use crate::labels::{label_of, place_title, title_of};
 use crate::layouts::{Bar, Dot, LABEL, Layout};
 use crate::operations::{Operation, Outcome};
 use crate::own::Own;
+use lin_names::Names;
 use lin_places::Place;
 use std::alloc::{AllocError, Global};
 
@@ -22,6 +23,8 @@ const MIDDLE: usize = 30;
 /// What a picture is drawn from.
 #[derive(Clone, Copy)]
 pub(crate) struct Scene<'a, 'p> {
+    /// The spellings of words.
+    pub(crate) names: &'a Names,
     pub(crate) own: &'a Own,
     pub(crate) layout: &'a Layout<'a>,
     /// For each position of the history where its event stands in the file; events that came by commands have no place.
@@ -62,7 +65,7 @@ fn put_beginning(
     scene: &Scene,
     bar: &Bar,
 ) -> Result<(), AllocError> {
-    let title = title_of(alloc, scene.own, scene.places, &bar.operation)?;
+    let title = title_of(alloc, scene.names, scene.own, scene.places, &bar.operation)?;
     let (class, _) = look_of(bar);
     put(
         alloc,
@@ -102,7 +105,7 @@ fn put_label(
     scene: &Scene,
     bar: &Bar,
 ) -> Result<(), AllocError> {
-    let label = label_of(alloc, &bar.operation)?;
+    let label = label_of(alloc, scene.names, &bar.operation)?;
     let y = scene.top(&bar.operation).saturating_add(LABELS);
     put(
         alloc,
@@ -243,7 +246,7 @@ fn put_dot(
     number: usize,
     dot: &Dot,
 ) -> Result<(), AllocError> {
-    let title = place_title(alloc, number, &dot.operation, dot.reply)?;
+    let title = place_title(alloc, scene.names, number, &dot.operation, dot.reply)?;
     put(
         alloc,
         text,

@@ -3,6 +3,7 @@ ghost use Rattle.std.specs.Prelude.{◌<◌, IfSome, length};
 
 use lin_events::Item;
 use lin_formats::{kind_word, put_item, put_number};
+use lin_names::Names;
 use lin_session::{Answer, Session};
 use std::alloc::{AllocError, Global};
 
@@ -60,9 +61,22 @@ fn first_line(text: &[u8]) -> &[u8] {
     }
 }
 
-/// What the line on a failing operation says before it tells the invocation, and from its end on.
+/// The place at which the words begin last in the text, if they do.
+fn find_last(text: &[u8], words: &[u8]) -> Option<usize>
+    ensures { IfSome result (λ at. at < length text.now) }
+{
+    for at in (0..text.len()).rev() {
+        if text[at..].starts_with(words) {
+            return Some(at);
+        }
+    }
+    None
+}
+
+/// What the line on a failing operation says before it tells the invocation, and from its end on. A key or a value may say the same words,
+/// but stands before them.
 fn around_call(line: &[u8]) -> Option<(&[u8], &[u8])> {
-    let from = find(line, b", called at ")?;
+    let from = find_last(line, b", called at ")?;
     let (front, rest) = line.split_at(from);
     let to = match find(rest, b", ok at ") {
         Some(to) => to,
@@ -73,9 +87,14 @@ fn around_call(line: &[u8]) -> Option<(&[u8], &[u8])> {
 }
 
 /// Puts the key's object and its kind last, behind a comma.
-fn put_object(text: &mut Vec<u8>, session: &Session, key: Item) -> Result<(), AllocError> {
+fn put_object(
+    text: &mut Vec<u8>,
+    session: &Session,
+    names: &Names,
+    key: Item,
+) -> Result<(), AllocError> {
     text.extend_from_slice(b", object ")?;
-    put_item(text, key)?;
+    put_item(text, names, key)?;
     text.push(b' ')?;
     text.extend_from_slice(kind_word(session.kind_of(key)).as_bytes())
 }
@@ -107,6 +126,7 @@ fn failure_in<'a>(answer: &Answer, lines: &'a [u8]) -> Option<(&'a [u8], &'a [u8
 fn put_subject(
     text: &mut Vec<u8>,
     session: &Session,
+    names: &Names,
     answer: &Answer,
     key: Option<Item>,
     lines: &[u8],
@@ -120,7 +140,7 @@ fn put_subject(
             text.extend_from_slice(front)?;
             text.extend_from_slice(behind)
         }
-        None => put_object(text, session, key),
+        None => put_object(text, session, names, key),
     }
 }
 
@@ -128,13 +148,14 @@ fn put_subject(
 pub(crate) fn head_of(
     alloc: Global,
     session: &Session,
+    names: &Names,
     answer: &Answer,
     key: Option<Item>,
     lines: &[u8],
 ) -> Result<Vec<u8>, AllocError> {
     let mut head = Vec::new(alloc);
     put_answer(&mut head, answer)?;
-    put_subject(&mut head, session, answer, key, lines)?;
+    put_subject(&mut head, session, names, answer, key, lines)?;
     Ok(head)
 }
 

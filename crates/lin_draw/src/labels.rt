@@ -6,6 +6,7 @@ use crate::operations::{Operation, Outcome};
 use crate::own::Own;
 use lin_events::Reply;
 use lin_formats::put_number;
+use lin_names::Names;
 use lin_places::Place;
 use lin_words::{put_call, put_event_spot, put_operation, put_reply};
 use std::alloc::{AllocError, Global};
@@ -14,40 +15,48 @@ use std::alloc::{AllocError, Global};
 const MEMBERS: usize = 4;
 
 /// Puts a reply last, or how many members it has.
-fn put_short_reply(label: &mut Vec<u8>, reply: &Reply) -> Result<(), AllocError>
-    ensures { OnOk result (label.new.items ≡ label.old.items ++ short_reply reply.now) }
+fn put_short_reply(label: &mut Vec<u8>, names: &Names, reply: &Reply) -> Result<(), AllocError>
+    ensures { OnOk result (label.new.items ≡ label.old.items ++ short_reply names.now reply.now) }
 {
     let Reply::Members(members) = reply else {
-        return put_reply(label, reply);
+        return put_reply(label, names, reply);
     };
     if members.as_slice().len() <= MEMBERS {
-        return put_reply(label, reply);
+        return put_reply(label, names, reply);
     }
     put_number(label, members.as_slice().len() as u64)?;
     label.extend_from_slice(b" members")
 }
 
 /// Puts an arrow and a reply last, unless there is none that says more than that the call was done.
-fn put_reply_label(label: &mut Vec<u8>, reply: Option<&Reply>) -> Result<(), AllocError>
-    ensures { OnOk result (label.new.items ≡ label.old.items ++ reply_label (option_map (λ r. r.now) reply.entry)) }
+fn put_reply_label(
+    label: &mut Vec<u8>,
+    names: &Names,
+    reply: Option<&Reply>,
+) -> Result<(), AllocError>
+    ensures { OnOk result (label.new.items ≡ label.old.items ++ reply_label names.now (option_map (λ r. r.now) reply.entry)) }
 {
     match reply {
         None => Ok(()),
         Some(Reply::Done) => Ok(()),
         Some(reply) => {
             label.extend_from_slice(b" \xe2\x86\x92 ")?;
-            put_short_reply(label, reply)
+            put_short_reply(label, names, reply)
         }
     }
 }
 
 /// What stands above the bar of an operation.
-pub(crate) fn label_of(alloc: Global, operation: &Operation) -> Result<Vec<u8>, AllocError>
-    ensures { IfOk result (λ label. label.items ≡ label_text operation.now.call (option_map (λ r. r.now) operation.now.reply)) }
+pub(crate) fn label_of(
+    alloc: Global,
+    names: &Names,
+    operation: &Operation,
+) -> Result<Vec<u8>, AllocError>
+    ensures { IfOk result (λ label. label.items ≡ label_text names.now operation.now.call (option_map (λ r. r.now) operation.now.reply)) }
 {
     let mut label = Vec::new(alloc);
-    put_call(&mut label, operation.call)?;
-    put_reply_label(&mut label, operation.reply)?;
+    put_call(&mut label, names, operation.call)?;
+    put_reply_label(&mut label, names, operation.reply)?;
     Ok(label)
 }
 
@@ -64,6 +73,7 @@ fn end_words(outcome: Outcome) -> &'static str {
 /// What is told of an operation to whoever points at its bar.
 pub(crate) fn title_of(
     alloc: Global,
+    names: &Names,
     own: &Own,
     places: Option<&[Place]>,
     operation: &Operation,
@@ -71,6 +81,7 @@ pub(crate) fn title_of(
     let mut title = Vec::new(alloc);
     put_operation(
         &mut title,
+        names,
         operation.process,
         operation.call,
         operation.reply,
@@ -87,6 +98,7 @@ pub(crate) fn title_of(
 /// What is told of an operation and its place in an order to whoever points at its dot.
 pub(crate) fn place_title(
     alloc: Global,
+    names: &Names,
     number: usize,
     operation: &Operation,
     reply: &Reply,
@@ -94,6 +106,12 @@ pub(crate) fn place_title(
     let mut title = Vec::new(alloc);
     put_number(&mut title, number as u64)?;
     title.extend_from_slice(b": ")?;
-    put_operation(&mut title, operation.process, operation.call, Some(reply))?;
+    put_operation(
+        &mut title,
+        names,
+        operation.process,
+        operation.call,
+        Some(reply),
+    )?;
     Ok(title)
 }

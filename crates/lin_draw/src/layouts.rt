@@ -9,6 +9,7 @@ use crate::operations::{Operation, Outcome, operation_at};
 use crate::own::Own;
 use lin_events::{OutOfMemory, Reply};
 use lin_formats::put_number;
+use lin_names::Names;
 use lin_orders::Placed;
 use std::alloc::{AllocError, Global};
 
@@ -69,6 +70,8 @@ struct Point {
 /// The object of a picture.
 #[derive(Clone, Copy)]
 pub(crate) struct Object<'a> {
+    /// The spellings of words.
+    pub(crate) names: &'a Names,
     pub(crate) own: &'a Own,
     /// For each of its events the next one of the same process.
     pub(crate) ends: &'a [Option<usize>],
@@ -120,7 +123,7 @@ fn bars_of<'a>(
         let Some(operation) = operation_at(object.own.events.as_slice(), object.ends, one.at) else {
             continue;
         };
-        let label = label_of(alloc, &operation)?;
+        let label = label_of(alloc, object.names, &operation)?;
         bars.push(Bar {
             operation,
             is_failing: matches!(one.mark, Mark::Failing),

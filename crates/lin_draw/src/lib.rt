@@ -16,4 +16,4 @@ mod own;
 mod pictures;
 mod styles;
 
-pub use pictures::{picture, picture_with_places};
+pub use pictures::picture_with_places;

@@ -12,6 +12,7 @@ use crate::layouts::{Layout, MARGIN, Object};
 use crate::legal::order_before;
 use crate::own::{Own, own_of};
 use lin_events::{Item, OutOfMemory};
+use lin_names::Names;
 use lin_orders::{Placed, ends_of};
 use lin_places::Place;
 use lin_session::{Answer, Session};
@@ -22,6 +23,8 @@ use std::alloc::Global;
 #[derive(Clone, Copy)]
 struct Asked<'a, 'p> {
     session: &'a Session,
+    /// The spellings of words.
+    names: &'a Names,
     answer: &'a Answer,
     subject: Subject,
     lines: &'a [u8],
@@ -70,17 +73,18 @@ fn events_for(alloc: Global, asked: &Asked) -> Result<Own, OutOfMemory> {
 /// The picture with the layout and the texts.
 fn finished(
     alloc: Global,
+    asked: &Asked,
     own: &Own,
-    places: Option<&[Place]>,
     mut layout: Layout,
     texts: &Texts,
 ) -> Result<Vec<u8>, OutOfMemory> {
     let width = width_of(alloc, texts)?;
     layout.widen(width.saturating_sub(MARGIN));
     let scene = Scene {
+        names: asked.names,
         own,
         layout: &layout,
-        places,
+        places: asked.places,
     };
     Ok(drawn(alloc, &scene, texts)?)
 }
@@ -99,6 +103,7 @@ fn pictured(
     let head = head_of(
         alloc,
         asked.session,
+        asked.names,
         asked.answer,
         asked.subject.key,
         asked.lines,
@@ -111,7 +116,7 @@ fn pictured(
         more: more.as_slice(),
         is_failure: matches!(asked.answer, Answer::No { .. }),
     };
-    finished(alloc, object.own, asked.places, layout, &texts)
+    finished(alloc, asked, object.own, layout, &texts)
 }
 
 /// The picture of what is asked.
@@ -127,6 +132,7 @@ fn picture_of(alloc: Global, asked: &Asked) -> Result<Vec<u8>, OutOfMemory> {
     let choice = choose(alloc, &own, ends.as_slice(), &focus)?;
     let found = found_order(alloc, asked, &own, failing)?;
     let object = Object {
+        names: asked.names,
         own: &own,
         ends: ends.as_slice(),
         order: order_in(asked.answer, found.as_slice()),
@@ -141,6 +147,7 @@ fn picture_of(alloc: Global, asked: &Asked) -> Result<Vec<u8>, OutOfMemory> {
 pub fn picture_with_places(
     alloc: Global,
     session: &Session,
+    names: &Names,
     answer: &Answer,
     key: Option<Item>,
     lines: &[u8],
@@ -153,23 +160,11 @@ pub fn picture_with_places(
     }
     let asked = Asked {
         session,
+        names,
         answer,
         subject: subject_of(session, answer, key),
         lines,
         places,
     };
     picture_of(alloc, &asked)
-}
-
-/// A picture of the operations around the answer, as an SVG.
-pub fn picture(
-    alloc: Global,
-    session: &Session,
-    answer: &Answer,
-    key: Option<Item>,
-    lines: &[u8],
-) -> Result<Vec<u8>, OutOfMemory>
-    ensures { IfOk result (λ text. (at : ℕ) (cause : CauseOf) → answer.now ≡ Answer.IllFormed at cause → text.items ≡ []) }
-{
-    picture_with_places(alloc, session, answer, key, lines, None)
 }

@@ -9,6 +9,7 @@ pub mod Filling
 pub mod Flat
 pub mod Forth
 pub mod Inner
+pub mod ItemEnds
 pub mod Fronts
 pub mod Later
 pub mod Limit

@@ -1,5 +1,6 @@
 pub mod Bytes
 pub mod Grammar
+pub mod ItemEnds
 pub mod Laws
 pub mod Reading
 pub mod Rows

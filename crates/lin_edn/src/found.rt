@@ -48,7 +48,7 @@ pub fn run_until(input: &[u8], from: usize, end: usize) -> usize
 }
 
 /// Where the text at a place ends; that place where none stands there without a backslash that ends before `end`.
-pub(crate) fn text_until(input: &[u8], from: usize, end: usize) -> usize
+pub fn text_until(input: &[u8], from: usize, end: usize) -> usize
     requires begun { from ≤ end }
     requires inside { end ≤ length input.now }
     ensures within { (from ≤ result) × (result ≤ end) }

@@ -11,6 +11,7 @@ ghost use Rattle.lin_edn.specs.declared.EdnCause.{EdnCause as Cause};
 ghost use Rattle.lin_edn.specs.declared.series.Series.{Series as TheSeries};
 
 mod found;
+mod item_ends;
 mod levels;
 mod nested;
 mod reader;
@@ -19,10 +20,12 @@ mod scan;
 mod series;
 mod skim;
 
-pub use crate::found::{run_until, tag_until, white_until};
+pub use crate::found::{run_until, tag_until, text_until, white_until};
+pub use crate::item_ends::{item_end, text_end};
 pub use crate::nested::nested_until;
 pub use crate::reader::window;
 pub use crate::run::{integer, run_element};
+pub use crate::scan::is_stop;
 pub use crate::series::{Inside, Series};
 pub use crate::skim::Skim;
 use std::alloc::{AllocError, Global};

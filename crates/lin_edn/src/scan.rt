@@ -30,7 +30,7 @@ pub(crate) fn is_white(c: u8) -> bool
 
 /// Whether a byte ends a run.
 #[inline(always)]
-pub(crate) fn is_stop(c: u8) -> bool
+pub fn is_stop(c: u8) -> bool
     ensures { result ≡ bytes.is_stop c }
 {
     CLASSES[c as usize] >= WHITE

@@ -1,13 +1,17 @@
--- Values and replies that compare alike by `==` are the same.
+-- Values, replies and calls that compare alike by `==` are the same.
 use Rattle.std.specs.Prelude.{◌≡◌, true, Decides}
 use Rattle.std.proofs.Common.{refl, sym, ap, ◌∙◌, true≢false}
+use Rattle.std.proofs.lemmas.Bool.{and_parts}
 use Rattle.lin_events.specs.declared.calls.Val.{Val}
 use Rattle.lin_events.specs.declared.calls.Val.TheVariants.{Nil, Item as Held}
+use Rattle.lin_events.specs.declared.calls.Call.{Call}
+use Rattle.lin_events.specs.declared.calls.Call.TheVariants as call
 use Rattle.lin_events.specs.declared.calls.Reply.{Reply}
 use Rattle.lin_events.specs.declared.calls.Reply.TheVariants.{Done, Value, Members}
 use Rattle.lin_events.specs.Sameness.{items_Decides, item_same, item_itself}
 use Rattle.lin_events.specs.contracts.calls.ValPartialEq.TheImpl as ValImpl
 use Rattle.lin_events.specs.contracts.calls.ReplyPartialEq.TheImpl as ReplyImpl
+use Rattle.lin_events.specs.contracts.calls.CallPartialEq.TheImpl as CallImpl
 
 pub val_same : (x y : Val) → ValImpl.ghosts.eq x y ≡ true → x ≡ y
 val_same Nil Nil h = refl
@@ -38,3 +42,19 @@ reply_itself (Members a) = (items_Decides a a).1 refl
 
 pub reply_Decides : (x y : Reply) → Decides (ReplyImpl.ghosts.eq x y) (x ≡ y)
 reply_Decides x y = (reply_same x y, λ e. ap (λ z. ReplyImpl.ghosts.eq x z) (sym e) ∙ reply_itself x)
+
+-- calls that compare alike are one
+pub call_same : (x y : Call) → CallImpl.ghosts.eq x y ≡ true → x ≡ y
+call_same call.Read call.Read h = refl
+call_same (call.Write a) (call.Write b) h = ap call.Write (val_same a b h)
+call_same (call.Cas a b) (call.Cas c d) h =
+    let both = and_parts _ _ h in
+    let first = val_same a c both.0 in
+    let second = val_same b d both.1 in
+    cc
+call_same (call.Enqueue a) (call.Enqueue b) h = ap call.Enqueue (item_same a b h)
+call_same call.Dequeue call.Dequeue h = refl
+call_same (call.Add a) (call.Add b) h = ap call.Add (item_same a b h)
+call_same call.Acquire call.Acquire h = refl
+call_same call.Release call.Release h = refl
+call_same x y h = absurd (true≢false (sym h))

@@ -9,11 +9,12 @@ ghost use Rattle.lin_events.specs.Sameness.{item_eq_equiv, items_total, ties, De
 use std::cmp::Ordering;
 use std::hash::{Hash, Hasher};
 
-/// A key, or a value that isn't nil: an integer or a truth value.
+/// A key, or a value that isn't nil: an integer, a truth value, or a word by the number of its spelling.
 #[derive(Clone, Copy, Debug)]
 pub enum Item {
     Int(i64),
     Bool(bool),
+    Word(usize),
 }
 
 impl PartialEq for Item {
@@ -25,8 +26,13 @@ impl PartialEq for Item {
         match (self, other) {
             (Item::Int(a), Item::Int(b)) => a.eq(b),
             (Item::Bool(a), Item::Bool(b)) => a == b,
+            (Item::Word(a), Item::Word(b)) => a == b,
             (Item::Int(_), Item::Bool(_)) => false,
+            (Item::Int(_), Item::Word(_)) => false,
             (Item::Bool(_), Item::Int(_)) => false,
+            (Item::Bool(_), Item::Word(_)) => false,
+            (Item::Word(_), Item::Int(_)) => false,
+            (Item::Word(_), Item::Bool(_)) => false,
         }
     }
 }
@@ -45,7 +51,8 @@ impl PartialOrd for Item {
     }
 }
 
-/// Items are ordered as they are printed: `false`, `true`, and then integers rising.
+/// Items are ordered so that lists of them are canonical: `false`, `true`, integers rising, and words by their numbers. In print words
+/// are ordered by their spellings.
 impl Ord for Item {
     ghost cmp = { item_cmp };
 
@@ -59,8 +66,11 @@ impl Ord for Item {
         match (self, other) {
             (Item::Int(a), Item::Int(b)) => a.cmp(b),
             (Item::Bool(a), Item::Bool(b)) => a.cmp(b),
-            (Item::Bool(_), Item::Int(_)) => Ordering::Less,
+            (Item::Word(a), Item::Word(b)) => a.cmp(b),
+            (Item::Bool(_), Item::Int(_) | Item::Word(_)) => Ordering::Less,
+            (Item::Int(_), Item::Word(_)) => Ordering::Less,
             (Item::Int(_), Item::Bool(_)) => Ordering::Greater,
+            (Item::Word(_), Item::Int(_) | Item::Bool(_)) => Ordering::Greater,
         }
     }
 }
@@ -84,6 +94,7 @@ impl Item {
             Item::Int(number) => number.cast_unsigned(),
             Item::Bool(false) => (1 << 62) + 1,
             Item::Bool(true) => (1 << 63) + 2,
+            Item::Word(number) => number as u64 ^ (5 << 60),
         }
     }
 }

@@ -22,9 +22,11 @@ abbrev pub scope_of : Option Item → Scope
 scope_of None = Whole
 scope_of (Some key) = Object key
 
--- what explains the answer, of the present history, where its events have these places, or none: the lines, and what they say in parts
-abbrev pub Explains : Present → Asked → Option (List Place) → Answer → List ℕ → Parts → Type 0
-Explains now asked places (IllFormed at cause) lines parts = IsIllFormedText now.history (kinds_in now) places at cause lines parts
-Explains now asked places (Yes order) lines parts = IsYesText now asked.key asked.with_order order.items lines parts
-Explains now asked places (No n) lines parts = (failed : Failed) × (parts ≡ Part.No failed) × IsNoText now places n lines failed
-Explains now asked places (Undecided at) lines parts = IsUndecidedText now asked.keyed places at lines parts
+module _ (names : List (List ℕ)) where
+  -- what explains the answer, of the present history, where words are spelled so and events have these places, or none: the lines, and what they
+  -- say in parts
+  abbrev pub Explains : Present → Asked → Option (List Place) → Answer → List ℕ → Parts → Type 0
+  Explains now asked places (IllFormed at cause) lines parts = IsIllFormedText names now.history (kinds_in now) places at cause lines parts
+  Explains now asked places (Yes order) lines parts = IsYesText names now asked.key asked.with_order order.items lines parts
+  Explains now asked places (No n) lines parts = (failed : Failed) × (parts ≡ Part.No failed) × IsNoText names now places n lines failed
+  Explains now asked places (Undecided at) lines parts = IsUndecidedText names now asked.keyed places at lines parts

@@ -32,36 +32,37 @@ reply_in (Ok name reply) = Some reply
 reply_in (Fail name) = None
 reply_in (Info name) = None
 
-abbrev pub failing_text : Event → Event → List ℕ
-failing_text invocation ending = body_text invocation.body
-  where
-    body_text : Body → List ℕ
-    body_text (Invoke call) = operation_text invocation.process call (reply_in ending.body)
-    body_text (Ok name reply) = []
-    body_text (Fail name) = []
-    body_text (Info name) = []
-
 abbrev pub ends_text : Body → List ℕ
 ends_text (Fail name) = codes ", fail at "
 ends_text (Invoke call) = codes ", ok at "
 ends_text (Ok name reply) = codes ", ok at "
 ends_text (Info name) = codes ", ok at "
 
--- the failing operation, with its reply, and where it was called and ended
-abbrev pub operation_line : Kind → Option (List Place) → ℕ → ℕ → Event → Event → List ℕ
-operation_line kind places at n invocation ending = object_text ending.key kind ++ failing_text invocation ending ++ codes ", called at " ++ event_spot_text places at
-    ++ ends_text ending.body ++ event_spot_text places (n - 1) ++ codes "\n"
-
 abbrev pub prefix_line : ℕ → List ℕ
 prefix_line n = codes "its events among the first " ++ decimal (n - 1) ++ codes " have a legal order, among the first " ++ decimal n ++ codes " they have none\n"
 
-abbrev pub head_text : Kind → Option (List Place) → ℕ → ℕ → Event → Event → List ℕ
-head_text kind places at n invocation ending = operation_line kind places at n invocation ending ++ prefix_line n
+module _ (names : List (List ℕ)) where
+  abbrev pub failing_text : Event → Event → List ℕ
+  failing_text invocation ending = body_text invocation.body
+    where
+      body_text : Body → List ℕ
+      body_text (Invoke call) = operation_text names invocation.process call (reply_in ending.body)
+      body_text (Ok name reply) = []
+      body_text (Fail name) = []
+      body_text (Info name) = []
 
--- the end and the invocation of the failing operation
-pub record AreSpots (places : Option (List Place)) (at n : ℕ) (invocation ending : Event) (spots : Spot × Spot) : Type 0 where
-  pub end_spot : IsSpot places (n - 1) ending spots.0
-  pub call_spot : IsSpot places at invocation spots.1
+  -- the failing operation, with its reply, and where it was called and ended
+  abbrev pub operation_line : Kind → Option (List Place) → ℕ → ℕ → Event → Event → List ℕ
+  operation_line kind places at n invocation ending = object_text names ending.key kind ++ failing_text invocation ending ++ codes ", called at " ++ event_spot_text places at
+      ++ ends_text ending.body ++ event_spot_text places (n - 1) ++ codes "\n"
+
+  abbrev pub head_text : Kind → Option (List Place) → ℕ → ℕ → Event → Event → List ℕ
+  head_text kind places at n invocation ending = operation_line kind places at n invocation ending ++ prefix_line n
+
+  -- the end and the invocation of the failing operation
+  pub record AreSpots (places : Option (List Place)) (at n : ℕ) (invocation ending : Event) (spots : Spot × Spot) : Type 0 where
+    pub end_spot : IsSpot names places (n - 1) ending spots.0
+    pub call_spot : IsSpot names places at invocation spots.1
 
 -- the events before the end of the operation, and what the end records
 abbrev pub failing_in : Kind → List Event → ℕ → Event → Failing
@@ -85,18 +86,18 @@ pub record IsFailureText (kind : Kind) (budget : ℕ) (stretch : Told) (n call :
   pub failing : IsFailing stretch.events call
   pub called : IsEvent stretch.events call invocation
   pub stands : IsNth stretch.picks call at
-  pub is_possible : IsPossibleText (failing_in kind stretch.events call ending) n budget possible failed.replies failed.states
+  pub is_possible : IsPossibleText stretch.names (failing_in kind stretch.events call ending) n budget possible failed.replies failed.states
   pub are_reasons : AreReasons kind budget stretch call reasons failed.why failed.from
-  pub says : lines ≡ (head_text kind stretch.places at n invocation ending ++ possible) ++ reasons
+  pub says : lines ≡ (head_text stretch.names kind stretch.places at n invocation ending ++ possible) ++ reasons
   pub key_of : failed.key ≡ ending.key
   pub kind_of : failed.kind ≡ kind
-  pub spots : AreSpots stretch.places at n invocation ending (failed.event, failed.call)
+  pub spots : AreSpots stretch.names stretch.places at n invocation ending (failed.event, failed.call)
 
 -- What is told of a no, of the object whose event is the last one of the shortest failing prefix. That is the ok or the fail of an operation.
-pub record IsNoText (now : Present) (places : Option (List Place)) (n : ℕ) (lines : List ℕ) (failed : Failed) : Type 0 where
+pub record IsNoText (names : List (List ℕ)) (now : Present) (places : Option (List Place)) (n : ℕ) (lines : List ℕ) (failed : Failed) : Type 0 where
   pub ending : Event
   pub stretch : Told
   pub call : ℕ
   pub stands : IsEvent now.history (n - 1) ending
-  pub own : IsStretch ending.key (take n now.history) places stretch
+  pub own : IsStretch names ending.key (take n now.history) places stretch
   pub told : IsFailureText (kinds_in now ending.key) now.budget stretch n call ending lines failed

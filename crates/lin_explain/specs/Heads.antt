@@ -5,5 +5,6 @@ use Rattle.lin_objects.specs.declared.kinds.Kind.{Kind}
 use Rattle.lin_formats.specs.Items.{item_text}
 use Rattle.lin_formats.specs.Kinds.{kind_text}
 
-abbrev pub object_text : Item → Kind → List ℕ
-object_text key kind = codes "object " ++ item_text key ++ codes " " ++ kind_text kind ++ codes ": "
+module _ (names : List (List ℕ)) where
+  abbrev pub object_text : Item → Kind → List ℕ
+  object_text key kind = codes "object " ++ item_text names key ++ codes " " ++ kind_text kind ++ codes ": "

@@ -32,14 +32,6 @@ IsLastBefore h process at earlier None = (k : ℕ) → k < at → IsOf h process
 IsLastBefore h process at earlier (Some event) = (earlier < at) × IsEvent h earlier event × (event.process ≡ process)
     × ((k : ℕ) → earlier < k → k < at → IsOf h process k → ⊥)
 
-abbrev pub stood_text : Option (List Place) → ℕ → Event → List ℕ
-stood_text places at event = event_text event ++ codes " at " ++ event_spot_text places at ++ codes "\n"
-
--- the line on the event before
-abbrev pub before_text : Option (List Place) → ℕ → Option Event → List ℕ
-before_text places at None = codes "before it nothing of this process\n"
-before_text places at (Some event) = codes "before it " ++ stood_text places at event
-
 -- the words for the kinds that know calls of the function, in the order of the kinds
 abbrev pub kinds_text : Name → List ℕ
 kinds_text Read = codes "register, cas-register, set"
@@ -60,39 +52,48 @@ not_of_kind_text kind (Ok name reply) = []
 not_of_kind_text kind (Fail name) = []
 not_of_kind_text kind (Info name) = []
 
-abbrev pub keys_text : Option Event → Item → List ℕ
-keys_text None key = []
-keys_text (Some event) key = codes "a completion has the key of its invocation: " ++ item_text event.key ++ codes " and " ++ item_text key ++ codes "\n"
+module _ (names : List (List ℕ)) where
+  abbrev pub stood_text : Option (List Place) → ℕ → Event → List ℕ
+  stood_text places at event = event_text names event ++ codes " at " ++ event_spot_text places at ++ codes "\n"
 
--- what is asked of histories
-abbrev pub sentence_text : Kind → Event → Option Event → Cause → List ℕ
-sentence_text kind event before RetiredProcess = codes "a process isn't used again after an :info: its client goes on under a new number\n"
-sentence_text kind event before BusyProcess = codes "a process calls again only when its call has ended with :ok, :fail or :info\n"
-sentence_text kind event before NotOfKind = not_of_kind_text kind event.body
-sentence_text kind event before NoInvocation = codes "a completion stands behind an invocation of its process\n"
-sentence_text kind event before OtherCall = codes "a completion has the :f of its invocation\n"
-sentence_text kind event before OtherKey = keys_text before event.key
+  -- the line on the event before
+  abbrev pub before_text : Option (List Place) → ℕ → Option Event → List ℕ
+  before_text places at None = codes "before it nothing of this process\n"
+  before_text places at (Some event) = codes "before it " ++ stood_text places at event
 
--- the line on the event before, but where the cause has nothing to do with it
-abbrev pub before_line : Option (List Place) → ℕ → Option Event → Cause → List ℕ
-before_line places at before RetiredProcess = before_text places at before
-before_line places at before BusyProcess = before_text places at before
-before_line places at before NotOfKind = []
-before_line places at before NoInvocation = before_text places at before
-before_line places at before OtherCall = before_text places at before
-before_line places at before OtherKey = before_text places at before
+  abbrev pub keys_text : Option Event → Item → List ℕ
+  keys_text None key = []
+  keys_text (Some event) key = codes "a completion has the key of its invocation: " ++ item_text names event.key ++ codes " and " ++ item_text names key ++ codes "\n"
 
-abbrev pub bad_text : Kind → Option (List Place) → ℕ → Event → ℕ → Option Event → Cause → List ℕ
-bad_text kind places at event earlier before cause = (stood_text places at event ++ before_line places earlier before cause) ++ sentence_text kind event before cause
+  -- what is asked of histories
+  abbrev pub sentence_text : Kind → Event → Option Event → Cause → List ℕ
+  sentence_text kind event before RetiredProcess = codes "a process isn't used again after an :info: its client goes on under a new number\n"
+  sentence_text kind event before BusyProcess = codes "a process calls again only when its call has ended with :ok, :fail or :info\n"
+  sentence_text kind event before NotOfKind = not_of_kind_text kind event.body
+  sentence_text kind event before NoInvocation = codes "a completion stands behind an invocation of its process\n"
+  sentence_text kind event before OtherCall = codes "a completion has the :f of its invocation\n"
+  sentence_text kind event before OtherKey = keys_text before event.key
 
--- the lines: the event, the last one of its process before it, and what is asked of histories. The parts have the event
-pub record IsIllFormedText (h : List Event) (kinds : Item → Kind) (places : Option (List Place)) (at : ℕ) (cause : Cause) (lines : List ℕ) (parts : Parts) : Type 0 where
-  pub event : Event
-  pub earlier : ℕ
-  pub before : Option Event
-  pub spot : Spot
-  pub stands : IsEvent h at event
-  pub is_before : IsLastBefore h event.process at earlier before
-  pub says : lines ≡ bad_text (kinds event.key) places at event earlier before cause
-  pub is_spot : IsSpot places at event spot
-  pub told : parts ≡ Part.IllFormed spot
+  -- the line on the event before, but where the cause has nothing to do with it
+  abbrev pub before_line : Option (List Place) → ℕ → Option Event → Cause → List ℕ
+  before_line places at before RetiredProcess = before_text places at before
+  before_line places at before BusyProcess = before_text places at before
+  before_line places at before NotOfKind = []
+  before_line places at before NoInvocation = before_text places at before
+  before_line places at before OtherCall = before_text places at before
+  before_line places at before OtherKey = before_text places at before
+
+  abbrev pub bad_text : Kind → Option (List Place) → ℕ → Event → ℕ → Option Event → Cause → List ℕ
+  bad_text kind places at event earlier before cause = (stood_text places at event ++ before_line places earlier before cause) ++ sentence_text kind event before cause
+
+  -- the lines: the event, the last one of its process before it, and what is asked of histories. The parts have the event
+  pub record IsIllFormedText (h : List Event) (kinds : Item → Kind) (places : Option (List Place)) (at : ℕ) (cause : Cause) (lines : List ℕ) (parts : Parts) : Type 0 where
+    pub event : Event
+    pub earlier : ℕ
+    pub before : Option Event
+    pub spot : Spot
+    pub stands : IsEvent h at event
+    pub is_before : IsLastBefore h event.process at earlier before
+    pub says : lines ≡ bad_text (kinds event.key) places at event earlier before cause
+    pub is_spot : IsSpot names places at event spot
+    pub told : parts ≡ Part.IllFormed spot

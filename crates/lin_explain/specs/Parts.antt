@@ -15,9 +15,9 @@ place_of None at = None
 place_of (Some places) at = slice_get places at
 
 -- the event, which stands at the position: its words, and where it stands in the recording
-pub record IsSpot (places : Option (List Place)) (at : ℕ) (event : Event) (spot : Spot) : Type 0 where
+pub record IsSpot (names : List (List ℕ)) (places : Option (List Place)) (at : ℕ) (event : Event) (spot : Spot) : Type 0 where
   pub position : spot.at ≡ at
-  pub words_of : spot.words.items ≡ event_text event
+  pub words_of : spot.words.items ≡ event_text names event
   pub stands : spot.place ≡ place_of places at
 
 -- the object that was asked about with its kind, if one was

@@ -16,24 +16,25 @@ use Rattle.lin_explain.specs.declared.parts.Choices.{Choices}
 abbrev pub IsPassed : Kind → List Event → ℕ → Type 0
 IsPassed kind h budget = (n : ℕ) × IsOver (start kind) (Step kind) (take n h) budget
 
--- all replies and states are known, or the budget is passed
-abbrev pub AreKnown : Failing → ℕ → Option Outcomes → Type 0
-AreKnown f budget None = IsPassed f.kind f.events budget
-AreKnown f budget (Some outcomes) = AreOutcomes f outcomes
-
 -- how many there are, and the words of those that are listed; nothing where the budget is passed
 abbrev pub AreChoices : Option Listed → Choices → Type 0
 AreChoices None choices = (choices.count ≡ None) × (choices.some.items ≡ [])
 AreChoices (Some listed) choices = (choices.count ≡ Some listed.count) × (map (λ words. words.items) choices.some.items ≡ map (λ entry. entry.words.items) listed.entries.items)
 
--- what the failing operation could have returned, and what the object could be before the last of so many events: the lines, and the same in parts
-pub record IsPossibleText (f : Failing) (n budget : ℕ) (lines : List ℕ) (replies states : Choices) : Type 0 where
-  pub outcomes : Option Outcomes
-  pub known : AreKnown f budget outcomes
-  pub says : lines ≡ outcomes_text f n budget outcomes
-  pub replies_told : AreChoices (option_map (λ o. o.replies) outcomes) replies
-  pub states_told : AreChoices (option_map (λ o. o.states) outcomes) states
+module _ (names : List (List ℕ)) where
+  -- all replies and states are known, or the budget is passed
+  abbrev pub AreKnown : Failing → ℕ → Option Outcomes → Type 0
+  AreKnown f budget None = IsPassed f.kind f.events budget
+  AreKnown f budget (Some outcomes) = AreOutcomes names f outcomes
 
--- what the object was after the events; nothing where the budget is passed
-abbrev pub IsWasText : Kind → List Event → ℕ → List ℕ → Type 0
-IsWasText kind h budget text = (IsPassed kind h budget × (text ≡ [])) ⊎ ((states : List State) × AreStates kind h states × (text ≡ was_text kind (map state_text states)))
+  -- what the failing operation could have returned, and what the object could be before the last of so many events: the lines, and the same in parts
+  pub record IsPossibleText (f : Failing) (n budget : ℕ) (lines : List ℕ) (replies states : Choices) : Type 0 where
+    pub outcomes : Option Outcomes
+    pub known : AreKnown f budget outcomes
+    pub says : lines ≡ outcomes_text f n budget outcomes
+    pub replies_told : AreChoices (option_map (λ o. o.replies) outcomes) replies
+    pub states_told : AreChoices (option_map (λ o. o.states) outcomes) states
+
+  -- what the object was after the events; nothing where the budget is passed
+  abbrev pub IsWasText : Kind → List Event → ℕ → List ℕ → Type 0
+  IsWasText kind h budget text = (IsPassed kind h budget × (text ≡ [])) ⊎ ((states : List State) × AreStates names kind h states × (text ≡ was_text kind (map (state_text names) states)))

@@ -17,6 +17,6 @@ pub record IsSinceText (kind : Kind) (budget : ℕ) (stretch : Told) (call : ℕ
   pub table : List ℕ
   pub quiet : IsLastQuiet stretch.events call from
   pub stands : IsNth stretch.picks from at
-  pub is_was : IsWasText kind (take from stretch.events) budget was
+  pub is_was : IsWasText stretch.names kind (take from stretch.events) budget was
   pub is_table : IsTable stretch (around call from named) table
   pub says : text ≡ since_head at was ++ table

@@ -18,9 +18,9 @@ use Rattle.lin_explain.specs.declared.parts.Parts.TheVariants as Part
 use Rattle.lin_explain.specs.declared.parts.Spot.{Spot}
 
 -- the event with which there are too many
-abbrev pub event_line : Kind → ℕ → Option (List Place) → ℕ → Event → List ℕ
-event_line kind budget places at event = object_text event.key kind ++ codes "more than " ++ decimal budget ++ codes " configurations after "
-    ++ event_spot_text places at ++ codes ": " ++ event_text event ++ codes "\n"
+abbrev pub event_line : List (List ℕ) → Kind → ℕ → Option (List Place) → ℕ → Event → List ℕ
+event_line names kind budget places at event = object_text names event.key kind ++ codes "more than " ++ decimal budget ++ codes " configurations after "
+    ++ event_spot_text places at ++ codes ": " ++ event_text names event ++ codes "\n"
 
 abbrev pub open_line : ℕ → ℕ → List ℕ
 open_line running crashed = codes "operations open then: " ++ decimal running ++ codes ", crashed of them: " ++ decimal crashed ++ codes "\n"
@@ -61,14 +61,14 @@ pub record IsOpenText (stretch : Told) (budget : ℕ) (keyed : Bool) (lines : Li
   pub says : lines ≡ (open_line running crashed ++ table) ++ helps budget keyed running crashed
 
 -- The lines: the event with which there are too many, and which operations of its object are open behind it. The parts have the object and the event.
-pub record IsUndecidedText (now : Present) (keyed : Bool) (places : Option (List Place)) (at : ℕ) (lines : List ℕ) (parts : Parts) : Type 0 where
+pub record IsUndecidedText (names : List (List ℕ)) (now : Present) (keyed : Bool) (places : Option (List Place)) (at : ℕ) (lines : List ℕ) (parts : Parts) : Type 0 where
   pub event : Event
   pub stretch : Told
   pub back : List ℕ
   pub spot : Spot
   pub stands : IsEvent now.history at event
-  pub own : IsStretch event.key (take (at + 1) now.history) places stretch
+  pub own : IsStretch names event.key (take (at + 1) now.history) places stretch
   pub is_open : IsOpenText stretch now.budget keyed back
-  pub says : lines ≡ event_line (kinds_in now event.key) now.budget places at event ++ back
-  pub is_spot : IsSpot places at event spot
+  pub says : lines ≡ event_line names (kinds_in now event.key) now.budget places at event ++ back
+  pub is_spot : IsSpot names places at event spot
   pub parts_told : parts ≡ Part.Undecided event.key (kinds_in now event.key) spot

@@ -27,8 +27,9 @@ form_name (Form.Late earlier add read item other) = codes "late"
 form_name (Form.Twice first second) = codes "twice"
 form_name Form.Counted = codes "counted"
 
--- the same events, positions and places, with the next event of each one's process
+-- the same spellings, events, positions and places, with the next event of each one's process
 pub record IsSource (stretch : Told) (source : Source) : Type 0 where
+  pub names_of : source.names.now ≡ stretch.names
   pub events_of : source.events.now ≡ stretch.events
   pub ends_of : IsNextTable stretch.events source.ends.now
   pub picks_of : source.picks.now ≡ stretch.picks
@@ -39,11 +40,11 @@ pub record IsSource (stretch : Told) (source : Source) : Type 0 where
 pub record IsWhy (kind : Kind) (stretch : Told) (lines named : List ℕ) (why : Why) : Type 0 where
   pub source : Source
   pub certificate : Certificate
-  pub names : List ℕ
+  pub mentioned : List ℕ
   pub is_source : IsSource stretch source
   pub holds : Certifies stretch.events kind certificate
-  pub tells : IsReason source certificate lines names
-  pub all_named : IsListing (Contains names) named
+  pub tells : IsReason source certificate lines mentioned
+  pub all_named : IsListing (Contains mentioned) named
   pub name_of : why.name.now ≡ form_name certificate
   pub calls_of : why.calls.items ≡ map (position_in stretch.picks) named
 

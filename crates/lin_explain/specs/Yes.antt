@@ -12,11 +12,6 @@ use Rattle.lin_explain.specs.declared.parts.Parts.{Parts}
 use Rattle.lin_explain.specs.declared.parts.Parts.TheVariants as Part
 use Rattle.lin_explain.specs.declared.counts.Sort.TheVariants.{Invoked, Ok, Failed, Crashed}
 
--- of one object, or of all that the history has
-abbrev pub AreObjects : Option Item → List Event → ℕ → Type 0
-AreObjects (Some key) h n = n ≡ 1
-AreObjects None h n = (keys : List Item) × AreKeys h keys × (n ≡ length keys)
-
 abbrev pub open_counts_text : Option Item → List Event → ℕ → List ℕ
 open_counts_text key h objects = codes ", open " ++ decimal (open_in key h) ++ codes " (crashed " ++ decimal (count_in key Crashed h)
     ++ codes "); objects " ++ decimal objects ++ codes "\n"
@@ -33,17 +28,23 @@ abbrev pub places_text : Option Item → List Event → List Placed → List ℕ
 places_text key h order = codes "a legal order places " ++ decimal (placed_in key h order) ++ codes " of the " ++ decimal (open_in key h)
     ++ codes " open ones\n"
 
-abbrev pub order_line : Bool → List Placed → List ℕ
-order_line false order = []
-order_line true order = codes "order " ++ order_text order ++ codes "\n"
+module _ (names : List (List ℕ)) where
+  -- of one object, or of all that the history has
+  abbrev pub AreObjects : Option Item → List Event → ℕ → Type 0
+  AreObjects (Some key) h n = n ≡ 1
+  AreObjects None h n = (keys : List Item) × AreKeys names h keys × (n ≡ length keys)
 
-abbrev pub yes_text : Option Item → Bool → List Event → ℕ → List Placed → List ℕ
-yes_text key with_order h objects order = (counts_text key h objects ++ places_text key h order) ++ order_line with_order order
+  abbrev pub order_line : Bool → List Placed → List ℕ
+  order_line false order = []
+  order_line true order = codes "order " ++ order_text names order ++ codes "\n"
 
--- the lines: operations by how they ended, how many open ones the order places, and the order, if it is wanted. The parts have the object that was
--- asked about
-pub record IsYesText (now : Present) (key : Option Item) (with_order : Bool) (order : List Placed) (lines : List ℕ) (parts : Parts) : Type 0 where
-  pub objects : ℕ
-  pub are_objects : AreObjects key now.history objects
-  pub says : lines ≡ yes_text key with_order now.history objects order
-  pub told : parts ≡ Part.Yes (object_in now key)
+  abbrev pub yes_text : Option Item → Bool → List Event → ℕ → List Placed → List ℕ
+  yes_text key with_order h objects order = (counts_text key h objects ++ places_text key h order) ++ order_line with_order order
+
+  -- the lines: operations by how they ended, how many open ones the order places, and the order, if it is wanted. The parts have the object that was
+  -- asked about
+  pub record IsYesText (now : Present) (key : Option Item) (with_order : Bool) (order : List Placed) (lines : List ℕ) (parts : Parts) : Type 0 where
+    pub objects : ℕ
+    pub are_objects : AreObjects key now.history objects
+    pub says : lines ≡ yes_text key with_order now.history objects order
+    pub told : parts ≡ Part.Yes (object_in now key)

@@ -18,14 +18,14 @@ use crate::own::{Own, own_of};
 use crate::parts::{Failed, Spot, Why};
 use crate::possible::{Possibilities, put_possible};
 use crate::since::put_since;
-use crate::spots::spot_of;
+use crate::spots::{Origin, spot_of};
 use crate::whys::put_why;
 use lin_events::{Body, Event, OutOfMemory, Reply};
 use lin_formats::put_number;
+use lin_names::Names;
 use lin_objects::Kind;
 use lin_orders::{ends_of, positions_spell_parts};
 use lin_outcomes::Before;
-use lin_places::Place;
 use lin_session::Session;
 use lin_window::{Stretch, failing_operation};
 use lin_words::{put_event_spot, put_operation};
@@ -56,12 +56,18 @@ fn reply_of(body: &Body) -> Option<&Reply>
 }
 
 /// Puts the words of the failing operation last, with the reply that it returned.
-fn put_failing(text: &mut Vec<u8>, invocation: &Event, ending: &Event) -> Result<(), AllocError>
-    ensures { OnOk result (text.new.items ≡ text.old.items ++ failing_text invocation.now ending.now) }
+fn put_failing(
+    text: &mut Vec<u8>,
+    names: &Names,
+    invocation: &Event,
+    ending: &Event,
+) -> Result<(), AllocError>
+    ensures { OnOk result (text.new.items ≡ text.old.items ++ failing_text names.now invocation.now ending.now) }
 {
     match &invocation.body {
         Body::Invoke(call) => {
-            put_operation(text, invocation.process, *call, reply_of(&ending.body))
+            let reply = reply_of(&ending.body);
+            put_operation(text, names, invocation.process, *call, reply)
         }
         _ => Ok(()),
     }
@@ -86,10 +92,10 @@ fn put_operation_line(
     ending: &Event,
 ) -> Result<(), AllocError>
     ensures { OnOk result (text.new.items ≡ text.old.items
-        ++ operation_line failure.now.kind (option_map (λ p. p.now) failure.now.stretch.places) at failure.now.prefix invocation.now ending.now) }
+        ++ operation_line failure.now.stretch.names.now failure.now.kind (option_map (λ p. p.now) failure.now.stretch.places) at failure.now.prefix invocation.now ending.now) }
 {
-    put_object(text, ending, failure.kind)?;
-    put_failing(text, invocation, ending)?;
+    put_object(text, failure.stretch.names, ending, failure.kind)?;
+    put_failing(text, failure.stretch.names, invocation, ending)?;
     text.extend_from_slice(b", called at ")?;
     put_event_spot(text, failure.stretch.places, at)?;
     put_ends(text, &ending.body)?;
@@ -127,11 +133,15 @@ fn spots_of(
     invocation: &Event,
     ending: &Event,
 ) -> Result<(Spot, Spot), OutOfMemory>
-    ensures { IfOk result (AreSpots (option_map (λ p. p.now) failure.now.stretch.places) at failure.now.prefix invocation.now ending.now) }
+    ensures { IfOk result (AreSpots failure.now.stretch.names.now (option_map (λ p. p.now) failure.now.stretch.places) at failure.now.prefix invocation.now ending.now) }
 {
+    let origin = Origin {
+        names: failure.stretch.names,
+        places: failure.stretch.places,
+    };
     let end = failure.prefix.saturating_sub(1);
-    let event = spot_of(alloc, failure.stretch.places, end, ending)?;
-    let call = spot_of(alloc, failure.stretch.places, at, invocation)?;
+    let event = spot_of(alloc, &origin, end, ending)?;
+    let call = spot_of(alloc, &origin, at, invocation)?;
     Ok((event, call))
 }
 
@@ -144,7 +154,7 @@ fn put_head(
     ending: &Event,
 ) -> Result<(), AllocError>
     ensures { OnOk result (text.new.items ≡ text.old.items
-        ++ head_text failure.now.kind (option_map (λ p. p.now) failure.now.stretch.places) at failure.now.prefix invocation.now ending.now) }
+        ++ head_text failure.now.stretch.names.now failure.now.kind (option_map (λ p. p.now) failure.now.stretch.places) at failure.now.prefix invocation.now ending.now) }
 {
     put_operation_line(text, failure, at, invocation, ending)?;
     put_prefix_line(text, failure.prefix)
@@ -166,10 +176,11 @@ fn put_before_failure(
 ) -> Result<Possibilities, OutOfMemory>
     requires { IsFailure failure.now.kind failure.now.stretch.events.now ending.now }
     ensures { IfOk result (λ told. (lines : List ℕ)
-        × IsPossibleText (failing_in failure.now.kind failure.now.stretch.events.now failure.now.call ending.now) failure.now.prefix failure.now.budget lines told.replies told.states
+        × IsPossibleText failure.now.stretch.names.now (failing_in failure.now.kind failure.now.stretch.events.now failure.now.call ending.now) failure.now.prefix failure.now.budget lines told.replies told.states
         × (text.new.items ≡ text.old.items ++ lines)) }
 {
     let before = Before {
+        names: failure.stretch.names,
         kind: failure.kind,
         events: without_last(failure.stretch.events),
         call: failure.call,
@@ -243,12 +254,12 @@ fn put_own(
     own: &Own,
     ending: &Event,
     prefix: usize,
-    places: Option<&[Place]>,
+    origin: &Origin,
 ) -> Result<Failed, OutOfMemory>
     requires failure { IsFailure (kinds_in session.now.present ending.now.key) own.now.events.items ending.now }
     requires picks { length own.now.picks.items ≡ length own.now.events.items }
     ensures { IfOk result (λ failed. (lines : List ℕ) × (call : ℕ)
-        × IsFailureText (kinds_in session.now.present ending.now.key) session.now.present.budget (stretch_of own.now (option_map (λ p. p.now) places.entry)) prefix call ending.now lines failed
+        × IsFailureText (kinds_in session.now.present ending.now.key) session.now.present.budget (stretch_of origin.now.names.now own.now (option_map (λ p. p.now) origin.now.places)) prefix call ending.now lines failed
         × (text.new.items ≡ text.old.items ++ lines)) }
 {
     let ends = ends_of(alloc, own.events.as_slice())?;
@@ -262,7 +273,8 @@ fn put_own(
             events: own.events.as_slice(),
             ends: ends.as_slice(),
             picks: own.picks.as_slice(),
-            places,
+            names: origin.names,
+            places: origin.places,
         },
         prefix,
         call,
@@ -277,10 +289,10 @@ pub(crate) fn put_no(
     text: &mut Vec<u8>,
     session: &Session,
     prefix: usize,
-    places: Option<&[Place]>,
+    origin: &Origin,
 ) -> Result<Failed, OutOfMemory>
     requires { (scope : ScopeOf) × IsAnswer session.now.present scope (AnswerOf.No prefix) }
-    ensures { IfOk result (λ failed. (lines : List ℕ) × IsNoText session.now.present (option_map (λ p. p.now) places.entry) prefix lines failed
+    ensures { IfOk result (λ failed. (lines : List ℕ) × IsNoText origin.now.names.now session.now.present (option_map (λ p. p.now) origin.now.places) prefix lines failed
         × (text.new.items ≡ text.old.items ++ lines)) }
 {
     let Some(ending) = session.event(prefix - 1) else {
@@ -289,5 +301,5 @@ pub(crate) fn put_no(
     positions_spell_parts();
     noes_fail(kind_for(session, ending));
     let own = own_of(alloc, session, ending, prefix)?;
-    put_own(alloc, text, session, &own, ending, prefix, places)
+    put_own(alloc, text, session, &own, ending, prefix, origin)
 }

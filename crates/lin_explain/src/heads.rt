@@ -6,15 +6,16 @@ ghost use Rattle.lin_explain.specs.Heads.{object_text};
 
 use lin_events::Event;
 use lin_formats::{kind_word, put_item};
+use lin_names::Names;
 use lin_objects::Kind;
 use lin_session::Session;
 use std::alloc::AllocError;
 
 /// Puts the key of an event last.
-pub(crate) fn put_key(text: &mut Vec<u8>, event: &Event) -> Result<(), AllocError>
-    ensures { OnOk result (text.new.items ≡ text.old.items ++ item_text event.now.key) }
+pub(crate) fn put_key(text: &mut Vec<u8>, names: &Names, event: &Event) -> Result<(), AllocError>
+    ensures { OnOk result (text.new.items ≡ text.old.items ++ item_text names.now event.now.key) }
 {
-    put_item(text, event.key)
+    put_item(text, names, event.key)
 }
 
 /// The kind of an event's object.
@@ -25,11 +26,16 @@ pub(crate) fn kind_for(session: &Session, event: &Event) -> Kind
 }
 
 /// Puts the word object, the key of an event's object, its kind and a colon last.
-pub(crate) fn put_object(text: &mut Vec<u8>, event: &Event, kind: Kind) -> Result<(), AllocError>
-    ensures { OnOk result (text.new.items ≡ text.old.items ++ object_text event.now.key kind) }
+pub(crate) fn put_object(
+    text: &mut Vec<u8>,
+    names: &Names,
+    event: &Event,
+    kind: Kind,
+) -> Result<(), AllocError>
+    ensures { OnOk result (text.new.items ≡ text.old.items ++ object_text names.now event.now.key kind) }
 {
     text.extend_from_slice(b"object ")?;
-    put_key(text, event)?;
+    put_key(text, names, event)?;
     text.extend_from_slice(b" ")?;
     text.extend_from_slice(kind_word(kind).as_bytes())?;
     text.extend_from_slice(b": ")

@@ -6,11 +6,11 @@ ghost use Rattle.lin_explain.specs.IllFormed.{IsIllFormedText, IsLastBefore, IsL
 
 use crate::heads::{kind_for, put_key};
 use crate::parts::Parts;
-use crate::spots::spot_of;
+use crate::spots::{Origin, spot_of};
 use lin_events::{Body, Cause, Event, Name, OutOfMemory};
 use lin_formats::kind_word;
+use lin_names::Names;
 use lin_objects::Kind;
-use lin_places::Place;
 use lin_session::Session;
 use lin_words::{name_word, put_event, put_event_spot};
 use std::alloc::{AllocError, Global};
@@ -18,15 +18,15 @@ use std::alloc::{AllocError, Global};
 /// Puts the words of an event last, and where it stands.
 fn put_stood(
     text: &mut Vec<u8>,
-    places: Option<&[Place]>,
+    origin: &Origin,
     at: usize,
     event: &Event,
 ) -> Result<(), AllocError>
-    ensures { OnOk result (text.new.items ≡ text.old.items ++ stood_text (option_map (λ p. p.now) places.entry) at event.now) }
+    ensures { OnOk result (text.new.items ≡ text.old.items ++ stood_text origin.now.names.now (option_map (λ p. p.now) origin.now.places) at event.now) }
 {
-    put_event(text, event)?;
+    put_event(text, origin.names, event)?;
     text.extend_from_slice(b" at ")?;
-    put_event_spot(text, places, at)?;
+    put_event_spot(text, origin.places, at)?;
     text.extend_from_slice(b"\n")
 }
 
@@ -61,17 +61,17 @@ fn event_before(session: &Session, process: u64, at: usize) -> (usize, Option<&E
 /// Puts the line that tells the last earlier event of the same process last.
 fn put_before(
     text: &mut Vec<u8>,
-    places: Option<&[Place]>,
+    origin: &Origin,
     at: usize,
     before: Option<&Event>,
 ) -> Result<(), AllocError>
-    ensures { OnOk result (text.new.items ≡ text.old.items ++ before_text (option_map (λ p. p.now) places.entry) at (option_map (λ e. e.now) before.entry)) }
+    ensures { OnOk result (text.new.items ≡ text.old.items ++ before_text origin.now.names.now (option_map (λ p. p.now) origin.now.places) at (option_map (λ e. e.now) before.entry)) }
 {
     let Some(event) = before else {
         return text.extend_from_slice(b"before it nothing of this process\n");
     };
     text.extend_from_slice(b"before it ")?;
-    put_stood(text, places, at, event)
+    put_stood(text, origin, at, event)
 }
 
 /// The words for the kinds that know calls of the function.
@@ -113,16 +113,21 @@ fn put_not_of_kind(text: &mut Vec<u8>, kind: Kind, body: &Body) -> Result<(), Al
 }
 
 /// Puts the sentence on a completion of another key last.
-fn put_keys(text: &mut Vec<u8>, before: Option<&Event>, event: &Event) -> Result<(), AllocError>
-    ensures { OnOk result (text.new.items ≡ text.old.items ++ keys_text (option_map (λ e. e.now) before.entry) event.now.key) }
+fn put_keys(
+    text: &mut Vec<u8>,
+    names: &Names,
+    before: Option<&Event>,
+    event: &Event,
+) -> Result<(), AllocError>
+    ensures { OnOk result (text.new.items ≡ text.old.items ++ keys_text names.now (option_map (λ e. e.now) before.entry) event.now.key) }
 {
     let Some(invocation) = before else {
         return Ok(());
     };
     text.extend_from_slice(b"a completion has the key of its invocation: ")?;
-    put_key(text, invocation)?;
+    put_key(text, names, invocation)?;
     text.extend_from_slice(b" and ")?;
-    put_key(text, event)?;
+    put_key(text, names, event)?;
     text.extend_from_slice(b"\n")?;
     Ok(())
 }
@@ -130,12 +135,13 @@ fn put_keys(text: &mut Vec<u8>, before: Option<&Event>, event: &Event) -> Result
 /// Puts what is asked of histories last.
 fn put_sentence(
     text: &mut Vec<u8>,
+    names: &Names,
     kind: Kind,
     event: &Event,
     before: Option<&Event>,
     cause: Cause,
 ) -> Result<(), AllocError>
-    ensures { OnOk result (text.new.items ≡ text.old.items ++ sentence_text kind event.now (option_map (λ e. e.now) before.entry) cause) }
+    ensures { OnOk result (text.new.items ≡ text.old.items ++ sentence_text names.now kind event.now (option_map (λ e. e.now) before.entry) cause) }
 {
     match cause {
         Cause::RetiredProcess => text.extend_from_slice(
@@ -151,23 +157,23 @@ fn put_sentence(
         Cause::OtherCall => {
             text.extend_from_slice(b"a completion has the :f of its invocation\n")
         }
-        Cause::OtherKey => put_keys(text, before, event),
+        Cause::OtherKey => put_keys(text, names, before, event),
     }
 }
 
 /// Puts the line on the event before last, but where the cause has nothing to do with it.
 fn put_before_line(
     text: &mut Vec<u8>,
-    places: Option<&[Place]>,
+    origin: &Origin,
     at: usize,
     before: Option<&Event>,
     cause: Cause,
 ) -> Result<(), AllocError>
-    ensures { OnOk result (text.new.items ≡ text.old.items ++ before_line (option_map (λ p. p.now) places.entry) at (option_map (λ e. e.now) before.entry) cause) }
+    ensures { OnOk result (text.new.items ≡ text.old.items ++ before_line origin.now.names.now (option_map (λ p. p.now) origin.now.places) at (option_map (λ e. e.now) before.entry) cause) }
 {
     match cause {
         Cause::NotOfKind => Ok(()),
-        _ => put_before(text, places, at, before),
+        _ => put_before(text, origin, at, before),
     }
 }
 
@@ -178,17 +184,17 @@ fn put_bad(
     at: usize,
     event: &Event,
     cause: Cause,
-    places: Option<&[Place]>,
+    origin: &Origin,
 ) -> Result<(), AllocError>
     requires { at < length session.now.present.history }
     ensures { OnOk result ((earlier : ℕ) × (before : Option EventOf) × IsLastBefore session.now.present.history event.now.process at earlier before
-        × (text.new.items ≡ text.old.items ++ bad_text (kinds_in session.now.present event.now.key) (option_map (λ p. p.now) places.entry) at event.now earlier before cause)) }
+        × (text.new.items ≡ text.old.items ++ bad_text origin.now.names.now (kinds_in session.now.present event.now.key) (option_map (λ p. p.now) origin.now.places) at event.now earlier before cause)) }
 {
     let (earlier, before) = event_before(session, event.process, at);
-    put_stood(text, places, at, event)?;
-    put_before_line(text, places, earlier, before, cause)?;
+    put_stood(text, origin, at, event)?;
+    put_before_line(text, origin, earlier, before, cause)?;
     let kind = kind_for(session, event);
-    put_sentence(text, kind, event, before, cause)
+    put_sentence(text, origin.names, kind, event, before, cause)
 }
 
 /// Puts what is told of a history last whose first bad position this is.
@@ -198,17 +204,17 @@ pub(crate) fn put_ill_formed(
     session: &Session,
     at: usize,
     cause: Cause,
-    places: Option<&[Place]>,
+    origin: &Origin,
 ) -> Result<Parts, OutOfMemory>
     requires { at < length session.now.present.history }
     ensures { IfOk result (λ parts. (lines : List ℕ)
-        × IsIllFormedText session.now.present.history (kinds_in session.now.present) (option_map (λ p. p.now) places.entry) at cause lines parts
+        × IsIllFormedText origin.now.names.now session.now.present.history (kinds_in session.now.present) (option_map (λ p. p.now) origin.now.places) at cause lines parts
         × (text.new.items ≡ text.old.items ++ lines)) }
 {
     let Some(event) = session.event(at) else {
         unreachable!()
     };
-    put_bad(text, session, at, event, cause, places)?;
-    let event = spot_of(alloc, places, at, event)?;
+    put_bad(text, session, at, event, cause, origin)?;
+    let event = spot_of(alloc, origin, at, event)?;
     Ok(Parts::IllFormed { event })
 }

@@ -22,5 +22,5 @@ mod yes;
 
 pub use parts::{Choices, Explanation, Failed, Parts, Spot, Why};
 pub use reading::{Placed, read_placed};
-pub use refused::refusal_lines;
+pub use refused::{place_of, refusal_lines};
 pub use telling::{Asked, explanation_of};

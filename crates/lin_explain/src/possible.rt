@@ -7,6 +7,7 @@ ghost use Rattle.lin_explain.specs.Possible.{AreChoices, IsPossibleText, IsWasTe
 
 use crate::parts::Choices;
 use lin_events::{Event, OutOfMemory};
+use lin_names::Names;
 use lin_objects::Kind;
 use lin_outcomes::{Before, Listed, Outcomes, outcomes_of, put_outcomes, put_was};
 use lin_possible::Possible;
@@ -101,7 +102,7 @@ pub(crate) fn put_possible(
 ) -> Result<Possibilities, OutOfMemory>
     requires legal { IsLegalHistory before.now.kind before.now.events.now }
     requires uncrashed { HasNotCrashed before.now.events.now before.now.process }
-    ensures { IfOk result (λ told. (lines : List ℕ) × IsPossibleText (failing_of before.now) prefix budget lines told.replies told.states × (text.new.items ≡ text.old.items ++ lines)) }
+    ensures { IfOk result (λ told. (lines : List ℕ) × IsPossibleText before.now.names.now (failing_of before.now) prefix budget lines told.replies told.states × (text.new.items ≡ text.old.items ++ lines)) }
 {
     match Possible::after(alloc, before.kind, before.events, budget)? {
         Some(possible) => {
@@ -116,15 +117,16 @@ pub(crate) fn put_possible(
 pub(crate) fn put_was_after(
     alloc: Global,
     text: &mut Vec<u8>,
+    names: &Names,
     kind: Kind,
     events: &[Event],
     budget: u32,
 ) -> Result<(), OutOfMemory>
     requires { IsLegalHistory kind events.now }
-    ensures { OnOk result ((was : List ℕ) × IsWasText kind events.now budget was × (text.new.items ≡ text.old.items ++ was)) }
+    ensures { OnOk result ((was : List ℕ) × IsWasText names.now kind events.now budget was × (text.new.items ≡ text.old.items ++ was)) }
 {
     match Possible::after(alloc, kind, events, budget)? {
-        Some(possible) => put_was(alloc, text, kind, Some(&possible)),
-        None => put_was(alloc, text, kind, None),
+        Some(possible) => put_was(alloc, text, names, kind, Some(&possible)),
+        None => put_was(alloc, text, names, kind, None),
     }
 }

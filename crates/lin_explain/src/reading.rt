@@ -4,6 +4,8 @@ ghost use Rattle.std.specs.Io.KnownBytes.{Consumes};
 ghost use Rattle.lin_formats.specs.Devices.{Counts, device_of, failures_of};
 ghost use Rattle.lin_formats.specs.Histories.{EndsFor, IsHistory, is_read_failed};
 ghost use Rattle.lin_formats.specs.Verdicts.{IsReadTooFar};
+ghost use Rattle.lin_history.specs.Reading.{IsReading, Reading};
+ghost use Rattle.lin_names.specs.Names.{Begins};
 ghost use Rattle.lin_places.specs.Places.{Marks};
 ghost use Rattle.lin_explain.specs.Hints.{IsPairTold};
 
@@ -11,6 +13,7 @@ use crate::pairs::is_of_two_parts;
 use crate::tails::Tail;
 use lin_formats::{Counted, History, RunFault, finish_history, take_piece};
 use lin_history::Follow;
+use lin_names::Names;
 use lin_places::Places;
 use std::alloc::Global;
 use std::io::Read;
@@ -33,14 +36,16 @@ pub fn read_placed<R: Read>(
     alloc: Global,
     keyed: bool,
     file: &mut Counted<R>,
+    names: &mut Names,
 ) -> Result<(History, Placed), RunFault>
     requires { failures_of file.old < u64.MAX }
+    ensures begun { Begins names.old names.new }
     ensures read { IfOk result (λ found. (bytes : List ℕ)
         × Consumes (R.remaining (device_of file.old)) (R.remaining (device_of file.new)) bytes
         × (length bytes ≤ 2 ^ 40)
         × EndsFor found.0 (R.remaining (device_of file.new))
-        × IsHistory keyed bytes found.0
-        × Marks found.1.places bytes
+        × IsHistory keyed names.new bytes found.0
+        × ((m : Reading) → IsReading keyed names.new m → Marks m found.1.places bytes)
         × (found.1.places.keyed ≡ keyed)
         × IsPairTold keyed bytes found.1.places found.0 found.1.is_pair) }
     ensures too_much { IsErrOf result RunFault.TooMuch → IsReadTooFar (R.remaining (device_of file.old)) (R.remaining (device_of file.new)) }
@@ -57,12 +62,12 @@ pub fn read_placed<R: Read>(
             return Err(RunFault::ReadFailed);
         };
         if count == 0 {
-            let history = finish_history(&follow, events)?;
+            let history = finish_history(&follow, events, names)?;
             let is_pair = false;
             return Ok((history, Placed { places, is_pair }));
         }
-        let refusal = take_piece(&mut follow, &mut events, &piece[..count])?;
-        places.feed(&piece[..count])?;
+        let refusal = take_piece(&mut follow, &mut events, &piece[..count], names)?;
+        places.feed(&piece[..count], names)?;
         tail.feed(&piece[..count])?;
         if let Some(refusal) = refusal {
             let is_pair = is_of_two_parts(alloc, keyed, refusal, &places, &tail);

@@ -61,7 +61,7 @@ fn sentence(refusal: Refusal) -> &'static str
 }
 
 /// Where the fault is, if it has a place.
-fn place_of(refusal: Refusal, places: &Places) -> Option<Place>
+pub fn place_of(refusal: Refusal, places: &Places) -> Option<Place>
     ensures { result ≡ place_in places.now refusal }
 {
     match refusal {

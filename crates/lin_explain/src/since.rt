@@ -13,6 +13,7 @@ use crate::laws::beginnings_are_legal;
 use crate::possible::put_was_after;
 use lin_events::{Event, OutOfMemory};
 use lin_formats::put_number;
+use lin_names::Names;
 use lin_objects::Kind;
 use lin_window::{Listed, Window, put_operations, quiet_before};
 use std::alloc::{AllocError, Global};
@@ -31,16 +32,17 @@ fn put_from(text: &mut Vec<u8>, at: usize) -> Result<(), AllocError>
 fn put_since_head(
     alloc: Global,
     text: &mut Vec<u8>,
+    names: &Names,
     at: usize,
     kind: Kind,
     events: &[Event],
     budget: u32,
 ) -> Result<(), OutOfMemory>
     requires { IsLegalHistory kind events.now }
-    ensures { OnOk result ((was : List ℕ) × IsWasText kind events.now budget was × (text.new.items ≡ text.old.items ++ since_head at was)) }
+    ensures { OnOk result ((was : List ℕ) × IsWasText names.now kind events.now budget was × (text.new.items ≡ text.old.items ++ since_head at was)) }
 {
     put_from(text, at)?;
-    put_was_after(alloc, text, kind, events, budget)?;
+    put_was_after(alloc, text, names, kind, events, budget)?;
     text.extend_from_slice(b" (! fails, ~ ran beside it, * is named above):\n")?;
     Ok(())
 }
@@ -66,7 +68,15 @@ pub(crate) fn put_since(
     };
     beginnings_are_legal(failure.kind);
     let ahead = &stretch.events[..from];
-    put_since_head(alloc, text, *at, failure.kind, ahead, failure.budget)?;
+    put_since_head(
+        alloc,
+        text,
+        stretch.names,
+        *at,
+        failure.kind,
+        ahead,
+        failure.budget,
+    )?;
     let window = Window {
         call: failure.call,
         from,

@@ -1,12 +1,22 @@
-//! Events that an explanation speaks of, in parts.
+//! Events that an explanation speaks of, in parts, and what they are told by.
 ghost use Rattle.std.specs.Prelude.{◌≡◌, IfOk, option_map};
 ghost use Rattle.lin_explain.specs.Parts.{IsSpot, place_of};
 
 use crate::parts::Spot;
 use lin_events::{Event, OutOfMemory};
+use lin_names::Names;
 use lin_places::Place;
 use lin_words::put_event;
 use std::alloc::Global;
+
+/// What events are told by besides themselves.
+#[derive(Clone, Copy)]
+pub(crate) struct Origin<'a> {
+    /// The spellings of words.
+    pub(crate) names: &'a Names,
+    /// Where the events of the whole history stand in the recording, if there is one.
+    pub(crate) places: Option<&'a [Place]>,
+}
 
 /// Where the event at the position stands in the recording, if there is one.
 fn place_at(places: Option<&[Place]>, at: usize) -> Option<Place>
@@ -24,17 +34,17 @@ fn place_at(places: Option<&[Place]>, at: usize) -> Option<Place>
 /// The event at the position.
 pub(crate) fn spot_of(
     alloc: Global,
-    places: Option<&[Place]>,
+    origin: &Origin,
     at: usize,
     event: &Event,
 ) -> Result<Spot, OutOfMemory>
-    ensures { IfOk result (IsSpot (option_map (λ p. p.now) places.entry) at event.now) }
+    ensures { IfOk result (IsSpot origin.now.names.now (option_map (λ p. p.now) origin.now.places) at event.now) }
 {
     let mut words = Vec::new(alloc);
-    put_event(&mut words, event)?;
+    put_event(&mut words, origin.names, event)?;
     Ok(Spot {
         at,
         words,
-        place: place_at(places, at),
+        place: place_at(origin.places, at),
     })
 }

@@ -6,9 +6,11 @@ ghost use Rattle.lin_explain.specs.Explained.{Explains, scope_of};
 use crate::failures::put_no;
 use crate::ill_formed::put_ill_formed;
 use crate::parts::{Explanation, Parts};
+use crate::spots::Origin;
 use crate::undecided::put_undecided;
 use crate::yes::put_yes;
 use lin_events::{Item, OutOfMemory};
+use lin_names::Names;
 use lin_places::Place;
 use lin_session::{Answer, Session};
 use std::alloc::Global;
@@ -31,22 +33,22 @@ fn put_answer(
     session: &Session,
     answer: &Answer,
     asked: Asked,
-    places: Option<&[Place]>,
+    origin: &Origin,
 ) -> Result<Parts, OutOfMemory>
     requires { IsAnswer session.now.present (scope_of asked.key) answer.now }
-    ensures { IfOk result (λ parts. (lines : List ℕ) × Explains session.now.present asked (option_map (λ p. p.now) places.entry) answer.now lines parts
+    ensures { IfOk result (λ parts. (lines : List ℕ) × Explains origin.now.names.now session.now.present asked (option_map (λ p. p.now) origin.now.places) answer.now lines parts
         × (text.new.items ≡ text.old.items ++ lines)) }
 {
     match answer {
         Answer::IllFormed { at, cause } => {
-            put_ill_formed(alloc, text, session, *at, *cause, places)
+            put_ill_formed(alloc, text, session, *at, *cause, origin)
         }
-        Answer::Yes(order) => put_yes(alloc, text, session, order.as_slice(), asked),
+        Answer::Yes(order) => put_yes(alloc, text, origin.names, session, order.as_slice(), asked),
         Answer::No { prefix } => {
-            let failed = put_no(alloc, text, session, *prefix, places)?;
+            let failed = put_no(alloc, text, session, *prefix, origin)?;
             Ok(Parts::No(failed))
         }
-        Answer::Undecided { at } => put_undecided(alloc, text, session, *at, places, asked.keyed),
+        Answer::Undecided { at } => put_undecided(alloc, text, session, *at, origin, asked.keyed),
     }
 }
 
@@ -54,14 +56,16 @@ fn put_answer(
 pub fn explanation_of(
     alloc: Global,
     session: &Session,
+    names: &Names,
     answer: &Answer,
     asked: Asked,
     places: Option<&[Place]>,
 ) -> Result<Explanation, OutOfMemory>
     requires { IsAnswer session.now.present (scope_of asked.key) answer.now }
-    ensures { IfOk result (λ told. Explains session.now.present asked (option_map (λ p. p.now) places.entry) answer.now told.lines.items told.parts) }
+    ensures { IfOk result (λ told. Explains names.now session.now.present asked (option_map (λ p. p.now) places.entry) answer.now told.lines.items told.parts) }
 {
     let mut lines = Vec::new(alloc);
-    let parts = put_answer(alloc, &mut lines, session, answer, asked, places)?;
+    let origin = Origin { names, places };
+    let parts = put_answer(alloc, &mut lines, session, answer, asked, &origin)?;
     Ok(Explanation { lines, parts })
 }

@@ -8,12 +8,11 @@ ghost use Rattle.lin_explain.specs.Undecided.{IsOpenText, IsUndecidedText, end_t
 use crate::heads::{kind_for, put_object};
 use crate::own::own_of;
 use crate::parts::Parts;
-use crate::spots::spot_of;
+use crate::spots::{Origin, spot_of};
 use lin_events::{Event, OutOfMemory};
 use lin_formats::put_number;
 use lin_objects::Kind;
 use lin_orders::ends_of;
-use lin_places::Place;
 use lin_session::Session;
 use lin_window::{Listed, Stretch, open_counts, put_operations};
 use lin_words::{put_event, put_event_spot};
@@ -27,19 +26,19 @@ fn put_event_line(
     text: &mut Vec<u8>,
     kind: Kind,
     budget: u32,
-    places: Option<&[Place]>,
+    origin: &Origin,
     at: usize,
     event: &Event,
 ) -> Result<(), AllocError>
-    ensures { OnOk result (text.new.items ≡ text.old.items ++ event_line kind budget (option_map (λ p. p.now) places.entry) at event.now) }
+    ensures { OnOk result (text.new.items ≡ text.old.items ++ event_line origin.now.names.now kind budget (option_map (λ p. p.now) origin.now.places) at event.now) }
 {
-    put_object(text, event, kind)?;
+    put_object(text, origin.names, event, kind)?;
     text.extend_from_slice(b"more than ")?;
     put_number(text, u64::from(budget))?;
     text.extend_from_slice(b" configurations after ")?;
-    put_event_spot(text, places, at)?;
+    put_event_spot(text, origin.places, at)?;
     text.extend_from_slice(b": ")?;
-    put_event(text, event)?;
+    put_event(text, origin.names, event)?;
     text.extend_from_slice(b"\n")?;
     Ok(())
 }
@@ -167,11 +166,11 @@ fn put_object_open(
     session: &Session,
     at: usize,
     event: &Event,
-    places: Option<&[Place]>,
+    origin: &Origin,
     keyed: bool,
 ) -> Result<(), OutOfMemory>
     requires { at < length session.now.present.history }
-    ensures { OnOk result ((stretch : Told) × (lines : List ℕ) × IsStretch event.now.key (take (at + 1) session.now.present.history) (option_map (λ p. p.now) places.entry) stretch
+    ensures { OnOk result ((stretch : Told) × (lines : List ℕ) × IsStretch origin.now.names.now event.now.key (take (at + 1) session.now.present.history) (option_map (λ p. p.now) origin.now.places) stretch
         × IsOpenText stretch session.now.present.budget keyed lines × (text.new.items ≡ text.old.items ++ lines)) }
 {
     let _count = session.len();
@@ -181,7 +180,8 @@ fn put_object_open(
         events: own.events.as_slice(),
         ends: ends.as_slice(),
         picks: own.picks.as_slice(),
-        places,
+        names: origin.names,
+        places: origin.places,
     };
     put_open(alloc, text, &stretch, session.budget(), keyed)
 }
@@ -192,22 +192,22 @@ pub(crate) fn put_undecided(
     text: &mut Vec<u8>,
     session: &Session,
     at: usize,
-    places: Option<&[Place]>,
+    origin: &Origin,
     keyed: bool,
 ) -> Result<Parts, OutOfMemory>
     requires { at < length session.now.present.history }
-    ensures { IfOk result (λ parts. (lines : List ℕ) × IsUndecidedText session.now.present keyed (option_map (λ p. p.now) places.entry) at lines parts
+    ensures { IfOk result (λ parts. (lines : List ℕ) × IsUndecidedText origin.now.names.now session.now.present keyed (option_map (λ p. p.now) origin.now.places) at lines parts
         × (text.new.items ≡ text.old.items ++ lines)) }
 {
     let Some(event) = session.event(at) else {
         unreachable!()
     };
     let kind = kind_for(session, event);
-    put_event_line(text, kind, session.budget(), places, at, event)?;
-    put_object_open(alloc, text, session, at, event, places, keyed)?;
+    put_event_line(text, kind, session.budget(), origin, at, event)?;
+    put_object_open(alloc, text, session, at, event, origin, keyed)?;
     Ok(Parts::Undecided {
         key: event.key,
         kind,
-        event: spot_of(alloc, places, at, event)?,
+        event: spot_of(alloc, origin, at, event)?,
     })
 }

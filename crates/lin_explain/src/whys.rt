@@ -77,6 +77,7 @@ fn put_certificate(
         × (text.new.items ≡ text.old.items ++ lines)) }
 {
     let told = Told {
+        names: stretch.names,
         events: stretch.events,
         ends: stretch.ends,
         picks: stretch.picks,

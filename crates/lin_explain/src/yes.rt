@@ -9,6 +9,7 @@ use crate::parts::Parts;
 use crate::telling::Asked;
 use lin_events::{Item, OutOfMemory};
 use lin_formats::{put_number, write_order};
+use lin_names::Names;
 use lin_objects::Kind;
 use lin_orders::Placed;
 use lin_session::Session;
@@ -101,22 +102,32 @@ fn put_places(
 }
 
 /// How many objects are spoken of.
-fn objects_of(alloc: Global, session: &Session, key: Option<Item>) -> Result<usize, OutOfMemory>
-    ensures { IfOk result (AreObjects key session.now.present.history) }
+fn objects_of(
+    alloc: Global,
+    names: &Names,
+    session: &Session,
+    key: Option<Item>,
+) -> Result<usize, OutOfMemory>
+    ensures { IfOk result (AreObjects names.now key session.now.present.history) }
 {
     match key {
         Some(_) => Ok(1),
-        None => Ok(session.objects(alloc)?.len()),
+        None => Ok(session.objects(alloc, names)?.len()),
     }
 }
 
 /// Puts the line of the order last, if it is wanted.
-fn put_order_line(text: &mut Vec<u8>, with_order: bool, order: &[Placed]) -> Result<(), OutOfMemory>
-    ensures { OnOk result (text.new.items ≡ text.old.items ++ order_line with_order order.now) }
+fn put_order_line(
+    text: &mut Vec<u8>,
+    names: &Names,
+    with_order: bool,
+    order: &[Placed],
+) -> Result<(), OutOfMemory>
+    ensures { OnOk result (text.new.items ≡ text.old.items ++ order_line names.now with_order order.now) }
 {
     if with_order {
         text.extend_from_slice(b"order ")?;
-        write_order(order, text)?;
+        write_order(names, order, text)?;
         text.push(b'\n')?;
     }
     Ok(())
@@ -126,17 +137,18 @@ fn put_order_line(text: &mut Vec<u8>, with_order: bool, order: &[Placed]) -> Res
 fn put_lines(
     alloc: Global,
     text: &mut Vec<u8>,
+    names: &Names,
     session: &Session,
     order: &[Placed],
     asked: Asked,
 ) -> Result<(), OutOfMemory>
-    ensures { OnOk result ((objects : ℕ) × AreObjects asked.key session.now.present.history objects
-        × (text.new.items ≡ text.old.items ++ yes_text asked.key asked.with_order session.now.present.history objects order.now)) }
+    ensures { OnOk result ((objects : ℕ) × AreObjects names.now asked.key session.now.present.history objects
+        × (text.new.items ≡ text.old.items ++ yes_text names.now asked.key asked.with_order session.now.present.history objects order.now)) }
 {
-    let objects = objects_of(alloc, session, asked.key)?;
+    let objects = objects_of(alloc, names, session, asked.key)?;
     put_counts(text, session, asked.key, objects)?;
     put_places(text, session, asked.key, order)?;
-    put_order_line(text, asked.with_order, order)
+    put_order_line(text, names, asked.with_order, order)
 }
 
 /// The object of the key with its kind, if one is named.
@@ -153,14 +165,15 @@ fn object_of(session: &Session, key: Option<Item>) -> Option<(Item, Kind)>
 pub(crate) fn put_yes(
     alloc: Global,
     text: &mut Vec<u8>,
+    names: &Names,
     session: &Session,
     order: &[Placed],
     asked: Asked,
 ) -> Result<Parts, OutOfMemory>
-    ensures { IfOk result (λ parts. (lines : List ℕ) × IsYesText session.now.present asked.key asked.with_order order.now lines parts
+    ensures { IfOk result (λ parts. (lines : List ℕ) × IsYesText names.now session.now.present asked.key asked.with_order order.now lines parts
         × (text.new.items ≡ text.old.items ++ lines)) }
 {
-    put_lines(alloc, text, session, order, asked)?;
+    put_lines(alloc, text, names, session, order, asked)?;
     Ok(Parts::Yes {
         object: object_of(session, asked.key),
     })

@@ -9,10 +9,10 @@ use Rattle.lin_formats.specs.declared.inputs.History.TheVariants.{Whole, Refused
 use Rattle.lin_formats.specs.declared.faults.RunFault.{RunFault}
 use Rattle.lin_formats.specs.declared.faults.RunFault.TheVariants.{ReadFailed, WriteFailed, OutOfMemory, TooMuch}
 
--- the bytes say this
-abbrev pub IsHistory : Bool → List ℕ → History → Type 0
-IsHistory keyed text (Whole events) = IsWhole keyed text events.items
-IsHistory keyed text (Refused refusal) = AreRefused keyed text refusal
+-- by these names the bytes say this
+abbrev pub IsHistory : Bool → List (List ℕ) → List ℕ → History → Type 0
+IsHistory keyed names text (Whole events) = IsWhole keyed names text events.items
+IsHistory keyed names text (Refused refusal) = AreRefused keyed names text refusal
 
 -- at a fault of form, and where there are too many events, no more is read; else the reader came to its end
 abbrev pub StopsFor : Refusal → Option (List ℕ) → Type 0

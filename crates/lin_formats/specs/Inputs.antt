@@ -1,9 +1,9 @@
--- What the bytes of a file say: a history, or why they are refused.
+-- What the bytes of a file say, by names: a history, or why they are refused.
 use Rattle.std.specs.Prelude.{◌<◌, ◌≤◌, ℕ, Bool, List, Result, Ok, Err, length}
 use Rattle.lin_events.specs.declared.events.Event.{Event as EventOf}
 use Rattle.lin_history.specs.declared.follow.FollowFault.{FollowFault}
 use Rattle.lin_history.specs.declared.follow.FollowFault.TheVariants as fault
-use Rattle.lin_history.specs.Stream.{IsStream}
+use Rattle.lin_history.specs.Stream.{IsStreamBy}
 use Rattle.lin_formats.specs.declared.verdicts.Refusal.{Refusal}
 use Rattle.lin_formats.specs.declared.verdicts.Refusal.TheVariants.{Edn, Event, Truncated, Full, BadPair}
 use Rattle.lin_formats.specs.declared.faults.RunFault.{RunFault}
@@ -13,25 +13,26 @@ use Rattle.lin_formats.specs.declared.faults.RunFault.TheVariants.{OutOfMemory, 
 abbrev pub limit : ℕ
 limit = 1000000
 
--- the bytes are a whole stream of these events, and they are not too many
-abbrev pub IsWhole : Bool → List ℕ → List EventOf → Type 0
-IsWhole keyed text events = IsStream keyed text events (Ok tt) × (length events ≤ limit)
+module _ (keyed : Bool) (names : List (List ℕ)) where
+  -- the bytes are a whole stream of these events, and they are not too many
+  abbrev pub IsWhole : List ℕ → List EventOf → Type 0
+  IsWhole text events = IsStreamBy keyed names text events (Ok tt) × (length events ≤ limit)
 
--- the stream ends by a fault, with not too many events before it
-abbrev pub IsFaulty : Bool → List ℕ → FollowFault → Type 0
-IsFaulty keyed text fault = (events : List EventOf) × IsStream keyed text events (Err fault) × (length events ≤ limit)
+  -- the stream ends by a fault, with not too many events before it
+  abbrev pub IsFaulty : List ℕ → FollowFault → Type 0
+  IsFaulty text fault = (events : List EventOf) × IsStreamBy keyed names text events (Err fault) × (length events ≤ limit)
 
--- there are too many events, before a fault if there is one
-abbrev pub IsTooMany : Bool → List ℕ → Type 0
-IsTooMany keyed text = (events : List EventOf) × (outcome : Result (Unit {0}) FollowFault) × IsStream keyed text events outcome × (limit < length events)
+  -- there are too many events, before a fault if there is one
+  abbrev pub IsTooMany : List ℕ → Type 0
+  IsTooMany text = (events : List EventOf) × (outcome : Result (Unit {0}) FollowFault) × IsStreamBy keyed names text events outcome × (limit < length events)
 
--- the bytes are refused for this
-abbrev pub AreRefused : Bool → List ℕ → Refusal → Type 0
-AreRefused keyed text (Edn at cause) = IsFaulty keyed text (fault.Edn at cause)
-AreRefused keyed text (Event at cause) = IsFaulty keyed text (fault.Event at cause)
-AreRefused keyed text (Truncated at) = IsFaulty keyed text (fault.Truncated at)
-AreRefused keyed text Full = IsTooMany keyed text
-AreRefused keyed text (BadPair at) = ⊥
+  -- the bytes are refused for this
+  abbrev pub AreRefused : List ℕ → Refusal → Type 0
+  AreRefused text (Edn at cause) = IsFaulty text (fault.Edn at cause)
+  AreRefused text (Event at cause) = IsFaulty text (fault.Event at cause)
+  AreRefused text (Truncated at) = IsFaulty text (fault.Truncated at)
+  AreRefused text Full = IsTooMany text
+  AreRefused text (BadPair at) = ⊥
 
 -- the refusal, or the end of a run, that a fault of the stream comes to
 abbrev pub refusal_of : FollowFault → Result Refusal RunFault

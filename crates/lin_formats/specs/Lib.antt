@@ -9,6 +9,7 @@ pub mod Integers
 pub mod Items
 pub mod Kinds
 pub mod OrderLaws
+pub mod Saying
 pub mod Texts
 pub mod Verdicts
 pub mod VerdictLaws

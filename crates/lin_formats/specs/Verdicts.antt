@@ -7,12 +7,13 @@ use Rattle.lin_objects.specs.declared.kinds.Kind.{Kind}
 use Rattle.lin_objects.specs.Kinds.{functions_of}
 use Rattle.lin_events.specs.declared.shapes.Shape.TheVariants.{Bad}
 use Rattle.lin_events.specs.WellFormed.{IsShape, IsWellFormed}
+use Rattle.lin_names.specs.Names.{AreEachOnce}
 use Rattle.lin_orders.specs.declared.placed.Placed.{Placed}
 use Rattle.lin_orders.specs.Linearizable.{IsLegalOrder}
 use Rattle.lin_formats.specs.VerdictTexts.{line_of, status_of}
 use Rattle.lin_formats.specs.Inputs.{AreRefused, IsWhole}
 use Rattle.lin_formats.specs.Histories.{StopsFor}
-use Rattle.lin_formats.specs.Orders.{order_of}
+use Rattle.lin_formats.specs.Orders.{order_written, IsOrderBy}
 use Rattle.lin_formats.specs.declared.verdicts.Refusal.{Refusal}
 use Rattle.lin_formats.specs.declared.verdicts.Refusal.TheVariants as refusal
 use Rattle.lin_formats.specs.declared.verdicts.Status.{Status}
@@ -26,27 +27,28 @@ use Rattle.lin_formats.specs.declared.settings.Settings.{Settings}
 abbrev pub all_of : Kind → Item → Kind
 all_of kind key = kind
 
--- What is right to answer of a whole history and the text of an order: that the text is no order; else that the history
--- isn't well-formed, with its first bad event; else whether the order is a legal order of the history.
-abbrev pub IsJudged : Kind → List Event → List ℕ → OrderVerdict → Type 0
-IsJudged kind events text Yes =
-    (order : List Placed) × (order_of text ≡ Ok order) × IsWellFormed (functions_of (all_of kind)) events × IsLegalOrder (all_of kind) events order
-IsJudged kind events text No =
-    (order : List Placed) × (order_of text ≡ Ok order) × IsWellFormed (functions_of (all_of kind)) events × (IsLegalOrder (all_of kind) events order → ⊥)
-IsJudged kind events text (IllFormed at cause) =
-    (order : List Placed) × (order_of text ≡ Ok order) × IsShape (functions_of (all_of kind)) events (Bad at cause)
-IsJudged kind events text (Refused (refusal.BadPair at)) = order_of text ≡ Err at
-IsJudged kind events text (Refused (refusal.Edn at cause)) = ⊥
-IsJudged kind events text (Refused (refusal.Event at cause)) = ⊥
-IsJudged kind events text (Refused (refusal.Truncated at)) = ⊥
-IsJudged kind events text (Refused refusal.Full) = ⊥
+module _ (names : List (List ℕ)) where
+  -- What is right to answer of a whole history and the text of an order: that the text is no order; else that the history
+  -- isn't well-formed, with its first bad event; else whether the order is a legal order of the history.
+  abbrev pub IsJudged : Kind → List Event → List ℕ → OrderVerdict → Type 0
+  IsJudged kind events text Yes =
+      (order : List Placed) × IsOrderBy names text order × IsWellFormed (functions_of (all_of kind)) events × IsLegalOrder (all_of kind) events order
+  IsJudged kind events text No =
+      (order : List Placed) × IsOrderBy names text order × IsWellFormed (functions_of (all_of kind)) events × (IsLegalOrder (all_of kind) events order → ⊥)
+  IsJudged kind events text (IllFormed at cause) =
+      (order : List Placed) × IsOrderBy names text order × IsShape (functions_of (all_of kind)) events (Bad at cause)
+  IsJudged kind events text (Refused (refusal.BadPair at)) = order_written text ≡ Err at
+  IsJudged kind events text (Refused (refusal.Edn at cause)) = ⊥
+  IsJudged kind events text (Refused (refusal.Event at cause)) = ⊥
+  IsJudged kind events text (Refused (refusal.Truncated at)) = ⊥
+  IsJudged kind events text (Refused refusal.Full) = ⊥
 
--- What is right to answer of the bytes of a file and the text of an order: why the bytes are refused; or, where they are a
--- whole history, what is right to answer of that.
-abbrev pub IsRightFor : Settings → List ℕ → List ℕ → OrderVerdict → Type 0
-IsRightFor settings bytes order verdict =
-    ((refusal : Refusal) × (verdict ≡ Refused refusal) × AreRefused settings.keyed bytes refusal)
-    ⊎ ((events : List Event) × IsWhole settings.keyed bytes events × IsJudged settings.kind events order verdict)
+  -- What is right to answer of the bytes of a file and the text of an order, both read by these names: why the bytes are refused; or,
+  -- where they are a whole history, what is right to answer of that.
+  abbrev pub IsRightBy : Settings → List ℕ → List ℕ → OrderVerdict → Type 0
+  IsRightBy settings bytes order verdict =
+      ((refusal : Refusal) × (verdict ≡ Refused refusal) × AreRefused settings.keyed names bytes refusal)
+      ⊎ ((events : List Event) × IsWhole settings.keyed names bytes events × IsJudged settings.kind events order verdict)
 
 -- how far the file was read: to its end, but for a fault of form and too many events
 abbrev pub IsReadFor : OrderVerdict → Option (List ℕ) → Type 0
@@ -56,10 +58,14 @@ IsReadFor (IllFormed at cause) left = IsAtEnd left
 IsReadFor (Refused refusal) left = StopsFor refusal left
 
 -- what is left of a file went from the one to the other, the bytes between are not too many, and this is right to answer of
--- them and the order
+-- them and the order, by these names
+abbrev pub IsVerifiedBy : List (List ℕ) → Settings → List ℕ → Option (List ℕ) → Option (List ℕ) → OrderVerdict → Type 0
+IsVerifiedBy names settings order old new verdict =
+    (bytes : List ℕ) × Consumes old new bytes × (length bytes ≤ 2 ^ 40) × IsReadFor verdict new × IsRightBy names settings bytes order verdict
+
+-- there are names, each once, by which it is
 abbrev pub IsVerified : Settings → List ℕ → Option (List ℕ) → Option (List ℕ) → OrderVerdict → Type 0
-IsVerified settings order old new verdict =
-    (bytes : List ℕ) × Consumes old new bytes × (length bytes ≤ 2 ^ 40) × IsReadFor verdict new × IsRightFor settings bytes order verdict
+IsVerified settings order old new verdict = (names : List (List ℕ)) × AreEachOnce names × IsVerifiedBy names settings order old new verdict
 
 -- more was read than the greatest length of a file
 abbrev pub IsReadTooFar : Option (List ℕ) → Option (List ℕ) → Type 0

@@ -2,9 +2,10 @@
 ghost use Rattle.std.specs.Prelude.{◌≡◌, ◌+◌, ◌^◌, ◌<◌, ◌≤◌, ◌++◌, ◌⊎◌, [], ℕ, List, Err, length, Option, IfErr, IfNone, IfOk, IfSome, false, IsErrOf, MatchBool, MatchOption, MatchResult};
 ghost use Rattle.std.specs.Io.KnownBytes.{Consumes, IsAtEnd};
 ghost use Rattle.lin_events.specs.declared.events.Event.{Event as EventOf};
-ghost use Rattle.lin_history.specs.Sees.{is_fault, Sees};
+ghost use Rattle.lin_history.specs.Sees.{is_fault};
+ghost use Rattle.lin_names.specs.Names.{AgreesWith, AreEachOnce, Begins, Numbering};
 ghost use Rattle.lin_formats.specs.Devices.{device_of, failures_of, Counts};
-ghost use Rattle.lin_formats.specs.Intakes.{IsFed};
+ghost use Rattle.lin_formats.specs.Intakes.{AreSeen, IsFed, IsFedOn, IsTooMuch};
 ghost use Rattle.lin_formats.specs.Inputs.{limit, AreRefused, IsTooMany};
 ghost use Rattle.lin_formats.specs.Inputs as inputs_said;
 ghost use Rattle.lin_formats.specs.Verdicts.{IsReadTooFar};
@@ -15,6 +16,7 @@ use crate::faults::RunFault;
 use crate::verdicts::Refusal;
 use lin_events::{Event, OutOfMemory};
 use lin_history::{Follow, FollowFault};
+use lin_names::{Names, names_grow};
 use std::alloc::Global;
 use std::io::Read;
 
@@ -50,8 +52,8 @@ fn take_ready(follow: &mut Follow, events: &mut Vec<Event>) -> Result<bool, OutO
     requires { length events.old.items ≤ limit }
     ensures keyed { follow.new.keyed ≡ follow.old.keyed }
     ensures outcome { follow.new.outcome ≡ follow.old.outcome }
-    ensures all { IfOk result (λ fits. (bytes : List ℕ) → Sees follow.old bytes events.old.items →
-        MatchBool fits (IsFed follow.new bytes events.new.items) (IsTooMany follow.new.keyed bytes)) }
+    ensures all { IfOk result (λ fits. (names : List (List ℕ)) (bytes : List ℕ) → AreSeen names follow.old bytes events.old.items →
+        MatchBool fits (IsFed names follow.new bytes events.new.items) (IsTooMany follow.new.keyed names bytes)) }
 {
     let mut more = follow.take_all();
     if more.len() > LIMIT - events.len() {
@@ -65,27 +67,47 @@ fn take_ready(follow: &mut Follow, events: &mut Vec<Event>) -> Result<bool, OutO
     Ok(true)
 }
 
+/// Feeds one more piece of the file, or tells by which fault the stream ends.
+fn feed_piece(
+    follow: &mut Follow,
+    piece: &[u8],
+    names: &mut Names,
+) -> Result<Option<Refusal>, RunFault>
+    ensures begun { Begins names.old names.new }
+    ensures keyed { follow.new.keyed ≡ follow.old.keyed }
+    ensures fed { IfOk result (IsFedOn names.old names.new follow.old piece.now follow.new) }
+    ensures faults { IfErr result (λ fault. (fault ≡ RunFault.OutOfMemory) ⊎ (fault ≡ RunFault.TooMuch)) }
+    ensures too_much { IsErrOf result RunFault.TooMuch → IsTooMuch names.old follow.old piece.now }
+{
+    some_numbering(names);
+    match follow.feed(piece, names) {
+        Ok(_) => Ok(None),
+        Err(fault) => Ok(Some(refusal_of(fault)?)),
+    }
+}
+
 /// Takes in one more piece of the file, or tells why it is refused.
 pub fn take_piece(
     follow: &mut Follow,
     events: &mut Vec<Event>,
     piece: &[u8],
+    names: &mut Names,
 ) -> Result<Option<Refusal>, RunFault>
     requires { length events.old.items ≤ limit }
+    ensures begun { Begins names.old names.new }
     ensures keyed { follow.new.keyed ≡ follow.old.keyed }
-    ensures taken { IfOk result (λ refusal. (bytes : List ℕ) → IsFed follow.old bytes events.old.items → MatchOption refusal
-        (IsFed follow.new (bytes ++ piece.now) events.new.items)
-        (AreRefused follow.new.keyed (bytes ++ piece.now))) }
+    ensures taken { IfOk result (λ refusal. (bytes : List ℕ) → IsFed names.old follow.old bytes events.old.items → MatchOption refusal
+        (IsFed names.new follow.new (bytes ++ piece.now) events.new.items)
+        (AreRefused follow.new.keyed names.new (bytes ++ piece.now))) }
     ensures goes_on { IfOk result (λ refusal. IfNone refusal (is_fault follow.new.outcome ≡ false)) }
-    ensures within { IfOk result (λ _. (bytes : List ℕ) → IsFed follow.old bytes events.old.items → is_fault follow.old.outcome ≡ false → length bytes + length piece.now ≤ 2 ^ 40) }
+    ensures within { IfOk result (λ _. (bytes : List ℕ) → IsFed names.old follow.old bytes events.old.items → is_fault follow.old.outcome ≡ false
+        → length bytes + length piece.now ≤ 2 ^ 40) }
     ensures stops { IfOk result (λ refusal. IfSome refusal (λ r. (left : Option (List ℕ)) → StopsFor r left)) }
     ensures faults { IfErr result (λ fault. (fault ≡ RunFault.OutOfMemory) ⊎ (fault ≡ RunFault.TooMuch)) }
-    ensures too_much { IsErrOf result RunFault.TooMuch → (bytes : List ℕ) → IsFed follow.old bytes events.old.items → 2 ^ 40 < length bytes + length piece.now }
+    ensures too_much { IsErrOf result RunFault.TooMuch → (bytes : List ℕ) → IsFed names.old follow.old bytes events.old.items
+        → 2 ^ 40 < length bytes + length piece.now }
 {
-    let refusal = match follow.feed(piece) {
-        Ok(_) => None,
-        Err(fault) => Some(refusal_of(fault)?),
-    };
+    let refusal = feed_piece(follow, piece, names)?;
     if !take_ready(follow, events)? {
         return Ok(Some(Refusal::Full));
     }
@@ -93,9 +115,15 @@ pub fn take_piece(
 }
 
 /// What a file says whose bytes all were taken in.
-pub fn finish_history(follow: &Follow, events: Vec<Event>) -> Result<History, RunFault>
-    ensures { (bytes : List ℕ) → IsFed follow.now bytes events.items → MatchResult result (IsHistory follow.now.keyed bytes) (λ _. ⊥) }
+pub fn finish_history(
+    follow: &Follow,
+    events: Vec<Event>,
+    names: &Names,
+) -> Result<History, RunFault>
+    ensures { (bytes : List ℕ) → IsFed names.now follow.now bytes events.items
+        → MatchResult result (IsHistory follow.now.keyed names.now bytes) (λ _. ⊥) }
 {
+    some_numbering(names);
     match follow.finish() {
         Ok(()) => Ok(History::Whole(events)),
         Err(fault) => Ok(History::Refused(refusal_of(fault)?)),
@@ -109,17 +137,20 @@ pub fn read_history<R: Read>(
     alloc: Global,
     keyed: bool,
     file: &mut Counted<R>,
+    names: &mut Names,
 ) -> Result<History, RunFault>
     requires { failures_of file.old < u64.MAX }
+    ensures begun { Begins names.old names.new }
     ensures read { IfOk result (λ history. (bytes : List ℕ)
         × Consumes (R.remaining (device_of file.old)) (R.remaining (device_of file.new)) bytes
         × (length bytes ≤ 2 ^ 40)
         × EndsFor history (R.remaining (device_of file.new))
-        × IsHistory keyed bytes history) }
+        × IsHistory keyed names.new bytes history) }
     ensures too_much { IsErrOf result RunFault.TooMuch → IsReadTooFar (R.remaining (device_of file.old)) (R.remaining (device_of file.new)) }
     ensures counts { Counts (is_read_failed result) (failures_of file.old) (failures_of file.new) }
     ensures readers { IsErrOf result RunFault.WriteFailed → ⊥ }
 {
+    names_grow();
     let mut follow = Follow::new(alloc, keyed);
     let mut events = Vec::new(alloc);
     let mut piece = [0u8; PIECE];
@@ -128,11 +159,20 @@ pub fn read_history<R: Read>(
             return Err(RunFault::ReadFailed);
         };
         if count == 0 {
-            return finish_history(&follow, events);
+            return finish_history(&follow, events, names);
         }
-        if let Some(refusal) = take_piece(&mut follow, &mut events, &piece[..count])? {
+        if let Some(refusal) = take_piece(&mut follow, &mut events, &piece[..count], names)? {
             return Ok(History::Refused(refusal));
         }
     }
     Err(RunFault::TooMuch)
+}
+
+/// Each spelling has one number, and a numbering agrees with the names. The function does nothing.
+pub(crate) fn some_numbering(names: &Names)
+    ensures once { AreEachOnce names.now }
+    ensures numbering { (number : Numbering) × AgreesWith names.now number }
+{
+    names_grow();
+    names.len();
 }

@@ -25,7 +25,7 @@ pub use kinds::{kind_named, kind_word, kind_words, kind_words_are_read};
 pub use orders::read_order;
 pub use parts::{Word, end_of_part, next_word};
 pub use settings::Settings;
-pub use texts::{put_members, write_order, written_orders_are_read};
+pub use texts::{put_list, put_members, write_order, written_orders_are_read};
 pub use verdict_laws::verdicts_are_unique;
 pub use verdicts::{
     OrderVerdict, Refusal, Status, cause_words, edn_cause, event_fault, put_number, refusal_words,

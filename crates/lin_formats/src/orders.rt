@@ -1,47 +1,62 @@
 //! The orders that texts write.
-ghost use Rattle.std.specs.Prelude.{◌≡◌, ◌-◌, ◌<◌, ◌==◌, ◌∷◌, ◌++◌, [], false, true, length, position, slice_range, IfOk, IfSome, MatchOption, MatchResult};
-ghost use Rattle.lin_formats.specs.Parts.{words_from};
-ghost use Rattle.lin_formats.specs.Orders.{is_braced, is_rising, members_written, order_of, pair_written, pairs_of, reply_written, IsRefusedAs};
+ghost use Rattle.std.specs.Prelude.{◌≡◌, ◌-◌, ◌<◌, ◌==◌, [], false, true, length, map, position, slice_range, IfOk, IfSome, MatchOption, MatchResult};
+ghost use Rattle.lin_lists.specs.Sets.{members_of};
+ghost use Rattle.lin_events.specs.Items.{item_cmp};
+ghost use Rattle.lin_names.specs.Names.{Begins};
+ghost use Rattle.lin_names.specs.Spelled.{numbered, seen};
+ghost use Rattle.lin_formats.specs.Orders.{is_below, is_braced, members_written, order_written, pair_of, pair_written, pairs_of, reply_of, reply_written, IsOrderBy, IsRefusedAs};
+ghost use Rattle.lin_formats.specs.Parts.{filled_from};
+ghost use Rattle.lin_formats.specs.Saying.{AreOrdered, IsAsSaid};
+ghost use Rattle.lin_formats.specs.declared.parts.Division.TheVariants as division;
 
 use crate::faults::OrderFault;
 use crate::integers::number;
 use crate::items::item_in;
-use crate::parts::{end_of_part, next_word};
-use lin_events::{IntSet, Item, OutOfMemory, Reply, Val};
+use crate::parts::{Division, next_filled, part_end};
+use lin_events::{IntSet, OutOfMemory, Reply, Val};
+use lin_names::{Names, Said, names_grow, said_order};
 use lin_orders::Placed;
 use std::alloc::Global;
 
-/// Whether an item is above the last of rising ones, and so above all of them.
-fn is_above(items: &[Item], item: Item) -> bool
-    ensures { is_rising items.now ≡ true → is_rising (items.now ++ item ∷ []) ≡ result }
+/// Whether an item is above the last one in print, if there is one.
+fn is_above(last: Option<Said>, item: Said) -> bool
+    ensures { MatchOption last.entry (result ≡ true) (λ below. is_below (seen below) (seen item.entry) ≡ result) }
 {
-    match items.last() {
-        Some(last) => *last < item,
+    match last {
+        Some(last) => said_order(last, item).is_lt(),
         None => true,
     }
 }
 
-/// The items that a text writes with commas between them, where they rise strictly.
-fn read_members(alloc: Global, text: &[u8]) -> Result<Option<IntSet>, OutOfMemory>
-    ensures { IfOk result (λ members. members ≡ members_written text.now) }
+/// The members that a text writes with commas between them, where they rise strictly in print.
+fn read_members(
+    alloc: Global,
+    text: &[u8],
+    names: &mut Names,
+) -> Result<Option<IntSet>, OutOfMemory>
+    ensures begun { Begins names.old names.new }
+    ensures read { IfOk result (IsAsSaid (λ number xs. members_of item_cmp (map (numbered number) xs)) names.new (members_written text.now)) }
 {
+    names_grow();
     let mut members = Vec::new(alloc);
     if text.is_empty() {
         return Ok(Some(IntSet::new(alloc)));
     }
+    let mut last = None;
     let mut from = 0;
     'parts: loop {
-        let end = end_of_part(text, from, b',');
-        let Some(member) = item_in(&text[from..end]) else {
+        let end = part_end(text, from, Division::Members);
+        let Some(said) = item_in(&text[from..end]) else {
             return Ok(None);
         };
-        if !is_above(members.as_slice(), member) {
+        if !is_above(last, said) {
             return Ok(None);
         }
-        members.push(member)?;
+        members.push(said.item(names)?)?;
         if end == text.len() {
-            return Ok(Some(IntSet::from_rising(alloc, members)?));
+            return Ok(Some(IntSet::from_members(alloc, members)?));
         }
+        last = Some(said);
         from = end + 1;
     }
 }
@@ -58,8 +73,9 @@ fn between_braces(text: &[u8]) -> Option<&[u8]>
 }
 
 /// The reply that a text writes.
-fn read_reply(alloc: Global, text: &[u8]) -> Result<Option<Reply>, OutOfMemory>
-    ensures { IfOk result (λ reply. reply ≡ reply_written text.now) }
+fn read_reply(alloc: Global, text: &[u8], names: &mut Names) -> Result<Option<Reply>, OutOfMemory>
+    ensures begun { Begins names.old names.new }
+    ensures read { IfOk result (IsAsSaid reply_of names.new (reply_written text.now)) }
 {
     if text == b"done".as_slice() {
         return Ok(Some(Reply::Done));
@@ -68,8 +84,14 @@ fn read_reply(alloc: Global, text: &[u8]) -> Result<Option<Reply>, OutOfMemory>
         return Ok(Some(Reply::Value(Val::Nil)));
     }
     match between_braces(text) {
-        Some(inside) => Ok(read_members(alloc, inside)?.map(Reply::Members)),
-        None => Ok(item_in(text).map(|item| Reply::Value(Val::Item(item)))),
+        Some(inside) => match read_members(alloc, inside, names)? {
+            Some(members) => Ok(Some(Reply::Members(members))),
+            None => Ok(None),
+        },
+        None => match item_in(text) {
+            Some(said) => Ok(Some(Reply::Value(Val::Item(said.item(names)?)))),
+            None => Ok(None),
+        },
     }
 }
 
@@ -82,16 +104,18 @@ fn place_of_sign(word: &[u8]) -> Option<usize>
 }
 
 /// The pair that a word writes.
-fn read_pair(alloc: Global, word: &[u8]) -> Result<Option<Placed>, OutOfMemory>
-    ensures { IfOk result (λ pair. pair ≡ pair_written word.now) }
+fn read_pair(alloc: Global, word: &[u8], names: &mut Names) -> Result<Option<Placed>, OutOfMemory>
+    ensures begun { Begins names.old names.new }
+    ensures read { IfOk result (IsAsSaid pair_of names.new (pair_written word.now)) }
 {
+    names_grow();
     let Some(sign) = place_of_sign(word) else {
         return Ok(None);
     };
     let Some(at) = number(&word[..sign], u64::MAX) else {
         return Ok(None);
     };
-    match read_reply(alloc, &word[sign + 1..])? {
+    match read_reply(alloc, &word[sign + 1..], names)? {
         Some(reply) => Ok(Some(Placed {
             at: at as usize,
             reply,
@@ -101,14 +125,16 @@ fn read_pair(alloc: Global, word: &[u8]) -> Result<Option<Placed>, OutOfMemory>
 }
 
 /// The pairs that the words of a text write.
-fn read_pairs(alloc: Global, text: &[u8]) -> Result<Vec<Placed>, OrderFault>
-    ensures { let pairs = pairs_of (words_from 0 text.now) in
-        MatchResult result (λ order. pairs ≡ Ok order.items) (IsRefusedAs pairs) }
+fn read_pairs(alloc: Global, text: &[u8], names: &mut Names) -> Result<Vec<Placed>, OrderFault>
+    ensures begun { Begins names.old names.new }
+    ensures read { let pairs = pairs_of (filled_from division.Pairs 0 text.now) in
+        MatchResult result (λ order. AreOrdered names.new pairs order.items) (IsRefusedAs pairs) }
 {
+    names_grow();
     let mut order = Vec::new(alloc);
     let mut from = 0;
-    'words: while let Some(word) = next_word(text, from) {
-        let Some(pair) = read_pair(alloc, word.text)? else {
+    'words: while let Some(word) = next_filled(text, from, Division::Pairs) {
+        let Some(pair) = read_pair(alloc, word.text, names)? else {
             return Err(OrderFault::BadPair { at: word.at });
         };
         order.push(pair)?;
@@ -119,18 +145,21 @@ fn read_pairs(alloc: Global, text: &[u8]) -> Result<Vec<Placed>, OrderFault>
 
 /// The order that a text writes: the word `empty`, or one pair `AT=REPLY` or more, with spaces between them.
 ///
-/// `AT` is the position of an invocation. A reply is `done`, `nil`, an item, or items `{a,b,c}` that rise strictly.
+/// `AT` is the position of an invocation. A reply is `done`, `nil`, an item, or items `{a,b,c}` that rise strictly in the order of print. A
+/// string in a reply runs to its closing quote, whatever stands in it.
 ///
 /// Errors: `BadPair` with the place of the first word that is no pair, or 0 where there is no word; want of memory.
-pub fn read_order(alloc: Global, text: &[u8]) -> Result<Vec<Placed>, OrderFault>
-    ensures { MatchResult result (λ order. order_of text.now ≡ Ok order.items) (IsRefusedAs (order_of text.now)) }
+pub fn read_order(alloc: Global, text: &[u8], names: &mut Names) -> Result<Vec<Placed>, OrderFault>
+    ensures begun { Begins names.old names.new }
+    ensures read { MatchResult result (λ order. IsOrderBy names.new text.now order.items) (IsRefusedAs (order_written text.now)) }
 {
-    let Some(word) = next_word(text, 0) else {
+    names_grow();
+    let Some(word) = next_filled(text, 0, Division::Pairs) else {
         return Err(OrderFault::BadPair { at: 0 });
     };
-    let is_last = next_word(text, word.at + word.text.len()).is_none();
+    let is_last = next_filled(text, word.at + word.text.len(), Division::Pairs).is_none();
     if is_last && word.text == b"empty".as_slice() {
         return Ok(Vec::new(alloc));
     }
-    read_pairs(alloc, text)
+    read_pairs(alloc, text, names)
 }

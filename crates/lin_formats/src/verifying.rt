@@ -1,19 +1,21 @@
 //! Whether an order is a legal order of the history in a file.
 ghost use Rattle.std.specs.Prelude.{◌≡◌, ◌^◌, ◌<◌, ◌≤◌, ℕ, List, length, IfErr, IfOk, IsErrOf};
 ghost use Rattle.std.specs.Io.KnownBytes.{Appends, Consumes};
+ghost use Rattle.lin_names.specs.Names.{Begins};
 ghost use Rattle.lin_formats.specs.VerdictTexts.{line_of, status_of};
 ghost use Rattle.lin_formats.specs.Devices.{device_of, failures_of, Counts};
 ghost use Rattle.lin_formats.specs.Histories.{is_read_failed};
-ghost use Rattle.lin_formats.specs.Verdicts.{is_write_failed, IsJudged, IsReadTooFar, IsVerified, IsVerifyRun};
+ghost use Rattle.lin_formats.specs.Verdicts.{is_write_failed, IsJudged, IsReadTooFar, IsVerifiedBy, IsVerifyRun};
 
 use crate::counted::Counted;
 use crate::faults::{OrderFault, RunFault};
-use crate::inputs::{History, read_history};
+use crate::inputs::{History, read_history, some_numbering};
 use crate::orders::read_order;
 use crate::settings::Settings;
 use crate::verdicts::{OrderVerdict, Refusal, Status, line};
 use crate::writing::write_whole;
 use lin_events::{Event, Meter, OutOfMemory, Shape};
+use lin_names::Names;
 use lin_objects::{Kind, Kinds};
 use lin_orders::check_order;
 use lin_wellformed::Scan;
@@ -26,10 +28,12 @@ fn judge(
     kind: Kind,
     events: &[Event],
     order: &[u8],
+    names: &mut Names,
 ) -> Result<OrderVerdict, OutOfMemory>
-    ensures { IfOk result (IsJudged kind events.now order.now) }
+    ensures begun { Begins names.old names.new }
+    ensures judged { IfOk result (IsJudged names.new kind events.now order.now) }
 {
-    let order = match read_order(alloc, order) {
+    let order = match read_order(alloc, order, names) {
         Ok(order) => order,
         Err(OrderFault::BadPair { at }) => return Ok(OrderVerdict::Refused(Refusal::BadPair {
             at,
@@ -50,21 +54,24 @@ fn judge(
     }
 }
 
-/// What is found of a file and the text of an order.
+/// What is found of a file and the text of an order, both read by these names.
 fn find_verdict<R: Read>(
     alloc: Global,
     settings: Settings,
     file: &mut Counted<R>,
     order: &[u8],
+    names: &mut Names,
 ) -> Result<OrderVerdict, RunFault>
     requires { failures_of file.old < u64.MAX }
-    ensures found { IfOk result (IsVerified settings order.now (R.remaining (device_of file.old)) (R.remaining (device_of file.new))) }
+    ensures found { IfOk result (IsVerifiedBy names.new settings order.now (R.remaining (device_of file.old)) (R.remaining (device_of file.new))) }
     ensures too_much { IsErrOf result RunFault.TooMuch → IsReadTooFar (R.remaining (device_of file.old)) (R.remaining (device_of file.new)) }
     ensures counts { Counts (is_read_failed result) (failures_of file.old) (failures_of file.new) }
     ensures readers { IsErrOf result RunFault.WriteFailed → ⊥ }
 {
-    match read_history(alloc, settings.keyed, file)? {
-        History::Whole(events) => Ok(judge(alloc, settings.kind, events.as_slice(), order)?),
+    match read_history(alloc, settings.keyed, file, names)? {
+        History::Whole(events) => {
+            Ok(judge(alloc, settings.kind, events.as_slice(), order, names)?)
+        }
         History::Refused(refusal) => Ok(OrderVerdict::Refused(refusal)),
     }
 }
@@ -94,7 +101,9 @@ pub fn verify<R: Read, W: Write>(
     ensures read_counts { Counts (is_read_failed result) (failures_of file.old) (failures_of file.new) }
     ensures write_counts { Counts (is_write_failed result) (failures_of out.old) (failures_of out.new) }
 {
-    let verdict = find_verdict(alloc, settings, file, order)?;
+    let mut names = Names::new(alloc);
+    let verdict = find_verdict(alloc, settings, file, order, &mut names)?;
+    some_numbering(&names);
     let line = line(alloc, verdict)?;
     write_whole(out, line.as_slice())?;
     Ok(verdict.status())

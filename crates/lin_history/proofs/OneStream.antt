@@ -1,5 +1,5 @@
 -- A text has one stream.
-use Rattle.std.proofs.Common.{◌≡◌, ℕ, ◌+◌, Bool, List, [], ◌++◌, Option, Some, None, Result, Ok, Err, drop, refl, sym, ap, ◌∙◌, subst, append_assoc, append-nil, zero-add}
+use Rattle.std.proofs.Common.{◌≡◌, ℕ, ◌+◌, List, [], ◌++◌, Option, Some, None, Result, Ok, Err, drop, refl, sym, ap, ◌∙◌, subst, append_assoc, append-nil, zero-add}
 use Rattle.std.proofs.lemmas.List.{drop-drop}
 use Rattle.lin_edn.specs.Grammar.{ShortBlanks}
 use Rattle.lin_edn.specs.Laws.{later, reading_later, ReadingsAreUnique, BlanksAreSkipped}
@@ -7,6 +7,7 @@ use Rattle.lin_edn.specs.Reading.{Reading, an_element, unfinished as is_unfinish
 use Rattle.lin_edn.specs.Value.{Value}
 use Rattle.lin_edn.specs.declared.EdnCause.{EdnCause}
 use Rattle.lin_edn.specs.declared.EdnCause.TheVariants as edn
+use Rattle.lin_history.specs.Reading.{Reading as Way}
 use Rattle.lin_history.specs.inner.Reads.{behind}
 use Rattle.lin_history.specs.Stream.{Told, told, Gives, nothing, blanks, element, IsStream, blank, unfinished, no_element, no_event, StreamsAreUnique}
 use Rattle.lin_events.specs.declared.events.Event.{Event}
@@ -42,11 +43,11 @@ known_later n (is_unfinished at) h w = w
 known_later n (refused at cause) h w = h w
 
 -- the stream of a text, its first element first
-data Runs : Bool → List ℕ → List Event → Result (Unit {0}) FollowFault → Type 0 where
-  ends : {k : Bool} {s : List ℕ} {o : Result (Unit {0}) FollowFault} (a : Reading) → Allows s a → (IsWantOfMemory a → ⊥) → EndsAs a o → Runs k s [] o
-  fails : {k : Bool} {s : List ℕ} {es : List Event} {cause : EventFault} (v : Value) (at used : ℕ) →
+data Runs : Way → List ℕ → List Event → Result (Unit {0}) FollowFault → Type 0 where
+  ends : {k : Way} {s : List ℕ} {o : Result (Unit {0}) FollowFault} (a : Reading) → Allows s a → (IsWantOfMemory a → ⊥) → EndsAs a o → Runs k s [] o
+  fails : {k : Way} {s : List ℕ} {es : List Event} {cause : EventFault} (v : Value) (at used : ℕ) →
       Allows s (an_element v at used) → told k v ≡ record { events = es; ends = Some cause } → Runs k s es (Err (fault.Event at cause))
-  goes : {k : Bool} {s : List ℕ} {es fs : List Event} {o : Result (Unit {0}) FollowFault} (v : Value) (at used : ℕ) →
+  goes : {k : Way} {s : List ℕ} {es fs : List Event} {o : Result (Unit {0}) FollowFault} (v : Value) (at used : ℕ) →
       Allows s (an_element v at used) → told k v ≡ record { events = es; ends = None } → Runs k (drop used s) fs o → Runs k s (es ++ fs) (behind used o)
 
 no_element_ends : (a : Reading) (v : Value) (at used : ℕ) (o : Result (Unit {0}) FollowFault) → a ≡ an_element v at used → EndsAs a o → ⊥
@@ -55,7 +56,7 @@ no_element_ends a v at used o e h = subst (λ r. EndsAs r o) e h
 one_told : (t : Told) (es fs : List Event) (x y : Option EventFault) → t ≡ record { events = es; ends = x } → t ≡ record { events = fs; ends = y } → (es ≡ fs) × (x ≡ y)
 one_told t es fs x y e f = (ap (λ u. u.events) (sym e ∙ f), ap (λ u. u.ends) (sym e ∙ f))
 
-one_run : ReadingsAreUnique → {k : Bool} {s : List ℕ} {a b : List Event} {x y : Result (Unit {0}) FollowFault} → Runs k s a x → Runs k s b y → (a ≡ b) × (x ≡ y)
+one_run : ReadingsAreUnique → {k : Way} {s : List ℕ} {a b : List Event} {x y : Result (Unit {0}) FollowFault} → Runs k s a x → Runs k s b y → (a ≡ b) × (x ≡ y)
 one_run unique {s = s} {x = x} {y = y} (ends a h known e) (ends b i told f) =
     let same : a ≡ b = unique s a b h i known told in (refl, one_end b x y (subst (λ r. EndsAs r x) same e) f)
 one_run unique {s = s} {x = x} (ends a h known e) (fails v at used i w) = absurd (no_element_ends a v at used x (unique s a (an_element v at used) h i known (λ z. z)) e)
@@ -85,7 +86,7 @@ one_run unique {k = k} {s = s} (goes {es = es} {fs = hs} {o = o} v at used i w r
     (ap (λ l. l ++ hs) first ∙ ap (λ l. fs ++ l) rest.0, ap (behind used) rest.1 ∙ ap (λ n. behind n x) (sym length))
 
 -- blanks in front
-run_later : BlanksAreSkipped → {k : Bool} {s t : List ℕ} {es : List Event} {o : Result (Unit {0}) FollowFault} (n : ℕ) → ShortBlanks s n t → Runs k (drop n s) es o → Runs k s es (behind n o)
+run_later : BlanksAreSkipped → {k : Way} {s t : List ℕ} {es : List Event} {o : Result (Unit {0}) FollowFault} (n : ℕ) → ShortBlanks s n t → Runs k (drop n s) es o → Runs k s es (behind n o)
 run_later skip {s = s} {t = t} {o = o} n bs (ends a h known e) = ends (reading_later n a) (skip s t n a bs h known) (known_later n a known) (end_later n a o e)
 run_later skip {k = k} {s = s} {t = t} n bs (fails v at used h w) =
     fails (later n v) (n + at) (n + used) (skip s t n (an_element v at used) bs h (λ z. z)) (told_later n k v ∙ w)
@@ -101,7 +102,7 @@ behind_none (Err (fault.Truncated at)) = ap (λ n. Err (fault.Truncated n)) (zer
 behind_none (Err fault.OutOfMemory) = refl
 behind_none (Err fault.TooMuch) = refl
 
-run_behind : BlanksAreSkipped → {k : Bool} {s : List ℕ} {es fs : List Event} {o : Result (Unit {0}) FollowFault} {p : ℕ} → Gives k s es p → Runs k (drop p s) fs o → Runs k s (es ++ fs) (behind p o)
+run_behind : BlanksAreSkipped → {k : Way} {s : List ℕ} {es fs : List Event} {o : Result (Unit {0}) FollowFault} {p : ℕ} → Gives k s es p → Runs k (drop p s) fs o → Runs k s (es ++ fs) (behind p o)
 run_behind skip {k = k} {s = s} {fs = fs} {o = o} nothing r = subst (Runs k s fs) (sym (behind_none o)) r
 run_behind skip {k = k} {s = s} {fs = fs} {o = o} (blanks {es = es} {p = p} {n = n} g b) r =
     let rest : Runs k (drop n (drop p s)) fs o = subst (λ l. Runs k l fs o) (sym (drop-drop n p s)) r in
@@ -118,7 +119,7 @@ known edn.TooDeep at h w = w
 known edn.TooLong at h w = w
 known edn.OutOfMemory at h w = h refl
 
-run_of : BlanksAreSkipped → {k : Bool} {s : List ℕ} {es : List Event} {o : Result (Unit {0}) FollowFault} → IsStream k s es o → Runs k s es o
+run_of : BlanksAreSkipped → {k : Way} {s : List ℕ} {es : List Event} {o : Result (Unit {0}) FollowFault} → IsStream k s es o → Runs k s es o
 run_of skip {k = k} {s = s} (blank {es = es} {used = used} g b) =
     subst (λ l. Runs k s l (Ok tt)) (append-nil es) (run_behind skip g (ends (are_blanks used) b (λ z. z) refl))
 run_of skip {k = k} {s = s} (unfinished {es = es} {p = p} at g b) =

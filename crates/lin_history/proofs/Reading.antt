@@ -1,6 +1,9 @@
 -- A text that is read element by element.
 use Rattle.std.proofs.Common.{◌≡◌, ℕ, ◌+◌, ◌-◌, ◌≤◌, Bool, List, ◌++◌, Result, Ok, Err, take, drop, length, refl, sym, ap, ◌∙◌, arith, append_assoc, add_assoc}
 use Rattle.std.proofs.lemmas.List.{length-drop, take_all}
+use Rattle.lin_names.specs.Names.{Begins}
+use Rattle.lin_names.specs.lemmas.Begins.{agrees_before}
+use Rattle.lin_history.specs.Reading.{Reading, IsReading}
 use Rattle.lin_history.specs.Stream.{Gives, element}
 use Rattle.lin_history.specs.Sees.{is_fault}
 use Rattle.lin_history.specs.inner.Reads.{behind, IsElement, IsReadTo}
@@ -9,6 +12,10 @@ use Rattle.lin_history.specs.declared.follow.Read.{Read}
 use Rattle.lin_history.specs.declared.follow.FollowFault.{FollowFault}
 use Rattle.lin_history.specs.declared.follow.FollowFault.TheVariants as fault
 use Rattle.lin_history.proofs.Streams.{gives_join, stream_join}
+
+-- what is read by more names is read by those before
+pub reading_before : (keyed : Bool) (old new : List (List ℕ)) (m : Reading) → Begins old new → IsReading keyed new m → IsReading keyed old m
+reading_before keyed old new m begun is = (is.0, agrees_before old new m.number begun is.1)
 
 pub behind_twice : (p q : ℕ) (o : Result (Unit {0}) FollowFault) → behind (p + q) o ≡ behind p (behind q o)
 behind_twice p q (Ok u) = refl
@@ -27,21 +34,21 @@ fault_behind p (Err fault.OutOfMemory) = refl
 fault_behind p (Err fault.TooMuch) = refl
 
 -- what is read up to a place
-pub record IsReadUp (k : Bool) (text : List ℕ) (at : ℕ) (old new : List Event) : Type 0 where
+pub record IsReadUp (k : Reading) (text : List ℕ) (at : ℕ) (old new : List Event) : Type 0 where
   pub inside : at ≤ length text
   pub read : (es : List Event) × (new ≡ old ++ es) × Gives k text es at
 
 pub put_again : (old mid new es fs : List Event) → mid ≡ old ++ es → new ≡ mid ++ fs → new ≡ old ++ (es ++ fs)
 put_again old mid new es fs a b = b ∙ ap (λ l. l ++ fs) a ∙ append_assoc old es fs
 
-pub one_more : (k : Bool) (text : List ℕ) (at used : ℕ) (old mid new : List Event) → IsReadUp k text at old mid → IsElement k (drop at text) mid new used →
+pub one_more : (k : Reading) (text : List ℕ) (at used : ℕ) (old mid new : List Event) → IsReadUp k text at old mid → IsElement k (drop at text) mid new used →
     IsReadUp k text (at + used) old new
 one_more k text at used old mid new b e = record {
   inside = (let h : used ≤ length (drop at text) = e.inside in let g = length-drop at text in let i : at ≤ length text = b.inside in omega arith);
   read = (b.read.0 ++ e.events, put_again old mid new b.read.0 e.events b.read.1 e.put, element b.read.2 e.spelled e.told);
 }
 
-pub the_end : (k : Bool) (text : List ℕ) (p at : ℕ) (old mid new : List Event) (r : Read) → IsReadUp k text at old mid → IsReadTo k (drop at text) (p + at) mid new r →
+pub the_end : (k : Reading) (text : List ℕ) (p at : ℕ) (old mid new : List Event) (r : Read) → IsReadUp k text at old mid → IsReadTo k (drop at text) (p + at) mid new r →
     IsReadTo k text p old new (record { used = at + r.used; outcome = r.outcome })
 the_end k text p at old mid new r b e = record {
   events = b.read.0 ++ e.events;

@@ -3,6 +3,7 @@ use Rattle.std.proofs.Common.{◌≡◌, ℕ, ◌+◌, ◌<◌, ◌==◌, Bool, 
 use Rattle.std.proofs.lemmas.Bool.Decides.{nat_tests}
 use Rattle.lin_edn.specs.Grammar.{IsBlankText, nothing_more, no_blank_yet}
 use Rattle.lin_edn.specs.Skimming.{HasSeen, IsOpenText}
+use Rattle.lin_history.specs.Reading.{Reading}
 use Rattle.lin_history.specs.inner.Rests.{GoesOn}
 use Rattle.lin_history.specs.declared.follow.Rest.{Rest}
 use Rattle.lin_history.specs.Stream.{nothing, blank, unfinished}
@@ -14,7 +15,7 @@ pub none_is_blank : (text : List ℕ) → length text ≡ 0 → IsBlankText text
 none_is_blank [] e = nothing_more no_blank_yet
 none_is_blank (c ∷ text) e = absurd (omega arith)
 
-pub rests_blank : (k : Bool) (text : List ℕ) (p : ℕ) (ready : List Event) → IsOpenText true text →
+pub rests_blank : (k : Reading) (text : List ℕ) (p : ℕ) (ready : List Event) → IsOpenText true text →
     IsReadTo k text p ready ready (record { used = 0; outcome = Ok tt })
 rests_blank k text p ready u = record {
   events = [];
@@ -26,7 +27,7 @@ rests_blank k text p ready u = record {
   goes_on = λ h. nothing;
 }
 
-pub rests_unfinished : (k : Bool) (text : List ℕ) (p : ℕ) (ready : List Event) → IsOpenText false text →
+pub rests_unfinished : (k : Reading) (text : List ℕ) (p : ℕ) (ready : List Event) → IsOpenText false text →
     IsReadTo k text p ready ready (record { used = 0; outcome = Err (fault.Truncated p) })
 rests_unfinished k text p ready u = record {
   events = [];

@@ -1,10 +1,11 @@
 -- Streams read in parts, and streams that grow.
-use Rattle.std.proofs.Common.{◌≡◌, ℕ, ◌+◌, ◌<◌, ◌≤◌, Bool, true, List, ◌++◌, Result, Err, drop, length, sym, ap, ◌∙◌, subst, arith, append_assoc, append-nil, add_assoc, add-zero, true≢false}
+use Rattle.std.proofs.Common.{◌≡◌, ℕ, ◌+◌, ◌<◌, ◌≤◌, true, List, ◌++◌, Result, Err, drop, length, sym, ap, ◌∙◌, subst, arith, append_assoc, append-nil, add_assoc, add-zero, true≢false}
 use Rattle.std.proofs.lemmas.List.{drop-drop, drop-append-le, length-drop}
 use Rattle.lin_edn.specs.Value.{Value}
 use Rattle.lin_edn.specs.Grammar.{Spells, ShortBlanks, IsBlankText, IsUnfinished}
 use Rattle.lin_edn.specs.Reading.{Refuses}
 use Rattle.lin_edn.specs.declared.EdnCause.{EdnCause}
+use Rattle.lin_history.specs.Reading.{Reading}
 use Rattle.lin_history.specs.Stream.{Gives, nothing, blanks, element, IsStream, blank, unfinished, no_element, no_event}
 use Rattle.lin_history.specs.Sees.{is_fault}
 use Rattle.lin_history.specs.inner.Reads.{behind}
@@ -13,7 +14,7 @@ use Rattle.lin_history.specs.declared.follow.FollowFault.{FollowFault}
 use Rattle.lin_history.specs.declared.follow.FollowFault.TheVariants as fault
 
 -- the elements behind a place go on from it
-pub gives_join : {k : Bool} {t s : List ℕ} {es0 es : List Event} {p q : ℕ} → Gives k t es0 p → Gives k s es q → s ≡ drop p t → Gives k t (es0 ++ es) (p + q)
+pub gives_join : {k : Reading} {t s : List ℕ} {es0 es : List Event} {p q : ℕ} → Gives k t es0 p → Gives k s es q → s ≡ drop p t → Gives k t (es0 ++ es) (p + q)
 gives_join {k} {t} {s} {es0} {es} {p} {q} g (nothing) e = subst (λ l. Gives k t l (p + 0)) (sym (append-nil es0)) (subst (λ n. Gives k t es0 n) (sym (add-zero p)) g)
 gives_join {k} {t} {s} {es0} {es} {p} {q} g (blanks {t = u} {p = q'} {n = n} h b) e =
     let before : Gives k t (es0 ++ es) (p + q') = gives_join g h e in
@@ -26,7 +27,7 @@ gives_join {k} {t} {s} {es0} {es} {p} {q} g (element {es = fs} {fs = gs} {v = v}
     subst (λ m. Gives k t (es0 ++ (fs ++ gs)) m) (add_assoc p q' used) (subst (λ l. Gives k t l ((p + q') + used)) (append_assoc es0 fs gs) whole)
 
 -- what the text behind a place is, the whole is from there on
-pub stream_join : {k : Bool} {t s : List ℕ} {es0 es : List Event} {p : ℕ} {o : Result (Unit {0}) FollowFault} →
+pub stream_join : {k : Reading} {t s : List ℕ} {es0 es : List Event} {p : ℕ} {o : Result (Unit {0}) FollowFault} →
     Gives k t es0 p → IsStream k s es o → s ≡ drop p t → IsStream k t (es0 ++ es) (behind p o)
 stream_join {k} {t} {s} {es0} {es} {p} {o} g (blank {p = q} {used = used} h b) e =
     let same : drop q s ≡ drop (p + q) t = ap (drop q) e ∙ drop-drop q p t in
@@ -59,7 +60,7 @@ abbrev pub PassedInside : Type 0
 PassedInside = (s t : List ℕ) (n : ℕ) → ShortBlanks s n t → n ≤ length s
 
 -- what is read ends inside the text
-pub gives_inside : SpelledInside → PassedInside → {k : Bool} {s : List ℕ} {es : List Event} {p : ℕ} → Gives k s es p → p ≤ length s
+pub gives_inside : SpelledInside → PassedInside → {k : Reading} {s : List ℕ} {es : List Event} {p : ℕ} → Gives k s es p → p ≤ length s
 gives_inside a b {k} {s} {es} {p} nothing = omega arith
 gives_inside a b {k} {s} {es} {p} (blanks {t = t} {p = q} {n = n} h x) =
     let before : q ≤ length s = gives_inside a b h in
@@ -73,7 +74,7 @@ gives_inside a b {k} {s} {es} {p} (element {v = v} {p = q} {at = at} {used = use
     omega arith
 
 -- more bytes change nothing of what is read
-pub gives_more : SpelledInside → PassedInside → SpelledStays → PassedStays → {k : Bool} {s : List ℕ} {es : List Event} {p : ℕ} (x : List ℕ) → Gives k s es p → Gives k (s ++ x) es p
+pub gives_more : SpelledInside → PassedInside → SpelledStays → PassedStays → {k : Reading} {s : List ℕ} {es : List Event} {p : ℕ} (x : List ℕ) → Gives k s es p → Gives k (s ++ x) es p
 gives_more a b f g {k} {s} {es} {p} x nothing = nothing
 gives_more a b f g {k} {s} {es} {p} x (blanks {t = t} {p = q} {n = n} h y) =
     let inside : q ≤ length s = gives_inside a b h in
@@ -84,7 +85,7 @@ gives_more a b f g {k} {s} {es} {p} x (element {v = v} {p = q} {at = at} {used =
 
 -- more bytes change nothing of a fault
 pub fault_more : SpelledInside → PassedInside → SpelledStays → PassedStays → RefusedStays →
-    {k : Bool} {s : List ℕ} {es : List Event} {o : Result (Unit {0}) FollowFault} (x : List ℕ) → is_fault o ≡ true → IsStream k s es o → IsStream k (s ++ x) es o
+    {k : Reading} {s : List ℕ} {es : List Event} {o : Result (Unit {0}) FollowFault} (x : List ℕ) → is_fault o ≡ true → IsStream k s es o → IsStream k (s ++ x) es o
 fault_more a b f g r {k} {s} {es} {o} x h (blank i y) = absurd (true≢false (sym h))
 fault_more a b f g r {k} {s} {es} {o} x h (unfinished at i y) = absurd (true≢false (sym h))
 fault_more a b f g r {k} {s} {es} {o} x h (no_element {p = q} at cause i y c) =

@@ -6,6 +6,7 @@ use Rattle.lin_edn.specs.Grammar.{Element, tagged_element, Row, empty, element, 
 use Rattle.lin_edn.specs.Rows.{IsRow, row_end, row_levels}
 use Rattle.lin_edn.specs.Value.{Value, map, tagged, Entries, values_of}
 use Rattle.lin_edn.specs.declared.series.Series.{Series}
+use Rattle.lin_history.specs.Reading.{Reading, IsReading}
 use Rattle.lin_history.specs.inner.Reads.{IsTold, IsToldOn, IsElement}
 use Rattle.lin_history.specs.Stream.{Told, before, told_by, maps_in}
 use Rattle.lin_history.specs.Table.{event, event_in, bare}
@@ -21,23 +22,24 @@ told_case : (o : Option Event) → before (Ok o) (record { events = []; ends = N
 told_case None = refl
 told_case (Some e) = refl
 
-pub told_one : (k : Bool) (v : Value) (o : Option Event) → event k v ≡ Ok o → told_by k (values_of (v ∷ [])) ≡ record { events = events_of o; ends = None }
+pub told_one : (k : Reading) (v : Value) (o : Option Event) → event k v ≡ Ok o → told_by k (values_of (v ∷ [])) ≡ record { events = events_of o; ends = None }
 told_one k v o h = ap (λ (r : Result (Option Event) EventFault). before r (record { events = []; ends = None })) h ∙ told_case o
 
-pub tells : (k : Bool) (v : Value) (o : Option Event) (old new : List Event) → event k v ≡ Ok o → new ≡ old ++ events_of o →
+pub tells : (k : Reading) (v : Value) (o : Option Event) (old new : List Event) → event k v ≡ Ok o → new ≡ old ++ events_of o →
     IsTold (told_by k (values_of (v ∷ []))) old new (Ok tt)
 tells k v o old new h put =
     let told = told_one k v o h in
     (ap (λ (t : Told). t.ends) told, put ∙ ap (λ (t : Told). old ++ t.events) (sym told))
 
 pub told_event : (r : Result (Unit {0}) OutOfMemory) (o : Option Event) (old new : List Event) (ends : Option EventFault) → OnOk r (new ≡ old ++ events_of o) →
-    is_some ends ≡ false → OnOk r ((k : Bool) (v : Value) → event k v ≡ Ok o → IsToldOn k v old ends new ends)
+    is_some ends ≡ false → OnOk r ((k : Reading) (v : Value) → event k v ≡ Ok o → IsToldOn k v old ends new ends)
 told_event (Ok u) o old new ends put n = λ k v h. told_on k v old new ends n (tells k v o old new h put)
 told_event (Err e) o old new ends put n = tt
 
 -- a map with a tag or none says what it says without
-pub said_so : (k : Bool) (s : List ℕ) (from levels : ℕ) (taken : Taken) (t : IsTaken k s from levels taken) → event k t.value ≡ Ok taken.event
-said_so k s from levels taken t = ap (event_in k) t.is_map ∙ t.told
+pub said_so : (k : Reading) (keyed : Bool) (names : List (List ℕ)) (s : List ℕ) (from levels : ℕ) (taken : Taken) → IsReading keyed names k →
+    (t : IsTaken keyed names s from levels taken) → event k t.value ≡ Ok taken.event
+said_so k keyed names s from levels taken is t = ap (event_in k) t.is_map ∙ t.told k is
 
 -- a map with a tag directly in front of it, or none
 abbrev pub IsTagged : List ℕ → ℕ → ℕ → Entries → ℕ → Type 0
@@ -59,24 +61,26 @@ tagged_or_not s at begun used levels inside es le two one tag e = elim (cases_lt
 ]
 
 -- the row up to the end of a usual map
-pub passed : (k : Bool) (s : List ℕ) (vs : List Value) (old mid new : Series) (taken : Taken) (t : IsTaken k s (row_end old) (row_levels old) taken) → mid ≡ old →
+pub passed : (keyed : Bool) (names : List (List ℕ)) (s : List ℕ) (vs : List Value) (old mid new : Series) (taken : Taken)
+    (t : IsTaken keyed names s (row_end old) (row_levels old) taken) → mid ≡ old →
     ((z : List ℕ) (xs ws : List Value) → IsRow mid z xs → taken.used ≤ length z → taken.used ≤ longest →
     Row (row_levels mid) (row_end mid) (drop (row_end mid) z) ws taken.used (drop taken.used z) → IsRow new z (xs ++ ws)) →
     IsRow old s vs → IsRow new s (vs ++ t.value ∷ [])
-passed k s vs old mid new taken t same pass row =
+passed keyed names s vs old mid new taken t same pass row =
     pass s vs (t.value ∷ []) (subst (λ r. IsRow r s vs) (sym same) row) t.inside t.reached
     (subst (λ (r : Series). Row (row_levels r) (row_end r) (drop (row_end r) s) (t.value ∷ []) taken.used (drop taken.used s)) (sym same)
     (element (t.row (row_levels old) (row_end old) (drop (row_end old) s) [] empty) t.element))
 
 -- a usual map in front of a text
-pub spelled_so : (k : Bool) (s : List ℕ) (taken : Taken) (t : IsTaken k s 0 64 taken) → Spells s t.value t.at taken.used
-spelled_so k s taken t =
+pub spelled_so : (keyed : Bool) (names : List (List ℕ)) (s : List ℕ) (taken : Taken) (t : IsTaken keyed names s 0 64 taken) → Spells s t.value t.at taken.used
+spelled_so keyed names s taken t =
     let a = t.some in
     let b = t.reached in
     spells (t.short no_blank_yet) t.element (omega arith)
 
-pub in_front : (k : Bool) (s : List ℕ) (taken : Taken) (old new : List Event) → IsTaken k s 0 64 taken → new ≡ old ++ events_of taken.event → IsElement k s old new taken.used
-in_front k s taken old new t put =
+pub in_front : (k : Reading) (keyed : Bool) (names : List (List ℕ)) (s : List ℕ) (taken : Taken) (old new : List Event) → IsReading keyed names k →
+    IsTaken keyed names s 0 64 taken → new ≡ old ++ events_of taken.event → IsElement k s old new taken.used
+in_front k keyed names s taken old new is t put =
     let a = t.some in
     record {
       events = events_of taken.event;
@@ -85,6 +89,6 @@ in_front k s taken old new t put =
       put = put;
       some = omega arith;
       inside = t.inside;
-      spelled = spelled_so k s taken t;
-      told = ap (λ v. told_by k (maps_in v)) t.is_map ∙ told_one k (map t.entries) taken.event t.told;
+      spelled = spelled_so keyed names s taken t;
+      told = ap (λ v. told_by k (maps_in v)) t.is_map ∙ told_one k (map t.entries) taken.event (t.told k is);
     }

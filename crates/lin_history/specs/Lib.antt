@@ -1,3 +1,4 @@
+pub mod Reading
 pub mod Table
 pub mod Stream
 pub mod Next

@@ -1,14 +1,16 @@
 //! The events of a stream that comes in pieces.
-ghost use Rattle.std.specs.Prelude.{◌≡◌, ◌+◌, ◌≤◌, ◌++◌, [], ◌∷◌, true, false, Bool, ℕ, List, Ok, Err, map, length, drop, MatchOption, OnOk, OnErr};
+ghost use Rattle.std.specs.Prelude.{◌≡◌, ◌+◌, ◌≤◌, ◌++◌, [], ◌∷◌, true, false, Bool, ℕ, List, Ok, Err, map, length, drop, MatchOption, IfOk, OnOk, OnErr};
 ghost use Rattle.lin_edn.specs.Rows.{row_begun};
 ghost use Rattle.lin_edn.specs.Value.{values_of};
 ghost use Rattle.lin_edn.specs.View.{view};
 ghost use Rattle.lin_edn.specs.Skimming.{IsOpenText};
-ghost use Rattle.lin_history.specs.Stream.{told, told_by, StreamsAreUnique};
+ghost use Rattle.lin_names.specs.Names.{Begins};
+ghost use Rattle.lin_history.specs.Reading.{Reading, IsReading};
+ghost use Rattle.lin_history.specs.Stream.{maps_in as maps_of, told, told_by, StreamsAreUnique};
 ghost use Rattle.lin_history.specs.Sees.{Sees, Takes, TakesAll, Feeds, StaysFaulty, FaultsStay, most};
-ghost use Rattle.lin_history.specs.inner.Reads.{IsTold, IsReadOn, IsReadTo, IsFront, IsStanding, IsRead};
-ghost use Rattle.lin_history.specs.Rests.{IsOpen, IsSeen, Knows};
-ghost use Rattle.lin_history.specs.inner.Rests.{IsWhole, IsUnaware, GoesOn, IsReadHeld};
+ghost use Rattle.lin_history.specs.inner.Reads.{IsTold, IsPutBehind, IsReadTo, IsFront, IsWithin, IsStanding, IsCut};
+ghost use Rattle.lin_history.specs.Rests.{IsOpen, IsOpenRow, IsWaiting, IsSeen, Knows};
+ghost use Rattle.lin_history.specs.inner.Rests.{IsWhole, IsWholeRow, IsUnaware, GoesOn, IsHeld, IsReadHeld};
 ghost use Rattle.lin_events.specs.declared.events.Event.{Event as TheEvent};
 ghost use Rattle.lin_history.specs.declared.follow.FollowFault.{FollowFault as TheFault};
 
@@ -20,6 +22,7 @@ use lin_edn::{
     places, readings_are_unique,
 };
 use lin_events::{Event, OutOfMemory};
+use lin_names::Names;
 use std::alloc::Global;
 use std::collections::VecDeque;
 use std::marker::Model;
@@ -49,7 +52,6 @@ pub enum FollowFault {
 /// read over. The events are those of the maps, in order, without the operations of the nemesis.
 #[derive(Drop)]
 pub struct Follow {
-    alloc: Global,
     keyed: bool,
     ready: VecDeque<Event>,
     outcome: Result<(), FollowFault>,
@@ -63,6 +65,8 @@ pub struct Follow {
 /// What is known of the bytes that are held without reading them again.
 #[derive(Drop)]
 struct Rest {
+    // Where memory comes from.
+    alloc: Global,
     skim: Skim,
     // Whether the skim has seen just the bytes that are held.
     is_seen: bool,
@@ -77,9 +81,9 @@ impl Model for Follow {
 
     ghost Value = { Followed };
 
-    ghost view = { λ f. record { keyed = f.keyed; ready = f.ready.items; outcome = f.outcome; passed = f.passed; held = f.held.items } };
+    ghost view = { λ f. record { keyed = f.keyed; ready = f.ready.items; outcome = f.outcome; passed = f.passed; held = f.held.items; row = f.rest.row } };
 
-    ghost invariant = { λ f. (f.passed + length f.held.items ≤ most) × Knows f.keyed f.rest f.held.items };
+    ghost invariant = { λ f. (f.passed + length f.held.items ≤ most) × Knows f.rest f.held.items };
 }
 
 impl Follow {
@@ -87,16 +91,16 @@ impl Follow {
     pub fn new(alloc: Global, keyed: bool) -> Follow
         ensures keyed { result.keyed ≡ keyed }
         ensures ready { result.ready ≡ [] }
-        ensures sees { Sees result [] [] }
+        ensures sees { (m : Reading) → m.keyed ≡ keyed → Sees m result [] [] }
     {
         Follow {
-            alloc,
             keyed,
             ready: VecDeque::new(alloc),
             outcome: Ok(()),
             passed: 0,
             held: Vec::new(alloc),
             rest: Rest {
+                alloc,
                 skim: Skim::new(alloc),
                 is_seen: true,
                 row: None,
@@ -122,7 +126,7 @@ impl Follow {
     pub fn take_all(&mut self) -> Vec<Event>
         ensures { TakesAll self.old self.new result.items }
     {
-        mem::replace(&mut self.ready, VecDeque::new(self.alloc)).into_vec()
+        mem::replace(&mut self.ready, VecDeque::new(self.rest.alloc)).into_vec()
     }
 
     /// Whether the stream may end here: `Truncated` in an unfinished element or discard, else the fault that stands, if any.
@@ -134,10 +138,11 @@ impl Follow {
 
     /// Takes in a piece of the stream, and tells how many events became ready.
     ///
-    /// At the first fault of form the events before it are ready, and it is answered from then on. After `OutOfMemory`
-    /// and `TooMuch` nothing changed.
-    pub fn feed(&mut self, piece: &[u8]) -> Result<usize, FollowFault>
-        ensures feeds { Feeds self.old piece.now self.new result }
+    /// At the first fault of form the events before it are ready, and it is answered from then on. After `OutOfMemory` nothing changed
+    /// but the names, which may have grown. After `TooMuch` nothing changed.
+    pub fn feed(&mut self, piece: &[u8], names: &mut Names) -> Result<usize, FollowFault>
+        ensures begun { Begins names.old names.new }
+        ensures feeds { Feeds names.new self.old piece.now self.new result }
         ensures stays { StaysFaulty self.old self.new result }
     {
         more_bytes();
@@ -150,13 +155,13 @@ impl Follow {
         }
         let before = self.ready.len();
         match take_in(
-            self.alloc,
             self.keyed,
             self.passed,
             piece,
             &mut self.held,
             &mut self.rest,
             &mut self.ready,
+            names,
         ) {
             Err(_) => Err(FollowFault::OutOfMemory),
             Ok(read) => {
@@ -188,25 +193,30 @@ fn standing(outcome: &Result<(), FollowFault>) -> Option<FollowFault>
     }
 }
 
-/// Puts a piece behind what is held and reads it, if something may be whole; what is read is dropped. Refused, all is as it was.
+/// Puts a piece behind what is held and reads it, if something may be whole; what is read is dropped. Refused, all is as it was, but that
+/// a list or vector may have to be read anew.
 fn take_in(
-    alloc: Global,
     keyed: bool,
     passed: u64,
     piece: &[u8],
     held: &mut Vec<u8>,
     rest: &mut Rest,
     ready: &mut VecDeque<Event>,
+    names: &mut Names,
 ) -> Result<Read, OutOfMemory>
     requires small { passed + length held.old.items + length piece.now ≤ most }
-    requires known { Knows keyed rest.old held.old.items }
-    ensures read { IsRead keyed passed piece.now held.old.items ready.old.items held.new.items ready.new.items result }
-    ensures known { Knows keyed rest.new held.new.items }
+    requires known { Knows rest.old held.old.items }
+    ensures begun { Begins names.old names.new }
+    ensures cut { IsCut piece.now held.old.items ready.old.items held.new.items ready.new.items result }
+    ensures known { Knows rest.new held.new.items }
+    ensures read { IfOk result (λ r. (m : Reading) → IsReading keyed names.new m → IsWaiting m rest.old.row held.old.items →
+        IsReadTo m (held.old.items ++ piece.now) passed ready.old.items ready.new.items r × IsWaiting m rest.new.row held.new.items) }
+    ensures refused { OnErr result ((m : Reading) → IsWaiting m rest.old.row held.old.items → IsWaiting m rest.new.row held.new.items) }
 {
     let kept = held.len();
     let before = ready.len();
     held.extend_from_slice(piece)?;
-    match read_held(alloc, keyed, passed, piece, held.as_slice(), rest, ready) {
+    match read_held(keyed, passed, piece, held.as_slice(), rest, ready, names) {
         Ok(read) => {
             drop_front(held, read.used);
             Ok(read)
@@ -221,28 +231,32 @@ fn take_in(
 
 /// Reads the bytes that are held, the last of them a new piece, if something may be whole.
 fn read_held(
-    alloc: Global,
     keyed: bool,
     passed: u64,
     piece: &[u8],
     held: &[u8],
     rest: &mut Rest,
     ready: &mut VecDeque<Event>,
+    names: &mut Names,
 ) -> Result<Read, OutOfMemory>
     requires small { passed + length held.now ≤ most }
-    requires known { (text : List ℕ) × (held.now ≡ text ++ piece.now) × Knows keyed rest.old text }
-    ensures { IsReadHeld keyed held.now passed ready.old.items ready.new.items rest.new result }
+    requires known { (text : List ℕ) × (held.now ≡ text ++ piece.now) × Knows rest.old text }
+    ensures begun { Begins names.old names.new }
+    ensures put { IsPutBehind ready.old.items ready.new.items }
+    ensures held { IsHeld held.now rest.new result }
+    ensures read { IfOk result (λ r. (m : Reading) → IsReading keyed names.new m → (text : List ℕ) → held.now ≡ text ++ piece.now → IsWaiting m rest.old.row text →
+        IsReadHeld m held.now passed ready.old.items ready.new.items rest.new.row r) }
 {
     more_bytes();
     match rest.row.take() {
-        Some(row) => read_in(alloc, keyed, passed, held, row, rest, ready),
+        Some(row) => read_in(keyed, passed, held, row, rest, ready, names),
         None => {
             if !go_on(rest, piece) {
-                return read_anew(alloc, keyed, passed, held, rest, ready);
+                return read_anew(keyed, passed, held, rest, ready, names);
             }
             let read = resting(rest, held, passed);
             if piece.len() == held.len() {
-                rest.row = begin_row(alloc, held);
+                rest.row = begin_row(rest.alloc, held);
             }
             Ok(read)
         }
@@ -251,30 +265,35 @@ fn read_held(
 
 /// Reads on in the list or vector that the held bytes begin with.
 fn read_in(
-    alloc: Global,
     keyed: bool,
     passed: u64,
     held: &[u8],
     mut row: Row,
     rest: &mut Rest,
     ready: &mut VecDeque<Event>,
+    names: &mut Names,
 ) -> Result<Read, OutOfMemory>
     requires small { passed + length held.now ≤ most }
-    requires waiting { IsOpen keyed row held.now }
+    requires open { IsOpenRow row held.now }
     requires row { rest.old.row ≡ None }
-    ensures { IsReadHeld keyed held.now passed ready.old.items ready.new.items rest.new result }
+    ensures begun { Begins names.old names.new }
+    ensures put { IsPutBehind ready.old.items ready.new.items }
+    ensures held { IsHeld held.now rest.new result }
+    ensures read { IfOk result (λ r. (m : Reading) → IsReading keyed names.new m → IsOpen m row held.now →
+        IsReadHeld m held.now passed ready.old.items ready.new.items rest.new.row r) }
 {
     rest.is_seen = false;
-    match read_maps(alloc, keyed, held, &mut row)? {
+    match read_maps(rest.alloc, keyed, held, &mut row, names)? {
         Far::Closed(used) => {
-            let read = close(alloc, keyed, passed, held, used, row, ready)?;
-            look_at(alloc, rest, &held[read.used..]);
+            let whole = Whole { row, used };
+            let read = close(rest.alloc, keyed, passed, held, whole, ready, names)?;
+            look_at(rest, &held[read.used..]);
             Ok(read)
         }
         Far::Open(more) => {
             rest.is_seen = rest.skim.go_on_in(&row.series, held);
             if !rest.is_seen {
-                return read_anew(alloc, keyed, passed, held, rest, ready);
+                return read_anew(keyed, passed, held, rest, ready, names);
             }
             let read = resting(rest, held, passed);
             // Where a piece ends no map the skim goes on alone, so that no byte is read again and again.
@@ -288,19 +307,22 @@ fn read_in(
 
 /// Reads the bytes that are held from the first on, and looks at what is left.
 fn read_anew(
-    alloc: Global,
     keyed: bool,
     passed: u64,
     held: &[u8],
     rest: &mut Rest,
     ready: &mut VecDeque<Event>,
+    names: &mut Names,
 ) -> Result<Read, OutOfMemory>
     requires small { passed + length held.now ≤ most }
     requires unaware { IsUnaware rest.old }
-    ensures { IsReadHeld keyed held.now passed ready.old.items ready.new.items rest.new result }
+    ensures begun { Begins names.old names.new }
+    ensures put { IsPutBehind ready.old.items ready.new.items }
+    ensures held { IsHeld held.now rest.new result }
+    ensures read { IfOk result (λ r. (m : Reading) → IsReading keyed names.new m → IsReadHeld m held.now passed ready.old.items ready.new.items rest.new.row r) }
 {
-    let read = read_on(alloc, keyed, held, passed, ready)?;
-    look_at(alloc, rest, &held[read.used..]);
+    let read = read_on(rest.alloc, keyed, held, passed, ready, names)?;
+    look_at(rest, &held[read.used..]);
     Ok(read)
 }
 
@@ -310,18 +332,29 @@ fn close(
     keyed: bool,
     passed: u64,
     held: &[u8],
-    used: usize,
-    row: Row,
+    whole: Whole,
     ready: &mut VecDeque<Event>,
+    names: &mut Names,
 ) -> Result<Read, OutOfMemory>
     requires small { passed + length held.now ≤ most }
-    requires whole { IsWhole keyed row held.now used }
-    ensures { IsReadOn keyed held.now passed ready.old.items ready.new.items result }
+    requires whole { IsWholeRow whole.row held.now whole.used }
+    ensures begun { Begins names.old names.new }
+    ensures put { IsPutBehind ready.old.items ready.new.items }
+    ensures within { IfOk result (λ r. r.used ≤ length held.now) }
+    ensures read { IfOk result (λ r. (m : Reading) → IsReading keyed names.new m → IsWhole m whole.row held.now whole.used →
+        IsReadTo m held.now passed ready.old.items ready.new.items r) }
 {
     places();
-    match tell_row(row, used, passed, ready)? {
+    match tell_row(whole.row, whole.used, passed, ready)? {
         Front::Element(used) => {
-            let read = read_on(alloc, keyed, &held[used..], passed + used as u64, ready)?;
+            let read = read_on(
+                alloc,
+                keyed,
+                &held[used..],
+                passed + used as u64,
+                ready,
+                names,
+            )?;
             Ok(Read {
                 used: used + read.used,
                 outcome: read.outcome,
@@ -344,12 +377,13 @@ fn go_on(rest: &mut Rest, piece: &[u8]) -> bool
 }
 
 /// Looks at bytes that are held anew.
-fn look_at(alloc: Global, rest: &mut Rest, held: &[u8])
-    ensures { (keyed : Bool) → Knows keyed rest.new held.now }
+fn look_at(rest: &mut Rest, held: &[u8])
+    ensures known { Knows rest.new held.now }
+    ensures waits { (m : Reading) → IsWaiting m rest.new.row held.now }
 {
     rest.skim.clear();
     rest.is_seen = rest.skim.go_on(held);
-    rest.row = begin_row(alloc, held);
+    rest.row = begin_row(rest.alloc, held);
 }
 
 /// Whether unfinished bytes are blank: none, or a comment.
@@ -367,7 +401,7 @@ fn is_blank(rest: &Rest, held: &[u8]) -> bool
 fn resting(rest: &Rest, held: &[u8], place: u64) -> Read
     requires { GoesOn rest.now held.now true }
     ensures used { result.used ≡ 0 }
-    ensures read { (keyed : Bool) (ready : List TheEvent) → IsReadTo keyed held.now place ready ready result }
+    ensures read { (m : Reading) (ready : List TheEvent) → IsReadTo m held.now place ready ready result }
 {
     if is_blank(rest, held) {
         return Read {
@@ -401,6 +435,13 @@ struct Read {
     outcome: Result<(), FollowFault>,
 }
 
+/// A list or vector that is whole, and where it ends.
+#[derive(Drop)]
+struct Whole {
+    row: Row,
+    used: usize,
+}
+
 /// What stands in front of a text.
 #[derive(Drop)]
 enum Front {
@@ -416,15 +457,30 @@ fn tell_all(
     keyed: bool,
     items: &[Edn],
     ready: &mut VecDeque<Event>,
+    names: &mut Names,
 ) -> Result<(), EventFault>
-    ensures { IsTold (told_by keyed (values_of (map view items.now))) ready.old.items ready.new.items result }
+    ensures begun { Begins names.old names.new }
+    ensures put { IsPutBehind ready.old.items ready.new.items }
+    ensures told { (m : Reading) → IsReading keyed names.new m → IsTold (told_by m (values_of (map view items.now))) ready.old.items ready.new.items result }
 {
     for item in items {
-        if let Err(fault) = tell_one(alloc, keyed, item, ready) {
+        if let Err(fault) = tell_one(alloc, keyed, item, ready, names) {
             return Err(fault);
         }
     }
     Ok(())
+}
+
+/// The maps that a list or vector stands for.
+fn maps_in<'e, 'a>(element: &'e Edn<'a>) -> Option<&'e [Edn<'a>]>
+    ensures { MatchOption result (maps_of (view element.entry.now) ≡ values_of (view element.entry.now ∷ []))
+        (λ items. maps_of (view element.entry.now) ≡ values_of (map view items.now)) }
+{
+    match element {
+        Edn::Vector(items) => Some(items.as_slice()),
+        Edn::List(items) => Some(items.as_slice()),
+        _ => None,
+    }
 }
 
 /// Puts the events of a top-level element behind those that are ready.
@@ -433,14 +489,16 @@ fn tell(
     keyed: bool,
     element: &Edn,
     ready: &mut VecDeque<Event>,
+    names: &mut Names,
 ) -> Result<(), EventFault>
-    ensures { IsTold (told keyed (view element.now)) ready.old.items ready.new.items result }
+    ensures begun { Begins names.old names.new }
+    ensures put { IsPutBehind ready.old.items ready.new.items }
+    ensures told { (m : Reading) → IsReading keyed names.new m → IsTold (told m (view element.now)) ready.old.items ready.new.items result }
 {
     let element = bare(element);
-    match element {
-        Edn::Vector(items) => tell_all(alloc, keyed, items.as_slice(), ready),
-        Edn::List(items) => tell_all(alloc, keyed, items.as_slice(), ready),
-        _ => tell_one(alloc, keyed, element, ready),
+    match maps_in(element) {
+        Some(items) => tell_all(alloc, keyed, items, ready, names),
+        None => tell_one(alloc, keyed, element, ready, names),
     }
 }
 
@@ -452,17 +510,21 @@ fn read_front(
     text: &[u8],
     place: u64,
     ready: &mut VecDeque<Event>,
+    names: &mut Names,
 ) -> Result<Front, OutOfMemory>
     requires { place + length text.now ≤ most }
-    ensures { IsFront keyed text.now place ready.old.items ready.new.items result }
+    ensures begun { Begins names.old names.new }
+    ensures put { IsPutBehind ready.old.items ready.new.items }
+    ensures within { IfOk result (IsWithin text.now) }
+    ensures front { IfOk result (λ front. (m : Reading) → IsReading keyed names.new m → IsFront m text.now place ready.old.items ready.new.items front) }
 {
     places();
-    match next_usual(alloc, keyed, text, 0, LEVELS) {
+    match next_usual(alloc, keyed, text, 0, LEVELS, names) {
         Some(taken) => {
             put_event(ready, taken.event)?;
             Ok(Front::Element(taken.used))
         }
-        None => read_unusual(alloc, keyed, text, place, ready),
+        None => read_unusual(alloc, keyed, text, place, ready, names),
     }
 }
 
@@ -474,14 +536,18 @@ fn read_unusual(
     text: &[u8],
     place: u64,
     ready: &mut VecDeque<Event>,
+    names: &mut Names,
 ) -> Result<Front, OutOfMemory>
     requires { place + length text.now ≤ most }
-    ensures { IsFront keyed text.now place ready.old.items ready.new.items result }
+    ensures begun { Begins names.old names.new }
+    ensures put { IsPutBehind ready.old.items ready.new.items }
+    ensures within { IfOk result (IsWithin text.now) }
+    ensures front { IfOk result (λ front. (m : Reading) → IsReading keyed names.new m → IsFront m text.now place ready.old.items ready.new.items front) }
 {
     places();
-    match whole_row(alloc, keyed, text)? {
+    match whole_row(alloc, keyed, text, names)? {
         Some((row, used)) => tell_row(row, used, place, ready),
-        None => read_element(alloc, keyed, text, place, ready),
+        None => read_element(alloc, keyed, text, place, ready, names),
     }
 }
 
@@ -493,7 +559,9 @@ fn tell_row(
     ready: &mut VecDeque<Event>,
 ) -> Result<Front, OutOfMemory>
     requires { place + row_begun row.series ≤ most }
-    ensures { (keyed : Bool) (text : List ℕ) → IsWhole keyed row text used → IsFront keyed text place ready.old.items ready.new.items result }
+    ensures put { IsPutBehind ready.old.items ready.new.items }
+    ensures within { IfOk result (λ front. (text : List ℕ) → IsWholeRow row text used → IsWithin text front) }
+    ensures front { IfOk result (λ front. (m : Reading) (text : List ℕ) → IsWhole m row text used → IsFront m text place ready.old.items ready.new.items front) }
 {
     places();
     put_all(ready, row.waiting)?;
@@ -517,14 +585,18 @@ fn read_element(
     text: &[u8],
     place: u64,
     ready: &mut VecDeque<Event>,
+    names: &mut Names,
 ) -> Result<Front, OutOfMemory>
     requires { place + length text.now ≤ most }
-    ensures { IsFront keyed text.now place ready.old.items ready.new.items result }
+    ensures begun { Begins names.old names.new }
+    ensures put { IsPutBehind ready.old.items ready.new.items }
+    ensures within { IfOk result (IsWithin text.now) }
+    ensures front { IfOk result (λ front. (m : Reading) → IsReading keyed names.new m → IsFront m text.now place ready.old.items ready.new.items front) }
 {
     places();
     blanks_in_front();
     match next_element(alloc, text) {
-        Ok(Next::Complete { value, at, used }) => match tell(alloc, keyed, &value, ready) {
+        Ok(Next::Complete { value, at, used }) => match tell(alloc, keyed, &value, ready, names) {
             Ok(()) => Ok(Front::Element(used)),
             Err(fault) => match fault {
                 EventFault::OutOfMemory => Err(OutOfMemory),
@@ -570,13 +642,17 @@ fn read_on(
     text: &[u8],
     place: u64,
     ready: &mut VecDeque<Event>,
+    names: &mut Names,
 ) -> Result<Read, OutOfMemory>
     requires { place + length text.now ≤ most }
-    ensures { IsReadOn keyed text.now place ready.old.items ready.new.items result }
+    ensures begun { Begins names.old names.new }
+    ensures put { IsPutBehind ready.old.items ready.new.items }
+    ensures within { IfOk result (λ r. r.used ≤ length text.now) }
+    ensures read { IfOk result (λ r. (m : Reading) → IsReading keyed names.new m → IsReadTo m text.now place ready.old.items ready.new.items r) }
 {
     let mut at = 0;
     'elements: loop {
-        match read_front(alloc, keyed, &text[at..], place + at as u64, ready)? {
+        match read_front(alloc, keyed, &text[at..], place + at as u64, ready, names)? {
             Front::Element(used) => at += used,
             Front::End(read) => {
                 return Ok(Read {

@@ -13,5 +13,6 @@ pub use lin_events::{
     Body, Call, Cause, Event, IntSet, Item, Items, Meter, Name, OutOfMemory, Reply, Shape, Status,
     Val,
 };
+pub use lin_names::Names;
 pub use next::{NextEvent, next_event};
 pub use table::{EventFault, event_of};

@@ -1,10 +1,12 @@
 //! The event of the element in front of a text.
+ghost use Rattle.lin_names.specs.Names.{Begins};
 ghost use Rattle.lin_history.specs.Next.{SaysEvent};
 
 use crate::table::{EventFault, event_of};
 use crate::usual::{LEVELS, next_usual};
 use lin_edn::{EdnFault, Next, next_element};
 use lin_events::Event;
+use lin_names::Names;
 use std::alloc::Global;
 
 /// What stands at the front of a text.
@@ -28,10 +30,16 @@ pub enum NextEvent {
 /// The event of the element at the front of a text, or what stands there in its place: what `event_of` says of what `next_element` reads.
 ///
 /// `EdnCause::OutOfMemory` may stand in place of any answer. A usual map is read without building its elements.
-pub fn next_event(alloc: Global, text: &[u8], keyed: bool) -> Result<NextEvent, EdnFault>
-    ensures { SaysEvent keyed text.now result }
+pub fn next_event(
+    alloc: Global,
+    text: &[u8],
+    keyed: bool,
+    names: &mut Names,
+) -> Result<NextEvent, EdnFault>
+    ensures begun { Begins names.old names.new }
+    ensures says { SaysEvent keyed names.new text.now result }
 {
-    if let Some(taken) = next_usual(alloc, keyed, text, 0, LEVELS) {
+    if let Some(taken) = next_usual(alloc, keyed, text, 0, LEVELS, names) {
         return Ok(NextEvent::Complete {
             said: Ok(taken.event),
             used: taken.used,
@@ -39,7 +47,7 @@ pub fn next_event(alloc: Global, text: &[u8], keyed: bool) -> Result<NextEvent, 
     }
     match next_element(alloc, text)? {
         Next::Complete { value, at: _, used } => Ok(NextEvent::Complete {
-            said: event_of(alloc, &value, keyed),
+            said: event_of(alloc, &value, keyed, names),
             used,
         }),
         Next::Partial { at } => Ok(NextEvent::Partial { at }),

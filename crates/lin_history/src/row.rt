@@ -1,12 +1,14 @@
 //! A list or vector that is read map by map.
-ghost use Rattle.std.specs.Prelude.{◌≡◌, ◌<◌, ◌++◌, [], ◌∷◌, Bool, ℕ, List, Ok, IfOk, IfSome, OnOk, OnErr};
+ghost use Rattle.std.specs.Prelude.{◌≡◌, ◌<◌, ◌++◌, [], ◌∷◌, Bool, ℕ, List, Ok, IfOk, IfSome, OnOk, OnErr, length};
 ghost use Rattle.lin_edn.specs.Rows.{row_end, row_levels};
 ghost use Rattle.lin_edn.specs.Value.{Value, values_of};
 ghost use Rattle.lin_edn.specs.View.{view};
+ghost use Rattle.lin_names.specs.Names.{Begins};
+ghost use Rattle.lin_history.specs.Reading.{Reading, IsReading};
 ghost use Rattle.lin_history.specs.Stream.{told_by};
 ghost use Rattle.lin_history.specs.inner.Reads.{IsTold, IsToldOn, IsPutBehind};
-ghost use Rattle.lin_history.specs.Rests.{told_of, IsOpen, IsWaiting};
-ghost use Rattle.lin_history.specs.inner.Rests.{IsFar, IsWhole};
+ghost use Rattle.lin_history.specs.Rests.{told_of, IsBegun, IsOpen, IsOpenRow, IsWaiting};
+ghost use Rattle.lin_history.specs.inner.Rests.{IsFar, IsFarRow, IsWhole, IsWholeRow};
 ghost use Rattle.lin_history.specs.Table.{event as told_in};
 ghost use Rattle.lin_history.specs.inner.Usual.{IsTaken, events_of};
 
@@ -14,6 +16,7 @@ use crate::table::{EventFault, event_of};
 use crate::usual::{Taken, next_usual};
 use lin_edn::{Edn, Inside, Series};
 use lin_events::{Event, OutOfMemory};
+use lin_names::Names;
 use std::alloc::Global;
 use std::collections::VecDeque;
 
@@ -38,7 +41,8 @@ pub(crate) enum Far {
 
 /// The list or vector that a text begins with behind white, with a tag in front of it or none, before its first map.
 pub(crate) fn begin_row(alloc: Global, text: &[u8]) -> Option<Row>
-    ensures { (keyed : Bool) → IsWaiting keyed result text.now }
+    ensures begun { IsBegun result text.now }
+    ensures waits { (m : Reading) → IsWaiting m result text.now }
 {
     let series = Series::begin(text)?;
     Some(Row {
@@ -54,13 +58,16 @@ pub(crate) fn whole_row(
     alloc: Global,
     keyed: bool,
     text: &[u8],
+    names: &mut Names,
 ) -> Result<Option<(Row, usize)>, OutOfMemory>
-    ensures { IfOk result (λ found. IfSome found (λ r. IsWhole keyed r.0 text.now r.1)) }
+    ensures begun { Begins names.old names.new }
+    ensures row { IfOk result (λ found. IfSome found (λ r. IsWholeRow r.0 text.now r.1)) }
+    ensures told { IfOk result (λ found. IfSome found (λ r. (m : Reading) → IsReading keyed names.new m → IsWhole m r.0 text.now r.1)) }
 {
     let Some(mut row) = begin_row(alloc, text) else {
         return Ok(None);
     };
-    match read_maps(alloc, keyed, text, &mut row)? {
+    match read_maps(alloc, keyed, text, &mut row, names)? {
         Far::Closed(used) => Ok(Some((row, used))),
         Far::Open(_) => Ok(None),
     }
@@ -72,16 +79,26 @@ pub(crate) fn read_maps(
     keyed: bool,
     text: &[u8],
     row: &mut Row,
+    names: &mut Names,
 ) -> Result<Far, OutOfMemory>
-    requires { IsOpen keyed row.old text.now }
-    ensures { IsFar keyed row.new text.now result }
+    requires { IsOpenRow row.old text.now }
+    ensures begun { Begins names.old names.new }
+    ensures row { IfOk result (IsFarRow row.new text.now) }
+    ensures told { IfOk result (λ far. (m : Reading) → IsReading keyed names.new m → IsOpen m row.old text.now → IsFar m row.new text.now far) }
 {
     let mut more = false;
     'maps: loop {
-        match next_usual(alloc, keyed, text, row.series.place(), row.series.levels()) {
+        match next_usual(
+            alloc,
+            keyed,
+            text,
+            row.series.place(),
+            row.series.levels(),
+            names,
+        ) {
             Some(taken) => pass_usual(row, taken)?,
             None => match row.series.next(alloc, text) {
-                Inside::Element(element) => take_map(alloc, keyed, &element, row)?,
+                Inside::Element(element) => take_map(alloc, keyed, &element, row, names)?,
                 Inside::Closed(used) => return Ok(Far::Closed(used)),
                 Inside::Unknown => return Ok(Far::Open(more)),
                 Inside::OutOfMemory => return Err(OutOfMemory),
@@ -94,8 +111,11 @@ pub(crate) fn read_maps(
 /// Takes a usual map that comes next.
 #[inline(always)]
 fn pass_usual(row: &mut Row, taken: Taken) -> Result<(), OutOfMemory>
-    ensures { OnOk result ((keyed : Bool) (s : List ℕ) → IsTaken keyed s (row_end row.old.series) (row_levels row.old.series) taken → IsOpen keyed row.old s
-        → IsOpen keyed row.new s × (row_end row.old.series < row_end row.new.series)) }
+    ensures end { OnOk result (row_end row.new.series ≡ taken.used) }
+    ensures open { OnOk result ((keyed : Bool) (names : List (List ℕ)) (s : List ℕ) → IsTaken keyed names s (row_end row.old.series) (row_levels row.old.series) taken →
+        IsOpenRow row.old s → IsOpenRow row.new s) }
+    ensures told { OnOk result ((m : Reading) (keyed : Bool) (names : List (List ℕ)) (s : List ℕ) → IsReading keyed names m →
+        IsTaken keyed names s (row_end row.old.series) (row_levels row.old.series) taken → IsOpen m row.old s → IsOpen m row.new s) }
 {
     let used = taken.used;
     wait_for(&mut row.waiting, row.ends, taken.event)?;
@@ -110,8 +130,7 @@ fn wait_for(
     ends: Option<EventFault>,
     event: Option<Event>,
 ) -> Result<(), OutOfMemory>
-    ensures ok { OnOk result ((k : Bool) (v : Value) → told_in k v ≡ Ok event → IsToldOn k v waiting.old.items ends waiting.new.items ends) }
-    ensures err { OnErr result (IsPutBehind waiting.old.items waiting.new.items) }
+    ensures { OnOk result ((m : Reading) (v : Value) → told_in m v ≡ Ok event → IsToldOn m v waiting.old.items ends waiting.new.items ends) }
 {
     if ends.is_some() {
         return Ok(());
@@ -120,12 +139,26 @@ fn wait_for(
 }
 
 /// Takes a map that is read.
-fn take_map(alloc: Global, keyed: bool, element: &Edn, row: &mut Row) -> Result<(), OutOfMemory>
+fn take_map(
+    alloc: Global,
+    keyed: bool,
+    element: &Edn,
+    row: &mut Row,
+    names: &mut Names,
+) -> Result<(), OutOfMemory>
+    ensures begun { Begins names.old names.new }
     ensures series { row.new.series ≡ row.old.series }
-    ensures told { OnOk result ((vs : List Value) → told_by keyed (values_of vs) ≡ told_of row.old
-        → told_by keyed (values_of (vs ++ view element.now ∷ [])) ≡ told_of row.new) }
+    ensures told { OnOk result ((m : Reading) → IsReading keyed names.new m → (vs : List Value) → told_by m (values_of vs) ≡ told_of row.old
+        → told_by m (values_of (vs ++ view element.now ∷ [])) ≡ told_of row.new) }
 {
-    wait(alloc, keyed, element, &mut row.waiting, &mut row.ends)?;
+    wait(
+        alloc,
+        keyed,
+        element,
+        &mut row.waiting,
+        &mut row.ends,
+        names,
+    )?;
     Ok(())
 }
 
@@ -136,14 +169,15 @@ fn wait(
     element: &Edn,
     waiting: &mut VecDeque<Event>,
     ends: &mut Option<EventFault>,
+    names: &mut Names,
 ) -> Result<(), OutOfMemory>
-    ensures ok { OnOk result (IsToldOn keyed (view element.now) waiting.old.items ends.old waiting.new.items ends.new) }
-    ensures err { OnErr result (IsPutBehind waiting.old.items waiting.new.items) }
+    ensures begun { Begins names.old names.new }
+    ensures ok { OnOk result ((m : Reading) → IsReading keyed names.new m → IsToldOn m (view element.now) waiting.old.items ends.old waiting.new.items ends.new) }
 {
     if ends.is_some() {
         return Ok(());
     }
-    match tell_one(alloc, keyed, element, waiting) {
+    match tell_one(alloc, keyed, element, waiting, names) {
         Ok(()) => Ok(()),
         Err(fault) => match fault {
             EventFault::OutOfMemory => Err(OutOfMemory),
@@ -202,10 +236,13 @@ pub(crate) fn tell_one(
     keyed: bool,
     element: &Edn,
     ready: &mut VecDeque<Event>,
+    names: &mut Names,
 ) -> Result<(), EventFault>
-    ensures { IsTold (told_by keyed (values_of (view element.now ∷ []))) ready.old.items ready.new.items result }
+    ensures begun { Begins names.old names.new }
+    ensures put { IsPutBehind ready.old.items ready.new.items }
+    ensures told { (m : Reading) → IsReading keyed names.new m → IsTold (told_by m (values_of (view element.now ∷ []))) ready.old.items ready.new.items result }
 {
-    match event_of(alloc, element, keyed) {
+    match event_of(alloc, element, keyed, names) {
         Ok(None) => Ok(()),
         Ok(Some(event)) => {
             if put_back(ready, event).is_err() {

@@ -7,20 +7,25 @@ ghost use Rattle.lin_edn.specs.Run.{run_value};
 ghost use Rattle.lin_edn.specs.Value as value;
 ghost use Rattle.lin_edn.specs.Value.{Value, Entries};
 ghost use Rattle.lin_edn.specs.View.{view};
-ghost use Rattle.lin_history.specs.inner.Fields.{given_view, value_of};
+ghost use Rattle.lin_names.specs.Names.{AgreesWith, Begins};
+ghost use Rattle.lin_names.specs.Spelled.{seen};
+ghost use Rattle.lin_names.specs.declared.said.Said.TheVariants as said;
+ghost use Rattle.lin_history.specs.Reading.{Reading, IsReading};
+ghost use Rattle.lin_history.specs.inner.Fields.{given_view, plain_view, value_of};
 ghost use Rattle.lin_history.specs.Table.{body_of, event};
 ghost use Rattle.lin_history.specs.inner.Usual.{AreParts, ArePlaced, IsAdded, IsPlaced, IsProcess, IsValueAt, IsUpTo, IsMapAt, IsTaken, TellsWith};
 
 use crate::table::{
-    EventType, Given, event_said, function_named, is_keyword, is_same, is_value_told,
+    EventType, Given, Plain, event_said, function_named, is_keyword, is_same, is_value_told,
     process_number, type_named,
 };
-use crate::values::{pair_at, pair_key, plain_pair, val_in, value_at};
+use crate::values::{pair_at, pair_key, plain_in, plain_pair, string_at, value_at};
 use lin_edn::{
     Edn, elements_are_unique, integer, nested_until, run_element, run_until, tag_until,
     white_until, window,
 };
-use lin_events::{Event, Item, Name, Val};
+use lin_events::{Event, Name};
+use lin_names::{Names, Said};
 use std::alloc::Global;
 
 /// The greatest number of levels.
@@ -50,6 +55,14 @@ struct Places {
     event_type: Option<Place>,
     function: Option<Place>,
     value: Option<Place>,
+}
+
+/// What a map says besides the key and the value, where it is an event.
+#[derive(Clone, Copy)]
+struct Doing {
+    process: u64,
+    event_type: EventType,
+    name: Name,
 }
 
 /// What `:process` says.
@@ -187,8 +200,13 @@ fn process_in(at: usize, word: &[u8]) -> Option<Process>
 
 /// The object's key and the value that a map says whose `:value` stands at a place.
 #[inline(always)]
-fn parts_at<'a>(alloc: Global, keyed: bool, text: &'a [u8], place: Place) -> Option<(Item, Edn<'a>)>
-    ensures { IfSome result (λ r. (levels : ℕ) (vs : List Value) → levels ≤ 64 → IsPlaced text.entry.now levels vs (Some place) → AreParts keyed vs r.0 (view r.1)) }
+fn parts_at<'a>(
+    alloc: Global,
+    keyed: bool,
+    text: &'a [u8],
+    place: Place,
+) -> Option<(Said<'a>, Edn<'a>)>
+    ensures { IfSome result (λ r. (levels : ℕ) (vs : List Value) → levels ≤ 64 → IsPlaced text.entry.now levels vs (Some place) → AreParts keyed vs (seen r.0) (view r.1)) }
 {
     elements_are_unique();
     if keyed {
@@ -196,128 +214,161 @@ fn parts_at<'a>(alloc: Global, keyed: bool, text: &'a [u8], place: Place) -> Opt
         return Some((key, value));
     }
     if let Some(word) = word_of(text, place) {
-        return Some((Item::Int(0), run_element(place.at, word)));
+        return Some((Said::Int(0), run_element(place.at, word)));
     }
     let (value, _) = value_at(alloc, text, place.at, VALUE_LEVELS)?;
-    Some((Item::Int(0), value))
+    Some((Said::Int(0), value))
+}
+
+/// Nil or the item that the only value under a key says, which stands at a place.
+#[inline(always)]
+fn plain_of(text: &[u8], place: Place) -> Option<Plain<'_>>
+    ensures { IfSome result (λ plain. (levels : ℕ) (vs : List Value) → levels ≤ 64 → IsPlaced text.entry.now levels vs (Some place) → AreParts false vs (seen (said.Int (pos 0))) (value_of (plain_view plain))) }
+{
+    elements_are_unique();
+    if let Some(word) = word_of(text, place) {
+        return plain_in(word);
+    }
+    if place.at > text.len() {
+        return None;
+    }
+    let (word, _) = string_at(text, place.at)?;
+    Some(Plain::Item(word))
 }
 
 /// The object's key and the value that a map says whose `:value` stands at a place, or nowhere, where that value is nil or an item:
 /// no element has to be built.
 #[inline(always)]
-fn plain_parts(keyed: bool, text: &[u8], place: Option<Place>) -> Option<(Item, Val)>
-    ensures { IfSome result (λ r. (levels : ℕ) (vs : List Value) → levels ≤ 64 → IsPlaced text.now levels vs place → AreParts keyed vs r.0 (value_of r.1)) }
+fn plain_parts(keyed: bool, text: &[u8], place: Option<Place>) -> Option<(Said<'_>, Plain<'_>)>
+    ensures { IfSome result (λ r. (levels : ℕ) (vs : List Value) → levels ≤ 64 → IsPlaced text.entry.now levels vs place → AreParts keyed vs (seen r.0) (value_of (plain_view r.1))) }
 {
     elements_are_unique();
     let Some(place) = place else {
         if keyed {
             return None;
         }
-        return Some((Item::Int(0), Val::Nil));
+        return Some((Said::Int(0), Plain::Nil));
     };
     if keyed {
-        let (key, val, _) = plain_pair(text, place.at)?;
-        return Some((key, val));
+        let (key, plain, _) = plain_pair(text, place.at)?;
+        return Some((key, plain));
     }
-    let val = val_in(word_of(text, place)?)?;
-    Some((Item::Int(0), val))
+    let plain = plain_of(text, place)?;
+    Some((Said::Int(0), plain))
 }
 
-/// The event of a usual map with this process, type, function, key and value.
+/// The event of a usual map that says this, with this key and value.
 #[inline(always)]
 fn event_given(
     alloc: Global,
-    process: u64,
-    event_type: EventType,
-    name: Name,
-    key: Item,
+    doing: Doing,
+    key: Said,
     value: Given,
+    names: &mut Names,
 ) -> Option<Option<Event>>
-    ensures { IfSome result (λ told. (keyed : Bool) (vs : List Value) → AreParts keyed vs key (given_view value.entry) → TellsWith keyed process event_type name vs told) }
+    ensures begun { Begins names.old names.new }
+    ensures told { IfSome result (λ told. (m : Reading) → AgreesWith names.new m.number → (vs : List Value) → AreParts m.keyed vs (seen key.entry) (given_view value.entry) →
+        TellsWith m doing.process doing.event_type doing.name vs told) }
 {
-    match event_said(alloc, process, event_type, name, key, value) {
+    match event_said(
+        alloc,
+        doing.process,
+        doing.event_type,
+        doing.name,
+        key,
+        value,
+        names,
+    ) {
         Ok(told) => Some(told),
         Err(_) => None,
     }
 }
 
 /// The object's key that a map says whose `:value` stands at a place: 0 without keys, else that of a pair. The value is passed over.
-fn key_alone(keyed: bool, text: &[u8], place: Place) -> Option<Item>
-    ensures { IfSome result (λ key. (levels : ℕ) (vs : List Value) → levels ≤ 64 → IsPlaced text.now levels vs (Some place) → (v : Value) × AreParts keyed vs key v) }
+fn key_alone(keyed: bool, text: &[u8], place: Place) -> Option<Said<'_>>
+    ensures { IfSome result (λ key. (levels : ℕ) (vs : List Value) → levels ≤ 64 → IsPlaced text.entry.now levels vs (Some place) → (v : Value) × AreParts keyed vs (seen key) v) }
 {
     elements_are_unique();
     if !keyed {
-        return Some(Item::Int(0));
+        return Some(Said::Int(0));
     }
     let (key, _) = pair_key(text, place.at)?;
     Some(key)
 }
 
-/// The event of a usual map with this process, type and function, which doesn't hang on its `:value`, however long that is.
+/// The event of a usual map that says this, which doesn't hang on its `:value`, however long that is.
 fn valueless_event(
     alloc: Global,
     keyed: bool,
     text: &[u8],
-    process: u64,
-    event_type: EventType,
-    name: Name,
+    doing: Doing,
     place: Place,
+    names: &mut Names,
 ) -> Option<Option<Event>>
-    requires { (v : Value) (w : Value) → body_of event_type name v ≡ body_of event_type name w }
-    ensures { IfSome result (λ told. (levels : ℕ) (vs : List Value) → levels ≤ 64 → IsPlaced text.now levels vs (Some place) → TellsWith keyed process event_type name vs told) }
+    requires { (m : Reading) (v : Value) (w : Value) → body_of m doing.event_type doing.name v ≡ body_of m doing.event_type doing.name w }
+    ensures begun { Begins names.old names.new }
+    ensures told { IfSome result (λ told. (m : Reading) → IsReading keyed names.new m → (levels : ℕ) (vs : List Value) → levels ≤ 64 → IsPlaced text.now levels vs (Some place) →
+        TellsWith m doing.process doing.event_type doing.name vs told) }
 {
     let key = key_alone(keyed, text, place)?;
-    let told = event_given(alloc, process, event_type, name, key, Given::Val(Val::Nil))?;
+    let told = event_given(alloc, doing, key, Given::Plain(Plain::Nil), names)?;
     Some(told)
 }
 
-/// The event of a usual map with this process, type and function, whose `:value` is built as an element if the event hangs on it. It
-/// stands apart, so that other maps set nothing up for it.
+/// The event of a usual map that says this, whose `:value` is built as an element if the event hangs on it. It stands apart, so that
+/// other maps set nothing up for it.
 #[inline(never)]
 fn element_event(
     alloc: Global,
     keyed: bool,
     text: &[u8],
-    process: u64,
-    event_type: EventType,
-    name: Name,
+    doing: Doing,
     place: Option<Place>,
+    names: &mut Names,
 ) -> Option<Option<Event>>
-    ensures { IfSome result (λ told. (levels : ℕ) (vs : List Value) → levels ≤ 64 → IsPlaced text.now levels vs place → TellsWith keyed process event_type name vs told) }
+    ensures begun { Begins names.old names.new }
+    ensures told { IfSome result (λ told. (m : Reading) → IsReading keyed names.new m → (levels : ℕ) (vs : List Value) → levels ≤ 64 → IsPlaced text.now levels vs place →
+        TellsWith m doing.process doing.event_type doing.name vs told) }
 {
     let place = place?;
-    if !is_value_told(event_type, name) {
-        return valueless_event(alloc, keyed, text, process, event_type, name, place);
+    if !is_value_told(doing.event_type, doing.name) {
+        return valueless_event(alloc, keyed, text, doing, place, names);
     }
     let (key, value) = parts_at(alloc, keyed, text, place)?;
-    let told = event_given(
-        alloc,
-        process,
-        event_type,
-        name,
-        key,
-        Given::Element(&value),
-    )?;
+    let told = event_given(alloc, doing, key, Given::Element(&value), names)?;
     Some(told)
 }
 
 /// The event of a usual map, or that it is none; nothing where this has to be seen from its elements.
 #[inline(always)]
-fn usual_event(alloc: Global, keyed: bool, text: &[u8], places: Places) -> Option<Option<Event>>
-    ensures { IfSome result (λ told. (levels : ℕ) (es : Entries) → levels ≤ 64 → ArePlaced text.now levels es places → event keyed (value.map es) ≡ Ok told) }
+fn usual_event(
+    alloc: Global,
+    keyed: bool,
+    text: &[u8],
+    places: Places,
+    names: &mut Names,
+) -> Option<Option<Event>>
+    ensures begun { Begins names.old names.new }
+    ensures told { IfSome result (λ told. (m : Reading) → IsReading keyed names.new m → (levels : ℕ) (es : Entries) → levels ≤ 64 → ArePlaced text.now levels es places →
+        event m (value.map es) ≡ Ok told) }
 {
     let place = places.process?;
-    let number = match process_in(place.at, word_of(text, place)?)? {
+    let process = match process_in(place.at, word_of(text, place)?)? {
         Process::Number(number) => number,
         Process::Named => return Some(None),
     };
     let event_type = type_named(word_of(text, places.event_type?)?)?;
     let name = function_named(word_of(text, places.function?)?)?;
-    if let Some((key, value)) = plain_parts(keyed, text, places.value) {
-        let told = event_given(alloc, number, event_type, name, key, Given::Val(value))?;
+    let doing = Doing {
+        process,
+        event_type,
+        name,
+    };
+    if let Some((key, plain)) = plain_parts(keyed, text, places.value) {
+        let told = event_given(alloc, doing, key, Given::Plain(plain), names)?;
         return Some(told);
     }
-    let told = element_event(alloc, keyed, text, number, event_type, name, places.value)?;
+    let told = element_event(alloc, keyed, text, doing, places.value, names)?;
     Some(told)
 }
 
@@ -340,9 +391,11 @@ pub(crate) fn next_usual(
     text: &[u8],
     from: usize,
     levels: usize,
+    names: &mut Names,
 ) -> Option<Taken>
     requires { (3 ≤ levels) × (levels ≤ 64) }
-    ensures { IfSome result (λ taken. IsTaken keyed text.now from levels taken) }
+    ensures begun { Begins names.old names.new }
+    ensures taken { IfSome result (IsTaken keyed names.new text.now from levels) }
 {
     let end = window(0, text.len());
     if from >= end {
@@ -358,6 +411,6 @@ pub(crate) fn next_usual(
     }
     let inside = levels_inside(at, begun, levels);
     let (places, used) = usual_map(text, begun, end, inside)?;
-    let event = usual_event(alloc, keyed, text, places)?;
+    let event = usual_event(alloc, keyed, text, places, names)?;
     Some(Taken { event, used })
 }

@@ -1,18 +1,19 @@
 //! Values of usual maps, read in place.
-ghost use Rattle.std.specs.Prelude.{◌≡◌, ℕ, ◌+◌, ◌<◌, ◌≤◌, ◌∷◌, ◌++◌, [], IfSome, Some, length, drop, map};
+ghost use Rattle.std.specs.Prelude.{◌≡◌, ℕ, ◌+◌, ◌<◌, ◌≤◌, ◌∷◌, ◌++◌, [], List, IfSome, Some, option_map, length, drop, map};
 ghost use Rattle.lin_edn.specs.Bytes as bytes;
 ghost use Rattle.lin_edn.specs.Bytes.{a_vector};
 ghost use Rattle.lin_edn.specs.Grammar.{Element, Opens, Row};
 ghost use Rattle.lin_edn.specs.Run.{run_value};
-ghost use Rattle.lin_edn.specs.Value.{Value, made, vector, values_of};
+ghost use Rattle.lin_edn.specs.Value.{Value, made, text as text_value};
 ghost use Rattle.lin_edn.specs.View.{view};
-ghost use Rattle.lin_history.specs.inner.Fields.{item_value, value_of};
-ghost use Rattle.lin_history.specs.Table.{bare};
-ghost use Rattle.lin_history.specs.inner.Usual.{kind_of};
+ghost use Rattle.lin_names.specs.Spelled.{seen};
+ghost use Rattle.lin_history.specs.inner.Fields.{plain_of, plain_view};
+ghost use Rattle.lin_history.specs.inner.Usual.{IsPair, kind_of};
+ghost use Rattle.lin_history.specs.Table.{bare, said_of};
 
-use crate::table::is_same;
-use lin_edn::{Edn, integer, nested_until, run_element, run_until, white_until};
-use lin_events::{Item, Val};
+use crate::table::{Plain, is_same, word_in};
+use lin_edn::{Edn, Span, integer, nested_until, run_element, run_until, text_until, white_until};
+use lin_names::Said;
 use std::alloc::Global;
 
 /// The pair of an item and such a value, of one level at most, at a place.
@@ -21,9 +22,9 @@ pub(crate) fn pair_at<'a>(
     alloc: Global,
     text: &'a [u8],
     from: usize,
-) -> Option<(Item, Edn<'a>, usize)>
+) -> Option<(Said<'a>, Edn<'a>, usize)>
     ensures bare { IfSome result (λ r. bare (view r.1) ≡ view r.1) }
-    ensures pair { IfSome result (λ r. Element 2 from (drop from text.entry.now) (vector (values_of (item_value r.0 ∷ view r.1 ∷ []))) r.2 (drop r.2 text.entry.now)) }
+    ensures pair { IfSome result (λ r. IsPair 2 text.entry.now from (seen r.0) (view r.1) r.2) }
 {
     let (key, until) = key_at(text, from)?;
     let at = white_until(text, until, text.len());
@@ -38,46 +39,101 @@ pub(crate) fn pair_at<'a>(
     Some((key, value, last + 1))
 }
 
+/// The keyword that a word is.
+fn keyword_in(word: &[u8]) -> Option<Said<'_>>
+    ensures { IfSome result (λ said. (p : ℕ) → said_of (run_value p word.entry.now) ≡ Some (seen said)) }
+{
+    if word.len() < 2 {
+        return None;
+    }
+    if word[0] != b':' {
+        return None;
+    }
+    Some(Said::Word(word))
+}
+
 /// The item that a word says.
 #[inline(always)]
-fn item_in(word: &[u8]) -> Option<Item>
-    ensures { IfSome result (λ item. (p : ℕ) → run_value p word.now ≡ item_value item) }
+fn item_in(word: &[u8]) -> Option<Said<'_>>
+    ensures { IfSome result (λ said. (p : ℕ) → said_of (run_value p word.entry.now) ≡ Some (seen said)) }
 {
     if let Some(number) = integer(word) {
-        return Some(Item::Int(number));
+        return Some(Said::Int(number));
     }
     if is_same(word, b"true") {
-        return Some(Item::Bool(true));
+        return Some(Said::Bool(true));
     }
     if is_same(word, b"false") {
-        return Some(Item::Bool(false));
+        return Some(Said::Bool(false));
     }
-    None
+    keyword_in(word)
 }
 
 /// Nil or the item that a word says.
 #[inline(always)]
-pub(crate) fn val_in(word: &[u8]) -> Option<Val>
-    ensures { IfSome result (λ val. (p : ℕ) → run_value p word.now ≡ value_of val) }
+pub(crate) fn plain_in(word: &[u8]) -> Option<Plain<'_>>
+    ensures { IfSome result (λ plain. (p : ℕ) → plain_of (run_value p word.entry.now) ≡ Some (plain_view plain)) }
 {
     if is_same(word, b"nil") {
-        return Some(Val::Nil);
+        return Some(Plain::Nil);
     }
-    Some(Val::Item(item_in(word)?))
+    Some(Plain::Item(item_in(word)?))
+}
+
+/// The string at a place that is an item, and where it ends. A string that holds the end of a line is none, and one with a backslash is
+/// read with its element.
+pub(crate) fn string_at(text: &[u8], at: usize) -> Option<(Said<'_>, usize)>
+    requires { at ≤ length text.now }
+    ensures within { IfSome result (λ r. (at < r.1) × (r.1 ≤ length text.entry.now)) }
+    ensures item { IfSome result (λ r. (v : Value) × (bare v ≡ v) × (said_of v ≡ Some (seen r.0)) × ((n : ℕ) → Element n at (drop at text.entry.now) v r.1 (drop r.1 text.entry.now))) }
+{
+    let until = text_until(text, at, text.len());
+    if until == at {
+        return None;
+    }
+    let word = word_in(&text[at..until])?;
+    Some((word, until))
+}
+
+/// The item at a place, and where it ends.
+#[inline(always)]
+fn item_at(text: &[u8], at: usize) -> Option<(Said<'_>, usize)>
+    requires { at ≤ length text.now }
+    ensures within { IfSome result (λ r. (at < r.1) × (r.1 ≤ length text.entry.now)) }
+    ensures item { IfSome result (λ r. (v : Value) × (bare v ≡ v) × (said_of v ≡ Some (seen r.0)) × ((n : ℕ) → Element n at (drop at text.entry.now) v r.1 (drop r.1 text.entry.now))) }
+{
+    let until = run_until(text, at, text.len());
+    if until == at {
+        return string_at(text, at);
+    }
+    let item = item_in(&text[at..until])?;
+    Some((item, until))
+}
+
+/// Nil or the item at a place, and where it ends.
+#[inline(always)]
+fn plain_at(text: &[u8], at: usize) -> Option<(Plain<'_>, usize)>
+    requires { at ≤ length text.now }
+    ensures within { IfSome result (λ r. (at < r.1) × (r.1 ≤ length text.entry.now)) }
+    ensures plain { IfSome result (λ r. (v : Value) × (bare v ≡ v) × (plain_of v ≡ Some (plain_view r.0)) × ((n : ℕ) → Element n at (drop at text.entry.now) v r.1 (drop r.1 text.entry.now))) }
+{
+    let until = run_until(text, at, text.len());
+    if until == at {
+        let (word, end) = string_at(text, at)?;
+        return Some((Plain::Item(word), end));
+    }
+    let plain = plain_in(&text[at..until])?;
+    Some((plain, until))
 }
 
 /// The pair of an item and nil or an item at a place, and where it ends.
 #[inline(never)]
-pub(crate) fn plain_pair(text: &[u8], from: usize) -> Option<(Item, Val, usize)>
-    ensures { IfSome result (λ r. Element 2 from (drop from text.now) (vector (values_of (item_value r.0 ∷ value_of r.1 ∷ []))) r.2 (drop r.2 text.now)) }
+pub(crate) fn plain_pair(text: &[u8], from: usize) -> Option<(Said<'_>, Plain<'_>, usize)>
+    ensures { IfSome result (λ r. (v : Value) × (bare v ≡ v) × (plain_of v ≡ Some (plain_view r.1)) × IsPair 2 text.entry.now from (seen r.0) v r.2) }
 {
     let (key, until) = key_at(text, from)?;
     let at = white_until(text, until, text.len());
-    let used = run_until(text, at, text.len());
-    if used == at {
-        return None;
-    }
-    let val = val_in(&text[at..used])?;
+    let (plain, used) = plain_at(text, at)?;
     let last = white_until(text, used, text.len());
     if last >= text.len() {
         return None;
@@ -85,12 +141,12 @@ pub(crate) fn plain_pair(text: &[u8], from: usize) -> Option<(Item, Val, usize)>
     if text[last] != b']' {
         return None;
     }
-    Some((key, val, last + 1))
+    Some((key, plain, last + 1))
 }
 
 /// The item that the pair at a place begins with, and where the pair ends. Its value is passed over in place.
-pub(crate) fn pair_key(text: &[u8], from: usize) -> Option<(Item, usize)>
-    ensures { IfSome result (λ r. (v : Value) × Element 63 from (drop from text.now) (vector (values_of (item_value r.0 ∷ v ∷ []))) r.1 (drop r.1 text.now)) }
+pub(crate) fn pair_key(text: &[u8], from: usize) -> Option<(Said<'_>, usize)>
+    ensures { IfSome result (λ r. (v : Value) × IsPair 63 text.entry.now from (seen r.0) v r.1) }
 {
     let (key, until) = key_at(text, from)?;
     let at = white_until(text, until, text.len());
@@ -110,10 +166,10 @@ pub(crate) fn pair_key(text: &[u8], from: usize) -> Option<(Item, usize)>
 
 /// The item that the vector at a place begins with, and where it ends.
 #[inline(always)]
-fn key_at(text: &[u8], from: usize) -> Option<(Item, usize)>
-    ensures within { IfSome result (λ r. (from < r.1) × (r.1 ≤ length text.now)) }
-    ensures opens { IfSome result (λ r. Opens a_vector from (drop from text.now) (from + 1) (drop (from + 1) text.now)) }
-    ensures key { IfSome result (λ r. (n : ℕ) → Row n (from + 1) (drop (from + 1) text.now) (item_value r.0 ∷ []) r.1 (drop r.1 text.now)) }
+fn key_at(text: &[u8], from: usize) -> Option<(Said<'_>, usize)>
+    ensures within { IfSome result (λ r. (from < r.1) × (r.1 ≤ length text.entry.now)) }
+    ensures opens { IfSome result (λ r. Opens a_vector from (drop from text.entry.now) (from + 1) (drop (from + 1) text.entry.now)) }
+    ensures key { IfSome result (λ r. (v : Value) × (bare v ≡ v) × (said_of v ≡ Some (seen r.0)) × ((n : ℕ) → Row n (from + 1) (drop (from + 1) text.entry.now) (v ∷ []) r.1 (drop r.1 text.entry.now))) }
 {
     if from >= text.len() {
         return None;
@@ -122,16 +178,12 @@ fn key_at(text: &[u8], from: usize) -> Option<(Item, usize)>
         return None;
     }
     let at = white_until(text, from + 1, text.len());
-    let until = run_until(text, at, text.len());
-    if until == at {
-        return None;
-    }
-    let key = item_in(&text[at..until])?;
+    let (key, until) = item_at(text, at)?;
     Some((key, until))
 }
 
-/// The value at a place, and where it ends: a run, or a vector or set of such values with white between them, with so many levels
-/// at most. Nothing where none stands there, or where memory is refused.
+/// The value at a place, and where it ends: a run, a string without a backslash, or a vector or set of such values with white between
+/// them, with so many levels at most. Nothing where none stands there, or where memory is refused.
 #[cycle(value)]
 pub(crate) fn value_at<'a>(
     alloc: Global,
@@ -150,12 +202,23 @@ pub(crate) fn value_at<'a>(
     if until > from {
         return Some((run_element(from, &text[from..until]), until));
     }
+    let end = text_until(text, from, text.len());
+    if end > from {
+        return Some((text_element(from, &text[from..end]), end));
+    }
     if levels == 0 {
         return None;
     }
     let (is_set, inner) = opened_at(text, from)?;
     let (items, used) = items_at(alloc, text, inner, levels - 1, is_set)?;
     Some((gathered(is_set, items), used))
+}
+
+/// The string that begins at a place.
+fn text_element<'a>(at: usize, text: &'a [u8]) -> Edn<'a>
+    ensures { view result ≡ text_value at text.entry.now }
+{
+    Edn::Text(Span { at, text })
 }
 
 /// The values from a place on up to the byte that closes their vector or set, and where that byte ends.

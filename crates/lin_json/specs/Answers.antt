@@ -37,17 +37,18 @@ answer_json status answer = codes "{" ++ head_json status answer ++ codes "}"
 abbrev pub counted_json : Status → List ℕ → ℕ → List ℕ
 counted_json status answer events = codes "{" ++ head_json status answer ++ codes ",\"events\":" ++ decimal events
 
--- the name of an object: a key and a word for a kind have no byte that is escaped
-abbrev pub named_json : Item → Kind → List ℕ
-named_json key kind = codes "\"key\":\"" ++ item_text key ++ codes "\",\"kind\":\"" ++ kind_text kind ++ codes "\""
-
--- the answer for an object
-abbrev pub object_json : Item → Kind → Status → List ℕ → List ℕ
-object_json key kind status answer = codes "{" ++ named_json key kind ++ codes "," ++ head_json status answer ++ codes "}"
-
 abbrev pub objects_front : Status → List ℕ → ℕ → List ℕ
 objects_front status answer events = counted_json status answer events ++ codes ",\"objects\":["
 
 -- the answer for a history of so many events, with those for its objects, which are these texts
 abbrev pub checked_json : Status → List ℕ → ℕ → List ℕ → List ℕ
 checked_json status answer events objects = objects_front status answer events ++ objects ++ codes "]}"
+
+module _ (names : List (List ℕ)) where
+  -- the name of an object; a word for a kind has no byte that is escaped
+  abbrev pub named_json : Item → Kind → List ℕ
+  named_json key kind = codes "\"key\":" ++ string_json (item_text names key) ++ codes ",\"kind\":\"" ++ kind_text kind ++ codes "\""
+
+  -- the answer for an object
+  abbrev pub object_json : Item → Kind → Status → List ℕ → List ℕ
+  object_json key kind status answer = codes "{" ++ named_json key kind ++ codes "," ++ head_json status answer ++ codes "}"

@@ -11,29 +11,30 @@ use Rattle.lin_json.specs.Answers.{counted_json, head_json, named_json}
 use Rattle.lin_json.specs.Failures.{failed_json, named_event, place_json, spot_json}
 use Rattle.lin_json.specs.Strings.{string_json}
 
--- the object that was asked about, if one was
-abbrev pub object_named : Option (Item × Kind) → List ℕ
-object_named None = []
-object_named (Some object) = codes "," ++ named_json object.0 object.1
-
 abbrev pub event_json : Spot → List ℕ
 event_json event = codes ",\"event\":" ++ spot_json event
-
--- what is said of the history, by the answer
-abbrev pub parts_json : Parts → List ℕ
-parts_json (Yes object) = object_named object
-parts_json (No failed) = failed_json failed
-parts_json (Undecided key kind event) = named_event key kind event
-parts_json (IllFormed event) = event_json event
 
 -- the text of an explanation
 abbrev pub told_json : List ℕ → List ℕ
 told_json told = codes ",\"text\":" ++ string_json told ++ codes "}"
 
--- the explanation of an answer for a history of so many events
-abbrev pub explanation_json : Status → List ℕ → ℕ → Parts → List ℕ → List ℕ
-explanation_json status answer events parts told = counted_json status answer events ++ parts_json parts ++ told_json told
-
 -- why a file is refused, and where the fault stands, if it has a place
 abbrev pub refusal_json : Status → List ℕ → Option Place → List ℕ → List ℕ
 refusal_json status answer place told = codes "{" ++ head_json status answer ++ place_json place ++ told_json told
+
+module _ (names : List (List ℕ)) where
+  -- the object that was asked about, if one was
+  abbrev pub object_named : Option (Item × Kind) → List ℕ
+  object_named None = []
+  object_named (Some object) = codes "," ++ named_json names object.0 object.1
+
+  -- what is said of the history, by the answer
+  abbrev pub parts_json : Parts → List ℕ
+  parts_json (Yes object) = object_named object
+  parts_json (No failed) = failed_json names failed
+  parts_json (Undecided key kind event) = named_event names key kind event
+  parts_json (IllFormed event) = event_json event
+
+  -- the explanation of an answer for a history of so many events
+  abbrev pub explanation_json : Status → List ℕ → ℕ → Parts → List ℕ → List ℕ
+  explanation_json status answer events parts told = counted_json status answer events ++ parts_json parts ++ told_json told

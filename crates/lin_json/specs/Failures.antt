@@ -21,10 +21,6 @@ place_json (Some place) = codes ",\"line\":" ++ decimal place.line ++ codes ",\"
 abbrev pub spot_json : Spot → List ℕ
 spot_json spot = codes "{\"at\":" ++ decimal spot.at ++ place_json spot.place ++ codes ",\"words\":" ++ string_json spot.words.items ++ codes "}"
 
--- an event of an object
-abbrev pub named_event : Item → Kind → Spot → List ℕ
-named_event key kind event = codes "," ++ named_json key kind ++ codes ",\"event\":" ++ spot_json event
-
 -- a count, where it is known
 abbrev pub count_json : Option ℕ → List ℕ
 count_json None = codes "null"
@@ -50,7 +46,12 @@ why_json (Some why) = codes "{\"name\":" ++ string_json why.name.now ++ codes ",
 abbrev pub outcome_json : Failed → List ℕ
 outcome_json failed = codes ",\"replies\":" ++ choices_json failed.replies ++ codes ",\"states\":" ++ choices_json failed.states ++ codes ",\"why\":" ++ why_json failed.why
 
--- a failure: its object, the event with which legal orders end, the call of the failing operation, and what is known of both
-abbrev pub failed_json : Failed → List ℕ
-failed_json failed = named_event failed.key failed.kind failed.event ++ codes ",\"call\":" ++ spot_json failed.call ++ outcome_json failed
-    ++ codes ",\"from\":" ++ decimal failed.from
+module _ (names : List (List ℕ)) where
+  -- an event of an object
+  abbrev pub named_event : Item → Kind → Spot → List ℕ
+  named_event key kind event = codes "," ++ named_json names key kind ++ codes ",\"event\":" ++ spot_json event
+
+  -- a failure: its object, the event with which legal orders end, the call of the failing operation, and what is known of both
+  abbrev pub failed_json : Failed → List ℕ
+  failed_json failed = named_event failed.key failed.kind failed.event ++ codes ",\"call\":" ++ spot_json failed.call ++ outcome_json failed
+      ++ codes ",\"from\":" ++ decimal failed.from

@@ -1,10 +1,13 @@
 //! Answers, of a whole history and of its objects.
-ghost use Rattle.std.specs.Prelude.{◌≡◌, ◌++◌, OnOk};
+ghost use Rattle.std.specs.Prelude.{◌≡◌, ◌++◌, OnOk, codes};
+ghost use Rattle.lin_formats.specs.Items.{item_text};
 ghost use Rattle.lin_json.specs.Answers.{answer_json, counted_json, head_json, named_json, object_json, objects_front, status_number as number_of, valid_text};
+ghost use Rattle.lin_json.specs.Strings.{string_json};
 
 use crate::strings::put_string;
 use lin_events::Item;
 use lin_formats::{Status, kind_word, put_item, put_number};
+use lin_names::{Names, Said, shown};
 use lin_objects::Kind;
 use std::alloc::AllocError;
 
@@ -79,24 +82,55 @@ pub fn put_objects_front(text: &mut Vec<u8>, head: Head, events: usize) -> Resul
     text.extend_from_slice(b",\"objects\":[")
 }
 
-/// Puts the key and the kind of an object last.
-pub(crate) fn put_named(text: &mut Vec<u8>, key: Item, kind: Kind) -> Result<(), AllocError>
-    ensures { OnOk result (text.new.items ≡ text.old.items ++ named_json key kind) }
+/// Puts the text of an item last, between quotes, as it stands.
+fn put_plain(text: &mut Vec<u8>, names: &Names, item: Item) -> Result<(), AllocError>
+    ensures { OnOk result (text.new.items ≡ text.old.items ++ (codes "\"" ++ item_text names.now item ++ codes "\"")) }
 {
-    text.extend_from_slice(b"\"key\":\"")?;
-    put_item(text, key)?;
-    text.extend_from_slice(b"\",\"kind\":\"")?;
+    text.push(b'"')?;
+    put_item(text, names, item)?;
+    text.push(b'"')?;
+    Ok(())
+}
+
+/// Puts the text of a key last, as a string: only a word has bytes that are escaped.
+fn put_key(text: &mut Vec<u8>, names: &Names, key: Item) -> Result<(), AllocError>
+    ensures { OnOk result (text.new.items ≡ text.old.items ++ string_json (item_text names.now key)) }
+{
+    match shown(names, key) {
+        Said::Word(spelling) => put_string(text, spelling),
+        Said::Int(_) | Said::Bool(_) => put_plain(text, names, key),
+    }
+}
+
+/// Puts the key and the kind of an object last.
+pub(crate) fn put_named(
+    text: &mut Vec<u8>,
+    names: &Names,
+    key: Item,
+    kind: Kind,
+) -> Result<(), AllocError>
+    ensures { OnOk result (text.new.items ≡ text.old.items ++ named_json names.now key kind) }
+{
+    text.extend_from_slice(b"\"key\":")?;
+    put_key(text, names, key)?;
+    text.extend_from_slice(b",\"kind\":\"")?;
     text.extend_from_slice(kind_word(kind).as_bytes())?;
     text.push(b'"')?;
     Ok(())
 }
 
 /// Puts the map of an object last.
-pub fn put_object(text: &mut Vec<u8>, key: Item, kind: Kind, head: Head) -> Result<(), AllocError>
-    ensures { OnOk result (text.new.items ≡ text.old.items ++ object_json key kind head.entry.status head.entry.answer.now) }
+pub fn put_object(
+    text: &mut Vec<u8>,
+    names: &Names,
+    key: Item,
+    kind: Kind,
+    head: Head,
+) -> Result<(), AllocError>
+    ensures { OnOk result (text.new.items ≡ text.old.items ++ object_json names.now key kind head.entry.status head.entry.answer.now) }
 {
     text.push(b'{')?;
-    put_named(text, key, kind)?;
+    put_named(text, names, key, kind)?;
     text.push(b',')?;
     put_head(text, head)?;
     text.push(b'}')?;

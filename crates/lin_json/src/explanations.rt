@@ -7,18 +7,23 @@ use crate::failures::{put_failed, put_named_event, put_place, put_spot};
 use crate::strings::put_string;
 use lin_events::Item;
 use lin_explain::{Parts, Spot};
+use lin_names::Names;
 use lin_objects::Kind;
 use lin_places::Place;
 use std::alloc::AllocError;
 
 /// Puts the object that was asked about last, if one was.
-fn put_asked(text: &mut Vec<u8>, object: Option<(Item, Kind)>) -> Result<(), AllocError>
-    ensures { OnOk result (text.new.items ≡ text.old.items ++ object_named object) }
+fn put_asked(
+    text: &mut Vec<u8>,
+    names: &Names,
+    object: Option<(Item, Kind)>,
+) -> Result<(), AllocError>
+    ensures { OnOk result (text.new.items ≡ text.old.items ++ object_named names.now object) }
 {
     match object {
         Some((key, kind)) => {
             text.push(b',')?;
-            put_named(text, key, kind)
+            put_named(text, names, key, kind)
         }
         None => Ok(()),
     }
@@ -33,13 +38,13 @@ fn put_event(text: &mut Vec<u8>, event: &Spot) -> Result<(), AllocError>
 }
 
 /// Puts what an explanation says last.
-fn put_parts(text: &mut Vec<u8>, parts: &Parts) -> Result<(), AllocError>
-    ensures { OnOk result (text.new.items ≡ text.old.items ++ parts_json parts.now) }
+fn put_parts(text: &mut Vec<u8>, names: &Names, parts: &Parts) -> Result<(), AllocError>
+    ensures { OnOk result (text.new.items ≡ text.old.items ++ parts_json names.now parts.now) }
 {
     match parts {
-        Parts::Yes { object } => put_asked(text, *object),
-        Parts::No(failed) => put_failed(text, failed),
-        Parts::Undecided { key, kind, event } => put_named_event(text, *key, *kind, event),
+        Parts::Yes { object } => put_asked(text, names, *object),
+        Parts::No(failed) => put_failed(text, names, failed),
+        Parts::Undecided { key, kind, event } => put_named_event(text, names, *key, *kind, event),
         Parts::IllFormed { event } => put_event(text, event),
     }
 }
@@ -57,15 +62,16 @@ fn put_told(text: &mut Vec<u8>, told: &[u8]) -> Result<(), AllocError>
 /// Puts the map of an explanation last: the answer, how many events the history has, what is said of them, and the text that says it.
 pub fn put_explanation(
     text: &mut Vec<u8>,
+    names: &Names,
     head: Head,
     events: usize,
     parts: &Parts,
     told: &[u8],
 ) -> Result<(), AllocError>
-    ensures { OnOk result (text.new.items ≡ text.old.items ++ explanation_json head.entry.status head.entry.answer.now events parts.now told.now) }
+    ensures { OnOk result (text.new.items ≡ text.old.items ++ explanation_json names.now head.entry.status head.entry.answer.now events parts.now told.now) }
 {
     put_counted(text, head, events)?;
-    put_parts(text, parts)?;
+    put_parts(text, names, parts)?;
     put_told(text, told)
 }
 

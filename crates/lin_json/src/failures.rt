@@ -7,6 +7,7 @@ use crate::strings::put_string;
 use lin_events::Item;
 use lin_explain::{Choices, Failed, Spot, Why};
 use lin_formats::put_number;
+use lin_names::Names;
 use lin_objects::Kind;
 use lin_places::Place;
 use std::alloc::AllocError;
@@ -40,14 +41,15 @@ pub(crate) fn put_spot(text: &mut Vec<u8>, spot: &Spot) -> Result<(), AllocError
 /// Puts the object of an event last, and the event.
 pub(crate) fn put_named_event(
     text: &mut Vec<u8>,
+    names: &Names,
     key: Item,
     kind: Kind,
     event: &Spot,
 ) -> Result<(), AllocError>
-    ensures { OnOk result (text.new.items ≡ text.old.items ++ named_event key kind event.now) }
+    ensures { OnOk result (text.new.items ≡ text.old.items ++ named_event names.now key kind event.now) }
 {
     text.push(b',')?;
-    put_named(text, key, kind)?;
+    put_named(text, names, key, kind)?;
     text.extend_from_slice(b",\"event\":")?;
     put_spot(text, event)
 }
@@ -130,10 +132,14 @@ fn put_outcome(text: &mut Vec<u8>, failed: &Failed) -> Result<(), AllocError>
 }
 
 /// Puts all that is told of a failure last.
-pub(crate) fn put_failed(text: &mut Vec<u8>, failed: &Failed) -> Result<(), AllocError>
-    ensures { OnOk result (text.new.items ≡ text.old.items ++ failed_json failed.now) }
+pub(crate) fn put_failed(
+    text: &mut Vec<u8>,
+    names: &Names,
+    failed: &Failed,
+) -> Result<(), AllocError>
+    ensures { OnOk result (text.new.items ≡ text.old.items ++ failed_json names.now failed.now) }
 {
-    put_named_event(text, failed.key, failed.kind, &failed.event)?;
+    put_named_event(text, names, failed.key, failed.kind, &failed.event)?;
     text.extend_from_slice(b",\"call\":")?;
     put_spot(text, &failed.call)?;
     put_outcome(text, failed)?;

@@ -1,10 +1,11 @@
 -- The words of `verify`: files and an order.
-use Rattle.std.proofs.Common.{◌≡◌, ◌∙◌, ◌<◌, ◌⊎◌, inl, inr, ◌++◌, ◌∷◌, [], ◌==◌, ◌+◌, cond, ℕ, zero, suc, arith, Bool, true, false, List, Bor, Vec, Global, Some, None, length, map, refl, sym, ap, subst, true≢false, codes}
+use Rattle.std.proofs.Common.{◌≡◌, ◌∙◌, ◌<◌, ◌⊎◌, inl, inr, ◌++◌, ◌∷◌, [], ◌==◌, ◌+◌, cond, ℕ, zero, suc, arith, Bool, true, false, List, Bor, Vec, Global, Some, None, Result, Ok, Err, length, map, refl, sym, ap, subst, true≢false, codes}
 use Rattle.std.proofs.lemmas.List.{length-map, map-append}
 use Rattle.std.specs.Prelude.{MatchBool, count_by, fold, is_ok}
 use Rattle.std.specs.Str.{bytes_eq}
 use Rattle.clap.specs.Words.{Row, Text, first_of}
-use Rattle.lin_formats.specs.Orders.{order_of}
+use Rattle.lin_formats.specs.Orders.{SaidPair, order_said, order_written}
+use Rattle.lin_names.specs.Names.{Numbering}
 use Rattle.lin_formats.specs.declared.settings.Settings.{Settings}
 use Rattle.lin_line.specs.CommandLine.{EndInOrder, HasSettings, IsUnsaid, SayOrder, Says, input_count, names_input_twice, texts_of}
 use Rattle.lin_line.specs.declared.misuse.NoLine.{NoLine}
@@ -31,14 +32,14 @@ same_last : (xs ys : List Text) (x y : Text) → xs ++ x ∷ [] ≡ ys ++ y ∷ 
 same_last xs ys x y same = sym (last_behind x xs x) ∙ ap (last_of x) same ∙ last_behind x ys y
 
 -- several words end in an order just where the last one is an order's text
-pub ends : (names words : List Text) (text : Text) (is : Bool) → words ≡ names ++ text ∷ [] → 0 < length names → is ≡ is_ok (order_of text)
+pub ends : (names words : List Text) (text : Text) (is : Bool) → words ≡ names ++ text ∷ [] → 0 < length names → is ≡ is_ok (order_written text)
     → MatchBool is (EndInOrder words) (EndInOrder words → ⊥)
 ends names words text true split several is = (names, text, split, several, sym is)
 ends names words text false split several is =
-    λ e. true≢false (sym e.4 ∙ ap (λ t. is_ok (order_of t)) (sym (same_last names e.0 text e.1 (sym split ∙ e.2))) ∙ sym is)
+    λ e. true≢false (sym e.4 ∙ ap (λ t. is_ok (order_written t)) (sym (same_last names e.0 text e.1 (sym split ∙ e.2))) ∙ sym is)
 
 -- the same of words behind references
-pub ends_behind : (names words : List (Bor Text)) (text : Bor Text) (is : Bool) → words ≡ names ++ text ∷ [] → 0 < length names → is ≡ is_ok (order_of text.now)
+pub ends_behind : (names words : List (Bor Text)) (text : Bor Text) (is : Bool) → words ≡ names ++ text ∷ [] → 0 < length names → is ≡ is_ok (order_written text.now)
     → MatchBool is (EndInOrder (map (λ w. w.now) words)) (EndInOrder (map (λ w. w.now) words) → ⊥)
 ends_behind names words text is split several said =
     ends (map (λ w. w.now) names) (map (λ w. w.now) words) text.now is
@@ -99,3 +100,8 @@ from_any count (name ∷ names) = from_any (count + cond (bytes_eq name.now (cod
 pub counted_behind : (names : List (Bor Text)) → input_count (map (λ n. n.now) names) ≡ count_by (λ (n : Bor Text). bytes_eq n.now (codes "-")) names
 unfolding dash_from dash_behind_from
 counted_behind names = from_any 0 names
+
+-- where an order is read, the text writes one
+pub written_where_read : (number : Numbering) (written : Result (List SaidPair) ℕ) → is_ok (order_said number written) ≡ true → is_ok written ≡ true
+written_where_read number (Ok pairs) is = refl
+written_where_read number (Err at) is = is

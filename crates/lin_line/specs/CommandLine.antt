@@ -10,11 +10,12 @@ use Rattle.clap.specs.declared.builder.value_parser.ValueParser.TheVariants.{Nam
 use Rattle.clap.specs.declared.error.Error.{Error}
 use Rattle.clap.specs.declared.error.kind.ErrorKind.{ErrorKind}
 use Rattle.clap.specs.declared.error.kind.ErrorKind.TheVariants.{ArgumentConflict, MissingRequiredArgument, OutOfMemory, ValueValidation}
-use Rattle.lin_events.specs.declared.items.Item.{Item}
-use Rattle.lin_formats.specs.Items.{item_in}
+use Rattle.lin_formats.specs.Items.{item_written}
 use Rattle.lin_formats.specs.Kinds.{kind_named, kind_words}
-use Rattle.lin_formats.specs.Orders.{order_of}
+use Rattle.lin_formats.specs.Orders.{order_written}
 use Rattle.lin_formats.specs.declared.settings.Settings.{Settings}
+use Rattle.lin_names.specs.Spelled.{seen}
+use Rattle.lin_names.specs.declared.said.Said.{Said}
 use Rattle.lin_line.specs.declared.misuse.NoLine.{NoLine}
 use Rattle.lin_line.specs.declared.misuse.NoLine.TheVariants.{NoOrder, TwoOrders, InputTwice, NoKey, Unsaid}
 use Rattle.lin_line.specs.declared.words.Format.{Format}
@@ -128,10 +129,10 @@ GivesText rows name text = first_of name rows ≡ text
 abbrev pub texts_of : Text → List Row → List Text
 texts_of name rows = unwrap_or (all_of name rows) []
 
--- the matches give no word for a key, or one that writes this key
-abbrev pub GivesKey : List Row → Option Item → Type 0
+-- the matches give no word for a key, or one that says this item
+abbrev pub GivesKey : List Row → Option Said → Type 0
 GivesKey rows None = GivesText rows (codes "key") None
-GivesKey rows (Some key) = (text : Text) × GivesText rows (codes "key") (Some text) × (item_in text ≡ Some key)
+GivesKey rows (Some key) = (text : Text) × GivesText rows (codes "key") (Some text) × (item_written text ≡ Some (seen key))
 
 -- the matches name this way of printing
 abbrev pub GivesFormat : List Row → Format → Type 0
@@ -147,7 +148,7 @@ names_input_twice rows = nat_lt 1 (input_count (texts_of (codes "file") rows) + 
 
 -- the words are one or more, and then the text of an order
 abbrev pub EndInOrder : List Text → Type 0
-EndInOrder words = (names : List Text) × (text : Text) × (words ≡ names ++ text ∷ []) × (0 < length names) × (is_ok (order_of text) ≡ true)
+EndInOrder words = (names : List Text) × (text : Text) × (words ≡ names ++ text ∷ []) × (0 < length names) × (is_ok (order_written text) ≡ true)
 
 -- The order and the names of files that words say: where an order file is named, each word names a file, and the last of several isn't the
 -- text of an order; else the last word is the order.
@@ -174,9 +175,9 @@ Says found (Verify settings order files) =
     × AreFiles found.1 (map (λ name. name.now) files.items) × HasSettings found.1 settings
 Says found (Edit settings file) = (found.0 ≡ codes "edit") × GivesText found.1 (codes "file") (option_map (λ name. name.now) file) × HasSettings found.1 settings
 
--- the matches give a word for a key that writes none
+-- the matches give a word for a key that says no item
 abbrev pub LacksKey : List Row → Type 0
-LacksKey rows = (text : Text) × GivesText rows (codes "key") (Some text) × (item_in text ≡ None)
+LacksKey rows = (text : Text) × GivesText rows (codes "key") (Some text) × (item_written text ≡ None)
 
 -- Why a command and its matches say no line: `verify` has neither an order nor an order file, or both; standard input is named twice; or the
 -- word for a key is no item.

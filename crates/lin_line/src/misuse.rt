@@ -39,7 +39,8 @@ impl NoLine {
             NoLine::NoOrder => "neither ORDER nor --order-file is given",
             NoLine::TwoOrders => "ORDER and --order-file are both given",
             NoLine::InputTwice => "standard input, -, is named more than once",
-            NoLine::NoKey => "KEY is neither an integer of 64 bits nor true or false",
+            NoLine::NoKey =>
+                "KEY is neither an integer of 64 bits nor true, false, a keyword or a string",
             NoLine::Unsaid => "out of memory",
         }
     }

@@ -1,7 +1,7 @@
 //! What a command and its arguments say.
 ghost use Rattle.std.specs.Prelude.{◌≡◌, ◌<◌, ◌≤◌, ◌^◌, ◌⊎◌, ◌++◌, ◌∷◌, [], ℕ, false, codes, is_ok, length, map, option_and_then, option_map, IfErr, IfNone, IfOk, IfSome, MatchBool};
 ghost use Rattle.clap.specs.Words.{first_of, found_of, rows_of};
-ghost use Rattle.lin_formats.specs.Orders.{order_of};
+ghost use Rattle.lin_formats.specs.Orders.{order_written};
 ghost use Rattle.lin_line.specs.declared.words.Line.TheVariants as LineOf;
 ghost use Rattle.lin_line.specs.declared.words.Order.TheVariants as OrderOf;
 ghost use Rattle.lin_line.specs.CommandLine.{is_given as given, EndInOrder, GivesKey, HasSettings, IsUnsaid, LacksKey, LacksSettings, SpellsBudget, Says, texts_of};
@@ -10,8 +10,8 @@ ghost use Rattle.lin_line.specs.CommandLine as said;
 use crate::misuse::NoLine;
 use crate::words::{Format, Line, Order};
 use clap::ArgMatches;
-use lin_events::Item;
 use lin_formats::{OrderFault, Settings, item_in, kind_named, read_order};
+use lin_names::{Names, Said, names_grow};
 use std::alloc::{AllocError, Global};
 
 /// The greatest budget.
@@ -91,7 +91,7 @@ fn settings_of<'a>(matches: &ArgMatches<'a>) -> Option<Settings>
 }
 
 /// The key that is asked about, if one is.
-fn key_of<'a>(matches: &ArgMatches<'a>) -> Result<Option<Item>, NoLine>
+fn key_of<'a>(matches: &ArgMatches<'a>) -> Result<Option<Said<'a>>, NoLine>
     ensures given { IfOk result (GivesKey (rows_of (found_of matches.now))) }
     ensures none { IfErr result (λ why. (why ≡ NoLine.NoKey) × LacksKey (rows_of (found_of matches.now))) }
 {
@@ -148,10 +148,12 @@ fn names_input_twice<'a>(matches: &ArgMatches<'a>) -> bool
 
 /// Whether a word is the text of an order.
 fn is_order(alloc: Global, word: &str) -> Result<bool, NoLine>
-    ensures is { IfOk result (λ is. is ≡ is_ok (order_of word.now)) }
+    ensures is { IfOk result (λ is. is ≡ is_ok (order_written word.now)) }
     ensures memory { IfErr result (λ why. why ≡ NoLine.Unsaid) }
 {
-    match read_order(alloc, word.as_bytes()) {
+    names_grow();
+    let mut names = Names::new(alloc);
+    match read_order(alloc, word.as_bytes(), &mut names) {
         Ok(_) => Ok(true),
         Err(OrderFault::BadPair { .. }) => Ok(false),
         Err(OrderFault::OutOfMemory) => Err(NoLine::Unsaid),

@@ -1,7 +1,7 @@
 //! What a command line says.
 
-use lin_events::Item;
 use lin_formats::Settings;
+use lin_names::Said;
 
 /// How an answer is printed.
 #[derive(Clone, Copy, Debug, PartialEq, Eq)]
@@ -38,7 +38,7 @@ pub enum Line<'a> {
         /// The kind of the objects, how the file is read, and the budget.
         settings: Settings,
         /// The object that is asked about, if not the whole.
-        key: Option<Item>,
+        key: Option<Said<'a>>,
         /// Whether a yes ends with a legal order.
         with_order: bool,
         /// How the explanation is printed.
@@ -51,7 +51,7 @@ pub enum Line<'a> {
         /// The kind of the objects, how the file is read, and the budget.
         settings: Settings,
         /// The object that is drawn, if not the whole.
-        key: Option<Item>,
+        key: Option<Said<'a>>,
         /// The file's name.
         file: &'a str,
     },

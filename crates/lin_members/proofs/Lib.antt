@@ -19,4 +19,3 @@ pub mod Aboves
 pub mod LastingWith
 pub mod SoundingWith
 pub mod Chaining
-mod Calls

@@ -1,4 +1,5 @@
 mod Ordered
+mod Comparing
 mod Finding
 mod Permuting
 mod Zips

@@ -6,8 +6,8 @@ use Rattle.std.specs.List.Sorted.{IsPermutation}
 use Rattle.std.proofs.lemmas.List.{get_or-map, length-map}
 use Rattle.std.proofs.lemmas.List.Elements.{All-map}
 use Rattle.std.proofs.lemmas.List.Sorted.{All-permutation, Contains-permutation, IsPermutation-map}
-use Rattle.lin_events.specs.declared.items.Item.{Item}
 use Rattle.lin_lists.specs.lemmas.Taken.{element_at}
+use Rattle.lin_names.specs.Spelled.{Spelled}
 use Rattle.lin_orders.specs.declared.placed.Placed.{Placed}
 use Rattle.lin_possible.specs.After.{IsWay}
 use Rattle.lin_possible.specs.Possible.{AreShown}
@@ -44,10 +44,10 @@ words_at xs ys same k d e within =
     sym (get_or-map words_of xs k d [] within) ∙ ap (λ l. get_or l k []) same ∙ get_or-map words_of ys k e [] (omega arith)
 
 -- found in another order, told in the same
-pub told_in_order : {T : Type 0} (shows : List Placed → T → Type 0) (tells : ℕ → List Placed → Type 0) (rank : T → ℕ × List Item) (words : T → List ℕ) (found : List (T × ℕ)) (told sorted : List Told)
-    → AreShown shows tells found → AllZip (IsTold rank words) found told → IsPermutation told sorted → IsRisingBy (λ t. rank_in t.rank) sorted → AreTold shows tells rank words sorted
-told_in_order {T} shows tells rank words found told sorted shown zip perm rising =
-    let other = zip_permuted (IsTold rank words) found told sorted zip perm in
+pub told_in_order : (names : List (List ℕ)) {T : Type 0} (shows : List Placed → T → Type 0) (tells : ℕ → List Placed → Type 0) (rank : T → ℕ × List Spelled) (words : T → List ℕ) (found : List (T × ℕ)) (told sorted : List Told)
+    → AreShown shows tells found → AllZip (IsTold names rank words) found told → IsPermutation told sorted → IsRisingBy (λ t. rank_in names t.rank) sorted → AreTold names shows tells rank words sorted
+told_in_order names {T} shows tells rank words found told sorted shown zip perm rising =
+    let other = zip_permuted (IsTold names rank words) found told sorted zip perm in
     let ws : List (T × ℕ) = other.0 in
     record {
       found = ws;
@@ -60,7 +60,7 @@ told_in_order {T} shows tells rank words found told sorted shown zip perm rising
       rising = rising;
     }
 
-module _ {T : Type 0} (shows : List Placed → T → Type 0) (tells : ℕ → List Placed → Type 0) (rank : T → ℕ × List Item) (words : T → List ℕ) (told : List Told) (are : AreTold shows tells rank words told) where
+module _ (names : List (List ℕ)) {T : Type 0} (shows : List Placed → T → Type 0) (tells : ℕ → List Placed → Type 0) (rank : T → ℕ × List Spelled) (words : T → List ℕ) (told : List Told) (are : AreTold names shows tells rank words told) where
   abbrev what_of : T × ℕ → T
   what_of e = e.0
 
@@ -69,23 +69,23 @@ module _ {T : Type 0} (shows : List Placed → T → Type 0) (tells : ℕ → Li
   all_told = map what_of are.found
 
   pub all_long : length told ≡ length all_told
-  all_long = sym (zip_length (IsTold rank words) are.found told are.each) ∙ sym (length-map are.found what_of)
+  all_long = sym (zip_length (IsTold names rank words) are.found told are.each) ∙ sym (length-map are.found what_of)
 
   reads : (k : ℕ) (d : T) → k < length told → get_or all_told k d ≡ (get_or are.found k (d, 0)).0
-  reads k d within = let long = zip_length (IsTold rank words) are.found told are.each in get_or-map what_of are.found k (d, 0) d (omega arith)
+  reads k d within = let long = zip_length (IsTold names rank words) are.found told are.each in get_or-map what_of are.found k (d, 0) d (omega arith)
 
   rising_all : IsRisingBy rank all_told
   rising_all k d from before =
       let long = all_long in
       let some = element_at told k (omega arith) in
       let t : Told = some.0 in
-      let many = zip_length (IsTold rank words) are.found told are.each in
-      let at : (i : ℕ) → i < length told → rank_in (get_or told i t).rank ≡ rank (get_or all_told i d) =
-      λ i within. (zip_at (IsTold rank words) are.found told are.each i (d, 0) t (omega arith)).ranked ∙ ap rank (sym (reads i d within)) in
+      let many = zip_length (IsTold names rank words) are.found told are.each in
+      let at : (i : ℕ) → i < length told → rank_in names (get_or told i t).rank ≡ rank (get_or all_told i d) =
+      λ i within. (zip_at (IsTold names rank words) are.found told are.each i (d, 0) t (omega arith)).ranked ∙ ap rank (sym (reads i d within)) in
       let one = at (k + 1) (omega arith) in
       let other = at k (omega arith) in
       subst (λ r. is_lt (rank_cmp r (rank (get_or all_told k d))) ≡ false) one
-      (subst (λ r. is_lt (rank_cmp (rank_in (get_or told (k + 1) t).rank) r) ≡ false) other (are.rising k t from (omega arith)))
+      (subst (λ r. is_lt (rank_cmp (rank_in names (get_or told (k + 1) t).rank) r) ≡ false) other (are.rising k t from (omega arith)))
 
   pub all_are : AreAll shows rank all_told
   all_are = record {
@@ -97,7 +97,7 @@ module _ {T : Type 0} (shows : List Placed → T → Type 0) (tells : ℕ → Li
     rising = rising_all;
   }
 
-  words_zip : (found : List (T × ℕ)) (ts : List Told) → AllZip (IsTold rank words) found ts → map words (map what_of found) ≡ map words_of ts
+  words_zip : (found : List (T × ℕ)) (ts : List Told) → AllZip (IsTold names rank words) found ts → map words (map what_of found) ≡ map words_of ts
   words_zip [] [] zip = refl
   words_zip [] (t ∷ ts) zip = absurd zip
   words_zip (e ∷ es) [] zip = absurd zip
@@ -110,14 +110,14 @@ module _ {T : Type 0} (shows : List Placed → T → Type 0) (tells : ℕ → Li
   all_words = words_zip are.found told are.each
 
 -- the lines tell of what was found
-module _ {T : Type 0} (shows : List Placed → T → Type 0) (rank : T → ℕ × List Item) (words : T → List ℕ) (by : Leading) where
+module _ {T : Type 0} (shows : List Placed → T → Type 0) (rank : T → ℕ × List Spelled) (words : T → List ℕ) (by : Leading) where
   abbrev IsShown : T × ℕ → Type 0
   IsShown e = (order : List Placed) × IsWay by.possible.now e.1 order × shows order e.0
 
   abbrev IsLine : T → Entry → Type 0
-  IsLine what entry = IsEntry shows words (leading_to by.call) by.events.now what entry
+  IsLine what entry = IsEntry by.names.now shows words (leading_to by.call) by.events.now what entry
 
-  line_of : (e : T × ℕ) (t : Told) (entry : Entry) → IsShown e → IsTold rank words e t → Leads by t entry → IsLine e.0 entry
+  line_of : (e : T × ℕ) (t : Told) (entry : Entry) → IsShown e → IsTold by.names.now rank words e t → Leads by t entry → IsLine e.0 entry
   line_of e t entry s is leads = record {
     told = leads.same ∙ is.worded;
     order = s.0;
@@ -125,7 +125,7 @@ module _ {T : Type 0} (shows : List Placed → T → Type 0) (rank : T → ℕ �
     after = leads.after s.0 (subst (λ w. IsWay by.possible.now w s.0) (sym is.way) s.1);
   }
 
-  pub lines_of : (most : ℕ) (found : List (T × ℕ)) (told : List Told) (entries : List Entry) → All IsShown found → AllZip (IsTold rank words) found told → AllZip (Leads by) (take most told) entries
+  pub lines_of : (most : ℕ) (found : List (T × ℕ)) (told : List Told) (entries : List Entry) → All IsShown found → AllZip (IsTold by.names.now rank words) found told → AllZip (Leads by) (take most told) entries
       → AllZip IsLine (take most (map (λ (e : T × ℕ). e.0) found)) entries
   lines_of zero found told [] s zip leads = tt
   lines_of zero found told (entry ∷ entries) s zip leads = absurd leads
@@ -138,10 +138,10 @@ module _ {T : Type 0} (shows : List Placed → T → Type 0) (rank : T → ℕ �
       (line_of e t entry (s 0 e (omega arith)) zip.0 leads.0, lines_of n es ts entries (λ k d within. s (suc k) d (omega arith)) zip.1 leads.1)
 
 -- of all of them the first are listed
-pub listing_from : {T : Type 0} (shows : List Placed → T → Type 0) (rank : T → ℕ × List Item) (words : T → List ℕ) (by : Leading) (told : List Told) (are : AreTold shows (IsWay by.possible.now) rank words told) (most : ℕ) (listed : Listed)
+pub listing_from : {T : Type 0} (shows : List Placed → T → Type 0) (rank : T → ℕ × List Spelled) (words : T → List ℕ) (by : Leading) (told : List Told) (are : AreTold by.names.now shows (IsWay by.possible.now) rank words told) (most : ℕ) (listed : Listed)
     → listed.count ≡ length told → AllZip (Leads by) (take most told) listed.entries.items
-    → IsListing (IsEntry shows words (leading_to by.call) by.events.now) most (all_told shows (IsWay by.possible.now) rank words told are) listed
+    → IsListing (IsEntry by.names.now shows words (leading_to by.call) by.events.now) most (all_told by.names.now shows (IsWay by.possible.now) rank words told are) listed
 listing_from shows rank words by told are most listed counted leads = record {
-  counted = counted ∙ all_long shows (IsWay by.possible.now) rank words told are;
+  counted = counted ∙ all_long by.names.now shows (IsWay by.possible.now) rank words told are;
   entries = lines_of shows rank words by most are.found told listed.entries.items are.shown.sound are.each leads;
 }

@@ -4,6 +4,7 @@ ghost use Rattle.std.specs.List.{join_by};
 ghost use Rattle.lin_outcomes.specs.Words.{ahead_of as ahead_in, after_text, leading_to, placed_text};
 
 use lin_events::{Body, Event};
+use lin_names::Names;
 use lin_orders::Placed;
 use lin_words::put_operation;
 use std::alloc::AllocError;
@@ -36,8 +37,13 @@ pub(crate) fn leading(order: &[Placed], call: Option<usize>) -> &[Placed]
 }
 
 /// Puts the words of an operation last, with the reply that an order gives it.
-fn put_placed(text: &mut Vec<u8>, events: &[Event], placed: &Placed) -> Result<(), AllocError>
-    ensures { OnOk result (text.new.items ≡ text.old.items ++ placed_text events.now placed.now) }
+fn put_placed(
+    text: &mut Vec<u8>,
+    names: &Names,
+    events: &[Event],
+    placed: &Placed,
+) -> Result<(), AllocError>
+    ensures { OnOk result (text.new.items ≡ text.old.items ++ placed_text names.now events.now placed.now) }
 {
     let Some(event) = events.get(placed.at) else {
         return Ok(());
@@ -45,20 +51,25 @@ fn put_placed(text: &mut Vec<u8>, events: &[Event], placed: &Placed) -> Result<(
     let Body::Invoke(call) = &event.body else {
         return Ok(());
     };
-    put_operation(text, event.process, *call, Some(&placed.reply))
+    put_operation(text, names, event.process, *call, Some(&placed.reply))
 }
 
 /// Puts the words of the operations last, with commas between them.
-fn put_all(text: &mut Vec<u8>, events: &[Event], order: &[Placed]) -> Result<(), AllocError>
-    ensures { OnOk result (text.new.items ≡ text.old.items ++ join_by (placed_text events.now) (codes ", ") order.now) }
+fn put_all(
+    text: &mut Vec<u8>,
+    names: &Names,
+    events: &[Event],
+    order: &[Placed],
+) -> Result<(), AllocError>
+    ensures { OnOk result (text.new.items ≡ text.old.items ++ join_by (placed_text names.now events.now) (codes ", ") order.now) }
 {
     let Some((first, others)) = order.split_first() else {
         return Ok(());
     };
-    put_placed(text, events, first)?;
+    put_placed(text, names, events, first)?;
     for placed in others {
         text.extend_from_slice(b", ")?;
-        put_placed(text, events, placed)?;
+        put_placed(text, names, events, placed)?;
     }
     Ok(())
 }
@@ -66,17 +77,18 @@ fn put_all(text: &mut Vec<u8>, events: &[Event], order: &[Placed]) -> Result<(),
 /// Puts the words of the last three operations last.
 pub(crate) fn put_after(
     text: &mut Vec<u8>,
+    names: &Names,
     events: &[Event],
     order: &[Placed],
 ) -> Result<(), AllocError>
-    ensures { OnOk result (text.new.items ≡ text.old.items ++ after_text events.now order.now) }
+    ensures { OnOk result (text.new.items ≡ text.old.items ++ after_text names.now events.now order.now) }
 {
     if order.is_empty() {
         return text.extend_from_slice(b"nothing");
     }
     if order.len() <= NAMED {
-        return put_all(text, events, order);
+        return put_all(text, names, events, order);
     }
     text.extend_from_slice(b"..., ")?;
-    put_all(text, events, &order[order.len() - NAMED..])
+    put_all(text, names, events, &order[order.len() - NAMED..])
 }

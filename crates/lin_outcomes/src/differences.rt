@@ -8,6 +8,7 @@ ghost use Rattle.lin_outcomes.specs.Ranks.{lacked};
 ghost use Rattle.lin_outcomes.specs.Words.{difference_text};
 
 use lin_events::{IntSet, Item};
+use lin_names::Names;
 use lin_words::put_items;
 use std::alloc::{AllocError, Global};
 
@@ -59,41 +60,46 @@ impl Difference {
     }
 
     /// Puts the words last.
-    pub(crate) fn put(&self, words: &mut Vec<u8>) -> Result<(), AllocError>
-        ensures { OnOk result (words.new.items ≡ words.old.items ++ difference_text self.now.more.items self.now.lacking.items) }
+    pub(crate) fn put(&self, words: &mut Vec<u8>, names: &Names) -> Result<(), AllocError>
+        ensures { OnOk result (words.new.items ≡ words.old.items ++ difference_text names.now self.now.more.items self.now.lacking.items) }
     {
-        put_difference(words, self.more.as_slice(), self.lacking.as_slice())
+        put_difference(words, names, self.more.as_slice(), self.lacking.as_slice())
     }
 }
 
 /// Puts last what a set has besides.
-fn put_with(words: &mut Vec<u8>, more: &[Item]) -> Result<(), AllocError>
-    ensures { OnOk result (words.new.items ≡ words.old.items ++ (codes "with " ++ items_text more.now)) }
+fn put_with(words: &mut Vec<u8>, names: &Names, more: &[Item]) -> Result<(), AllocError>
+    ensures { OnOk result (words.new.items ≡ words.old.items ++ (codes "with " ++ items_text names.now more.now)) }
 {
     words.extend_from_slice(b"with ")?;
-    put_items(words, more)
+    put_items(words, names, more)
 }
 
 /// Puts last what a set lacks.
-fn put_without(words: &mut Vec<u8>, lacking: &[Item]) -> Result<(), AllocError>
-    ensures { OnOk result (words.new.items ≡ words.old.items ++ (codes "without " ++ items_text lacking.now)) }
+fn put_without(words: &mut Vec<u8>, names: &Names, lacking: &[Item]) -> Result<(), AllocError>
+    ensures { OnOk result (words.new.items ≡ words.old.items ++ (codes "without " ++ items_text names.now lacking.now)) }
 {
     words.extend_from_slice(b"without ")?;
-    put_items(words, lacking)
+    put_items(words, names, lacking)
 }
 
 /// Puts last what a set has besides, and what it lacks.
-fn put_difference(words: &mut Vec<u8>, more: &[Item], lacking: &[Item]) -> Result<(), AllocError>
-    ensures { OnOk result (words.new.items ≡ words.old.items ++ difference_text more.now lacking.now) }
+fn put_difference(
+    words: &mut Vec<u8>,
+    names: &Names,
+    more: &[Item],
+    lacking: &[Item],
+) -> Result<(), AllocError>
+    ensures { OnOk result (words.new.items ≡ words.old.items ++ difference_text names.now more.now lacking.now) }
 {
     match (more, lacking) {
         ([], []) => Ok(()),
-        ([], _) => put_without(words, lacking),
-        (_, []) => put_with(words, more),
+        ([], _) => put_without(words, names, lacking),
+        (_, []) => put_with(words, names, more),
         _ => {
-            put_with(words, more)?;
+            put_with(words, names, more)?;
             words.push(b' ')?;
-            put_without(words, lacking)
+            put_without(words, names, lacking)
         }
     }
 }

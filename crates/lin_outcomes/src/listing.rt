@@ -6,6 +6,7 @@ ghost use Rattle.lin_outcomes.specs.inner.Telling.{Leads};
 use crate::after::{leading, put_after};
 use crate::told::Told;
 use lin_events::{Event, OutOfMemory};
+use lin_names::Names;
 use lin_possible::Possible;
 use lin_words::Entry;
 use std::alloc::Global;
@@ -20,6 +21,7 @@ pub struct Listed {
 /// What is needed to tell which operations lead to something.
 #[derive(Clone, Copy)]
 pub(crate) struct Leading<'a> {
+    pub(crate) names: &'a Names,
     pub(crate) events: &'a [Event],
     pub(crate) possible: &'a Possible,
     /// Where the operation was invoked up to which an order is told; without one, all of it is.
@@ -34,6 +36,7 @@ fn entry_of(alloc: Global, leading_by: &Leading, told: &Told) -> Result<Entry, O
     let mut after = Vec::new(alloc);
     put_after(
         &mut after,
+        leading_by.names,
         leading_by.events,
         leading(order.as_slice(), leading_by.call),
     )?;

@@ -9,6 +9,7 @@ ghost use Rattle.lin_outcomes.specs.Outcomes.{AreOutcomes, HasNotCrashed, failin
 use crate::listing::{Leading, Listed, listed_of};
 use crate::told::{are_same_words, replies_told, states_told};
 use lin_events::{Event, OutOfMemory, Reply};
+use lin_names::Names;
 use lin_objects::Kind;
 use lin_possible::Possible;
 use std::alloc::Global;
@@ -19,6 +20,8 @@ const LISTED: usize = 3;
 /// The events before the end of a failing operation, and that operation.
 #[derive(Clone, Copy)]
 pub struct Before<'a> {
+    /// The spellings of words.
+    pub names: &'a Names,
     pub kind: Kind,
     pub events: &'a [Event],
     /// Where the failing operation was invoked.
@@ -57,12 +60,19 @@ pub fn outcomes_of(
     requires after { IsAfter possible.now before.now.kind before.now.events.now }
     requires well_formed { (functions : ItemOf → NameOf → Bool) × IsWellFormed functions before.now.events.now }
     requires running { HasNotCrashed before.now.events.now before.now.process }
-    ensures { IfOk result (λ outcomes. AreOutcomes (failing_of before.now) outcomes) }
+    ensures { IfOk result (λ outcomes. AreOutcomes before.now.names.now (failing_of before.now) outcomes) }
 {
-    let replies = replies_told(alloc, possible, before.process, before.recorded)?;
-    let states = states_told(alloc, possible)?;
+    let replies = replies_told(
+        alloc,
+        before.names,
+        possible,
+        before.process,
+        before.recorded,
+    )?;
+    let states = states_told(alloc, before.names, possible)?;
     let is_just_that = are_same_words(replies.as_slice(), states.as_slice());
     let mut leading = Leading {
+        names: before.names,
         events: before.events,
         possible,
         call: Some(before.call),

@@ -15,6 +15,7 @@ use crate::outcomes::{Before, Outcomes};
 use crate::told::{Told, states_told};
 use lin_events::{OutOfMemory, Reply};
 use lin_formats::put_number;
+use lin_names::Names;
 use lin_objects::Kind;
 use lin_possible::Possible;
 use lin_words::put_list;
@@ -219,16 +220,17 @@ fn put_being_one(text: &mut Vec<u8>, kind: Kind, states: &[Told]) -> Result<(), 
 pub fn put_was(
     alloc: Global,
     text: &mut Vec<u8>,
+    names: &Names,
     kind: Kind,
     possible: Option<&Possible>,
 ) -> Result<(), OutOfMemory>
     ensures { OnOk result (MatchOption possible.entry (text.new.items ≡ text.old.items) (λ p. (functions : ItemOf → NameOf → Bool) (h : List EventOf) → IsWellFormed functions h → IsAfter p.now kind h
-        → (states : List StateOf) × AreStates kind h states × (text.new.items ≡ text.old.items ++ was_text kind (map state_text states)))) }
+        → (states : List StateOf) × AreStates names.now kind h states × (text.new.items ≡ text.old.items ++ was_text kind (map (state_text names.now) states)))) }
 {
     let Some(possible) = possible else {
         return Ok(());
     };
-    let states = states_told(alloc, possible)?;
+    let states = states_told(alloc, names, possible)?;
     put_being_one(text, kind, states.as_slice())?;
     Ok(())
 }

@@ -17,6 +17,7 @@ ghost use Rattle.lin_outcomes.specs.inner.Telling.{AreTold, IsTold, rank_in};
 use crate::differences::Difference;
 use crate::ranks::{Rank, recorded_members, reply_rank, state_rank};
 use lin_events::{IntSet, OutOfMemory, Reply};
+use lin_names::{Names, spelled_is_total};
 use lin_objects::State;
 use lin_possible::Possible;
 use lin_words::{put_reply, put_state};
@@ -32,12 +33,12 @@ pub(crate) struct Told {
 }
 
 /// A state as it is told.
-fn told_state(alloc: Global, found: &(State, usize)) -> Result<Told, AllocError>
-    ensures { IfOk result (λ told. IsTold state_rank_of state_text found.now told) }
+fn told_state(alloc: Global, names: &Names, found: &(State, usize)) -> Result<Told, OutOfMemory>
+    ensures { IfOk result (λ told. IsTold names.now (state_rank_of names.now) (state_text names.now) found.now told) }
 {
-    let rank = state_rank(alloc, &found.0)?;
+    let rank = state_rank(alloc, names, &found.0)?;
     let mut words = Vec::new(alloc);
-    put_state(&mut words, &found.0)?;
+    put_state(&mut words, names, &found.0)?;
     Ok(Told {
         rank,
         words,
@@ -48,18 +49,19 @@ fn told_state(alloc: Global, found: &(State, usize)) -> Result<Told, AllocError>
 /// The words of a reply. Members are told by how they differ from those that were recorded, if members were.
 fn reply_words(
     alloc: Global,
+    names: &Names,
     recorded: Option<&IntSet>,
     reply: &Reply,
 ) -> Result<Vec<u8>, AllocError>
-    ensures { IfOk result (λ words. words.items ≡ reply_words_of (option_map (λ m. m.now) recorded.entry) reply.now) }
+    ensures { IfOk result (λ words. words.items ≡ reply_words_of names.now (option_map (λ m. m.now) recorded.entry) reply.now) }
 {
     let mut words = Vec::new(alloc);
     match (recorded, reply) {
         (Some(recorded), Reply::Members(members)) => {
             let difference = Difference::of(alloc, members, recorded)?;
-            difference.put(&mut words)?;
+            difference.put(&mut words, names)?;
         }
-        _ => put_reply(&mut words, reply)?,
+        _ => put_reply(&mut words, names, reply)?,
     }
     Ok(words)
 }
@@ -67,13 +69,14 @@ fn reply_words(
 /// A reply as it is told.
 fn told_reply(
     alloc: Global,
+    names: &Names,
     recorded: Option<&IntSet>,
     found: &(Reply, usize),
-) -> Result<Told, AllocError>
-    ensures { IfOk result (λ told. IsTold (reply_rank_of (option_map (λ m. m.now) recorded.entry)) (reply_words_of (option_map (λ m. m.now) recorded.entry)) found.now told) }
+) -> Result<Told, OutOfMemory>
+    ensures { IfOk result (λ told. IsTold names.now (reply_rank_of names.now (option_map (λ m. m.now) recorded.entry)) (reply_words_of names.now (option_map (λ m. m.now) recorded.entry)) found.now told) }
 {
-    let rank = reply_rank(alloc, recorded, &found.0)?;
-    let words = reply_words(alloc, recorded, &found.0)?;
+    let rank = reply_rank(alloc, names, recorded, &found.0)?;
+    let words = reply_words(alloc, names, recorded, &found.0)?;
     Ok(Told {
         rank,
         words,
@@ -82,12 +85,16 @@ fn told_reply(
 }
 
 /// The states as they are told.
-fn all_states(alloc: Global, found: &[(State, usize)]) -> Result<Vec<Told>, AllocError>
-    ensures { IfOk result (λ told. AllZip (IsTold state_rank_of state_text) found.now told.items) }
+fn all_states(
+    alloc: Global,
+    names: &Names,
+    found: &[(State, usize)],
+) -> Result<Vec<Told>, OutOfMemory>
+    ensures { IfOk result (λ told. AllZip (IsTold names.now (state_rank_of names.now) (state_text names.now)) found.now told.items) }
 {
     let mut told = Vec::new(alloc);
     for entry in found {
-        told.push(told_state(alloc, entry)?)?;
+        told.push(told_state(alloc, names, entry)?)?;
     }
     Ok(told)
 }
@@ -95,49 +102,56 @@ fn all_states(alloc: Global, found: &[(State, usize)]) -> Result<Vec<Told>, Allo
 /// The replies as they are told.
 fn all_replies(
     alloc: Global,
+    names: &Names,
     recorded: Option<&IntSet>,
     found: &[(Reply, usize)],
-) -> Result<Vec<Told>, AllocError>
-    ensures { IfOk result (λ told. AllZip (IsTold (reply_rank_of (option_map (λ m. m.now) recorded.entry)) (reply_words_of (option_map (λ m. m.now) recorded.entry))) found.now told.items) }
+) -> Result<Vec<Told>, OutOfMemory>
+    ensures { IfOk result (λ told. AllZip (IsTold names.now (reply_rank_of names.now (option_map (λ m. m.now) recorded.entry)) (reply_words_of names.now (option_map (λ m. m.now) recorded.entry))) found.now told.items) }
 {
     let mut told = Vec::new(alloc);
     for entry in found {
-        told.push(told_reply(alloc, recorded, entry)?)?;
+        told.push(told_reply(alloc, names, recorded, entry)?)?;
     }
     Ok(told)
 }
 
 /// The same, rising.
-fn in_order(mut told: Vec<Told>) -> Vec<Told>
+fn in_order(names: &Names, mut told: Vec<Told>) -> Vec<Told>
     ensures permutation { IsPermutation told.items result.items }
-    ensures rising { IsRisingBy (λ t. rank_in t.rank) result.items }
+    ensures rising { IsRisingBy (λ t. rank_in names.now t.rank) result.items }
 {
-    told.sort_unstable_by(|one, other| one.rank.compare(&other.rank));
+    spelled_is_total();
+    told.sort_unstable_by(|one, other| one.rank.compare(names, &other.rank));
     told
 }
 
 /// What the object could be, rising.
-pub(crate) fn states_told(alloc: Global, possible: &Possible) -> Result<Vec<Told>, OutOfMemory>
+pub(crate) fn states_told(
+    alloc: Global,
+    names: &Names,
+    possible: &Possible,
+) -> Result<Vec<Told>, OutOfMemory>
     ensures { IfOk result (λ told. (functions : ItemOf → NameOf → Bool) (kind : KindOf) (h : List EventOf) → IsWellFormed functions h → IsAfter possible.now kind h
-        → AreTold (LeavesIn kind h) (IsWay possible.now) state_rank_of state_text told.items) }
+        → AreTold names.now (LeavesIn kind h) (IsWay possible.now) (state_rank_of names.now) (state_text names.now) told.items) }
 {
     let found = possible.states(alloc)?;
-    Ok(in_order(all_states(alloc, found.as_slice())?))
+    Ok(in_order(names, all_states(alloc, names, found.as_slice())?))
 }
 
 /// What the open operation of the process, of which none crashed, could have returned, rising.
 pub(crate) fn replies_told(
     alloc: Global,
+    names: &Names,
     possible: &Possible,
     process: u64,
     recorded: Option<&Reply>,
 ) -> Result<Vec<Told>, OutOfMemory>
     ensures { IfOk result (λ told. (functions : ItemOf → NameOf → Bool) (kind : KindOf) (h : List EventOf) → IsWellFormed functions h → IsAfter possible.now kind h → HasNotCrashed h process
-        → AreTold (Answers kind h process) (IsWay possible.now) (reply_rank_of (members_in (option_map (λ r. r.now) recorded.entry))) (reply_words_of (members_in (option_map (λ r. r.now) recorded.entry))) told.items) }
+        → AreTold names.now (Answers kind h process) (IsWay possible.now) (reply_rank_of names.now (members_in (option_map (λ r. r.now) recorded.entry))) (reply_words_of names.now (members_in (option_map (λ r. r.now) recorded.entry))) told.items) }
 {
     let found = possible.replies(alloc, process)?;
     let members = recorded_members(recorded);
-    Ok(in_order(all_replies(alloc, members, found.as_slice())?))
+    Ok(in_order(names, all_replies(alloc, names, members, found.as_slice())?))
 }
 
 /// Whether both are told by the same words.

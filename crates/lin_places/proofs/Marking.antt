@@ -6,6 +6,7 @@ use Rattle.lin_edn.specs.Value.{Value, no_values, value, values_of}
 use Rattle.std.proofs.lemmas.Bool.{false≢true}
 use Rattle.lin_edn.specs.View.{view}
 use Rattle.lin_edn.specs.declared.Edn.{Edn}
+use Rattle.lin_history.specs.Reading.{Reading, IsReading}
 use Rattle.lin_history.specs.Stream.{Told, before, told_by, told, Gives}
 use Rattle.lin_history.specs.Table.{event}
 use Rattle.lin_events.specs.declared.events.Event.{Event}
@@ -14,7 +15,8 @@ use Rattle.lin_places.specs.Places.{place_at, row_of, Begins, alone, inside, Are
 use Rattle.lin_places.specs.inner.Marks.{IsPutBehind, IsMarkedOne, IsPut, StandsAt, Follow, another, IsAmong, IsStanding, IsSound, IsUnsound, AreMarked}
 use Rattle.lin_places.specs.declared.place.Place.{Place}
 use Rattle.lin_places.specs.declared.place.Cursor.{Cursor}
-use Rattle.lin_events.specs.declared.lists.OutOfMemory.{OutOfMemory}
+use Rattle.lin_names.specs.Names.{Begins as BeginNames}
+use Rattle.lin_names.specs.lemmas.Begins.{agrees_before}
 use Rattle.lin_places.specs.declared.mark.Maps.{Maps}
 use Rattle.lin_places.specs.declared.mark.Maps.TheVariants as maps
 use Rattle.lin_places.proofs.Tails.{short_tail, tail_is}
@@ -29,26 +31,30 @@ put_again a b c h k = (h.0 ++ k.0, k.1 ∙ ap (λ l. l ++ k.0) h.1 ∙ append_as
 pub put_none : (a b : List Place) → b ≡ a → IsPutBehind a b
 put_none a b h = ([], h ∙ sym (append-nil a))
 
+-- what is read by more names is read by those before
+pub reading_before : (keyed : Bool) (old new : List (List ℕ)) (k : Reading) → BeginNames old new → IsReading keyed new k → IsReading keyed old k
+reading_before keyed old new k begun is = (is.0, agrees_before old new k.number begun is.1)
+
 pub put_of : (r : Result (Option Event) EventFault) (p : Place) (old new : List Place) → IsPut r p old new → IsPutBehind old new
 put_of (Ok (Some e)) p old new h = (p ∷ [], h)
 put_of (Ok None) p old new h = put_none old new h
 put_of (Err f) p old new h = absurd h
 
 -- a map that is sound, where it begins behind some events
-pub one_put : (keyed : Bool) (v : Value) (r : Result (Option Event) EventFault) (at : Place) (old new : List Place) → event keyed v ≡ r → IsPut r at old new →
-    (gs : List Event) × (told_by keyed (value v no_values) ≡ record { events = gs; ends = None }) × ((whole : List ℕ) (es : List Event) (q : ℕ) →
-    ArePlaces keyed whole es old → Begins keyed whole es q v → at ≡ place_at whole q → ArePlaces keyed whole (es ++ gs) new)
-one_put keyed v (Ok None) at old new is h = (
+pub one_put : (k : Reading) (v : Value) (r : Result (Option Event) EventFault) (at : Place) (old new : List Place) → event k v ≡ r → IsPut r at old new →
+    (gs : List Event) × (told_by k (value v no_values) ≡ record { events = gs; ends = None }) × ((whole : List ℕ) (es : List Event) (q : ℕ) →
+    ArePlaces k whole es old → Begins k whole es q v → at ≡ place_at whole q → ArePlaces k whole (es ++ gs) new)
+one_put k v (Ok None) at old new is h = (
   [],
   ap (λ r. before r (record { events = []; ends = None })) is,
-  λ whole es q places begins here. subst (λ l. ArePlaces keyed whole (es ++ []) l) (sym h) (subst (λ l. ArePlaces keyed whole l old) (sym (append-nil es)) places),
+  λ whole es q places begins here. subst (λ l. ArePlaces k whole (es ++ []) l) (sym h) (subst (λ l. ArePlaces k whole l old) (sym (append-nil es)) places),
 )
-one_put keyed v (Ok (Some e)) at old new is h = (
+one_put k v (Ok (Some e)) at old new is h = (
   e ∷ [],
   ap (λ r. before r (record { events = []; ends = None })) is,
-  λ whole es q places begins here. subst (λ l. ArePlaces keyed whole (es ++ e ∷ []) l) (ap (λ x. old ++ x ∷ []) (sym here) ∙ sym h) (one_more places begins is),
+  λ whole es q places begins here. subst (λ l. ArePlaces k whole (es ++ e ∷ []) l) (ap (λ x. old ++ x ∷ []) (sym here) ∙ sym h) (one_more places begins is),
 )
-one_put keyed v (Err f) at old new is h = absurd h
+one_put k v (Err f) at old new is h = absurd h
 
 with_blanks : {n p q r : ℕ} {s t u : List ℕ} {vs : List Value} → Row n p s vs q t → Blanks n q t r u → Row n p s vs r u
 with_blanks row no_blank = row
@@ -79,8 +85,8 @@ pub record Next (s : List ℕ) (at : ℕ) (before : List Value) (v : Value) (oth
   pub some : begun < used
   pub ends : used ≤ until
   pub among : IsAmong s used (before ++ v ∷ []) others until
-  pub begins : (keyed : Bool) (whole : List ℕ) (p : ℕ) (es fs : List Event) → s ≡ drop p whole → Gives keyed whole es p →
-      told_by keyed (values_of before) ≡ record { events = fs; ends = None } → Begins keyed whole (es ++ fs) (p + begun) v
+  pub begins : (k : Reading) (whole : List ℕ) (p : ℕ) (es fs : List Event) → s ≡ drop p whole → Gives k whole es p →
+      told_by k (values_of before) ≡ record { events = fs; ends = None } → Begins k whole (es ++ fs) (p + begun) v
 
 pub next_among : (s : List ℕ) (at : ℕ) (before : List Value) (v : Value) (others : List Value) (until : ℕ) → IsAmong s at before (v ∷ others) until → Next s at before v others until
 next_among s at before v others until h =
@@ -119,53 +125,53 @@ next_among s at before v others until h =
         short = omega arith;
         inside = h.inside;
       };
-      begins = λ keyed whole p es fs is gives sound. inside gives (subst (λ l. Open l h.levels (frame h.kind h.begun before ∷ h.st) f.begun (drop f.begun s)) is here) h.row h.are_tags sound stands;
+      begins = λ k whole p es fs is gives sound. inside gives (subst (λ l. Open l h.levels (frame h.kind h.begun before ∷ h.st) f.begun (drop f.begun s)) is here) h.row h.are_tags sound stands;
     }
 
 -- one more sound map
-pub sound_next : (keyed : Bool) (text : List ℕ) (at until : ℕ) (before others : List Value) (v : Value) (from next here : Cursor) (start old new : List Place) (n : Next text at before v others until) →
+pub sound_next : (k : Reading) (text : List ℕ) (at until : ℕ) (before others : List Value) (v : Value) (from next here : Cursor) (start old new : List Place) (n : Next text at before v others until) →
     here.at ≡ n.begun → ((whole : List ℕ) (p : ℕ) → text ≡ drop p whole → next.place ≡ place_at whole (p + next.at) → here.place ≡ place_at whole (p + n.begun)) →
-    IsSound keyed text (told_by keyed (values_of before)) from start next old → IsPut (event keyed v) here.place old new →
-    IsSound keyed text (told_by keyed (values_of (before ++ v ∷ []))) from start here new
-sound_next keyed text at until before others v from next here start old new n is place sound put =
-    let one = one_put keyed v (event keyed v) here.place old new refl put in (
+    IsSound k text (told_by k (values_of before)) from start next old → IsPut (event k v) here.place old new →
+    IsSound k text (told_by k (values_of (before ++ v ∷ []))) from start here new
+sound_next k text at until before others v from next here start old new n is place sound put =
+    let one = one_put k v (event k v) here.place old new refl put in (
       sound.0 ++ one.0,
-      told_behind keyed before (v ∷ []) sound.0 sound.1 ∙ ap (behind_told sound.0) one.1,
+      told_behind k before (v ∷ []) sound.0 sound.1 ∙ ap (behind_told sound.0) one.1,
       λ whole p es up.
           let far = sound.2 whole p es up in
           let at_here : here.place ≡ place_at whole (p + n.begun) = place whole p up.0 far.0 in (
             at_here ∙ ap (λ i. place_at whole (p + i)) (sym is),
-            subst (λ l. ArePlaces keyed whole l new) (append_assoc es sound.0 one.0)
-                (one.2 whole (es ++ sound.0) (p + n.begun) far.1 (n.begins keyed whole p es sound.0 up.0 up.1 sound.1) at_here),
+            subst (λ l. ArePlaces k whole l new) (append_assoc es sound.0 one.0)
+                (one.2 whole (es ++ sound.0) (p + n.begun) far.1 (n.begins k whole p es sound.0 up.0 up.1 sound.1) at_here),
           ),
     )
 
 -- a later place without maps between
-pub sound_later : (keyed : Bool) (text : List ℕ) (t : Told) (from here next : Cursor) (start new : List Place) →
+pub sound_later : (k : Reading) (text : List ℕ) (t : Told) (from here next : Cursor) (start new : List Place) →
     ((whole : List ℕ) (p : ℕ) → text ≡ drop p whole → here.place ≡ place_at whole (p + here.at) → next.place ≡ place_at whole (p + next.at)) →
-    IsSound keyed text t from start here new → IsSound keyed text t from start next new
-sound_later keyed text t from here next start new place sound = (
+    IsSound k text t from start here new → IsSound k text t from start next new
+sound_later k text t from here next start new place sound = (
   sound.0,
   sound.1,
   λ whole p es up. (let far = sound.2 whole p es up in (place whole p up.0 far.0, far.1)),
 )
 
 -- a map that is no event, behind sound ones
-pub unsound_next : (keyed : Bool) (text : List ℕ) (at until : ℕ) (before others : List Value) (v : Value) (from next here : Cursor) (start old new : List Place) (n : Next text at before v others until) (f : EventFault) →
+pub unsound_next : (k : Reading) (text : List ℕ) (at until : ℕ) (before others : List Value) (v : Value) (from next here : Cursor) (start old new : List Place) (n : Next text at before v others until) (f : EventFault) →
     ((whole : List ℕ) (p : ℕ) → text ≡ drop p whole → next.place ≡ place_at whole (p + next.at) → here.place ≡ place_at whole (p + n.begun)) →
-    IsSound keyed text (told_by keyed (values_of before)) from start next old → event keyed v ≡ Err f → new ≡ old →
-    IsUnsound keyed text (told_by keyed (values_of (before ++ v ∷ others))) from start here.place new
-unsound_next keyed text at until earlier others v from next here start old new n f place sound bad same = (
+    IsSound k text (told_by k (values_of before)) from start next old → event k v ≡ Err f → new ≡ old →
+    IsUnsound k text (told_by k (values_of (before ++ v ∷ others))) from start here.place new
+unsound_next k text at until earlier others v from next here start old new n f place sound bad same = (
   sound.0,
   f,
-  told_behind keyed earlier (v ∷ others) sound.0 sound.1 ∙ ap (λ r. behind_told sound.0 (before r (told_by keyed (values_of others)))) bad
+  told_behind k earlier (v ∷ others) sound.0 sound.1 ∙ ap (λ r. behind_told sound.0 (before r (told_by k (values_of others)))) bad
       ∙ ap (λ l. record { events = l; ends = Some f }) (append-nil sound.0),
   λ whole p es up.
       let far = sound.2 whole p es up in (
-        subst (λ l. ArePlaces keyed whole (es ++ sound.0) l) (sym same) far.1,
+        subst (λ l. ArePlaces k whole (es ++ sound.0) l) (sym same) far.1,
         p + n.begun,
         v,
-        n.begins keyed whole p es sound.0 up.0 up.1 sound.1,
+        n.begins k whole p es sound.0 up.0 up.1 sound.1,
         bad,
         place whole p up.0 far.0,
       ),
@@ -197,62 +203,53 @@ among_ends s at before others until h =
     let a : at ≤ h.end = follow_rises h.follow in
     let b : h.end ≤ until = h.ends in omega arith
 
-pub marked_sound : (keyed : Bool) (v : Value) (p : Place) (old new : List Place) (b : Bool) → b ≡ true → IsMarkedOne keyed v p old new (Ok b) → IsPut (event keyed v) p old new
-marked_sound keyed v p old new true h m = m
-marked_sound keyed v p old new false h m = absurd (false≢true h)
+pub marked_sound : (k : Reading) (v : Value) (p : Place) (old new : List Place) (b : Bool) → b ≡ true → IsMarkedOne k v p old new (Ok b) → IsPut (event k v) p old new
+marked_sound k v p old new true h m = m
+marked_sound k v p old new false h m = absurd (false≢true h)
 
-pub marked_bad : (keyed : Bool) (v : Value) (p : Place) (old new : List Place) (b : Bool) → b ≡ false → IsMarkedOne keyed v p old new (Ok b) → (f : EventFault) × (event keyed v ≡ Err f) × (new ≡ old)
-marked_bad keyed v p old new false h m = m
-marked_bad keyed v p old new true h m = absurd (false≢true (sym h))
+pub marked_bad : (k : Reading) (v : Value) (p : Place) (old new : List Place) (b : Bool) → b ≡ false → IsMarkedOne k v p old new (Ok b) → (f : EventFault) × (event k v ≡ Err f) × (new ≡ old)
+marked_bad k v p old new false h m = m
+marked_bad k v p old new true h m = absurd (false≢true (sym h))
 
 -- what stands before a place changes nothing of what is marked from a later one on, if no map stands between
-pub marked_from : (keyed : Bool) (text : List ℕ) (t u : Told) (from later : Cursor) (until : ℕ) (old new : List Place) (r : Result Maps OutOfMemory) → t ≡ u →
+pub marked_from : (k : Reading) (text : List ℕ) (t u : Told) (from later : Cursor) (old new : List Place) (r : Maps) → t ≡ u →
     ((whole : List ℕ) (p : ℕ) → text ≡ drop p whole → from.place ≡ place_at whole (p + from.at) → later.place ≡ place_at whole (p + later.at)) →
-    AreMarked keyed text t later until old new r → AreMarked keyed text u from until old new r
-marked_from keyed text t u from later until old new (Ok (maps.Sound next)) same place m = (
-  m.0,
-  m.1,
-  m.2,
-  (m.3.0, sym same ∙ m.3.1, λ whole p es up. m.3.2 whole p es (up.0, up.1, place whole p up.0 up.2, up.3)),
-)
-marked_from keyed text t u from later until old new (Ok (maps.Bad bad)) same place m = (
-  m.0,
-  m.1,
-  sym same ∙ m.2,
-  λ whole p es up. m.3 whole p es (up.0, up.1, place whole p up.0 up.2, up.3),
-)
-marked_from keyed text t u from later until old new (Err e) same place m = m
+    AreMarked k text t later old new r → AreMarked k text u from old new r
+marked_from k text t u from later old new (maps.Sound next) same place m =
+    (m.0, sym same ∙ m.1, λ whole p es up. m.2 whole p es (up.0, up.1, place whole p up.0 up.2, up.3))
+marked_from k text t u from later old new (maps.Bad bad) same place m =
+    (m.0, m.1, sym same ∙ m.2, λ whole p es up. m.3 whole p es (up.0, up.1, place whole p up.0 up.2, up.3))
 
-alone_at : (keyed : Bool) (text whole : List ℕ) (p at until : ℕ) (es : List Event) (v : Value) → text ≡ drop p whole → Gives keyed whole es p → Spells text v at until → row_of v ≡ None →
-    Begins keyed whole es (p + at) v
-alone_at keyed text whole p at until es v is gives spelled none = alone gives (subst (λ l. Spells l v at until) is spelled) none
+alone_at : (k : Reading) (text whole : List ℕ) (p at until : ℕ) (es : List Event) (v : Value) → text ≡ drop p whole → Gives k whole es p → Spells text v at until → row_of v ≡ None →
+    Begins k whole es (p + at) v
+alone_at k text whole p at until es v is gives spelled none = alone gives (subst (λ l. Spells l v at until) is spelled) none
 
 -- a map that stands alone
-pub lone_sound : (keyed : Bool) (text : List ℕ) (v : Value) (begun next : Cursor) (until : ℕ) (old new : List Place) → Spells text v begun.at until → row_of v ≡ None →
-    IsPut (event keyed v) begun.place old new →
+pub lone_sound : (k : Reading) (text : List ℕ) (v : Value) (begun next : Cursor) (until : ℕ) (old new : List Place) → Spells text v begun.at until → row_of v ≡ None →
+    IsPut (event k v) begun.place old new →
     ((whole : List ℕ) (p : ℕ) → text ≡ drop p whole → begun.place ≡ place_at whole (p + begun.at) → next.place ≡ place_at whole (p + next.at)) →
-    IsSound keyed text (told keyed v) begun old next new
-lone_sound keyed text v begun next until old new spelled none put place =
-    let one = one_put keyed v (event keyed v) begun.place old new refl put in (
+    IsSound k text (told k v) begun old next new
+lone_sound k text v begun next until old new spelled none put place =
+    let one = one_put k v (event k v) begun.place old new refl put in (
       one.0,
-      lone_map keyed v none ∙ one.1,
+      lone_map k v none ∙ one.1,
       λ whole p es up. (
         place whole p up.0 up.2,
-        one.2 whole es (p + begun.at) up.3 (alone_at keyed text whole p begun.at until es v up.0 up.1 spelled none) up.2,
+        one.2 whole es (p + begun.at) up.3 (alone_at k text whole p begun.at until es v up.0 up.1 spelled none) up.2,
       ),
     )
 
-pub lone_unsound : (keyed : Bool) (text : List ℕ) (v : Value) (begun : Cursor) (until : ℕ) (old new : List Place) → Spells text v begun.at until → row_of v ≡ None →
-    (f : EventFault) × (event keyed v ≡ Err f) × (new ≡ old) → IsUnsound keyed text (told keyed v) begun old begun.place new
-lone_unsound keyed text v begun until old new spelled none bad = (
+pub lone_unsound : (k : Reading) (text : List ℕ) (v : Value) (begun : Cursor) (until : ℕ) (old new : List Place) → Spells text v begun.at until → row_of v ≡ None →
+    (f : EventFault) × (event k v ≡ Err f) × (new ≡ old) → IsUnsound k text (told k v) begun old begun.place new
+lone_unsound k text v begun until old new spelled none bad = (
   [],
   bad.0,
-  lone_map keyed v none ∙ ap (λ r. before r (record { events = []; ends = None })) bad.1,
+  lone_map k v none ∙ ap (λ r. before r (record { events = []; ends = None })) bad.1,
   λ whole p es up. (
-    subst (λ l. ArePlaces keyed whole l new) (sym (append-nil es)) (subst (λ l. ArePlaces keyed whole es l) (sym bad.2) up.3),
+    subst (λ l. ArePlaces k whole l new) (sym (append-nil es)) (subst (λ l. ArePlaces k whole es l) (sym bad.2) up.3),
     p + begun.at,
     v,
-    subst (λ l. Begins keyed whole l (p + begun.at) v) (sym (append-nil es)) (alone_at keyed text whole p begun.at until es v up.0 up.1 spelled none),
+    subst (λ l. Begins k whole l (p + begun.at) v) (sym (append-nil es)) (alone_at k text whole p begun.at until es v up.0 up.1 spelled none),
     bad.1,
     up.2,
   ),

@@ -1,6 +1,7 @@
 -- What maps tell, one after another, and where they stand.
-use Rattle.std.proofs.Common.{◌≡◌, Bool, List, [], ◌∷◌, ◌++◌, Option, Some, None, Result, Ok, Err, refl, ap, ◌∙◌}
+use Rattle.std.proofs.Common.{◌≡◌, List, [], ◌∷◌, ◌++◌, Option, Some, None, Result, Ok, Err, refl, ap, ◌∙◌}
 use Rattle.lin_edn.specs.Value.{Value, list, vector, set, map, nil, bool, int, atom, keyword, text, tagged, Values, values_of}
+use Rattle.lin_history.specs.Reading.{Reading}
 use Rattle.lin_history.specs.Stream.{Told, before, told_by, told, maps_in}
 use Rattle.lin_history.specs.Table.{bare, event}
 use Rattle.lin_events.specs.declared.events.Event.{Event}
@@ -29,21 +30,21 @@ row_maps (map es) vs h = cc
 row_maps (tagged at w v) vs h = row_maps v vs h
 
 -- and of another one: it is itself the only map
-pub lone_map : (keyed : Bool) (v : Value) → row_of v ≡ None → told keyed v ≡ before (event keyed v) nothing_told
-lone_map keyed nil h = refl
-lone_map keyed (bool b) h = refl
-lone_map keyed (int i) h = refl
-lone_map keyed (atom at w) h = refl
-lone_map keyed (keyword at w) h = refl
-lone_map keyed (text at w) h = refl
-lone_map keyed (list ws) h = cc
-lone_map keyed (vector ws) h = cc
-lone_map keyed (set ws) h = refl
-lone_map keyed (map es) h = refl
-lone_map keyed (tagged at w v) h = lone_map keyed v h
+pub lone_map : (k : Reading) (v : Value) → row_of v ≡ None → told k v ≡ before (event k v) nothing_told
+lone_map k nil h = refl
+lone_map k (bool b) h = refl
+lone_map k (int i) h = refl
+lone_map k (atom at w) h = refl
+lone_map k (keyword at w) h = refl
+lone_map k (text at w) h = refl
+lone_map k (list ws) h = cc
+lone_map k (vector ws) h = cc
+lone_map k (set ws) h = refl
+lone_map k (map es) h = refl
+lone_map k (tagged at w v) h = lone_map k v h
 
-pub told_row : (keyed : Bool) (v : Value) (vs : Values) → row_of v ≡ Some vs → told keyed v ≡ told_by keyed vs
-told_row keyed v vs h = ap (told_by keyed) (row_maps v vs h)
+pub told_row : (k : Reading) (v : Value) (vs : Values) → row_of v ≡ Some vs → told k v ≡ told_by k vs
+told_row k v vs h = ap (told_by k) (row_maps v vs h)
 
 -- what is told before others, where it is without fault
 told_on : (r : Result (Option Event) EventFault) (t u w : Told) (fs : List Event) → before r t ≡ record { events = fs; ends = None } →
@@ -58,8 +59,8 @@ told_on (Ok (Some e)) t u w fs h more =
 told_on (Err f) t u w fs h more = absurd (let e : Some f ≡ None = ap (λ x. x.ends) h in cc)
 
 -- maps without fault, and others behind them
-pub told_behind : (keyed : Bool) (vs ws : List Value) (fs : List Event) → told_by keyed (values_of vs) ≡ record { events = fs; ends = None } →
-    told_by keyed (values_of (vs ++ ws)) ≡ behind_told fs (told_by keyed (values_of ws))
-told_behind keyed [] ws fs h = ap (λ l. behind_told l (told_by keyed (values_of ws))) (ap (λ x. x.events) h)
-told_behind keyed (v ∷ vs) ws fs h =
-    told_on (event keyed v) (told_by keyed (values_of vs)) (told_by keyed (values_of (vs ++ ws))) (told_by keyed (values_of ws)) fs h (λ gs e. told_behind keyed vs ws gs e)
+pub told_behind : (k : Reading) (vs ws : List Value) (fs : List Event) → told_by k (values_of vs) ≡ record { events = fs; ends = None } →
+    told_by k (values_of (vs ++ ws)) ≡ behind_told fs (told_by k (values_of ws))
+told_behind k [] ws fs h = ap (λ l. behind_told l (told_by k (values_of ws))) (ap (λ x. x.events) h)
+told_behind k (v ∷ vs) ws fs h =
+    told_on (event k v) (told_by k (values_of vs)) (told_by k (values_of (vs ++ ws))) (told_by k (values_of ws)) fs h (λ gs e. told_behind k vs ws gs e)

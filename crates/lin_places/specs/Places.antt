@@ -3,6 +3,8 @@ use Rattle.std.specs.Prelude.{◌≡◌, ℕ, suc, ◌+◌, ◌≤◌, Bool, tru
 use Rattle.lin_edn.specs.Bytes.{Kind, a_list, a_vector, a_set, a_map, is_newline}
 use Rattle.lin_edn.specs.Grammar.{Frame, frame, discarding, tagging, Open, Element, Spells}
 use Rattle.lin_edn.specs.Value.{Value, list, vector, tagged, Values, values_of}
+use Rattle.lin_names.specs.Names.{AgreesWith}
+use Rattle.lin_history.specs.Reading.{Reading}
 use Rattle.lin_history.specs.Stream.{told_by, Gives, IsStream}
 use Rattle.lin_history.specs.Table.{event}
 use Rattle.lin_events.specs.declared.events.Event.{Event}
@@ -43,28 +45,28 @@ AreTags (tagging at begun tag ∷ st) = AreTags st
 
 -- Behind just these events an element begins at a place: it stands alone and is no list or vector, or it stands in a list or vector, with
 -- tags in front of that or none.
-pub data Begins : Bool → List ℕ → List Event → ℕ → Value → Type 0 where
-  alone : {keyed : Bool} {s : List ℕ} {es : List Event} {p at used : ℕ} {v : Value} →
-      Gives keyed s es p → Spells (drop p s) v at used → row_of v ≡ None → Begins keyed s es (p + at) v
-  inside : {keyed : Bool} {s t u : List ℕ} {es fs : List Event} {p n o at used : ℕ} {k : Kind} {vs : List Value} {st : List Frame} {v : Value} →
-      Gives keyed s es p → Open (drop p s) n (frame k o vs ∷ st) at t → is_row k ≡ true → AreTags st →
-      told_by keyed (values_of vs) ≡ record { events = fs; ends = None } → Element n at t v used u → Begins keyed s (es ++ fs) (p + at) v
+pub data Begins : Reading → List ℕ → List Event → ℕ → Value → Type 0 where
+  alone : {m : Reading} {s : List ℕ} {es : List Event} {p at used : ℕ} {v : Value} →
+      Gives m s es p → Spells (drop p s) v at used → row_of v ≡ None → Begins m s es (p + at) v
+  inside : {m : Reading} {s t u : List ℕ} {es fs : List Event} {p n o at used : ℕ} {k : Kind} {vs : List Value} {st : List Frame} {v : Value} →
+      Gives m s es p → Open (drop p s) n (frame k o vs ∷ st) at t → is_row k ≡ true → AreTags st →
+      told_by m (values_of vs) ≡ record { events = fs; ends = None } → Element n at t v used u → Begins m s (es ++ fs) (p + at) v
 
 -- each event of a text has the place where its map begins
-pub data ArePlaces : Bool → List ℕ → List Event → List Place → Type 0 where
-  none : {keyed : Bool} {s : List ℕ} → ArePlaces keyed s [] []
-  one_more : {keyed : Bool} {s : List ℕ} {es : List Event} {ps : List Place} {p : ℕ} {v : Value} {e : Event} →
-      ArePlaces keyed s es ps → Begins keyed s es p v → event keyed v ≡ Ok (Some e) → ArePlaces keyed s (es ++ e ∷ []) (ps ++ place_at s p ∷ [])
+pub data ArePlaces : Reading → List ℕ → List Event → List Place → Type 0 where
+  none : {m : Reading} {s : List ℕ} → ArePlaces m s [] []
+  one_more : {m : Reading} {s : List ℕ} {es : List Event} {ps : List Place} {p : ℕ} {v : Value} {e : Event} →
+      ArePlaces m s es ps → Begins m s es p v → event m v ≡ Ok (Some e) → ArePlaces m s (es ++ e ∷ []) (ps ++ place_at s p ∷ [])
 
 -- Where a text with these events stops that ends so: nowhere, if it is blank; where something unfinished begins; at a fault of EDN; or at
 -- the map that is no event.
-abbrev pub StopsAt : Bool → List ℕ → List Event → Result (Unit {0}) FollowFault → Stop → Type 0
-StopsAt keyed s es (Ok _) x = x ≡ stop.Nowhere
-StopsAt keyed s es (Err (fault.Truncated at)) x = x ≡ stop.Unfinished (place_at s at)
-StopsAt keyed s es (Err (fault.Edn at cause)) x = x ≡ stop.Bad (place_at s at)
-StopsAt keyed s es (Err (fault.Event at cause)) x = (p : ℕ) × (v : Value) × Begins keyed s es p v × (event keyed v ≡ Err cause) × (x ≡ stop.Bad (place_at s p))
-StopsAt keyed s es (Err fault.OutOfMemory) x = ⊥
-StopsAt keyed s es (Err fault.TooMuch) x = ⊥
+abbrev pub StopsAt : Reading → List ℕ → List Event → Result (Unit {0}) FollowFault → Stop → Type 0
+StopsAt m s es (Ok _) x = x ≡ stop.Nowhere
+StopsAt m s es (Err (fault.Truncated at)) x = x ≡ stop.Unfinished (place_at s at)
+StopsAt m s es (Err (fault.Edn at cause)) x = x ≡ stop.Bad (place_at s at)
+StopsAt m s es (Err (fault.Event at cause)) x = (p : ℕ) × (v : Value) × Begins m s es p v × (event m v ≡ Err cause) × (x ≡ stop.Bad (place_at s p))
+StopsAt m s es (Err fault.OutOfMemory) x = ⊥
+StopsAt m s es (Err fault.TooMuch) x = ⊥
 
 abbrev pub is_bad : Stop → Bool
 is_bad stop.Nowhere = false
@@ -92,18 +94,22 @@ pub record Marked : Type 0 where
   pub next : Place
   pub held : List ℕ
 
--- The bytes fed are this text: its events have these places, and it stops there. Where it may go on, what is held stands behind what is read.
-pub record Marks (m : Marked) (text : List ℕ) : Type 0 where
+-- Read so, the bytes fed are this text: its events have these places, and it stops there. Where it may go on, what is held stands behind
+-- what is read.
+pub record Marks (m : Reading) (marked : Marked) (text : List ℕ) : Type 0 where
+  pub keyed : m.keyed ≡ marked.keyed
   pub events : List Event
   pub outcome : Result (Unit {0}) FollowFault
-  pub is_stream : IsStream m.keyed text events outcome
-  pub are_places : ArePlaces m.keyed text events m.places
-  pub stops : StopsAt m.keyed text events outcome m.stop
-  pub room : m.next.offset + length m.held ≤ length text
-  pub is_held : is_bad m.stop ≡ false →
-      Gives m.keyed text events m.next.offset × (m.next ≡ place_at text m.next.offset) × (m.held ≡ drop m.next.offset text)
+  pub is_stream : IsStream m text events outcome
+  pub are_places : ArePlaces m text events marked.places
+  pub stops : StopsAt m text events outcome marked.stop
+  pub room : marked.next.offset + length marked.held ≤ length text
+  pub is_held : is_bad marked.stop ≡ false →
+      Gives m text events marked.next.offset × (marked.next ≡ place_at text marked.next.offset) × (marked.held ≡ drop marked.next.offset text)
 
--- what feeding a piece does: the reader is right for the longer text; or memory ran out, and nothing changed
-abbrev pub Feeds : {E : Type 0} → Marked → List ℕ → Marked → Result (Unit {0}) E → Type 0
-Feeds old piece new (Ok _) = (new.keyed ≡ old.keyed) × ((text : List ℕ) → Marks old text → Marks new (text ++ piece))
-Feeds old piece new (Err _) = new ≡ old
+-- What feeding a piece does, where these are the names behind it: read by them, the reader is right for the longer text; or memory ran out,
+-- and nothing changed.
+abbrev pub Feeds : {E : Type 0} → List (List ℕ) → Marked → List ℕ → Marked → Result (Unit {0}) E → Type 0
+Feeds names old piece new (Ok _) = (new.keyed ≡ old.keyed) ×
+    ((m : Reading) → AgreesWith names m.number → (text : List ℕ) → Marks m old text → Marks m new (text ++ piece))
+Feeds names old piece new (Err _) = new ≡ old

@@ -3,10 +3,12 @@ ghost use Rattle.std.specs.Prelude.{◌≡◌, ◌≢◌, ◌+◌, ◌≤◌, su
 ghost use Rattle.lin_edn.specs.Grammar.{Spells};
 ghost use Rattle.lin_edn.specs.Value.{Value, tagged, values_of};
 ghost use Rattle.lin_edn.specs.View.{view};
+ghost use Rattle.lin_names.specs.Names.{Begins};
+ghost use Rattle.lin_history.specs.Reading.{Reading, IsReading};
 ghost use Rattle.lin_history.specs.Sees.{most};
 ghost use Rattle.lin_history.specs.Stream.{told, told_by};
 ghost use Rattle.lin_history.specs.Table.{event, IsAnswer};
-ghost use Rattle.lin_places.specs.inner.Marks.{Fits, IsMarkedOne, StandsAt, IsStanding, IsAmong, AreMarked, IsFront, IsReadOn};
+ghost use Rattle.lin_places.specs.inner.Marks.{Fits, IsMarkedOne, IsPutBehind, StandsAt, IsStanding, IsAmong, AreMarked, ArePassed, IsFront, IsPassed, IsRead};
 ghost use Rattle.lin_places.specs.Places.{row_of};
 
 use crate::place::{Cursor, Place, Stop, go_to};
@@ -16,6 +18,7 @@ use lin_edn::{
 };
 use lin_events::OutOfMemory;
 use lin_history::{Event, EventFault, NextEvent, event_of, next_event};
+use lin_names::Names;
 use std::alloc::Global;
 
 /// What was read of a text: so far, and so it stops.
@@ -43,6 +46,13 @@ enum Maps {
     Bad(Place),
 }
 
+/// A part of a text: from here up to a place.
+#[derive(Clone, Copy)]
+struct Part {
+    from: Cursor,
+    until: usize,
+}
+
 /// A map in front of a text, with tags or none: where it begins and ends, and what it says.
 #[derive(Drop)]
 struct Map {
@@ -57,7 +67,8 @@ fn mark_said(
     place: Place,
     places: &mut Vec<Place>,
 ) -> Result<bool, OutOfMemory>
-    ensures { (keyed : Bool) (v : Value) → IsAnswer (event keyed v) said → IsMarkedOne keyed v place places.old.items places.new.items result }
+    ensures put { IsPutBehind places.old.items places.new.items }
+    ensures marked { (m : Reading) (v : Value) → IsAnswer (event m v) said → IsMarkedOne m v place places.old.items places.new.items result }
 {
     match said {
         Ok(None) => Ok(true),
@@ -77,10 +88,13 @@ fn mark_one(
     element: &Edn,
     place: Place,
     places: &mut Vec<Place>,
+    names: &mut Names,
 ) -> Result<bool, OutOfMemory>
-    ensures { IsMarkedOne keyed (view element.now) place places.old.items places.new.items result }
+    ensures begun { Begins names.old names.new }
+    ensures put { IsPutBehind places.old.items places.new.items }
+    ensures marked { (m : Reading) → IsReading keyed names.new m → IsMarkedOne m (view element.now) place places.old.items places.new.items result }
 {
-    mark_said(event_of(alloc, element, keyed), place, places)
+    mark_said(event_of(alloc, element, keyed, names), place, places)
 }
 
 /// Where the element behind blanks at a place begins and ends.
@@ -148,24 +162,28 @@ fn mark_all(
     keyed: bool,
     text: &[u8],
     items: &[Edn],
-    from: Cursor,
-    until: usize,
+    part: Part,
     places: &mut Vec<Place>,
+    names: &mut Names,
 ) -> Result<Maps, OutOfMemory>
-    requires fits { Fits text.now from }
-    requires among { IsAmong text.now from.at [] (map view items.now) until }
-    ensures { AreMarked keyed text.now (told_by keyed (values_of (map view items.now))) from until places.old.items places.new.items result }
+    requires fits { Fits text.now part.from }
+    requires among { IsAmong text.now part.from.at [] (map view items.now) part.until }
+    ensures begun { Begins names.old names.new }
+    ensures put { IsPutBehind places.old.items places.new.items }
+    ensures passed { IfOk result (ArePassed text.now part.until) }
+    ensures marked { IfOk result (λ maps. (m : Reading) → IsReading keyed names.new m →
+        AreMarked m text.now (told_by m (values_of (map view items.now))) part.from places.old.items places.new.items maps) }
 {
-    let mut next = from;
+    let mut next = part.from;
     for item in items {
         let (begun, used) = element_at(alloc, text, next.at)?;
         let here = go_to(text, next, begun);
-        if !mark_one(alloc, keyed, item, here.place, places)? {
+        if !mark_one(alloc, keyed, item, here.place, places, names)? {
             return Ok(Maps::Bad(here.place));
         }
         next = go_to(text, here, used);
     }
-    Ok(Maps::Sound(go_to(text, next, until)))
+    Ok(Maps::Sound(go_to(text, next, part.until)))
 }
 
 /// Marks the places of the maps of an element that begins at a place and ends before another.
@@ -174,33 +192,33 @@ fn mark(
     keyed: bool,
     text: &[u8],
     element: &Edn,
-    begun: Cursor,
-    until: usize,
+    part: Part,
     places: &mut Vec<Place>,
+    names: &mut Names,
 ) -> Result<Maps, OutOfMemory>
-    requires fits { Fits text.now begun }
-    requires spelled { Spells text.now (view element.now) begun.at until }
-    ensures { AreMarked keyed text.now (told keyed (view element.now)) begun until places.old.items places.new.items result }
+    requires fits { Fits text.now part.from }
+    requires spelled { Spells text.now (view element.now) part.from.at part.until }
+    ensures begun { Begins names.old names.new }
+    ensures put { IsPutBehind places.old.items places.new.items }
+    ensures passed { IfOk result (ArePassed text.now part.until) }
+    ensures marked { IfOk result (λ maps. (m : Reading) → IsReading keyed names.new m →
+        AreMarked m text.now (told m (view element.now)) part.from places.old.items places.new.items maps) }
 {
     places_lie_within();
     match row_in(element) {
         Some(items) => {
-            let from = row_begun(alloc, text, element, begun.at)?;
-            mark_all(
-                alloc,
-                keyed,
-                text,
-                items,
-                go_to(text, begun, from),
-                until,
-                places,
-            )
+            let from = row_begun(alloc, text, element, part.from.at)?;
+            let inside = Part {
+                from: go_to(text, part.from, from),
+                until: part.until,
+            };
+            mark_all(alloc, keyed, text, items, inside, places, names)
         }
         None => {
-            if mark_one(alloc, keyed, element, begun.place, places)? {
-                Ok(Maps::Sound(go_to(text, begun, until)))
+            if mark_one(alloc, keyed, element, part.from.place, places, names)? {
+                Ok(Maps::Sound(go_to(text, part.from, part.until)))
             } else {
-                Ok(Maps::Bad(begun.place))
+                Ok(Maps::Bad(part.from.place))
             }
         }
     }
@@ -220,11 +238,13 @@ fn map_begins(text: &[u8]) -> Option<usize>
 }
 
 /// The map in front of a text, if one is whole there behind white alone. A usual one is read without building its elements.
-fn next_map(alloc: Global, keyed: bool, text: &[u8]) -> Option<Map>
-    ensures { IfSome result (λ map. (v : Value) × Spells text.now v map.at map.used × (row_of v ≡ None) × IsAnswer (event keyed v) map.said) }
+fn next_map(alloc: Global, keyed: bool, text: &[u8], names: &mut Names) -> Option<Map>
+    ensures begun { Begins names.old names.new }
+    ensures map { IfSome result (λ map. (v : Value) × Spells text.now v map.at map.used × (row_of v ≡ None) ×
+        ((m : Reading) → IsReading keyed names.new m → IsAnswer (event m v) map.said)) }
 {
     let at = map_begins(text)?;
-    match next_event(alloc, text, keyed) {
+    match next_event(alloc, text, keyed, names) {
         Ok(NextEvent::Complete { said, used }) => Some(Map { at, used, said }),
         _ => None,
     }
@@ -239,8 +259,10 @@ fn read_map(
 ) -> Result<Front, OutOfMemory>
     requires fits { Fits text.now (record { at = 0; place = place }) }
     requires spelled { (v : Value) × Spells text.now v map.at map.used }
-    ensures { (keyed : Bool) (v : Value) → Spells text.now v map.at map.used → row_of v ≡ None → IsAnswer (event keyed v) map.said →
-        IsFront keyed text.now place places.old.items places.new.items result }
+    ensures put { IsPutBehind places.old.items places.new.items }
+    ensures passed { IfOk result (IsPassed text.now) }
+    ensures front { IfOk result (λ front. (m : Reading) (v : Value) → Spells text.now v map.at map.used → row_of v ≡ None → IsAnswer (event m v) map.said →
+        IsFront m text.now place places.old.items places.new.items front) }
 {
     places_lie_within();
     let front = Cursor { at: 0, place };
@@ -259,13 +281,17 @@ fn read_front(
     text: &[u8],
     place: Place,
     places: &mut Vec<Place>,
+    names: &mut Names,
 ) -> Result<Front, OutOfMemory>
     requires fits { Fits text.now (record { at = 0; place = place }) }
-    ensures { IsFront keyed text.now place places.old.items places.new.items result }
+    ensures begun { Begins names.old names.new }
+    ensures put { IsPutBehind places.old.items places.new.items }
+    ensures passed { IfOk result (IsPassed text.now) }
+    ensures front { IfOk result (λ front. (m : Reading) → IsReading keyed names.new m → IsFront m text.now place places.old.items places.new.items front) }
 {
-    match next_map(alloc, keyed, text) {
+    match next_map(alloc, keyed, text, names) {
         Some(map) => read_map(text, place, map, places),
-        None => read_element(alloc, keyed, text, place, places),
+        None => read_element(alloc, keyed, text, place, places, names),
     }
 }
 
@@ -276,24 +302,24 @@ fn read_element(
     text: &[u8],
     place: Place,
     places: &mut Vec<Place>,
+    names: &mut Names,
 ) -> Result<Front, OutOfMemory>
     requires fits { Fits text.now (record { at = 0; place = place }) }
-    ensures { IsFront keyed text.now place places.old.items places.new.items result }
+    ensures begun { Begins names.old names.new }
+    ensures put { IsPutBehind places.old.items places.new.items }
+    ensures passed { IfOk result (IsPassed text.now) }
+    ensures front { IfOk result (λ front. (m : Reading) → IsReading keyed names.new m → IsFront m text.now place places.old.items places.new.items front) }
 {
     places_lie_within();
     blanks_in_front();
     let front = Cursor { at: 0, place };
     match next_element(alloc, text) {
         Ok(Next::Complete { value, at, used }) => {
-            match mark(
-                alloc,
-                keyed,
-                text,
-                &value,
-                go_to(text, front, at),
-                used,
-                places,
-            )? {
+            let part = Part {
+                from: go_to(text, front, at),
+                until: used,
+            };
+            match mark(alloc, keyed, text, &value, part, places, names)? {
                 Maps::Sound(next) => Ok(Front::Element(next)),
                 Maps::Bad(bad) => Ok(ends(front, Stop::Bad(bad))),
             }
@@ -323,14 +349,18 @@ pub(crate) fn read_on(
     text: &[u8],
     place: Place,
     places: &mut Vec<Place>,
+    names: &mut Names,
 ) -> Result<Read, OutOfMemory>
     requires fits { Fits text.now (record { at = 0; place = place }) }
-    ensures { IsReadOn keyed text.now place places.old.items places.new.items result }
+    ensures begun { Begins names.old names.new }
+    ensures put { IsPutBehind places.old.items places.new.items }
+    ensures fits { IfOk result (λ r. Fits text.now r.next) }
+    ensures read { IfOk result (λ r. (m : Reading) → IsReading keyed names.new m → IsRead m text.now place places.old.items places.new.items r) }
 {
     let mut at = 0;
     let mut place = place;
     'elements: loop {
-        match read_front(alloc, keyed, &text[at..], place, places)? {
+        match read_front(alloc, keyed, &text[at..], place, places, names)? {
             Front::Element(next) => {
                 at += next.at;
                 place = next.place;

@@ -1,14 +1,17 @@
 //! The places of the events of a stream that comes in pieces.
-ghost use Rattle.std.specs.Prelude.{◌≡◌, ◌+◌, ◌≤◌, ◌++◌, [], false, Bool, ℕ, List, length, drop, IfSome, IsSome, IsNone};
-ghost use Rattle.lin_places.specs.inner.Marks.{Fits, IsResting};
+ghost use Rattle.std.specs.Prelude.{◌≡◌, ◌+◌, ◌≤◌, ◌++◌, [], false, Bool, ℕ, List, length, drop, IfOk, IfSome, IsSome, IsNone};
+ghost use Rattle.lin_names.specs.Names.{Begins};
+ghost use Rattle.lin_history.specs.Reading.{Reading, IsReading};
+ghost use Rattle.lin_places.specs.inner.Marks.{Fits, IsRead, IsResting};
 ghost use Rattle.lin_places.specs.Places.{Marks, Feeds, bad_of, unfinished_of, is_bad as says_bad};
-ghost use Rattle.lin_places.specs.Rests.{IsSeen, IsTakenIn};
+ghost use Rattle.lin_places.specs.Rests.{IsSeen, IsCut};
 
 use crate::mark::{Read, read_on};
 use crate::place::{Cursor, Place, Stop};
 use lin_edn::{Skim, more_bytes, places as places_lie_within};
 use lin_events::OutOfMemory;
 use lin_history::faults_stay;
+use lin_names::Names;
 use std::alloc::Global;
 use std::marker::Model;
 
@@ -20,7 +23,6 @@ const MOST: u64 = 1_099_511_627_776;
 /// The place of an event is that of the first byte of its map, or of the map's first tag if it has one.
 #[derive(Drop)]
 pub struct Places {
-    alloc: Global,
     keyed: bool,
     places: Vec<Place>,
     stop: Stop,
@@ -34,6 +36,8 @@ pub struct Places {
 /// What is known of the bytes that are held without reading them again.
 #[derive(Drop)]
 struct Rest {
+    // Where memory comes from.
+    alloc: Global,
     skim: Skim,
     // Whether the skim has seen just the bytes that are held.
     is_seen: bool,
@@ -56,16 +60,16 @@ impl Places {
     /// The places of an empty stream. With `keyed`, values are pairs of a key and a value.
     pub fn new(alloc: Global, keyed: bool) -> Places
         ensures keyed { result.keyed ≡ keyed }
-        ensures marks { Marks result [] }
+        ensures marks { (m : Reading) → m.keyed ≡ keyed → Marks m result [] }
     {
         Places {
-            alloc,
             keyed,
             places: Vec::new(alloc),
             stop: Stop::Nowhere,
             next: Place { offset: 0, line: 1 },
             held: Vec::new(alloc),
             rest: Rest {
+                alloc,
                 skim: Skim::new(alloc),
                 is_seen: true,
             },
@@ -101,9 +105,10 @@ impl Places {
 
     /// Takes in a piece of the stream. Behind a fault, or a map that is no event, nothing is read.
     ///
-    /// After `OutOfMemory` nothing changed. It is answered too where the pieces together would pass 1,099,511,627,776 bytes.
-    pub fn feed(&mut self, piece: &[u8]) -> Result<(), OutOfMemory>
-        ensures { Feeds self.old piece.now self.new result }
+    /// After `OutOfMemory` nothing changed but the names, which may have grown. It is answered too where the pieces together would pass 1,099,511,627,776 bytes.
+    pub fn feed(&mut self, piece: &[u8], names: &mut Names) -> Result<(), OutOfMemory>
+        ensures begun { Begins names.old names.new }
+        ensures feeds { Feeds names.new self.old piece.now self.new result }
     {
         more_bytes();
         places_lie_within();
@@ -115,13 +120,13 @@ impl Places {
             return Err(OutOfMemory);
         }
         match take_in(
-            self.alloc,
             self.keyed,
             self.next,
             piece,
             &mut self.held,
             &mut self.rest,
             &mut self.places,
+            names,
         ) {
             Ok(read) => {
                 self.next = read.next.place;
@@ -145,17 +150,19 @@ fn is_bad(stop: &Stop) -> bool
 
 /// Puts a piece behind what is held and reads it, if something may be whole; what is read is dropped. Refused, all is as it was.
 fn take_in(
-    alloc: Global,
     keyed: bool,
     next: Place,
     piece: &[u8],
     held: &mut Vec<u8>,
     rest: &mut Rest,
     places: &mut Vec<Place>,
+    names: &mut Names,
 ) -> Result<Read, OutOfMemory>
     requires fits { Fits (held.old.items ++ piece.now) (record { at = 0; place = next }) }
     requires seen { IsSeen rest.old held.old.items }
-    ensures read { IsTakenIn keyed next piece.now held.old.items places.old.items held.new.items places.new.items result }
+    ensures begun { Begins names.old names.new }
+    ensures cut { IsCut piece.now held.old.items places.old.items held.new.items places.new.items result }
+    ensures read { IfOk result (λ r. (m : Reading) → IsReading keyed names.new m → IsRead m (held.old.items ++ piece.now) next places.old.items places.new.items r) }
     ensures seen { IsSeen rest.new held.new.items }
 {
     let kept = held.len();
@@ -165,7 +172,7 @@ fn take_in(
         let next = Cursor { at: 0, place: next };
         return Ok(Read { next, stop });
     }
-    match read_on(alloc, keyed, held.as_slice(), next, places) {
+    match read_on(rest.alloc, keyed, held.as_slice(), next, places, names) {
         Ok(read) => {
             drop_front(held, read.next.at);
             look_at(rest, held.as_slice());

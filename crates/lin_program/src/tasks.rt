@@ -4,9 +4,9 @@ ghost use Rattle.lin_formats.specs.Devices.{device_of, failures_of, Counts};
 ghost use Rattle.lin_formats.specs.Verdicts.{is_write_failed};
 ghost use Rattle.lin_program.specs.Tasks.{HasBudget, IsTaskRun, report_format as format_of, settings_of};
 
-use lin_events::Item;
 use lin_formats::{Counted, RunFault, Settings, Status, verify};
 use lin_line::Format;
+use lin_names::Said;
 use lin_report::{Question, check, draw, explain};
 use std::alloc::Global;
 use std::io::{Read, Write};
@@ -17,9 +17,9 @@ pub enum Task<'a> {
     /// It is decided whether the history is linearizable.
     Check(Settings, lin_report::Format),
     /// It is told why the answer is what it is.
-    Explain(Settings, Question),
+    Explain(Settings, Question<'a>),
     /// The history is drawn, or the object of this key.
-    Draw(Settings, Option<Item>),
+    Draw(Settings, Option<Said<'a>>),
     /// It is decided whether the order that this text writes is a legal order of the history.
     Verify(Settings, &'a [u8]),
 }

@@ -71,12 +71,12 @@ module _ (P : ℕ → Type 0) where
       omega (arith, up, down, many)
 
 -- numbers in order, each once
-pub sorted_once : (names sorted once : List ℕ) → IsPermutation names sorted → IsSorted nat_cmp sorted → once ≡ dedup eqb sorted → IsListing (Contains names) once
-sorted_once names sorted once moved up is = subst (IsListing (Contains names)) (sym is) (
+pub sorted_once : (named sorted once : List ℕ) → IsPermutation named sorted → IsSorted nat_cmp sorted → once ≡ dedup eqb sorted → IsListing (Contains named) once
+sorted_once named sorted once moved up is = subst (IsListing (Contains named)) (sym is) (
   AllPairs-from_increasing (dedup eqb sorted) (IsStrictlyIncreasing-dedup sorted up),
   λ at. (
-    λ there. Contains-dedup_nat sorted at (Contains-permutation names sorted at moved there),
-    λ there. Contains-permutation sorted names at (IsPermutation-sym names sorted moved) (Contains-from_dedup eqb sorted at there),
+    λ there. Contains-dedup_nat sorted at (Contains-permutation named sorted at moved there),
+    λ there. Contains-permutation sorted named at (IsPermutation-sym named sorted moved) (Contains-from_dedup eqb sorted at there),
   ),
 )
 

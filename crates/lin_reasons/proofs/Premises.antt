@@ -34,26 +34,26 @@ pub counted_of : (h : List Event) (c : Certificate) → c ≡ Counted → IsCert
 counted_of h c is holds = counted_by h holds.0 (subst (Certifies h holds.0) is holds.1)
 
 module _ (told : Told) where
-  nothing : (c : Certificate) (text names : List ℕ) → ((lines more : List ℕ) → lines ≡ [] → more ≡ [] → IsReasonOfRegister told c lines more) → ArePut (IsReasonOfRegister told c) text text names names
-  nothing c text names tells = ([], [], sym (append-nil text), sym (append-nil names), tells [] [] refl refl)
+  nothing : (c : Certificate) (text named : List ℕ) → ((lines more : List ℕ) → lines ≡ [] → more ≡ [] → IsReasonOfRegister told c lines more) → ArePut (IsReasonOfRegister told c) text text named named
+  nothing c text named tells = ([], [], sym (append-nil text), sym (append-nil named), tells [] [] refl refl)
 
   -- a certificate of another kind of object is told elsewhere
-  pub nothing_put : (c : Certificate) (text names : List ℕ)
+  pub nothing_put : (c : Certificate) (text named : List ℕ)
       → ((read : ℕ) → c ≡ Shape read → ⊥)
       → ((at : ℕ) (n : Item) → c ≡ Unwritten at n → ⊥)
       → ((at : ℕ) (v : Val) → c ≡ Overwritten at v → ⊥)
       → ((v : Val) (n : Item) (early late : ℕ) (back : Option (ℕ × ℕ)) → c ≡ Crossed v n early late back → ⊥)
-      → ArePut (IsReasonOfRegister told c) text text names names
-  nothing_put (Shape read) text names a b d e = absurd (a read refl)
-  nothing_put (Unwritten at n) text names a b d e = absurd (b at n refl)
-  nothing_put (Overwritten at v) text names a b d e = absurd (d at v refl)
-  nothing_put (Crossed v n early late back) text names a b d e = absurd (e v n early late back refl)
-  nothing_put (Taken n) text names a b d e = nothing (Taken n) text names (λ lines more p q. (p, q))
-  nothing_put (Passed enqueue later dequeue n other) text names a b d e = nothing (Passed enqueue later dequeue n other) text names (λ lines more p q. (p, q))
-  nothing_put (Inside enqueue dequeue n) text names a b d e = nothing (Inside enqueue dequeue n) text names (λ lines more p q. (p, q))
-  nothing_put (Unadded read n) text names a b d e = nothing (Unadded read n) text names (λ lines more p q. (p, q))
-  nothing_put (Lost earlier read n) text names a b d e = nothing (Lost earlier read n) text names (λ lines more p q. (p, q))
-  nothing_put (Split first second n other) text names a b d e = nothing (Split first second n other) text names (λ lines more p q. (p, q))
-  nothing_put (Late earlier add read n other) text names a b d e = nothing (Late earlier add read n other) text names (λ lines more p q. (p, q))
-  nothing_put (Twice first second) text names a b d e = nothing (Twice first second) text names (λ lines more p q. (p, q))
-  nothing_put Counted text names a b d e = nothing Counted text names (λ lines more p q. (p, q))
+      → ArePut (IsReasonOfRegister told c) text text named named
+  nothing_put (Shape read) text named a b d e = absurd (a read refl)
+  nothing_put (Unwritten at n) text named a b d e = absurd (b at n refl)
+  nothing_put (Overwritten at v) text named a b d e = absurd (d at v refl)
+  nothing_put (Crossed v n early late back) text named a b d e = absurd (e v n early late back refl)
+  nothing_put (Taken n) text named a b d e = nothing (Taken n) text named (λ lines more p q. (p, q))
+  nothing_put (Passed enqueue later dequeue n other) text named a b d e = nothing (Passed enqueue later dequeue n other) text named (λ lines more p q. (p, q))
+  nothing_put (Inside enqueue dequeue n) text named a b d e = nothing (Inside enqueue dequeue n) text named (λ lines more p q. (p, q))
+  nothing_put (Unadded read n) text named a b d e = nothing (Unadded read n) text named (λ lines more p q. (p, q))
+  nothing_put (Lost earlier read n) text named a b d e = nothing (Lost earlier read n) text named (λ lines more p q. (p, q))
+  nothing_put (Split first second n other) text named a b d e = nothing (Split first second n other) text named (λ lines more p q. (p, q))
+  nothing_put (Late earlier add read n other) text named a b d e = nothing (Late earlier add read n other) text named (λ lines more p q. (p, q))
+  nothing_put (Twice first second) text named a b d e = nothing (Twice first second) text named (λ lines more p q. (p, q))
+  nothing_put Counted text named a b d e = nothing Counted text named (λ lines more p q. (p, q))

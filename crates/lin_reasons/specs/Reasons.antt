@@ -23,18 +23,18 @@ use Rattle.lin_reasons.specs.Sides.{named_sides}
 use Rattle.lin_reasons.specs.declared.told.Told.{Told}
 
 -- the lines tell that nothing leaves the item, and of those that failed to
-pub record IsUnwrittenTold (told : Told) (at : ℕ) (n : Item) (lines names : List ℕ) : Type 0 where
+pub record IsUnwrittenTold (told : Told) (at : ℕ) (n : Item) (lines operations : List ℕ) : Type 0 where
   pub failed : List ℕ
   pub all_failed : IsListing (Fails told.events.now (λ call. Leaves call (Held n))) failed
   pub put : lines ≡ unwritten_text told at n failed
-  pub named : names ≡ at ∷ firsts failed
+  pub named : operations ≡ at ∷ firsts failed
 
 -- the lines tell that nothing adds the item, and of those that failed to
-pub record IsUnaddedTold (told : Told) (read : ℕ) (n : Item) (lines names : List ℕ) : Type 0 where
+pub record IsUnaddedTold (told : Told) (read : ℕ) (n : Item) (lines operations : List ℕ) : Type 0 where
   pub failed : List ℕ
   pub all_failed : IsListing (Fails told.events.now (λ call. Adds call n)) failed
   pub put : lines ≡ unadded_text told read n failed
-  pub named : names ≡ read ∷ firsts failed
+  pub named : operations ≡ read ∷ firsts failed
 
 -- so many operations that leave the value are told
 abbrev pub most_told : Val → ℕ
@@ -56,7 +56,7 @@ named_over at first pairs = at ∷ (option_to_list first ++ flat_map both_of pai
 
 -- the lines tell of the first operations that leave the value, each with one that leaves some value between it and the one that needs the
 -- value, and how many more there are
-pub record IsOverwrittenTold (told : Told) (at : ℕ) (v : Val) (lines names : List ℕ) : Type 0 where
+pub record IsOverwrittenTold (told : Told) (at : ℕ) (v : Val) (lines operations : List ℕ) : Type 0 where
   pub others : List ℕ
   pub all_others : IsListing (OtherCanLeave told.events.now v at) others
   pub first : Option ℕ
@@ -65,7 +65,7 @@ pub record IsOverwrittenTold (told : Told) (at : ℕ) (v : Val) (lines names : L
   pub pairs_begin : map (λ pair. pair.0) pairs ≡ take (most_told v) others
   pub each_between : All (λ pair. IsBetween told.events.now pair.0 at pair.1) pairs
   pub put : lines ≡ overwritten_text told at v first pairs (length others - most_told v)
-  pub named : names ≡ named_over at first pairs
+  pub named : operations ≡ named_over at first pairs
 
 -- the operations of the two pairs, where there is a second
 abbrev pub all_four : ℕ × ℕ → Option (ℕ × ℕ) → List ℕ
@@ -73,7 +73,7 @@ all_four pair None = both_of pair
 all_four pair (Some back) = both_of back ++ both_of pair
 
 -- the lines tell how often the item was taken out, and how often it can have been put in
-pub record IsTakenTold (told : Told) (n : Item) (lines names : List ℕ) : Type 0 where
+pub record IsTakenTold (told : Told) (n : Item) (lines operations : List ℕ) : Type 0 where
   pub done : List ℕ
   pub may : List ℕ
   pub failed : List ℕ
@@ -81,17 +81,17 @@ pub record IsTakenTold (told : Told) (n : Item) (lines names : List ℕ) : Type 
   pub all_may : IsListing (CanAdd told.events.now n) may
   pub all_failed : IsListing (Fails told.events.now (λ call. Adds call n)) failed
   pub put : lines ≡ taken_text told n done may failed
-  pub named : names ≡ named_sides done may failed
+  pub named : operations ≡ named_sides done may failed
 
 -- the lines tell which dequeue took the item first, if one did
-pub record IsPassedTold (told : Told) (enqueue later dequeue : ℕ) (n other : Item) (lines names : List ℕ) : Type 0 where
+pub record IsPassedTold (told : Told) (enqueue later dequeue : ℕ) (n other : Item) (lines operations : List ℕ) : Type 0 where
   pub takes : List ℕ
   pub all_takes : IsListing (TookOut told.events.now n) takes
   pub put : lines ≡ passed_text told (enqueue, later) dequeue n other (slice_get takes 0)
-  pub named : names ≡ enqueue ∷ later ∷ dequeue ∷ option_to_list (slice_get takes 0)
+  pub named : operations ≡ enqueue ∷ later ∷ dequeue ∷ option_to_list (slice_get takes 0)
 
 -- the lines tell how often one of a lock's calls returned, and how often the other can have taken effect, which was too seldom
-pub record IsCountedBy (told : Told) (over under : Calls) (done_word may_word : Name) (spare : ℕ) (lines names : List ℕ) : Type 0 where
+pub record IsCountedBy (told : Told) (over under : Calls) (done_word may_word : Name) (spare : ℕ) (lines operations : List ℕ) : Type 0 where
   pub done : List ℕ
   pub may : List ℕ
   pub failed : List ℕ
@@ -100,47 +100,47 @@ pub record IsCountedBy (told : Told) (over under : Calls) (done_word may_word : 
   pub all_failed : IsListing (Fails told.events.now (IsOfCalls under)) failed
   pub more : length may + spare < length done
   pub put : lines ≡ counted_text told done_word may_word done may failed
-  pub named : names ≡ named_sides done may failed
+  pub named : operations ≡ named_sides done may failed
 
 -- one acquire needs no release before it
 abbrev pub IsCountedTold : Told → List ℕ → List ℕ → Type 0
-IsCountedTold told lines names = IsCountedBy told Releases Acquires Named.Release Named.Acquire 0 lines names
-    ⊎ IsCountedBy told Acquires Releases Named.Acquire Named.Release 1 lines names
+IsCountedTold told lines operations = IsCountedBy told Releases Acquires Named.Release Named.Acquire 0 lines operations
+    ⊎ IsCountedBy told Acquires Releases Named.Acquire Named.Release 1 lines operations
 
 -- the lines tell the certificate of a register, a queue, a set or a lock, and name these operations
 abbrev pub IsReasonOfRegister : Told → Certificate → List ℕ → List ℕ → Type 0
-IsReasonOfRegister told (Form.Shape read) lines names = (lines ≡ shape_text told read) × (names ≡ read ∷ [])
-IsReasonOfRegister told (Form.Unwritten at n) lines names = IsUnwrittenTold told at n lines names
-IsReasonOfRegister told (Form.Overwritten at v) lines names = IsOverwrittenTold told at v lines names
-IsReasonOfRegister told (Form.Crossed v w early late back) lines names = (lines ≡ crossed_text told v (Held w) (early, late) back) × (names ≡ all_four (early, late) back)
-IsReasonOfRegister told _ lines names = (lines ≡ []) × (names ≡ [])
+IsReasonOfRegister told (Form.Shape read) lines operations = (lines ≡ shape_text told read) × (operations ≡ read ∷ [])
+IsReasonOfRegister told (Form.Unwritten at n) lines operations = IsUnwrittenTold told at n lines operations
+IsReasonOfRegister told (Form.Overwritten at v) lines operations = IsOverwrittenTold told at v lines operations
+IsReasonOfRegister told (Form.Crossed v w early late back) lines operations = (lines ≡ crossed_text told v (Held w) (early, late) back) × (operations ≡ all_four (early, late) back)
+IsReasonOfRegister told _ lines operations = (lines ≡ []) × (operations ≡ [])
 
 abbrev pub IsReasonOfQueue : Told → Certificate → List ℕ → List ℕ → Type 0
-IsReasonOfQueue told (Form.Taken n) lines names = IsTakenTold told n lines names
-IsReasonOfQueue told (Form.Passed enqueue later dequeue n other) lines names = IsPassedTold told enqueue later dequeue n other lines names
-IsReasonOfQueue told (Form.Inside enqueue dequeue n) lines names = (lines ≡ inside_text told enqueue dequeue n) × (names ≡ enqueue ∷ dequeue ∷ [])
-IsReasonOfQueue told c lines names = IsReasonOfRegister told c lines names
+IsReasonOfQueue told (Form.Taken n) lines operations = IsTakenTold told n lines operations
+IsReasonOfQueue told (Form.Passed enqueue later dequeue n other) lines operations = IsPassedTold told enqueue later dequeue n other lines operations
+IsReasonOfQueue told (Form.Inside enqueue dequeue n) lines operations = (lines ≡ inside_text told enqueue dequeue n) × (operations ≡ enqueue ∷ dequeue ∷ [])
+IsReasonOfQueue told c lines operations = IsReasonOfRegister told c lines operations
 
 abbrev pub IsReasonOfSet : Told → Certificate → List ℕ → List ℕ → Type 0
-IsReasonOfSet told (Form.Unadded read n) lines names = IsUnaddedTold told read n lines names
-IsReasonOfSet told (Form.Lost earlier read n) lines names = (lines ≡ lost_text told earlier read n) × (names ≡ earlier ∷ read ∷ [])
-IsReasonOfSet told (Form.Split first second n other) lines names = (lines ≡ split_text told (first, second) n other) × (names ≡ first ∷ second ∷ [])
-IsReasonOfSet told (Form.Late earlier add read n other) lines names = (lines ≡ late_text told (earlier, add) read n other) × (names ≡ earlier ∷ add ∷ read ∷ [])
-IsReasonOfSet told c lines names = IsReasonOfQueue told c lines names
+IsReasonOfSet told (Form.Unadded read n) lines operations = IsUnaddedTold told read n lines operations
+IsReasonOfSet told (Form.Lost earlier read n) lines operations = (lines ≡ lost_text told earlier read n) × (operations ≡ earlier ∷ read ∷ [])
+IsReasonOfSet told (Form.Split first second n other) lines operations = (lines ≡ split_text told (first, second) n other) × (operations ≡ first ∷ second ∷ [])
+IsReasonOfSet told (Form.Late earlier add read n other) lines operations = (lines ≡ late_text told (earlier, add) read n other) × (operations ≡ earlier ∷ add ∷ read ∷ [])
+IsReasonOfSet told c lines operations = IsReasonOfQueue told c lines operations
 
 -- the lines tell the certificate, and name these operations
 abbrev pub IsReason : Told → Certificate → List ℕ → List ℕ → Type 0
-IsReason told (Form.Twice first second) lines names = (lines ≡ twice_text told first second) × (names ≡ first ∷ second ∷ [])
-IsReason told Form.Counted lines names = IsCountedTold told lines names
-IsReason told c lines names = IsReasonOfSet told c lines names
+IsReason told (Form.Twice first second) lines operations = (lines ≡ twice_text told first second) × (operations ≡ first ∷ second ∷ [])
+IsReason told Form.Counted lines operations = IsCountedTold told lines operations
+IsReason told c lines operations = IsReasonOfSet told c lines operations
 
 -- lines of this meaning, and the operations that they name, were put last
 abbrev pub ArePut : (List ℕ → List ℕ → Type 0) → List ℕ → List ℕ → List ℕ → List ℕ → Type 0
-ArePut Tells text text' names names' = (lines : List ℕ) × (more : List ℕ) × (text' ≡ text ++ lines) × (names' ≡ names ++ more) × Tells lines more
+ArePut Tells text text' named named' = (lines : List ℕ) × (more : List ℕ) × (text' ≡ text ++ lines) × (named' ≡ named ++ more) × Tells lines more
 
 -- lines that tell the certificate were put last, and the list has the operations that they name, rising, each once
 abbrev pub IsTold : Told → Certificate → List ℕ → List ℕ → List ℕ → Type 0
-IsTold told c text text' named = (lines : List ℕ) × (names : List ℕ) × (text' ≡ text ++ lines) × IsReason told c lines names × IsListing (Contains names) named
+IsTold told c text text' named = (lines : List ℕ) × (operations : List ℕ) × (text' ≡ text ++ lines) × IsReason told c lines operations × IsListing (Contains operations) named
 
 -- the certificate holds of the object's events, for an object of some kind
 abbrev pub IsCertified : List Event → Certificate → Type 0

@@ -8,9 +8,9 @@ use Rattle.lin_events.specs.declared.calls.Reply.TheVariants as Replied
 use Rattle.lin_events.specs.declared.events.Body.{Body}
 use Rattle.lin_events.specs.declared.events.Body.TheVariants.{Invoke, Ok}
 use Rattle.lin_events.specs.declared.events.Event.{Event}
-use Rattle.lin_formats.specs.Items.{item_text}
 use Rattle.lin_words.specs.Operations.{operation_text}
 use Rattle.lin_words.specs.Spots.{spot_text}
+use Rattle.lin_words.specs.Values.{short_item_text}
 use Rattle.lin_reasons.specs.declared.told.Told.{Told}
 use Rattle.lin_reasons.specs.declared.told.Verb.{Verb}
 use Rattle.lin_reasons.specs.declared.told.Verb.TheVariants.{Returned, Called, Failed}
@@ -76,17 +76,17 @@ is_acquire (Some Acquire) = true
 is_acquire _ = false
 
 -- the words of an operation that an event begins, with its reply
-abbrev pub body_words : ℕ → Body → Option Reply → List ℕ
-body_words process (Invoke call) reply = operation_text process call reply
-body_words process _ reply = []
+abbrev pub body_words : List (List ℕ) → ℕ → Body → Option Reply → List ℕ
+body_words names process (Invoke call) reply = operation_text names process call reply
+body_words names process _ reply = []
 
-abbrev pub event_words : Option Event → Option Reply → List ℕ
-event_words None reply = []
-event_words (Some event) reply = body_words event.process event.body reply
+abbrev pub event_words : List (List ℕ) → Option Event → Option Reply → List ℕ
+event_words names None reply = []
+event_words names (Some event) reply = body_words names event.process event.body reply
 
 -- the operation, with its reply where it is ok, but without members
 abbrev pub op_text : Told → ℕ → List ℕ
-op_text told at = event_words (slice_get told.events.now at) (without_members (reply_at told at))
+op_text told at = event_words told.names.now (slice_get told.events.now at) (without_members (reply_at told at))
 
 abbrev pub returned_text : Told → ℕ → List ℕ
 returned_text told at = op_text told at ++ codes " returned at " ++ end_spot told at
@@ -107,8 +107,8 @@ abbrev pub in_turn_text : Told → ℕ → ℕ → List ℕ
 in_turn_text told first second = returned_text told first ++ codes ", " ++ called_text told second
 
 -- the set had the item when the operation returned: a read tells it
-abbrev pub item_behind : Bool → Item → List ℕ
-item_behind reads n = if reads then codes " with " ++ item_text n else []
+abbrev pub item_behind : Told → Bool → Item → List ℕ
+item_behind told reads n = if reads then codes " with " ++ short_item_text told.names.now n else []
 
 abbrev pub had_text : Told → ℕ → Item → List ℕ
-had_text told at n = op_text told at ++ item_behind (is_read (call_in (slice_get told.events.now at))) n ++ codes " returned at " ++ end_spot told at
+had_text told at n = op_text told at ++ item_behind told (is_read (call_in (slice_get told.events.now at))) n ++ codes " returned at " ++ end_spot told at

@@ -35,18 +35,18 @@ fn put_past(text: &mut Vec<u8>, name: Name) -> Result<(), AllocError>
 fn put_twice_by(
     text: &mut Vec<u8>,
     told: &Told,
-    names: (Name, Name),
+    words: (Name, Name),
     first: usize,
     second: usize,
 ) -> Result<(), AllocError>
-    ensures { OnOk result (text.new.items ≡ text.old.items ++ twice_by_text told.now names.0 names.1 first second) }
+    ensures { OnOk result (text.new.items ≡ text.old.items ++ twice_by_text told.now words.0 words.1 first second) }
 {
     text.extend_from_slice(b"why: ")?;
-    put_past(text, names.0)?;
+    put_past(text, words.0)?;
     text.extend_from_slice(b" twice\n")?;
     put_turn(text, told, b"  ", first, second)?;
     text.extend_from_slice(b"  no ")?;
-    put_name(text, names.1)?;
+    put_name(text, words.1)?;
     text.extend_from_slice(b" can stand between: each that didn't fail had returned before ")?;
     put_called(text, told, first)?;
     text.push(b'\n')?;
@@ -73,17 +73,17 @@ pub(crate) fn put_twice(
 fn put_counted_lines(
     text: &mut Vec<u8>,
     told: &Told,
-    names: (Name, Name),
+    words: (Name, Name),
     sides: &Sides,
 ) -> Result<(), AllocError>
-    ensures { OnOk result (text.new.items ≡ text.old.items ++ counted_text told.now names.0 names.1 sides.now.done.items sides.now.may.items sides.now.failed.items) }
+    ensures { OnOk result (text.new.items ≡ text.old.items ++ counted_text told.now words.0 words.1 sides.now.done.items sides.now.may.items sides.now.failed.items) }
 {
     text.extend_from_slice(b"why: ")?;
-    put_past(text, names.0)?;
+    put_past(text, words.0)?;
     text.push(b' ')?;
     put_how_often(text, sides.done.as_slice())?;
     text.extend_from_slice(b" and ")?;
-    put_past(text, names.1)?;
+    put_past(text, words.1)?;
     text.extend_from_slice(b" at most ")?;
     put_how_often(text, sides.may.as_slice())?;
     text.push(b'\n')?;
@@ -94,28 +94,28 @@ fn put_counted_lines(
 /// Puts the lines last of a lock that had the one call too often, and the operations that they name.
 fn put_counted_by(
     text: &mut Vec<u8>,
-    names: &mut Vec<usize>,
+    named: &mut Vec<usize>,
     told: &Told,
     words: (Name, Name),
     sides: &Sides,
 ) -> Result<(), AllocError>
     ensures put { OnOk result (text.new.items ≡ text.old.items ++ counted_text told.now words.0 words.1 sides.now.done.items sides.now.may.items sides.now.failed.items) }
-    ensures named { OnOk result (names.new.items ≡ names.old.items ++ named_sides sides.now.done.items sides.now.may.items sides.now.failed.items) }
+    ensures named { OnOk result (named.new.items ≡ named.old.items ++ named_sides sides.now.done.items sides.now.may.items sides.now.failed.items) }
 {
     put_counted_lines(text, told, words, sides)?;
-    name_sides(names, sides)
+    name_sides(named, sides)
 }
 
 /// Puts the lines last of a lock that was released too often, or else acquired too often, and the operations that they name.
 pub(crate) fn put_counted(
     text: &mut Vec<u8>,
-    names: &mut Vec<usize>,
+    named: &mut Vec<usize>,
     told: &Told,
     alloc: Global,
 ) -> Result<(), AllocError>
     requires table { IsNextTable told.now.events.now told.now.ends.now }
     requires holds { IsCounted told.now.events.now }
-    ensures { OnOk result (ArePut (IsCountedTold told.now) text.old.items text.new.items names.old.items names.new.items) }
+    ensures { OnOk result (ArePut (IsCountedTold told.now) text.old.items text.new.items named.old.items named.new.items) }
 {
     let released = sides_of(
         told,
@@ -124,7 +124,7 @@ pub(crate) fn put_counted(
         alloc,
     )?;
     if released.may.len() < released.done.len() {
-        put_counted_by(text, names, told, (Name::Release, Name::Acquire), &released)?;
+        put_counted_by(text, named, told, (Name::Release, Name::Acquire), &released)?;
         return Ok(());
     }
     let acquired = sides_of(
@@ -133,6 +133,6 @@ pub(crate) fn put_counted(
         Calls::Releases,
         alloc,
     )?;
-    put_counted_by(text, names, told, (Name::Acquire, Name::Release), &acquired)?;
+    put_counted_by(text, named, told, (Name::Acquire, Name::Release), &acquired)?;
     Ok(())
 }

@@ -13,7 +13,7 @@ use crate::sides::{Sides, name_sides, put_sides, sides_of};
 use crate::told::{Told, put_in_turn, put_returned};
 use lin_certificates::Certificate;
 use lin_events::Item;
-use lin_formats::put_item;
+use lin_words::put_short_item;
 use std::alloc::{AllocError, Global};
 
 /// Puts a line last that begins so and says that the one operation returned and the other was called.
@@ -42,7 +42,7 @@ fn put_taken_lines(
     ensures { OnOk result (text.new.items ≡ text.old.items ++ taken_text told.now item sides.now.done.items sides.now.may.items sides.now.failed.items) }
 {
     text.extend_from_slice(b"why: ")?;
-    put_item(text, item)?;
+    put_short_item(text, told.names, item)?;
     text.extend_from_slice(b" was taken out ")?;
     put_how_often(text, sides.done.as_slice())?;
     text.extend_from_slice(b" and put in at most ")?;
@@ -55,17 +55,17 @@ fn put_taken_lines(
 /// Puts the lines last of an item that was taken out too often, and the operations that they name.
 fn put_taken(
     text: &mut Vec<u8>,
-    names: &mut Vec<usize>,
+    named: &mut Vec<usize>,
     told: &Told,
     item: Item,
     alloc: Global,
 ) -> Result<(), AllocError>
     requires { IsNextTable told.now.events.now told.now.ends.now }
-    ensures { OnOk result (ArePut (IsTakenTold told.now item) text.old.items text.new.items names.old.items names.new.items) }
+    ensures { OnOk result (ArePut (IsTakenTold told.now item) text.old.items text.new.items named.old.items named.new.items) }
 {
     let sides = sides_of(told, Answers::Takes(item), Calls::Adds(item), alloc)?;
     put_taken_lines(text, told, item, &sides)?;
-    name_sides(names, &sides)?;
+    name_sides(named, &sides)?;
     Ok(())
 }
 
@@ -81,7 +81,7 @@ fn put_not_taken_out(
     text.extend_from_slice(b"  taken out: ")?;
     put_returned(text, told, dequeue)?;
     text.extend_from_slice(b", and nothing that may have taken ")?;
-    put_item(text, item)?;
+    put_short_item(text, told.names, item)?;
     text.extend_from_slice(b" out was called before\n")?;
     Ok(())
 }
@@ -103,13 +103,18 @@ fn put_taken_out(
 }
 
 /// Puts a line last that says which item passed which.
-fn put_passed_why(text: &mut Vec<u8>, item: Item, other: Item) -> Result<(), AllocError>
-    ensures { OnOk result (text.new.items ≡ text.old.items ++ passed_why item other) }
+fn put_passed_why(
+    text: &mut Vec<u8>,
+    told: &Told,
+    item: Item,
+    other: Item,
+) -> Result<(), AllocError>
+    ensures { OnOk result (text.new.items ≡ text.old.items ++ passed_why told.now item other) }
 {
     text.extend_from_slice(b"why: ")?;
-    put_item(text, other)?;
+    put_short_item(text, told.names, other)?;
     text.extend_from_slice(b" passed ")?;
-    put_item(text, item)?;
+    put_short_item(text, told.names, item)?;
     text.push(b'\n')?;
     Ok(())
 }
@@ -126,7 +131,7 @@ fn put_passed_lines(
 ) -> Result<(), AllocError>
     ensures { OnOk result (text.new.items ≡ text.old.items ++ passed_text told.now puts dequeue item other taker) }
 {
-    put_passed_why(text, item, other)?;
+    put_passed_why(text, told, item, other)?;
     put_turn(text, told, b"  put in: ", puts.0, puts.1)?;
     put_taken_out(text, told, dequeue, item, taker)?;
     Ok(())
@@ -145,7 +150,7 @@ fn first_of(list: &[usize]) -> Option<usize>
 /// Puts the lines last of an item that the other one passed, and the operations that they name. These are two enqueues and a dequeue.
 fn put_passed(
     text: &mut Vec<u8>,
-    names: &mut Vec<usize>,
+    named: &mut Vec<usize>,
     told: &Told,
     operations: (usize, usize, usize),
     item: Item,
@@ -153,16 +158,16 @@ fn put_passed(
     alloc: Global,
 ) -> Result<(), AllocError>
     requires { IsNextTable told.now.events.now told.now.ends.now }
-    ensures { OnOk result (ArePut (IsPassedTold told.now operations.0 operations.1 operations.2 item other) text.old.items text.new.items names.old.items names.new.items) }
+    ensures { OnOk result (ArePut (IsPassedTold told.now operations.0 operations.1 operations.2 item other) text.old.items text.new.items named.old.items named.new.items) }
 {
     let (enqueue, later, dequeue) = operations;
     let group = Group::Returned(Answers::Takes(item));
     let takes = all_of(told, &group, alloc)?;
     let taker = first_of(takes.as_slice());
     put_passed_lines(text, told, (enqueue, later), dequeue, item, other, taker)?;
-    name_pair(names, (enqueue, later))?;
-    names.push(dequeue)?;
-    name_some(names, taker)?;
+    name_pair(named, (enqueue, later))?;
+    named.push(dequeue)?;
+    name_some(named, taker)?;
     Ok(())
 }
 
@@ -177,11 +182,11 @@ fn put_inside(
     ensures { OnOk result (text.new.items ≡ text.old.items ++ inside_text told.now enqueue dequeue item) }
 {
     text.extend_from_slice(b"why: ")?;
-    put_item(text, item)?;
+    put_short_item(text, told.names, item)?;
     text.extend_from_slice(b" was in the queue\n")?;
     put_turn(text, told, b"  put in: ", enqueue, dequeue)?;
     text.extend_from_slice(b"  taken out: nothing that may have taken ")?;
-    put_item(text, item)?;
+    put_short_item(text, told.names, item)?;
     text.extend_from_slice(b" out was called before ")?;
     put_returned(text, told, dequeue)?;
     text.push(b'\n')?;
@@ -191,17 +196,17 @@ fn put_inside(
 /// Puts the lines last of the certificate, if it is one of a queue or a register.
 pub(crate) fn put_queue_reason(
     text: &mut Vec<u8>,
-    names: &mut Vec<usize>,
+    named: &mut Vec<usize>,
     told: &Told,
     certificate: &Certificate,
     alloc: Global,
 ) -> Result<(), AllocError>
     requires table { IsNextTable told.now.events.now told.now.ends.now }
     requires holds { IsCertified told.now.events.now certificate.now }
-    ensures { OnOk result (ArePut (IsReasonOfQueue told.now certificate.now) text.old.items text.new.items names.old.items names.new.items) }
+    ensures { OnOk result (ArePut (IsReasonOfQueue told.now certificate.now) text.old.items text.new.items named.old.items named.new.items) }
 {
     match certificate {
-        Certificate::Taken { item } => put_taken(text, names, told, *item, alloc),
+        Certificate::Taken { item } => put_taken(text, named, told, *item, alloc),
         Certificate::Passed {
             enqueue,
             later,
@@ -210,7 +215,7 @@ pub(crate) fn put_queue_reason(
             other,
         } => {
             let operations = (*enqueue, *later, *dequeue);
-            put_passed(text, names, told, operations, *item, *other, alloc)
+            put_passed(text, named, told, operations, *item, *other, alloc)
         }
         Certificate::Inside {
             enqueue,
@@ -218,9 +223,9 @@ pub(crate) fn put_queue_reason(
             item,
         } => {
             put_inside(text, told, *enqueue, *dequeue, *item)?;
-            name_pair(names, (*enqueue, *dequeue))?;
+            name_pair(named, (*enqueue, *dequeue))?;
             Ok(())
         }
-        _ => put_register_reason(text, names, told, certificate, alloc),
+        _ => put_register_reason(text, named, told, certificate, alloc),
     }
 }

@@ -10,26 +10,26 @@ use crate::told::Told;
 use lin_certificates::Certificate;
 use std::alloc::{AllocError, Global};
 
-/// Puts the lines of the certificate last, and behind the names the operations that they name.
+/// Puts the lines of the certificate last, and the operations that they name.
 fn put_any_reason(
     text: &mut Vec<u8>,
-    names: &mut Vec<usize>,
+    named: &mut Vec<usize>,
     told: &Told,
     certificate: &Certificate,
     alloc: Global,
 ) -> Result<(), AllocError>
     requires table { IsNextTable told.now.events.now told.now.ends.now }
     requires holds { IsCertified told.now.events.now certificate.now }
-    ensures { OnOk result (ArePut (IsReason told.now certificate.now) text.old.items text.new.items names.old.items names.new.items) }
+    ensures { OnOk result (ArePut (IsReason told.now certificate.now) text.old.items text.new.items named.old.items named.new.items) }
 {
     match certificate {
         Certificate::Twice { first, second } => {
             put_twice(text, told, *first, *second)?;
-            name_pair(names, (*first, *second))?;
+            name_pair(named, (*first, *second))?;
             Ok(())
         }
-        Certificate::Counted => put_counted(text, names, told, alloc),
-        _ => put_set_reason(text, names, told, certificate, alloc),
+        Certificate::Counted => put_counted(text, named, told, alloc),
+        _ => put_set_reason(text, named, told, certificate, alloc),
     }
 }
 
@@ -45,7 +45,7 @@ pub fn put_reason(
     requires holds { IsCertified told.now.events.now certificate.now }
     ensures { IfOk result (λ named. IsTold told.now certificate.now text.old.items text.new.items named.items) }
 {
-    let mut names = Vec::new(alloc);
-    put_any_reason(text, &mut names, told, certificate, alloc)?;
-    Ok(in_order(names))
+    let mut named = Vec::new(alloc);
+    put_any_reason(text, &mut named, told, certificate, alloc)?;
+    Ok(in_order(named))
 }

@@ -14,16 +14,16 @@ use crate::series::{FIRSTS, firsts_of, put_fact, put_failures};
 use crate::told::{Told, Verb, put_called, put_end_spot, put_in_turn, reply_of};
 use lin_certificates::Certificate;
 use lin_events::{Item, Reply, Val};
-use lin_formats::{put_item, put_number};
-use lin_words::put_value;
+use lin_formats::put_number;
+use lin_words::{put_short_item, put_value};
 use std::alloc::{AllocError, Global};
 
 /// Puts a line last that says that a read of a set gave the value.
-fn put_value_why(text: &mut Vec<u8>, value: Val) -> Result<(), AllocError>
-    ensures { OnOk result (text.new.items ≡ text.old.items ++ value_why value) }
+fn put_value_why(text: &mut Vec<u8>, told: &Told, value: Val) -> Result<(), AllocError>
+    ensures { OnOk result (text.new.items ≡ text.old.items ++ value_why told.now value) }
 {
     text.extend_from_slice(b"why: a read of a set gives members, not ")?;
-    put_value(text, value)?;
+    put_value(text, told.names, value)?;
     text.push(b'\n')?;
     Ok(())
 }
@@ -37,22 +37,22 @@ fn put_members_why(text: &mut Vec<u8>) -> Result<(), AllocError>
 }
 
 /// Puts a line last that says what a read gave that can't be.
-fn put_reply_why(text: &mut Vec<u8>, reply: &Reply) -> Result<(), AllocError>
-    ensures { OnOk result (text.new.items ≡ text.old.items ++ reply_why reply.now) }
+fn put_reply_why(text: &mut Vec<u8>, told: &Told, reply: &Reply) -> Result<(), AllocError>
+    ensures { OnOk result (text.new.items ≡ text.old.items ++ reply_why told.now reply.now) }
 {
     match reply {
         Reply::Done => Ok(()),
-        Reply::Value(value) => put_value_why(text, *value),
+        Reply::Value(value) => put_value_why(text, told, *value),
         Reply::Members(_) => put_members_why(text),
     }
 }
 
 /// Puts a line last that says what a read gave that can't be, if it gave something.
-fn put_shape_why(text: &mut Vec<u8>, reply: Option<&Reply>) -> Result<(), AllocError>
-    ensures { OnOk result (text.new.items ≡ text.old.items ++ shape_why (option_map (λ r. r.now) reply.entry)) }
+fn put_shape_why(text: &mut Vec<u8>, told: &Told, reply: Option<&Reply>) -> Result<(), AllocError>
+    ensures { OnOk result (text.new.items ≡ text.old.items ++ shape_why told.now (option_map (λ r. r.now) reply.entry)) }
 {
     match reply {
-        Some(reply) => put_reply_why(text, reply),
+        Some(reply) => put_reply_why(text, told, reply),
         None => Ok(()),
     }
 }
@@ -61,7 +61,7 @@ fn put_shape_why(text: &mut Vec<u8>, reply: Option<&Reply>) -> Result<(), AllocE
 pub(crate) fn put_shape(text: &mut Vec<u8>, told: &Told, read: usize) -> Result<(), AllocError>
     ensures { OnOk result (text.new.items ≡ text.old.items ++ shape_text told.now read) }
 {
-    put_shape_why(text, reply_of(told, read))?;
+    put_shape_why(text, told, reply_of(told, read))?;
     put_fact(text, told, Verb::Returned, read)
 }
 
@@ -76,7 +76,7 @@ fn put_unwritten_lines(
     ensures { OnOk result (text.new.items ≡ text.old.items ++ unwritten_text told.now operation item failed.now) }
 {
     text.extend_from_slice(b"why: nothing leaves ")?;
-    put_item(text, item)?;
+    put_short_item(text, told.names, item)?;
     text.push(b'\n')?;
     put_fact(text, told, Verb::Returned, operation)?;
     put_failures(text, told, b"  no other operation leaves it\n", failed)?;
@@ -86,21 +86,21 @@ fn put_unwritten_lines(
 /// Puts the lines last of an item that nothing leaves, and the operations that they name.
 fn put_unwritten(
     text: &mut Vec<u8>,
-    names: &mut Vec<usize>,
+    named: &mut Vec<usize>,
     told: &Told,
     operation: usize,
     item: Item,
     alloc: Global,
 ) -> Result<(), AllocError>
     requires { IsNextTable told.now.events.now told.now.ends.now }
-    ensures { OnOk result (ArePut (IsUnwrittenTold told.now operation item) text.old.items text.new.items names.old.items names.new.items) }
+    ensures { OnOk result (ArePut (IsUnwrittenTold told.now operation item) text.old.items text.new.items named.old.items named.new.items) }
 {
     let group = Group::Fails(Calls::Leaves(Val::Item(item)));
     let list = all_of(told, &group, alloc)?;
     let failed = list.as_slice();
     put_unwritten_lines(text, told, operation, item, failed)?;
-    names.push(operation)?;
-    names.extend_from_slice(firsts_of(failed, FIRSTS))?;
+    named.push(operation)?;
+    named.extend_from_slice(firsts_of(failed, FIRSTS))?;
     Ok(())
 }
 
@@ -164,7 +164,7 @@ fn put_overwritten_why(
     ensures { OnOk result (text.new.items ≡ text.old.items ++ overwritten_why told.now operation value) }
 {
     text.extend_from_slice(b"why: ")?;
-    put_value(text, value)?;
+    put_value(text, told.names, value)?;
     text.extend_from_slice(b" was overwritten before ")?;
     put_called(text, told, operation)?;
     text.push(b'\n')?;
@@ -204,25 +204,35 @@ fn put_pairs(text: &mut Vec<u8>, told: &Told, pairs: &[(usize, usize)]) -> Resul
 }
 
 /// Puts a line last that says how many more operations leave the value.
-fn put_updates_count(text: &mut Vec<u8>, value: Val, more: usize) -> Result<(), AllocError>
-    ensures { OnOk result (text.new.items ≡ text.old.items ++ updates_count_text value more) }
+fn put_updates_count(
+    text: &mut Vec<u8>,
+    told: &Told,
+    value: Val,
+    more: usize,
+) -> Result<(), AllocError>
+    ensures { OnOk result (text.new.items ≡ text.old.items ++ updates_count_text told.now value more) }
 {
     text.extend_from_slice(b"  and so were ")?;
     put_number(text, more as u64)?;
     text.extend_from_slice(b" more updates that leave ")?;
-    put_value(text, value)?;
+    put_value(text, told.names, value)?;
     text.push(b'\n')?;
     Ok(())
 }
 
 /// Puts a line last that says how many more operations leave the value, if any do.
-fn put_more_updates(text: &mut Vec<u8>, value: Val, more: usize) -> Result<(), AllocError>
-    ensures { OnOk result (text.new.items ≡ text.old.items ++ more_updates_text value more) }
+fn put_more_updates(
+    text: &mut Vec<u8>,
+    told: &Told,
+    value: Val,
+    more: usize,
+) -> Result<(), AllocError>
+    ensures { OnOk result (text.new.items ≡ text.old.items ++ more_updates_text told.now value more) }
 {
     if more == 0 {
         return Ok(());
     }
-    put_updates_count(text, value, more)
+    put_updates_count(text, told, value, more)
 }
 
 /// Puts the lines last of a value that was overwritten before the operation that needs it: as these pairs tell, and so many more.
@@ -239,27 +249,27 @@ fn put_overwritten_lines(
     put_overwritten_why(text, told, needed.0, needed.1)?;
     put_first_over(text, told, first)?;
     put_pairs(text, told, pairs)?;
-    put_more_updates(text, needed.1, more)
+    put_more_updates(text, told, needed.1, more)
 }
 
 /// Puts the operations last that the lines of an overwritten value name.
 fn name_overwritten(
-    names: &mut Vec<usize>,
+    named: &mut Vec<usize>,
     operation: usize,
     first: Option<usize>,
     pairs: &[(usize, usize)],
 ) -> Result<(), AllocError>
-    ensures { OnOk result (names.new.items ≡ names.old.items ++ named_over operation first pairs.now) }
+    ensures { OnOk result (named.new.items ≡ named.old.items ++ named_over operation first pairs.now) }
 {
-    names.push(operation)?;
-    name_some(names, first)?;
-    name_pairs(names, pairs)
+    named.push(operation)?;
+    name_some(named, first)?;
+    name_pairs(named, pairs)
 }
 
 /// Puts the lines last of a value that was overwritten before the operation that needs it, and the operations that they name.
 fn put_overwritten(
     text: &mut Vec<u8>,
-    names: &mut Vec<usize>,
+    named: &mut Vec<usize>,
     told: &Told,
     operation: usize,
     value: Val,
@@ -267,7 +277,7 @@ fn put_overwritten(
 ) -> Result<(), AllocError>
     requires table { IsNextTable told.now.events.now told.now.ends.now }
     requires holds { IsOverwritten told.now.events.now operation value }
-    ensures { OnOk result (ArePut (IsOverwrittenTold told.now operation value) text.old.items text.new.items names.old.items names.new.items) }
+    ensures { OnOk result (ArePut (IsOverwrittenTold told.now operation value) text.old.items text.new.items named.old.items named.new.items) }
 {
     let first = first_over(told, operation, value, alloc)?;
     let group = Group::CountsBut(Calls::Leaves(value), operation);
@@ -278,7 +288,7 @@ fn put_overwritten(
     let pairs = over.as_slice();
     let more = others.len().saturating_sub(most);
     put_overwritten_lines(text, told, (operation, value), first, pairs, more)?;
-    name_overwritten(names, operation, first, pairs)?;
+    name_overwritten(named, operation, first, pairs)?;
     Ok(())
 }
 
@@ -293,9 +303,9 @@ fn put_held(
     ensures { OnOk result (text.new.items ≡ text.old.items ++ held_text told.now value other pair) }
 {
     text.extend_from_slice(b"  ")?;
-    put_value(text, value)?;
+    put_value(text, told.names, value)?;
     text.extend_from_slice(b" before ")?;
-    put_value(text, other)?;
+    put_value(text, told.names, other)?;
     text.extend_from_slice(b": ")?;
     put_in_turn(text, told, pair.0, pair.1)?;
     text.push(b'\n')?;
@@ -333,9 +343,9 @@ fn put_crossed(
     ensures { OnOk result (text.new.items ≡ text.old.items ++ crossed_text told.now value other pair back) }
 {
     text.extend_from_slice(b"why: crossed values ")?;
-    put_value(text, value)?;
+    put_value(text, told.names, value)?;
     text.extend_from_slice(b" and ")?;
-    put_value(text, other)?;
+    put_value(text, told.names, other)?;
     put_crossed_back(text, told, value, other, back)?;
     put_held(text, told, other, value, pair)?;
     Ok(())
@@ -344,26 +354,26 @@ fn put_crossed(
 /// Puts the lines last of the certificate, if it is one of a register.
 pub(crate) fn put_register_reason(
     text: &mut Vec<u8>,
-    names: &mut Vec<usize>,
+    named: &mut Vec<usize>,
     told: &Told,
     certificate: &Certificate,
     alloc: Global,
 ) -> Result<(), AllocError>
     requires table { IsNextTable told.now.events.now told.now.ends.now }
     requires holds { IsCertified told.now.events.now certificate.now }
-    ensures { OnOk result (ArePut (IsReasonOfRegister told.now certificate.now) text.old.items text.new.items names.old.items names.new.items) }
+    ensures { OnOk result (ArePut (IsReasonOfRegister told.now certificate.now) text.old.items text.new.items named.old.items named.new.items) }
 {
     match certificate {
         Certificate::Shape { read } => {
             put_shape(text, told, *read)?;
-            names.push(*read)?;
+            named.push(*read)?;
             Ok(())
         }
         Certificate::Unwritten { operation, item } => {
-            put_unwritten(text, names, told, *operation, *item, alloc)
+            put_unwritten(text, named, told, *operation, *item, alloc)
         }
         Certificate::Overwritten { operation, value } => {
-            put_overwritten(text, names, told, *operation, *value, alloc)
+            put_overwritten(text, named, told, *operation, *value, alloc)
         }
         Certificate::Crossed {
             value,
@@ -374,7 +384,7 @@ pub(crate) fn put_register_reason(
         } => {
             let pair = (*early, *late);
             put_crossed(text, told, *value, Val::Item(*item), pair, *back)?;
-            name_four(names, pair, *back)?;
+            name_four(named, pair, *back)?;
             Ok(())
         }
         _ => Ok(()),

@@ -2,6 +2,7 @@
 use crate::{Told, put_reason};
 use lin_certificates::find_certificate;
 use lin_events::{Body, Call, Event, IntSet, Item, Name, Reply, Val};
+use lin_names::Names;
 use lin_objects::Kind;
 use lin_orders::ends_of;
 use lin_places::Place;
@@ -56,7 +57,7 @@ fn tells(
     steps: &[(u64, Step)],
     failing: usize,
     wanted: &str,
-    names: &[usize],
+    operations: &[usize],
 ) {
     let events = events(rt, steps);
     let ends = ends_of(rt.alloc(), &events).expect(rt, "memory");
@@ -68,11 +69,13 @@ fn tells(
         lines.push(Place { offset: 0, line }).expect(rt, "memory");
     }
     let places = Some(lines.as_slice());
+    let names = Names::new(rt.alloc());
     let told = Told {
         events: &events,
         ends: &ends,
         picks: &picks,
         places,
+        names: &names,
     };
     let found = find_certificate(rt.alloc(), &events, kind, failing).expect(rt, "memory");
     assert!(rt; found.is_some());
@@ -80,7 +83,7 @@ fn tells(
         let mut text = Vec::new(rt.alloc());
         let named = put_reason(&mut text, &told, &certificate, rt.alloc()).expect(rt, "memory");
         assert!(rt; text.as_slice() == wanted.as_bytes());
-        assert!(rt; named.as_slice() == names);
+        assert!(rt; named.as_slice() == operations);
     }
 }
 

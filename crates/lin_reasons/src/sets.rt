@@ -12,7 +12,7 @@ use crate::series::{FIRSTS, firsts_of, put_fact, put_failures};
 use crate::told::{Told, Verb, put_called, put_had, put_returned};
 use lin_certificates::Certificate;
 use lin_events::Item;
-use lin_formats::put_item;
+use lin_words::put_short_item;
 use std::alloc::{AllocError, Global};
 
 /// Puts the lines last that say that nothing adds the item that the read has: these failed.
@@ -26,7 +26,7 @@ fn put_unadded_lines(
     ensures { OnOk result (text.new.items ≡ text.old.items ++ unadded_text told.now read item failed.now) }
 {
     text.extend_from_slice(b"why: nothing adds ")?;
-    put_item(text, item)?;
+    put_short_item(text, told.names, item)?;
     text.push(b'\n')?;
     put_fact(text, told, Verb::Returned, read)?;
     put_failures(text, told, b"  no operation adds it\n", failed)?;
@@ -36,21 +36,21 @@ fn put_unadded_lines(
 /// Puts the lines last of an item that nothing adds, and the operations that they name.
 fn put_unadded(
     text: &mut Vec<u8>,
-    names: &mut Vec<usize>,
+    named: &mut Vec<usize>,
     told: &Told,
     read: usize,
     item: Item,
     alloc: Global,
 ) -> Result<(), AllocError>
     requires { IsNextTable told.now.events.now told.now.ends.now }
-    ensures { OnOk result (ArePut (IsUnaddedTold told.now read item) text.old.items text.new.items names.old.items names.new.items) }
+    ensures { OnOk result (ArePut (IsUnaddedTold told.now read item) text.old.items text.new.items named.old.items named.new.items) }
 {
     let group = Group::Fails(Calls::Adds(item));
     let list = all_of(told, &group, alloc)?;
     let failed = list.as_slice();
     put_unadded_lines(text, told, read, item, failed)?;
-    names.push(read)?;
-    names.extend_from_slice(firsts_of(failed, FIRSTS))?;
+    named.push(read)?;
+    named.extend_from_slice(firsts_of(failed, FIRSTS))?;
     Ok(())
 }
 
@@ -85,9 +85,9 @@ fn put_found(
     text.extend_from_slice(b"  ")?;
     put_returned(text, told, read)?;
     text.extend_from_slice(b" with ")?;
-    put_item(text, item)?;
+    put_short_item(text, told.names, item)?;
     text.extend_from_slice(b" and without ")?;
-    put_item(text, other)?;
+    put_short_item(text, told.names, other)?;
     text.push(b'\n')?;
     Ok(())
 }
@@ -103,13 +103,13 @@ fn put_lost(
     ensures { OnOk result (text.new.items ≡ text.old.items ++ lost_text told.now earlier read item) }
 {
     text.extend_from_slice(b"why: ")?;
-    put_item(text, item)?;
+    put_short_item(text, told.names, item)?;
     text.extend_from_slice(b" was lost\n")?;
     put_in_before(text, told, earlier, item, read)?;
     text.extend_from_slice(b"  ")?;
     put_returned(text, told, read)?;
     text.extend_from_slice(b" without ")?;
-    put_item(text, item)?;
+    put_short_item(text, told.names, item)?;
     text.push(b'\n')?;
     Ok(())
 }
@@ -142,9 +142,9 @@ fn put_late(
     ensures { OnOk result (text.new.items ≡ text.old.items ++ late_text told.now before read item other) }
 {
     text.extend_from_slice(b"why: ")?;
-    put_item(text, item)?;
+    put_short_item(text, told.names, item)?;
     text.extend_from_slice(b" was in before ")?;
-    put_item(text, other)?;
+    put_short_item(text, told.names, other)?;
     text.extend_from_slice(b" was added\n")?;
     put_in_before(text, told, before.0, item, before.1)?;
     put_found(text, told, read, other, item)?;
@@ -154,18 +154,18 @@ fn put_late(
 /// Puts the lines last of the certificate, if it isn't one of a lock.
 pub(crate) fn put_set_reason(
     text: &mut Vec<u8>,
-    names: &mut Vec<usize>,
+    named: &mut Vec<usize>,
     told: &Told,
     certificate: &Certificate,
     alloc: Global,
 ) -> Result<(), AllocError>
     requires table { IsNextTable told.now.events.now told.now.ends.now }
     requires holds { IsCertified told.now.events.now certificate.now }
-    ensures { OnOk result (ArePut (IsReasonOfSet told.now certificate.now) text.old.items text.new.items names.old.items names.new.items) }
+    ensures { OnOk result (ArePut (IsReasonOfSet told.now certificate.now) text.old.items text.new.items named.old.items named.new.items) }
 {
     match certificate {
         Certificate::Unadded { read, item } => {
-            put_unadded(text, names, told, *read, *item, alloc)
+            put_unadded(text, named, told, *read, *item, alloc)
         }
         Certificate::Lost {
             earlier,
@@ -173,7 +173,7 @@ pub(crate) fn put_set_reason(
             item,
         } => {
             put_lost(text, told, *earlier, *read, *item)?;
-            name_pair(names, (*earlier, *read))?;
+            name_pair(named, (*earlier, *read))?;
             Ok(())
         }
         Certificate::Split {
@@ -183,7 +183,7 @@ pub(crate) fn put_set_reason(
             other,
         } => {
             put_split(text, told, (*first, *second), *item, *other)?;
-            name_pair(names, (*first, *second))?;
+            name_pair(named, (*first, *second))?;
             Ok(())
         }
         Certificate::Late {
@@ -194,10 +194,10 @@ pub(crate) fn put_set_reason(
             other,
         } => {
             put_late(text, told, (*earlier, *add), *read, *item, *other)?;
-            name_pair(names, (*earlier, *add))?;
-            names.push(*read)?;
+            name_pair(named, (*earlier, *add))?;
+            named.push(*read)?;
             Ok(())
         }
-        _ => put_queue_reason(text, names, told, certificate, alloc),
+        _ => put_queue_reason(text, named, told, certificate, alloc),
     }
 }

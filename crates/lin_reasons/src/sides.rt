@@ -45,10 +45,10 @@ pub(crate) fn put_sides(text: &mut Vec<u8>, told: &Told, sides: &Sides) -> Resul
 }
 
 /// Puts the first operations of each list last.
-pub(crate) fn name_sides(names: &mut Vec<usize>, sides: &Sides) -> Result<(), AllocError>
-    ensures { OnOk result (names.new.items ≡ names.old.items ++ named_sides sides.now.done.items sides.now.may.items sides.now.failed.items) }
+pub(crate) fn name_sides(named: &mut Vec<usize>, sides: &Sides) -> Result<(), AllocError>
+    ensures { OnOk result (named.new.items ≡ named.old.items ++ named_sides sides.now.done.items sides.now.may.items sides.now.failed.items) }
 {
-    names.extend_from_slice(firsts_of(sides.done.as_slice(), FIRSTS))?;
-    names.extend_from_slice(firsts_of(sides.may.as_slice(), FIRSTS))?;
-    names.extend_from_slice(firsts_of(sides.failed.as_slice(), FIRSTS))
+    named.extend_from_slice(firsts_of(sides.done.as_slice(), FIRSTS))?;
+    named.extend_from_slice(firsts_of(sides.may.as_slice(), FIRSTS))?;
+    named.extend_from_slice(firsts_of(sides.failed.as_slice(), FIRSTS))
 }

@@ -3,9 +3,9 @@ ghost use Rattle.std.specs.Prelude.{◌≡◌, ◌++◌, option_map, slice_get, 
 ghost use Rattle.lin_reasons.specs.Telling.{call_in, called_text, did_text, end_at, end_spot, failed_text, had_text, in_turn_text, is_acquire as calls_acquire, is_read as calls_read, item_behind, op_text, position_of as position, reply_behind_end, returned_text, spot_at, without_members as plain};
 
 use lin_events::{Body, Call, Event, Item, Reply};
-use lin_formats::put_item;
+use lin_names::Names;
 use lin_places::Place;
-use lin_words::{put_operation, put_spot};
+use lin_words::{put_operation, put_short_item, put_spot};
 use std::alloc::AllocError;
 
 /// The events of one object, and where they stand in the whole history.
@@ -19,6 +19,8 @@ pub struct Told<'a> {
     pub picks: &'a [usize],
     /// Where the events of the whole history stand in a recording, if there is one.
     pub places: Option<&'a [Place]>,
+    /// The spellings of words.
+    pub names: &'a Names,
 }
 
 /// What is told of an operation.
@@ -139,7 +141,7 @@ pub fn put_op(line: &mut Vec<u8>, told: &Told, at: usize) -> Result<(), AllocErr
         return Ok(());
     };
     match &event.body {
-        Body::Invoke(call) => put_operation(line, event.process, *call, reply),
+        Body::Invoke(call) => put_operation(line, told.names, event.process, *call, reply),
         _ => Ok(()),
     }
 }
@@ -204,14 +206,14 @@ pub(crate) fn put_in_turn(
 }
 
 /// Puts last that a read found the item.
-fn put_found(line: &mut Vec<u8>, reads: bool, item: Item) -> Result<(), AllocError>
-    ensures { OnOk result (line.new.items ≡ line.old.items ++ item_behind reads item) }
+fn put_found(line: &mut Vec<u8>, told: &Told, reads: bool, item: Item) -> Result<(), AllocError>
+    ensures { OnOk result (line.new.items ≡ line.old.items ++ item_behind told.now reads item) }
 {
     if !reads {
         return Ok(());
     }
     line.extend_from_slice(b" with ")?;
-    put_item(line, item)
+    put_short_item(line, told.names, item)
 }
 
 /// Puts last that an operation returned, and, if it is a read, that it found the item.
@@ -225,7 +227,7 @@ pub(crate) fn put_had(
 {
     put_op(line, told, at)?;
     let reads = is_read(told, at);
-    put_found(line, reads, item)?;
+    put_found(line, told, reads, item)?;
     line.extend_from_slice(b" returned at ")?;
     put_end_spot(line, told, at)?;
     Ok(())

@@ -1,5 +1,5 @@
 -- The lines of commands, as their bytes come.
-use Rattle.std.proofs.Common.{◌≡◌, ◌≢◌, ◌==◌, ◌+◌, ◌-◌, ◌<◌, ◌≤◌, ◌∷◌, ◌++◌, [], ℕ, Bool, false, List, Result, Option, Err, All, length, take, drop, get_or, inl, inr, refl, sym, ap, subst, ◌∙◌, arith, ne_eqb, lt-ltb, append-nil, append_assoc}
+use Rattle.std.proofs.Common.{◌≡◌, ◌≢◌, ◌==◌, ◌+◌, ◌-◌, ◌<◌, ◌≤◌, ◌∷◌, ◌++◌, [], ℕ, false, List, Result, Option, Err, All, length, take, drop, get_or, inl, inr, refl, sym, ap, subst, ◌∙◌, arith, ne_eqb, lt-ltb, append-nil, append_assoc}
 use Rattle.std.specs.Prelude.{if◌then◌else◌}
 use Rattle.std.proofs.lemmas.Bool.{cases_order}
 use Rattle.std.proofs.lemmas.List.{get_or-drop, get_or-take, get_or_default, length-drop, length-take, length-take-le, take-append-drop, take-append-le, take_all, take_more}
@@ -7,6 +7,8 @@ use Rattle.std.proofs.Math.Seq.{take-add, take-append-add}
 use Rattle.std.proofs.lemmas.List.Elements.{All-tail, All-head}
 use Rattle.lin_report.specs.Commands.{IsCommand, IsSaid, longest_line, sense_of, sense_of_line, without_return}
 use Rattle.lin_formats.specs.Parts.{words_from}
+use Rattle.lin_history.specs.Reading.{Reading}
+use Rattle.lin_names.specs.Names.{Numbering}
 use Rattle.lin_report.specs.Runs.{in_front, lines_of}
 use Rattle.lin_report.specs.declared.commands.Command.{Command}
 use Rattle.lin_report.specs.declared.commands.CommandFault.{CommandFault}
@@ -65,20 +67,20 @@ kept_some m kept rest is some =
     omega arith
 
 -- a line that is too long
-too_long : (line : List ℕ) → longest_line < length line → sense_of_line line ≡ Err LineTooLong
-too_long line long = ap (λ b. if b then Err LineTooLong else sense_of (words_from 0 (without_return line))) (lt-ltb longest_line (length line) long)
+too_long : (number : Numbering) (line : List ℕ) → longest_line < length line → sense_of_line number line ≡ Err LineTooLong
+too_long number line long = ap (λ b. if b then Err LineTooLong else sense_of number (words_from 0 (without_return line))) (lt-ltb longest_line (length line) long)
 
 -- what is kept of a line says what the line says
-pub kept_says : (keyed : Bool) (line kept : List ℕ) (said : Result (Option Command) CommandFault) → kept ≡ take (longest_line + 1) line
-    → IsCommand keyed kept said → IsCommand keyed line said
-kept_says keyed line kept said is right = elim (cases_order longest_line (length line)) [
-  | inl same ↦ subst (λ l. IsCommand keyed l said) (is ∙ take_all (longest_line + 1) line (omega arith)) right
+pub kept_says : (m : Reading) (line kept : List ℕ) (said : Result (Option Command) CommandFault) → kept ≡ take (longest_line + 1) line
+    → IsCommand m kept said → IsCommand m line said
+kept_says m line kept said is right = elim (cases_order longest_line (length line)) [
+  | inl same ↦ subst (λ l. IsCommand m l said) (is ∙ take_all (longest_line + 1) line (omega arith)) right
   | inr differ ↦ elim differ [
     | inl long ↦
         let size : length kept ≡ longest_line + 1 = ap length is ∙ length-take-le (longest_line + 1) line (omega arith) in
-        let refused = subst (λ s. IsSaid keyed (without_return kept) s said) (too_long kept (omega arith)) right in
-        subst (λ s. IsSaid keyed (without_return line) s said) (sym (too_long line long)) refused
-    | inr short ↦ subst (λ l. IsCommand keyed l said) (is ∙ take_all (longest_line + 1) line (omega arith)) right
+        let refused = subst (λ s. IsSaid m (without_return kept) s said) (too_long m.number kept (omega arith)) right in
+        subst (λ s. IsSaid m (without_return line) s said) (sym (too_long m.number line long)) refused
+    | inr short ↦ subst (λ l. IsCommand m l said) (is ∙ take_all (longest_line + 1) line (omega arith)) right
   ]
 ]
 

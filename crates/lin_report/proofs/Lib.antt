@@ -1,4 +1,5 @@
 pub mod CommandLines
+pub mod Keys
 pub mod ObjectFindings
 pub mod Maps
 pub mod OneObject
@@ -7,6 +8,7 @@ pub mod Pulling
 pub mod Refusals
 pub mod Replying
 pub mod UnderWay
+pub mod WordSenses
 pub mod Agreeing
 pub mod Refuted
 pub mod Answered

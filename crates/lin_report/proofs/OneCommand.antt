@@ -1,11 +1,12 @@
 -- A line says one thing.
-use Rattle.std.proofs.Common.{◌≡◌, ◌≢◌, ◌⊎◌, ◌+◌, ℕ, Bool, List, drop, Option, Result, Ok, Err, inl, inr, refl, sym, subst, ◌∙◌}
+use Rattle.std.proofs.Common.{◌≡◌, ◌≢◌, ◌⊎◌, ◌+◌, ℕ, List, drop, Option, Result, Ok, Err, inl, inr, refl, sym, subst, ◌∙◌}
 use Rattle.lin_edn.specs.Grammar.{IsBlankText}
 use Rattle.lin_edn.specs.Laws.{ReadingsAreUnique}
 use Rattle.lin_edn.specs.Reading as reading
 use Rattle.lin_edn.specs.Reading.{Reading, Allows, IsOutOfMemory, IsWantOfMemory}
 use Rattle.lin_edn.specs.declared.EdnCause.{EdnCause}
 use Rattle.lin_edn.specs.declared.EdnCause.TheVariants as edn
+use Rattle.lin_history.specs.Reading.{Reading as WayToRead}
 use Rattle.lin_history.specs.Table.{event}
 use Rattle.lin_report.specs.declared.commands.Command.{Command}
 use Rattle.lin_report.specs.declared.commands.CommandFault.{CommandFault}
@@ -18,7 +19,7 @@ use Rattle.lin_report.specs.Commands.{command_of, IsMapCommand, faulty, unfinish
 abbrev pub Answer : Type 0
 Answer = Result (Option Command) CommandFault
 
-module _ (keyed : Bool) (t : Target) (at : ℕ) (text : List ℕ) where
+module _ (m : WayToRead) (t : Target) (at : ℕ) (text : List ℕ) where
   -- blanks stand behind a place, or they don't
   abbrev pub IsRest : ℕ → Answer → Answer → Type 0
   IsRest used wanted a =
@@ -26,7 +27,7 @@ module _ (keyed : Bool) (t : Target) (at : ℕ) (text : List ℕ) where
 
   -- the answer, by what is read of the text
   abbrev pub IsAnswerTo : Reading → Answer → Type 0
-  IsAnswerTo (reading.an_element v p used) a = IsRest used (command_of t (event keyed v)) a
+  IsAnswerTo (reading.an_element v p used) a = IsRest used (command_of t (event m v)) a
   IsAnswerTo (reading.unfinished p) a = a ≡ Err NotOneMap
   IsAnswerTo (reading.blanks used) a = a ≡ Err NotOneMap
   IsAnswerTo (reading.refused p cause) a = a ≡ Err (Edn (record { at = at + p; cause = cause }))
@@ -38,7 +39,7 @@ module _ (keyed : Bool) (t : Target) (at : ℕ) (text : List ℕ) where
   no_want edn.TooLong other h = h
   no_want edn.OutOfMemory other h = other refl
 
-  read : (a : Answer) → IsMapCommand keyed t at text a → (r : Reading) × Allows text r × (IsWantOfMemory r → ⊥) × IsAnswerTo r a
+  read : (a : Answer) → IsMapCommand m t at text a → (r : Reading) × Allows text r × (IsWantOfMemory r → ⊥) × IsAnswerTo r a
   read a (faulty p cause refuses other) = (reading.refused p cause, refuses, no_want cause other, refl)
   read a (unfinished p is) = (reading.unfinished p, is, (λ h. h), refl)
   read a (missing used is) = (reading.blanks used, is, (λ h. h), refl)
@@ -52,12 +53,12 @@ module _ (keyed : Bool) (t : Target) (at : ℕ) (text : List ℕ) where
   one_rest used wanted a b (inr x) (inr y) = x.1 ∙ sym y.1
 
   one_answer : (r : Reading) (a b : Answer) → IsAnswerTo r a → IsAnswerTo r b → a ≡ b
-  one_answer (reading.an_element v p used) a b x y = one_rest used (command_of t (event keyed v)) a b x y
+  one_answer (reading.an_element v p used) a b x y = one_rest used (command_of t (event m v)) a b x y
   one_answer (reading.unfinished p) a b x y = x ∙ sym y
   one_answer (reading.blanks used) a b x y = x ∙ sym y
   one_answer (reading.refused p cause) a b x y = x ∙ sym y
 
-  one_map_command : ReadingsAreUnique → (a b : Answer) → IsMapCommand keyed t at text a → IsMapCommand keyed t at text b → a ≡ b
+  one_map_command : ReadingsAreUnique → (a b : Answer) → IsMapCommand m t at text a → IsMapCommand m t at text b → a ≡ b
   one_map_command readings a b x y =
       let first = read a x in
       let second = read b y in
@@ -65,8 +66,8 @@ module _ (keyed : Bool) (t : Target) (at : ℕ) (text : List ℕ) where
       one_answer first.0 a b first.3 (subst (λ r. IsAnswerTo r b) same second.3)
 
 -- a line whose words say this says one thing
-pub one_said : ReadingsAreUnique → (keyed : Bool) (line : List ℕ) (s : Result Sense CommandFault) (a b : Answer) → IsSaid keyed line s a → IsSaid keyed line s b → a ≡ b
-one_said readings keyed line (Err fault) a b x y = x ∙ sym y
-one_said readings keyed line (Ok sense.Nothing) a b x y = x ∙ sym y
-one_said readings keyed line (Ok (sense.Plain command)) a b x y = x ∙ sym y
-one_said readings keyed line (Ok (sense.Map t at)) a b x y = one_map_command keyed t at (drop at line) readings a b x y
+pub one_said : ReadingsAreUnique → (m : WayToRead) (line : List ℕ) (s : Result Sense CommandFault) (a b : Answer) → IsSaid m line s a → IsSaid m line s b → a ≡ b
+one_said readings m line (Err fault) a b x y = x ∙ sym y
+one_said readings m line (Ok sense.Nothing) a b x y = x ∙ sym y
+one_said readings m line (Ok (sense.Plain command)) a b x y = x ∙ sym y
+one_said readings m line (Ok (sense.Map t at)) a b x y = one_map_command m t at (drop at line) readings a b x y

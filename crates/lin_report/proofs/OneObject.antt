@@ -25,8 +25,8 @@ one_listed (x ∷ []) d one = refl
 one_listed (x ∷ y ∷ xs) d one = absurd (omega (arith, one))
 
 -- each event is of the only key
-pub only_key : (h : List Event) (key : Item) → AreKeys h (key ∷ []) → (at : ℕ) (event : Event) → IsEvent h at event → event.key ≡ key
-only_key h key are at event stands = elim (Contains-push_cases [] key event.key ((are.each event.key).1 (event, Contains-slice_get h at event stands, refl))) [
+pub only_key : (names : List (List ℕ)) (h : List Event) (key : Item) → AreKeys names h (key ∷ []) → (at : ℕ) (event : Event) → IsEvent h at event → event.key ≡ key
+only_key names h key are at event stands = elim (Contains-push_cases [] key event.key ((are.each event.key).1 (event, Contains-slice_get h at event stands, refl))) [
   | inl (k, within, is) ↦ absurd (omega arith)
   | inr same ↦ sym same
 ]

@@ -1,15 +1,17 @@
 -- A run that takes in the bytes of its commands.
-use Rattle.std.proofs.Common.{◌≡◌, ◌≢◌, ◌+◌, ◌<◌, ◌≤◌, ◌^◌, IfOk, IfErr, unwrap_or, ◌∷◌, ◌++◌, [], ℕ, Bool, List, Option, None, Some, Result, Ok, Err, All, length, take, inl, inr, sym, ap, subst, ◌∙◌, arith, append_assoc, append-nil, length-append}
+use Rattle.std.proofs.Common.{◌≡◌, ◌≢◌, ◌+◌, ◌<◌, ◌≤◌, ◌^◌, IfOk, IfErr, unwrap_or, ◌∷◌, ◌++◌, [], ℕ, Bool, List, Option, None, Some, Result, Ok, Err, All, length, take, inl, inr, refl, sym, ap, subst, ◌∙◌, arith, append_assoc, append-nil, length-append}
 use Rattle.std.specs.Io.KnownBytes.{Appends, Consumes, IsAtEnd, Keeps}
 use Rattle.std.specs.Prelude.{IsErrAnd}
 use Rattle.std.specs.Option.{option_or}
 use Rattle.std.proofs.KnownBytes.{Appends-kept, Appends-trans, Consumes-nil, Consumes-trans}
 use Rattle.std.proofs.Math.Seq.{take-append-add}
 use Rattle.std.proofs.lemmas.List.Elements.{All-append}
-use Rattle.lin_history.specs.Sees.{Sees}
+use Rattle.lin_history.specs.Sees.{Followed}
+use Rattle.lin_names.specs.Names.{AreEachOnce}
 use Rattle.lin_report.specs.inner.Engines.{Holds, IsCarriedOut, IsCutOff, IsCutShort, IsFinished, IsUnderWay, ReadsPart}
 use Rattle.lin_report.specs.Runs.{AreCarriedOut, AreRead, IsDone, IsReply, AreReplies, IsEditRun, IsSaidDone, IsWritten, RunState, lines_of, start_of}
 use Rattle.lin_report.specs.Runs.AreReplies.{one_more}
+use Rattle.lin_formats.specs.Intakes.{AreSeen}
 use Rattle.lin_formats.specs.Verdicts.{IsReadTooFar}
 use Rattle.lin_formats.specs.declared.verdicts.Status.{Status}
 use Rattle.lin_formats.specs.declared.verdicts.Status.TheVariants.{Yes}
@@ -47,13 +49,25 @@ read_at keyed (Ok (Some command)) before after text status done = read_by keyed 
 read_at keyed (Err fault) before after text status done = unread before after (ap (λ (s : RunState). s.left) done.0) (ap (λ (s : RunState). s.bytes) done.0)
 
 pub file_part : (keyed : Bool) (before : RunState) (line : List ℕ) (after : RunState) (text : List ℕ) (status : Option Status) → IsReply keyed before line after text status → Reads before after
-file_part keyed before line after text status replies = read_at keyed replies.0 before after text status replies.2
+file_part keyed before line after text status replies = read_at keyed replies.2 (record before { names = replies.0 }) after text status replies.4
 
 other_fault : WriteFailed ≡ TooMuch → ⊥
 other_fault e = cc
 
 no_such : OutOfMemory ≡ TooMuch → ⊥
 no_such e = cc
+
+keeps_itself : (device : Option (List ℕ)) → Keeps device device
+keeps_itself None = tt
+keeps_itself (Some bytes) = refl
+
+-- nothing is written where the writer didn't fail
+pub cut_unwritten : (keyed : Bool) (names names' : List (List ℕ)) (follow : Followed) (file file' out : Option (List ℕ)) (before : RunState) (line : List ℕ) (fault : RunFault)
+    → (fault ≡ WriteFailed → ⊥) → ReadsPart names names' follow file file' (fault ≡ TooMuch) → IsCutShort keyed names names' follow file file' out out before line fault
+cut_unwritten keyed names names' follow file file' out before line ReadFailed other reads = (reads, keeps_itself out)
+cut_unwritten keyed names names' follow file file' out before line WriteFailed other reads = absurd (other refl)
+cut_unwritten keyed names names' follow file file' out before line OutOfMemory other reads = (reads, keeps_itself out)
+cut_unwritten keyed names names' follow file file' out before line TooMuch other reads = (reads, keeps_itself out)
 
 module _ (keyed : Bool) (start : RunState) (before : Option (List ℕ)) where
   -- some bytes of a line are held
@@ -68,7 +82,9 @@ module _ (keyed : Bool) (start : RunState) (before : Option (List ℕ)) where
     run = subst (AreReplies keyed start so_far.lines so_far.state so_far.text) (sym (ap (λ (e : Engine). e.status) same)) so_far.run;
     stands = record {
       present_is = ap (λ (e : Engine). e.session.present) same ∙ so_far.stands.present_is;
-      sees = subst (λ f. Sees f so_far.state.bytes so_far.state.put) (sym (ap (λ (e : Engine). e.follow) same)) so_far.stands.sees;
+      names_are = ap (λ (e : Engine). e.names) same ∙ so_far.stands.names_are;
+      once = subst (λ (e : Engine). AreEachOnce e.names) (sym same) so_far.stands.once;
+      sees = subst (λ (e : Engine). AreSeen e.names e.follow so_far.state.bytes so_far.state.put) (sym same) so_far.stands.sees;
       keyed_is = ap (λ (e : Engine). e.follow.keyed) same ∙ so_far.stands.keyed_is;
       left_is = so_far.stands.left_is;
     };
@@ -104,31 +120,31 @@ module _ (keyed : Bool) (start : RunState) (before : Option (List ℕ)) where
       }
 
   -- the lines that were carried out before
-  lines_before : (engine : Engine) (left left' after after' : Option (List ℕ)) (bytes : List ℕ) (is : Type 0)
-      (so_far : IsUnderWay keyed start before engine left after bytes) → ReadsPart engine.follow left left' is → Keeps after after'
+  lines_before : (engine : Engine) (names : List (List ℕ)) (left left' after after' : Option (List ℕ)) (bytes : List ℕ) (is : Type 0)
+      (so_far : IsUnderWay keyed start before engine left after bytes) → ReadsPart engine.names names engine.follow left left' is → Keeps after after'
       → AreCarriedOut keyed start so_far.lines left' (Appends before after')
-  lines_before engine left left' after after' bytes is so_far reads keeps = (
+  lines_before engine names left left' after after' bytes is so_far reads keeps = (
     so_far.state,
     so_far.text,
     engine.status,
     so_far.run,
-    (reads.0, subst (λ l. Consumes l left' reads.0) so_far.stands.left_is reads.1),
+    (reads.1, subst (λ l. Consumes l left' reads.1) so_far.stands.left_is reads.2),
     Appends-kept before after after' so_far.text so_far.written keeps,
   )
 
   -- too much was read of the file
-  too_far : (engine : Engine) (left left' after : Option (List ℕ)) (bytes : List ℕ) (is : Type 0)
-      (so_far : IsUnderWay keyed start before engine left after bytes) → ReadsPart engine.follow left left' is → is → IsReadTooFar start.left left'
-  too_far engine left left' after bytes is so_far reads too_much =
-      let size = length-append so_far.state.bytes reads.0 in
-      let large = reads.2 too_much so_far.state.bytes so_far.state.put so_far.stands.sees in
-      (so_far.state.bytes ++ reads.0, Consumes-trans start.left left left' so_far.state.bytes reads.0 so_far.consumed reads.1, omega arith)
+  too_far : (engine : Engine) (names : List (List ℕ)) (left left' after : Option (List ℕ)) (bytes : List ℕ) (is : Type 0)
+      (so_far : IsUnderWay keyed start before engine left after bytes) → ReadsPart engine.names names engine.follow left left' is → is → IsReadTooFar start.left left'
+  too_far engine names left left' after bytes is so_far reads too_much =
+      let size = length-append so_far.state.bytes reads.1 in
+      let large = reads.3 too_much so_far.state.bytes so_far.state.put so_far.stands.sees in
+      (so_far.state.bytes ++ reads.1, Consumes-trans start.left left left' so_far.state.bytes reads.1 so_far.consumed reads.2, omega arith)
 
   -- these lines and the one that is held were carried out, and a beginning of the last reply is written
-  lines_with : (engine : Engine) (left left' after after' : Option (List ℕ)) (bytes : List ℕ) (so_far : IsUnderWay keyed start before engine left after bytes)
-      → IsCutShort keyed engine.follow left left' after after' so_far.state so_far.rest WriteFailed
+  lines_with : (engine : Engine) (names : List (List ℕ)) (left left' after after' : Option (List ℕ)) (bytes : List ℕ) (so_far : IsUnderWay keyed start before engine left after bytes)
+      → IsCutShort keyed engine.names names engine.follow left left' after after' so_far.state so_far.rest WriteFailed
       → AreCarriedOut keyed start (so_far.lines ++ so_far.rest ∷ []) left' (IsWritten WriteFailed before after')
-  lines_with engine left left' after after' bytes so_far cut = (
+  lines_with engine names left left' after after' bytes so_far cut = (
     cut.0,
     so_far.text ++ cut.1,
     option_or cut.2 engine.status,
@@ -162,17 +178,17 @@ module _ (keyed : Bool) (start : RunState) (before : Option (List ℕ)) where
       )
 
   -- a fault came at the line that was held, or at the one behind it
-  pub cut_within : (engine : Engine) (left left' after after' cleft : Option (List ℕ)) (bytes others : List ℕ) (so_far : IsUnderWay keyed start before engine left after bytes)
-      → (fault : RunFault) → IsCutShort keyed engine.follow left left' after after' so_far.state so_far.rest fault
+  pub cut_within : (engine : Engine) (names : List (List ℕ)) (left left' after after' cleft : Option (List ℕ)) (bytes others : List ℕ) (so_far : IsUnderWay keyed start before engine left after bytes)
+      → (fault : RunFault) → IsCutShort keyed engine.names names engine.follow left left' after after' so_far.state so_far.rest fault
       → IsCutOff keyed start before left' after' cleft (bytes ++ 10 ∷ others) fault
-  cut_within engine left left' after after' cleft bytes others so_far ReadFailed cut =
-      ((so_far.lines, begun engine left after cleft bytes (10 ∷ others) so_far, lines_before engine left left' after after' bytes _ so_far cut.0 cut.1), too_far engine left left' after bytes _ so_far cut.0)
-  cut_within engine left left' after after' cleft bytes others so_far OutOfMemory cut =
-      ((so_far.lines, begun engine left after cleft bytes (10 ∷ others) so_far, lines_before engine left left' after after' bytes _ so_far cut.0 cut.1), too_far engine left left' after bytes _ so_far cut.0)
-  cut_within engine left left' after after' cleft bytes others so_far TooMuch cut =
-      ((so_far.lines, begun engine left after cleft bytes (10 ∷ others) so_far, lines_before engine left left' after after' bytes _ so_far cut.0 cut.1), too_far engine left left' after bytes _ so_far cut.0)
-  cut_within engine left left' after after' cleft bytes others so_far WriteFailed cut =
-      ((so_far.lines ++ so_far.rest ∷ [], begun_with engine left after cleft bytes others so_far, lines_with engine left left' after after' bytes so_far cut), λ e. absurd (other_fault e))
+  cut_within engine names left left' after after' cleft bytes others so_far ReadFailed cut =
+      ((so_far.lines, begun engine left after cleft bytes (10 ∷ others) so_far, lines_before engine names left left' after after' bytes _ so_far cut.0 cut.1), too_far engine names left left' after bytes _ so_far cut.0)
+  cut_within engine names left left' after after' cleft bytes others so_far OutOfMemory cut =
+      ((so_far.lines, begun engine left after cleft bytes (10 ∷ others) so_far, lines_before engine names left left' after after' bytes _ so_far cut.0 cut.1), too_far engine names left left' after bytes _ so_far cut.0)
+  cut_within engine names left left' after after' cleft bytes others so_far TooMuch cut =
+      ((so_far.lines, begun engine left after cleft bytes (10 ∷ others) so_far, lines_before engine names left left' after after' bytes _ so_far cut.0 cut.1), too_far engine names left left' after bytes _ so_far cut.0)
+  cut_within engine names left left' after after' cleft bytes others so_far WriteFailed cut =
+      ((so_far.lines ++ so_far.rest ∷ [], begun_with engine left after cleft bytes others so_far, lines_with engine names left left' after after' bytes so_far cut), λ e. absurd (other_fault e))
 
   -- memory was refused for a line
   pub cut_holding : (engine : Engine) (left after cleft : Option (List ℕ)) (bytes others : List ℕ) → IsUnderWay keyed start before engine left after bytes
@@ -229,17 +245,17 @@ module _ (keyed : Bool) (start : RunState) (before : Option (List ℕ)) where
       )
 
   -- a fault came at the last line
-  pub cut_at_end : (engine : Engine) (left left' after after' behind : Option (List ℕ)) (bytes : List ℕ) (so_far : IsUnderWay keyed start before engine left after bytes)
-      → 0 < length so_far.rest → IsAtEnd behind → (fault : RunFault) → IsCutShort keyed engine.follow left left' after after' so_far.state so_far.rest fault
+  pub cut_at_end : (engine : Engine) (names : List (List ℕ)) (left left' after after' behind : Option (List ℕ)) (bytes : List ℕ) (so_far : IsUnderWay keyed start before engine left after bytes)
+      → 0 < length so_far.rest → IsAtEnd behind → (fault : RunFault) → IsCutShort keyed engine.names names engine.follow left left' after after' so_far.state so_far.rest fault
       → IsCutOff keyed start before left' after' behind bytes fault
-  cut_at_end engine left left' after after' behind bytes so_far some end ReadFailed cut =
-      ((so_far.lines, inl (so_far.rest, so_far.begins), lines_before engine left left' after after' bytes _ so_far cut.0 cut.1), too_far engine left left' after bytes _ so_far cut.0)
-  cut_at_end engine left left' after after' behind bytes so_far some end OutOfMemory cut =
-      ((so_far.lines, inl (so_far.rest, so_far.begins), lines_before engine left left' after after' bytes _ so_far cut.0 cut.1), too_far engine left left' after bytes _ so_far cut.0)
-  cut_at_end engine left left' after after' behind bytes so_far some end TooMuch cut =
-      ((so_far.lines, inl (so_far.rest, so_far.begins), lines_before engine left left' after after' bytes _ so_far cut.0 cut.1), too_far engine left left' after bytes _ so_far cut.0)
-  cut_at_end engine left left' after after' behind bytes so_far some end WriteFailed cut =
-      ((so_far.lines ++ so_far.rest ∷ [], inr (end, with_last engine left after bytes so_far some), lines_with engine left left' after after' bytes so_far cut), λ e. absurd (other_fault e))
+  cut_at_end engine names left left' after after' behind bytes so_far some end ReadFailed cut =
+      ((so_far.lines, inl (so_far.rest, so_far.begins), lines_before engine names left left' after after' bytes _ so_far cut.0 cut.1), too_far engine names left left' after bytes _ so_far cut.0)
+  cut_at_end engine names left left' after after' behind bytes so_far some end OutOfMemory cut =
+      ((so_far.lines, inl (so_far.rest, so_far.begins), lines_before engine names left left' after after' bytes _ so_far cut.0 cut.1), too_far engine names left left' after bytes _ so_far cut.0)
+  cut_at_end engine names left left' after after' behind bytes so_far some end TooMuch cut =
+      ((so_far.lines, inl (so_far.rest, so_far.begins), lines_before engine names left left' after after' bytes _ so_far cut.0 cut.1), too_far engine names left left' after bytes _ so_far cut.0)
+  cut_at_end engine names left left' after after' behind bytes so_far some end WriteFailed cut =
+      ((so_far.lines ++ so_far.rest ∷ [], inr (end, with_last engine left after bytes so_far some), lines_with engine names left left' after after' bytes so_far cut), λ e. absurd (other_fault e))
 
   -- the run stops behind the bytes
   pub stopped : (engine : Engine) (left after behind : Option (List ℕ)) (bytes others : List ℕ) → IsUnderWay keyed start before engine left after bytes

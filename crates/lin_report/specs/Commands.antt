@@ -1,22 +1,25 @@
 -- The commands that lines write: a word, and behind it numbers, a key, a word for a kind, or one operation map.
-use Rattle.std.specs.Prelude.{◌≡◌, ◌≢◌, ◌⊎◌, ℕ, ◌+◌, ◌-◌, ◌^◌, ◌==◌, nat_lt, Bool, List, [], ◌∷◌, length, take, drop, slice_index, Option, None, Some, Result, Ok, Err, codes, if◌then◌else◌}
+use Rattle.std.specs.Prelude.{◌≡◌, ◌≢◌, ◌⊎◌, ℕ, ◌+◌, ◌-◌, ◌^◌, ◌==◌, nat_lt, Bool, List, [], ◌∷◌, length, take, drop, slice_index, Option, None, Some, Result, Ok, Err, codes, ⊤, if◌then◌else◌}
 use Rattle.std.specs.Str.{bytes_eq}
 use Rattle.lin_edn.specs.Grammar.{Spells, IsBlankText, IsUnfinished}
 use Rattle.lin_edn.specs.Reading.{Refuses}
 use Rattle.lin_edn.specs.Value.{Value}
 use Rattle.lin_edn.specs.declared.EdnCause.{EdnCause}
 use Rattle.lin_edn.specs.declared.EdnCause.TheVariants as edn
+use Rattle.lin_history.specs.Reading.{IsReading, Reading}
 use Rattle.lin_history.specs.Table.{event}
 use Rattle.lin_events.specs.declared.events.Event.{Event as EventOf}
 use Rattle.lin_events.specs.declared.items.Item.{Item}
 use Rattle.lin_history.specs.declared.table.EventFault.{EventFault}
+use Rattle.lin_names.specs.Names.{Numbering}
+use Rattle.lin_names.specs.Spelled.{numbered}
 use Rattle.lin_objects.specs.declared.kinds.Kind.{Kind}
 use Rattle.lin_session.specs.declared.answers.Scope.{Scope}
 use Rattle.lin_session.specs.declared.answers.Scope.TheVariants as scope
 use Rattle.lin_session.specs.declared.edits.Edit.{Edit as EditOf}
 use Rattle.lin_session.specs.declared.edits.Edit.TheVariants as edit
 use Rattle.lin_formats.specs.Integers.{number_of}
-use Rattle.lin_formats.specs.Items.{item_in}
+use Rattle.lin_formats.specs.Items.{item_written}
 use Rattle.lin_formats.specs.Kinds.{kind_named}
 use Rattle.lin_formats.specs.Parts.{Part, words_from}
 use Rattle.lin_report.specs.declared.commands.Command.{Command}
@@ -86,24 +89,6 @@ number_in most words =
     or_refused BadWords (only words) (λ word.
     or_refused BadNumber (number_of most word.text) (λ n. Ok n))
 
--- the key that the only word writes
-abbrev pub key_in : List Part → Result Item CommandFault
-key_in words =
-    or_refused BadWords (only words) (λ word.
-    or_refused BadNumber (item_in word.text) (λ key. Ok key))
-
--- what a question is about: the object of the key that the only word writes, or the whole where there is none
-abbrev pub scope_in : List Part → Result Scope CommandFault
-scope_in [] = Ok scope.Whole
-scope_in (first ∷ words) = made_of scope.Object (key_in (first ∷ words))
-
--- a key and its kind
-abbrev pub key_and_kind : List Part → Result (Item × Kind) CommandFault
-key_and_kind words =
-    or_refused BadWords (both words) (λ (key, word).
-    or_refused BadNumber (item_in key.text) (λ k.
-    or_refused BadKind (kind_named word.text) (λ kind. Ok (k, kind))))
-
 -- what `replace` says: behind the number stands a map
 abbrev pub replacement : List Part → Result Sense CommandFault
 replacement [] = Err BadWords
@@ -113,25 +98,45 @@ replacement (word ∷ words) = or_refused BadNumber (number_of (2 ^ 64 - 1) word
 abbrev pub plain : {A : Type 0} → (A → Command) → Result A CommandFault → Result Sense CommandFault
 plain make read = made_of (λ x. sense.Plain (make x)) read
 
--- what the words behind the first one say, which ends at a place: first their number is tested, then each from left to right
-abbrev pub sense_behind : Verb → ℕ → List Part → Result Sense CommandFault
-sense_behind verb.Append end words = Ok (sense.Map target.Last end)
-sense_behind verb.Replace end words = replacement words
-sense_behind verb.Remove end words = plain (λ n. Edit (edit.Remove n)) (number_in (2 ^ 64 - 1) words)
-sense_behind verb.Truncate end words = plain (λ n. Edit (edit.Truncate n)) (number_in (2 ^ 64 - 1) words)
-sense_behind verb.Kind end words = plain (λ (key, kind). Edit (edit.SetKind key kind)) (key_and_kind words)
-sense_behind verb.Budget end words = plain (λ n. Edit (edit.SetBudget n)) (number_in (2 ^ 32 - 1) words)
-sense_behind verb.Ask end words = plain Ask (scope_in words)
-sense_behind verb.Order end words = plain Order (scope_in words)
-sense_behind verb.Report end words = plain (λ nothing. Report) (no_more words)
-sense_behind verb.Pull end words = plain (λ nothing. Pull) (no_more words)
-sense_behind verb.Refute end words = plain Refute (key_in words)
-sense_behind verb.Explain end words = plain Explain (scope_in words)
+-- by a numbering of spellings, on which no refusal depends
+module _ (number : Numbering) where
+  -- the key that the only word writes
+  abbrev pub key_in : List Part → Result Item CommandFault
+  key_in words =
+      or_refused BadWords (only words) (λ word.
+      or_refused BadNumber (item_written word.text) (λ key. Ok (numbered number key)))
 
--- what the words of a line say
-abbrev pub sense_of : List Part → Result Sense CommandFault
-sense_of [] = Ok sense.Nothing
-sense_of (word ∷ words) = or_refused UnknownCommand (verb_of word.text) (λ verb. sense_behind verb (end_of word) words)
+  -- what a question is about: the object of the key that the only word writes, or the whole where there is none
+  abbrev pub scope_in : List Part → Result Scope CommandFault
+  scope_in [] = Ok scope.Whole
+  scope_in (first ∷ words) = made_of scope.Object (key_in (first ∷ words))
+
+  -- a key and its kind
+  abbrev pub key_and_kind : List Part → Result (Item × Kind) CommandFault
+  key_and_kind words =
+      or_refused BadWords (both words) (λ (key, word).
+      or_refused BadNumber (item_written key.text) (λ k.
+      or_refused BadKind (kind_named word.text) (λ kind. Ok (numbered number k, kind))))
+
+  -- what the words behind the first one say, which ends at a place: first their number is tested, then each from left to right
+  abbrev pub sense_behind : Verb → ℕ → List Part → Result Sense CommandFault
+  sense_behind verb.Append end words = Ok (sense.Map target.Last end)
+  sense_behind verb.Replace end words = replacement words
+  sense_behind verb.Remove end words = plain (λ n. Edit (edit.Remove n)) (number_in (2 ^ 64 - 1) words)
+  sense_behind verb.Truncate end words = plain (λ n. Edit (edit.Truncate n)) (number_in (2 ^ 64 - 1) words)
+  sense_behind verb.Kind end words = plain (λ (key, kind). Edit (edit.SetKind key kind)) (key_and_kind words)
+  sense_behind verb.Budget end words = plain (λ n. Edit (edit.SetBudget n)) (number_in (2 ^ 32 - 1) words)
+  sense_behind verb.Ask end words = plain Ask (scope_in words)
+  sense_behind verb.Order end words = plain Order (scope_in words)
+  sense_behind verb.Report end words = plain (λ nothing. Report) (no_more words)
+  sense_behind verb.Pull end words = plain (λ nothing. Pull) (no_more words)
+  sense_behind verb.Refute end words = plain Refute (key_in words)
+  sense_behind verb.Explain end words = plain Explain (scope_in words)
+
+  -- what the words of a line say
+  abbrev pub sense_of : List Part → Result Sense CommandFault
+  sense_of [] = Ok sense.Nothing
+  sense_of (word ∷ words) = or_refused UnknownCommand (verb_of word.text) (λ verb. sense_behind verb (end_of word) words)
 
 -- the edit that an event makes: it is put last, or in the place of another
 abbrev pub edit_at : Target → EventOf → EditOf
@@ -145,27 +150,27 @@ command_of t (Ok None) = Ok (Some Skipped)
 command_of t (Err fault) = Err (Event fault)
 
 -- What a text says that stands from a place of the line on: one element, and behind it blanks and at most an unfinished comment.
-pub data IsMapCommand (keyed : Bool) (t : Target) (at : ℕ) (text : List ℕ) : Result (Option Command) CommandFault → Type 0 where
+pub data IsMapCommand (m : Reading) (t : Target) (at : ℕ) (text : List ℕ) : Result (Option Command) CommandFault → Type 0 where
   -- a fault of EDN in the element or before it; its place counts from the line's first byte
   faulty : (p : ℕ) (cause : EdnCause) → Refuses text p cause → cause ≢ edn.OutOfMemory →
-      IsMapCommand keyed t at text (Err (Edn (record { at = at + p; cause = cause })))
+      IsMapCommand m t at text (Err (Edn (record { at = at + p; cause = cause })))
   -- an element, or a discard before it, that is not whole
-  unfinished : (p : ℕ) → IsUnfinished text p → IsMapCommand keyed t at text (Err NotOneMap)
+  unfinished : (p : ℕ) → IsUnfinished text p → IsMapCommand m t at text (Err NotOneMap)
   -- no element
-  missing : (used : ℕ) → IsBlankText text used → IsMapCommand keyed t at text (Err NotOneMap)
+  missing : (used : ℕ) → IsBlankText text used → IsMapCommand m t at text (Err NotOneMap)
   -- an element with something behind it
   followed : (v : Value) (p used : ℕ) → Spells text v p used → ((n : ℕ) → IsBlankText (drop used text) n → ⊥) →
-      IsMapCommand keyed t at text (Err NotOneMap)
+      IsMapCommand m t at text (Err NotOneMap)
   -- an element alone
   one_map : (v : Value) (p used n : ℕ) → Spells text v p used → IsBlankText (drop used text) n →
-      IsMapCommand keyed t at text (command_of t (event keyed v))
+      IsMapCommand m t at text (command_of t (event m v))
 
 -- what a line says whose words say this
-abbrev pub IsSaid : Bool → List ℕ → Result Sense CommandFault → Result (Option Command) CommandFault → Type 0
-IsSaid keyed line (Err fault) answer = answer ≡ Err fault
-IsSaid keyed line (Ok sense.Nothing) answer = answer ≡ Ok None
-IsSaid keyed line (Ok (sense.Plain command)) answer = answer ≡ Ok (Some command)
-IsSaid keyed line (Ok (sense.Map t at)) answer = IsMapCommand keyed t at (drop at line) answer
+abbrev pub IsSaid : Reading → List ℕ → Result Sense CommandFault → Result (Option Command) CommandFault → Type 0
+IsSaid m line (Err fault) answer = answer ≡ Err fault
+IsSaid m line (Ok sense.Nothing) answer = answer ≡ Ok None
+IsSaid m line (Ok (sense.Plain command)) answer = answer ≡ Ok (Some command)
+IsSaid m line (Ok (sense.Map t at)) answer = IsMapCommand m t at (drop at line) answer
 
 -- a line without one byte 13 at its end
 abbrev pub without_return : List ℕ → List ℕ
@@ -176,17 +181,32 @@ abbrev pub longest_line : ℕ
 longest_line = 1048576
 
 -- what the words of a whole line say; a line that is too long is not looked at
-abbrev pub sense_of_line : List ℕ → Result Sense CommandFault
-sense_of_line line = if nat_lt longest_line (length line) then Err LineTooLong else sense_of (words_from 0 (without_return line))
+abbrev pub sense_of_line : Numbering → List ℕ → Result Sense CommandFault
+sense_of_line number line = if nat_lt longest_line (length line) then Err LineTooLong else sense_of number (words_from 0 (without_return line))
 
 -- What a line says, given without its end: none where it has no word, a command, or why it is refused. With keys or without.
-abbrev pub IsCommand : Bool → List ℕ → Result (Option Command) CommandFault → Type 0
-IsCommand keyed line answer = IsSaid keyed (without_return line) (sense_of_line line) answer
+abbrev pub IsCommand : Reading → List ℕ → Result (Option Command) CommandFault → Type 0
+IsCommand m line answer = IsSaid m (without_return line) (sense_of_line m.number line) answer
 
--- the line has a place for a map, whose elements take memory
-abbrev pub HasMap : List ℕ → Type 0
-HasMap line = (t : Target) × (at : ℕ) × (sense_of_line line ≡ Ok (sense.Map t at))
+-- what it says by these names: by each numbering that agrees with them
+abbrev pub IsCommandBy : Bool → List (List ℕ) → List ℕ → Result (Option Command) CommandFault → Type 0
+IsCommandBy keyed names line answer = (m : Reading) → IsReading keyed names m → IsCommand m line answer
 
--- what is read of a line: what it says; or, where it has a place for a map, that memory was refused
-abbrev pub IsRead : Bool → List ℕ → Result (Option Command) CommandFault → Type 0
-IsRead keyed line answer = IsCommand keyed line answer ⊎ (HasMap line × (answer ≡ Err OutOfMemory))
+-- it names the object of a key
+abbrev pub HasKey : Command → Type 0
+HasKey (Edit (edit.SetKind key kind)) = ⊤
+HasKey (Ask (scope.Object key)) = ⊤
+HasKey (Order (scope.Object key)) = ⊤
+HasKey (Refute key) = ⊤
+HasKey (Explain (scope.Object key)) = ⊤
+HasKey _ = ⊥
+
+-- it takes memory: the elements of a map do, and a key, which may be a word that had no number
+abbrev pub TakesMemory : Sense → Type 0
+TakesMemory sense.Nothing = ⊥
+TakesMemory (sense.Plain command) = HasKey command
+TakesMemory (sense.Map t at) = ⊤
+
+-- what is read of a line: what it says; or, where it has a place for a map or a key, that memory was refused
+abbrev pub IsRead : Reading → List ℕ → Result (Option Command) CommandFault → Type 0
+IsRead m line answer = IsCommand m line answer ⊎ ((s : Sense) × (sense_of_line m.number line ≡ Ok s) × TakesMemory s × (answer ≡ Err OutOfMemory))

@@ -1,8 +1,12 @@
 -- What is right to tell of why an answer is what it is.
-use Rattle.std.specs.Prelude.{◌≡◌, ◌-◌, ◌++◌, ◌⊎◌, ℕ, List, Option, Some, None, Result, codes, count_by, decimal, length, nat_eq, take}
+use Rattle.std.specs.Prelude.{◌≡◌, ◌-◌, ◌++◌, ◌⊎◌, ℕ, List, Option, Some, None, Result, codes, count_by, decimal, length, nat_eq, option_map, take}
 use Rattle.std.specs.Io.KnownBytes.{IsAtEnd}
 use Rattle.lin_events.specs.declared.events.Event.{Event}
 use Rattle.lin_events.specs.declared.items.Item.{Item}
+use Rattle.lin_history.specs.Reading.{IsReading, Reading}
+use Rattle.lin_names.specs.Names.{AgreesWith, AreEachOnce, Numbering}
+use Rattle.lin_names.specs.Spelled.{numbered, seen}
+use Rattle.lin_names.specs.declared.said.Said.{Said}
 use Rattle.lin_session.specs.Answers.{IsAnswer, verdict_of}
 use Rattle.lin_session.specs.Edits.{Present}
 use Rattle.lin_session.specs.declared.answers.Answer.{Answer}
@@ -34,22 +38,6 @@ use Rattle.lin_report.specs.declared.formats.Format.TheVariants.{Text, Json}
 abbrev pub without_end : List ℕ → List ℕ
 without_end text = take (length text - 1) text
 
--- An explanation: the answer's line, and those that explain it; or one line of JSON, which has this text as well.
-abbrev pub explanation_text : Format → ℕ → Verdict → List ℕ → Parts → List ℕ
-explanation_text Text events verdict lines parts = told_text verdict lines
-explanation_text Json events verdict lines parts =
-    explanation_json (answer_status verdict) (answer_text verdict) events parts (without_end (told_text verdict lines)) ++ codes "\n"
-
--- an answer that is right, with what explains it
-pub record IsExplanation (format : Format) (now : Present) (asked : Asked) (places : Option (List Place)) (text : List ℕ) (status : Status) : Type 0 where
-  pub answer : Answer
-  pub lines : List ℕ
-  pub parts : Parts
-  pub is_answer : IsAnswer now (scope_of asked.key) answer
-  pub explained : Explains now asked places answer lines parts
-  pub says : text ≡ explanation_text format (length now.history) (verdict_of answer) lines parts
-  pub status_is : status ≡ answer_status (verdict_of answer)
-
 -- how many lines a text has, of which each ends with a byte 10
 abbrev pub line_count : List ℕ → ℕ
 line_count text = count_by (λ c. nat_eq c 10) text
@@ -58,10 +46,28 @@ abbrev pub key_of : Scope → Option Item
 key_of (Object key) = Some key
 key_of Whole = None
 
--- the reply to a command: how many lines follow, and they; events that come by commands have no places
-abbrev pub IsExplainReply : Present → Scope → List ℕ → Option Status → Type 0
-IsExplainReply now scope reply status = (text : List ℕ) × (found : Status) × (asked : Asked) × (asked.key ≡ key_of scope) × IsExplanation Text now asked None text found
-    × (reply ≡ codes "explained " ++ decimal (line_count text) ++ codes "\n" ++ text) × (status ≡ Some found)
+-- with these spellings of words
+module _ (names : List (List ℕ)) where
+  -- An explanation: the answer's line, and those that explain it; or one line of JSON, which has this text as well.
+  abbrev pub explanation_text : Format → ℕ → Verdict → List ℕ → Parts → List ℕ
+  explanation_text Text events verdict lines parts = told_text verdict lines
+  explanation_text Json events verdict lines parts =
+      explanation_json names (answer_status verdict) (answer_text verdict) events parts (without_end (told_text verdict lines)) ++ codes "\n"
+
+  -- an answer that is right, with what explains it
+  pub record IsExplanation (format : Format) (now : Present) (asked : Asked) (places : Option (List Place)) (text : List ℕ) (status : Status) : Type 0 where
+    pub answer : Answer
+    pub lines : List ℕ
+    pub parts : Parts
+    pub is_answer : IsAnswer now (scope_of asked.key) answer
+    pub explained : Explains names now asked places answer lines parts
+    pub says : text ≡ explanation_text format (length now.history) (verdict_of answer) lines parts
+    pub status_is : status ≡ answer_status (verdict_of answer)
+
+  -- the reply to a command: how many lines follow, and they; events that come by commands have no places
+  abbrev pub IsExplainReply : Present → Scope → List ℕ → Option Status → Type 0
+  IsExplainReply now scope reply status = (text : List ℕ) × (found : Status) × (asked : Asked) × (asked.key ≡ key_of scope) × IsExplanation Text now asked None text found
+      × (reply ≡ codes "explained " ++ decimal (line_count text) ++ codes "\n" ++ text) × (status ≡ Some found)
 
 -- the line that refuses a file, the one that tells where and why, and a hint if there is one
 abbrev pub refusal_lines : Marked → Refusal → List ℕ → List ℕ
@@ -73,16 +79,22 @@ refused_told Text marked refusal hint = refusal_lines marked refusal hint
 refused_told Json marked refusal hint =
     refusal_json ends.Refused (refusal_text refusal) (place_in marked refusal) (without_end (refusal_lines marked refusal hint)) ++ codes "\n"
 
-abbrev pub asked_in : Settings → Question → Asked
-asked_in settings question = record { key = question.key; with_order = question.with_order; keyed = settings.keyed }
+-- the key that is said, by each numbering that agrees with these names; none where none is
+abbrev pub IsKey : List (List ℕ) → Option Said → Option Item → Type 0
+IsKey names said key = (number : Numbering) → AgreesWith names number → key ≡ option_map (λ s. numbered number (seen s)) said
+
+abbrev pub asked_in : Settings → Question → Option Item → Asked
+asked_in settings question key = record { key = key; with_order = question.with_order; keyed = settings.keyed }
 
 -- What is right to print of the bytes of a file, with the status: why they are refused, and where; or an explanation of the history that they
--- are. The places are those that the bytes have.
+-- are, for the object of the key that is said or the whole. The places are those that the bytes have.
 abbrev pub IsRightExplanation : Settings → Question → List ℕ → Option (List ℕ) → List ℕ → Status → Type 0
-IsRightExplanation settings question bytes left text status = (marked : Marked) × Marks marked bytes × (marked.keyed ≡ settings.keyed)
-    × (((refusal : Refusal) × AreRefused settings.keyed bytes refusal × StopsFor refusal left
+IsRightExplanation settings question bytes left text status = (names : List (List ℕ)) × AreEachOnce names
+    × (marked : Marked) × ((m : Reading) → IsReading settings.keyed names m → Marks m marked bytes) × (marked.keyed ≡ settings.keyed)
+    × (((refusal : Refusal) × AreRefused settings.keyed names bytes refusal × StopsFor refusal left
     × ((hint : List ℕ) × IsHint settings.keyed bytes marked refusal hint × (text ≡ refused_told question.format marked refusal hint)) × (status ≡ ends.Refused))
-    ⊎ ((events : List Event) × IsWhole settings.keyed bytes events × IsAtEnd left × IsExplanation question.format (opened settings events) (asked_in settings question) (Some marked.places) text status))
+    ⊎ ((events : List Event) × IsWhole settings.keyed names bytes events × IsAtEnd left × (key : Option Item) × IsKey names question.key key
+    × IsExplanation names question.format (opened settings events) (asked_in settings question key) (Some marked.places) text status))
 
 -- what a run reads and writes, and how it ends
 abbrev pub IsExplainRun : Settings → Question → Option (List ℕ) → Option (List ℕ) → Option (List ℕ) → Option (List ℕ) → Result Status RunFault → Type 0

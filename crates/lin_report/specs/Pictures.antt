@@ -3,6 +3,8 @@ use Rattle.std.specs.Prelude.{◌≡◌, ◌++◌, ◌⊎◌, ℕ, true, List, O
 use Rattle.std.specs.Io.KnownBytes.{IsAtEnd}
 use Rattle.lin_events.specs.declared.events.Event.{Event}
 use Rattle.lin_events.specs.declared.items.Item.{Item}
+use Rattle.lin_names.specs.Names.{AreEachOnce}
+use Rattle.lin_names.specs.declared.said.Said.{Said}
 use Rattle.lin_session.specs.Answers.{IsAnswer, verdict_of}
 use Rattle.lin_session.specs.Edits.{Present}
 use Rattle.lin_session.specs.declared.answers.Answer.{Answer}
@@ -14,6 +16,7 @@ use Rattle.lin_formats.specs.declared.verdicts.Refusal.{Refusal}
 use Rattle.lin_formats.specs.declared.verdicts.Status.{Status}
 use Rattle.lin_formats.specs.declared.verdicts.Status.TheVariants as ends
 use Rattle.lin_explain.specs.Explained.{scope_of}
+use Rattle.lin_report.specs.Explanations.{IsKey}
 use Rattle.lin_report.specs.Reports.{IsPrintRun, answer_status, answer_text, is_ill_formed, opened, refusal_line}
 use Rattle.lin_report.specs.declared.formats.Format.TheVariants.{Text}
 
@@ -24,12 +27,14 @@ pub record IsDrawing (now : Present) (key : Option Item) (text : List ℕ) (stat
   pub says : is_ill_formed (verdict_of answer) ≡ true → text ≡ answer_text (verdict_of answer) ++ codes "\n"
   pub status_is : status ≡ answer_status (verdict_of answer)
 
--- What is right to print of the bytes of a file, with the status: why they are refused; or a drawing of the history that they are.
-abbrev pub IsRightDrawing : Settings → Option Item → List ℕ → Option (List ℕ) → List ℕ → Status → Type 0
-IsRightDrawing settings key bytes left text status =
-    ((refusal : Refusal) × AreRefused settings.keyed bytes refusal × StopsFor refusal left × (text ≡ refusal_line Text refusal) × (status ≡ ends.Refused))
-    ⊎ ((events : List Event) × IsWhole settings.keyed bytes events × IsAtEnd left × IsDrawing (opened settings events) key text status)
+-- What is right to print of the bytes of a file, with the status: why they are refused; or a drawing of the history that they are, for the
+-- object of the key that is said or the whole.
+abbrev pub IsRightDrawing : Settings → Option Said → List ℕ → Option (List ℕ) → List ℕ → Status → Type 0
+IsRightDrawing settings said bytes left text status = (names : List (List ℕ)) × AreEachOnce names
+    × (((refusal : Refusal) × AreRefused settings.keyed names bytes refusal × StopsFor refusal left × (text ≡ refusal_line Text refusal) × (status ≡ ends.Refused))
+    ⊎ ((events : List Event) × IsWhole settings.keyed names bytes events × IsAtEnd left × (key : Option Item) × IsKey names said key
+    × IsDrawing (opened settings events) key text status))
 
 -- what a run reads and writes, and how it ends
-abbrev pub IsDrawRun : Settings → Option Item → Option (List ℕ) → Option (List ℕ) → Option (List ℕ) → Option (List ℕ) → Result Status RunFault → Type 0
-IsDrawRun settings key old new before after result = IsPrintRun (IsRightDrawing settings key) old new before after result
+abbrev pub IsDrawRun : Settings → Option Said → Option (List ℕ) → Option (List ℕ) → Option (List ℕ) → Option (List ℕ) → Result Status RunFault → Type 0
+IsDrawRun settings said old new before after result = IsPrintRun (IsRightDrawing settings said) old new before after result

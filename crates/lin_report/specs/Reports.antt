@@ -4,6 +4,7 @@ use Rattle.std.specs.Io.KnownBytes.{Appends, Consumes, IsAtEnd, Keeps}
 use Rattle.std.specs.List.{flat_map, join_by}
 use Rattle.lin_events.specs.declared.events.Event.{Event}
 use Rattle.lin_events.specs.declared.items.Item.{Item}
+use Rattle.lin_names.specs.Names.{AreEachOnce}
 use Rattle.lin_objects.specs.declared.kinds.Kind.{Kind}
 use Rattle.lin_objects.specs.Kinds.{same_for_all}
 use Rattle.lin_json.specs.Answers.{answer_json, checked_json, object_json}
@@ -50,31 +51,9 @@ answer_status Yes = ends.Yes
 answer_status (No n) = ends.No
 answer_status (Undecided at) = ends.Undecided
 
--- the line of an object
-abbrev pub line_text : Kind → Finding → List ℕ
-line_text kind found = codes "object " ++ item_text found.key ++ codes " " ++ kind_text kind ++ codes ": " ++ (answer_text found.verdict ++ codes "\n")
-
-abbrev pub lines_text : (Item → Kind) → List Finding → List ℕ
-lines_text kinds found = flat_map (λ f. line_text (kinds f.key) f) found
-
 -- the line that names so many events and objects
 abbrev pub counts_text : ℕ → ℕ → List ℕ
 counts_text events objects = codes "events " ++ decimal events ++ codes " objects " ++ decimal objects ++ codes "\n"
-
--- the map of an object
-abbrev pub json_object : Kind → Finding → List ℕ
-json_object kind found = object_json found.key kind (answer_status found.verdict) (answer_text found.verdict)
-
-abbrev pub json_objects : (Item → Kind) → List Finding → List ℕ
-json_objects kinds found = join_by (λ f. json_object (kinds f.key) f) (codes ",") found
-
--- The report of a history of so many keys: what is found of its objects, and of the whole. As text there is a line that counts, one for each object,
--- and one for the whole; as JSON one line for all.
-abbrev pub report_text : Format → Present → ℕ → List Finding → Verdict → List ℕ
-report_text Text now keys found whole =
-    counts_text (length now.history) keys ++ lines_text (kinds_in now) found ++ codes "whole: " ++ (answer_text whole ++ codes "\n")
-report_text Json now keys found whole =
-    checked_json (answer_status whole) (answer_text whole) (length now.history) (json_objects (kinds_in now) found) ++ codes "\n"
 
 -- the answer's line, and behind it these
 abbrev pub told_text : Verdict → List ℕ → List ℕ
@@ -85,24 +64,48 @@ pub record AreFindings (now : Present) (keys : List Item) (found : List Finding)
   pub listed : map (λ f. f.key) found ≡ keys
   pub each : All (λ f. IsVerdict now (Object f.key) f.verdict) found
 
--- What is found of a history: of each of its keys, rising, what is found of its object, and what is found of the whole. Of a history that isn't
--- well-formed no object is named.
-pub record AreFound (now : Present) (keys : List Item) (found : List Finding) (whole : Verdict) : Type 0 where
-  pub are_keys : AreKeys now.history keys
-  pub objects : AreFindings now (if is_ill_formed whole then [] else keys) found
-  pub is_whole : IsVerdict now Whole whole
+-- with these spellings of words
+module _ (names : List (List ℕ)) where
+  -- the line of an object
+  abbrev pub line_text : Kind → Finding → List ℕ
+  line_text kind found = codes "object " ++ item_text names found.key ++ codes " " ++ kind_text kind ++ codes ": " ++ (answer_text found.verdict ++ codes "\n")
 
-abbrev pub HasFound : Present → Findings → Type 0
-HasFound now f = (keys : List Item) × (f.keys ≡ length keys) × AreFound now keys f.objects.items f.whole
+  abbrev pub lines_text : (Item → Kind) → List Finding → List ℕ
+  lines_text kinds found = flat_map (λ f. line_text (kinds f.key) f) found
 
--- what is right to report, and the status of a run that ends with it: what is found of the history, and of the whole
-pub record IsReport (format : Format) (now : Present) (text : List ℕ) (status : Status) : Type 0 where
-  pub keys : List Item
-  pub found : List Finding
-  pub whole : Verdict
-  pub are_found : AreFound now keys found whole
-  pub says : text ≡ report_text format now (length keys) found whole
-  pub status_is : status ≡ answer_status whole
+  -- the map of an object
+  abbrev pub json_object : Kind → Finding → List ℕ
+  json_object kind found = object_json names found.key kind (answer_status found.verdict) (answer_text found.verdict)
+
+  abbrev pub json_objects : (Item → Kind) → List Finding → List ℕ
+  json_objects kinds found = join_by (λ f. json_object (kinds f.key) f) (codes ",") found
+
+  -- The report of a history of so many keys: what is found of its objects, and of the whole. As text there is a line that counts, one for each
+  -- object, and one for the whole; as JSON one line for all.
+  abbrev pub report_text : Format → Present → ℕ → List Finding → Verdict → List ℕ
+  report_text Text now keys found whole =
+      counts_text (length now.history) keys ++ lines_text (kinds_in now) found ++ codes "whole: " ++ (answer_text whole ++ codes "\n")
+  report_text Json now keys found whole =
+      checked_json (answer_status whole) (answer_text whole) (length now.history) (json_objects (kinds_in now) found) ++ codes "\n"
+
+  -- What is found of a history: of each of its keys, in the order of print, what is found of its object, and what is found of the whole. Of a
+  -- history that isn't well-formed no object is named.
+  pub record AreFound (now : Present) (keys : List Item) (found : List Finding) (whole : Verdict) : Type 0 where
+    pub are_keys : AreKeys names now.history keys
+    pub objects : AreFindings now (if is_ill_formed whole then [] else keys) found
+    pub is_whole : IsVerdict now Whole whole
+
+  abbrev pub HasFound : Present → Findings → Type 0
+  HasFound now f = (keys : List Item) × (f.keys ≡ length keys) × AreFound now keys f.objects.items f.whole
+
+  -- what is right to report, and the status of a run that ends with it: what is found of the history, and of the whole
+  pub record IsReport (format : Format) (now : Present) (text : List ℕ) (status : Status) : Type 0 where
+    pub keys : List Item
+    pub found : List Finding
+    pub whole : Verdict
+    pub are_found : AreFound now keys found whole
+    pub says : text ≡ report_text format now (length keys) found whole
+    pub status_is : status ≡ answer_status whole
 
 -- these events, with the kind and the budget of the settings
 abbrev pub opened : Settings → List Event → Present
@@ -114,11 +117,11 @@ refusal_line Text refusal = refusal_text refusal ++ codes "\n"
 refusal_line Json refusal = answer_json ends.Refused (refusal_text refusal) ++ codes "\n"
 
 -- What is right to print of the bytes of a file, with the status: why they are refused; or, where they are a whole history and no
--- byte is left, a report of it.
+-- byte is left, a report of it. Words are told by the spellings by which they are read.
 abbrev pub IsRightReport : Settings → Format → List ℕ → Option (List ℕ) → List ℕ → Status → Type 0
-IsRightReport settings format bytes left text status =
-    ((refusal : Refusal) × AreRefused settings.keyed bytes refusal × StopsFor refusal left × (text ≡ refusal_line format refusal) × (status ≡ ends.Refused))
-    ⊎ ((events : List Event) × IsWhole settings.keyed bytes events × IsAtEnd left × IsReport format (opened settings events) text status)
+IsRightReport settings format bytes left text status = (names : List (List ℕ)) × AreEachOnce names
+    × (((refusal : Refusal) × AreRefused settings.keyed names bytes refusal × StopsFor refusal left × (text ≡ refusal_line format refusal) × (status ≡ ends.Refused))
+    ⊎ ((events : List Event) × IsWhole settings.keyed names bytes events × IsAtEnd left × IsReport names format (opened settings events) text status))
 
 -- what is right to print of bytes, of which so much is left, and the status
 abbrev pub Printing : Type 1

@@ -6,7 +6,8 @@ use Rattle.lin_events.specs.declared.events.Event.{Event}
 use Rattle.lin_events.specs.declared.items.Item.{Item}
 use Rattle.lin_history.specs.declared.follow.FollowFault.{FollowFault}
 use Rattle.lin_history.specs.declared.follow.FollowFault.TheVariants as fault
-use Rattle.lin_history.specs.Stream.{IsStream}
+use Rattle.lin_history.specs.Stream.{IsStreamBy}
+use Rattle.lin_names.specs.Names.{AreEachOnce, Begins}
 use Rattle.lin_session.specs.Answers.{IsAnswer, IsVerdict, kinds_in, verdict_of, IsOverSomewhere}
 use Rattle.lin_session.specs.Edits.{Present, IsRefused, edited}
 use Rattle.lin_session.specs.declared.answers.Answer.{Answer}
@@ -18,7 +19,7 @@ use Rattle.lin_session.specs.declared.edits.Edit.{Edit as EditOf}
 use Rattle.lin_session.specs.declared.edits.EditFault.{EditFault}
 use Rattle.lin_session.specs.declared.edits.EditFault.TheVariants as edit_fault
 use Rattle.lin_formats.specs.VerdictTexts.{refusal_text}
-use Rattle.lin_report.specs.Commands.{IsCommand}
+use Rattle.lin_report.specs.Commands.{IsCommandBy}
 use Rattle.lin_report.specs.Explanations.{IsExplainReply}
 use Rattle.lin_formats.specs.Inputs.{limit}
 use Rattle.lin_report.specs.Reports.{IsReport, answer_status, answer_text, opened}
@@ -48,10 +49,11 @@ abbrev pub lines_of : List ℕ → List (List ℕ)
 lines_of [] = []
 lines_of (c ∷ s) = if c == 10 then [] ∷ lines_of s else in_front c (lines_of s)
 
--- Where a run stands: the present history with its kinds and its budget; the bytes of the file that were taken so far, and those of
--- their events that were put into the history; and what is left of the file.
+-- Where a run stands: the present history with its kinds and its budget; the spellings of the words that were read; the bytes of the file
+-- that were taken so far, and those of their events that were put into the history; and what is left of the file.
 pub record RunState : Type 0 where
   pub present : Present
+  pub names : List (List ℕ)
   pub bytes : List ℕ
   pub put : List Event
   pub left : Option (List ℕ)
@@ -59,13 +61,6 @@ pub record RunState : Type 0 where
 -- a line that tells how many events there are
 abbrev pub ok_line : ℕ → List ℕ
 ok_line count = codes "ok " ++ decimal count ++ codes "\n"
-
--- what is written of an answer with its order
-abbrev pub order_answer_text : Answer → List ℕ
-order_answer_text (answer.Yes order) = codes "yes " ++ order_text order.items
-order_answer_text (answer.IllFormed at cause) = answer_text (verdict_of (answer.IllFormed at cause))
-order_answer_text (answer.No n) = answer_text (verdict_of (answer.No n))
-order_answer_text (answer.Undecided at) = answer_text (verdict_of (answer.Undecided at))
 
 -- the edit is refused for the fault, and for no want of memory
 abbrev pub IsRefusedFor : EditOf → Present → EditFault → Type 0
@@ -88,19 +83,28 @@ IsRefuteReply now key text status =
     ⊎ (((n : ℕ) × IsVerdict now (scope.Object key) (verdict.No n)) × IsOverSomewhere (kinds_in now) now.budget now.history key
     × (text ≡ codes "refused refute 2 TooLarge\n") × (status ≡ None))
 
--- What a command that reads no file makes of the present state, what is written, and the status where that is an answer. Each
--- answer may be any that is right.
-abbrev pub IsCommandReply : Command → Present → Present → List ℕ → Option Status → Type 0
-IsCommandReply (Edit edit) before after text status = IsEditReply edit before after text × (status ≡ None)
-IsCommandReply Skipped before after text status = (after ≡ before) × (text ≡ codes "skipped\n") × (status ≡ None)
-IsCommandReply (Ask scope) before after text status = (after ≡ before) × (verdict : Verdict) × IsVerdict before scope verdict
-    × (text ≡ answer_text verdict ++ codes "\n") × (status ≡ Some (answer_status verdict))
-IsCommandReply (Order scope) before after text status = (after ≡ before) × (answer : Answer) × IsAnswer before scope answer
-    × (text ≡ order_answer_text answer ++ codes "\n") × (status ≡ Some (answer_status (verdict_of answer)))
-IsCommandReply Report before after text status = (after ≡ before) × (whole : Status) × IsReport Text before text whole × (status ≡ Some whole)
-IsCommandReply (Refute key) before after text status = (after ≡ before) × IsRefuteReply before key text status
-IsCommandReply (Explain scope) before after text status = (after ≡ before) × IsExplainReply before scope text status
-IsCommandReply Pull before after text status = ⊥
+-- with these spellings of words
+module _ (names : List (List ℕ)) where
+  -- what is written of an answer with its order
+  abbrev pub order_answer_text : Answer → List ℕ
+  order_answer_text (answer.Yes order) = codes "yes " ++ order_text names order.items
+  order_answer_text (answer.IllFormed at cause) = answer_text (verdict_of (answer.IllFormed at cause))
+  order_answer_text (answer.No n) = answer_text (verdict_of (answer.No n))
+  order_answer_text (answer.Undecided at) = answer_text (verdict_of (answer.Undecided at))
+
+  -- What a command that reads no file makes of the present state, what is written, and the status where that is an answer. Each
+  -- answer may be any that is right.
+  abbrev pub IsCommandReply : Command → Present → Present → List ℕ → Option Status → Type 0
+  IsCommandReply (Edit edit) before after text status = IsEditReply edit before after text × (status ≡ None)
+  IsCommandReply Skipped before after text status = (after ≡ before) × (text ≡ codes "skipped\n") × (status ≡ None)
+  IsCommandReply (Ask scope) before after text status = (after ≡ before) × (verdict : Verdict) × IsVerdict before scope verdict
+      × (text ≡ answer_text verdict ++ codes "\n") × (status ≡ Some (answer_status verdict))
+  IsCommandReply (Order scope) before after text status = (after ≡ before) × (answer : Answer) × IsAnswer before scope answer
+      × (text ≡ order_answer_text answer ++ codes "\n") × (status ≡ Some (answer_status (verdict_of answer)))
+  IsCommandReply Report before after text status = (after ≡ before) × (whole : Status) × IsReport names Text before text whole × (status ≡ Some whole)
+  IsCommandReply (Refute key) before after text status = (after ≡ before) × IsRefuteReply before key text status
+  IsCommandReply (Explain scope) before after text status = (after ≡ before) × IsExplainReply names before scope text status
+  IsCommandReply Pull before after text status = ⊥
 
 -- why the file is refused, if it is; an element that is unfinished waits
 abbrev pub refusal_in : Result (Unit {0}) FollowFault → Option Refusal
@@ -120,27 +124,32 @@ abbrev pub pull_refusal : ℕ → List Event → Result (Unit {0}) FollowFault �
 pull_refusal room waiting outcome = if nat_lt room (length waiting) then Some refusal.Full else refusal_in outcome
 
 -- more of the file may say more: the events that it says behind those in the history fit, and it has no fault
-pub record GoesOn (keyed : Bool) (bytes : List ℕ) (put : List Event) (room : ℕ) : Type 0 where
+pub record GoesOn (keyed : Bool) (names : List (List ℕ)) (bytes : List ℕ) (put : List Event) (room : ℕ) : Type 0 where
   pub waiting : List Event
   pub outcome : Result (Unit {0}) FollowFault
-  pub stream : IsStream keyed bytes (put ++ waiting) outcome
+  pub stream : IsStreamBy keyed names bytes (put ++ waiting) outcome
   pub unrefused : pull_refusal room waiting outcome ≡ None
 
 -- nothing is read, or what was read before gives no reason to stop
-abbrev pub IsReadOn : Bool → RunState → List ℕ → Type 0
-IsReadOn keyed before part = (part ≡ []) ⊎ GoesOn keyed before.bytes before.put (room_in before.present)
+abbrev pub IsReadOn : Bool → List (List ℕ) → RunState → List ℕ → Type 0
+IsReadOn keyed names before part = (part ≡ []) ⊎ GoesOn keyed names before.bytes before.put (room_in before.present)
+
+-- words get numbers: each that had one keeps it, and no spelling has two
+abbrev pub AreMore : List (List ℕ) → List (List ℕ) → Type 0
+AreMore old new = Begins old new × AreEachOnce new
 
 -- A pull reads a part of the file, to its end where it isn't refused. Of the events that the bytes so far say, those that wait are
--- put into the history, as far as there is room.
+-- put into the history, as far as there is room. Their words get numbers.
 pub record IsPull (keyed : Bool) (before after : RunState) (refused : Option Refusal) : Type 0 where
   pub part : List ℕ
   pub waiting : List Event
   pub outcome : Result (Unit {0}) FollowFault
   pub reads : Consumes before.left after.left part
   pub to_end : refused ≡ None → IsAtEnd after.left
-  pub no_further : IsReadOn keyed before part
+  pub no_further : IsReadOn keyed after.names before part
+  pub names : AreMore before.names after.names
   pub bytes : after.bytes ≡ before.bytes ++ part
-  pub stream : IsStream keyed after.bytes (before.put ++ waiting) outcome
+  pub stream : IsStreamBy keyed after.names after.bytes (before.put ++ waiting) outcome
   pub put : after.put ≡ before.put ++ take (room_in before.present) waiting
   pub present : after.present ≡ record before.present { history = before.present.history ++ take (room_in before.present) waiting }
   pub refusal : refused ≡ pull_refusal (room_in before.present) waiting outcome
@@ -155,7 +164,7 @@ abbrev pub IsDone : Bool → Command → RunState → RunState → List ℕ → 
 IsDone keyed Pull before after text status = (refused : Option Refusal) × IsPull keyed before after refused
     × (text ≡ pull_text refused (length after.present.history)) × (status ≡ None)
 IsDone keyed command before after text status =
-    (present : Present) × IsCommandReply command before.present present text status × (after ≡ record before { present = present })
+    (present : Present) × IsCommandReply before.names command before.present present text status × (after ≡ record before { present = present })
 
 -- the same behind what a line says: nothing, a command, or why it is refused
 abbrev pub IsSaidDone : Bool → Result (Option Command) CommandFault → RunState → RunState → List ℕ → Option Status → Type 0
@@ -163,10 +172,11 @@ IsSaidDone keyed (Ok None) before after text status = (after ≡ before) × (tex
 IsSaidDone keyed (Ok (Some command)) before after text status = IsDone keyed command before after text status
 IsSaidDone keyed (Err fault) before after text status = (after ≡ before) × (text ≡ fault_text fault ++ codes "\n") × (status ≡ None)
 
--- the reply to a line
+-- the reply to a line: first its words get numbers, and by these it is read
 abbrev pub IsReply : Bool → RunState → List ℕ → RunState → List ℕ → Option Status → Type 0
 IsReply keyed before line after text status =
-    (said : Result (Option Command) CommandFault) × IsCommand keyed line said × IsSaidDone keyed said before after text status
+    (names : List (List ℕ)) × AreMore before.names names
+    × (said : Result (Option Command) CommandFault) × IsCommandBy keyed names line said × IsSaidDone keyed said (record before { names = names }) after text status
 
 -- the replies to lines in order, one behind the other, and the status of the last answer
 pub data AreReplies (keyed : Bool) (start : RunState) : List (List ℕ) → RunState → List ℕ → Option Status → Type 0 where
@@ -175,9 +185,9 @@ pub data AreReplies (keyed : Bool) (start : RunState) : List (List ℕ) → RunS
       AreReplies keyed start lines before text last → (line : List ℕ) (after : RunState) (reply : List ℕ) (status : Option Status) →
       IsReply keyed before line after reply status → AreReplies keyed start (lines ++ line ∷ []) after (text ++ reply) (option_or status last)
 
--- before the first command: no event, no byte read
+-- before the first command: no event, no word, no byte read
 abbrev pub start_of : Settings → Option (List ℕ) → RunState
-start_of settings file = record { present = opened settings []; bytes = []; put = []; left = file }
+start_of settings file = record { present = opened settings []; names = []; bytes = []; put = []; left = file }
 
 -- the bytes begin with these lines, whatever comes behind them
 abbrev pub BeginWith : List ℕ → List (List ℕ) → Type 0

@@ -10,11 +10,12 @@ ghost use Rattle.lin_formats.specs.Verdicts.{is_write_failed, IsReadTooFar};
 use crate::formats::Format;
 use crate::json_reports::json_refusal;
 use crate::reports::report;
-use crate::sessions::session_of;
+use crate::sessions::{names_are_apart, session_of};
 use lin_events::{Event, OutOfMemory};
 use lin_formats::{
     Counted, History, Refusal, RunFault, Settings, Status, read_history, refusal_words, write_whole,
 };
+use lin_names::Names;
 use std::alloc::{AllocError, Global};
 use std::io::{Read, Write};
 
@@ -30,14 +31,15 @@ fn report_of(
     alloc: Global,
     settings: Settings,
     format: Format,
+    names: &Names,
     events: Vec<Event>,
 ) -> Result<Answered, OutOfMemory>
     requires budget { (1 ≤ settings.budget) × (settings.budget ≤ 1000000) }
     requires few { length events.items ≤ limit }
-    ensures { IfOk result (λ answered. IsReport format (opened settings events.items) answered.text.items answered.status) }
+    ensures { IfOk result (λ answered. IsReport names.now format (opened settings events.items) answered.text.items answered.status) }
 {
     let mut session = session_of(alloc, settings, events)?;
-    let (text, status) = report(alloc, &mut session, format)?;
+    let (text, status) = report(alloc, &mut session, names, format)?;
     Ok(Answered { text, status })
 }
 
@@ -78,8 +80,11 @@ fn find<R: Read>(
     ensures counts { Counts (is_read_failed result) (failures_of file.old) (failures_of file.new) }
     ensures readers { IsErrOf result RunFault.WriteFailed → ⊥ }
 {
-    match read_history(alloc, settings.keyed, file)? {
-        History::Whole(events) => Ok(report_of(alloc, settings, format, events)?),
+    let mut names = Names::new(alloc);
+    let history = read_history(alloc, settings.keyed, file, &mut names)?;
+    names_are_apart(&names);
+    match history {
+        History::Whole(events) => Ok(report_of(alloc, settings, format, &names, events)?),
         History::Refused(refusal) => Ok(refused(alloc, format, refusal)?),
     }
 }
@@ -88,7 +93,7 @@ fn find<R: Read>(
 /// that refuses the file, and gives the status.
 ///
 /// The file is read to its end, or to a fault of form, or until there are more than 1,000,000 events. The report names the
-/// number of events and of objects, what is found of each object, by rising key, and of the whole. For a history that isn't
+/// number of events and of objects, what is found of each object, in the order of print, and of the whole. For a history that isn't
 /// well-formed there is no object's line. As JSON it is one line, and names the same objects with the same answers.
 ///
 /// Asks that the budget is 1 to 1,000,000, and that neither count of failures is at its greatest.

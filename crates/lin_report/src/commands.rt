@@ -1,6 +1,8 @@
 //! The commands of an edit script: a line each.
 ghost use Rattle.std.specs.Prelude.{◌≡◌, ◌⊎◌, ◌+◌, ◌^◌, ◌<◌, ◌≤◌, Option, Result, Err, length, drop};
+ghost use Rattle.lin_history.specs.Reading.{IsReading, Reading};
 ghost use Rattle.lin_history.specs.Table.{IsAnswer};
+ghost use Rattle.lin_names.specs.Names.{Begins};
 ghost use Rattle.lin_events.specs.declared.events.Event.{Event as TheEvent};
 ghost use Rattle.lin_history.specs.declared.table.EventFault.{EventFault as TheFault};
 ghost use Rattle.lin_report.specs.CommandLaws.{CommandsAreUnique};
@@ -12,6 +14,7 @@ use crate::senses::{Sense, Target, sense_of};
 use lin_edn::{EdnCause, EdnFault, Next, next_element, places, readings_are_unique};
 use lin_events::{Event, Item};
 use lin_history::{EventFault, NextEvent, next_event};
+use lin_names::Names;
 use lin_session::{Edit, Scope};
 use std::alloc::Global;
 use thiserror::Error;
@@ -120,12 +123,14 @@ fn read_map(
     target: Target,
     text: &[u8],
     from: usize,
+    names: &mut Names,
 ) -> Result<Option<Command>, CommandFault>
     requires { from + length text.now < 2 ^ 64 }
-    ensures { IsMapCommand keyed target from text.now result ⊎ (result ≡ Err CommandFault.OutOfMemory) }
+    ensures begun { Begins names.old names.new }
+    ensures read { (m : Reading) → IsReading keyed names.new m → IsMapCommand m target from text.now result ⊎ (result ≡ Err CommandFault.OutOfMemory) }
 {
     places();
-    match next_event(alloc, text, keyed) {
+    match next_event(alloc, text, keyed, names) {
         Ok(NextEvent::Complete { said, used }) => {
             if is_blank(alloc, text, used)? {
                 command_of(target, said)
@@ -148,24 +153,26 @@ fn read_map(
 /// The command that a line writes, given without its end; `None` where it has no word. One byte 13 at its end is passed over.
 ///
 /// With `keyed`, the values of operation maps are pairs of a key and a value. Tested in this order: the length, the first word,
-/// the number of words, numbers and keys from left to right, the word for a kind, and then the map.
+/// the number of words, numbers and keys from left to right, the word for a kind, and then the map. Words that are items get numbers.
 ///
-/// Errors: as `CommandFault` tells; want of memory only where the line has a place for a map.
+/// Errors: as `CommandFault` tells; want of memory only where the line has a place for a map, or names a key.
 pub fn read_command(
     alloc: Global,
     line: &[u8],
     keyed: bool,
+    names: &mut Names,
 ) -> Result<Option<Command>, CommandFault>
-    ensures { IsRead keyed line.now result }
+    ensures begun { Begins names.old names.new }
+    ensures read { (m : Reading) → IsReading keyed names.new m → IsRead m line.now result }
 {
     if line.len() > LONGEST {
         return Err(CommandFault::LineTooLong);
     }
     let line = without_return(line);
-    match sense_of(line)? {
+    match sense_of(line, names)? {
         Sense::Nothing => Ok(None),
         Sense::Plain(command) => Ok(Some(command)),
-        Sense::Map(target, from) => read_map(alloc, keyed, target, &line[from..], from),
+        Sense::Map(target, from) => read_map(alloc, keyed, target, &line[from..], from, names),
     }
 }
 

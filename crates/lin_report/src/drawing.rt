@@ -11,13 +11,14 @@ ghost use Rattle.lin_explain.specs.Explained.{scope_of as scope_for};
 
 use crate::answers::{is_ill_formed, status_of, told_words, verdict_of};
 use crate::checks::{Answered, refused};
-use crate::explaining::scope_of;
+use crate::explaining::{item_of, scope_of};
 use crate::formats::Format;
-use crate::sessions::session_of;
+use crate::sessions::{names_are_apart, session_of};
 use lin_draw::picture_with_places;
 use lin_events::{Event, Item, OutOfMemory};
 use lin_explain::{Asked, explanation_of, read_placed};
 use lin_formats::{Counted, History, RunFault, Settings, Status, write_whole};
+use lin_names::{Names, Said};
 use lin_places::Places;
 use lin_session::{Answer, Session};
 use std::alloc::Global;
@@ -27,6 +28,7 @@ use std::io::{Read, Write};
 fn picture_of(
     alloc: Global,
     session: &Session,
+    names: &Names,
     answer: &Answer,
     asked: Asked,
     places: &Places,
@@ -34,8 +36,16 @@ fn picture_of(
     requires { IsAnswer session.now.present (scope_for asked.key) answer.now }
 {
     let places = Some(places.as_slice());
-    let told = explanation_of(alloc, session, answer, asked, places)?;
-    picture_with_places(alloc, session, answer, asked.key, &told.lines, places)
+    let told = explanation_of(alloc, session, names, answer, asked, places)?;
+    picture_with_places(
+        alloc,
+        session,
+        names,
+        answer,
+        asked.key,
+        &told.lines,
+        places,
+    )
 }
 
 /// The picture of what is found of these events; where they aren't well-formed, the answer's line.
@@ -43,6 +53,7 @@ fn drawing_of(
     alloc: Global,
     settings: Settings,
     key: Option<Item>,
+    names: &Names,
     events: Vec<Event>,
     places: &Places,
 ) -> Result<Answered, OutOfMemory>
@@ -61,7 +72,7 @@ fn drawing_of(
             with_order: false,
             keyed: settings.keyed,
         };
-        picture_of(alloc, &session, &answer, asked, places)?
+        picture_of(alloc, &session, names, &answer, asked, places)?
     };
     Ok(Answered {
         text,
@@ -73,19 +84,25 @@ fn drawing_of(
 fn find<R: Read>(
     alloc: Global,
     settings: Settings,
-    key: Option<Item>,
+    key: Option<Said>,
     file: &mut Counted<R>,
 ) -> Result<Answered, RunFault>
     requires budget { (1 ≤ settings.budget) × (settings.budget ≤ 1000000) }
     requires reads { failures_of file.old < u64.MAX }
-    ensures found { IfOk result (λ answered. IsPrinted (IsRightDrawing settings key) (R.remaining (device_of file.old)) (R.remaining (device_of file.new)) answered.text.items answered.status) }
+    ensures found { IfOk result (λ answered. IsPrinted (IsRightDrawing settings key.entry) (R.remaining (device_of file.old)) (R.remaining (device_of file.new)) answered.text.items answered.status) }
     ensures too_much { IsErrOf result RunFault.TooMuch → IsReadTooFar (R.remaining (device_of file.old)) (R.remaining (device_of file.new)) }
     ensures counts { Counts (is_read_failed result) (failures_of file.old) (failures_of file.new) }
     ensures readers { IsErrOf result RunFault.WriteFailed → ⊥ }
 {
-    let (history, placed) = read_placed(alloc, settings.keyed, file)?;
+    let mut names = Names::new(alloc);
+    let key = item_of(key, &mut names)?;
+    let (history, placed) = read_placed(alloc, settings.keyed, file, &mut names)?;
+    names_are_apart(&names);
     match history {
-        History::Whole(events) => Ok(drawing_of(alloc, settings, key, events, &placed.places)?),
+        History::Whole(events) => {
+            let places = &placed.places;
+            Ok(drawing_of(alloc, settings, key, &names, events, places)?)
+        }
         History::Refused(refusal) => Ok(refused(alloc, Format::Text, refusal)?),
     }
 }
@@ -97,14 +114,14 @@ fn find<R: Read>(
 pub fn draw<R: Read, W: Write>(
     alloc: Global,
     settings: Settings,
-    key: Option<Item>,
+    key: Option<Said>,
     file: &mut Counted<R>,
     out: &mut Counted<W>,
 ) -> Result<Status, RunFault>
     requires budget { (1 ≤ settings.budget) × (settings.budget ≤ 1000000) }
     requires reads { failures_of file.old < u64.MAX }
     requires writes { failures_of out.old < u64.MAX }
-    ensures ran { IsDrawRun settings key (R.remaining (device_of file.old)) (R.remaining (device_of file.new))
+    ensures ran { IsDrawRun settings key.entry (R.remaining (device_of file.old)) (R.remaining (device_of file.new))
         (W.contents (device_of out.old)) (W.contents (device_of out.new)) result }
     ensures read_counts { Counts (is_read_failed result) (failures_of file.old) (failures_of file.new) }
     ensures write_counts { Counts (is_write_failed result) (failures_of out.old) (failures_of out.new) }

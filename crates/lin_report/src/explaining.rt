@@ -4,9 +4,10 @@ ghost use Rattle.lin_formats.specs.Devices.{device_of, failures_of, Counts};
 ghost use Rattle.lin_formats.specs.Histories.{is_read_failed};
 ghost use Rattle.lin_formats.specs.Inputs.{limit};
 ghost use Rattle.lin_formats.specs.Verdicts.{is_write_failed, IsReadTooFar};
-ghost use Rattle.lin_report.specs.Explanations.{IsExplainRun, IsExplanation, IsRightExplanation, asked_in, explanation_text, key_of as key_in, line_count as lines_in, refusal_lines as lines_for, refused_told};
+ghost use Rattle.lin_report.specs.Explanations.{IsExplainRun, IsExplanation, IsKey, IsRightExplanation, explanation_text, key_of as key_in, line_count as lines_in, refusal_lines as lines_for, refused_told};
 ghost use Rattle.lin_explain.specs.Explained.{scope_of as scope_for};
 ghost use Rattle.lin_explain.specs.Hints.{hint_text};
+ghost use Rattle.lin_names.specs.Names.{Begins};
 ghost use Rattle.lin_report.specs.Reports.{IsPrinted, opened};
 ghost use Rattle.lin_report.specs.Runs.{IsCommandReply};
 ghost use Rattle.lin_report.specs.declared.commands.Command.TheVariants as command;
@@ -16,26 +17,38 @@ use crate::checks::Answered;
 use crate::formats::Format;
 use crate::json_explanations::{json_explanation, json_refused};
 use crate::replies::Reply;
-use crate::sessions::session_of;
+use crate::sessions::{names_are_apart, session_of};
 use lin_events::{Event, Item, OutOfMemory};
 use lin_explain::{Asked, Explanation, Placed, explanation_of, read_placed, refusal_lines};
 use lin_formats::{
     Counted, History, Refusal, RunFault, Settings, Status, put_number, refusal_words, write_whole,
 };
+use lin_names::{Names, Said};
 use lin_places::{Place, Places};
 use lin_session::{Scope, Session, Verdict};
 use std::alloc::{AllocError, Global};
 use std::io::{Read, Write};
 
 /// What a file is asked.
-#[derive(Clone, Copy, Debug, PartialEq, Eq)]
-pub struct Question {
+#[derive(Clone, Copy)]
+pub struct Question<'a> {
     /// The object of this key, or the whole.
-    pub key: Option<Item>,
+    pub key: Option<Said<'a>>,
     /// Whether a yes ends with its order.
     pub with_order: bool,
     /// How the explanation is printed.
     pub format: Format,
+}
+
+/// The key that is said, if one is. A word gets a number if it has none.
+pub fn item_of(key: Option<Said>, names: &mut Names) -> Result<Option<Item>, OutOfMemory>
+    ensures begun { Begins names.old names.new }
+    ensures key { IfOk result (IsKey names.new key.entry) }
+{
+    match key {
+        Some(key) => Ok(Some(key.item(names)?)),
+        None => Ok(None),
+    }
 }
 
 /// The object of a key, or the whole.
@@ -61,16 +74,17 @@ fn key_of(scope: Scope) -> Option<Item>
 /// What explains an answer for so many events, as it is wanted.
 fn told_as(
     alloc: Global,
+    names: &Names,
     format: Format,
     events: usize,
     verdict: Verdict,
     told: &Explanation,
 ) -> Result<Vec<u8>, AllocError>
-    ensures { IfOk result (λ text. text.items ≡ explanation_text format events verdict told.now.lines.items told.now.parts) }
+    ensures { IfOk result (λ text. text.items ≡ explanation_text names.now format events verdict told.now.lines.items told.now.parts) }
 {
     match format {
         Format::Text => told_words(alloc, verdict, &told.lines),
-        Format::Json => json_explanation(alloc, events, verdict, told),
+        Format::Json => json_explanation(alloc, names, events, verdict, told),
     }
 }
 
@@ -78,17 +92,18 @@ fn told_as(
 fn explanation(
     alloc: Global,
     session: &mut Session,
+    names: &Names,
     format: Format,
     asked: Asked,
     places: Option<&[Place]>,
 ) -> Result<Answered, OutOfMemory>
-    ensures explained { IfOk result (λ answered. IsExplanation format session.old.present asked (option_map (λ p. p.now) places.entry) answered.text.items answered.status) }
+    ensures explained { IfOk result (λ answered. IsExplanation names.now format session.old.present asked (option_map (λ p. p.now) places.entry) answered.text.items answered.status) }
     ensures present { session.new.present ≡ session.old.present }
 {
     let answer = session.order(alloc, scope_of(asked.key))?;
     let verdict = verdict_of(&answer);
-    let told = explanation_of(alloc, session, &answer, asked, places)?;
-    let text = told_as(alloc, format, session.len(), verdict, &told)?;
+    let told = explanation_of(alloc, session, names, &answer, asked, places)?;
+    let text = told_as(alloc, names, format, session.len(), verdict, &told)?;
     Ok(Answered {
         text,
         status: status_of(verdict),
@@ -113,16 +128,17 @@ pub fn explain_reply(
     alloc: Global,
     keyed: bool,
     session: &mut Session,
+    names: &Names,
     scope: Scope,
 ) -> Result<Reply, OutOfMemory>
-    ensures { IfOk result (λ reply. IsCommandReply (command.Explain scope) session.old.present session.new.present reply.text.items reply.status) }
+    ensures { IfOk result (λ reply. IsCommandReply names.now (command.Explain scope) session.old.present session.new.present reply.text.items reply.status) }
 {
     let asked = Asked {
         key: key_of(scope),
         with_order: false,
         keyed,
     };
-    let answered = explanation(alloc, session, Format::Text, asked, None)?;
+    let answered = explanation(alloc, session, names, Format::Text, asked, None)?;
     let mut text = Vec::from_slice(alloc, b"explained ")?;
     put_number(&mut text, line_count(answered.text.as_slice()) as u64)?;
     text.push(b'\n')?;
@@ -137,22 +153,19 @@ pub fn explain_reply(
 fn explained(
     alloc: Global,
     settings: Settings,
-    question: Question,
+    format: Format,
+    asked: Asked,
+    names: &Names,
     events: Vec<Event>,
     places: &Places,
 ) -> Result<Answered, OutOfMemory>
     requires budget { (1 ≤ settings.budget) × (settings.budget ≤ 1000000) }
     requires few { length events.items ≤ limit }
-    ensures { IfOk result (λ answered. IsExplanation question.format (opened settings events.items) (asked_in settings question) (Some places.now.places) answered.text.items answered.status) }
+    ensures { IfOk result (λ answered. IsExplanation names.now format (opened settings events.items) asked (Some places.now.places) answered.text.items answered.status) }
 {
     let mut session = session_of(alloc, settings, events)?;
-    let asked = Asked {
-        key: question.key,
-        with_order: question.with_order,
-        keyed: settings.keyed,
-    };
     let places = Some(places.as_slice());
-    explanation(alloc, &mut session, question.format, asked, places)
+    explanation(alloc, &mut session, names, format, asked, places)
 }
 
 /// The lines that are told of a file that is refused.
@@ -195,15 +208,26 @@ fn find<R: Read>(
 ) -> Result<Answered, RunFault>
     requires budget { (1 ≤ settings.budget) × (settings.budget ≤ 1000000) }
     requires reads { failures_of file.old < u64.MAX }
-    ensures found { IfOk result (λ answered. IsPrinted (IsRightExplanation settings question) (R.remaining (device_of file.old)) (R.remaining (device_of file.new)) answered.text.items answered.status) }
+    ensures found { IfOk result (λ answered. IsPrinted (IsRightExplanation settings question.entry) (R.remaining (device_of file.old)) (R.remaining (device_of file.new)) answered.text.items answered.status) }
     ensures too_much { IsErrOf result RunFault.TooMuch → IsReadTooFar (R.remaining (device_of file.old)) (R.remaining (device_of file.new)) }
     ensures counts { Counts (is_read_failed result) (failures_of file.old) (failures_of file.new) }
     ensures readers { IsErrOf result RunFault.WriteFailed → ⊥ }
 {
-    let (history, placed) = read_placed(alloc, settings.keyed, file)?;
+    let mut names = Names::new(alloc);
+    let asked = Asked {
+        key: item_of(question.key, &mut names)?,
+        with_order: question.with_order,
+        keyed: settings.keyed,
+    };
+    let (history, placed) = read_placed(alloc, settings.keyed, file, &mut names)?;
+    names_are_apart(&names);
+    let format = question.format;
     match history {
-        History::Whole(events) => Ok(explained(alloc, settings, question, events, &placed.places)?),
-        History::Refused(refusal) => Ok(refused(alloc, question.format, refusal, &placed)?),
+        History::Whole(events) => {
+            let places = &placed.places;
+            Ok(explained(alloc, settings, format, asked, &names, events, places)?)
+        }
+        History::Refused(refusal) => Ok(refused(alloc, format, refusal, &placed)?),
     }
 }
 
@@ -221,7 +245,7 @@ pub fn explain<R: Read, W: Write>(
     requires budget { (1 ≤ settings.budget) × (settings.budget ≤ 1000000) }
     requires reads { failures_of file.old < u64.MAX }
     requires writes { failures_of out.old < u64.MAX }
-    ensures ran { IsExplainRun settings question (R.remaining (device_of file.old)) (R.remaining (device_of file.new))
+    ensures ran { IsExplainRun settings question.entry (R.remaining (device_of file.old)) (R.remaining (device_of file.new))
         (W.contents (device_of out.old)) (W.contents (device_of out.new)) result }
     ensures read_counts { Counts (is_read_failed result) (failures_of file.old) (failures_of file.new) }
     ensures write_counts { Counts (is_write_failed result) (failures_of out.old) (failures_of out.new) }

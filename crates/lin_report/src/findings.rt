@@ -1,5 +1,5 @@
 //! What is found of a history and of its objects.
-ghost use Rattle.std.specs.Prelude.{◌≡◌, [], if◌then◌else◌, IfOk};
+ghost use Rattle.std.specs.Prelude.{◌≡◌, ℕ, List, [], if◌then◌else◌, IfOk};
 ghost use Rattle.lin_session.specs.Answers.{IsVerdict};
 ghost use Rattle.lin_session.specs.Keys.{AreKeys};
 ghost use Rattle.lin_session.specs.declared.answers.Scope.TheVariants as scope;
@@ -8,6 +8,7 @@ ghost use Rattle.lin_report.specs.Reports.{AreFindings, HasFound};
 
 use crate::answers::is_ill_formed;
 use lin_events::{Item, OutOfMemory};
+use lin_names::Names;
 use lin_orders::{absent_keys_are_legal, linearizability_is_local};
 use lin_session::{Scope, Session, Verdict};
 use std::alloc::Global;
@@ -24,7 +25,7 @@ pub struct Finding {
 pub struct Findings {
     /// How many keys it has.
     pub keys: usize,
-    /// Of its objects, by rising key; of none where it isn't well-formed.
+    /// Of its objects, in the order in which their keys are printed; of none where it isn't well-formed.
     pub objects: Vec<Finding>,
     pub whole: Verdict,
 }
@@ -53,7 +54,7 @@ fn find_each(
     keys: &[Item],
     whole: Verdict,
 ) -> Result<Vec<Finding>, OutOfMemory>
-    requires keys { AreKeys session.old.present.history keys.now }
+    requires keys { (names : List (List ℕ)) × AreKeys names session.old.present.history keys.now }
     requires whole { IsVerdict session.old.present scope.Whole whole }
     ensures found { IfOk result (λ found. AreFindings session.old.present (if said.is_ill_formed whole then [] else keys.now) found.items) }
     ensures present { session.new.present ≡ session.old.present }
@@ -74,11 +75,11 @@ fn find_each(
 }
 
 /// What is found of the present history.
-pub fn find(alloc: Global, session: &mut Session) -> Result<Findings, OutOfMemory>
-    ensures found { IfOk result (HasFound session.old.present) }
+pub fn find(alloc: Global, session: &mut Session, names: &Names) -> Result<Findings, OutOfMemory>
+    ensures found { IfOk result (HasFound names.now session.old.present) }
     ensures present { session.new.present ≡ session.old.present }
 {
-    let keys = session.objects(alloc)?;
+    let keys = session.objects(alloc, names)?;
     let whole = session.ask(alloc, Scope::Whole)?;
     let objects = find_each(alloc, session, keys.as_slice(), whole)?;
     Ok(Findings {

@@ -9,10 +9,11 @@ ghost use Rattle.lin_report.specs.Explanations.{explanation_text};
 
 use crate::answers::{status_of, told_words, verdict_words};
 use crate::formats::Format;
-use lin_explain::Explanation;
+use lin_explain::{Explanation, place_of};
 use lin_formats::{Refusal, Status, refusal_words};
 use lin_json::{Head, put_explanation, put_refusal};
-use lin_places::{Place, Places};
+use lin_names::Names;
+use lin_places::Places;
 use lin_session::Verdict;
 use std::alloc::{AllocError, Global};
 
@@ -26,11 +27,12 @@ fn without_end(text: &[u8]) -> &[u8]
 /// The explanation of an answer for so many events.
 pub fn json_explanation(
     alloc: Global,
+    names: &Names,
     events: usize,
     verdict: Verdict,
     told: &Explanation,
 ) -> Result<Vec<u8>, AllocError>
-    ensures { IfOk result (λ line. line.items ≡ explanation_text Format.Json events verdict told.now.lines.items told.now.parts) }
+    ensures { IfOk result (λ line. line.items ≡ explanation_text names.now Format.Json events verdict told.now.lines.items told.now.parts) }
 {
     let answer = verdict_words(alloc, verdict)?;
     let text = told_words(alloc, verdict, &told.lines)?;
@@ -39,20 +41,16 @@ pub fn json_explanation(
         answer: &answer,
     };
     let mut line = Vec::new(alloc);
-    put_explanation(&mut line, head, events, &told.parts, without_end(&text))?;
+    put_explanation(
+        &mut line,
+        names,
+        head,
+        events,
+        &told.parts,
+        without_end(&text),
+    )?;
     line.push(b'\n')?;
     Ok(line)
-}
-
-/// Where a file is refused, if there is a place.
-fn place_of(refusal: Refusal, places: &Places) -> Option<Place>
-    ensures { result ≡ place_in places.now refusal }
-{
-    match refusal {
-        Refusal::Truncated { .. } => places.unfinished(),
-        Refusal::Edn { .. } | Refusal::Event { .. } => places.bad(),
-        Refusal::Full | Refusal::BadPair { .. } => None,
-    }
 }
 
 /// What is told of a file that is refused, of which this is the text.

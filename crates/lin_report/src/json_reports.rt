@@ -11,38 +11,46 @@ use crate::findings::{Finding, Findings};
 use crate::formats::Format;
 use lin_formats::{Refusal, Status, refusal_words};
 use lin_json::{Head, put_answer, put_object, put_objects_front};
+use lin_names::Names;
 use lin_objects::Kind;
 use lin_session::Session;
 use std::alloc::{AllocError, Global};
 
 /// Puts the map of an object last.
-fn put_one(alloc: Global, text: &mut Vec<u8>, kind: Kind, found: Finding) -> Result<(), AllocError>
-    ensures { OnOk result (text.new.items ≡ text.old.items ++ json_object kind found) }
+fn put_one(
+    alloc: Global,
+    text: &mut Vec<u8>,
+    names: &Names,
+    kind: Kind,
+    found: Finding,
+) -> Result<(), AllocError>
+    ensures { OnOk result (text.new.items ≡ text.old.items ++ json_object names.now kind found) }
 {
     let answer = verdict_words(alloc, found.verdict)?;
     let head = Head {
         status: status_of(found.verdict),
         answer: &answer,
     };
-    put_object(text, found.key, kind, head)
+    put_object(text, names, found.key, kind, head)
 }
 
 /// Puts the maps of objects last, with commas between them.
 fn put_each(
     alloc: Global,
     text: &mut Vec<u8>,
+    names: &Names,
     session: &Session,
     found: &[Finding],
 ) -> Result<(), AllocError>
-    ensures { OnOk result (text.new.items ≡ text.old.items ++ json_objects (kinds_in session.now.present) found.now) }
+    ensures { OnOk result (text.new.items ≡ text.old.items ++ json_objects names.now (kinds_in session.now.present) found.now) }
 {
     let Some((first, others)) = found.split_first() else {
         return Ok(());
     };
-    put_one(alloc, text, session.kind_of(first.key), *first)?;
+    put_one(alloc, text, names, session.kind_of(first.key), *first)?;
     for other in others {
         text.push(b',')?;
-        put_one(alloc, text, session.kind_of(other.key), *other)?;
+        put_one(alloc, text, names, session.kind_of(other.key), *other)?;
     }
     Ok(())
 }
@@ -51,10 +59,11 @@ fn put_each(
 pub fn put_json_report(
     alloc: Global,
     text: &mut Vec<u8>,
+    names: &Names,
     session: &Session,
     found: &Findings,
 ) -> Result<(), AllocError>
-    ensures { OnOk result (text.new.items ≡ text.old.items ++ report_text Format.Json session.now.present found.now.keys found.now.objects.items found.now.whole) }
+    ensures { OnOk result (text.new.items ≡ text.old.items ++ report_text names.now Format.Json session.now.present found.now.keys found.now.objects.items found.now.whole) }
 {
     let answer = verdict_words(alloc, found.whole)?;
     let head = Head {
@@ -62,7 +71,7 @@ pub fn put_json_report(
         answer: &answer,
     };
     put_objects_front(text, head, session.len())?;
-    put_each(alloc, text, session, &found.objects)?;
+    put_each(alloc, text, names, session, &found.objects)?;
     text.extend_from_slice(b"]}\n")
 }
 

@@ -1,18 +1,19 @@
 //! What `pull` does: events of the file go to the end of a history.
-ghost use Rattle.std.specs.Prelude.{◌≡◌, ◌+◌, ◌<◌, ◌^◌, ◌⊎◌, ℕ, Bool, List, IfOk, IfErr, IsErrOf, length};
-ghost use Rattle.std.specs.Io.KnownBytes.{Consumes};
+ghost use Rattle.std.specs.Prelude.{◌≡◌, ◌<◌, ◌⊎◌, Bool, List, IfOk, IfErr, IsErrOf};
 ghost use Rattle.lin_events.specs.declared.events.Event.{Event as EventOf};
-ghost use Rattle.lin_history.specs.Sees.{IsTakenIn, IsTooMuch, Sees};
+ghost use Rattle.lin_history.specs.Sees.{IsTakenIn, IsTooMuch};
 ghost use Rattle.lin_formats.specs.Devices.{device_of, failures_of, Counts};
 ghost use Rattle.lin_formats.specs.Histories.{is_read_failed};
 ghost use Rattle.lin_report.specs.Pulls.{Enters, IsAllOrFull, IsStop, StandsAt};
-ghost use Rattle.lin_report.specs.Runs.{IsPull, RunState};
+ghost use Rattle.lin_report.specs.inner.Engines.{ReadsPart};
+ghost use Rattle.lin_report.specs.Runs.{AreMore, IsPull, RunState};
 ghost use Rattle.lin_report.specs.Runs as said;
 
-use crate::sessions::append;
+use crate::sessions::{append, names_are_apart};
 use lin_events::OutOfMemory;
 use lin_formats::{Counted, Refusal, RunFault};
 use lin_history::{Follow, FollowFault};
+use lin_names::{Names, names_grow};
 use lin_session::Session;
 use std::io::Read;
 
@@ -48,12 +49,15 @@ fn refusal_in(follow: &Follow) -> Option<Refusal>
 }
 
 /// Takes in a piece of the file; a fault of form is kept.
-fn feed(follow: &mut Follow, piece: &[u8]) -> Result<(), RunFault>
-    ensures fed { IfOk result (λ _. (more : List EventOf) × IsTakenIn follow.old piece.now follow.new more) }
+fn feed(follow: &mut Follow, piece: &[u8], names: &mut Names) -> Result<(), RunFault>
+    ensures names { AreMore names.old names.new }
+    ensures fed { IfOk result (λ _. (more : List EventOf) × IsTakenIn names.new follow.old piece.now follow.new more) }
     ensures faults { IfErr result (λ fault. (fault ≡ RunFault.OutOfMemory) ⊎ (fault ≡ RunFault.TooMuch)) }
     ensures too_much { IsErrOf result RunFault.TooMuch → IsTooMuch follow.old piece.now }
 {
-    match follow.feed(piece) {
+    let fed = follow.feed(piece, names);
+    names_are_apart(names);
+    match fed {
         Ok(_) | Err(FollowFault::Edn { .. } | FollowFault::Event { .. }) => Ok(()),
         Err(FollowFault::TooMuch) => Err(RunFault::TooMuch),
         Err(FollowFault::OutOfMemory) => Err(RunFault::OutOfMemory),
@@ -79,16 +83,18 @@ pub fn pull<R: Read>(
     session: &mut Session,
     follow: &mut Follow,
     file: &mut Counted<R>,
+    names: &mut Names,
 ) -> Result<Option<Refusal>, RunFault>
     requires { failures_of file.old < u64.MAX }
     ensures pulled { IfOk result (λ refused. (keyed : Bool) (before : RunState)
-        → StandsAt keyed before session.old.present follow.old (R.remaining (device_of file.old))
-        → (after : RunState) × StandsAt keyed after session.new.present follow.new (R.remaining (device_of file.new)) × IsPull keyed before after refused) }
-    ensures reads { (part : List ℕ) × Consumes (R.remaining (device_of file.old)) (R.remaining (device_of file.new)) part
-        × (IsErrOf result RunFault.TooMuch → (bytes : List ℕ) (put : List EventOf) → Sees follow.old bytes put → 2 ^ 40 < length bytes + length part) }
+        → StandsAt keyed before session.old.present names.old follow.old (R.remaining (device_of file.old))
+        → (after : RunState) × StandsAt keyed after session.new.present names.new follow.new (R.remaining (device_of file.new)) × IsPull keyed before after refused) }
+    ensures reads { ReadsPart names.old names.new follow.old (R.remaining (device_of file.old)) (R.remaining (device_of file.new)) (IsErrOf result RunFault.TooMuch) }
     ensures counts { Counts (is_read_failed result) (failures_of file.old) (failures_of file.new) }
     ensures readers { IsErrOf result RunFault.WriteFailed → ⊥ }
 {
+    names_grow();
+    names_are_apart(names);
     let mut piece = [0u8; PIECE];
     'pieces: for _ in 0..u64::MAX {
         if let Some(refusal) = put_in(session, follow)? {
@@ -100,7 +106,7 @@ pub fn pull<R: Read>(
         if count == 0 {
             return Ok(None);
         }
-        feed(follow, &piece[..count])?;
+        feed(follow, &piece[..count], names)?;
     }
     Err(RunFault::TooMuch)
 }

@@ -1,5 +1,5 @@
 //! The replies to commands that read no file.
-ghost use Rattle.std.specs.Prelude.{◌≡◌, ◌≢◌, ◌++◌, None, Some, IfOk, codes};
+ghost use Rattle.std.specs.Prelude.{◌≡◌, ◌≢◌, ◌++◌, ℕ, List, None, Some, IfOk, codes};
 ghost use Rattle.lin_report.specs.Reports.{answer_status, answer_text};
 ghost use Rattle.lin_report.specs.Runs.{IsCommandReply, IsEditReply, order_answer_text};
 ghost use Rattle.lin_report.specs.Runs as said;
@@ -13,6 +13,7 @@ use crate::refuting::refute;
 use crate::reports::write_report;
 use lin_events::OutOfMemory;
 use lin_formats::{Status, put_number, write_order};
+use lin_names::Names;
 use lin_session::{Answer, Edit, EditFault, Scope, Session, Verdict};
 use std::alloc::{AllocError, Global};
 
@@ -98,20 +99,20 @@ pub fn answered(alloc: Global, verdict: Verdict) -> Result<Reply, OutOfMemory>
 
 /// What is found for the scope.
 fn ask(alloc: Global, session: &mut Session, scope: Scope) -> Result<Reply, OutOfMemory>
-    ensures { IfOk result (λ reply. IsCommandReply (Command.Ask scope) session.old.present session.new.present reply.text.items reply.status) }
+    ensures { IfOk result (λ reply. (names : List (List ℕ)) → IsCommandReply names (Command.Ask scope) session.old.present session.new.present reply.text.items reply.status) }
 {
     let verdict = session.ask(alloc, scope)?;
     answered(alloc, verdict)
 }
 
 /// The text of an answer, with its order where there is one.
-fn order_words(alloc: Global, answer: &Answer) -> Result<Vec<u8>, OutOfMemory>
-    ensures { IfOk result (λ text. text.items ≡ order_answer_text answer.now) }
+fn order_words(alloc: Global, names: &Names, answer: &Answer) -> Result<Vec<u8>, OutOfMemory>
+    ensures { IfOk result (λ text. text.items ≡ order_answer_text names.now answer.now) }
 {
     match answer {
         Answer::Yes(order) => {
             let mut text = Vec::from_slice(alloc, b"yes ")?;
-            write_order(order.as_slice(), &mut text)?;
+            write_order(names, order.as_slice(), &mut text)?;
             Ok(text)
         }
         other => {
@@ -123,11 +124,16 @@ fn order_words(alloc: Global, answer: &Answer) -> Result<Vec<u8>, OutOfMemory>
 }
 
 /// What is found for the scope, with an order.
-fn order(alloc: Global, session: &mut Session, scope: Scope) -> Result<Reply, OutOfMemory>
-    ensures { IfOk result (λ reply. IsCommandReply (Command.Order scope) session.old.present session.new.present reply.text.items reply.status) }
+fn order(
+    alloc: Global,
+    session: &mut Session,
+    names: &Names,
+    scope: Scope,
+) -> Result<Reply, OutOfMemory>
+    ensures { IfOk result (λ reply. IsCommandReply names.now (Command.Order scope) session.old.present session.new.present reply.text.items reply.status) }
 {
     let answer = session.order(alloc, scope)?;
-    let mut text = order_words(alloc, &answer)?;
+    let mut text = order_words(alloc, names, &answer)?;
     text.push(b'\n')?;
     Ok(Reply {
         text,
@@ -136,11 +142,11 @@ fn order(alloc: Global, session: &mut Session, scope: Scope) -> Result<Reply, Ou
 }
 
 /// What is found of all objects.
-fn report(alloc: Global, session: &mut Session) -> Result<Reply, OutOfMemory>
-    ensures { IfOk result (λ reply. IsCommandReply Command.Report session.old.present session.new.present reply.text.items reply.status) }
+fn report(alloc: Global, session: &mut Session, names: &Names) -> Result<Reply, OutOfMemory>
+    ensures { IfOk result (λ reply. IsCommandReply names.now Command.Report session.old.present session.new.present reply.text.items reply.status) }
 {
     let mut text = Vec::new(alloc);
-    let status = write_report(alloc, session, &mut text)?;
+    let status = write_report(alloc, session, names, &mut text)?;
     Ok(Reply {
         text,
         status: Some(status),
@@ -152,19 +158,20 @@ pub fn reply_to(
     alloc: Global,
     keyed: bool,
     session: &mut Session,
+    names: &Names,
     command: Command,
 ) -> Result<Reply, OutOfMemory>
     requires { command ≢ Command.Pull }
-    ensures { IfOk result (λ reply. IsCommandReply command session.old.present session.new.present reply.text.items reply.status) }
+    ensures { IfOk result (λ reply. IsCommandReply names.now command session.old.present session.new.present reply.text.items reply.status) }
 {
     match command {
         Command::Edit(edit) => Ok(Reply::plain(make(alloc, session, edit)?)),
         Command::Skipped => Ok(Reply::plain(Vec::from_slice(alloc, b"skipped\n")?)),
         Command::Ask(scope) => ask(alloc, session, scope),
-        Command::Order(scope) => order(alloc, session, scope),
-        Command::Report => report(alloc, session),
+        Command::Order(scope) => order(alloc, session, names, scope),
+        Command::Report => report(alloc, session, names),
         Command::Refute(key) => refute(alloc, session, key),
-        Command::Explain(scope) => explain_reply(alloc, keyed, session, scope),
+        Command::Explain(scope) => explain_reply(alloc, keyed, session, names, scope),
         Command::Pull => unreachable!(),
     }
 }

@@ -10,6 +10,7 @@ use crate::formats::Format;
 use crate::json_reports::put_json_report;
 use lin_events::OutOfMemory;
 use lin_formats::{Status, kind_word, put_item, put_number};
+use lin_names::Names;
 use lin_objects::Kind;
 use lin_session::{Session, Verdict};
 use std::alloc::{AllocError, Global};
@@ -36,11 +37,17 @@ fn put_verdict(alloc: Global, text: &mut Vec<u8>, verdict: Verdict) -> Result<()
 }
 
 /// Puts the line of an object last.
-fn put_line(alloc: Global, text: &mut Vec<u8>, kind: Kind, found: Finding) -> Result<(), AllocError>
-    ensures { OnOk result (text.new.items ≡ text.old.items ++ line_text kind found) }
+fn put_line(
+    alloc: Global,
+    text: &mut Vec<u8>,
+    names: &Names,
+    kind: Kind,
+    found: Finding,
+) -> Result<(), AllocError>
+    ensures { OnOk result (text.new.items ≡ text.old.items ++ line_text names.now kind found) }
 {
     text.extend_from_slice(b"object ")?;
-    put_item(text, found.key)?;
+    put_item(text, names, found.key)?;
     text.extend_from_slice(b" ")?;
     text.extend_from_slice(kind_word(kind).as_bytes())?;
     text.extend_from_slice(b": ")?;
@@ -51,13 +58,14 @@ fn put_line(alloc: Global, text: &mut Vec<u8>, kind: Kind, found: Finding) -> Re
 fn put_lines(
     alloc: Global,
     text: &mut Vec<u8>,
+    names: &Names,
     session: &Session,
     found: &[Finding],
 ) -> Result<(), AllocError>
-    ensures { OnOk result (text.new.items ≡ text.old.items ++ lines_text (kinds_in session.now.present) found.now) }
+    ensures { OnOk result (text.new.items ≡ text.old.items ++ lines_text names.now (kinds_in session.now.present) found.now) }
 {
     for one in found {
-        put_line(alloc, text, session.kind_of(one.key), *one)?;
+        put_line(alloc, text, names, session.kind_of(one.key), *one)?;
     }
     Ok(())
 }
@@ -66,13 +74,14 @@ fn put_lines(
 fn put_text_report(
     alloc: Global,
     text: &mut Vec<u8>,
+    names: &Names,
     session: &Session,
     found: &Findings,
 ) -> Result<(), AllocError>
-    ensures { OnOk result (text.new.items ≡ text.old.items ++ report_text Format.Text session.now.present found.now.keys found.now.objects.items found.now.whole) }
+    ensures { OnOk result (text.new.items ≡ text.old.items ++ report_text names.now Format.Text session.now.present found.now.keys found.now.objects.items found.now.whole) }
 {
     put_counts(text, session.len(), found.keys)?;
-    put_lines(alloc, text, session, &found.objects)?;
+    put_lines(alloc, text, names, session, &found.objects)?;
     text.extend_from_slice(b"whole: ")?;
     put_verdict(alloc, text, found.whole)
 }
@@ -81,15 +90,16 @@ fn put_text_report(
 fn reported_as(
     alloc: Global,
     format: Format,
+    names: &Names,
     session: &Session,
     found: &Findings,
 ) -> Result<Vec<u8>, AllocError>
-    ensures { IfOk result (λ text. text.items ≡ report_text format session.now.present found.now.keys found.now.objects.items found.now.whole) }
+    ensures { IfOk result (λ text. text.items ≡ report_text names.now format session.now.present found.now.keys found.now.objects.items found.now.whole) }
 {
     let mut text = Vec::new(alloc);
     match format {
-        Format::Text => put_text_report(alloc, &mut text, session, found)?,
-        Format::Json => put_json_report(alloc, &mut text, session, found)?,
+        Format::Text => put_text_report(alloc, &mut text, names, session, found)?,
+        Format::Json => put_json_report(alloc, &mut text, names, session, found)?,
     }
     Ok(text)
 }
@@ -98,29 +108,31 @@ fn reported_as(
 pub fn report(
     alloc: Global,
     session: &mut Session,
+    names: &Names,
     format: Format,
 ) -> Result<(Vec<u8>, Status), OutOfMemory>
-    ensures report { IfOk result (λ reported. IsReport format session.old.present reported.0.items reported.1) }
+    ensures report { IfOk result (λ reported. IsReport names.now format session.old.present reported.0.items reported.1) }
     ensures present { session.new.present ≡ session.old.present }
 {
-    let found = find(alloc, session)?;
-    let text = reported_as(alloc, format, session, &found)?;
+    let found = find(alloc, session, names)?;
+    let text = reported_as(alloc, format, names, session, &found)?;
     Ok((text, status_of(found.whole)))
 }
 
 /// Puts the lines of a report of the present history last, and gives the status of what is found of the whole: how many events and
-/// objects it has, what is found of each object, by rising key, and of the whole. Of a history that isn't well-formed no object is
+/// objects it has, what is found of each object, in the order of print, and of the whole. Of a history that isn't well-formed no object is
 /// named. Refused, nothing has changed.
 pub fn write_report(
     alloc: Global,
     session: &mut Session,
+    names: &Names,
     out: &mut Vec<u8>,
 ) -> Result<Status, OutOfMemory>
-    ensures written { IfOk result (λ status. (text : List ℕ) × IsReport Format.Text session.old.present text status × (out.new.items ≡ out.old.items ++ text)) }
+    ensures written { IfOk result (λ status. (text : List ℕ) × IsReport names.now Format.Text session.old.present text status × (out.new.items ≡ out.old.items ++ text)) }
     ensures same { OnErr result (out.new.items ≡ out.old.items) }
     ensures present { session.new.present ≡ session.old.present }
 {
-    let (text, status) = report(alloc, session, Format::Text)?;
+    let (text, status) = report(alloc, session, names, Format::Text)?;
     out.extend_from_slice(text.as_slice())?;
     Ok(status)
 }

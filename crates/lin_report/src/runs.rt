@@ -12,12 +12,13 @@ ghost use Rattle.lin_formats.specs.Verdicts.{is_write_failed};
 use crate::commands::{Command, read_command};
 use crate::pulls::pull;
 use crate::replies::{Reply, ok_line, reply_to, reply_to_fault};
-use crate::sessions::open;
+use crate::sessions::{names_are_apart, open};
 use lin_events::OutOfMemory;
 use lin_formats::{
     Counted, Refusal, RunFault, Settings, Status, end_of_part, refusal_words, write_whole,
 };
 use lin_history::Follow;
+use lin_names::Names;
 use lin_session::Session;
 use std::alloc::Global;
 use std::io::{Read, Write};
@@ -35,6 +36,8 @@ const MOST: u64 = 1_099_511_627_776;
 #[derive(Drop)]
 pub struct Engine {
     session: Session,
+    // The spellings of the words that were read, of commands and of the file.
+    names: Names,
     follow: Follow,
     // What stands behind the last line end: as far as a line may go, and one byte more.
     held: Vec<u8>,
@@ -62,15 +65,16 @@ fn reply_to_pull<R: Read>(
     session: &mut Session,
     follow: &mut Follow,
     file: &mut Counted<R>,
+    names: &mut Names,
 ) -> Result<Reply, RunFault>
     requires { failures_of file.old < u64.MAX }
-    ensures reply { IfOk result (λ reply. (keyed : Bool) → Moves keyed session.old.present session.new.present follow.old follow.new (R.remaining (device_of file.old)) (R.remaining (device_of file.new))
+    ensures reply { IfOk result (λ reply. (keyed : Bool) → Moves keyed session.old.present session.new.present names.old names.new follow.old follow.new (R.remaining (device_of file.old)) (R.remaining (device_of file.new))
         (λ before end. IsDone keyed Command.Pull before end reply.text.items reply.status)) }
-    ensures reads { ReadsPart follow.old (R.remaining (device_of file.old)) (R.remaining (device_of file.new)) (IsErrOf result RunFault.TooMuch) }
+    ensures reads { ReadsPart names.old names.new follow.old (R.remaining (device_of file.old)) (R.remaining (device_of file.new)) (IsErrOf result RunFault.TooMuch) }
     ensures counts { Counts (is_read_failed result) (failures_of file.old) (failures_of file.new) }
     ensures readers { IsErrOf result RunFault.WriteFailed → ⊥ }
 {
-    let refused = pull(session, follow, file)?;
+    let refused = pull(session, follow, file, names)?;
     Ok(Reply::plain(pull_line(alloc, refused, session.len())?))
 }
 
@@ -82,19 +86,22 @@ fn reply<R: Read>(
     follow: &mut Follow,
     file: &mut Counted<R>,
     held: &[u8],
+    names: &mut Names,
 ) -> Result<Reply, RunFault>
     requires { failures_of file.old < u64.MAX }
     ensures reply { IfOk result (λ reply. (line : List ℕ) → held.now ≡ take (longest_line + 1) line
-        → Moves keyed session.old.present session.new.present follow.old follow.new (R.remaining (device_of file.old)) (R.remaining (device_of file.new))
+        → Moves keyed session.old.present session.new.present names.old names.new follow.old follow.new (R.remaining (device_of file.old)) (R.remaining (device_of file.new))
         (λ before end. IsReply keyed before line end reply.text.items reply.status)) }
-    ensures reads { ReadsPart follow.old (R.remaining (device_of file.old)) (R.remaining (device_of file.new)) (IsErrOf result RunFault.TooMuch) }
+    ensures reads { ReadsPart names.old names.new follow.old (R.remaining (device_of file.old)) (R.remaining (device_of file.new)) (IsErrOf result RunFault.TooMuch) }
     ensures counts { Counts (is_read_failed result) (failures_of file.old) (failures_of file.new) }
     ensures readers { IsErrOf result RunFault.WriteFailed → ⊥ }
 {
-    match read_command(alloc, held, keyed) {
+    let said = read_command(alloc, held, keyed, names);
+    names_are_apart(names);
+    match said {
         Ok(None) => Ok(Reply::plain(Vec::new(alloc))),
-        Ok(Some(Command::Pull)) => Ok(reply_to_pull(alloc, session, follow, file)?),
-        Ok(Some(command)) => Ok(reply_to(alloc, keyed, session, command)?),
+        Ok(Some(Command::Pull)) => Ok(reply_to_pull(alloc, session, follow, file, names)?),
+        Ok(Some(command)) => Ok(reply_to(alloc, keyed, session, names, command)?),
         Err(fault) => Ok(reply_to_fault(alloc, fault)?),
     }
 }
@@ -116,6 +123,7 @@ impl Engine {
     {
         Engine {
             session: open(alloc, settings),
+            names: Names::new(alloc),
             follow: Follow::new(alloc, settings.keyed),
             held: Vec::new(alloc),
             status: None,
@@ -132,10 +140,10 @@ impl Engine {
     ) -> Result<(), RunFault>
         requires reads { failures_of file.old < u64.MAX }
         requires writes { failures_of out.old < u64.MAX }
-        ensures done { OnOk result ((before : RunState) (line : List ℕ) → StandsAt keyed before self.old.session.present self.old.follow (R.remaining (device_of file.old)) → Holds self.old line
+        ensures done { OnOk result ((before : RunState) (line : List ℕ) → StandsAt keyed before self.old.session.present self.old.names self.old.follow (R.remaining (device_of file.old)) → Holds self.old line
             → IsCarriedOut keyed self.old self.new (R.remaining (device_of file.old)) (R.remaining (device_of file.new)) (W.contents (device_of out.old)) (W.contents (device_of out.new)) before line) }
-        ensures cut { IfErr result (λ fault. (before : RunState) (line : List ℕ) → StandsAt keyed before self.old.session.present self.old.follow (R.remaining (device_of file.old)) → Holds self.old line
-            → IsCutShort keyed self.old.follow (R.remaining (device_of file.old)) (R.remaining (device_of file.new)) (W.contents (device_of out.old)) (W.contents (device_of out.new)) before line fault) }
+        ensures cut { IfErr result (λ fault. (before : RunState) (line : List ℕ) → StandsAt keyed before self.old.session.present self.old.names self.old.follow (R.remaining (device_of file.old)) → Holds self.old line
+            → IsCutShort keyed self.old.names self.new.names self.old.follow (R.remaining (device_of file.old)) (R.remaining (device_of file.new)) (W.contents (device_of out.old)) (W.contents (device_of out.new)) before line fault) }
         ensures read_counts { Counts (is_read_failed result) (failures_of file.old) (failures_of file.new) }
         ensures write_counts { Counts (is_write_failed result) (failures_of out.old) (failures_of out.new) }
     {
@@ -146,6 +154,7 @@ impl Engine {
             &mut self.follow,
             file,
             self.held.as_slice(),
+            &mut self.names,
         )?;
         match write_whole(out, reply.text.as_slice()) {
             Ok(()) => {}

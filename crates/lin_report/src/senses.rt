@@ -1,12 +1,15 @@
 //! What the words of a command line say.
-ghost use Rattle.std.specs.Prelude.{◌≡◌, ◌≤◌, None, Some, length, drop, MatchOption};
+ghost use Rattle.std.specs.Prelude.{◌≡◌, ◌≤◌, None, Some, Ok, length, drop, MatchOption};
 ghost use Rattle.lin_formats.specs.Parts.{words_from};
+ghost use Rattle.lin_names.specs.Names.{AgreesWith, Begins, Numbering};
+ghost use Rattle.lin_names.specs.Spelled.{numbered, seen};
 ghost use Rattle.lin_report.specs.Commands as said;
-ghost use Rattle.lin_report.specs.MapCommands.{IsWithin};
+ghost use Rattle.lin_report.specs.MapCommands.{IsOrNoMemory, IsScope, IsSense, IsWithin};
 
 use crate::commands::{Command, CommandFault};
 use lin_events::{Event, Item};
 use lin_formats::{Word, item_in, kind_named, next_word, number};
+use lin_names::{Names, Said};
 use lin_objects::Kind;
 use lin_session::{Edit, Scope};
 
@@ -146,42 +149,60 @@ fn number_in(line: &[u8], from: usize, most: u64) -> Result<u64, CommandFault>
     number(word.text, most).ok_or(CommandFault::BadNumber)
 }
 
+/// The item that is said.
+fn item_of(said: Said, names: &mut Names) -> Result<Item, CommandFault>
+    ensures begun { Begins names.old names.new }
+    ensures item { (number : Numbering) → AgreesWith names.new number → IsOrNoMemory (Ok (numbered number (seen said.entry))) result }
+{
+    match said.item(names) {
+        Ok(item) => Ok(item),
+        Err(_) => Err(CommandFault::OutOfMemory),
+    }
+}
+
 /// The key that the only word behind a place writes.
-fn key_in(line: &[u8], from: usize) -> Result<Item, CommandFault>
+fn key_in(line: &[u8], from: usize, names: &mut Names) -> Result<Item, CommandFault>
     requires { from ≤ length line.now }
-    ensures { result ≡ said.key_in (words_from from (drop from line.now)) }
+    ensures begun { Begins names.old names.new }
+    ensures key { (number : Numbering) → AgreesWith names.new number → IsOrNoMemory (said.key_in number (words_from from (drop from line.now))) result }
 {
     let Some(word) = only_word(line, from) else {
         return Err(CommandFault::BadWords);
     };
-    item_in(word.text).ok_or(CommandFault::BadNumber)
+    let Some(key) = item_in(word.text) else {
+        return Err(CommandFault::BadNumber);
+    };
+    item_of(key, names)
 }
 
 /// The object of the key that the only word behind a place writes, or the whole where there is none.
-fn scope_in(line: &[u8], from: usize) -> Result<Scope, CommandFault>
+fn scope_in(line: &[u8], from: usize, names: &mut Names) -> Result<Scope, CommandFault>
     requires { from ≤ length line.now }
-    ensures { result ≡ said.scope_in (words_from from (drop from line.now)) }
+    ensures begun { Begins names.old names.new }
+    ensures scope { (number : Numbering) → AgreesWith names.new number → IsScope (said.scope_in number (words_from from (drop from line.now))) result }
 {
     if next_word(line, from).is_none() {
         return Ok(Scope::Whole);
     }
-    Ok(Scope::Object(key_in(line, from)?))
+    Ok(Scope::Object(key_in(line, from, names)?))
 }
 
-fn key_and_kind(line: &[u8], from: usize) -> Result<(Item, Kind), CommandFault>
+/// A key and the word for its kind behind a place.
+fn key_and_kind(line: &[u8], from: usize, names: &mut Names) -> Result<(Item, Kind), CommandFault>
     requires { from ≤ length line.now }
-    ensures { result ≡ said.key_and_kind (words_from from (drop from line.now)) }
+    ensures begun { Begins names.old names.new }
+    ensures both { (number : Numbering) → AgreesWith names.new number → IsOrNoMemory (said.key_and_kind number (words_from from (drop from line.now))) result }
 {
-    let Some((key, kind)) = both_words(line, from) else {
+    let Some((key, word)) = both_words(line, from) else {
         return Err(CommandFault::BadWords);
     };
     let Some(key) = item_in(key.text) else {
         return Err(CommandFault::BadNumber);
     };
-    match kind_named(kind.text) {
-        Some(kind) => Ok((key, kind)),
-        None => Err(CommandFault::BadKind),
-    }
+    let Some(kind) = kind_named(word.text) else {
+        return Err(CommandFault::BadKind);
+    };
+    Ok((item_of(key, names)?, kind))
 }
 
 /// What `replace` says: the position, and the place behind it, from where on a map stands.
@@ -200,9 +221,15 @@ fn replacement(line: &[u8], from: usize) -> Result<Sense, CommandFault>
 }
 
 /// What the words behind the first one say, which ends at a place.
-fn command_behind(line: &[u8], verb: Verb, end: usize) -> Result<Sense, CommandFault>
+fn command_behind(
+    line: &[u8],
+    verb: Verb,
+    end: usize,
+    names: &mut Names,
+) -> Result<Sense, CommandFault>
     requires { end ≤ length line.now }
-    ensures said { result ≡ said.sense_behind verb end (words_from end (drop end line.now)) }
+    ensures begun { Begins names.old names.new }
+    ensures said { (number : Numbering) → AgreesWith names.new number → IsSense (said.sense_behind number verb end (words_from end (drop end line.now))) result }
     ensures within { IsWithin line.now result }
 {
     let command = match verb {
@@ -211,15 +238,15 @@ fn command_behind(line: &[u8], verb: Verb, end: usize) -> Result<Sense, CommandF
         Verb::Remove => Command::Edit(Edit::Remove(number_in(line, end, u64::MAX)? as usize)),
         Verb::Truncate => Command::Edit(Edit::Truncate(number_in(line, end, u64::MAX)? as usize)),
         Verb::Kind => {
-            let (key, kind) = key_and_kind(line, end)?;
+            let (key, kind) = key_and_kind(line, end, names)?;
             Command::Edit(Edit::SetKind(key, kind))
         }
         Verb::Budget => {
             let budget = number_in(line, end, u64::from(u32::MAX))?;
             Command::Edit(Edit::SetBudget(budget as u32))
         }
-        Verb::Ask => Command::Ask(scope_in(line, end)?),
-        Verb::Order => Command::Order(scope_in(line, end)?),
+        Verb::Ask => Command::Ask(scope_in(line, end, names)?),
+        Verb::Order => Command::Order(scope_in(line, end, names)?),
         Verb::Report => {
             no_more(line, end)?;
             Command::Report
@@ -228,22 +255,23 @@ fn command_behind(line: &[u8], verb: Verb, end: usize) -> Result<Sense, CommandF
             no_more(line, end)?;
             Command::Pull
         }
-        Verb::Refute => Command::Refute(key_in(line, end)?),
-        Verb::Explain => Command::Explain(scope_in(line, end)?),
+        Verb::Refute => Command::Refute(key_in(line, end, names)?),
+        Verb::Explain => Command::Explain(scope_in(line, end, names)?),
     };
     Ok(Sense::Plain(command))
 }
 
 /// What the words of a line say.
-pub fn sense_of(line: &[u8]) -> Result<Sense, CommandFault>
-    ensures said { result ≡ said.sense_of (words_from 0 line.now) }
+pub fn sense_of(line: &[u8], names: &mut Names) -> Result<Sense, CommandFault>
+    ensures begun { Begins names.old names.new }
+    ensures said { (number : Numbering) → AgreesWith names.new number → IsSense (said.sense_of number (words_from 0 line.now)) result }
     ensures within { IsWithin line.now result }
 {
     let Some(word) = next_word(line, 0) else {
         return Ok(Sense::Nothing);
     };
     match verb_of(word.text) {
-        Some(verb) => command_behind(line, verb, word.at + word.text.len()),
+        Some(verb) => command_behind(line, verb, word.at + word.text.len(), names),
         None => Err(CommandFault::UnknownCommand),
     }
 }

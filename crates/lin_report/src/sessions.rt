@@ -1,10 +1,12 @@
-//! Sessions that are told the events of a file.
+//! Sessions that are told the events of a file, and names.
 ghost use Rattle.std.specs.Prelude.{◌≡◌, ◌<◌, ◌≤◌, ◌∷◌, ◌++◌, [], IfOk, OnOk, length};
 ghost use Rattle.lin_formats.specs.Inputs.{limit};
+ghost use Rattle.lin_names.specs.Names.{AreEachOnce};
 ghost use Rattle.lin_report.specs.Reports.{opened};
 
 use lin_events::{Event, OutOfMemory};
 use lin_formats::Settings;
+use lin_names::Names;
 use lin_session::{Edit, EditFault, Session};
 use std::alloc::Global;
 
@@ -45,4 +47,11 @@ pub fn session_of(
         unreachable!()
     };
     Ok(session)
+}
+
+/// No spelling has two numbers. The function does nothing.
+pub fn names_are_apart(names: &Names)
+    ensures { AreEachOnce names.now }
+{
+    names.len();
 }

@@ -1,6 +1,6 @@
 //! Rows about what stands in a text.
 use crate::words::first_number;
-use crate::{Edn, Inside, Next, Series, Skim, nested_until, next_element};
+use crate::{Edn, Inside, Next, Series, Skim, item_end, nested_until, next_element};
 use std::alloc::Global;
 
 /// `element TEXT`: what stands at the front, and where.
@@ -138,4 +138,10 @@ pub fn nested(text: &str, out: &mut String) -> Option<()> {
         return None;
     }
     write!(out, "{}", nested_until(bytes, from, end, levels)).ok()
+}
+
+/// `item-end FROM TEXT`: where the string or keyword ends that begins at a place, if one does.
+pub fn item_end_at(text: &str, out: &mut String) -> Option<()> {
+    let (from, rest) = first_number(text)?;
+    write!(out, "{:?}", item_end(rest.as_bytes(), from)).ok()
 }

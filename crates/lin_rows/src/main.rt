@@ -18,9 +18,10 @@ mod words;
 
 // What is called of the crates below is named here alone.
 use histories::History;
-use lin_edn::{Edn, Inside, Next, Series, Skim, nested_until, next_element};
+use lin_edn::{Edn, Inside, Next, Series, Skim, item_end, nested_until, next_element};
 use lin_events::{Body, Call, Event, IntSet, Item, Meter, Name, Reply, Shape, Val};
 use lin_history::{EventFault, Follow, FollowFault, NextEvent, event_of, next_event};
+use lin_names::Names;
 use lin_objects::{Any, IntBag, IntQueue, Kind, Kinds, SeqObject, State};
 use lin_orders::{Placed, check_order, merge};
 use lin_places::{Place, Places};
@@ -28,11 +29,13 @@ use lin_wellformed::{Scan, look_back};
 use std::alloc::Global;
 use std::io;
 use std::io::{BufRead, BufReader};
+use streams::Source;
 
 /// A row's command that is about what stands in a text alone.
 fn answer_element(alloc: Global, command: &str, rest: &str, out: &mut String) -> Option<()> {
     match command {
         "element" => elements::element(alloc, rest, out),
+        "item-end" => elements::item_end_at(rest, out),
         "kind" => elements::kind(alloc, rest, out),
         "nested" => elements::nested(rest, out),
         "series" => elements::series(alloc, rest, out),
@@ -90,23 +93,23 @@ fn answer_list(alloc: Global, command: &str, rest: &str, out: &mut String) -> Op
 /// A row's command that is about the stream that earlier rows left, or about no earlier row.
 fn answer_row(
     alloc: Global,
-    follow: &mut Follow,
+    source: &mut Source,
     command: &str,
     rest: &str,
     out: &mut String,
 ) -> Option<()> {
     match command {
-        "stream" => streams::stream(alloc, follow, rest, out),
-        "feed" => streams::feed(follow, rest, out),
-        "finish" => streams::finish(follow, out),
-        "take" => streams::take(follow, out),
-        "take-all" => streams::take_all(follow, out),
+        "stream" => streams::stream(alloc, source, rest, out),
+        "feed" => streams::feed(source, rest, out),
+        "finish" => streams::finish(source, out),
+        "take" => streams::take(source, out),
+        "take-all" => streams::take_all(source, out),
         _ => answer_element(alloc, command, rest, out),
     }
 }
 
 /// The answer to a line; nothing where it isn't understood, or memory ran out.
-fn answer(alloc: Global, follow: &mut Follow, history: &mut History, line: &str) -> Option<String>
+fn answer(alloc: Global, source: &mut Source, history: &mut History, line: &str) -> Option<String>
     requires { IsScanned history.old }
     ensures { IsScanned history.new }
 {
@@ -120,18 +123,18 @@ fn answer(alloc: Global, follow: &mut Follow, history: &mut History, line: &str)
     if histories::is_known(command) {
         histories::answer(alloc, history, command, rest, &mut out)?;
     } else {
-        answer_row(alloc, follow, command, rest, &mut out)?;
+        answer_row(alloc, source, command, rest, &mut out)?;
     }
     Some(out)
 }
 
 fn main(rt: HostRuntime) -> io::Result<()> {
     let alloc = rt.alloc();
-    let mut follow = Follow::new(alloc, false);
+    let mut source = Source::new(alloc);
     let mut history = History::new(alloc, Vec::new(alloc));
     for line in BufReader::new(alloc, rt.reader())?.lines(alloc) {
         let line = line?;
-        match answer(alloc, &mut follow, &mut history, line.as_str()) {
+        match answer(alloc, &mut source, &mut history, line.as_str()) {
             Some(out) => rt.println(out.as_str().trim_end())?,
             None => rt.println("not understood")?,
         }

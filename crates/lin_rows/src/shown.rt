@@ -5,6 +5,7 @@ fn put_item(out: &mut String, item: Item) -> Option<()> {
     match item {
         Item::Int(number) => write!(out, "{number}").ok(),
         Item::Bool(truth) => write!(out, "{truth}").ok(),
+        Item::Word(number) => write!(out, "word {number}").ok(),
     }
 }
 

@@ -1,51 +1,67 @@
 //! Rows about streams that are fed in pieces.
 use crate::shown::{put_event, put_events};
 use crate::words::{first_number, keyed};
-use crate::{Event, Follow, FollowFault, Place, Places};
+use crate::{Event, Follow, FollowFault, Names, Place, Places};
 use std::alloc::Global;
 
+/// A stream, and the words that it has.
+#[derive(Drop)]
+pub struct Source {
+    follow: Follow,
+    names: Names,
+}
+
+impl Source {
+    pub fn new(alloc: Global) -> Source {
+        Source {
+            follow: Follow::new(alloc, false),
+            names: Names::new(alloc),
+        }
+    }
+}
+
 /// A stream to which a text is fed in pieces of so many bytes.
-fn in_pieces(alloc: Global, text: &str, size: usize) -> Option<Follow> {
+fn in_pieces(alloc: Global, text: &str, size: usize) -> Option<Source> {
     if size == 0 {
         return None;
     }
-    let mut follow = Follow::new(alloc, false);
+    let mut source = Source::new(alloc);
     for piece in text.as_bytes().chunks(size) {
-        let _fed = follow.feed(piece);
+        let _fed = source.follow.feed(piece, &mut source.names);
     }
-    Some(follow)
+    Some(source)
 }
 
 /// `stream`: a new stream; `stream SIZE TEXT`: one to which the text was fed in pieces of so many bytes. How many events are ready.
-pub fn stream(alloc: Global, follow: &mut Follow, text: &str, out: &mut String) -> Option<()> {
+pub fn stream(alloc: Global, source: &mut Source, text: &str, out: &mut String) -> Option<()> {
     let (size, rest) = first_number(text).unwrap_or((1, text));
-    *follow = in_pieces(alloc, rest, size)?;
-    write!(out, "{} ready", follow.ready()).ok()
+    *source = in_pieces(alloc, rest, size)?;
+    write!(out, "{} ready", source.follow.ready()).ok()
 }
 
 /// `feed PIECE`: how many events became ready, or the fault.
-pub fn feed(follow: &mut Follow, piece: &str, out: &mut String) -> Option<()> {
-    let fed = follow.feed(piece.as_bytes());
+pub fn feed(source: &mut Source, piece: &str, out: &mut String) -> Option<()> {
+    let fed = source.follow.feed(piece.as_bytes(), &mut source.names);
     write!(out, "{fed:?}").ok()
 }
 
 /// `finish`: how many events are ready, and how the stream ends if it ends here.
-pub fn finish(follow: &Follow, out: &mut String) -> Option<()> {
-    let outcome = follow.finish();
-    write!(out, "{} ready, {outcome:?}", follow.ready()).ok()
+pub fn finish(source: &Source, out: &mut String) -> Option<()> {
+    let outcome = source.follow.finish();
+    write!(out, "{} ready, {outcome:?}", source.follow.ready()).ok()
 }
 
 /// `take`: the oldest event that is ready.
-pub fn take(follow: &mut Follow, out: &mut String) -> Option<()> {
-    match follow.take() {
+pub fn take(source: &mut Source, out: &mut String) -> Option<()> {
+    match source.follow.take() {
         Some(event) => put_event(out, &event),
         None => out.push_str("none").ok(),
     }
 }
 
 /// `take-all`: all events that are ready.
-pub fn take_all(follow: &mut Follow, out: &mut String) -> Option<()> {
-    let events = follow.take_all();
+pub fn take_all(source: &mut Source, out: &mut String) -> Option<()> {
+    let events = source.follow.take_all();
     write!(out, "{} events: ", events.len()).ok()?;
     put_events(out, events.as_slice())
 }
@@ -67,9 +83,10 @@ impl Told {
 
     /// What a text tells that is fed in two pieces.
     fn by(alloc: Global, keyed: bool, first: &[u8], second: &[u8]) -> Told {
+        let mut names = Names::new(alloc);
         let mut follow = Follow::new(alloc, keyed);
-        let _fed = follow.feed(first);
-        let _fed = follow.feed(second);
+        let _fed = follow.feed(first, &mut names);
+        let _fed = follow.feed(second, &mut names);
         Told::new(follow)
     }
 
@@ -96,7 +113,7 @@ impl Told {
 pub fn pieces(alloc: Global, text: &str, out: &mut String) -> Option<()> {
     let (size, rest) = first_number(text)?;
     let whole = Told::by(alloc, false, rest.as_bytes(), b"");
-    let cut = Told::new(in_pieces(alloc, rest, size)?);
+    let cut = Told::new(in_pieces(alloc, rest, size)?.follow);
     write!(out, "same: {}", cut.is_same(&whole)).ok()
 }
 
@@ -155,9 +172,10 @@ pub fn places(alloc: Global, text: &str, out: &mut String) -> Option<()> {
     if size == 0 {
         return None;
     }
+    let mut names = Names::new(alloc);
     let mut places = Places::new(alloc, keyed);
     for piece in rest.as_bytes().chunks(size) {
-        places.feed(piece).ok()?;
+        places.feed(piece, &mut names).ok()?;
     }
     write!(out, "{} places", places.as_slice().len()).ok()?;
     for place in places.as_slice() {

@@ -1,13 +1,13 @@
 //! Rows about events and what they are made of.
 use crate::shown::{put_event, put_items, put_said};
-use crate::{IntSet, Meter, Next, NextEvent, event_of, next_element, next_event, words};
+use crate::{IntSet, Meter, Names, Next, NextEvent, event_of, next_element, next_event, words};
 use std::alloc::Global;
 use std::mem;
 
 /// `event TEXT`, `event keyed TEXT`: what the element at the front says, and where it ends.
 pub fn event(alloc: Global, text: &str, out: &mut String) -> Option<()> {
     let (keyed, rest) = words::keyed(text);
-    match next_event(alloc, rest.as_bytes(), keyed) {
+    match next_event(alloc, rest.as_bytes(), keyed, &mut Names::new(alloc)) {
         Ok(NextEvent::Complete { said, used }) => {
             put_said(out, &said)?;
             write!(out, ", to {used}").ok()
@@ -28,7 +28,7 @@ pub fn map(alloc: Global, text: &str, out: &mut String) -> Option<()> {
                 at: _,
                 used: _,
             },
-        ) => { put_said(out, &event_of(alloc, &value, keyed)) }
+        ) => { put_said(out, &event_of(alloc, &value, keyed, &mut Names::new(alloc))) }
         _ => None,
     }
 }

@@ -3,7 +3,9 @@
 //! An event is `PROCESS/TYPE/FUNCTION`, as `0/invoke/read`, with the value behind it, as `0/invoke/write/7`, and with a key other
 //! than 0 as `0@1/ok/write`. A call is `write/7`, a reply `done`, `nil`, `7` or `[1,2]`, and an operation of an order the position of its
 //! invocation with its reply, as `4:7`.
-use crate::{Any, Body, Call, Event, Item, Kind, Kinds, NextEvent, Placed, Reply, next_event};
+use crate::{
+    Any, Body, Call, Event, Item, Kind, Kinds, Names, NextEvent, Placed, Reply, next_event,
+};
 use std::alloc::Global;
 
 /// The first word, and what stands behind the space that ends it.
@@ -73,7 +75,7 @@ fn map_of(alloc: Global, process: &str, rest: &str) -> Option<String> {
 
 /// The event of an operation map without a key.
 fn event_of_map(alloc: Global, map: &str) -> Option<Event> {
-    match next_event(alloc, map.as_bytes(), false) {
+    match next_event(alloc, map.as_bytes(), false, &mut Names::new(alloc)) {
         Ok(NextEvent::Complete { said, used: _ }) => said.ok()?,
         _ => None,
     }

@@ -6,14 +6,11 @@ use Rattle.std.proofs.lemmas.Bool.Decides.{Decides-eqb}
 use Rattle.lin_events.specs.Sameness.{Decides-item_eq}
 use Rattle.lin_events.specs.declared.calls.Name.{Name}
 use Rattle.lin_events.specs.declared.calls.Name.TheVariants as name
-use Rattle.lin_events.specs.declared.calls.Call.{Call}
-use Rattle.lin_events.specs.declared.calls.Call.TheVariants as call
 use Rattle.lin_events.specs.declared.events.Body.{Body}
 use Rattle.lin_events.specs.declared.events.Body.TheVariants.{Invoke, Ok, Fail, Info}
 use Rattle.lin_events.specs.declared.events.Event.{Event}
-use Rattle.lin_events.specs.Replies.{reply_same, val_same}
+use Rattle.lin_events.specs.Replies.{call_same, reply_same}
 use Rattle.lin_events.specs.contracts.calls.NamePartialEq.TheImpl as NameImpl
-use Rattle.lin_events.specs.contracts.calls.CallPartialEq.TheImpl as CallImpl
 use Rattle.lin_events.specs.contracts.events.BodyPartialEq.TheImpl as BodyImpl
 use Rattle.lin_events.specs.contracts.events.EventPartialEq.TheImpl as EventImpl
 
@@ -27,21 +24,6 @@ name_same name.Add name.Add h = refl
 name_same name.Acquire name.Acquire h = refl
 name_same name.Release name.Release h = refl
 name_same x y h = absurd (true≢false (sym h))
-
-call_same : (x y : Call) → CallImpl.ghosts.eq x y ≡ true → x ≡ y
-call_same call.Read call.Read h = refl
-call_same (call.Write a) (call.Write b) h = ap call.Write (val_same a b h)
-call_same (call.Cas a b) (call.Cas c d) h =
-    let both = and_parts _ _ h in
-    let first = val_same a c both.0 in
-    let second = val_same b d both.1 in
-    cc
-call_same (call.Enqueue a) (call.Enqueue b) h = ap call.Enqueue ((Decides-item_eq a b).0 h)
-call_same call.Dequeue call.Dequeue h = refl
-call_same (call.Add a) (call.Add b) h = ap call.Add ((Decides-item_eq a b).0 h)
-call_same call.Acquire call.Acquire h = refl
-call_same call.Release call.Release h = refl
-call_same x y h = absurd (true≢false (sym h))
 
 body_same : (x y : Body) → BodyImpl.ghosts.eq x y ≡ true → x ≡ y
 body_same (Invoke a) (Invoke b) h = ap Invoke (call_same a b h)

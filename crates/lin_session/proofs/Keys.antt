@@ -1,12 +1,14 @@
 -- The keys of a history.
-use Rattle.std.proofs.Common.{◌≡◌, ◌⊎◌, ◌↔◌, inl, inr, Bool, true, false, List, [], ◌∷◌, ◌++◌, Contains, refl, ap, subst, ◌∙◌, if◌then◌else◌}
-use Rattle.std.specs.List.{list_any}
+use Rattle.std.proofs.Common.{◌≡◌, ◌⊎◌, ◌↔◌, inl, inr, Bool, true, false, List, [], ◌∷◌, ◌++◌, Contains, refl, sym, ap, subst, ◌∙◌, if◌then◌else◌}
+use Rattle.std.specs.List.{list_any, IsDistinct}
+use Rattle.std.specs.List.Sorted.{IsStrictlySortedBy}
 use Rattle.std.proofs.lemmas.List.Elements.{Contains-append_left, Contains-push, Contains-push_cases}
+use Rattle.std.proofs.lemmas.Map.Keys.{IsDistinct-from_sorted}
 use Rattle.std.proofs.lemmas.Map.Views.{Contains-from_any}
 use Rattle.indexmap.specs.IndexSet.{insert_key}
 use Rattle.lin_events.specs.declared.items.Item.{Item}
-use Rattle.lin_events.specs.Sameness.{Decides-item_eq}
-use Rattle.lin_events.specs.Items.{item_eq}
+use Rattle.lin_events.specs.Sameness.{Decides-item_eq, ties}
+use Rattle.lin_events.specs.Items.{item_cmp, item_eq}
 use Rattle.lin_events.specs.declared.events.Event.{Event}
 use Rattle.lin_session.specs.Keys.{Occurs}
 
@@ -50,3 +52,7 @@ AreKeysIn-inserted h keys event are = by (list_any (item_eq event.key) keys) ref
         | inr same ↦ subst (Contains (keys ++ event.key ∷ [])) same (Contains-push keys event.key)
       ]),
     )
+
+-- rising keys stand once each
+pub distinct_keys : (keys : List Item) → IsStrictlySortedBy item_cmp keys → IsDistinct item_eq keys
+distinct_keys keys rising = subst (λ (e : Item → Item → Bool). IsDistinct e keys) (λ i x y. sym (ties x y) i) (IsDistinct-from_sorted item_cmp keys rising)

@@ -1,7 +1,8 @@
 //! A history that is edited, with what was found of it kept up to date.
-ghost use Rattle.std.specs.Prelude.{◌≡◌, ◌≢◌, ◌↔◌, ◌<◌, ◌≤◌, ◌⊎◌, ◌+◌, ◌-◌, ◌∷◌, ◌++◌, [], ℕ, true, false, Contains, Err, None, Ok, Some, IfOk, IfErr, IfSome, IfNone, IsOk, OnOk, OnErr, length, slice_get, slice_set, remove, take, if◌then◌else◌};
+ghost use Rattle.std.specs.Prelude.{◌≡◌, ◌≢◌, ◌↔◌, ◌<◌, ◌≤◌, ◌⊎◌, ◌+◌, ◌-◌, ◌∷◌, ◌++◌, [], ℕ, true, false, Contains, Err, None, Ok, Some, IfOk, IfErr, IfSome, IfNone, IsOk, OnOk, OnErr, length, slice_get, slice_set, remove, take, map, IsPermutation, if◌then◌else◌};
 ghost use Rattle.lin_events.specs.declared.items.Item.{Item as ItemOf};
 ghost use Rattle.lin_events.specs.WellFormed.{IsWellFormed};
+ghost use Rattle.lin_names.specs.Spelled.{printed, spelled};
 ghost use Rattle.lin_objects.specs.declared.kinds.Kind.{Kind as KindOf};
 ghost use Rattle.lin_objects.specs.Kinds.{functions_of, is_named, kind_of, named_count, same_for_all, with_kind};
 ghost use Rattle.lin_session.specs.Edits.{IsBudget, IsRefused, edited};
@@ -24,6 +25,7 @@ use crate::present::Present;
 use indexmap::IndexSet;
 use lin_chain::{End, RefuteFault};
 use lin_events::{Event, Item, Meter, OutOfMemory, Shape};
+use lin_names::{Names, is_in_print, sort_printed};
 use lin_objects::{Kind, Kinds, KindsFault};
 use lin_wellformed::Scan;
 use std::alloc::Global;
@@ -156,14 +158,16 @@ impl Session {
         let _budget = self.budget;
     }
 
-    /// The keys of the history, each once, rising. Looks at each event, and takes memory for the keys alone, which it sorts.
-    pub fn objects(&self, alloc: Global) -> Result<Vec<Item>, OutOfMemory>
-        ensures { IfOk result (λ keys. AreKeys self.now.present.history keys.items) }
+    /// The keys of the history, each once, in the order in which they are printed. Looks at each event, and takes memory for the keys
+    /// alone, which it sorts.
+    pub fn objects(&self, alloc: Global, names: &Names) -> Result<Vec<Item>, OutOfMemory>
+        ensures { IfOk result (λ keys. AreKeys names.now self.now.present.history keys.items) }
     {
         let mut keys = keys_of(alloc, &self.events)?;
         keys.sort_unstable();
         // `keys_of` doesn't promise that each is there once.
         keys.dedup();
+        put_in_print(names, &mut keys);
         Ok(keys)
     }
 
@@ -496,6 +500,16 @@ fn keys_of(alloc: Global, events: &[Event]) -> Result<Vec<Item>, OutOfMemory>
         }
     }
     Ok(Vec::from_slice(alloc, keys.as_slice())?)
+}
+
+/// Puts keys in the order in which they are printed, where they don't stand so already.
+fn put_in_print(names: &Names, keys: &mut Vec<Item>)
+    ensures same { IsPermutation keys.old.items keys.new.items }
+    ensures printed { map (spelled names.now) keys.new.items ≡ printed names.now keys.new.items }
+{
+    if !is_in_print(names, keys.as_slice()) {
+        sort_printed(names, keys);
+    }
 }
 
 /// Whether the budget can be set.

@@ -2,6 +2,7 @@
 use crate::board::{Board, Counts};
 use crate::words;
 use lin_events::{Body, Event, Item, Name, Reply, Val};
+use lin_names::Names;
 use lin_orders::Placed;
 use lin_session::Verdict;
 use std::alloc::Global;
@@ -10,6 +11,7 @@ fn put_item(out: &mut String, item: Item) -> Option<()> {
     match item {
         Item::Int(number) => write!(out, "{number}").ok(),
         Item::Bool(truth) => write!(out, "{truth}").ok(),
+        Item::Word(number) => write!(out, "word {number}").ok(),
     }
 }
 
@@ -87,9 +89,10 @@ pub fn kind_of(board: &Board, rest: &str, out: &mut String) -> Option<()> {
     write!(out, "{:?}", board.session.kind_of(key)).ok()
 }
 
-/// `objects`: the keys of the history.
+/// `objects`: the keys of the history. No row has a word, so none has a spelling.
 pub fn objects(alloc: Global, board: &Board, out: &mut String) -> Option<()> {
-    let keys = board.session.objects(alloc).ok()?;
+    let names = Names::new(alloc);
+    let keys = board.session.objects(alloc, &names).ok()?;
     put_items(out, keys.as_slice())
 }
 

@@ -34,14 +34,29 @@ struct Ended {
     ending: Result<Status, RunFault>,
 }
 
-/// Runs the commands on the recording with a writer that takes all.
-fn run_on<R: Read + Drop, C: Read + Drop>(rt: &HostRuntime, file: R, commands: C) -> Ended {
+/// Runs the commands on the recording of registers with a writer that takes all.
+fn run_with<R: Read + Drop, C: Read + Drop>(
+    rt: &HostRuntime,
+    keyed: bool,
+    file: R,
+    commands: C,
+) -> Ended {
+    let settings = Settings {
+        kind: Kind::Register,
+        keyed,
+        budget: BUDGET,
+    };
     let mut written = Vec::new(rt.alloc());
     let mut file = Counted::new(file);
     let mut commands = Counted::new(commands);
     let mut out = Counted::new(&mut written);
-    let ending = run(rt.alloc(), REGISTER, &mut file, &mut commands, &mut out);
+    let ending = run(rt.alloc(), settings, &mut file, &mut commands, &mut out);
     Ended { written, ending }
+}
+
+/// The same, of one register.
+fn run_on<R: Read + Drop, C: Read + Drop>(rt: &HostRuntime, file: R, commands: C) -> Ended {
+    run_with(rt, false, file, commands)
 }
 
 /// Asserts how the session ended, and what it wrote.
@@ -217,4 +232,27 @@ fn a_recording_does_not_fit(rt: HostRuntime) {
     let written =
         b"refused edit 2 Full\nok 999999\nok 1000000\nill-formed at 999999 cause 2 BusyProcess\n";
     ends(&rt, &ended, Ok(IllFormed), written.as_slice());
+}
+
+/// A write of a string, under a key that is a keyword.
+const NAMED: &[u8] = b"{:process 0 :type :invoke :f :write :value [:x \"a b\"]}\n\
+{:process 0 :type :ok :f :write :value [:x nil]}\n";
+
+/// Commands around it, with the same words and with others.
+const WORDS: &[u8] = b"append {:process 1 :type :invoke :f :read :value [:x nil]}\n\
+pull\n\
+append {:process 1 :type :ok :f :read :value [:x \"a b\"]}\n\
+order :x\n\
+ask :y\n\
+ask \"a b\n\
+kind \"a b\" set\n\
+report\n";
+
+#[test]
+fn a_word_is_the_same_in_the_file_and_in_commands(rt: HostRuntime) {
+    let ended = run_with(&rt, true, NAMED, WORDS);
+    let written =
+        b"ok 1\nok 3\nok 4\nyes 1=done 0=\"a b\"\nyes\nrefused command 3 BadNumber\nok 4\n\
+events 4 objects 1\nobject :x register: yes\nwhole: yes\n";
+    ends(&rt, &ended, Ok(Yes), written.as_slice());
 }

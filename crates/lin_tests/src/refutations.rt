@@ -3,13 +3,15 @@ use crate::recordings::recording;
 use lin_events::{Event, Reply};
 use lin_formats::read_order;
 use lin_history::Follow;
+use lin_names::Names;
 use lin_objects::{Kind, State};
 use lin_order::{RefConfig, Refutation, check_refutation};
 use std::process::Abort;
 
 /// What is placed: `PROCESS=REPLY`, with spaces between two, or `empty`.
 fn placed(rt: &(impl Abort + AllocGlobal), text: &str) -> Vec<(u64, Reply)> {
-    let order = read_order(rt.alloc(), text.as_bytes()).expect(rt, text);
+    let mut names = Names::new(rt.alloc());
+    let order = read_order(rt.alloc(), text.as_bytes(), &mut names).expect(rt, text);
     let mut pairs = Vec::new(rt.alloc());
     for pair in order {
         pairs
@@ -50,9 +52,10 @@ fn refutation(rt: &(impl Abort + AllocGlobal), text: &str) -> Refutation {
 /// The events of a recording in short form.
 fn events(rt: &(impl Abort + AllocGlobal), short: &str) -> Vec<Event> {
     let text = recording(rt, short);
+    let mut names = Names::new(rt.alloc());
     let mut follow = Follow::new(rt.alloc(), false);
     let mut events = Vec::new(rt.alloc());
-    for _ in 0..follow.feed(text.as_bytes()).unwrap_or(0) {
+    for _ in 0..follow.feed(text.as_bytes(), &mut names).unwrap_or(0) {
         if let Some(event) = follow.take() {
             events.push(event).expect(rt, "memory");
         }

@@ -21,14 +21,16 @@ use Rattle.lin_window.specs.declared.marks.Mark.{Mark}
 use Rattle.lin_window.specs.declared.marks.Mark.TheVariants.{Failing, Named, Beside, Other}
 use Rattle.lin_window.specs.declared.rows.Stretch.{Stretch}
 
--- an object's events, the position of each in the whole history, and where the events of that stand in the file, if there is one
+-- the spellings of words, an object's events, the position of each in the whole history, and where the events of that stand in the file, if
+-- there is one
 pub record Told : Type 0 where
+  pub names : List (List ℕ)
   pub events : List Event
   pub picks : List ℕ
   pub places : Option (List Place)
 
 abbrev pub told_of : Stretch → Told
-told_of s = record { events = s.events.now; picks = s.picks.now; places = option_map (λ p. p.now) s.places }
+told_of s = record { names = s.names.now; events = s.events.now; picks = s.picks.now; places = option_map (λ p. p.now) s.places }
 
 -- which operations a table lists: those that are open, or those around the failing one that was invoked at `call`: it, those that are named,
 -- those beside it, and the others from a place on
@@ -128,7 +130,7 @@ pub record IsRow (s : Told) (x : Chosen) (row : Row) : Type 0 where
   pub marked : row.mark ≡ mark_code x.mark
   pub range : row.range.items ≡ range_text (position_in s.picks x.at) (option_map (position_in s.picks) (end_in outcome))
   pub span : row.span.items ≡ span_text (span_at s.places (position_in s.picks x.at) (option_map (position_in s.picks) (end_in outcome)))
-  pub words : row.words.items ≡ operation_text process call (reply_in outcome) ++ outcome_text outcome
+  pub words : row.words.items ≡ operation_text s.names process call (reply_in outcome) ++ outcome_text outcome
 
 -- how many are left out, where any are
 abbrev pub more_text : ℕ → List ℕ

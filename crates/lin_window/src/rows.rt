@@ -11,6 +11,7 @@ ghost use Rattle.lin_window.specs.Tables.{IsRow, outcome_text, position_in, repl
 use crate::marks::Chosen;
 use crate::operations::{Outcome, outcome_of};
 use lin_events::{Body, Call, Event};
+use lin_names::Names;
 use lin_places::Place;
 use lin_words::{Row, put_operation, put_range, put_span, span_of};
 use std::alloc::{AllocError, Global};
@@ -18,6 +19,8 @@ use std::alloc::{AllocError, Global};
 /// The events of one object, up to the one at which its legal orders end, and where they stand.
 #[derive(Clone, Copy)]
 pub struct Stretch<'a, 'p> {
+    /// The spellings of words.
+    pub names: &'a Names,
     pub events: &'a [Event],
     /// For each event the next one of its process.
     pub ends: &'a [Option<usize>],
@@ -76,14 +79,15 @@ fn span_words(
 /// The words for an operation, with its reply if it is ok, and with what became of it if it isn't.
 fn operation_words(
     alloc: Global,
+    names: &Names,
     process: u64,
     call: Call,
     outcome: &Outcome,
 ) -> Result<Vec<u8>, AllocError>
-    ensures { IfOk result (λ words. words.items ≡ operation_text process call (reply_in outcome.now) ++ outcome_text outcome.now) }
+    ensures { IfOk result (λ words. words.items ≡ operation_text names.now process call (reply_in outcome.now) ++ outcome_text outcome.now) }
 {
     let mut words = Vec::new(alloc);
-    put_operation(&mut words, process, call, outcome.reply())?;
+    put_operation(&mut words, names, process, call, outcome.reply())?;
     outcome.put(&mut words)?;
     Ok(words)
 }
@@ -105,7 +109,7 @@ fn row_of(alloc: Global, stretch: &Stretch, chosen: Chosen) -> Result<Row, Alloc
     let to = end_position(stretch.picks, outcome.end());
     let range = range_words(alloc, from, to)?;
     let span = span_words(alloc, stretch.places, from, to)?;
-    let words = operation_words(alloc, event.process, *call, &outcome)?;
+    let words = operation_words(alloc, stretch.names, event.process, *call, &outcome)?;
     Ok(Row {
         mark: chosen.mark.code(),
         range,

@@ -1,6 +1,7 @@
 //! Tables of short histories, and what is said of their operations.
 use crate::{Listed, Stretch, Window, put_operations};
 use lin_events::{Body, Call, Event, Item, Name, Reply, Val};
+use lin_names::Names;
 use lin_orders::ends_of;
 use lin_places::Place;
 use std::process::Abort;
@@ -38,7 +39,9 @@ fn tells(
     wanted: &str,
 ) {
     let ends = ends_of(rt.alloc(), events).expect(rt, "memory");
+    let names = Names::new(rt.alloc());
     let stretch = Stretch {
+        names: &names,
         events,
         ends: &ends,
         picks,

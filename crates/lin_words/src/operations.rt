@@ -1,12 +1,12 @@
 //! The words of operations and events.
 ghost use Rattle.std.specs.Prelude.{◌≡◌, ◌++◌, codes, decimal, OnOk, option_map};
-ghost use Rattle.lin_formats.specs.Items.{item_text};
 ghost use Rattle.lin_words.specs.Operations.{arguments_text, call_text, event_text, name_text, operation_text, process_text, reply_behind};
-ghost use Rattle.lin_words.specs.Values.{value_text};
+ghost use Rattle.lin_words.specs.Values.{short_item_text, value_text};
 
-use crate::values::{put_reply, put_value};
+use crate::values::{put_reply, put_short_item, put_value};
 use lin_events::{Body, Call, Event, Item, Name, Reply, Val};
-use lin_formats::{put_item, put_number};
+use lin_formats::put_number;
+use lin_names::Names;
 use std::alloc::AllocError;
 
 /// The word of a function.
@@ -26,54 +26,54 @@ pub fn name_word(name: Name) -> &'static str
 }
 
 /// Puts a space and a value last.
-fn put_value_behind(line: &mut Vec<u8>, value: Val) -> Result<(), AllocError>
-    ensures { OnOk result (line.new.items ≡ line.old.items ++ (codes " " ++ value_text value)) }
+fn put_value_behind(line: &mut Vec<u8>, names: &Names, value: Val) -> Result<(), AllocError>
+    ensures { OnOk result (line.new.items ≡ line.old.items ++ (codes " " ++ value_text names.now value)) }
 {
     line.push(b' ')?;
-    put_value(line, value)
+    put_value(line, names, value)
 }
 
-/// Puts a space and an item last.
-fn put_item_behind(line: &mut Vec<u8>, item: Item) -> Result<(), AllocError>
-    ensures { OnOk result (line.new.items ≡ line.old.items ++ (codes " " ++ item_text item)) }
+/// Puts a space and an item last, as values are told.
+fn put_item_behind(line: &mut Vec<u8>, names: &Names, item: Item) -> Result<(), AllocError>
+    ensures { OnOk result (line.new.items ≡ line.old.items ++ (codes " " ++ short_item_text names.now item)) }
 {
     line.push(b' ')?;
-    put_item(line, item)
+    put_short_item(line, names, item)
 }
 
 /// Puts what a call is given last, each behind a space.
-fn put_arguments(line: &mut Vec<u8>, call: Call) -> Result<(), AllocError>
-    ensures { OnOk result (line.new.items ≡ line.old.items ++ arguments_text call) }
+fn put_arguments(line: &mut Vec<u8>, names: &Names, call: Call) -> Result<(), AllocError>
+    ensures { OnOk result (line.new.items ≡ line.old.items ++ arguments_text names.now call) }
 {
     match call {
-        Call::Write(value) => put_value_behind(line, value),
+        Call::Write(value) => put_value_behind(line, names, value),
         Call::Cas(old, new) => {
-            put_value_behind(line, old)?;
-            put_value_behind(line, new)
+            put_value_behind(line, names, old)?;
+            put_value_behind(line, names, new)
         }
-        Call::Enqueue(item) => put_item_behind(line, item),
-        Call::Add(item) => put_item_behind(line, item),
+        Call::Enqueue(item) => put_item_behind(line, names, item),
+        Call::Add(item) => put_item_behind(line, names, item),
         Call::Read | Call::Dequeue | Call::Acquire | Call::Release => Ok(()),
     }
 }
 
 /// Puts the words of a call last: its function, and what it is given.
-pub fn put_call(line: &mut Vec<u8>, call: Call) -> Result<(), AllocError>
-    ensures { OnOk result (line.new.items ≡ line.old.items ++ call_text call) }
+pub fn put_call(line: &mut Vec<u8>, names: &Names, call: Call) -> Result<(), AllocError>
+    ensures { OnOk result (line.new.items ≡ line.old.items ++ call_text names.now call) }
 {
     line.extend_from_slice(name_word(call.name()).as_bytes())?;
-    put_arguments(line, call)
+    put_arguments(line, names, call)
 }
 
 /// Puts a space and the reply last, unless it says only that the call was done.
-fn put_reply_behind(line: &mut Vec<u8>, reply: &Reply) -> Result<(), AllocError>
-    ensures { OnOk result (line.new.items ≡ line.old.items ++ reply_behind reply.now) }
+fn put_reply_behind(line: &mut Vec<u8>, names: &Names, reply: &Reply) -> Result<(), AllocError>
+    ensures { OnOk result (line.new.items ≡ line.old.items ++ reply_behind names.now reply.now) }
 {
     if let Reply::Done = reply {
         return Ok(());
     }
     line.push(b' ')?;
-    put_reply(line, reply)
+    put_reply(line, names, reply)
 }
 
 /// Puts the letter p and the number of a process last.
@@ -87,17 +87,18 @@ fn put_process(line: &mut Vec<u8>, process: u64) -> Result<(), AllocError>
 /// Puts the words of an operation last: its process, its call, and its reply where it has one that says more than that it was done.
 pub fn put_operation(
     line: &mut Vec<u8>,
+    names: &Names,
     process: u64,
     call: Call,
     reply: Option<&Reply>,
 ) -> Result<(), AllocError>
-    ensures { OnOk result (line.new.items ≡ line.old.items ++ operation_text process call (option_map (λ r. r.now) reply.entry)) }
+    ensures { OnOk result (line.new.items ≡ line.old.items ++ operation_text names.now process call (option_map (λ r. r.now) reply.entry)) }
 {
     put_process(line, process)?;
     line.push(b' ')?;
-    put_call(line, call)?;
+    put_call(line, names, call)?;
     match reply {
-        Some(reply) => put_reply_behind(line, reply),
+        Some(reply) => put_reply_behind(line, names, reply),
         None => Ok(()),
     }
 }
@@ -113,18 +114,18 @@ fn put_type(line: &mut Vec<u8>, word: &'static str, name: Name) -> Result<(), Al
 }
 
 /// Puts the words of an event last: its process, its type, and its call, or its function and its reply.
-pub fn put_event(line: &mut Vec<u8>, event: &Event) -> Result<(), AllocError>
-    ensures { OnOk result (line.new.items ≡ line.old.items ++ event_text event.now) }
+pub fn put_event(line: &mut Vec<u8>, names: &Names, event: &Event) -> Result<(), AllocError>
+    ensures { OnOk result (line.new.items ≡ line.old.items ++ event_text names.now event.now) }
 {
     put_process(line, event.process)?;
     match &event.body {
         Body::Invoke(call) => {
             line.extend_from_slice(b" invoke ")?;
-            put_call(line, *call)
+            put_call(line, names, *call)
         }
         Body::Ok(name, reply) => {
             put_type(line, "ok", *name)?;
-            put_reply_behind(line, reply)
+            put_reply_behind(line, names, reply)
         }
         Body::Fail(name) => put_type(line, "fail", *name),
         Body::Info(name) => put_type(line, "info", *name),

@@ -1,7 +1,8 @@
 -- What the code reads of the bytes that are held: cited by the contracts of private functions alone.
-use Rattle.std.specs.Prelude.{◌≡◌, ℕ, ◌+◌, ◌<◌, ◌≤◌, Bool, true, false, List, [], ◌∷◌, ◌++◌, length, drop, Option, Some, None, Result, Ok, Err}
+use Rattle.std.specs.Prelude.{◌≡◌, ℕ, ◌+◌, ◌<◌, ◌≤◌, true, false, List, [], ◌∷◌, ◌++◌, length, drop, Option, Some, None, Result, Ok, Err}
 use Rattle.lin_edn.specs.Value.{Value, values_of}
 use Rattle.lin_edn.specs.Grammar.{Spells}
+use Rattle.lin_history.specs.Reading.{Reading}
 use Rattle.lin_history.specs.Stream.{Told, told, told_by, Gives, IsStream}
 use Rattle.lin_history.specs.Sees.{is_fault}
 use Rattle.lin_events.specs.declared.events.Event.{Event}
@@ -21,9 +22,9 @@ IsTold t old new (Err cause.OutOfMemory) = (es : List Event) × (new ≡ old ++ 
 IsTold t old new (Err f) = (t.ends ≡ Some f) × (new ≡ old ++ t.events)
 
 -- what a map tells, behind others that told something and end so far, is put behind what was told
-abbrev pub IsToldOn : Bool → Value → List Event → Option EventFault → List Event → Option EventFault → Type 0
-IsToldOn keyed v old ends new ends' = (more : List Event) × (new ≡ old ++ more) × ((vs : List Value) (es : List Event) →
-    told_by keyed (values_of vs) ≡ record { events = es; ends = ends } → told_by keyed (values_of (vs ++ v ∷ [])) ≡ record { events = es ++ more; ends = ends' })
+abbrev pub IsToldOn : Reading → Value → List Event → Option EventFault → List Event → Option EventFault → Type 0
+IsToldOn m v old ends new ends' = (more : List Event) × (new ≡ old ++ more) × ((vs : List Value) (es : List Event) →
+    told_by m (values_of vs) ≡ record { events = es; ends = ends } → told_by m (values_of (vs ++ v ∷ [])) ≡ record { events = es ++ more; ends = ends' })
 
 -- an outcome whose places count from a place on
 abbrev pub behind : ℕ → Result (Unit {0}) FollowFault → Result (Unit {0}) FollowFault
@@ -35,25 +36,21 @@ behind p (Err fault.OutOfMemory) = Err fault.OutOfMemory
 behind p (Err fault.TooMuch) = Err fault.TooMuch
 
 -- a text that stands from a place of the stream on is read as far as it goes
-pub record IsReadTo (keyed : Bool) (text : List ℕ) (p : ℕ) (old new : List Event) (r : Read) : Type 0 where
+pub record IsReadTo (m : Reading) (text : List ℕ) (p : ℕ) (old new : List Event) (r : Read) : Type 0 where
   pub events : List Event
   pub outcome : Result (Unit {0}) FollowFault
   pub put : new ≡ old ++ events
   pub inside : r.used ≤ length text
-  pub is_stream : IsStream keyed text events outcome
+  pub is_stream : IsStream m text events outcome
   pub told : r.outcome ≡ behind p outcome
-  pub goes_on : is_fault outcome ≡ false → Gives keyed text events r.used
+  pub goes_on : is_fault outcome ≡ false → Gives m text events r.used
 
 -- events were put behind those that were ready
 abbrev pub IsPutBehind : List Event → List Event → Type 0
 IsPutBehind old new = (es : List Event) × (new ≡ old ++ es)
 
-abbrev pub IsReadOn : Bool → List ℕ → ℕ → List Event → List Event → Result Read OutOfMemory → Type 0
-IsReadOn keyed text p old new (Ok r) = IsReadTo keyed text p old new r
-IsReadOn keyed text p old new (Err _) = IsPutBehind old new
-
 -- an element without fault stands in front of a text, and tells these events
-pub record IsElement (keyed : Bool) (text : List ℕ) (old new : List Event) (used : ℕ) : Type 0 where
+pub record IsElement (m : Reading) (text : List ℕ) (old new : List Event) (used : ℕ) : Type 0 where
   pub events : List Event
   pub value : Value
   pub at : ℕ
@@ -61,20 +58,24 @@ pub record IsElement (keyed : Bool) (text : List ℕ) (old new : List Event) (us
   pub some : 0 < used
   pub inside : used ≤ length text
   pub spelled : Spells text value at used
-  pub told : told keyed value ≡ record { events = events; ends = None }
+  pub told : told m value ≡ record { events = events; ends = None }
 
 -- what stands in front of a text: an element without fault, or the end
-abbrev pub IsFront : Bool → List ℕ → ℕ → List Event → List Event → Result Front OutOfMemory → Type 0
-IsFront keyed text p old new (Ok (front.Element used)) = IsElement keyed text old new used
-IsFront keyed text p old new (Ok (front.End r)) = IsReadTo keyed text p old new r
-IsFront keyed text p old new (Err _) = IsPutBehind old new
+abbrev pub IsFront : Reading → List ℕ → ℕ → List Event → List Event → Front → Type 0
+IsFront m text p old new (front.Element used) = IsElement m text old new used
+IsFront m text p old new (front.End r) = IsReadTo m text p old new r
+
+-- what is done with lies within the text, and some of it with an element
+abbrev pub IsWithin : List ℕ → Front → Type 0
+IsWithin text (front.Element used) = (0 < used) × (used ≤ length text)
+IsWithin text (front.End r) = r.used ≤ length text
 
 -- the fault of form that an outcome is, if it is one
 abbrev pub IsStanding : Result (Unit {0}) FollowFault → Option FollowFault → Type 0
 IsStanding o None = is_fault o ≡ false
 IsStanding o (Some f) = (o ≡ Err f) × (is_fault o ≡ true)
 
--- a piece is put behind what is held and read, and what is read is dropped; or all is as it was
-abbrev pub IsRead : Bool → ℕ → List ℕ → List ℕ → List Event → List ℕ → List Event → Result Read OutOfMemory → Type 0
-IsRead keyed p piece held ready held' ready' (Ok r) = IsReadTo keyed (held ++ piece) p ready ready' r × (held' ≡ drop r.used (held ++ piece))
-IsRead keyed p piece held ready held' ready' (Err _) = (held' ≡ held) × (ready' ≡ ready)
+-- a piece is put behind what is held, and what is read of both is dropped; or all is as it was
+abbrev pub IsCut : List ℕ → List ℕ → List Event → List ℕ → List Event → Result Read OutOfMemory → Type 0
+IsCut piece held ready held' ready' (Ok r) = IsPutBehind ready ready' × (r.used ≤ length (held ++ piece)) × (held' ≡ drop r.used (held ++ piece))
+IsCut piece held ready held' ready' (Err _) = (held' ≡ held) × (ready' ≡ ready)

@@ -4,8 +4,10 @@ use Rattle.lin_edn.specs.Grammar.{Element, Row, ShortBlanks, longest}
 use Rattle.std.specs.List.{slice_range}
 use Rattle.lin_edn.specs.Bytes.{Kind, a_set, a_vector}
 use Rattle.lin_edn.specs.Run.{run_value}
-use Rattle.lin_edn.specs.Value.{Value, map, Entries, entries_of}
-use Rattle.lin_history.specs.Table.{bare, is_word, under, process_of, type_of, function_of, parts_of, or_nil, is_several, is_by_keyword, event, event_with}
+use Rattle.lin_edn.specs.Value.{Value, vector, map, Entries, values_of, entries_of}
+use Rattle.lin_names.specs.Spelled.{Spelled}
+use Rattle.lin_history.specs.Reading.{Reading, IsReading}
+use Rattle.lin_history.specs.Table.{bare, is_word, under, process_of, type_of, function_of, body_of, said_of, parts_said, or_nil, is_several, is_by_keyword, event, event_with}
 use Rattle.lin_events.specs.declared.calls.Name.{Name}
 use Rattle.lin_history.specs.declared.table.EventType.{EventType}
 use Rattle.lin_history.specs.declared.usual.Place.{Place}
@@ -14,7 +16,6 @@ use Rattle.lin_history.specs.declared.usual.Process.{Process}
 use Rattle.lin_history.specs.declared.usual.Process.TheVariants.{Number, Named}
 use Rattle.lin_history.specs.declared.usual.Taken.{Taken}
 use Rattle.lin_events.specs.declared.events.Event.{Event}
-use Rattle.lin_events.specs.declared.items.Item.{Item}
 
 -- a set, or a vector
 abbrev pub kind_of : Bool → Kind
@@ -30,14 +31,22 @@ abbrev pub IsPlaced : List ℕ → ℕ → List Value → Option Place → Type 
 IsPlaced s levels vs None = vs ≡ []
 IsPlaced s levels vs (Some p) = (v : Value) × (used : ℕ) × (vs ≡ bare v ∷ []) × IsValueAt s levels p v used
 
--- the values under a key are one, or none, and say the object's key and the value
-abbrev pub AreParts : Bool → List Value → Item → Value → Type 0
-AreParts keyed vs key v = (is_several vs ≡ false) × (parts_of keyed (or_nil vs) ≡ Some (key, v))
+-- from one place to another stands the vector of two, with so many levels at most, the first of which says this item
+abbrev pub IsPair : ℕ → List ℕ → ℕ → Spelled → Value → ℕ → Type 0
+IsPair levels s from key v used = (k : Value) × (bare k ≡ k) × (said_of k ≡ Some key) × Element levels from (drop from s) (vector (values_of (k ∷ v ∷ []))) used (drop used s)
+
+-- two values tell the same with each type and function
+abbrev pub TellSame : Value → Value → Type 0
+TellSame w v = (m : Reading) (t : EventType) (f : Name) → body_of m t f w ≡ body_of m t f v
+
+-- the values under a key are one, or none, and say the object's key and a value that tells what this one does
+abbrev pub AreParts : Bool → List Value → Spelled → Value → Type 0
+AreParts keyed vs key v = (is_several vs ≡ false) × (w : Value) × (parts_said keyed (or_nil vs) ≡ Some (key, w)) × TellSame w v
 
 -- a map with this process, type and function, and these values under `:value`, tells this
-abbrev pub TellsWith : Bool → ℕ → EventType → Name → List Value → Option Event → Type 0
-TellsWith keyed n t f vs told = (is_several vs ≡ false) × ((process type function : Value) →
-    process_of process ≡ Some n → type_of type ≡ Some t → function_of function ≡ Some f → event_with keyed process type function (or_nil vs) ≡ Ok told)
+abbrev pub TellsWith : Reading → ℕ → EventType → Name → List Value → Option Event → Type 0
+TellsWith m n t f vs told = (is_several vs ≡ false) × ((process type function : Value) →
+    process_of process ≡ Some n → type_of type ≡ Some t → function_of function ≡ Some f → event_with m process type function (or_nil vs) ≡ Ok told)
 
 -- a value says the process: its number, or a name
 abbrev pub IsProcess : Value → Process → Type 0
@@ -78,7 +87,7 @@ abbrev pub IsMapAt : List ℕ → ℕ → ℕ → Places → ℕ → Type 0
 IsMapAt s from levels ps until = (es : Entries) × ArePlaced s levels es ps × Element (suc levels) from (drop from s) (map es) until (drop until s)
 
 -- behind white a map stands, with a tag or none and with so many levels, that tells this
-pub record IsTaken (keyed : Bool) (s : List ℕ) (from levels : ℕ) (taken : Taken) : Type 0 where
+pub record IsTaken (keyed : Bool) (names : List (List ℕ)) (s : List ℕ) (from levels : ℕ) (taken : Taken) : Type 0 where
   pub entries : Entries
   pub at : ℕ
   pub begun : from ≤ at
@@ -90,7 +99,7 @@ pub record IsTaken (keyed : Bool) (s : List ℕ) (from levels : ℕ) (taken : Ta
   pub value : Value
   pub is_map : bare value ≡ map entries
   pub element : Element levels at (drop at s) value taken.used (drop taken.used s)
-  pub told : event keyed (map entries) ≡ Ok taken.event
+  pub told : (m : Reading) → IsReading keyed names m → event m (map entries) ≡ Ok taken.event
 
 -- the event that is told, if any
 abbrev pub events_of : Option Event → List Event

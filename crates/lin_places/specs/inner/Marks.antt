@@ -3,6 +3,7 @@ use Rattle.std.specs.Prelude.{◌≡◌, ℕ, suc, ◌+◌, ◌≤◌, Bool, tru
 use Rattle.lin_edn.specs.Bytes.{Kind}
 use Rattle.lin_edn.specs.Grammar.{Frame, frame, Open, Blanks, Element, IsBlankText, IsUnfinished, longest}
 use Rattle.lin_edn.specs.Value.{Value}
+use Rattle.lin_history.specs.Reading.{Reading}
 use Rattle.lin_history.specs.Sees.{most}
 use Rattle.lin_history.specs.Stream.{Told, Gives, IsStream}
 use Rattle.lin_history.specs.Table.{event}
@@ -35,10 +36,10 @@ IsPut (Ok (Some e)) p old new = new ≡ old ++ p ∷ []
 IsPut (Ok None) p old new = new ≡ old
 IsPut (Err f) p old new = ⊥
 
-abbrev pub IsMarkedOne : Bool → Value → Place → List Place → List Place → Result Bool OutOfMemory → Type 0
-IsMarkedOne keyed v p old new (Ok true) = IsPut (event keyed v) p old new
-IsMarkedOne keyed v p old new (Ok false) = (f : EventFault) × (event keyed v ≡ Err f) × (new ≡ old)
-IsMarkedOne keyed v p old new (Err _) = IsPutBehind old new
+abbrev pub IsMarkedOne : Reading → Value → Place → List Place → List Place → Result Bool OutOfMemory → Type 0
+IsMarkedOne m v p old new (Ok true) = IsPut (event m v) p old new
+IsMarkedOne m v p old new (Ok false) = (f : EventFault) × (event m v ≡ Err f) × (new ≡ old)
+IsMarkedOne m v p old new (Err _) = Unit {0}
 
 -- behind blanks from a place on an element stands
 abbrev pub StandsAt : List ℕ → ℕ → Value → ℕ → ℕ → Type 0
@@ -81,54 +82,57 @@ pub record IsAmong (s : List ℕ) (at : ℕ) (before others : List Value) (until
   pub inside : until ≤ length s
 
 -- before a cursor of a text, which stands behind what is read of a longer one, these are the places
-abbrev pub IsUpTo : Bool → List ℕ → ℕ → List Event → List ℕ → Cursor → List Place → Type 0
-IsUpTo keyed whole p es text c places = (text ≡ drop p whole) × Gives keyed whole es p × (c.place ≡ place_at whole (p + c.at)) × ArePlaces keyed whole es places
+abbrev pub IsUpTo : Reading → List ℕ → ℕ → List Event → List ℕ → Cursor → List Place → Type 0
+IsUpTo m whole p es text c places = (text ≡ drop p whole) × Gives m whole es p × (c.place ≡ place_at whole (p + c.at)) × ArePlaces m whole es places
 
 -- what is told has its places, and no fault
-abbrev pub IsSound : Bool → List ℕ → Told → Cursor → List Place → Cursor → List Place → Type 0
-IsSound keyed text t from old next new = (fs : List Event) × (t ≡ record { events = fs; ends = None }) × ((whole : List ℕ) (p : ℕ) (es : List Event) →
-    IsUpTo keyed whole p es text from old → (next.place ≡ place_at whole (p + next.at)) × ArePlaces keyed whole (es ++ fs) new)
+abbrev pub IsSound : Reading → List ℕ → Told → Cursor → List Place → Cursor → List Place → Type 0
+IsSound m text t from old next new = (fs : List Event) × (t ≡ record { events = fs; ends = None }) × ((whole : List ℕ) (p : ℕ) (es : List Event) →
+    IsUpTo m whole p es text from old → (next.place ≡ place_at whole (p + next.at)) × ArePlaces m whole (es ++ fs) new)
 
 -- what is told has its places, and its fault this one
-abbrev pub IsUnsound : Bool → List ℕ → Told → Cursor → List Place → Place → List Place → Type 0
-IsUnsound keyed text t from old bad new = (fs : List Event) × (cause : EventFault) × (t ≡ record { events = fs; ends = Some cause }) ×
-    ((whole : List ℕ) (p : ℕ) (es : List Event) → IsUpTo keyed whole p es text from old →
-    ArePlaces keyed whole (es ++ fs) new × (q : ℕ) × (v : Value) × Begins keyed whole (es ++ fs) q v × (event keyed v ≡ Err cause) × (bad ≡ place_at whole q))
+abbrev pub IsUnsound : Reading → List ℕ → Told → Cursor → List Place → Place → List Place → Type 0
+IsUnsound m text t from old bad new = (fs : List Event) × (cause : EventFault) × (t ≡ record { events = fs; ends = Some cause }) ×
+    ((whole : List ℕ) (p : ℕ) (es : List Event) → IsUpTo m whole p es text from old →
+    ArePlaces m whole (es ++ fs) new × (q : ℕ) × (v : Value) × Begins m whole (es ++ fs) q v × (event m v ≡ Err cause) × (bad ≡ place_at whole q))
 
-abbrev pub AreMarked : Bool → List ℕ → Told → Cursor → ℕ → List Place → List Place → Result Maps OutOfMemory → Type 0
-AreMarked keyed text t from until old new (Ok (maps.Sound next)) = (next.at ≡ until) × Fits text next × IsPutBehind old new × IsSound keyed text t from old next new
-AreMarked keyed text t from until old new (Ok (maps.Bad bad)) = IsUnsound keyed text t from old bad new
-AreMarked keyed text t from until old new (Err _) = IsPutBehind old new
+abbrev pub AreMarked : Reading → List ℕ → Told → Cursor → List Place → List Place → Maps → Type 0
+AreMarked m text t from old new (maps.Sound next) = IsSound m text t from old next new
+AreMarked m text t from old new (maps.Bad bad) = IsUnsound m text t from old bad new
+
+-- the maps of an element are passed up to a place, if they are without fault
+abbrev pub ArePassed : List ℕ → ℕ → Maps → Type 0
+ArePassed text until (maps.Sound next) = (next.at ≡ until) × Fits text next
+ArePassed text until (maps.Bad bad) = Unit {0}
 
 -- what is read of a text up to a place, and the places in it
-abbrev pub IsReadTo : Bool → List ℕ → Place → List Place → Type 0
-IsReadTo keyed whole next places = (es : List Event) × Gives keyed whole es next.offset × (next ≡ place_at whole next.offset) × ArePlaces keyed whole es places
+abbrev pub IsReadTo : Reading → List ℕ → Place → List Place → Type 0
+IsReadTo m whole next places = (es : List Event) × Gives m whole es next.offset × (next ≡ place_at whole next.offset) × ArePlaces m whole es places
 
 -- the places of a text, and where it stops; where it may go on, it is read up to a place
-pub record Ends (keyed : Bool) (whole : List ℕ) (next : Place) (places : List Place) (x : Stop) : Type 0 where
+pub record Ends (m : Reading) (whole : List ℕ) (next : Place) (places : List Place) (x : Stop) : Type 0 where
   pub events : List Event
   pub outcome : Result (Unit {0}) FollowFault
-  pub is_stream : IsStream keyed whole events outcome
-  pub are_places : ArePlaces keyed whole events places
-  pub stops : StopsAt keyed whole events outcome x
-  pub goes_on : is_bad x ≡ false → Gives keyed whole events next.offset × (next ≡ place_at whole next.offset)
+  pub is_stream : IsStream m whole events outcome
+  pub are_places : ArePlaces m whole events places
+  pub stops : StopsAt m whole events outcome x
+  pub goes_on : is_bad x ≡ false → Gives m whole events next.offset × (next ≡ place_at whole next.offset)
 
 -- a text that stands from a place on is read as far as it goes
-pub record IsRead (keyed : Bool) (text : List ℕ) (place : Place) (old new : List Place) (r : Read) : Type 0 where
-  pub fits : Fits text r.next
-  pub ends : (whole : List ℕ) → text ≡ drop place.offset whole → IsReadTo keyed whole place old →
-      (r.next.place.offset ≡ place.offset + r.next.at) × Ends keyed whole r.next.place new r.stop
-
-abbrev pub IsReadOn : Bool → List ℕ → Place → List Place → List Place → Result Read OutOfMemory → Type 0
-IsReadOn keyed text place old new (Ok r) = IsRead keyed text place old new r
-IsReadOn keyed text place old new (Err _) = IsPutBehind old new
+abbrev pub IsRead : Reading → List ℕ → Place → List Place → List Place → Read → Type 0
+IsRead m text place old new r = (whole : List ℕ) → text ≡ drop place.offset whole → IsReadTo m whole place old →
+    (r.next.place.offset ≡ place.offset + r.next.at) × Ends m whole r.next.place new r.stop
 
 -- what stands in front of a text, which stands from a place on
-abbrev pub IsFront : Bool → List ℕ → Place → List Place → List Place → Result Front OutOfMemory → Type 0
-IsFront keyed text place old new (Ok (front.Element next)) = IsPutBehind old new × Fits text next × (1 ≤ next.at) ×
-    ((whole : List ℕ) → text ≡ drop place.offset whole → IsReadTo keyed whole place old → (next.place.offset ≡ place.offset + next.at) × IsReadTo keyed whole next.place new)
-IsFront keyed text place old new (Ok (front.End r)) = IsRead keyed text place old new r
-IsFront keyed text place old new (Err _) = IsPutBehind old new
+abbrev pub IsFront : Reading → List ℕ → Place → List Place → List Place → Front → Type 0
+IsFront m text place old new (front.Element next) =
+    (whole : List ℕ) → text ≡ drop place.offset whole → IsReadTo m whole place old → (next.place.offset ≡ place.offset + next.at) × IsReadTo m whole next.place new
+IsFront m text place old new (front.End r) = IsRead m text place old new r
+
+-- what is done with lies within the text, and some of it with an element
+abbrev pub IsPassed : List ℕ → Front → Type 0
+IsPassed text (front.Element next) = Fits text next × (1 ≤ next.at)
+IsPassed text (front.End r) = Fits text r.next
 
 -- a text that is held goes on with what is unfinished in front of it, or is blank
 abbrev pub IsResting : List ℕ → Place → Stop → Type 0

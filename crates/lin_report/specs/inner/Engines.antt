@@ -3,11 +3,12 @@ use Rattle.std.specs.Prelude.{◌≡◌, ◌≢◌, ◌+◌, ◌<◌, ◌^◌, �
 use Rattle.std.specs.Option.{option_or}
 use Rattle.std.specs.Io.KnownBytes.{Appends, Consumes, Keeps}
 use Rattle.lin_events.specs.declared.events.Event.{Event}
-use Rattle.lin_history.specs.Sees.{Followed, Sees}
+use Rattle.lin_history.specs.Sees.{Followed}
 use Rattle.lin_session.specs.Edits.{Present}
 use Rattle.lin_report.specs.Commands.{longest_line}
 use Rattle.lin_report.specs.Pulls.{StandsAt}
-use Rattle.lin_report.specs.Runs.{AreCarriedOut, AreRead, IsReply, AreReplies, IsWritten, RunState, lines_of}
+use Rattle.lin_report.specs.Runs.{AreCarriedOut, AreMore, AreRead, IsReply, AreReplies, IsWritten, RunState, lines_of}
+use Rattle.lin_formats.specs.Intakes.{AreSeen}
 use Rattle.lin_formats.specs.Verdicts.{IsReadTooFar}
 use Rattle.lin_formats.specs.declared.verdicts.Status.{Status}
 use Rattle.lin_formats.specs.declared.verdicts.Status.TheVariants.{Yes}
@@ -16,14 +17,14 @@ use Rattle.lin_formats.specs.declared.faults.RunFault.{RunFault}
 use Rattle.lin_formats.specs.declared.faults.RunFault.TheVariants.{WriteFailed, TooMuch}
 
 -- from where the run stands, it comes to stand elsewhere, and this is so
-abbrev pub Moves : Bool → Present → Present → Followed → Followed → Option (List ℕ) → Option (List ℕ) → (RunState → RunState → Type 0) → Type 0
-Moves keyed now new follow after old left is =
-    (before : RunState) → StandsAt keyed before now follow old → (end : RunState) × StandsAt keyed end new after left × is before end
+abbrev pub Moves : Bool → Present → Present → List (List ℕ) → List (List ℕ) → Followed → Followed → Option (List ℕ) → Option (List ℕ) → (RunState → RunState → Type 0) → Type 0
+Moves keyed now new names names' follow after old left is =
+    (before : RunState) → StandsAt keyed before now names follow old → (end : RunState) × StandsAt keyed end new names' after left × is before end
 
--- a part of the file was read, with which too much was, if it was
-abbrev pub ReadsPart : Followed → Option (List ℕ) → Option (List ℕ) → Type 0 → Type 0
-ReadsPart follow old new is_too_much =
-    (part : List ℕ) × Consumes old new part × (is_too_much → (bytes : List ℕ) (put : List Event) → Sees follow bytes put → 2 ^ 40 < length bytes + length part)
+-- words got numbers, and a part of the file was read, with which too much was, if it was
+abbrev pub ReadsPart : List (List ℕ) → List (List ℕ) → Followed → Option (List ℕ) → Option (List ℕ) → Type 0 → Type 0
+ReadsPart names names' follow old new is_too_much = AreMore names names' × (part : List ℕ) × Consumes old new part
+    × (is_too_much → (bytes : List ℕ) (put : List Event) → AreSeen names follow bytes put → 2 ^ 40 < length bytes + length part)
 
 -- the line that is held, as far as a line may go and one byte more
 abbrev pub Holds : Engine → List ℕ → Type 0
@@ -34,17 +35,17 @@ pub record IsCarriedOut (keyed : Bool) (old new : Engine) (file file' out out' :
   pub after : RunState
   pub reply : List ℕ
   pub answer : Option Status
-  pub stands : StandsAt keyed after new.session.present new.follow file'
+  pub stands : StandsAt keyed after new.session.present new.names new.follow file'
   pub replies : IsReply keyed before line after reply answer
   pub written : Appends out out' reply
   pub status : new.status ≡ option_or answer old.status
   pub emptied : new.held.items ≡ []
 
 -- the line was not carried out, and nothing is written of it; or it was, and a beginning of its reply is written
-abbrev pub IsCutShort : Bool → Followed → Option (List ℕ) → Option (List ℕ) → Option (List ℕ) → Option (List ℕ) → RunState → List ℕ → RunFault → Type 0
-IsCutShort keyed follow file file' out out' before line WriteFailed =
+abbrev pub IsCutShort : Bool → List (List ℕ) → List (List ℕ) → Followed → Option (List ℕ) → Option (List ℕ) → Option (List ℕ) → Option (List ℕ) → RunState → List ℕ → RunFault → Type 0
+IsCutShort keyed names names' follow file file' out out' before line WriteFailed =
     (after : RunState) × (reply : List ℕ) × (answer : Option Status) × IsReply keyed before line after reply answer × (file' ≡ after.left) × ((n : ℕ) × Appends out out' (take n reply))
-IsCutShort keyed follow file file' out out' before line fault = ReadsPart follow file file' (fault ≡ TooMuch) × Keeps out out'
+IsCutShort keyed names names' follow file file' out out' before line fault = ReadsPart names names' follow file file' (fault ≡ TooMuch) × Keeps out out'
 
 -- The bytes were taken in: their lines are carried out, and the replies are written; what stands behind the last byte 10 is held.
 pub record IsUnderWay (keyed : Bool) (start : RunState) (before : Option (List ℕ)) (engine : Engine) (left after : Option (List ℕ)) (bytes : List ℕ) : Type 0 where
@@ -53,7 +54,7 @@ pub record IsUnderWay (keyed : Bool) (start : RunState) (before : Option (List �
   pub text : List ℕ
   pub rest : List ℕ
   pub run : AreReplies keyed start lines state text engine.status
-  pub stands : StandsAt keyed state engine.session.present engine.follow left
+  pub stands : StandsAt keyed state engine.session.present engine.names engine.follow left
   pub consumed : Consumes start.left left state.bytes
   pub written : Appends before after text
   pub begins : (more : List ℕ) → lines_of (bytes ++ more) ≡ lines ++ lines_of (rest ++ more)

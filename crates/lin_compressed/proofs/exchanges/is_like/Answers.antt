@@ -1,5 +1,5 @@
 use Rattle.std.proofs.Common.{◌∙◌, sym, true≢false}
-use Rattle.lin_compressed.proofs.Calls.{call_same}
+use Rattle.lin_events.specs.Replies.{call_same}
 use Rattle.lin_compressed.proofs.exchanges.is_like.Goals as goal
 use Rattle.lin_compressed.proofs.exchanges.is_like.Goals.{then-other, else-other}
 

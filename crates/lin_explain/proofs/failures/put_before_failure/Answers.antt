@@ -15,7 +15,7 @@ returns c =
     IfOk-weaker c.put_possible.result _ _
     (λ told is. (
       is.0,
-      subst (λ r. IsPossibleText (f (without_last h) r) failure.prefix failure.budget is.0 told.replies told.states) c.reply_of.ensures
-          (subst (λ l. IsPossibleText (f l (option_map (λ r. r.now) c.reply_of.result)) failure.prefix failure.budget is.0 told.replies told.states) c.without_last.ensures is.1),
+      subst (λ r. IsPossibleText failure.stretch.names.now (f (without_last h) r) failure.prefix failure.budget is.0 told.replies told.states) c.reply_of.ensures
+          (subst (λ l. IsPossibleText failure.stretch.names.now (f l (option_map (λ r. r.now) c.reply_of.result)) failure.prefix failure.budget is.0 told.replies told.states) c.without_last.ensures is.1),
       is.2,
     )) c.put_possible.ensures

@@ -9,7 +9,7 @@ returns c =
     let failure = c.args.failure.now in
     let invocation = c.in-Some-Some.invocation.now in
     let at = c.in-Some-Some.at.now in
-    let head = head_text failure.kind (option_map (λ p. p.now) failure.stretch.places) at failure.prefix invocation c.args.ending.now in
+    let head = head_text failure.stretch.names.now failure.kind (option_map (λ p. p.now) failure.stretch.places) at failure.prefix invocation c.args.ending.now in
     let possible = c.in_ok-told.ensures in
     let reasons = c.in_ok-why.ensures in (
       (head ++ possible.0) ++ reasons.0,

@@ -17,10 +17,10 @@ returns c =
       told.0,
       record {
         ending = c.in-Some.ending.now;
-        stretch = stretch_of c.in_ok-own.own (option_map (λ p. p.now) c.args.places);
+        stretch = stretch_of c.args.origin.now.names.now c.in_ok-own.own (option_map (λ p. p.now) c.args.origin.now.places);
         call = told.1;
         stands = c.in-Some.ensures.found;
-        own = record { events_of = own.events_of; positions = own.positions; places_of = refl };
+        own = record { names_of = refl; events_of = own.events_of; positions = own.positions; places_of = refl };
         told = told.2;
       },
       told.3,

@@ -18,10 +18,10 @@ put_failure-requires-clause-fails c = subst (λ l. IsFailing l c.in-Some.call) (
 pub returns : goal.returns
 returns c =
     let now = c.args.session.now.present in
-    let places = option_map (λ p. p.now) c.args.places in
+    let places = option_map (λ p. p.now) c.args.origin.now.places in
     let call = c.in-Some.call in
     let text = λ (kind : Kind) (budget : ℕ) (events : List Event) (picks : List ℕ).
-    IsFailureText kind budget (record { events = events; picks = picks; places = places }) c.args.prefix call c.args.ending.now in
+    IsFailureText kind budget (record { names = c.args.origin.now.names.now; events = events; picks = picks; places = places }) c.args.prefix call c.args.ending.now in
     let picks = c.as_slice-6.result.now in
     let kind = c.kind_for.result in
     IfOk-weaker c.put_failure.result _ _

@@ -11,4 +11,4 @@ returns-in-Some c =
     on_ok_weaker c.put_was.result
     (λ told.
     let is = told c.requires.well_formed.0 c.args.events.now c.requires.well_formed.1 after in
-    (was_text c.args.kind (map state_text is.0), inr (is.0, is.1, refl), is.2)) c.put_was.ensures
+    (was_text c.args.kind (map (state_text c.args.names.now) is.0), inr (is.0, is.1, refl), is.2)) c.put_was.ensures

@@ -8,10 +8,10 @@ use Rattle.lin_explain.proofs.undecided.put_event_line.Goals as goal
 pub returns : goal.returns
 returns c =
     let old = c.args.text.now.items in
-    let object = object_text c.args.event.now.key c.args.kind in
-    let spot = event_spot_text (option_map (λ p. p.now) c.args.places) c.args.at in
+    let object = object_text c.args.origin.now.names.now c.args.event.now.key c.args.kind in
+    let spot = event_spot_text (option_map (λ p. p.now) c.args.origin.now.places) c.args.at in
     let front = (((object ++ codes "more than ") ++ decimal c.args.budget) ++ codes " configurations after ") ++ spot in
-    four_put old front (codes ": ") (event_text c.args.event.now) (codes "\n")
+    four_put old front (codes ": ") (event_text c.args.origin.now.names.now c.args.event.now) (codes "\n")
     c.put_event_spot.new.line.items c.extend_from_slice-3.new.self.items c.put_event.new.line.items c.extend_from_slice-4.new.self.items
     (five_put old object (codes "more than ") (decimal c.args.budget) (codes " configurations after ") spot
     c.put_object.new.text.items c.extend_from_slice.new.self.items c.put_number.new.line.items c.extend_from_slice-2.new.self.items c.put_event_spot.new.line.items

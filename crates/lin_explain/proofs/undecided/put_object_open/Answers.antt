@@ -9,12 +9,13 @@ pub returns : goal.returns
 returns c =
     let now = c.args.session.now.present in
     let own = c.in_ok-own.ensures in
-    let stretch : Told = record { events = c.as_slice-2.result.now; picks = c.as_slice-4.result.now; places = option_map (λ p. p.now) c.args.places } in
+    let stretch : Told = record { names = c.args.origin.now.names.now; events = c.as_slice-2.result.now; picks = c.as_slice-4.result.now; places = option_map (λ p. p.now) c.args.origin.now.places } in
     on_ok_weaker c.put_open.result
     (λ told. (
       stretch,
       told.0,
       record {
+        names_of = refl;
         events_of = c.as_slice-2.ensures.value ∙ own.events_of;
         positions = subst (ArePositionsOf c.args.event.now.key (take (c.args.at + 1) now.history)) (sym c.as_slice-4.ensures.value) own.positions;
         places_of = refl;

@@ -8,9 +8,9 @@ pub returns : goal.returns
 returns c =
     let now = c.args.session.now.present in
     let event = c.in-Some.event.now in
-    let places = option_map (λ p. p.now) c.args.places in
+    let places = option_map (λ p. p.now) c.args.origin.now.places in
     let back = c.in_ok-put_object_open.ensures in
-    let front = event_line c.kind_for-kind.result c.budget.result places c.args.at event in (
+    let front = event_line c.args.origin.now.names.now c.kind_for-kind.result c.budget.result places c.args.at event in (
       front ++ back.1,
       record {
         event = event;
@@ -20,8 +20,8 @@ returns c =
         stands = c.in-Some.ensures.found;
         own = back.2;
         is_open = back.3;
-        says = ap (λ k. event_line k c.budget.result places c.args.at event ++ back.1) c.kind_for-kind.ensures
-            ∙ ap (λ n. event_line (kinds_in now event.key) n places c.args.at event ++ back.1) c.budget.ensures;
+        says = ap (λ k. event_line c.args.origin.now.names.now k c.budget.result places c.args.at event ++ back.1) c.kind_for-kind.ensures
+            ∙ ap (λ n. event_line c.args.origin.now.names.now (kinds_in now event.key) n places c.args.at event ++ back.1) c.budget.ensures;
         is_spot = c.in_ok-spot_of.ensures;
         parts_told = search rules;
       },

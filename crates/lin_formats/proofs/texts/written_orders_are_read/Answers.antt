@@ -2,4 +2,4 @@ use Rattle.lin_formats.proofs.ReadBack.{order_read}
 use Rattle.lin_formats.proofs.texts.written_orders_are_read.Goals as goal
 
 pub returns : goal.returns
-returns c = order_read
+returns c = λ names number order agrees fits. order_read names number agrees order fits

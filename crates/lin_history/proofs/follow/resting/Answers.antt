@@ -4,7 +4,7 @@ use Rattle.lin_history.proofs.Resting.{rests_blank, rests_unfinished}
 use Rattle.lin_history.proofs.follow.resting.Goals as goal
 
 pub returns-then-is_blank-clause-read : goal.returns-then-is_blank-clause-read
-returns-then-is_blank-clause-read c = λ k ready. rests_blank k c.args.held.now c.args.place ready (subst (λ b. IsOpenText b c.args.held.now) c.if-is_blank.true c.is_blank.ensures)
+returns-then-is_blank-clause-read c = λ m ready. rests_blank m c.args.held.now c.args.place ready (subst (λ b. IsOpenText b c.args.held.now) c.if-is_blank.true c.is_blank.ensures)
 
 pub returns-clause-read : goal.returns-clause-read
-returns-clause-read c = λ k ready. rests_unfinished k c.args.held.now c.args.place ready (subst (λ b. IsOpenText b c.args.held.now) c.if-is_blank.false c.is_blank.ensures)
+returns-clause-read c = λ m ready. rests_unfinished m c.args.held.now c.args.place ready (subst (λ b. IsOpenText b c.args.held.now) c.if-is_blank.false c.is_blank.ensures)

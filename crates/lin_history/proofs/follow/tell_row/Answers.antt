@@ -1,13 +1,22 @@
+use Rattle.std.proofs.Common.{arith}
 use Rattle.lin_history.proofs.Waiting.{row_without_fault, row_with_fault}
 use Rattle.lin_history.proofs.follow.tell_row.Goals as goal
 
-pub returns-in-None : goal.returns-in-None
-returns-in-None c = λ k s w.
+pub returns-in-None-clause-within : goal.returns-in-None-clause-within
+returns-in-None-clause-within c = λ s w.
     let place = c.places.ensures.spelled s w.0 _ c.args.used w.1 in
-    row_without_fault k s c.args.ready.now.items c.put_all.new.ready.items c.args.row c.args.used w place.0 place.1 c.in-None.is c.in_ok-put_all.ensures.ok
+    (let some = place.0 in omega arith, place.1)
 
-pub returns-in-Some : goal.returns-in-Some
-returns-in-Some c = λ k s w.
+pub returns-in-None-clause-front : goal.returns-in-None-clause-front
+returns-in-None-clause-front c = λ m s w.
     let place = c.places.ensures.spelled s w.0 _ c.args.used w.1 in
-    rw (c.ends.ensures, c.begun.ensures) (row_with_fault k s c.args.place c.args.ready.now.items c.put_all.new.ready.items c.args.row c.args.used c.in-Some.cause w place.1
+    row_without_fault m s c.args.ready.now.items c.put_all.new.ready.items c.args.row c.args.used w place.0 place.1 c.in-None.is c.in_ok-put_all.ensures.ok
+
+pub returns-in-Some-clause-within : goal.returns-in-Some-clause-within
+returns-in-Some-clause-within c = λ s w. rw c.ends.ensures (c.places.ensures.spelled s w.0 _ c.args.used w.1).1
+
+pub returns-in-Some-clause-front : goal.returns-in-Some-clause-front
+returns-in-Some-clause-front c = λ m s w.
+    let place = c.places.ensures.spelled s w.0 _ c.args.used w.1 in
+    rw (c.ends.ensures, c.begun.ensures) (row_with_fault m s c.args.place c.args.ready.now.items c.put_all.new.ready.items c.args.row c.args.used c.in-Some.cause w place.1
     c.in-Some.is c.in_ok-put_all.ensures.ok)

@@ -3,5 +3,5 @@ use Rattle.lin_history.proofs.Waiting.{waits_on}
 use Rattle.lin_history.proofs.row.take_map.Goals as goal
 
 pub returns-clause-told : goal.returns-clause-told
-returns-clause-told c =
-    waits_on c.args.keyed (view c.args.element.now) c.args.row.now.waiting.items c.wait.new.waiting.items c.args.row.now.ends c.wait.new.ends c.in_ok-wait.ensures.ok
+returns-clause-told c = λ m is.
+    waits_on m (view c.args.element.now) c.args.row.now.waiting.items c.wait.new.waiting.items c.args.row.now.ends c.wait.new.ends (c.in_ok-wait.ensures.ok m is)

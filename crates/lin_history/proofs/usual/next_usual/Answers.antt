@@ -2,8 +2,8 @@ use Rattle.std.proofs.Common.{◌≤◌, length, arith}
 use Rattle.lin_history.proofs.Taking.{tagged_or_not}
 use Rattle.lin_history.proofs.usual.next_usual.Goals as goal
 
-pub returns : goal.returns
-returns c =
+pub returns-clause-taken : goal.returns-clause-taken
+returns-clause-taken c =
     let map = c.in_ok-places.ensures.map in
     let a : c.in_ok-places.used ≤ c.window-end.result = c.in_ok-places.ensures.within.1 in
     let b : c.window-end.result ≤ length c.args.text.now = c.window-end.ensures.within in
@@ -25,5 +25,5 @@ returns c =
       value = here.0;
       is_map = here.1;
       element = here.2;
-      told = c.in_ok-event.ensures c.levels_inside-inside.result map.0 (let low = c.requires.1 in let few = c.levels_inside-inside.ensures.few in omega arith) map.1;
+      told = λ m is. c.in_ok-event.ensures.told m is c.levels_inside-inside.result map.0 (let low = c.requires.1 in let few = c.levels_inside-inside.ensures.few in omega arith) map.1;
     }

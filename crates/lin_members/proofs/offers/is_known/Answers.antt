@@ -1,5 +1,5 @@
 use Rattle.std.proofs.Common.{◌∙◌, Some, ap, sym, rules}
-use Rattle.lin_members.proofs.Calls.{call_same}
+use Rattle.lin_events.specs.Replies.{call_same}
 use Rattle.lin_members.proofs.offers.is_known.Goals as goal
 
 pub returns-in-Some : goal.returns-in-Some

@@ -16,18 +16,19 @@ use Rattle.lin_outcomes.proofs.texts.put_was.Goals as goal
 
 pub returns : goal.returns
 returns c =
+    let names = c.args.names.now in
     let old = c.args.text.now.items in
     let new = c.put_being_one.new.text.items in
     let kind = c.args.kind in
     let p = c.in-Some.possible.now in
     let told = c.in_ok-states.states.items in
     subst (λ o. MatchOption o (new ≡ old) (λ p. (functions : Item → Name → Bool) (h : List Event) → IsWellFormed functions h → IsAfter p.now kind h
-    → (states : List State) × AreStates kind h states × (new ≡ old ++ was_text kind (map state_text states)))) (sym c.in-Some.is)
+    → (states : List State) × AreStates names kind h states × (new ≡ old ++ was_text kind (map (state_text names) states)))) (sym c.in-Some.is)
     (λ functions h well after.
     let are = c.in_ok-states.ensures functions kind h well after in
     let shows = LeavesIn kind h in (
-      all_told shows (IsWay p) state_rank state_text told are,
-      all_are shows (IsWay p) state_rank state_text told are,
+      all_told names shows (IsWay p) (state_rank names) (state_text names) told are,
+      all_are names shows (IsWay p) (state_rank names) (state_text names) told are,
       c.in_ok-put_being_one.ensures ∙ ap (λ ts. old ++ was_text kind (map (λ (t : Told). t.words.items) ts)) c.as_slice.ensures.value
-          ∙ ap (λ ws. old ++ was_text kind ws) (sym (all_words shows (IsWay p) state_rank state_text told are)),
+          ∙ ap (λ ws. old ++ was_text kind ws) (sym (all_words names shows (IsWay p) (state_rank names) (state_text names) told are)),
     ))

@@ -10,10 +10,13 @@ use Rattle.lin_outcomes.proofs.told.all_replies.Goals as goal
 
 pub loop-entry-preserved : goal.loop-entry-preserved
 loop-entry-preserved c =
+    let names = c.args.names.now in
     let found = c.args.found.now in
     let i = c.loop-entry.entry-index in
-    subst (AllZip (IsTold (reply_rank (option_map (λ m. m.now) c.args.recorded)) (reply_words (option_map (λ m. m.now) c.args.recorded))) (take (i + 1) found)) (sym {A = List Told} c.in_ok-push.ensures.items)
-    (zip_more (IsTold (reply_rank (option_map (λ m. m.now) c.args.recorded)) (reply_words (option_map (λ m. m.now) c.args.recorded))) found c.loop-entry.told.items i c.entry-item.result c.in_ok-told_reply.field-0 c.loop-entry-test.true c.entry-item.is c.loop-entry.invariant c.in_ok-told_reply.ensures)
+    subst (AllZip (IsTold names (reply_rank names (option_map (λ m. m.now) c.args.recorded)) (reply_words names (option_map (λ m. m.now) c.args.recorded))) (take (i + 1) found)) (sym {A = List Told} c.in_ok-push.ensures.items)
+    (zip_more (IsTold names (reply_rank names (option_map (λ m. m.now) c.args.recorded)) (reply_words names (option_map (λ m. m.now) c.args.recorded))) found c.loop-entry.told.items i c.entry-item.result c.in_ok-told_reply.field-0 c.loop-entry-test.true c.entry-item.is c.loop-entry.invariant c.in_ok-told_reply.ensures)
 
 pub returns : goal.returns
-returns c = zip_whole (IsTold (reply_rank (option_map (λ m. m.now) c.args.recorded)) (reply_words (option_map (λ m. m.now) c.args.recorded))) c.args.found.now c.loop-entry.told.items c.loop-entry.entry-index c.loop-entry-test.false c.loop-entry.invariant
+returns c =
+    let names = c.args.names.now in
+    zip_whole (IsTold names (reply_rank names (option_map (λ m. m.now) c.args.recorded)) (reply_words names (option_map (λ m. m.now) c.args.recorded))) c.args.found.now c.loop-entry.told.items c.loop-entry.entry-index c.loop-entry-test.false c.loop-entry.invariant

@@ -9,10 +9,13 @@ use Rattle.lin_outcomes.proofs.told.all_states.Goals as goal
 
 pub loop-entry-preserved : goal.loop-entry-preserved
 loop-entry-preserved c =
+    let names = c.args.names.now in
     let found = c.args.found.now in
     let i = c.loop-entry.entry-index in
-    subst (AllZip (IsTold state_rank state_text) (take (i + 1) found)) (sym {A = List Told} c.in_ok-push.ensures.items)
-    (zip_more (IsTold state_rank state_text) found c.loop-entry.told.items i c.entry-item.result c.in_ok-told_state.field-0 c.loop-entry-test.true c.entry-item.is c.loop-entry.invariant c.in_ok-told_state.ensures)
+    subst (AllZip (IsTold names (state_rank names) (state_text names)) (take (i + 1) found)) (sym {A = List Told} c.in_ok-push.ensures.items)
+    (zip_more (IsTold names (state_rank names) (state_text names)) found c.loop-entry.told.items i c.entry-item.result c.in_ok-told_state.field-0 c.loop-entry-test.true c.entry-item.is c.loop-entry.invariant c.in_ok-told_state.ensures)
 
 pub returns : goal.returns
-returns c = zip_whole (IsTold state_rank state_text) c.args.found.now c.loop-entry.told.items c.loop-entry.entry-index c.loop-entry-test.false c.loop-entry.invariant
+returns c =
+    let names = c.args.names.now in
+    zip_whole (IsTold names (state_rank names) (state_text names)) c.args.found.now c.loop-entry.told.items c.loop-entry.entry-index c.loop-entry-test.false c.loop-entry.invariant

@@ -1,5 +1,6 @@
 use Rattle.std.proofs.Common.{is_lt, rules}
-use Rattle.std.proofs.lemmas.List.Sorted.{answers_always, ranks_by}
+use Rattle.std.proofs.lemmas.Fn.{always_returns_same}
+use Rattle.std.proofs.lemmas.List.Sorted.{ranks_by}
 use Rattle.lin_outcomes.specs.Ranks.{rank_cmp}
 use Rattle.lin_outcomes.specs.inner.Telling.{rank_in}
 use Rattle.lin_outcomes.specs.declared.told.Told.{Told}
@@ -8,5 +9,6 @@ use Rattle.lin_outcomes.proofs.told.in_order.Goals as goal
 
 pub returns-clause-rising : goal.returns-clause-rising
 returns-clause-rising c =
-    c.sort_unstable_by.ensures.sorted (λ (a b : Told). is_lt (rank_cmp (rank_in a.rank) (rank_in b.rank))) (ranks_by rank_total (λ (t : Told). rank_in t.rank))
-    (answers_always _ _ _ (λ f a r g h. search rules))
+    let names = c.args.names.now in
+    c.sort_unstable_by.ensures.sorted (λ (a b : Told). is_lt (rank_cmp (rank_in names a.rank) (rank_in names b.rank))) (ranks_by (rank_total c.spelled_is_total.ensures.order) (λ (t : Told). rank_in names t.rank))
+    (always_returns_same _ _ _ (λ a r g h. search rules))

@@ -10,9 +10,10 @@ use Rattle.lin_outcomes.proofs.told.states_told.Goals as goal
 
 pub returns : goal.returns
 returns c = λ functions kind h well after.
+    let names = c.args.names.now in
     let found = c.in_ok-found.found.items in
     let told = c.in_ok-all_states.field-0.items in
-    told_in_order (LeavesIn kind h) (IsWay c.args.possible.now) state_rank state_text found told c.in_order.result.items
+    told_in_order names (LeavesIn kind h) (IsWay c.args.possible.now) (state_rank names) (state_text names) found told c.in_order.result.items
     (c.in_ok-found.ensures functions kind h well after)
-    (subst (λ l. AllZip (IsTold state_rank state_text) l told) c.as_slice.ensures.value c.in_ok-all_states.ensures)
+    (subst (λ l. AllZip (IsTold names (state_rank names) (state_text names)) l told) c.as_slice.ensures.value c.in_ok-all_states.ensures)
     c.in_order.ensures.permutation c.in_order.ensures.rising

@@ -9,11 +9,11 @@ returns c =
     let told = c.args.told.now in
     puts10 c.args.text.now.items
     (codes "why: ")
-    (past_text c.args.names.0)
+    (past_text c.args.words.0)
     (codes " ")
     (times_text (length c.args.sides.now.done.items))
     (codes " and ")
-    (past_text c.args.names.1)
+    (past_text c.args.words.1)
     (codes " at most ")
     (times_text (length c.args.sides.now.may.items))
     (codes "\n")

@@ -10,11 +10,11 @@ returns c =
     let told = c.args.told.now in
     puts9 c.args.text.now.items
     (codes "why: ")
-    (past_text c.args.names.0)
+    (past_text c.args.words.0)
     (codes " twice\n")
     (turn_text told (codes "  ") c.args.first c.args.second)
     (codes "  no ")
-    (name_text c.args.names.1)
+    (name_text c.args.words.1)
     (codes " can stand between: each that didn't fail had returned before ")
     (called_text told c.args.first)
     (codes "\n")

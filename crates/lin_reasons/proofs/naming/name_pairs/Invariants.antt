@@ -4,4 +4,4 @@ use Rattle.lin_reasons.specs.Reasons.{both_of}
 use Rattle.lin_reasons.proofs.naming.name_pairs.Given as goal
 
 abbrev pub invariant-loop-pair : goal.invariant-loop-pair
-invariant-loop-pair l = l.names.items ≡ l.initial.names.items ++ flat_map both_of (take l.pair-index l.pairs)
+invariant-loop-pair l = l.named.items ≡ l.initial.named.items ++ flat_map both_of (take l.pair-index l.pairs)

@@ -9,5 +9,5 @@ put_counted-requires-clause-holds c = counted_of c.args.told.now.events.now c.ar
 pub returns-in-Counted : goal.returns-in-Counted
 returns-in-Counted c =
     let told = c.args.told.now in
-    subst (λ x. OnOk c.put_counted.result (ArePut (IsReason told x) c.args.text.now.items c.put_counted.new.text.items c.args.names.now.items c.put_counted.new.names.items))
+    subst (λ x. OnOk c.put_counted.result (ArePut (IsReason told x) c.args.text.now.items c.put_counted.new.text.items c.args.named.now.items c.put_counted.new.named.items))
     (sym c.in-Counted.is) c.put_counted.ensures

@@ -9,9 +9,9 @@ returns c =
     let told = c.args.told.now in
     puts6 c.args.text.now.items
     (codes "why: crossed values ")
-    (value_text c.args.value)
+    (value_text told.names.now c.args.value)
     (codes " and ")
-    (value_text c.args.other)
+    (value_text told.names.now c.args.other)
     (crossed_back_text told c.args.value c.args.other c.args.back)
     (held_text told c.args.other c.args.value c.args.pair)
     _ _ _ _ _ _

@@ -10,10 +10,10 @@ put_overwritten-requires-clause-holds c =
 pub returns-in-Overwritten : goal.returns-in-Overwritten
 returns-in-Overwritten c =
     let told = c.args.told.now in
-    subst (λ x. OnOk c.put_overwritten.result (ArePut (IsReasonOfRegister told x) c.args.text.now.items c.put_overwritten.new.text.items c.args.names.now.items c.put_overwritten.new.names.items))
+    subst (λ x. OnOk c.put_overwritten.result (ArePut (IsReasonOfRegister told x) c.args.text.now.items c.put_overwritten.new.text.items c.args.named.now.items c.put_overwritten.new.named.items))
     (sym c.in-Overwritten.is) c.put_overwritten.ensures
 
 pub returns-in_default : goal.returns-in_default
 returns-in_default c =
     let a = c.in_default in
-    nothing_put c.args.told.now c.args.certificate.now c.args.text.now.items c.args.names.now.items a.not-Shape a.not-Unwritten a.not-Overwritten a.not-Crossed
+    nothing_put c.args.told.now c.args.certificate.now c.args.text.now.items c.args.named.now.items a.not-Shape a.not-Unwritten a.not-Overwritten a.not-Crossed

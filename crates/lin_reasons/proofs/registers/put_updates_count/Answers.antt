@@ -9,7 +9,7 @@ returns c =
     (codes "  and so were ")
     (decimal c.args.more)
     (codes " more updates that leave ")
-    (value_text c.args.value)
+    (value_text c.args.told.now.names.now c.args.value)
     (codes "\n")
     _ _ _ _ _
     c.in_ok-extend_from_slice.ensures.items

@@ -7,7 +7,7 @@ pub returns : goal.returns
 returns c =
     puts3 c.args.text.now.items
     (codes "why: a read of a set gives members, not ")
-    (value_text c.args.value)
+    (value_text c.args.told.now.names.now c.args.value)
     (codes "\n")
     _ _ _
     c.in_ok-extend_from_slice.ensures.items

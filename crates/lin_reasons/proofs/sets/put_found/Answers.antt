@@ -1,5 +1,5 @@
 use Rattle.std.proofs.Common.{codes}
-use Rattle.lin_formats.specs.Items.{item_text}
+use Rattle.lin_words.specs.Values.{short_item_text}
 use Rattle.lin_reasons.specs.Telling.{returned_text}
 use Rattle.lin_reasons.proofs.Chains.{puts7}
 use Rattle.lin_reasons.proofs.sets.put_found.Goals as goal
@@ -11,15 +11,15 @@ returns c =
     (codes "  ")
     (returned_text told c.args.read)
     (codes " with ")
-    (item_text c.args.item)
+    (short_item_text told.names.now c.args.item)
     (codes " and without ")
-    (item_text c.args.other)
+    (short_item_text told.names.now c.args.other)
     (codes "\n")
     _ _ _ _ _ _ _
     c.in_ok-extend_from_slice.ensures.items
     c.in_ok-put_returned.ensures
     c.in_ok-extend_from_slice-2.ensures.items
-    c.in_ok-put_item.ensures.put
+    c.in_ok-put_short_item.ensures
     c.in_ok-extend_from_slice-3.ensures.items
-    c.in_ok-put_item-2.ensures.put
+    c.in_ok-put_short_item-2.ensures
     c.in_ok-push.ensures.items

@@ -1,5 +1,5 @@
 use Rattle.std.proofs.Common.{codes}
-use Rattle.lin_formats.specs.Items.{item_text}
+use Rattle.lin_words.specs.Values.{short_item_text}
 use Rattle.lin_reasons.specs.Lines.{found_text, in_before_text}
 use Rattle.lin_reasons.proofs.Chains.{puts7}
 use Rattle.lin_reasons.proofs.sets.put_late.Goals as goal
@@ -9,17 +9,17 @@ returns c =
     let told = c.args.told.now in
     puts7 c.args.text.now.items
     (codes "why: ")
-    (item_text c.args.item)
+    (short_item_text told.names.now c.args.item)
     (codes " was in before ")
-    (item_text c.args.other)
+    (short_item_text told.names.now c.args.other)
     (codes " was added\n")
     (in_before_text told c.args.before.0 c.args.item c.args.before.1)
     (found_text told c.args.read c.args.other c.args.item)
     _ _ _ _ _ _ _
     c.in_ok-extend_from_slice.ensures.items
-    c.in_ok-put_item.ensures.put
+    c.in_ok-put_short_item.ensures
     c.in_ok-extend_from_slice-2.ensures.items
-    c.in_ok-put_item-2.ensures.put
+    c.in_ok-put_short_item-2.ensures
     c.in_ok-extend_from_slice-3.ensures.items
     c.in_ok-put_in_before.ensures
     c.in_ok-put_found.ensures

@@ -8,7 +8,7 @@ pub returns-in_ok-push-in-Late : goal.returns-in_ok-push-in-Late
 returns-in_ok-push-in-Late c =
     let told = c.args.told.now in
     let a = c.in-Late in
-    subst (λ x. ArePut (IsReasonOfSet told x) c.args.text.now.items c.put_late.new.text.items c.args.names.now.items c.push.new.self.items) (sym a.is) (
+    subst (λ x. ArePut (IsReasonOfSet told x) c.args.text.now.items c.put_late.new.text.items c.args.named.now.items c.push.new.self.items) (sym a.is) (
       late_text told (a.earlier, a.add) a.read a.item a.other,
       a.earlier ∷ a.add ∷ a.read ∷ [],
       c.in_ok-put_late-in-Late.ensures,

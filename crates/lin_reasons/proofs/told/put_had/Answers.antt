@@ -8,7 +8,7 @@ returns c =
     let told = c.args.told.now in
     puts4 c.args.line.now.items
     (op_text told c.args.at)
-    (item_behind (is_read (call_in (slice_get told.events.now c.args.at))) c.args.item)
+    (item_behind told (is_read (call_in (slice_get told.events.now c.args.at))) c.args.item)
     (codes " returned at ")
     (end_spot told c.args.at)
     _ _ _ _

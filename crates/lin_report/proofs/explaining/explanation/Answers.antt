@@ -19,8 +19,8 @@ returns-clause-explained c =
       lines = lines;
       parts = parts;
       is_answer = subst (λ scope. IsAnswer c.args.session.now.present scope answer) c.scope_of.ensures c.in_ok-answer.ensures.answer;
-      explained = subst (λ now. Explains now c.args.asked places answer lines parts) present c.in_ok-told.ensures;
-      says = c.in_ok-text.ensures ∙ ap (λ verdict. explanation_text c.args.format c.len.result verdict lines parts) c.verdict_of-verdict.ensures
-          ∙ ap (λ n. explanation_text c.args.format n (verdict_of answer) lines parts) count;
+      explained = subst (λ now. Explains c.args.names.now now c.args.asked places answer lines parts) present c.in_ok-told.ensures;
+      says = c.in_ok-text.ensures ∙ ap (λ verdict. explanation_text c.args.names.now c.args.format c.len.result verdict lines parts) c.verdict_of-verdict.ensures
+          ∙ ap (λ n. explanation_text c.args.names.now c.args.format n (verdict_of answer) lines parts) count;
       status_is = c.status_of.ensures ∙ ap answer_status c.verdict_of-verdict.ensures;
     }

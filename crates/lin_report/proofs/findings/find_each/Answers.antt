@@ -17,6 +17,6 @@ returns-in-len1-clause-found c =
     let one : length keys ≡ 1 = omega (arith, c.in-len1.len_at_least, c.in-len1.len_below) in
     let listed = one_listed keys (Int (pos 0)) one in
     let right : IsVerdict now (Object key) c.args.whole = verdict_of_object c.linearizability_is_local.ensures c.absent_keys_are_legal.ensures now key
-    (only_key now.history key (subst (AreKeys now.history) listed c.requires.keys)) c.args.whole c.requires.whole in
+    (only_key c.requires.keys.0 now.history key (subst (AreKeys c.requires.keys.0 now.history) listed c.requires.keys.1)) c.args.whole c.requires.whole in
     of_well_formed now keys c.args.whole items (sym c.is_ill_formed.ensures ∙ c.if-is_ill_formed.false)
     (subst (λ ks. AreFindings now ks items) (sym listed) (subst (AreFindings now (key ∷ [])) (sym c.in_ok-from_slice.ensures.items) (one_found now key c.args.whole right)))

@@ -11,9 +11,10 @@ abbrev pub invariant-pieces : goal.invariant-pieces
 invariant-pieces g l = record {
   part : List ℕ;
   entered : List Event;
-  pulled : HasPulled l.fn.session.present l.session.present l.fn.follow l.follow part entered;
+  pulled : HasPulled l.fn.session.present l.session.present l.fn.names l.names l.fn.follow l.follow part entered;
   consumed : Consumes (g.R.Read.remaining (device_of l.fn.file)) (g.R.Read.remaining (device_of l.file)) part;
-  read_on : (keyed : Bool) (before : RunState) → StandsAt keyed before l.fn.session.present l.fn.follow (g.R.Read.remaining (device_of l.fn.file)) → IsReadOn keyed before part;
+  read_on : (keyed : Bool) (before : RunState) → StandsAt keyed before l.fn.session.present l.fn.names l.fn.follow (g.R.Read.remaining (device_of l.fn.file))
+      → IsReadOn keyed l.names before part;
   room : length l.piece ≡ 65536;
   counted : l.counter ≤ length part;
   uncounted : failures_of l.file ≡ failures_of l.fn.file;

@@ -8,4 +8,11 @@ returns-in-Refute c =
     let before = c.args.session.now.present in
     let after = c.refute.new.session.present in
     IfOk-weaker c.refute.result _ _
-    (λ reply told. subst (λ command. IsCommandReply command before after reply.text.items reply.status) (sym c.in-Refute.is) told) c.refute.ensures
+    (λ reply told. subst (λ command. IsCommandReply c.args.names.now command before after reply.text.items reply.status) (sym c.in-Refute.is) (told c.args.names.now)) c.refute.ensures
+
+pub returns-in-Ask : goal.returns-in-Ask
+returns-in-Ask c =
+    let before = c.args.session.now.present in
+    let after = c.ask.new.session.present in
+    IfOk-weaker c.ask.result _ _
+    (λ reply told. subst (λ command. IsCommandReply c.args.names.now command before after reply.text.items reply.status) (sym c.in-Ask.is) (told c.args.names.now)) c.ask.ensures

@@ -1,6 +1,11 @@
-use Rattle.std.proofs.Common.{length, ap, ◌∙◌}
+use Rattle.std.proofs.Common.{Err, length, ap, sym, ◌∙◌}
 use Rattle.lin_report.specs.Runs.{pull_text}
 use Rattle.lin_report.proofs.runs.reply_to_pull.Goals as goal
+
+pub returns-in_err-refused-clause-reads : goal.returns-in_err-refused-clause-reads
+returns-in_err-refused-clause-reads g c =
+    let reads = c.in_err-refused.ensures.reads in
+    (reads.0, reads.1, reads.2, λ is. reads.3 (ap Err (sym (rw is at c.from_residual.ensures.1))))
 
 pub returns-clause-reply : goal.returns-clause-reply
 returns-clause-reply g c = λ keyed before stands.

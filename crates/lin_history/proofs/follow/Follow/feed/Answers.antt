@@ -1,20 +1,25 @@
 use Rattle.std.proofs.Common.{subst, Err, arith}
+use Rattle.lin_names.specs.lemmas.Begins.{begins_itself}
 use Rattle.lin_history.specs.Sees.{Followed, Feeds}
 use Rattle.lin_history.proofs.Feeding.{feeds_behind_fault, taken_in, feeds_fault, feeds_ok}
 use Rattle.lin_history.proofs.follow.Follow.feed.Goals as goal
 use Rattle.lin_history.proofs.follow.Follow.feed.Goals.{in-Some-standing, in-None}
 
+pub returns-in-Some-clause-begun : goal.returns-in-Some-clause-begun
+returns-in-Some-clause-begun c = begins_itself c.args.names.now
+
 pub returns-in-Some-clause-feeds : goal.returns-in-Some-clause-feeds
 returns-in-Some-clause-feeds c =
-    subst (λ (f : Followed). Feeds f c.args.piece.now f (Err c.in-Some.fault)) c.self.view_is (feeds_behind_fault c.places.ensures.spelled c.places.ensures.passed c.more_bytes.ensures.spelled c.more_bytes.ensures.passed c.more_bytes.ensures.faulty
-    _ c.args.piece.now c.in-Some.fault c.in-Some.ensures.0 c.in-Some.ensures.1)
+    subst (λ (f : Followed). Feeds c.args.names.now f c.args.piece.now f (Err c.in-Some.fault)) c.self.view_is (feeds_behind_fault c.places.ensures.spelled c.places.ensures.passed c.more_bytes.ensures.spelled c.more_bytes.ensures.passed c.more_bytes.ensures.faulty
+    c.args.names.now _ c.args.piece.now c.in-Some.fault c.in-Some.ensures.0 c.in-Some.ensures.1)
 
 pub returns-after-standing-2-clause-feeds : goal.returns-after-standing-2-clause-feeds
 returns-after-standing-2-clause-feeds c =
-    let old : Followed = record { keyed = c.self.inside.keyed; ready = c.self.inside.ready.items; outcome = c.self.inside.outcome; passed = c.self.inside.passed; held = c.self.inside.held.items } in
+    let old : Followed = record { keyed = c.self.inside.keyed; ready = c.self.inside.ready.items; outcome = c.self.inside.outcome; passed = c.self.inside.passed; held = c.self.inside.held.items; row = c.self.inside.rest.row } in
+    let cut = c.in-Ok.ensures.cut in
     let t = taken_in c.places.ensures.spelled c.places.ensures.passed c.more_bytes.ensures.spelled c.more_bytes.ensures.passed
-    old c.args.piece.now c.in-Ok.read c.take_in.new.ready.items c.take_in.new.held.items c.in_default.ensures (omega arith) c.in-Ok.ensures.read.0 c.in-Ok.ensures.read.1 in
+    c.take_in.new.names old c.args.piece.now c.in-Ok.read c.take_in.new.ready.items c.take_in.new.held.items c.take_in.new.rest.row cut.0.0 c.in_default.ensures (omega arith) cut.0.1 cut.2 c.in-Ok.ensures.read in
     rw (← c.self.view_is) (elim c.match-standing-2.branch [
-      | in-Some-standing w ↦ rw w.result-is (feeds_fault old _ c.args.piece.now c.in-Ok.ensures.read.0.events w.in-Some-standing.fault w.in-Some-standing.ensures.0 w.in-Some-standing.ensures.1 t)
-      | in-None w ↦ rw w.result-is (feeds_ok old _ c.args.piece.now c.in-Ok.ensures.read.0.events _ w.in-None.ensures (cc) t)
+      | in-Some-standing w ↦ rw w.result-is (feeds_fault c.take_in.new.names old _ c.args.piece.now cut.0.0 w.in-Some-standing.fault w.in-Some-standing.ensures.0 w.in-Some-standing.ensures.1 t)
+      | in-None w ↦ rw w.result-is (feeds_ok c.take_in.new.names old _ c.args.piece.now cut.0.0 _ w.in-None.ensures (cc) t)
     ])

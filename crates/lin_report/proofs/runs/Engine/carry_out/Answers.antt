@@ -1,4 +1,6 @@
-use Rattle.std.proofs.Common.{◌∙◌}
+use Rattle.std.proofs.Common.{Err, ap, ◌∙◌}
+use Rattle.lin_report.proofs.Refusals.{passed_on}
+use Rattle.lin_report.proofs.UnderWay.{cut_unwritten}
 use Rattle.lin_report.proofs.runs.Engine.carry_out.Goals as goal
 
 pub returns-in-Err-clause-cut : goal.returns-in-Err-clause-cut
@@ -20,3 +22,9 @@ returns-clause-done g c = λ before line stands holds.
       status = c.or-self.ensures;
       emptied = c.clear.ensures.items;
     }
+
+pub returns-in_err-reply-clause-cut : goal.returns-in_err-reply-clause-cut
+returns-in_err-reply-clause-cut g c = passed_on c.from_residual.result c.in_err-reply.field-0.0 _ c.from_residual.ensures.1
+    (λ before line stands holds.
+    let reads = c.in_err-reply.ensures.reads in
+    cut_unwritten c.args.keyed _ _ _ _ _ _ before line c.in_err-reply.field-0.0 (λ e. c.in_err-reply.ensures.readers (ap Err e)) (reads.0, reads.1, reads.2, λ e. reads.3 (ap Err e)))

@@ -17,7 +17,7 @@ returns-in_err-carry_out-clause-cut g c =
     passed_on c.from_residual.result c.in_err-carry_out.field-0.0 _ c.from_residual.ensures.1
     (λ start before behind bytes end so_far.
     let some : 0 < length c.args.self.now.held.items = omega (arith, c.args.self.now.held.ok.0, c.len-length.ensures, c.if-length-eq0.false) in
-    cut_at_end c.args.keyed start before c.args.self.now _ _ _ _ behind bytes so_far (kept_some 1048577 c.args.self.now.held.items so_far.rest so_far.holds some) end c.in_err-carry_out.field-0.0
+    cut_at_end c.args.keyed start before c.args.self.now _ _ _ _ _ behind bytes so_far (kept_some 1048577 c.args.self.now.held.items so_far.rest so_far.holds some) end c.in_err-carry_out.field-0.0
     (c.in_err-carry_out.ensures.cut so_far.state so_far.rest so_far.stands so_far.holds))
 
 pub returns-clause-done : goal.returns-clause-done

@@ -40,7 +40,7 @@ returns-in_err-carry_out-clause-cut g c =
     (none_between piece from end c.end_of_part-end.ensures.later c.end_of_part-end.ensures.within c.end_of_part-end.ensures.inner) so_far in
     let joined = append_assoc bytes (take from piece) (take (end - from) (drop from piece)) ∙ ap (λ t. bytes ++ t) (up_to piece from end c.end_of_part-end.ensures.later) in
     let under_way = rw joined at held in
-    let cut = cut_within c.args.keyed start before _ _ _ _ _ behind (bytes ++ take end piece) (drop (end + 1) piece) under_way c.in_err-carry_out.field-0.0
+    let cut = cut_within c.args.keyed start before _ _ _ _ _ _ behind (bytes ++ take end piece) (drop (end + 1) piece) under_way c.in_err-carry_out.field-0.0
     (c.in_err-carry_out.ensures.cut under_way.state under_way.rest under_way.stands under_way.holds) in
     let whole = append_assoc bytes (take end piece) (10 ∷ drop (end + 1) piece) ∙ ap (λ t. bytes ++ t) (around_end piece end inside (c.end_of_part-end.ensures.stops inside)) in
     rw whole at cut)

@@ -1,0 +1,4 @@
+pub mod Names
+pub mod Sorted
+pub mod Spelled
+pub mod lemmas
