@@ -1,8 +1,8 @@
 #!/usr/bin/env bash
 # The whole gate: each proof from nothing, the tests that are written in Rattle and the stored runs of the programs, and beside these the edits
 # that have to be refused; then what crates cite of one another, what the promises stand on, and the built program on rows of data, on the
-# commands that pages show, on generated histories, on random edit scripts, on histories of other items and with each growth of memory refused, and a plain text of the
-# rules of refutations beside it. The last line counts all.
+# commands that pages show, on generated histories, on random edit scripts, on histories of other items, with each growth of memory refused,
+# and on a terminal, and a plain text of the rules of refutations beside it. The last line counts all.
 set -u
 cd "$(dirname "$0")"
 room=$(mktemp -d)
@@ -24,7 +24,7 @@ trap 'kill "$edits" 2> /dev/null; wait; rm -rf "$room"' EXIT
 
 RT_JOBS=${RT_JOBS:-$checks} rt ci | tee "$log"
 [ "${PIPESTATUS[0]}" = 0 ] || exit 1
-for script in tests/imports.py tests/closure.py tests/rows.py tests/readme.sh tests/generated.sh tests/edits.py tests/items.py tests/growths.py tests/refutations.py tests/explain.py tests/pictures.py; do
+for script in tests/imports.py tests/closure.py tests/rows.py tests/readme.sh tests/generated.sh tests/edits.py tests/items.py tests/growths.py tests/refutations.py tests/explain.py tests/pictures.py tests/progress.py; do
     echo "== $script"
     "$script" | tee -a "$log"
     [ "${PIPESTATUS[0]}" = 0 ] || exit 1

@@ -1,6 +1,8 @@
 //! Checks recorded histories for linearizability.
 #![tactic(auto)]
 
+mod watched;
+
 pub use lin_line::{Line, line};
 use lin_program::end_without_words;
 pub use lin_program::{Message, System, exit_of, exit_of_refusal, run_words};
@@ -8,35 +10,40 @@ use std::fs::File;
 use std::io::{Printer, Stdin};
 use std::process::ExitCode;
 use std::{env, io};
+use watched::{Output, Progress, Watched};
 
 /// The system that the program runs on. Nothing is known of it but what it answers.
 #[derive(Drop)]
 struct Host<'a> {
     runtime: &'a HostRuntime,
+    progress: &'a Progress<'a>,
 }
 
 impl<'a> System for Host<'a> {
-    type File = File;
+    type File = Watched<'a, File>;
 
     type Commands = Stdin;
 
-    type Out = Printer<'a, HostRuntime>;
+    type Out = Output<'a, Printer<'a, HostRuntime>>;
 
     ghost words = { record { opens = λ _ _ _. Unit {0}; lacks = λ _ _. Unit {0}; reads = λ _ _. Unit {0}; writes = λ _ _. Unit {0}; tells = λ _ _ _ _. Unit {0} } };
 
-    fn open(&self, path: &str) -> Option<File> {
-        File::open(self.runtime, path).ok()
+    fn open(&self, path: &str) -> Option<Watched<'a, File>> {
+        let file = File::open(self.runtime, path).ok()?;
+        Some(Watched::new(self.progress, path, file))
     }
 
+    // Standard input isn't watched: between its commands there are replies.
     fn commands(&self) -> Stdin {
         self.runtime.stdin()
     }
 
-    fn out(&self) -> Printer<'a, HostRuntime> {
-        io::writer(self.runtime)
+    fn out(&self) -> Output<'a, Printer<'a, HostRuntime>> {
+        Output::new(self.progress, io::writer(self.runtime))
     }
 
     fn tell(&mut self, message: &Message) -> bool {
+        self.progress.wipe();
         let told = match message {
             Message::Refusal(error) => print!(self.runtime; "{error}"),
             Message::NotOpened(path) => println!(self.runtime; "lincheck: cannot open {path}"),
@@ -50,7 +57,11 @@ impl<'a> System for Host<'a> {
 
 fn main(rt: HostRuntime) -> ExitCode {
     let alloc = rt.alloc();
-    let mut host = Host { runtime: &rt };
+    let progress = Progress::new(&rt);
+    let mut host = Host {
+        runtime: &rt,
+        progress: &progress,
+    };
     let arguments = match env::args(&rt) {
         Ok(arguments) => arguments,
         Err(error) => return ExitCode::from(end_without_words(&mut host, &error)),

@@ -1,0 +1,165 @@
+//! How far the reading of a file is, told on a terminal.
+ghost use Rattle.std.specs.Io.{ReadsAtMost, WritesAtMost};
+ghost use Rattle.std.specs.Io.KnownBytes.{Keeps, ReadConsumes, WriteAppends};
+
+use std::cell::Cell;
+use std::io;
+use std::io::{IsTerminal, Read, Write};
+use std::time::Instant;
+
+/// For how many seconds a reading goes on before it is told how far it is, and from then to the next time.
+const PAUSE: u64 = 1;
+
+/// The length up to which the name of a file is told, so that the line fits in a row of the terminal.
+const LONGEST_NAME: usize = 40;
+
+/// The line of standard error that tells how far a reading is. Errors of standard error are ignored.
+#[derive(Drop)]
+pub struct Progress<'a> {
+    runtime: &'a HostRuntime,
+    is_shown: Cell<bool>,
+}
+
+impl<'a> Progress<'a> {
+    /// A line that isn't shown yet.
+    pub fn new(runtime: &'a HostRuntime) -> Progress<'a> {
+        Progress {
+            runtime,
+            is_shown: Cell::new(false),
+        }
+    }
+
+    /// Tells how much of the file is read, in place of what the line told before.
+    fn show(&self, name: &str, bytes: u64) {
+        let (count, unit) = if bytes < 1_000_000 {
+            (bytes / 1_000, "kB")
+        } else {
+            (bytes / 1_000_000, "MB")
+        };
+        let _is_told = eprint!(self.runtime; "\rlincheck: {count} {unit} of {name} read\x1b[K");
+        self.is_shown.set(true);
+    }
+
+    /// Wipes the line, if it is shown.
+    pub fn wipe(&self) {
+        if self.is_shown.take() {
+            let _is_wiped = eprint!(self.runtime; "\r\x1b[K");
+        }
+    }
+}
+
+/// A reading that is watched.
+#[derive(Drop)]
+struct Watch<'a> {
+    progress: &'a Progress<'a>,
+    name: String,
+    bytes: u64,
+    // When the reading was begun, or last told of; none where none is under way.
+    told: Option<Instant>,
+}
+
+impl<'a> Watch<'a> {
+    /// Tells how far the reading is once it goes on for longer than a pause, and again after each further pause.
+    fn advance(&mut self, count: usize) {
+        self.bytes = self.bytes.saturating_add(count as u64);
+        let Ok(now) = Instant::now(self.progress.runtime) else {
+            return;
+        };
+        match self.told {
+            None => self.told = Some(now),
+            Some(told) => {
+                if now.duration_since(told).as_secs() >= PAUSE {
+                    self.progress.show(self.name.as_str(), self.bytes);
+                    self.told = Some(now);
+                }
+            }
+        }
+    }
+
+    /// Takes back what was told: the reading is at an end. The file may grow, and be read further.
+    fn end(&mut self) {
+        self.progress.wipe();
+        self.told = None;
+    }
+}
+
+/// A file, and on a terminal how far its reading is, once that takes more than a second.
+#[derive(Drop)]
+pub struct Watched<'a, F> {
+    file: F,
+    watch: Option<Watch<'a>>,
+}
+
+impl<'a, F> Watched<'a, F> {
+    /// The file of this name, watched where standard error is a terminal and there is memory for the name.
+    pub fn new(progress: &'a Progress<'a>, name: &str, file: F) -> Watched<'a, F> {
+        let watch = if progress.runtime.stderr().is_terminal() {
+            watch_of(progress, name)
+        } else {
+            None
+        };
+        Watched { file, watch }
+    }
+}
+
+/// The watch of a reading that isn't begun, of the file of this name.
+fn watch_of<'a>(progress: &'a Progress<'a>, name: &str) -> Option<Watch<'a>> {
+    let is_told = name.len() <= LONGEST_NAME && !name.chars().any(|c| c.is_control());
+    let told = if is_told { name } else { "the file" };
+    Some(Watch {
+        progress,
+        name: String::from_str(progress.runtime.alloc(), told).ok()?,
+        bytes: 0,
+        told: None,
+    })
+}
+
+impl<'a, F: Read> Read for Watched<'a, F> {
+    ghost remaining = { λ w. F.remaining (w.file) };
+
+    fn read(&mut self, buf: &mut [u8]) -> io::Result<usize>
+        ensures bound { ReadsAtMost result buf.new }
+        ensures bytes { ReadConsumes (F.remaining (self.old.file)) (F.remaining (self.new.file)) result buf.new }
+    {
+        let outcome = self.file.read(buf);
+        if let Some(watch) = &mut self.watch {
+            match &outcome {
+                Ok(count) if *count > 0 => watch.advance(*count),
+                _ => watch.end(),
+            }
+        }
+        outcome
+    }
+}
+
+/// A writer, before whose writes the line that tells of a reading is wiped.
+#[derive(Drop)]
+pub struct Output<'a, W> {
+    progress: &'a Progress<'a>,
+    writer: W,
+}
+
+impl<'a, W> Output<'a, W> {
+    /// The writer beside this line.
+    pub fn new(progress: &'a Progress<'a>, writer: W) -> Output<'a, W> {
+        Output { progress, writer }
+    }
+}
+
+impl<'a, W: Write> Write for Output<'a, W> {
+    ghost contents = { λ o. W.contents (o.writer) };
+
+    fn write(&mut self, buf: &[u8]) -> io::Result<usize>
+        ensures bound { WritesAtMost result buf.now }
+        ensures bytes { WriteAppends (W.contents (self.old.writer)) (W.contents (self.new.writer)) result buf.now }
+    {
+        self.progress.wipe();
+        self.writer.write(buf)
+    }
+
+    fn flush(&mut self) -> io::Result<()>
+        ensures bytes { Keeps (W.contents (self.old.writer)) (W.contents (self.new.writer)) }
+    {
+        self.writer.flush()
+    }
+}
