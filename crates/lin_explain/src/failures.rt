@@ -7,12 +7,14 @@ ghost use Rattle.lin_session.specs.declared.answers.Scope.{Scope as ScopeOf};
 ghost use Rattle.lin_window.specs.Operations.{IsFailing, IsInvoked};
 ghost use Rattle.lin_window.specs.Tables.{told_of};
 ghost use Rattle.lin_explain.specs.Failures.{AreReasons, AreSpots, IsFailureText, IsNoText, ends_text, failing_in, failing_text, head_text, operation_line, prefix_line, reply_in};
-ghost use Rattle.lin_explain.specs.inner.Laws.{IsFailure, IsLegalHistory};
+ghost use Rattle.lin_explain.specs.inner.Known.{ArePossible, IsQuietBefore};
+ghost use Rattle.lin_explain.specs.inner.Laws.{IsFailure};
 ghost use Rattle.lin_explain.specs.Own.{without_last as all_but_last};
 ghost use Rattle.lin_explain.specs.inner.Own.{stretch_of};
 ghost use Rattle.lin_explain.specs.Possible.{IsPossibleText};
 
 use crate::heads::{kind_for, put_object};
+use crate::known::{Quiet, known_before};
 use crate::laws::noes_fail;
 use crate::own::{Own, own_of};
 use crate::parts::{Failed, Spot, Why};
@@ -26,6 +28,7 @@ use lin_names::Names;
 use lin_objects::Kind;
 use lin_orders::{ends_of, positions_spell_parts};
 use lin_outcomes::Before;
+use lin_possible::Possible;
 use lin_session::Session;
 use lin_window::{Stretch, failing_operation};
 use lin_words::{put_event_spot, put_operation};
@@ -161,7 +164,7 @@ fn put_head(
 }
 
 /// All events but the last one.
-fn without_last(events: &[Event]) -> &[Event]
+pub(crate) fn without_last(events: &[Event]) -> &[Event]
     ensures { result.now ≡ all_but_last events.now }
 {
     &events[..events.len().saturating_sub(1)]
@@ -172,9 +175,11 @@ fn put_before_failure(
     alloc: Global,
     text: &mut Vec<u8>,
     failure: &Failure,
+    possible: Option<Possible>,
     ending: &Event,
 ) -> Result<Possibilities, OutOfMemory>
-    requires { IsFailure failure.now.kind failure.now.stretch.events.now ending.now }
+    requires failure { IsFailure failure.now.kind failure.now.stretch.events.now ending.now }
+    requires known { ArePossible failure.now.kind (all_but_last failure.now.stretch.events.now) failure.now.budget possible }
     ensures { IfOk result (λ told. (lines : List ℕ)
         × IsPossibleText failure.now.stretch.names.now (failing_in failure.now.kind failure.now.stretch.events.now failure.now.call ending.now) failure.now.prefix failure.now.budget lines told.replies told.states
         × (text.new.items ≡ text.old.items ++ lines)) }
@@ -187,7 +192,14 @@ fn put_before_failure(
         process: ending.process,
         recorded: reply_of(&ending.body),
     };
-    put_possible(alloc, text, &before, failure.prefix, failure.budget)
+    put_possible(
+        alloc,
+        text,
+        &before,
+        possible,
+        failure.prefix,
+        failure.budget,
+    )
 }
 
 /// Puts the lines last on why there is no legal order, and since when nothing else ran. Gives that position in the whole history.
@@ -195,16 +207,17 @@ fn put_reasons(
     alloc: Global,
     text: &mut Vec<u8>,
     failure: &Failure,
+    quiet: &Quiet,
 ) -> Result<(Option<Why>, usize), OutOfMemory>
     requires table { IsNextTable failure.now.stretch.events.now failure.now.stretch.ends.now }
     requires begins { IsInvoked failure.now.stretch.events.now failure.now.call }
     requires picks { length failure.now.stretch.picks.now ≡ length failure.now.stretch.events.now }
-    requires legal { IsLegalHistory failure.now.kind (all_but_last failure.now.stretch.events.now) }
+    requires quiet { IsQuietBefore failure.now.stretch.names.now failure.now.kind failure.now.budget failure.now.stretch.events.now failure.now.call quiet.now }
     ensures { IfOk result (λ told. (lines : List ℕ)
         × AreReasons failure.now.kind failure.now.budget (told_of failure.now.stretch) failure.now.call lines told.0 told.1 × (text.new.items ≡ text.old.items ++ lines)) }
 {
     let reason = put_why(alloc, text, failure.kind, &failure.stretch, failure.call)?;
-    let from = put_since(alloc, text, failure, reason.named.as_slice())?;
+    let from = put_since(alloc, text, failure, quiet, reason.named.as_slice())?;
     Ok((reason.why, from))
 }
 
@@ -231,8 +244,9 @@ fn put_failure(
         unreachable!()
     };
     put_head(text, failure, *at, invocation, ending)?;
-    let told = put_before_failure(alloc, text, failure, ending)?;
-    let (why, from) = put_reasons(alloc, text, failure)?;
+    let (quiet, possible) = known_before(alloc, failure)?;
+    let told = put_before_failure(alloc, text, failure, possible, ending)?;
+    let (why, from) = put_reasons(alloc, text, failure, &quiet)?;
     let (event, call) = spots_of(alloc, failure, *at, invocation, ending)?;
     Ok(Failed {
         key: ending.key,

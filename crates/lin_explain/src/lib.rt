@@ -5,6 +5,7 @@ mod counts;
 mod failures;
 mod heads;
 mod ill_formed;
+mod known;
 mod laws;
 mod own;
 mod pairs;

@@ -2,14 +2,13 @@
 ghost use Rattle.std.specs.Prelude.{◌≡◌, ◌++◌, ℕ, List, IfOk, OnOk, map, option_map};
 ghost use Rattle.lin_outcomes.specs.Outcomes.{HasNotCrashed, failing_of};
 ghost use Rattle.lin_outcomes.specs.Texts.{outcomes_text};
+ghost use Rattle.lin_explain.specs.inner.Known.{ArePossible};
 ghost use Rattle.lin_explain.specs.inner.Laws.{IsLegalHistory};
-ghost use Rattle.lin_explain.specs.Possible.{AreChoices, IsPossibleText, IsWasText};
+ghost use Rattle.lin_explain.specs.Possible.{AreChoices, IsPossibleText};
 
 use crate::parts::Choices;
-use lin_events::{Event, OutOfMemory};
-use lin_names::Names;
-use lin_objects::Kind;
-use lin_outcomes::{Before, Listed, Outcomes, outcomes_of, put_outcomes, put_was};
+use lin_events::OutOfMemory;
+use lin_outcomes::{Before, Listed, Outcomes, outcomes_of, put_outcomes};
 use lin_possible::Possible;
 use lin_words::Entry;
 use std::alloc::{AllocError, Global};
@@ -97,36 +96,20 @@ pub(crate) fn put_possible(
     alloc: Global,
     text: &mut Vec<u8>,
     before: &Before,
+    possible: Option<Possible>,
     prefix: usize,
     budget: u32,
 ) -> Result<Possibilities, OutOfMemory>
+    requires known { ArePossible before.now.kind before.now.events.now budget possible }
     requires legal { IsLegalHistory before.now.kind before.now.events.now }
     requires uncrashed { HasNotCrashed before.now.events.now before.now.process }
     ensures { IfOk result (λ told. (lines : List ℕ) × IsPossibleText before.now.names.now (failing_of before.now) prefix budget lines told.replies told.states × (text.new.items ≡ text.old.items ++ lines)) }
 {
-    match Possible::after(alloc, before.kind, before.events, budget)? {
+    match possible {
         Some(possible) => {
             let outcomes = outcomes_of(alloc, before, &possible)?;
             put_told(alloc, text, before, Some(&outcomes), prefix, budget)
         }
         None => put_told(alloc, text, before, None, prefix, budget),
-    }
-}
-
-/// Puts what the object was after the events last, if it is known.
-pub(crate) fn put_was_after(
-    alloc: Global,
-    text: &mut Vec<u8>,
-    names: &Names,
-    kind: Kind,
-    events: &[Event],
-    budget: u32,
-) -> Result<(), OutOfMemory>
-    requires { IsLegalHistory kind events.now }
-    ensures { OnOk result ((was : List ℕ) × IsWasText names.now kind events.now budget was × (text.new.items ≡ text.old.items ++ was)) }
-{
-    match Possible::after(alloc, kind, events, budget)? {
-        Some(possible) => put_was(alloc, text, names, kind, Some(&possible)),
-        None => put_was(alloc, text, names, kind, None),
     }
 }

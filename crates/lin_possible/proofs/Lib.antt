@@ -3,3 +3,4 @@ pub mod Listed
 pub mod Taking
 pub mod Overwritten
 pub mod Growing
+pub mod Keeping

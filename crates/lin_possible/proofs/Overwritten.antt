@@ -1,6 +1,6 @@
 -- Where the object is overwritten, what the members of its frontier show is all that is possible: an update that was overwritten, or is placed last, can be placed
 -- on the member itself, with the same outcome.
-use Rattle.std.proofs.Common.{◌≡◌, ◌⊎◌, ℕ, Bool, true, false, true≢false, IsTrue, List, Contains, inl, inr, refl, sym, ap, subst, ◌∙◌}
+use Rattle.std.proofs.Common.{◌≡◌, ◌⊎◌, ℕ, Bool, true, false, true≢false, IsTrue, List, Contains, inl, inr, refl, sym, ap, subst, ◌∙◌, length}
 use Rattle.lin_events.specs.declared.items.Item.{Item}
 use Rattle.lin_events.specs.declared.calls.Call.{Call}
 use Rattle.lin_events.specs.declared.calls.Name.{Name}
@@ -39,7 +39,8 @@ use Rattle.lin_members.specs.Compressed.{IsCovering, IsSpelled}
 use Rattle.lin_members.specs.RoundLaws.{TrailEndsLaw}
 use Rattle.lin_members.specs.Rounds.{joined}
 use Rattle.lin_possible.specs.declared.possible.Possible.{Possible}
-use Rattle.lin_possible.specs.After.{IsAfter}
+use Rattle.lin_possible.specs.After.{IsAfter, kind_in}
+use Rattle.lin_possible.specs.Running.{IsKnown}
 
 -- a truth that is not true is false
 decide : (b : Bool) → (b ≡ true) ⊎ (b ≡ false)
@@ -238,8 +239,8 @@ pub told_after : (possible : Possible) (kind : Kind) (h : List Event) → IsOver
     → (pending observers : List Open) → IsPending h pending → AreWatching (observes kind) pending observers → (members : List (Member State × Path)) (nodes : List (ℕ × (Placed × Option ℕ)))
     → IsCovering (start kind) (Step kind) (observes kind) true h members nodes
     → ((m : Member State × Path) → Contains members m → IsTold (Step kind) pending observers m possible.members.items)
-    → ((n : Member State × Path) → Contains possible.members.items n → IsSpelled (start kind) (Step kind) (observes kind) h possible.nodes n) → IsAfter possible kind h
-told_after possible kind h overwriting ends alternating functions well pending observers opened watching members nodes covering told spelled = record {
+    → ((n : Member State × Path) → Contains possible.members.items n → IsSpelled (start kind) (Step kind) (observes kind) h possible.run.nodes n) → kind_in possible ≡ kind → IsKnown possible.run h (length h) → IsAfter possible kind h
+told_after possible kind h overwriting ends alternating functions well pending observers opened watching members nodes covering told spelled same known = record {
   sound = λ m there.
       let by = spelled m there in
       (joined by.rounds, (by.rounds, by.spelled, refl), ends (observes kind) h by.states by.rounds m.0 by.trail);
@@ -253,4 +254,6 @@ told_after possible kind h overwriting ends alternating functions well pending o
       let s = covering.spelled k.member k.among in
       covered_pair (start kind) (Step kind) (observes kind) overwriting functions h ((alternating functions h).0 well) pending observers opened watching k.member (spelled_reached (start kind) (Step kind) (observes kind) h nodes k.member s)
       (spelled_rising (start kind) (Step kind) (observes kind) h nodes k.member s) possible.members.items (told k.member k.among) c members k refl x placed live;
+  object = same;
+  known = known;
 }

@@ -1,3 +1,4 @@
 pub mod Possible
 pub mod After
+pub mod Running
 pub mod inner

@@ -1,5 +1,5 @@
 //! What an object could be after some events, and what an operation that is open then could have been answered.
-ghost use Rattle.std.specs.Prelude.{◌≡◌, ◌⊎◌, ℕ, Bool, List, Contains, IfOk, IfSome, IfNone, OnOk, Ok, None, take};
+ghost use Rattle.std.specs.Prelude.{◌≡◌, ◌⊎◌, ◌≤◌, ℕ, Bool, List, Contains, IfOk, IfSome, IfNone, OnOk, Ok, None, length, take};
 ghost use Rattle.lin_events.specs.declared.items.Item.{Item as ItemOf};
 ghost use Rattle.lin_events.specs.declared.calls.Name.{Name as NameOf};
 ghost use Rattle.lin_events.specs.declared.calls.Reply.{Reply as ReplyOf};
@@ -12,7 +12,8 @@ ghost use Rattle.lin_orders.specs.Configurations.{IsOver};
 ghost use Rattle.lin_orders.specs.ConfigurationLaws.{LegalOrdersEnd};
 ghost use Rattle.lin_orders.specs.Linearizable.{IsLegalOrderAs, IsLinearizableAs};
 ghost use Rattle.lin_members.specs.Covers.{HasCrashed};
-ghost use Rattle.lin_possible.specs.After.{IsAfter, IsWay};
+ghost use Rattle.lin_possible.specs.After.{IsAfter, IsWay, kind_in};
+ghost use Rattle.lin_possible.specs.Running.{IsKnown, kind_of};
 ghost use Rattle.lin_possible.specs.Possible.{AreShown, Answers, LeavesIn};
 ghost use Rattle.lin_possible.specs.inner.Gathering.{IsPut, IsTakenFrom};
 
@@ -20,8 +21,8 @@ use crate::run::{Run, Taken};
 use indexmap::IndexMap;
 use lin_compressed::Scratch;
 use lin_events::{Event, Meter, OutOfMemory, Reply, well_formed_is_alternating};
-use lin_members::{Member, RoundNodes, rounds_spell_members};
-use lin_objects::{Any, Kind, State, replies_decide};
+use lin_members::{Member, rounds_spell_members};
+use lin_objects::{Kind, State, replies_decide};
 use lin_orders::{Placed, legal_orders_end, prefixes_are_linearizable_by};
 use std::alloc::Global;
 use std::hash::Hash;
@@ -29,7 +30,8 @@ use std::hash::Hash;
 /// What is possible after some events of an object.
 #[derive(Drop)]
 pub struct Possible {
-    nodes: RoundNodes,
+    /// What one can go on from; its nodes tell the ways.
+    run: Run,
     /// Configurations that show all that is possible, each with a node that spells a legal order that ends in it.
     members: Vec<Member<State>>,
 }
@@ -126,6 +128,42 @@ fn entries_of<T: Eq + Hash + Drop>(
 }
 
 impl Possible {
+    /// What is possible after the object's events, of which the run has taken in the first ones.
+    fn of(
+        alloc: Global,
+        mut run: Run,
+        from: usize,
+        events: &[Event],
+        budget: u32,
+    ) -> Result<Option<Possible>, OutOfMemory>
+        requires known { IsKnown run events.now from }
+        requires within { from ≤ length events.now }
+        requires legal { IsLinearizableAs (kind_of run) events.now }
+        requires well_formed { (functions : ItemOf → NameOf → Bool) × IsWellFormed functions events.now }
+        ensures after { IfOk result (λ found. IfSome found (λ possible. IsAfter possible (kind_of run) events.now)) }
+        ensures over { result ≡ Ok None → (n : ℕ) × IsOver (start_of (kind_of run)) (StepOf (kind_of run)) (take n events.now) budget }
+    {
+        prefixes_are_linearizable_by(&run.object);
+        rounds_spell_members(&run.object);
+        let mut scratch = Scratch::new(alloc);
+        let mut meter = Meter::new();
+        for at in from..events.len() {
+            match run.take_in(alloc, at, &events[at], budget, &mut meter, &mut scratch)? {
+                Taken::Next => {}
+                Taken::Empty => unreachable!(),
+                Taken::Over => return Ok(None),
+            }
+        }
+        if run.is_overwritten() {
+            let told = run.told(alloc)?;
+            return Ok(Some(Possible { run, members: told }));
+        }
+        let Some(members) = run.listed(alloc, budget)? else {
+            return Ok(None);
+        };
+        Ok(Some(Possible { run, members }))
+    }
+
     /// What is possible after the object's events; `None` where some beginning of them has more configurations than the budget.
     pub fn after(
         alloc: Global,
@@ -138,32 +176,27 @@ impl Possible {
         ensures after { IfOk result (λ found. IfSome found (λ possible. IsAfter possible kind events.now)) }
         ensures over { result ≡ Ok None → (n : ℕ) × IsOver (start_of kind) (StepOf kind) (take n events.now) budget }
     {
-        prefixes_are_linearizable_by(&Any { kind });
-        rounds_spell_members(&Any { kind });
-        let mut run = Run::new(alloc, kind)?;
-        let mut scratch = Scratch::new(alloc);
-        let mut meter = Meter::new();
-        for at in 0..events.len() {
-            match run.take_in(alloc, at, &events[at], budget, &mut meter, &mut scratch)? {
-                Taken::Next => {}
-                Taken::Empty => unreachable!(),
-                Taken::Over => return Ok(None),
-            }
-        }
-        if run.is_overwritten() {
-            let told = run.told(alloc)?;
-            return Ok(Some(Possible {
-                nodes: run.nodes,
-                members: told,
-            }));
-        }
-        let Some(members) = run.listed(alloc, budget)? else {
-            return Ok(None);
-        };
-        Ok(Some(Possible {
-            nodes: run.nodes,
-            members,
-        }))
+        let run = Run::new(alloc, kind)?;
+        Possible::of(alloc, run, 0, events, budget)
+    }
+
+    /// What is possible after all of the events, where this is what is possible after the first ones: only those behind are taken in. `None`
+    /// where some beginning of all has more configurations than the budget.
+    pub fn go_on(
+        self,
+        alloc: Global,
+        from: usize,
+        events: &[Event],
+        budget: u32,
+    ) -> Result<Option<Possible>, OutOfMemory>
+        requires before { IsAfter self (kind_in self) (take from events.now) }
+        requires within { from ≤ length events.now }
+        requires legal { IsLinearizableAs (kind_in self) events.now }
+        requires well_formed { (functions : ItemOf → NameOf → Bool) × IsWellFormed functions events.now }
+        ensures after { IfOk result (λ found. IfSome found (λ possible. IsAfter possible (kind_in self) events.now)) }
+        ensures over { result ≡ Ok None → (n : ℕ) × IsOver (start_of (kind_in self)) (StepOf (kind_in self)) (take n events.now) budget }
+    {
+        Possible::of(alloc, self.run, from, events, budget)
     }
 
     /// What the object could be: each state once, with a way.
@@ -201,7 +234,7 @@ impl Possible {
     pub fn order(&self, alloc: Global, way: usize) -> Result<Vec<Placed>, OutOfMemory>
         ensures { IfOk result (λ found. (order : List PlacedOf) → IsWay self.now way order → found.items ≡ order) }
     {
-        self.nodes.order(alloc, way)
+        self.run.nodes.order(alloc, way)
     }
 
     /// Some way: it tells a legal order, if there is one.

@@ -14,7 +14,7 @@ ghost use Rattle.lin_frontier.specs.Frontiers.{IsNextEvent, IsPending};
 ghost use Rattle.lin_orders.specs.Linearizable.{IsLinearizableAs};
 ghost use Rattle.lin_members.specs.Listed.{IsListingOf};
 ghost use Rattle.lin_possible.specs.After.{IsAfter};
-ghost use Rattle.lin_possible.specs.inner.Running.{IsKnown, kind_of};
+ghost use Rattle.lin_possible.specs.Running.{IsKnown, kind_of};
 
 use crate::telling::Telling;
 use lin_compressed::{Advance, Compressed, Scratch};
@@ -31,7 +31,7 @@ use std::mem;
 /// What is known after the first events of an object.
 #[derive(Drop)]
 pub(crate) struct Run {
-    object: Any,
+    pub(crate) object: Any,
     pub(crate) nodes: RoundNodes,
     frontier: Compressed<Any>,
     /// What is open after them.
@@ -156,7 +156,7 @@ impl Run {
     pub(crate) fn told(&mut self, alloc: Global) -> Result<Vec<Member<State>>, OutOfMemory>
         requires { overwrites_of (kind_of self.old) ≡ true }
         ensures { IfOk result (λ list. (functions : ItemOf → NameOf → Bool) (h : List EventOf) → IsWellFormed functions h → IsKnown self.old h (length h)
-            → IsAfter (record { nodes = self.new.nodes; members = list }) (kind_of self.old) h) }
+            → IsAfter (record { run = self.new; members = list }) (kind_of self.old) h) }
     {
         well_formed_is_alternating();
         rounds_spell_members(&self.object);
@@ -177,6 +177,8 @@ impl Run {
         budget: u32,
     ) -> Result<Option<Vec<Member<State>>>, OutOfMemory>
         requires { overwrites_of (kind_of self.old) ≡ false }
+        ensures kind { kind_of self.new ≡ kind_of self.old }
+        ensures known { OnOk result ((h : List EventOf) (n : ℕ) → IsKnown self.old h n → IsKnown self.new h n) }
         ensures listing { IfOk result (λ found. IfSome found (λ list. (functions : ItemOf → NameOf → Bool) (h : List EventOf) → IsWellFormed functions h → IsKnown self.old h (length h)
             → IsListingOf (start_of (kind_of self.old)) (StepOf (kind_of self.old)) (observes_of (kind_of self.old)) h list.items self.new.nodes)) }
         ensures over { IfOk result (λ found. IfNone found ((functions : ItemOf → NameOf → Bool) (h : List EventOf) → IsWellFormed functions h → IsKnown self.old h (length h)

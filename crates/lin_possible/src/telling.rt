@@ -216,6 +216,7 @@ impl<'a, O: SeqObject> Telling<'a, O> {
         members: &[Member<O::State>],
         nodes: &mut RoundNodes,
     ) -> Result<Vec<Member<O::State>>, OutOfMemory>
+        ensures grown { OnOk result (IsGrown nodes.old nodes.new) }
         ensures told { IfOk result (λ out. (observers : List OpenOf) × AreWatching (O.observing self.now.object.now) self.now.pending.now observers
             × ((m : MemberOf O.State × PathOf) → Contains members.now m → IsTold (O.step self.now.object.now) self.now.pending.now observers m out.items)) }
         ensures spelled { IfOk result (λ out. (functions : ItemOf → NameOf → Bool) (h : List EventOf) → IsWellFormed functions h → IsPending h self.now.pending.now

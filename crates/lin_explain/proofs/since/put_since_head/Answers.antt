@@ -4,10 +4,6 @@ use Rattle.lin_explain.proofs.since.put_since_head.Goals as goal
 
 pub returns : goal.returns
 returns c =
-    let was = c.in_ok-put_was_after.ensures in (
-      was.0,
-      was.1,
-      three_put c.args.text.now.items (codes "since event " ++ decimal c.args.at ++ codes ", before which nothing ran") was.0 (codes " (! fails, ~ ran beside it, * is named above):\n")
-          c.put_from.new.text.items c.put_was_after.new.text.items c.extend_from_slice.new.self.items
-          c.in_ok-put_from.ensures was.2 c.in_ok-extend_from_slice.ensures.items,
-    )
+    three_put c.args.text.now.items (codes "since event " ++ decimal c.args.at ++ codes ", before which nothing ran") c.args.was.now (codes " (! fails, ~ ran beside it, * is named above):\n")
+    c.put_from.new.text.items c.extend_from_slice.new.self.items c.extend_from_slice-2.new.self.items
+    c.in_ok-put_from.ensures c.in_ok-extend_from_slice.ensures.items c.in_ok-extend_from_slice-2.ensures.items

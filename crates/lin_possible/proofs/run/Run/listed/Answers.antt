@@ -8,7 +8,8 @@ use Rattle.lin_frontier.specs.Frontiers.{IsPending}
 use Rattle.lin_frontier.specs.lemmas.Answered.{from_none, from_some}
 use Rattle.lin_members.specs.Compressed.{IsCovering}
 use Rattle.lin_members.specs.Listed.{IsListingOf}
-use Rattle.lin_possible.specs.inner.Running.{IsKnown, kind_of}
+use Rattle.lin_possible.specs.Running.{IsKnown, kind_of}
+use Rattle.lin_possible.proofs.Keeping.{known_stays}
 use Rattle.lin_possible.proofs.run.Run.listed.Goals as goal
 use Rattle.lin_possible.proofs.run.Run.listed.Goals.{In_ok-found}
 
@@ -34,3 +35,9 @@ pub returns-in_default-clause-over : goal.returns-in_default-clause-over
 returns-in_default-clause-over c = λ functions h well known.
     let step = (goal.at.returns-in_default-clause-over c).In_ok-found in
     from_none _ c.in_default.is c.in_ok-found.ensures.over functions h well (opened step h known) (covering step h known).spelled
+
+pub returns-clause-known : goal.returns-clause-known
+returns-clause-known c = λ h n known. known_stays c.args.self.now c.listed.new.nodes h n c.listed.ensures.grown known
+
+pub returns-in_default-clause-known : goal.returns-in_default-clause-known
+returns-in_default-clause-known c = λ h n known. known_stays c.args.self.now c.listed.new.nodes h n c.listed.ensures.grown known

@@ -13,7 +13,7 @@ use Rattle.lin_orders.specs.Configurations.{IsOver}
 use Rattle.lin_orders.specs.Linearizable.{IsLinearizableAs}
 use Rattle.lin_possible.specs.declared.run.Run.{Run}
 use Rattle.lin_possible.specs.declared.run.Taken.TheVariants.{Next}
-use Rattle.lin_possible.specs.inner.Running.{IsKnown, kind_of}
+use Rattle.lin_possible.specs.Running.{IsKnown, kind_of}
 use Rattle.lin_possible.proofs.Taking.{event_taken, next_event}
 use Rattle.lin_possible.proofs.run.Run.take_in.Goals as goal
 use Rattle.lin_possible.proofs.run.Run.take_in.Goals.{In_ok-step}

@@ -10,6 +10,9 @@ loop-member-preserved g c =
     telling_next _ _ _ _ c.in_ok-observers.observers.items c.args.members.now c.args.nodes.now c.loop-member.member-index c.member-item.result c.loop-member.nodes c.tell.new.nodes c.loop-member.out.items c.tell.new.out.items c.loop-member-test.true c.member-item.is
     c.tell.ensures.grown c.in_ok-tell.ensures.added told c.loop-member.invariant
 
+pub returns-clause-grown : goal.returns-clause-grown
+returns-clause-grown g c = c.loop-member.invariant.nodes_grown
+
 pub returns-clause-told : goal.returns-clause-told
 returns-clause-told g c = (
   c.in_ok-observers.observers.items,

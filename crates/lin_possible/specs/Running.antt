@@ -1,4 +1,4 @@
--- What is known while events are taken in: cited by the contracts of private functions alone.
+-- What is known while events are taken in.
 use Rattle.std.specs.Prelude.{ℕ, List, take}
 use Rattle.lin_events.specs.declared.events.Event.{Event}
 use Rattle.lin_objects.specs.declared.kinds.Kind.{Kind}
