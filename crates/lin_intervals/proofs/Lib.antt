@@ -1,0 +1,12 @@
+pub mod Ordered
+pub mod Most
+pub mod Chained
+pub mod Timing
+pub mod Acts
+pub mod Answering
+pub mod Legal
+pub mod Refuting
+pub mod Numbering
+pub mod Making
+pub mod Sorting
+pub mod Standing

@@ -1,0 +1,4 @@
+pub mod Conflicts
+pub mod Laws
+pub mod Acts
+pub mod Points

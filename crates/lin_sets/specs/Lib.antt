@@ -1,0 +1,9 @@
+pub mod Places
+pub mod Openings
+pub mod Endings
+pub mod Levels
+pub mod News
+pub mod Parts
+pub mod Steps
+pub mod Changes
+pub mod Intervals
