@@ -1,4 +1,5 @@
 pub mod Conflicts
+pub mod Overwriting
 pub mod Adding
 pub mod SetConflicts
 pub mod QueueConflicts

@@ -6,7 +6,7 @@ ghost use Rattle.lin_failures.specs.BagConflicts.{AtLeast, AtMost, FoundNothing,
 
 use crate::adds::is_add_at;
 use crate::conflict::{invocation_at, ok_of};
-use crate::queue_conflict::{is_taking_at, put_at, took_at};
+use crate::takings::{is_taking_at, put_at, took_at};
 use lin_events::{Call, Event, Item, Reply, Val};
 
 /// Why a bag has no legal order.

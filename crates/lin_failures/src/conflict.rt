@@ -1,7 +1,7 @@
 //! Operations of a register that can't stand in one legal order.
 ghost use Rattle.std.specs.Prelude.{◌≡◌, ◌⊎◌, ◌<◌, ℕ, IfSome, IsTrue, false, Some, length};
 ghost use Rattle.lin_events.specs.declared.items.Item.{Item as ItemOf};
-ghost use Rattle.lin_events.specs.Operations.{IsEnd, IsOk, IsOperation};
+ghost use Rattle.lin_events.specs.Operations.{IsEnd, IsFailed, IsOk, IsOperation};
 ghost use Rattle.lin_events.specs.declared.calls.Call.{Call as CallOf};
 ghost use Rattle.lin_events.specs.declared.events.Body.TheVariants.{Invoke};
 ghost use Rattle.lin_objects.specs.declared.kinds.Kind.{Kind as KindOf};
@@ -10,9 +10,10 @@ ghost use Rattle.lin_failures.specs.Conflicts.{IsRegister, Leaves};
 ghost use Rattle.lin_failures.specs.inner.Conflicts.{Holds, IsBlock, IsShown};
 ghost use Rattle.lin_orders.specs.Linearizable.{IsLinearizableAs};
 
+use crate::overwritten::is_overwritten;
 use lin_events::{Body, Call, Event, Reply, Val};
 
-/// Operations behind which a register holds a value that one update leaves. Operations are named by the places of their invocations.
+/// Operations behind which a register holds a value that one update leaves, apart from failed ones. Operations are named by the places of their invocations.
 #[derive(Clone, Copy, Debug, PartialEq, Eq)]
 pub struct Block {
     pub value: Val,
@@ -27,12 +28,12 @@ pub struct Block {
 /// Why a register has no legal order.
 #[derive(Clone, Copy, Debug, PartialEq, Eq)]
 pub enum Conflict {
-    /// The operation found a value other than nil that none leaves.
+    /// The operation found a value other than nil, and all that leave it failed.
     Unwritten {
         operation: usize,
         value: Val,
     },
-    /// The operation found nil, which none leaves, and comes after another behind which the register held this value.
+    /// The operation found nil, all that leave it failed, and it comes after another behind which the register held this value.
     Late {
         operation: usize,
         other: usize,
@@ -40,6 +41,14 @@ pub enum Conflict {
     },
     /// The early operation of each comes before the late one of the other.
     Crossed(Block, Block),
+    /// The operation needs the value, and comes after another one, behind which the register holds something else; and whichever other one
+    /// leaves the value failed, or comes before that one.
+    Overwritten {
+        operation: usize,
+        value: Val,
+        over: usize,
+        held: Val,
+    },
 }
 
 /// The process and the call of the operation at the place.
@@ -80,6 +89,22 @@ pub(crate) fn ok_of(events: &[Event], at: usize, process: u64) -> Option<(usize,
     }
 }
 
+/// Whether the operation at the place is known to have failed.
+pub(crate) fn is_failed(events: &[Event], at: usize) -> bool
+    ensures { IsTrue result → IsFailed events.now at }
+{
+    let Some((process, _)) = invocation_at(events, at) else {
+        return false;
+    };
+    let Some((_, ending)) = ending_of(events, at, process) else {
+        return false;
+    };
+    match &ending.body {
+        Body::Fail(_) => true,
+        _ => false,
+    }
+}
+
 /// Whether the register holds the value behind the call with this reply.
 fn holds(call: &Call, reply: &Reply, value: Val) -> bool
     ensures { IsTrue result → Holds call.now reply.now value }
@@ -107,7 +132,7 @@ fn leaves(call: &Call, value: Val) -> bool
 }
 
 /// Where the operation at the place is known to be ok, if the register holds the value behind it.
-fn shown(events: &[Event], at: usize, value: Val) -> Option<usize>
+pub(crate) fn shown(events: &[Event], at: usize, value: Val) -> Option<usize>
     ensures { IfSome result (λ end. IsShown events.now at value end) }
 {
     let (process, call) = invocation_at(events, at)?;
@@ -120,7 +145,7 @@ fn shown(events: &[Event], at: usize, value: Val) -> Option<usize>
 }
 
 /// Whether the event is an invocation whose call leaves the value.
-fn is_leaving(event: &Event, value: Val) -> bool
+pub(crate) fn is_leaving(event: &Event, value: Val) -> bool
     ensures { (call : CallOf) → event.now.body ≡ Invoke call → Leaves call value → IsTrue result }
 {
     match &event.body {
@@ -142,12 +167,23 @@ fn is_another(event: &Event, at: usize, update: Option<usize>, value: Val) -> bo
     }
 }
 
-/// Whether no operation leaves the value, but for the update.
+/// Whether the operation that was invoked at the place, if one was, is other than the update, leaves the value, and isn't known to have failed.
+fn is_another_at(events: &[Event], at: usize, update: Option<usize>, value: Val) -> bool
+    requires { at < length events.now }
+    ensures { result ≡ false → (call : CallOf) → IsCall events.now at call → Leaves call value → (update ≡ Some at) ⊎ IsFailed events.now at }
+{
+    if !is_another(&events[at], at, update, value) {
+        return false;
+    }
+    !is_failed(events, at)
+}
+
+/// Whether all operations that leave the value failed, but for the update.
 fn is_left_by(events: &[Event], update: Option<usize>, value: Val) -> bool
-    ensures { IsTrue result → (at : ℕ) (call : CallOf) → IsCall events.now at call → Leaves call value → update ≡ Some at }
+    ensures { IsTrue result → (at : ℕ) (call : CallOf) → IsCall events.now at call → Leaves call value → (update ≡ Some at) ⊎ IsFailed events.now at }
 {
     for at in 0..events.len() {
-        if is_another(&events[at], at, update, value) {
+        if is_another_at(events, at, update, value) {
             return false;
         }
     }
@@ -186,7 +222,7 @@ fn end_of(events: &[Event], block: &Block) -> Option<usize>
     Some(end)
 }
 
-/// Whether the operation found the value, which is not nil and which none leaves.
+/// Whether the operation found the value, which is not nil, and all that leave it failed.
 fn is_unwritten(events: &[Event], operation: usize, value: Val) -> bool
     ensures { IsTrue result → (kind : KindOf) → IsRegister kind → IsLinearizableAs kind events.now → ⊥ }
 {
@@ -202,7 +238,7 @@ fn is_unwritten(events: &[Event], operation: usize, value: Val) -> bool
     }
 }
 
-/// Whether the operation found nil, which none leaves, and comes after the other one, behind which the register held this value.
+/// Whether the operation found nil, all that leave it failed, and it comes after the other one, behind which the register held this value.
 fn is_late(events: &[Event], operation: usize, other: usize, value: Val) -> bool
     ensures { IsTrue result → (kind : KindOf) → IsRegister kind → IsLinearizableAs kind events.now → ⊥ }
 {
@@ -252,5 +288,11 @@ pub fn is_refuted(events: &[Event], conflict: &Conflict) -> bool
             value,
         } => is_late(events, *operation, *other, *value),
         Conflict::Crossed(first, second) => are_crossed(events, first, second),
+        Conflict::Overwritten {
+            operation,
+            value,
+            over,
+            held,
+        } => is_overwritten(events, *operation, *value, *over, *held),
     }
 }

@@ -1,69 +1,105 @@
-//! A search for a legal order of a register's operations that keeps a few beginnings. It puts off what doesn't show: a write that
-//! another write hid is placed when it returns, before that one. Whatever it finds is checked; that it finds one isn't promised.
+//! A search for a legal order of a register's operations that keeps a few beginnings. It puts off what doesn't show: an update is placed when
+//! it returns, or when an operation returns that needs what it leaves. Then it stands last, or in a gap before an update that was placed
+//! while it was open. Whatever it finds is checked; that it finds an order isn't promised.
 ghost use Rattle.std.specs.Prelude.{◌≡◌, ◌≤◌};
 ghost use Rattle.lin_events.specs.Meters.{ticked};
 
-use crate::acts::{Act, Acts};
-use crate::drafts::{Draft, Gap, Spot, Step};
+use crate::acts::{Act, Acts, Waiting};
+use crate::drafts::{Draft, Gap, Spot, Step, count_as_wide, widest};
 use crate::lines::Line;
+use crate::paths::paths;
+use crate::pool::{Offer, Open, Pool, has_operation};
+use crate::zones::register_failure;
 use lin_events::{Event, Meter, OutOfMemory, Val};
 use lin_orders::Placed;
 use std::alloc::Global;
 
-/// So many beginnings are kept at most.
-const WIDTH: usize = 16;
+/// So many beginnings are kept at most by the first search, and by the second where that finds nothing: they are enough for most histories.
+const FEW: (usize, usize) = (2, 4);
 
-/// So many updates are placed at most to make way for one operation, where some may compare and set.
-const DEEP: usize = 3;
+/// The same of the searches that follow, one after the other.
+const WIDTHS: (usize, usize, usize) = (16, 128, 1024);
+
+/// So many updates are placed at most to make way for one operation, and after it.
+const DEEP: usize = 5;
+
+/// So many gaps where the register holds the same are kept, apart from the widest one.
+const LIKE: usize = 2;
 
 /// A search gives up that came to more steps than so many for each event and the free ones.
-const STEPS: usize = 16;
+const STEPS: usize = 32;
 
 /// Steps that any search may take.
-const FREE: usize = 1 << 18;
+const FREE: usize = 1 << 19;
+
+/// The same of how often it looked whether one beginning serves for another.
+const LOOKS: usize = 1024;
+
+const FREE_LOOKS: usize = 1 << 22;
 
 /// What a search has at hand.
 #[derive(Drop)]
 struct Attempt<'a> {
     alloc: Global,
     acts: &'a Acts,
-    /// Operations that are open, the earliest first.
-    open: Vec<usize>,
+    /// How many beginnings are kept.
+    width: usize,
+    pool: Pool,
     steps: Vec<Step>,
+    /// Orders that were given up: others are made in their memory.
+    spare: Vec<Draft>,
+    /// How often it looked whether one order serves for another.
+    looks: usize,
+    /// The event that is looked at.
+    now: usize,
 }
 
-/// Where an operation that completes is: its name, what it did, the place of the completion, and what it may want the register to hold.
-#[derive(Drop)]
-struct Goal {
-    operation: usize,
-    now: usize,
-    wanted: Vec<Val>,
+/// Where updates can be put in an order.
+#[derive(Clone, Copy)]
+struct Place {
+    /// Before the update of this gap, or behind all others.
+    gap: Option<usize>,
+    held: Val,
+    until: usize,
+    /// What the updates have to leave, if it matters.
+    back: Option<Val>,
+    /// Whether a write may come first there. Where it may come first in several gaps, it can do all in the widest that it can in another.
+    takes_writes: bool,
+}
+
+/// The place in the gap.
+fn place_in(draft: &Draft, at: usize, gap: &Gap) -> Place {
+    Place {
+        gap: Some(at),
+        held: gap.held,
+        until: gap.until,
+        back: if gap.is_free { None } else { Some(gap.held) },
+        takes_writes: !gap.is_free || widest(&draft.gaps) == Some(at),
+    }
 }
 
 impl<'a> Attempt<'a> {
-    /// At the beginning of the history.
-    fn new(alloc: Global, acts: &'a Acts) -> Attempt<'a> {
+    /// Where the events begin.
+    fn new(alloc: Global, acts: &'a Acts, width: usize) -> Attempt<'a> {
         Attempt {
             alloc,
             acts,
-            open: Vec::new(alloc),
+            width,
+            pool: Pool::new(alloc),
             steps: Vec::new(alloc),
+            spare: Vec::new(alloc),
+            looks: 0,
+            now: 0,
         }
     }
 
-    /// The operations of the history in a legal order, if one is found.
-    fn run(&mut self) -> Result<Option<Vec<usize>>, OutOfMemory> {
-        let most = self.acts.len().saturating_mul(STEPS).saturating_add(FREE);
+    /// The operations in a legal order that goes on from the first one, if one is found.
+    fn run(&mut self, first: &Draft) -> Result<Option<Vec<usize>>, OutOfMemory> {
         let mut drafts = Vec::new(self.alloc);
-        drafts.push(Draft::new(self.alloc, self.acts.len()))?;
+        drafts.push(self.copied(first)?)?;
         for at in 0..self.acts.len() {
-            if self.acts.act(at).is_some() {
-                self.open(&mut drafts, at)?;
-            }
-            if let Some(begin) = self.acts.begin(at) {
-                drafts = self.completed(drafts, begin, at)?;
-            }
-            if drafts.is_empty() || self.steps.len() > most {
+            drafts = self.after(drafts, at)?;
+            if drafts.is_empty() || self.is_over() {
                 return Ok(None);
             }
         }
@@ -73,28 +109,73 @@ impl<'a> Attempt<'a> {
         }
     }
 
+    /// An equal order.
+    fn copied(&mut self, draft: &Draft) -> Result<Draft, OutOfMemory> {
+        let mut copy = match self.spare.pop() {
+            Some(spare) => spare,
+            None => Draft::new(self.alloc, draft.last, draft.held),
+        };
+        copy.assign(draft)?;
+        Ok(copy)
+    }
+
+    /// Whether the search has to give up.
+    fn is_over(&self) -> bool {
+        let events = self.acts.len();
+        self.steps.len() > events.saturating_mul(STEPS).saturating_add(FREE)
+            || self.looks > events.saturating_mul(LOOKS).saturating_add(FREE_LOOKS)
+    }
+
+    /// The orders after the event.
+    fn after(&mut self, drafts: Vec<Draft>, at: usize) -> Result<Vec<Draft>, OutOfMemory> {
+        let mut drafts = drafts;
+        self.now = at;
+        if let Some(act) = self.acts.act(at) {
+            self.invoked(&mut drafts, at, act)?;
+        }
+        match self.acts.begin(at) {
+            Some(begin) => self.completed(drafts, begin),
+            None => Ok(drafts),
+        }
+    }
+
     /// The operation is open from here on.
-    fn open(&mut self, drafts: &mut Vec<Draft>, operation: usize) -> Result<(), OutOfMemory> {
-        self.open.push(operation)?;
-        if let Some(Act::Read(value)) = self.acts.act(operation) {
-            for draft in drafts.iter_mut() {
-                if draft.held == value {
-                    self.place(draft, operation, Spot::Behind(draft.last))?;
-                }
+    fn invoked(
+        &mut self,
+        drafts: &mut Vec<Draft>,
+        operation: usize,
+        act: Act,
+    ) -> Result<(), OutOfMemory> {
+        let open = Open {
+            operation,
+            act,
+            last: self.acts.last(operation),
+        };
+        if self.acts.has_returned(operation) {
+            self.pool.open.push(open)?;
+            return self.read_at_once(drafts, &open);
+        }
+        let now = self.now;
+        for draft in drafts.iter_mut() {
+            draft.used.retain(|used| used.last > now);
+        }
+        self.pool.crash(self.alloc, open, now)
+    }
+
+    /// Places the open operation where it finds what the register holds.
+    fn read_at_once(&mut self, drafts: &mut Vec<Draft>, open: &Open) -> Result<(), OutOfMemory> {
+        for draft in drafts.iter_mut() {
+            if open.act == Act::Read(draft.held) && !draft.has(open) {
+                self.step(draft, open.operation, Spot::Behind(draft.last))?;
+                draft.note(open.operation, open.act)?;
             }
         }
         Ok(())
     }
 
     /// Puts the operation in the order, unless there are more steps than can be named.
-    fn place(
-        &mut self,
-        draft: &mut Draft,
-        operation: usize,
-        spot: Spot,
-    ) -> Result<(), OutOfMemory> {
-        let (Some(act), Ok(name), Ok(step)) = (
-            self.acts.act(operation),
+    fn step(&mut self, draft: &mut Draft, operation: usize, spot: Spot) -> Result<(), OutOfMemory> {
+        let (Ok(name), Ok(step)) = (
             u32::try_from(operation),
             u32::try_from(self.steps.len().saturating_add(1)),
         ) else {
@@ -106,7 +187,7 @@ impl<'a> Attempt<'a> {
             spot,
         })?;
         draft.step = step;
-        draft.note(operation, act)
+        Ok(())
     }
 
     /// Open reads that found the value, and were invoked before the place, are put behind the update that left it.
@@ -117,146 +198,251 @@ impl<'a> Attempt<'a> {
         update: usize,
         until: usize,
     ) -> Result<(), OutOfMemory> {
-        for at in 0..self.open.len() {
-            let Some(operation) = self.open.get(at).copied() else {
-                continue;
-            };
-            if operation < until
-                && self.acts.act(operation) == Some(Act::Read(value))
-                && !draft.has(operation)
+        for at in 0..self.pool.open.len() {
+            if let Some(open) = self.pool.open.get(at)
+                && open.operation < until
+                && open.act == Act::Read(value)
+                && !draft.has(open)
             {
-                self.place(draft, operation, Spot::Behind(update))?;
+                let open = *open;
+                self.step(draft, open.operation, Spot::Behind(update))?;
+                draft.note(open.operation, open.act)?;
             }
         }
         Ok(())
     }
 
-    /// The order with the open update behind all others, if the register can take it there.
-    fn appended(
-        &mut self,
-        draft: &Draft,
-        operation: usize,
-        act: Act,
-        now: usize,
-    ) -> Result<Option<Draft>, OutOfMemory> {
-        let Some(value) = act.after(draft.held) else {
-            return Ok(None);
-        };
-        let mut next = draft.copy(self.alloc)?;
-        if let Act::Write(_) = act {
-            if !self.acts.has_cas() {
-                next.gaps.clear();
-            }
-            next.open_gap(Gap {
-                write: operation,
-                until: now,
-                held: draft.held,
-            })?;
-        }
-        next.held = value;
-        next.last = operation;
-        self.place(&mut next, operation, Spot::Last)?;
-        self.tell(&mut next, value, operation, usize::MAX)?;
-        Ok(Some(next))
+    /// Puts the update behind all others.
+    fn append(&mut self, draft: &mut Draft, offer: &Offer, value: Val) -> Result<(), OutOfMemory> {
+        draft.gaps.push(Gap {
+            next: offer.operation,
+            until: self.now,
+            held: draft.held,
+            is_free: offer.act.is_write(),
+        })?;
+        draft.held = value;
+        draft.last = offer.operation;
+        self.step(draft, offer.operation, Spot::Last)?;
+        self.tell(draft, value, offer.operation, usize::MAX)
     }
 
-    /// The order with the open update in the gap, if it can be put there.
-    fn hidden(
+    /// Puts the update in the gap.
+    fn insert(
         &mut self,
-        draft: &Draft,
-        operation: usize,
-        act: Act,
+        draft: &mut Draft,
         at: usize,
-    ) -> Result<Option<Draft>, OutOfMemory> {
-        let Some(gap) = draft.gaps.get(at) else {
-            return Ok(None);
+        offer: &Offer,
+        value: Val,
+    ) -> Result<(), OutOfMemory> {
+        let Some(gap) = draft.gaps.get(at).copied() else {
+            return Ok(());
         };
-        let Some(value) = act.after(gap.held) else {
-            return Ok(None);
-        };
-        if operation >= gap.until {
-            return Ok(None);
-        }
-        let mut next = draft.copy(self.alloc)?;
-        if let Some(old) = next.gaps.get_mut(at) {
+        draft.gaps.push(Gap {
+            next: offer.operation,
+            until: gap.until,
+            held: gap.held,
+            is_free: offer.act.is_write(),
+        })?;
+        if let Some(old) = draft.gaps.get_mut(at) {
             old.held = value;
         }
-        if self.acts.has_cas() && matches!(act, Act::Write(_)) {
-            next.open_gap(Gap {
-                write: operation,
-                until: gap.until,
-                held: gap.held,
-            })?;
-        }
-        self.place(&mut next, operation, Spot::Before(gap.write))?;
-        self.tell(&mut next, value, operation, gap.until)?;
-        Ok(Some(next))
+        self.step(draft, offer.operation, Spot::Before(gap.next))?;
+        self.tell(draft, value, offer.operation, gap.until)
     }
 
-    /// Values that the register may have to hold before the operation can return: what it found, and what open updates found that leave these.
-    fn wanted(&self, act: Act) -> Result<Vec<Val>, OutOfMemory> {
-        let mut wanted = Vec::new(self.alloc);
-        if let Some(value) = act.found() {
-            wanted.push(value)?;
-        }
-        for _ in 1..DEEP {
-            for operation in &self.open {
-                if let Some(Act::Cas(from, to)) = self.acts.act(*operation)
-                    && wanted.contains(&to)
-                    && !wanted.contains(&from)
-                {
-                    wanted.push(from)?;
-                }
-            }
-        }
-        Ok(wanted)
-    }
-
-    /// Puts what placing the open update makes of the order with those that are found, if the operation stands in it then, or else with those that
-    /// come next.
-    fn advance(
+    /// Puts the updates at the place, one behind the other.
+    fn put_all(
         &mut self,
-        draft: &Draft,
-        update: usize,
-        goal: &Goal,
-        found: &mut Vec<Draft>,
-        next: &mut Vec<Draft>,
+        draft: &mut Draft,
+        place: &Place,
+        offers: &[Offer],
     ) -> Result<(), OutOfMemory> {
-        let Some(act) = self.acts.act(update) else {
-            return Ok(());
-        };
-        let Some(value) = act.left() else {
-            return Ok(());
-        };
-        if update != goal.operation && !goal.wanted.contains(&value) {
-            return Ok(());
-        }
-        for at in 0..draft.gaps.len() {
-            if is_closed(draft, at, goal) {
+        for offer in offers {
+            let Some(value) = offer.act.left() else {
                 continue;
+            };
+            draft.take(offer)?;
+            match place.gap {
+                None => self.append(draft, offer, value)?,
+                Some(at) => self.insert(draft, at, offer, value)?,
             }
-            if let Some(made) = self.hidden(draft, update, act, at)? {
-                sort_out(made, goal, found, next)?;
-            }
-        }
-        if let Some(made) = self.appended(draft, update, act, goal.now)? {
-            sort_out(made, goal, found, next)?;
         }
         Ok(())
     }
 
-    /// Whether an earlier operation can be placed in place of this one: neither returned, and they did the same.
-    fn has_like(&self, draft: &Draft, operation: usize) -> bool {
-        if self.acts.has_returned(operation) {
-            return false;
+    /// Puts the order with these updates at the place with what is found.
+    fn make(
+        &mut self,
+        draft: &Draft,
+        place: &Place,
+        first: &[Offer],
+        then: &[Offer],
+        found: &mut Vec<Draft>,
+    ) -> Result<(), OutOfMemory> {
+        let mut next = self.copied(draft)?;
+        self.put_all(&mut next, place, first)?;
+        self.put_all(&mut next, place, then)?;
+        found.push(next)?;
+        Ok(())
+    }
+
+    /// Puts the orders with these updates at the place with what is found, with further ones behind them where they have to leave a value.
+    fn make_back(
+        &mut self,
+        draft: &Draft,
+        place: &Place,
+        offers: &[Offer],
+        found: &mut Vec<Draft>,
+    ) -> Result<(), OutOfMemory> {
+        let Some(left) = offers.last().and_then(|offer| offer.act.left()) else {
+            return Ok(());
+        };
+        let back = place.back.unwrap_or(left);
+        if back == left {
+            return self.make(draft, place, offers, &[], found);
         }
-        for other in &self.open {
-            if *other >= operation {
-                return false;
+        let mut others = self
+            .pool
+            .offers(self.alloc, draft, usize::MAX, place.until)?;
+        others.retain(|other| !has_operation(offers, other.operation));
+        let most = DEEP.saturating_sub(offers.len());
+        for path in &paths(self.alloc, &others, left, back, most)? {
+            self.make(draft, place, offers, path, found)?;
+        }
+        Ok(())
+    }
+
+    /// Puts the orders with what is found in which these updates stand at the place, unless another place does as well.
+    fn follow(
+        &mut self,
+        draft: &Draft,
+        place: &Place,
+        offers: &[Offer],
+        found: &mut Vec<Draft>,
+    ) -> Result<(), OutOfMemory> {
+        let begins_with_write = offers.first().is_some_and(|offer| offer.act.is_write());
+        if begins_with_write && !place.takes_writes {
+            return Ok(());
+        }
+        self.make_back(draft, place, offers, found)
+    }
+
+    /// Puts the orders with what is found in which the goal stands at the place, behind any updates that make way for it.
+    fn reach_at(
+        &mut self,
+        draft: &Draft,
+        goal: &Open,
+        place: &Place,
+        found: &mut Vec<Draft>,
+    ) -> Result<(), OutOfMemory> {
+        let update = goal.offer();
+        let needed = goal.act.found().unwrap_or(place.held);
+        if needed == place.held {
+            return self.follow(draft, place, update.as_slice(), found);
+        }
+        let offers = self
+            .pool
+            .offers(self.alloc, draft, goal.operation, place.until)?;
+        let mut ways = paths(self.alloc, &offers, place.held, needed, DEEP)?;
+        while let Some(way) = ways.pop() {
+            let mut way = way;
+            way.extend_from_slice(update.as_slice())?;
+            self.follow(draft, place, &way, found)?;
+        }
+        Ok(())
+    }
+
+    /// Puts all that comes of the order, and in which the goal stands, with what is found: behind all others, and in each gap that it can be
+    /// put in.
+    fn reach(
+        &mut self,
+        draft: &Draft,
+        goal: &Open,
+        found: &mut Vec<Draft>,
+    ) -> Result<(), OutOfMemory> {
+        let end = Place {
+            gap: None,
+            held: draft.held,
+            until: usize::MAX,
+            back: None,
+            takes_writes: true,
+        };
+        self.reach_at(draft, goal, &end, found)?;
+        if goal.act == Act::Write(draft.held) {
+            return Ok(());
+        }
+        for (at, gap) in draft.gaps.iter().enumerate() {
+            if gap.until > goal.operation {
+                let place = place_in(draft, at, gap);
+                self.reach_at(draft, goal, &place, found)?;
             }
-            if !self.acts.has_returned(*other)
-                && self.acts.act(*other) == self.acts.act(operation)
-                && !draft.has(*other)
+        }
+        Ok(())
+    }
+
+    /// The orders after the operation returned.
+    fn completed(
+        &mut self,
+        drafts: Vec<Draft>,
+        operation: usize,
+    ) -> Result<Vec<Draft>, OutOfMemory> {
+        let Some(goal) = self.pool.named(operation) else {
+            return Ok(drafts);
+        };
+        let mut found = Vec::new(self.alloc);
+        let mut rest = drafts;
+        while let Some(draft) = rest.pop() {
+            if draft.has(&goal) {
+                found.push(draft)?;
+            } else {
+                self.reach(&draft, &goal, &mut found)?;
+                self.spare.push(draft)?;
+            }
+        }
+        self.pool.close(operation);
+        for draft in found.iter_mut() {
+            draft.close(&goal);
+        }
+        self.best(found)
+    }
+
+    /// Gaps go in which nothing has to be put, but the widest one of those where any update can be put.
+    fn thin(&self, draft: &mut Draft) {
+        let least = self.pool.least();
+        draft.gaps.retain(|gap| gap.until > least);
+        draft
+            .gaps
+            .sort_unstable_by_key(|gap| usize::MAX - gap.until);
+        let mut kept: usize = 0;
+        for at in 0..draft.gaps.len() {
+            if let Some(gap) = draft.gaps.get(at).copied()
+                && self.is_needed(draft, kept, &gap)
+                && let Some(place) = draft.gaps.get_mut(kept)
+            {
+                *place = gap;
+                kept = kept.saturating_add(1);
+            }
+        }
+        draft.gaps.truncate(kept);
+    }
+
+    /// Whether the gap is needed beside the first ones, of which so many are kept.
+    fn is_needed(&self, draft: &Draft, count: usize, gap: &Gap) -> bool {
+        let kept = &draft.gaps[..count.min(draft.gaps.len())];
+        if gap.is_free && widest(kept).is_none() {
+            return true;
+        }
+        count_as_wide(kept, gap) < LIKE && self.pool.is_useful(draft, gap)
+    }
+
+    /// Whether an open operation can be placed no more, since what it needs isn't left any more.
+    fn is_dead(&self, draft: &Draft) -> bool {
+        for open in &self.pool.open {
+            if let Some(value) = open.act.found()
+                && self.acts.source(open.operation) <= self.now
+                && !draft.has(open)
+                && !is_held(draft, open, value)
+                && !self.pool.is_left(draft, open.operation, value)
             {
                 return true;
             }
@@ -264,76 +450,27 @@ impl<'a> Attempt<'a> {
         false
     }
 
-    /// The same of each open update that doesn't stand in the order.
-    fn advance_by_each(
-        &mut self,
-        draft: &Draft,
-        goal: &Goal,
-        found: &mut Vec<Draft>,
-        next: &mut Vec<Draft>,
-    ) -> Result<(), OutOfMemory> {
-        for at in 0..self.open.len() {
-            let Some(update) = self.open.get(at).copied() else {
-                continue;
-            };
-            if !draft.has(update) && !self.has_like(draft, update) {
-                self.advance(draft, update, goal, found, next)?;
-            }
-        }
-        Ok(())
-    }
-
-    /// Puts all that comes of the order, by open updates, and in which the operation stands, with those that are found.
-    fn reach(
-        &mut self,
-        draft: Draft,
-        goal: &Goal,
-        found: &mut Vec<Draft>,
-    ) -> Result<(), OutOfMemory> {
-        let depth = if self.acts.has_cas() { DEEP } else { 1 };
-        let mut level = Vec::new(self.alloc);
-        level.push(draft)?;
-        for _ in 0..depth {
-            let mut next = Vec::new(self.alloc);
-            for draft in &level {
-                self.advance_by_each(draft, goal, found, &mut next)?;
-            }
-            next.truncate(WIDTH);
-            level = next;
-        }
-        Ok(())
-    }
-
-    /// The orders after the operation returned at the place.
-    fn completed(
-        &mut self,
-        drafts: Vec<Draft>,
-        operation: usize,
-        now: usize,
-    ) -> Result<Vec<Draft>, OutOfMemory> {
-        let Some(act) = self.acts.act(operation) else {
-            return Ok(drafts);
-        };
-        let goal = Goal {
-            operation,
-            now,
-            wanted: self.wanted(act)?,
-        };
-        let mut found = Vec::new(self.alloc);
-        let mut rest = drafts;
-        while let Some(draft) = rest.pop() {
-            if draft.has(operation) {
-                found.push(draft)?;
+    /// The orders that cost least of those with which there may be one of the history, without those for which others serve.
+    fn best(&mut self, drafts: Vec<Draft>) -> Result<Vec<Draft>, OutOfMemory> {
+        let mut sorted = drafts;
+        sorted.sort_unstable_by_key(|draft| usize::MAX - draft.cost());
+        let mut kept: Vec<Draft> = Vec::new(self.alloc);
+        while let Some(draft) = sorted.pop() {
+            let mut draft = draft;
+            if kept.len() < self.width && self.is_worth(&mut draft, &kept) {
+                kept.push(draft)?;
             } else {
-                self.reach(draft, &goal, &mut found)?;
+                self.spare.push(draft)?;
             }
         }
-        self.open.retain(|other| *other != operation);
-        let least = self.open.first().copied().unwrap_or(usize::MAX);
-        for draft in found.iter_mut() {
-            draft.close(operation, act, least);
-        }
-        best(self.alloc, found, self.acts)
+        Ok(kept)
+    }
+
+    /// Whether there may be an order of the history with this one, and none of those that are kept serves for it.
+    fn is_worth(&mut self, draft: &mut Draft, kept: &[Draft]) -> bool {
+        self.thin(draft);
+        self.looks = self.looks.saturating_add(kept.len());
+        !self.is_dead(draft) && !is_served(kept, draft)
     }
 
     /// The operations in the order that ends with the step.
@@ -357,54 +494,30 @@ impl<'a> Attempt<'a> {
     }
 }
 
-/// Whether the operation that completes was invoked too late for the gap.
-fn is_closed(draft: &Draft, at: usize, goal: &Goal) -> bool {
-    match draft.gaps.get(at) {
-        Some(gap) => gap.until <= goal.operation,
-        None => true,
+/// Whether the register holds the value where the open update can be put.
+fn is_held(draft: &Draft, open: &Open, value: Val) -> bool {
+    if open.act.is_read() {
+        return false;
     }
-}
-
-/// Puts the order with those in which the operation stands, or with those that come next.
-fn sort_out(
-    draft: Draft,
-    goal: &Goal,
-    found: &mut Vec<Draft>,
-    next: &mut Vec<Draft>,
-) -> Result<(), OutOfMemory> {
-    if draft.has(goal.operation) {
-        found.push(draft)?;
-    } else {
-        next.push(draft)?;
+    if draft.held == value {
+        return true;
     }
-    Ok(())
-}
-
-/// Whether one of the orders serves for this one.
-fn is_served(drafts: &[Draft], draft: &Draft, acts: &Acts) -> bool {
-    for other in drafts {
-        if other.serves_for(draft, acts) {
+    for gap in &draft.gaps {
+        if gap.held == value && gap.until > open.operation {
             return true;
         }
     }
     false
 }
 
-/// The orders that placed the fewest updates ahead of their completions, without those for which others serve.
-fn best(alloc: Global, drafts: Vec<Draft>, acts: &Acts) -> Result<Vec<Draft>, OutOfMemory> {
-    let mut sorted = drafts;
-    sorted.sort_unstable_by_key(|draft| draft.updates);
-    sorted.reverse();
-    let mut kept: Vec<Draft> = Vec::new(alloc);
-    while let Some(draft) = sorted.pop() {
-        if kept.len() >= WIDTH {
-            break;
-        }
-        if !is_served(&kept, &draft, acts) {
-            kept.push(draft)?;
+/// Whether one of the orders serves for this one.
+fn is_served(drafts: &[Draft], draft: &Draft) -> bool {
+    for other in drafts {
+        if other.serves_for(draft) {
+            return true;
         }
     }
-    Ok(kept)
+    false
 }
 
 /// The operations with their replies.
@@ -433,7 +546,101 @@ fn tick_tries(meter: &mut Meter, count: usize)
     prove!(before <= meter.tries());
 }
 
-/// An order of the events of a register, if the search finds one. A try is counted for each operation that it places in a beginning.
+/// An order of the operations that goes on from the first one, if a search finds one that keeps so many beginnings.
+fn attempted(
+    alloc: Global,
+    acts: &Acts,
+    first: &Draft,
+    width: usize,
+    meter: &mut Meter,
+) -> Result<Option<Vec<Placed>>, OutOfMemory>
+    ensures tries { meter.old.tries ≤ meter.new.tries }
+    ensures others { meter.new ≡ record meter.old { tries = meter.new.tries } }
+{
+    let mut attempt = Attempt::new(alloc, acts, width);
+    let found = attempt.run(first);
+    tick_tries(meter, attempt.steps.len());
+    match found? {
+        Some(operations) => Ok(Some(placed(alloc, acts, &operations)?)),
+        None => Ok(None),
+    }
+}
+
+/// What was placed where the events begin.
+fn begun(alloc: Global, acts: &Acts, held: Val, open: &[Waiting]) -> Result<Draft, OutOfMemory> {
+    let mut draft = Draft::new(alloc, acts.len(), held);
+    for (at, waiting) in open.iter().enumerate() {
+        if waiting.reply.is_some()
+            && let Some(act) = acts.act(at)
+        {
+            draft.note(at, act)?;
+        }
+    }
+    Ok(draft)
+}
+
+/// What goes on with an order of a register, if a search finds it. The order so far leaves the value, and has those of the open operations
+/// that have replies. What is given back stands behind it: open operations are named by their places among these, and those of the events
+/// by the places of their invocations, counted from behind the last one. A try is counted for each operation that the search places.
+pub fn register_order_from(
+    alloc: Global,
+    held: Val,
+    open: &[Waiting],
+    events: &[Event],
+    meter: &mut Meter,
+) -> Result<Option<Vec<Placed>>, OutOfMemory>
+    ensures tries { meter.old.tries ≤ meter.new.tries }
+    ensures others { meter.new ≡ record meter.old { tries = meter.new.tries } }
+{
+    let mut acts = Acts::behind(alloc, open, events)?;
+    if !acts.takes(open) {
+        return Ok(None);
+    }
+    acts.look_ahead(alloc)?;
+    let first = begun(alloc, &acts, held, open)?;
+    if let Some(order) = attempted_narrowly(alloc, &acts, &first, meter)? {
+        return Ok(Some(order));
+    }
+    attempted_widely(alloc, &acts, &first, meter)
+}
+
+/// An order of the operations that goes on from the first one, if a search finds one that keeps few beginnings.
+fn attempted_narrowly(
+    alloc: Global,
+    acts: &Acts,
+    first: &Draft,
+    meter: &mut Meter,
+) -> Result<Option<Vec<Placed>>, OutOfMemory>
+    ensures tries { meter.old.tries ≤ meter.new.tries }
+    ensures others { meter.new ≡ record meter.old { tries = meter.new.tries } }
+{
+    if let Some(order) = attempted(alloc, acts, first, FEW.0, meter)? {
+        return Ok(Some(order));
+    }
+    attempted(alloc, acts, first, FEW.1, meter)
+}
+
+/// The same with more beginnings.
+fn attempted_widely(
+    alloc: Global,
+    acts: &Acts,
+    first: &Draft,
+    meter: &mut Meter,
+) -> Result<Option<Vec<Placed>>, OutOfMemory>
+    ensures tries { meter.old.tries ≤ meter.new.tries }
+    ensures others { meter.new ≡ record meter.old { tries = meter.new.tries } }
+{
+    if let Some(order) = attempted(alloc, acts, first, WIDTHS.0, meter)? {
+        return Ok(Some(order));
+    }
+    if let Some(order) = attempted(alloc, acts, first, WIDTHS.1, meter)? {
+        return Ok(Some(order));
+    }
+    attempted(alloc, acts, first, WIDTHS.2, meter)
+}
+
+/// An order of the events of a register, if a search finds one. Where operations are found that conflict, only one that keeps few beginnings
+/// is made. A try is counted for each operation that the search places in a beginning.
 pub fn register_order(
     alloc: Global,
     events: &[Event],
@@ -442,12 +649,14 @@ pub fn register_order(
     ensures tries { meter.old.tries ≤ meter.new.tries }
     ensures others { meter.new ≡ record meter.old { tries = meter.new.tries } }
 {
-    let acts = Acts::of(alloc, events)?;
-    let mut attempt = Attempt::new(alloc, &acts);
-    let found = attempt.run();
-    tick_tries(meter, attempt.steps.len());
-    match found? {
-        Some(operations) => Ok(Some(placed(alloc, &acts, &operations)?)),
-        None => Ok(None),
+    let mut acts = Acts::behind(alloc, &[], events)?;
+    acts.look_ahead(alloc)?;
+    let first = Draft::new(alloc, acts.len(), Val::Nil);
+    if let Some(order) = attempted_narrowly(alloc, &acts, &first, meter)? {
+        return Ok(Some(order));
     }
+    if register_failure(alloc, events)?.is_some() {
+        return Ok(None);
+    }
+    attempted_widely(alloc, &acts, &first, meter)
 }

@@ -1,20 +1,20 @@
 //! Beginnings of orders of the operations of a register.
-use crate::acts::{Act, Acts};
+use crate::acts::Act;
+use crate::pool::{Offer, Open};
 use lin_events::{OutOfMemory, Val};
 use std::alloc::Global;
 
-/// So many gaps of an order are kept, the last ones.
-const GAPS: usize = 12;
-
-/// A write that stands in the order, and before which other updates can still be put, since it leaves its own value whatever it finds.
+/// A place before an update in the order, where others can still be put.
 #[derive(Clone, Copy, Debug, PartialEq, Eq)]
 pub struct Gap {
-    /// The write.
-    pub write: usize,
-    /// Only operations that were invoked before this place: while they were open, the write was placed.
+    /// The update.
+    pub next: usize,
+    /// Only operations that were invoked before this place: while they were open, the update was placed.
     pub until: usize,
-    /// What the register holds before the write.
+    /// What the register holds there.
     pub held: Val,
+    /// Whether the update leaves its own value whatever it finds. Else what is put there has to leave again what the register holds.
+    pub is_free: bool,
 }
 
 /// Where a step puts an operation in an order.
@@ -22,7 +22,7 @@ pub struct Gap {
 pub enum Spot {
     /// Behind all others.
     Last,
-    /// Before this write.
+    /// Before this update.
     Before(usize),
     /// Behind this update, and the reads that were put there.
     Behind(usize),
@@ -37,6 +37,16 @@ pub struct Step {
     pub spot: Spot,
 }
 
+/// How many of the updates stand in an order that did the same and never returned: the first ones.
+#[derive(Clone, Copy, Debug, PartialEq, Eq)]
+pub struct Used {
+    /// The name of their class.
+    pub class: usize,
+    pub count: usize,
+    /// Where they are needed no longer.
+    pub last: usize,
+}
+
 /// An order of the operations that returned so far, and of some that are open.
 #[derive(Drop)]
 pub struct Draft {
@@ -44,112 +54,173 @@ pub struct Draft {
     pub held: Val,
     /// The update that left it there.
     pub last: usize,
-    /// The operations in it that are open.
-    pub placed: Vec<usize>,
-    /// How many of these are updates.
-    pub updates: usize,
+    /// The open reads in it, the open writes, and the open compare-and-sets, of those that return.
+    pub reads: Vec<usize>,
+    pub writes: Vec<usize>,
+    pub sets: Vec<usize>,
+    /// The updates in it that never return, and how many there are.
+    pub used: Vec<Used>,
+    pub crashed: usize,
+    /// The widest one where any update can be put comes before the others of its kind.
     pub gaps: Vec<Gap>,
     /// Its last step, and one more; 0 where it has none.
     pub step: u32,
 }
 
+/// Puts the others in place of the elements, in the same memory where there is enough.
+fn renew<T: Copy>(elements: &mut Vec<T>, others: &[T]) -> Result<(), OutOfMemory> {
+    elements.clear();
+    elements.extend_from_slice(others)?;
+    Ok(())
+}
+
 impl Draft {
-    /// The empty order. The place stands for the update that left nil in the register.
-    pub fn new(alloc: Global, start: usize) -> Draft {
+    /// The empty order. The place stands for the update that left the value in the register.
+    pub fn new(alloc: Global, start: usize, held: Val) -> Draft {
         Draft {
-            held: Val::Nil,
+            held,
             last: start,
-            placed: Vec::new(alloc),
-            updates: 0,
+            reads: Vec::new(alloc),
+            writes: Vec::new(alloc),
+            sets: Vec::new(alloc),
+            used: Vec::new(alloc),
+            crashed: 0,
             gaps: Vec::new(alloc),
             step: 0,
         }
     }
 
-    /// An equal order.
-    pub fn copy(&self, alloc: Global) -> Result<Draft, OutOfMemory> {
-        let mut placed = Vec::new(alloc);
-        placed.extend_from_slice(&self.placed)?;
-        let mut gaps = Vec::new(alloc);
-        gaps.extend_from_slice(&self.gaps)?;
-        Ok(Draft {
-            held: self.held,
-            last: self.last,
-            placed,
-            updates: self.updates,
-            gaps,
-            step: self.step,
-        })
+    /// Makes it equal to the other one.
+    pub fn assign(&mut self, other: &Draft) -> Result<(), OutOfMemory> {
+        self.held = other.held;
+        self.last = other.last;
+        self.crashed = other.crashed;
+        self.step = other.step;
+        renew(&mut self.reads, &other.reads)?;
+        renew(&mut self.writes, &other.writes)?;
+        renew(&mut self.sets, &other.sets)?;
+        renew(&mut self.used, &other.used)?;
+        renew(&mut self.gaps, &other.gaps)
     }
 
-    /// Whether the operation, which is open, stands in it.
-    pub fn has(&self, operation: usize) -> bool {
-        self.placed.contains(&operation)
+    /// Whether the open operation, which returns, stands in it.
+    pub fn has(&self, open: &Open) -> bool {
+        match open.act {
+            Act::Read(_) => self.reads.contains(&open.operation),
+            Act::Write(_) => self.writes.contains(&open.operation),
+            Act::Cas(_, _) => self.sets.contains(&open.operation),
+        }
     }
 
-    /// Notes that the operation, which is open, stands in it.
+    /// Notes that an operation stands in it that is open and returns.
     pub fn note(&mut self, operation: usize, act: Act) -> Result<(), OutOfMemory> {
-        if !act.is_read() {
-            self.updates = self.updates.saturating_add(1);
+        match act {
+            Act::Read(_) => self.reads.push(operation)?,
+            Act::Write(_) => self.writes.push(operation)?,
+            Act::Cas(_, _) => self.sets.push(operation)?,
         }
-        self.placed.push(operation)?;
         Ok(())
     }
 
-    /// Notes that there is a gap.
-    pub fn open_gap(&mut self, gap: Gap) -> Result<(), OutOfMemory> {
-        if self.gaps.len() >= GAPS {
-            let _ = self.gaps.remove(0);
+    /// Notes that the update on offer stands in it.
+    pub fn take(&mut self, offer: &Offer) -> Result<(), OutOfMemory> {
+        let Some(class) = offer.class else {
+            return self.note(offer.operation, offer.act);
+        };
+        self.crashed = self.crashed.saturating_add(1);
+        for used in self.used.iter_mut() {
+            if used.class == class {
+                used.count = used.count.saturating_add(1);
+                return Ok(());
+            }
         }
-        self.gaps.push(gap)?;
+        self.used.push(Used {
+            class,
+            count: 1,
+            last: offer.last,
+        })?;
         Ok(())
     }
 
-    /// The operation is open no longer. Gaps go that no open operation can be put in: those up to this place.
-    pub fn close(&mut self, operation: usize, act: Act, least: usize) {
-        if !act.is_read() {
-            self.updates = self.updates.saturating_sub(1);
+    /// How many updates of the class stand in it.
+    pub fn count_of(&self, class: usize) -> usize {
+        for used in &self.used {
+            if used.class == class {
+                return used.count;
+            }
         }
-        self.placed.retain(|other| *other != operation);
-        self.gaps.retain(|gap| gap.until > least);
+        0
     }
 
-    /// Whether whatever can follow the other order can follow this one: it has the same updates and the same reads or more, and its gaps
-    /// are as wide.
-    pub fn serves_for(&self, other: &Draft, acts: &Acts) -> bool {
+    /// The operation is open no longer.
+    pub fn close(&mut self, open: &Open) {
+        let operation = open.operation;
+        match open.act {
+            Act::Read(_) => self.reads.retain(|other| *other != operation),
+            Act::Write(_) => self.writes.retain(|other| *other != operation),
+            Act::Cas(_, _) => self.sets.retain(|other| *other != operation),
+        }
+    }
+
+    /// The less, the better: how many updates it placed that never return, and how many ahead of their completions.
+    pub fn cost(&self) -> usize {
+        let early = self.writes.len().saturating_add(self.sets.len());
+        self.crashed.saturating_mul(1 << 16).saturating_add(early)
+    }
+
+    /// Whether it will do in place of the other one: it has the same compare-and-sets, the same reads or more, and its gaps are as wide. Of
+    /// writes it does not matter whether they are placed, since they can be hidden.
+    pub fn serves_for(&self, other: &Draft) -> bool {
         self.held == other.held
-            && self.updates == other.updates
-            && has_all(self, &other.placed)
-            && has_gaps(&self.gaps, &other.gaps, acts.has_cas())
+            && self.sets.len() == other.sets.len()
+            && has_all(&self.sets, &other.sets)
+            && has_all(&self.reads, &other.reads)
+            && has_gaps(&self.gaps, &other.gaps)
     }
 }
 
-/// Whether all of the operations stand in the order.
-fn has_all(draft: &Draft, operations: &[usize]) -> bool {
-    for operation in operations {
-        if !draft.has(*operation) {
+/// Whether all of the others are among the operations.
+fn has_all(operations: &[usize], others: &[usize]) -> bool {
+    for other in others {
+        if !operations.contains(other) {
             return false;
         }
     }
     true
 }
 
-/// Whether there is a gap as wide as this one. Where there may be a compare-and-set, it matters what the register holds there.
-fn has_gap(gaps: &[Gap], wanted: &Gap, has_cas: bool) -> bool {
+/// Whether what can be put in the other gap can be put in this one.
+fn is_as_wide(gap: &Gap, other: &Gap) -> bool {
+    gap.held == other.held && gap.until >= other.until && (gap.is_free || !other.is_free)
+}
+
+/// How many of the gaps are as wide as the other one.
+pub fn count_as_wide(gaps: &[Gap], other: &Gap) -> usize {
+    let mut count: usize = 0;
     for gap in gaps {
-        if gap.until >= wanted.until && (!has_cas || gap.held == wanted.held) {
-            return true;
+        if is_as_wide(gap, other) {
+            count = count.saturating_add(1);
         }
     }
-    false
+    count
 }
 
 /// Whether there are gaps as wide as the others.
-fn has_gaps(gaps: &[Gap], others: &[Gap], has_cas: bool) -> bool {
+fn has_gaps(gaps: &[Gap], others: &[Gap]) -> bool {
     for other in others {
-        if !has_gap(gaps, other, has_cas) {
+        if count_as_wide(gaps, other) == 0 {
             return false;
         }
     }
     true
+}
+
+/// The widest of the gaps where any update can be put: the first such one.
+pub fn widest(gaps: &[Gap]) -> Option<usize> {
+    for (at, gap) in gaps.iter().enumerate() {
+        if gap.is_free {
+            return Some(at);
+        }
+    }
+    None
 }

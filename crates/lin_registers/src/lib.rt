@@ -5,7 +5,10 @@ mod acts;
 mod attempts;
 mod drafts;
 mod lines;
+mod paths;
+mod pool;
 mod zones;
 
-pub use attempts::register_order;
+pub use acts::Waiting;
+pub use attempts::{register_order, register_order_from};
 pub use zones::register_failure;

@@ -1,7 +1,7 @@
-//! A search for operations of a register that conflict, among values that one update leaves. Whatever it finds is checked; that it finds
-//! something isn't promised.
-use crate::acts::{Act, Acts};
-use lin_events::{Event, Item, OutOfMemory, Val};
+//! A search for operations of a register that conflict, one event after another. Whatever it finds is checked; that it finds something isn't
+//! promised.
+use crate::acts::{Act, Acts, act_of};
+use lin_events::{Body, Event, Item, OutOfMemory, Val};
 use lin_failures::{Block, Conflict};
 use std::alloc::Global;
 use std::collections::HashMap;
@@ -12,106 +12,266 @@ const STEPS: usize = 16;
 /// Steps that any search may take.
 const FREE: usize = 1 << 18;
 
-/// What is known of the operations behind which the register holds a value.
+/// What is known of a value.
 #[derive(Clone, Copy)]
 struct Zone {
-    /// The first update that leaves it.
-    update: usize,
-    /// Whether a further one does.
-    is_doubled: bool,
-    /// The operation that returned first, if one did, and where.
+    /// How many updates leave it that haven't failed, and the sum of their places: where there is one, its place.
+    count: usize,
+    sum: usize,
+    /// How many of these are open, and where the last one returned.
+    open: usize,
+    end: usize,
+    /// Of the operations behind which the register holds it the one that returned first, if one did, and where.
     early: Option<(usize, usize)>,
-    /// The last of the operations that returned and the update.
+    /// Of those that returned the one that was invoked last.
     late: usize,
+    /// Of the operations that returned and needed it the one that was invoked last.
+    need: Option<usize>,
+}
+
+/// A value of which nothing is known.
+const NOTHING: Zone = Zone {
+    count: 0,
+    sum: 0,
+    open: 0,
+    end: 0,
+    early: None,
+    late: 0,
+    need: None,
+};
+
+/// What is known of all values.
+#[derive(Drop)]
+struct Zones {
+    nil: Zone,
+    items: HashMap<Item, Zone>,
+}
+
+/// Of operations that returned the one that was invoked last, and the last one behind which the register held something else, each with what it
+/// held.
+#[derive(Clone, Copy)]
+struct Seen {
+    last: Option<(usize, Val)>,
+    other: Option<(usize, Val)>,
 }
 
 /// What a search has at hand.
 #[derive(Drop)]
 struct Search {
-    zones: HashMap<Item, Zone>,
+    zones: Zones,
     /// Values behind which operations returned, and where the last of these did, the latest last.
     recent: Vec<(Item, usize)>,
-    /// The operation that was the first to return of those behind which the register does not hold nil, where it did, and the value.
-    first: Option<(usize, usize, Val)>,
-    /// Whether an update leaves nil.
-    is_nil_left: bool,
+    seen: Seen,
+    /// The same at each event.
+    before: Vec<Seen>,
     steps: usize,
+}
+
+impl Zones {
+    fn new(alloc: Global) -> Zones {
+        Zones {
+            nil: NOTHING,
+            items: HashMap::new(alloc),
+        }
+    }
+
+    fn get(&self, value: Val) -> Zone {
+        match value {
+            Val::Nil => self.nil,
+            Val::Item(item) => self.items.get(&item).copied().unwrap_or(NOTHING),
+        }
+    }
+
+    fn put(&mut self, value: Val, zone: Zone) -> Result<(), OutOfMemory> {
+        match value {
+            Val::Nil => self.nil = zone,
+            Val::Item(item) => {
+                self.items.insert(item, zone)?;
+            }
+        }
+        Ok(())
+    }
+}
+
+impl Zone {
+    /// An update was invoked that leaves the value.
+    fn invoked(self, update: usize) -> Zone {
+        Zone {
+            count: self.count.saturating_add(1),
+            sum: self.sum.saturating_add(update),
+            open: self.open.saturating_add(1),
+            ..self
+        }
+    }
+
+    /// It failed.
+    fn failed(self, update: usize) -> Zone {
+        Zone {
+            count: self.count.saturating_sub(1),
+            sum: self.sum.saturating_sub(update),
+            open: self.open.saturating_sub(1),
+            ..self
+        }
+    }
+
+    /// It returned.
+    fn ended(self, at: usize) -> Zone {
+        Zone {
+            open: self.open.saturating_sub(1),
+            end: at,
+            ..self
+        }
+    }
+
+    /// An operation returned behind which the register held the value.
+    fn held(self, operation: usize, at: usize) -> Zone {
+        Zone {
+            early: Some(self.early.unwrap_or((operation, at))),
+            late: self.late.max(operation),
+            ..self
+        }
+    }
+
+    /// An operation returned that needed the value.
+    fn needed(self, operation: usize) -> Zone {
+        Zone {
+            need: Some(self.need.unwrap_or(operation).max(operation)),
+            ..self
+        }
+    }
+
+    /// The operations of a value that one update leaves.
+    fn block(self, item: Item) -> Option<Block> {
+        if self.count != 1 {
+            return None;
+        }
+        let (early, _) = self.early?;
+        Some(Block {
+            value: Val::Item(item),
+            update: self.sum,
+            early,
+            late: self.late.max(self.sum),
+        })
+    }
+
+    /// Whether each of the zones begins before the other ends.
+    fn crosses(self, other: Zone) -> bool {
+        match (self.early, other.early) {
+            (Some((_, end)), Some((_, other_end))) => {
+                end < other.late.max(other.sum) && other_end < self.late.max(self.sum)
+            }
+            _ => false,
+        }
+    }
+}
+
+impl Seen {
+    /// An operation returned behind which the register held the value.
+    fn with(self, operation: usize, held: Val) -> Seen {
+        match self.last {
+            Some((last, value)) if value == held => Seen {
+                last: Some((last.max(operation), held)),
+                ..self
+            },
+            Some((last, _)) if last < operation => Seen {
+                last: Some((operation, held)),
+                other: self.last,
+            },
+            Some(_) => Seen {
+                other: Some(later(self.other, operation, held)),
+                ..self
+            },
+            None => Seen {
+                last: Some((operation, held)),
+                ..self
+            },
+        }
+    }
+
+    /// The last operation behind which the register held something other than the value.
+    fn but(self, value: Val) -> Option<(usize, Val)> {
+        match self.last {
+            Some((_, held)) if held == value => self.other,
+            last => last,
+        }
+    }
+}
+
+/// The later one of the operations, with what the register held behind it.
+fn later(seen: Option<(usize, Val)>, operation: usize, held: Val) -> (usize, Val) {
+    match seen {
+        Some((last, value)) if operation < last => (last, value),
+        _ => (operation, held),
+    }
 }
 
 impl Search {
     fn new(alloc: Global) -> Search {
         Search {
-            zones: HashMap::new(alloc),
+            zones: Zones::new(alloc),
             recent: Vec::new(alloc),
-            first: None,
-            is_nil_left: false,
+            seen: Seen {
+                last: None,
+                other: None,
+            },
+            before: Vec::new(alloc),
             steps: 0,
         }
     }
 
     /// An update was invoked that leaves the value.
     fn invoked(&mut self, update: usize, value: Val) -> Result<(), OutOfMemory> {
-        let Val::Item(item) = value else {
-            self.is_nil_left = true;
-            return Ok(());
-        };
-        let zone = match self.zones.get(&item) {
-            Some(zone) => Zone {
-                is_doubled: true,
-                ..*zone
-            },
-            None => Zone {
-                update,
-                is_doubled: false,
-                early: None,
-                late: update,
-            },
-        };
-        self.zones.insert(item, zone)?;
-        Ok(())
+        let zone = self.zones.get(value).invoked(update);
+        self.zones.put(value, zone)
     }
 
-    /// An operation returned, behind which the register held the value.
+    /// It failed.
+    fn failed(&mut self, update: usize, value: Val) -> Result<Option<Conflict>, OutOfMemory> {
+        let zone = self.zones.get(value).failed(update);
+        self.zones.put(value, zone)?;
+        let conflict = self.overwriting(value).or(unwritten(zone, value));
+        Ok(conflict.or(self.crossing(value)))
+    }
+
+    /// An operation returned.
     fn returned(
         &mut self,
         operation: usize,
-        value: Val,
+        act: Act,
         at: usize,
     ) -> Result<Option<Conflict>, OutOfMemory> {
-        let Val::Item(item) = value else {
-            return Ok(self.found_nil(operation));
+        self.note(operation, act, at)?;
+        let held = act.held();
+        let conflict = match act.found() {
+            Some(value) => self.overwriting(value),
+            None => None,
         };
-        if self.first.is_none() {
-            self.first = Some((operation, at, value));
-        }
-        let Some(zone) = self.zones.get(&item) else {
-            return Ok(Some(Conflict::Unwritten { operation, value }));
-        };
-        let zone = Zone {
-            early: Some(zone.early.unwrap_or((operation, at))),
-            late: zone.late.max(operation),
-            ..*zone
-        };
-        self.zones.insert(item, zone)?;
-        self.note(item, at)?;
-        Ok(self.crossing(item, zone))
+        let conflict = conflict.or(unwritten(self.zones.get(held), held));
+        Ok(conflict.or(self.crossing(held)))
     }
 
-    /// An operation returned that found nil.
-    fn found_nil(&self, operation: usize) -> Option<Conflict> {
-        let (other, end, value) = self.first?;
-        if self.is_nil_left || end >= operation {
-            return None;
+    /// Notes that an operation returned.
+    fn note(&mut self, operation: usize, act: Act, at: usize) -> Result<(), OutOfMemory> {
+        if let Some(value) = act.left() {
+            let zone = self.zones.get(value).ended(at);
+            self.zones.put(value, zone)?;
         }
-        Some(Conflict::Late {
-            operation,
-            other,
-            value,
-        })
+        if let Some(value) = act.found() {
+            let zone = self.zones.get(value).needed(operation);
+            self.zones.put(value, zone)?;
+        }
+        let held = act.held();
+        let zone = self.zones.get(held).held(operation, at);
+        self.zones.put(held, zone)?;
+        self.seen = self.seen.with(operation, held);
+        self.note_recent(held, at)
     }
 
     /// Notes that an operation returned behind which the register held the value.
-    fn note(&mut self, item: Item, at: usize) -> Result<(), OutOfMemory> {
+    fn note_recent(&mut self, value: Val, at: usize) -> Result<(), OutOfMemory> {
+        let Val::Item(item) = value else {
+            return Ok(());
+        };
         if let Some(last) = self.recent.last_mut()
             && last.0 == item
         {
@@ -122,55 +282,89 @@ impl Search {
         Ok(())
     }
 
+    /// What the last operation that needed the value can't have found any more.
+    fn overwriting(&self, value: Val) -> Option<Conflict> {
+        let zone = self.zones.get(value);
+        let operation = zone.need?;
+        if zone.open > 0 {
+            return None;
+        }
+        let (over, held) = self.before.get(operation)?.but(value)?;
+        if zone.count > 0 && zone.end >= over {
+            return None;
+        }
+        Some(Conflict::Overwritten {
+            operation,
+            value,
+            over,
+            held,
+        })
+    }
+
     /// A value whose operations conflict with those of this one.
-    fn crossing(&mut self, item: Item, zone: Zone) -> Option<Conflict> {
-        let block = block_of(item, zone)?;
+    fn crossing(&mut self, value: Val) -> Option<Conflict> {
+        let Val::Item(item) = value else {
+            return None;
+        };
+        let zone = self.zones.get(value);
+        let block = zone.block(item)?;
         let (_, end) = zone.early?;
         for (other, at) in self.recent.iter().rev() {
             self.steps = self.steps.saturating_add(1);
             if *at < end {
                 return None;
             }
-            if let Some(found) = self.zones.get(other)
+            if let Some(found) = self.zones.items.get(other)
                 && *other != item
-                && are_crossed(zone, *found)
+                && zone.crosses(*found)
+                && let Some(crossed) = found.block(*other)
             {
-                return Some(Conflict::Crossed(block, block_of(*other, *found)?));
+                return Some(Conflict::Crossed(block, crossed));
             }
         }
         None
     }
 }
 
-/// The operations of a value that one update leaves.
-fn block_of(item: Item, zone: Zone) -> Option<Block> {
-    if zone.is_doubled {
-        return None;
-    }
-    let (early, _) = zone.early?;
-    Some(Block {
-        value: Val::Item(item),
-        update: zone.update,
-        early,
-        late: zone.late,
-    })
-}
-
-/// Whether each of the zones begins before the other ends.
-fn are_crossed(zone: Zone, other: Zone) -> bool {
-    match (zone.early, other.early) {
-        (Some((_, end)), Some((_, other_end))) => {
-            !other.is_doubled && end < other.late && other_end < zone.late
-        }
-        _ => false,
+/// An operation that found the value, if no update leaves it.
+fn unwritten(zone: Zone, value: Val) -> Option<Conflict> {
+    let (operation, _) = zone.early?;
+    match value {
+        Val::Item(_) if zone.count == 0 => Some(Conflict::Unwritten { operation, value }),
+        _ => None,
     }
 }
 
-/// The value that the register holds behind the operation.
-fn held(act: Act) -> Val {
-    match act {
-        Act::Read(value) | Act::Write(value) | Act::Cas(_, value) => value,
+/// What the operation that was invoked there leaves.
+fn left_at(events: &[Event], at: usize) -> Option<Val> {
+    match &events.get(at)?.body {
+        Body::Invoke(call) => act_of(call)?.left(),
+        _ => None,
     }
+}
+
+/// Operations that conflict at the event, and didn't before.
+fn found_at(
+    search: &mut Search,
+    events: &[Event],
+    acts: &Acts,
+    at: usize,
+) -> Result<Option<Conflict>, OutOfMemory> {
+    search.before.push(search.seen)?;
+    if let Some(value) = left_at(events, at) {
+        search.invoked(at, value)?;
+    }
+    if let Some(update) = acts.failure(at)
+        && let Some(value) = left_at(events, update)
+    {
+        return search.failed(update, value);
+    }
+    if let Some(operation) = acts.begin(at)
+        && let Some(act) = acts.act(operation)
+    {
+        return search.returned(operation, act, at);
+    }
+    Ok(None)
 }
 
 /// Operations that conflict, in the shortest beginning that has such ones, and the place of its last event.
@@ -178,17 +372,11 @@ pub fn register_failure(
     alloc: Global,
     events: &[Event],
 ) -> Result<Option<(usize, Conflict)>, OutOfMemory> {
-    let acts = Acts::of(alloc, events)?;
+    let acts = Acts::behind(alloc, &[], events)?;
     let most = acts.len().saturating_mul(STEPS).saturating_add(FREE);
     let mut search = Search::new(alloc);
     for at in 0..acts.len() {
-        if let Some(value) = acts.act(at).and_then(Act::left) {
-            search.invoked(at, value)?;
-        }
-        if let Some(operation) = acts.begin(at)
-            && let Some(act) = acts.act(operation)
-            && let Some(conflict) = search.returned(operation, held(act), at)?
-        {
+        if let Some(conflict) = found_at(&mut search, events, &acts, at)? {
             return Ok(Some((at, conflict)));
         }
         if search.steps > most {

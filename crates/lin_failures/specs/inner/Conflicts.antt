@@ -7,7 +7,7 @@ use Rattle.lin_events.specs.declared.calls.Reply.TheVariants as Replied
 use Rattle.lin_events.specs.declared.calls.Val.{Val}
 use Rattle.lin_events.specs.declared.calls.Val.TheVariants.{Nil}
 use Rattle.lin_events.specs.declared.events.Event.{Event}
-use Rattle.lin_events.specs.Operations.{IsOk}
+use Rattle.lin_events.specs.Operations.{IsFailed, IsOk}
 use Rattle.lin_orders.specs.Orders.{IsCall}
 use Rattle.lin_failures.specs.Conflicts.{Leaves}
 
@@ -18,13 +18,13 @@ Holds (Write v) reply w = v ≡ w
 Holds (Cas from to) reply w = to ≡ w
 Holds _ _ w = ⊥
 
--- no operation leaves the value
+-- all operations that leave the value failed
 abbrev pub IsNeverLeft : List Event → Val → Type 0
-IsNeverLeft h v = (at : ℕ) (call : Call) → IsCall h at call → Leaves call v → ⊥
+IsNeverLeft h v = (at : ℕ) (call : Call) → IsCall h at call → Leaves call v → IsFailed h at
 
--- at most this operation leaves the value
+-- all failed, but for this operation
 abbrev pub IsLeftBy : List Event → ℕ → Val → Type 0
-IsLeftBy h update v = (at : ℕ) (call : Call) → IsCall h at call → Leaves call v → at ≡ update
+IsLeftBy h update v = (at : ℕ) (call : Call) → IsCall h at call → Leaves call v → (at ≡ update) ⊎ IsFailed h at
 
 -- the operation is known to be ok at `end`, and the register holds the value behind it
 abbrev pub IsShown : List Event → ℕ → Val → ℕ → Type 0

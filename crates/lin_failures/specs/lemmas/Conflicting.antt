@@ -1,7 +1,7 @@
 -- Registers have no legal order of operations that conflict.
-use Rattle.std.proofs.Common.{◌≡◌, ◌≢◌, None, Some, ◌<◌, ◌+◌, ℕ, zero, suc, List, [], ◌∷◌, ◌++◌, AllPairs, Contains, length, get_or, inl, inr, refl, sym, ap, subst, ◌∙◌, arith, length-append, append_assoc}
+use Rattle.std.proofs.Common.{◌≡◌, ◌≢◌, ◌⊎◌, None, Some, ◌<◌, ◌+◌, ℕ, zero, suc, List, [], ◌∷◌, ◌++◌, AllPairs, Contains, length, get_or, inl, inr, refl, sym, ap, subst, ◌∙◌, arith, length-append, append_assoc}
 use Rattle.std.proofs.lemmas.List.{get_or_append_left, get_or-append-add}
-use Rattle.std.proofs.lemmas.List.Elements.{Contains-append_cases, Contains-append_right}
+use Rattle.std.proofs.lemmas.List.Elements.{All-contains, Contains-append_cases, Contains-append_left, Contains-append_right}
 use Rattle.lin_events.specs.declared.items.Item.{Item}
 use Rattle.lin_events.specs.declared.calls.Call.{Call}
 use Rattle.lin_events.specs.declared.calls.Call.TheVariants.{Read, Write, Cas}
@@ -10,6 +10,7 @@ use Rattle.lin_events.specs.declared.calls.Reply.TheVariants as Replied
 use Rattle.lin_events.specs.declared.calls.Val.{Val}
 use Rattle.lin_events.specs.declared.calls.Val.TheVariants.{Nil, Item as Held}
 use Rattle.lin_events.specs.declared.events.Event.{Event}
+use Rattle.lin_events.specs.Operations.{IsFailed}
 use Rattle.lin_objects.specs.declared.kinds.Kind.{Kind}
 use Rattle.lin_objects.specs.declared.kinds.Kind.TheVariants.{Register, CasRegister}
 use Rattle.lin_objects.specs.declared.states.State.{State}
@@ -153,6 +154,19 @@ module _ (kind : Kind) (is_register : IsRegister kind) (h : List Event) where
     begins_off CasRegister is v some e = some (sym (value_is Nil v e))
     begins_off kind is v some e = absurd is
 
+    not_failed : (p : Placed) → Contains order p → IsFailed h p.at → ⊥
+    not_failed p there = All-contains (λ (x : Placed). IsFailed h x.at → ⊥) order p legal.order_of.none_failed there
+
+    -- none that stands there leaves the value, or one alone
+    none_leaves : (v : Val) → IsNeverLeft h v → (p : Placed) (call : Call) → Contains order p → IsCall h p.at call → Leaves call v → ⊥
+    none_leaves v never p call there is leaves = not_failed p there (never p.at call is leaves)
+
+    one_leaves : (update : ℕ) (v : Val) → IsLeftBy h update v → (p : Placed) (call : Call) → Contains order p → IsCall h p.at call → Leaves call v → p.at ≡ update
+    one_leaves update v only p call there is leaves = elim (only p.at call is leaves) [
+      | inl same ↦ same
+      | inr failed ↦ absurd (not_failed p there failed)
+    ]
+
     -- so the operation that leaves the value stands there too
     left_in : (v : Val) (at : ℕ) → (v ≡ Nil → ⊥) → HeldIn order v at → ((p : Placed) (call : Call) → Contains order p → IsCall h p.at call → Leaves call v → ⊥) → ⊥
     left_in v at some held none =
@@ -160,7 +174,7 @@ module _ (kind : Kind) (is_register : IsRegister kind) (h : List Event) where
 
     -- nothing can be held that is not left
     pub unwritten : (v : Val) (at end : ℕ) → (v ≡ Nil → ⊥) → IsNeverLeft h v → IsShown h at v end → ⊥
-    unwritten v at end some never shown = left_in v at some (ok_held v at end shown) (λ p call there is left. never p.at call is left)
+    unwritten v at end some never shown = left_in v at some (ok_held v at end shown) (none_leaves v never)
 
     -- round an operation behind which the register holds one value, and not the other
     module _ (u v : Val) (differ : u ≡ v → ⊥) (before after : List Placed) (q : Placed) (call : Call) (split : order ≡ before ++ q ∷ after) (is : IsCall h q.at call) (held : Holds call q.reply v) where
@@ -173,11 +187,17 @@ module _ (kind : Kind) (is_register : IsRegister kind) (h : List Event) where
       real_time : AllPairs (λ x y. IsBefore h y.at x.at → ⊥) (before ++ q ∷ after)
       real_time = subst (AllPairs (λ x y. IsBefore h y.at x.at → ⊥)) split legal.order_of.real_time
 
+      from_before : (p : Placed) → Contains before p → Contains order p
+      from_before p there = subst (λ l. Contains l p) (sym split) (Contains-append_left before (q ∷ after) p there)
+
+      from_after : (p : Placed) → Contains after p → Contains order p
+      from_after p there = subst (λ l. Contains l p) (sym split) (Contains-append_right before (q ∷ after) p (Contains-append_right (q ∷ []) after p there))
+
       -- before the only operation that leaves it, the value isn't held
       not_before : (v ≡ Nil → ⊥) → IsLeftBy h q.at v → (p : Placed) (c : Call) → Contains before p → IsCall h p.at c → Holds c p.reply v → ⊥
       not_before some only =
           never_held (start kind) run.0 v before run.1 (begins_off kind is_register v some)
-          (λ p c there at_p leaves. across (λ x y. x.at ≢ y.at) before (q ∷ after) p q once there (0, omega arith, refl) (only p.at c at_p leaves))
+          (λ p c there at_p leaves. across (λ x y. x.at ≢ y.at) before (q ∷ after) p q once there (0, omega arith, refl) (one_leaves q.at v only p c (from_before p there) at_p leaves))
 
       -- the other value isn't held behind it, where none leaves it there
       not_after : ((p : Placed) (c : Call) → Contains after p → IsCall h p.at c → Leaves c u → ⊥) → (p : Placed) (c : Call) → Contains (q ∷ after) p → IsCall h p.at c → Holds c p.reply u → ⊥
@@ -211,7 +231,7 @@ module _ (kind : Kind) (is_register : IsRegister kind) (h : List Event) where
       ordered some only p in_before only_u early late held_v held_u in_time =
           let none : (r : Placed) (c : Call) → Contains after r → IsCall h r.at c → Leaves c u → ⊥ =
           λ r c in_after at_r leaves.
-          across (λ x y. x.at ≢ y.at) before (q ∷ after) p r once in_before (Contains-append_right (q ∷ []) after r in_after) (sym (only_u r.at c at_r leaves)) in
+          across (λ x y. x.at ≢ y.at) before (q ∷ after) p r once in_before (Contains-append_right (q ∷ []) after r in_after) (sym (one_leaves p.at u only_u r c (from_after r in_after) at_r leaves)) in
           elim (Contains-append_cases before (q ∷ after) held_v.0 (subst (λ l. Contains l held_v.0) split held_v.2)) [
             | inl wrong ↦ not_before some only held_v.0 held_v.1 wrong held_v.3 held_v.4
             | inr behind ↦ too_late none early late held_v.0 behind held_v.5 held_u in_time
@@ -222,21 +242,22 @@ module _ (kind : Kind) (is_register : IsRegister kind) (h : List Event) where
     nil_late v at until other end some never nil shown late =
         let q = ok_held v other end shown in
         let parts = parted order q.0 q.2 in
-        too_late Nil v (λ e. some (sym e)) parts.0 parts.1 q.0 q.1 parts.2 q.3 q.4 (λ p c there at_p leaves. never p.at c at_p leaves) other at q.0 (0, omega arith, refl) q.5
+        too_late Nil v (λ e. some (sym e)) parts.0 parts.1 q.0 q.1 parts.2 q.3 q.4
+        (λ p c there at_p leaves. none_leaves Nil never p c (from_after Nil v (λ e. some (sym e)) parts.0 parts.1 q.0 q.1 parts.2 q.3 q.4 p there) at_p leaves) other at q.0 (0, omega arith, refl) q.5
         (ok_held Nil at until nil) (end, shown.1, shown.3, late)
 
     late_held : (v : Val) (update early end late : ℕ) → IsBlock h v update early end late → (p : Placed) (c : Call) → Contains order p → IsCall h p.at c → Leaves c v → HeldIn order v late
     late_held v update early end late block p c there at_p leaves = elim block.late_one [
       | inl shown ↦ ok_held v late shown.0 shown.1
-      | inr same ↦ (p, c, there, at_p, left_held c p.reply v leaves, block.only p.at c at_p leaves ∙ sym same)
+      | inr same ↦ (p, c, there, at_p, left_held c p.reply v leaves, one_leaves update v block.only p c there at_p leaves ∙ sym same)
     ]
 
     -- each of two blocks can't come before the other
     pub crossed : (u v : Val) (u_at u_early u_end u_late v_at v_early v_end v_late : ℕ) → (u ≡ v → ⊥) → IsBlock h u u_at u_early u_end u_late → IsBlock h v v_at v_early v_end v_late → u_end < v_late → v_end < u_late → ⊥
     crossed u v u_at u_early u_end u_late v_at v_early v_end v_late differ first second before_v before_u =
         left_in u u_early first.some held_u (λ p c in_p at_p leaves_u. left_in v v_early second.some held_v (λ q d in_q at_q leaves_v.
-        let is_u : p.at ≡ u_at = first.only p.at c at_p leaves_u in
-        let is_v : q.at ≡ v_at = second.only q.at d at_q leaves_v in
+        let is_u : p.at ≡ u_at = one_leaves u_at u first.only p c in_p at_p leaves_u in
+        let is_v : q.at ≡ v_at = one_leaves v_at v second.only q d in_q at_q leaves_v in
         let only_u : IsLeftBy h p.at u = subst (λ x. IsLeftBy h x u) (sym is_u) first.only in
         let only_v : IsLeftBy h q.at v = subst (λ x. IsLeftBy h x v) (sym is_v) second.only in
         let late_u = late_held u u_at u_early u_end u_late first p c in_p at_p leaves_u in
@@ -271,14 +292,20 @@ no_nil v n is none = let both = sym is ∙ none in apart both
     apart : Held n ≡ Nil → ⊥
     apart e = cc
 
-pub never_left : (h : List Event) (v : Val) → ((at : ℕ) (call : Call) → IsCall h at call → Leaves call v → None ≡ Some at) → IsNeverLeft h v
-never_left h v each at call is left = apart (each at call is left)
+pub never_left : (h : List Event) (v : Val) → ((at : ℕ) (call : Call) → IsCall h at call → Leaves call v → (None ≡ Some at) ⊎ IsFailed h at) → IsNeverLeft h v
+never_left h v each at call is left = elim (each at call is left) [
+  | inl wrong ↦ absurd (apart wrong)
+  | inr failed ↦ failed
+]
   where
     apart : None ≡ Some at → ⊥
     apart e = cc
 
-pub only_left : (h : List Event) (update : ℕ) (v : Val) → ((at : ℕ) (call : Call) → IsCall h at call → Leaves call v → Some update ≡ Some at) → IsLeftBy h update v
-only_left h update v each at call is left = same (each at call is left)
+pub only_left : (h : List Event) (update : ℕ) (v : Val) → ((at : ℕ) (call : Call) → IsCall h at call → Leaves call v → (Some update ≡ Some at) ⊎ IsFailed h at) → IsLeftBy h update v
+only_left h update v each at call is left = elim (each at call is left) [
+  | inl one ↦ inl (same one)
+  | inr failed ↦ inr failed
+]
   where
     same : Some update ≡ Some at → at ≡ update
     same e = cc
