@@ -1,7 +1,6 @@
 pub mod Passing
 pub mod Numbers
 pub mod Outcomes
-pub mod Standing
 pub mod RegisterLaws
 pub mod SetLaws
 pub mod QueueLaws

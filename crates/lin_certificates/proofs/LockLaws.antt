@@ -17,7 +17,7 @@ use Rattle.lin_certificates.specs.Words.{IsOfCalls, Returned}
 use Rattle.lin_certificates.specs.declared.words.Calls.{Calls}
 use Rattle.lin_certificates.specs.declared.words.Calls.TheVariants.{Acquires, Releases}
 use Rattle.lin_certificates.specs.Certificates.{CanCall, DidCall, IsCounted, IsTwice, IsTwiceIn}
-use Rattle.lin_certificates.proofs.Standing.{At, not_failed, ok_there, place_of, stands_ahead}
+use Rattle.lin_failures.specs.lemmas.Standing.{At, not_failed, ok_there, place_of, stands_ahead}
 use Rattle.lin_certificates.proofs.Numbers.{at_least, at_most}
 
 -- the lock is held or free, and a step turns that round

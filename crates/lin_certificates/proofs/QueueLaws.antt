@@ -31,7 +31,7 @@ use Rattle.lin_certificates.specs.Words.{Exactly, Returned, StaysOpen}
 use Rattle.lin_certificates.specs.Certificates.{CanAdd, IsInside, IsPassed, IsTaken, Stays, TookOut}
 use Rattle.lin_certificates.proofs.Numbers.{the_one}
 use Rattle.lin_certificates.proofs.Outcomes.{not_added, outcome}
-use Rattle.lin_certificates.proofs.Standing.{At, at_here, at_left, at_within, left_at, not_failed, ok_there, one_place, place_of, reply_there, stands_ahead, stands_in}
+use Rattle.lin_failures.specs.lemmas.Standing.{At, at_here, at_left, at_within, left_at, not_failed, ok_there, one_place, place_of, reply_there, stands_ahead, stands_in}
 
 -- how many of the items wait in the queue
 abbrev waiting : State → List Item → ℕ

@@ -24,7 +24,7 @@ use Rattle.lin_certificates.specs.Words.{Gives, Needs, Returned, Updates}
 use Rattle.lin_certificates.specs.Certificates.{AreCrossed, CanLeave, HasSource, IsLeftOnce, IsOverwritten, IsUnwritten, Overwrites, Touched, Touches}
 use Rattle.lin_certificates.specs.declared.words.Sort.TheVariants as Sorted
 use Rattle.lin_certificates.proofs.Numbers.{the_one}
-use Rattle.lin_certificates.proofs.Standing.{At, not_failed, ok_there, one_place, one_there, stands_ahead, step_there}
+use Rattle.lin_failures.specs.lemmas.Standing.{At, not_failed, ok_there, one_place, one_there, stands_ahead, step_there}
 
 same_value : (x y : Val) → Replied.Value x ≡ Replied.Value y → x ≡ y
 same_value x y e = cc

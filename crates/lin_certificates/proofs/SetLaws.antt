@@ -20,7 +20,7 @@ use Rattle.lin_certificates.specs.Words.{Gives, Returned}
 use Rattle.lin_certificates.specs.Certificates.{AreSplit, Had, IsLate, IsLost, IsUnadded, Told}
 use Rattle.lin_certificates.specs.declared.words.Sort.TheVariants as Sorted
 use Rattle.lin_certificates.proofs.Outcomes.{not_added}
-use Rattle.lin_certificates.proofs.Standing.{ok_there, step_there}
+use Rattle.lin_failures.specs.lemmas.Standing.{ok_there, step_there}
 
 module _ (h : List Event) (order : List Placed) (legal : IsLegalOrderAs Set h order) where
   had_at : (n : Item) (at : ℕ) (is : Had h n at) → HadAt h at n is.1

@@ -1,6 +1,6 @@
 //! Histories of one object, a line each, and the lines that tell why they have no legal order.
 use crate::{Told, put_reason};
-use lin_certificates::find_certificate;
+use lin_candidates::find_certificate;
 use lin_events::{Body, Call, Event, IntSet, Item, Name, Reply, Val};
 use lin_names::Names;
 use lin_objects::Kind;

@@ -14,6 +14,13 @@ module _ (P : ℕ → Type 0) where
     | inr later ↦ let same : at ≡ place = omega (arith, later, below) in not_here (subst P same is)
   ]
 
+  -- none of those from a place on
+  pub none_fewer : (place : ℕ) → ((at : ℕ) → place + 1 ≤ at → P at → ⊥) → (P place → ⊥) → (at : ℕ) → place ≤ at → P at → ⊥
+  none_fewer place so_far not_here at past is = elim (cases_lt place at) [
+    | inl behind ↦ so_far at (omega (arith, behind)) is
+    | inr here ↦ let same : at ≡ place = omega (arith, here, past) in not_here (subst P same is)
+  ]
+
   -- the last of those below a place
   abbrev pub LastBelow : ℕ → Option ℕ → Type 0
   LastBelow place last = MatchOption last ((at : ℕ) → at < place → P at → ⊥) (λ found. P found × ((at : ℕ) → at < place → P at → at ≤ found))

@@ -138,13 +138,13 @@ fn is_failing(events: &[Event], ends: &[Option<usize>], at: usize) -> bool
     }
 }
 
-/// The operation whose ok or fail is the last event, if that is an ok or a fail.
+/// The operation whose ok or fail is the last event, if that is an ok or a fail. It's looked for from the end: most operations are short.
 pub fn failing_operation(events: &[Event], ends: &[Option<usize>]) -> Option<usize>
     requires { IsNextTable events.now ends.now }
     ensures failing { MatchOption result ((at : ℕ) → IsFailing events.now at → ⊥) (λ at. IsFailing events.now at) }
     ensures begins { IfSome result (λ at. IsInvoked events.now at) }
 {
-    for at in 0..events.len() {
+    for at in (0..events.len()).rev() {
         if is_failing(events, ends, at) {
             return Some(at);
         }

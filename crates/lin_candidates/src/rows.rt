@@ -1,5 +1,6 @@
 //! Histories of one object, and the certificates that are found of them.
-use crate::{Certificate, certifies, find_certificate};
+use crate::find_certificate;
+use lin_certificates::{Certificate, certifies};
 use lin_events::{Body, Call, Event, IntSet, Item, Name, Reply, Val};
 use lin_objects::Kind;
 use std::process::Abort;
@@ -188,6 +189,51 @@ fn values_in_turn(rt: HostRuntime) {
     finds(&rt, Kind::Register, &again, 8, None);
 }
 
+/// Of those that touch the item late the first invoked is named, of those early the last to return.
+#[test]
+fn first_and_last_of_a_value(rt: HostRuntime) {
+    let seen = [
+        (9, write(2)),
+        (0, write(1)),
+        (0, Step::IsDone),
+        (0, READ),
+        (0, gets(2)),
+        (0, READ),
+        (0, gets(2)),
+        (0, READ),
+        (0, gets(1)),
+    ];
+    let crossed = Certificate::Crossed {
+        value: value(1),
+        item: Item::Int(2),
+        early: 5,
+        late: 7,
+        back: Some((1, 3)),
+    };
+    finds(&rt, Kind::Register, &seen, 7, Some(crossed));
+}
+
+#[test]
+fn open_write_that_was_read(rt: HostRuntime) {
+    let seen = [
+        (1, write(1)),
+        (0, READ),
+        (1, Step::IsDone),
+        (2, write(3)),
+        (0, gets(3)),
+        (1, READ),
+        (1, gets(1)),
+    ];
+    let crossed = Certificate::Crossed {
+        value: value(1),
+        item: Item::Int(3),
+        early: 1,
+        late: 5,
+        back: Some((0, 3)),
+    };
+    finds(&rt, Kind::CasRegister, &seen, 5, Some(crossed));
+}
+
 #[test]
 fn truth_values_are_no_integers(rt: HostRuntime) {
     let truth = Item::Bool(true);
@@ -228,6 +274,54 @@ fn queues(rt: HostRuntime) {
     };
     finds(&rt, Kind::Fifo, &passed, 4, Some(certificate));
     finds(&rt, Kind::Bag, &passed, 4, None);
+}
+
+/// What the failing dequeue took was passed before, and no open dequeue can have taken it.
+#[test]
+fn passed_by_what_another_dequeue_took(rt: HostRuntime) {
+    let passed = [
+        (0, enqueue(1)),
+        (0, Step::IsDone),
+        (0, enqueue(2)),
+        (0, Step::IsDone),
+        (1, DEQUEUE),
+        (0, DEQUEUE),
+        (0, gets(2)),
+        (2, DEQUEUE),
+        (2, gets(1)),
+    ];
+    let certificate = Certificate::Passed {
+        enqueue: 0,
+        later: 2,
+        dequeue: 5,
+        item: Item::Int(1),
+        other: Item::Int(2),
+    };
+    finds(&rt, Kind::Fifo, &passed, 7, Some(certificate));
+}
+
+/// The dequeue that took 2 was invoked before 2 was put in.
+#[test]
+fn taken_by_a_dequeue_that_waited(rt: HostRuntime) {
+    let passed = [
+        (1, enqueue(1)),
+        (0, DEQUEUE),
+        (2, enqueue(2)),
+        (1, Step::IsDone),
+        (0, gets(2)),
+        (2, Step::IsDone),
+        (0, DEQUEUE),
+        (1, enqueue(5)),
+        (0, gets(5)),
+    ];
+    let certificate = Certificate::Passed {
+        enqueue: 0,
+        later: 7,
+        dequeue: 6,
+        item: Item::Int(1),
+        other: Item::Int(5),
+    };
+    finds(&rt, Kind::Fifo, &passed, 6, Some(certificate));
 }
 
 #[test]
@@ -343,6 +437,48 @@ fn sets(rt: HostRuntime) {
     );
 }
 
+/// The two reads exclude each other too.
+#[test]
+fn lost_between_reads(rt: HostRuntime) {
+    let lost = [
+        (0, add(1)),
+        (0, Step::IsDone),
+        (0, READ),
+        (0, Step::Reads(&[1])),
+        (0, add(2)),
+        (0, Step::IsDone),
+        (1, READ),
+        (1, Step::Reads(&[2])),
+    ];
+    let certificate = Certificate::Lost {
+        earlier: 2,
+        read: 6,
+        item: Item::Int(1),
+    };
+    finds(&rt, Kind::Set, &lost, 6, Some(certificate));
+}
+
+/// Of two adds behind that of the item the one of the lesser member is named.
+#[test]
+fn late_members(rt: HostRuntime) {
+    let late = [
+        (2, READ),
+        (0, add(1)),
+        (0, Step::IsDone),
+        (1, add(2)),
+        (3, add(3)),
+        (2, Step::Reads(&[2, 3])),
+    ];
+    let certificate = Certificate::Late {
+        earlier: 1,
+        add: 3,
+        read: 0,
+        item: Item::Int(1),
+        other: Item::Int(2),
+    };
+    finds(&rt, Kind::Set, &late, 0, Some(certificate));
+}
+
 #[test]
 fn locks(rt: HostRuntime) {
     let acquire = Step::Calls(Call::Acquire);
@@ -368,4 +504,39 @@ fn locks(rt: HostRuntime) {
         (1, Step::IsDone),
     ];
     finds(&rt, Kind::Mutex, &turns, 3, None);
+}
+
+/// The lines that count name the first three releases that failed.
+#[test]
+fn releases_that_fail(rt: HostRuntime) {
+    let acquire = Step::Calls(Call::Acquire);
+    let release = Step::Calls(Call::Release);
+    let failed = [
+        (0, acquire),
+        (0, Step::IsDone),
+        (0, release),
+        (1, acquire),
+        (1, Step::IsDone),
+        (0, Step::Fails),
+    ];
+    finds(&rt, Kind::Mutex, &failed, 2, Some(Certificate::Counted));
+    let often = [
+        (2, release),
+        (2, Step::Fails),
+        (2, release),
+        (2, Step::Fails),
+        (2, release),
+        (2, Step::Fails),
+        (0, acquire),
+        (0, Step::IsDone),
+        (0, release),
+        (1, acquire),
+        (1, Step::IsDone),
+        (0, Step::Fails),
+    ];
+    let twice = Certificate::Twice {
+        first: 6,
+        second: 9,
+    };
+    finds(&rt, Kind::Mutex, &often, 8, Some(twice));
 }

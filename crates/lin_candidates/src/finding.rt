@@ -3,8 +3,9 @@ ghost use Rattle.std.specs.Prelude.{IfOk, IfSome};
 ghost use Rattle.lin_orders.specs.Tables.{IsNextTable};
 ghost use Rattle.lin_certificates.specs.Certificates.{Certifies};
 
-use crate::candidates::{Operation, candidates, operations_of};
-use crate::certificate::{Certificate, holds};
+use crate::candidates::{FORMS, Form, candidate, candidate_naming};
+use crate::endings::{Operation, operations_of};
+use lin_certificates::{Certificate, holds};
 use lin_events::{Event, OutOfMemory};
 use lin_objects::Kind;
 use lin_orders::ends_of;
@@ -13,41 +14,45 @@ use std::alloc::Global;
 /// How many operations are looked at beside the failing one, the last invoked first.
 const LIMIT: usize = 64;
 
-/// The first of the certificates that holds.
-fn first_that_holds(
+/// The certificate, if there is one and it holds.
+fn tested(
     events: &[Event],
     ends: &[Option<usize>],
     kind: Kind,
-    certificates: &[Certificate],
+    candidate: Option<Certificate>,
 ) -> Option<Certificate>
     requires { IsNextTable events.now ends.now }
     ensures { IfSome result (λ found. Certifies events.now kind found) }
 {
-    for certificate in certificates {
-        if holds(events, ends, kind, certificate) {
-            return Some(*certificate);
-        }
+    match candidate {
+        Some(certificate) if holds(events, ends, kind, &certificate) => Some(certificate),
+        _ => None,
     }
-    None
 }
 
-/// A certificate in which the operation has the chief part.
-fn certificate_of(
+/// A certificate whose lines name the failing operation, of the first form that has one.
+fn certificate_naming(
     alloc: Global,
     events: &[Event],
     ends: &[Option<usize>],
     kind: Kind,
     operations: &[Operation],
-    target: &Operation,
+    failing: &Operation,
 ) -> Result<Option<Certificate>, OutOfMemory>
     requires { IsNextTable events.now ends.now }
     ensures { IfOk result (λ found. IfSome found (λ certificate. Certifies events.now kind certificate)) }
 {
-    let some = candidates(alloc, kind, operations, target)?;
-    Ok(first_that_holds(events, ends, kind, some.as_slice()))
+    for form in FORMS.iter() {
+        let some = candidate_naming(alloc, kind, *form, operations, failing)?;
+        let found = tested(events, ends, kind, some);
+        if found.is_some() {
+            return Ok(found);
+        }
+    }
+    Ok(None)
 }
 
-/// A certificate in which the operation that was invoked at the place has the chief part.
+/// A certificate whose lines name the operation that was invoked at the place.
 fn certificate_at(
     alloc: Global,
     events: &[Event],
@@ -61,13 +66,40 @@ fn certificate_at(
 {
     for operation in operations {
         if operation.at == failing {
-            return certificate_of(alloc, events, ends, kind, operations, operation);
+            return certificate_naming(alloc, events, ends, kind, operations, operation);
         }
     }
     Ok(None)
 }
 
-/// A certificate in which one of the last operations has the chief part.
+/// A certificate of the form, in which one of the last operations has the chief part.
+fn certificate_of(
+    alloc: Global,
+    events: &[Event],
+    ends: &[Option<usize>],
+    kind: Kind,
+    operations: &[Operation],
+    form: Form,
+) -> Result<Option<Certificate>, OutOfMemory>
+    requires { IsNextTable events.now ends.now }
+    ensures { IfOk result (λ found. IfSome found (λ certificate. Certifies events.now kind certificate)) }
+{
+    let mut tried = 0;
+    for operation in operations.iter().rev() {
+        if LIMIT <= tried {
+            break;
+        }
+        let some = candidate(alloc, kind, form, operations, operation)?;
+        let found = tested(events, ends, kind, some);
+        if found.is_some() {
+            return Ok(found);
+        }
+        tried += 1;
+    }
+    Ok(None)
+}
+
+/// A certificate in which one of the last operations has the chief part, of the first form that has one.
 fn certificate_of_last(
     alloc: Global,
     events: &[Event],
@@ -78,23 +110,19 @@ fn certificate_of_last(
     requires { IsNextTable events.now ends.now }
     ensures { IfOk result (λ found. IfSome found (λ certificate. Certifies events.now kind certificate)) }
 {
-    let mut tried = 0;
-    for operation in operations.iter().rev() {
-        if LIMIT <= tried {
-            break;
-        }
-        let found = certificate_of(alloc, events, ends, kind, operations, operation)?;
+    for form in FORMS.iter() {
+        let found = certificate_of(alloc, events, ends, kind, operations, *form)?;
         if found.is_some() {
             return Ok(found);
         }
-        tried += 1;
     }
     Ok(None)
 }
 
 /// A certificate that holds of the events, which are those of one object of the kind, if the search finds one. `failing` is the place where the
-/// failing operation was invoked, the one with whose end no order is legal any more: certificates in which it has the chief part come first,
-/// then those of the operations that were invoked last. `OutOfMemory` is answered only where memory was refused.
+/// failing operation was invoked, the one with whose end no order is legal any more. Of the certificates whose lines name it the first is wanted,
+/// else the first of all: forms in their order, and of a form mostly the operations that were invoked last. `OutOfMemory` is answered only where
+/// memory was refused.
 pub fn find_certificate(
     alloc: Global,
     events: &[Event],

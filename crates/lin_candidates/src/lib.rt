@@ -1,0 +1,11 @@
+//! A search for a certificate: candidates of each form, of which those that hold are answered.
+#![tactic(auto)]
+
+mod candidates;
+mod crossings;
+mod endings;
+mod finding;
+#[cfg(test)]
+mod rows;
+
+pub use finding::find_certificate;
