@@ -1,30 +1,37 @@
 -- Chains that are right, and stay so.
-use Rattle.std.proofs.Common.{Bool, true, false, nat_le, nat_lt, nat_eq, if◌then◌else◌, Option, None, ◌≡◌, ◌≢◌, ◌+◌, ◌*◌, ◌/◌, ◌<◌, ◌≤◌, ℕ, zero, suc, List, [], ◌∷◌, length, ◌⊎◌, Some, inl, inr, refl, sym, ap, ◌∙◌, subst, arith, get_or, slice_get, take, All}
-use Rattle.std.specs.List.{cons_option}
+use Rattle.std.proofs.Common.{Bool, true, false, nat_le, nat_lt, nat_eq, if◌then◌else◌, min, Option, None, ◌≡◌, ◌≢◌, ◌+◌, ◌*◌, ◌/◌, ◌<◌, ◌≤◌, ℕ, List, length, ◌⊎◌, Some, inl, inr, refl, sym, ap, ◌∙◌, subst, arith, take}
 use Rattle.std.proofs.lemmas.Bool.{leb-true}
 use Rattle.std.proofs.lemmas.Bool.Decides.{Decides-eqb, Decides-ltb}
 use Rattle.std.proofs.lemmas.List.{length-take, length-take-le, take_all}
-use Rattle.std.proofs.lemmas.List.Elements.{All-take, All-tail, All-head}
-use Rattle.std.proofs.lemmas.Option.{slice_get_within, slice_get-get_or, slice_get_read}
+use Rattle.std.proofs.lemmas.List.Elements.{All-take}
+use Rattle.std.proofs.lemmas.Option.{slice_get_within}
 use Rattle.lin_events.specs.declared.events.Event.{Event}
 use Rattle.lin_events.specs.declared.meter.Meter.{Meter}
-use Rattle.lin_events.specs.Operations.{IsEvent}
+use Rattle.lin_objects.specs.declared.any.Any.{Any}
 use Rattle.lin_objects.specs.declared.kinds.Kind.{Kind}
+use Rattle.lin_objects.specs.declared.kinds.Kind.TheVariants.{Set}
 use Rattle.lin_objects.specs.Steps.{Step, start}
 use Rattle.lin_orders.specs.Laws.{EmptyIsLegal}
 use Rattle.lin_orders.specs.Configurations.{IsConfiguration, IsOver}
-use Rattle.lin_orders.specs.Parts.{events_at}
 use Rattle.lin_chain.specs.declared.chain.Chain.{Chain}
 use Rattle.lin_chain.specs.declared.chain.End.{End}
 use Rattle.lin_chain.specs.declared.chain.End.TheVariants.{Alive, Dead, Over}
 use Rattle.lin_chain.specs.declared.replay.Replay.{Replay}
 use Rattle.lin_chain.specs.Chains.{IsAnswered, IsFor, IsRight, Stands, kind_in, ready_count, told_in}
-use Rattle.lin_chain.specs.Founds.{IsFound, found_before, told_by, told_or}
+use Rattle.lin_chain.specs.Founds.{IsFound, IsFoundBefore, rest_before, told_by, told_or}
 use Rattle.lin_chain.specs.declared.found.Found.{Found}
-use Rattle.lin_chain.specs.declared.found.Found.TheVariants.{Nothing, Order, Failure}
+use Rattle.lin_chain.specs.declared.found.Found.TheVariants.{Nothing, Order, Going, Failure, Failing, Intervals}
+use Rattle.lin_chain.specs.declared.telling.Telling.{Telling}
 use Rattle.lin_chain.specs.Ends.{IsEndOf, IsFrom, IsOverAt}
+use Rattle.lin_chain.specs.Tellings.{IsTelling, alive_in, told_of}
 use Rattle.lin_orders.specs.Linearizable.{IsDeadAt, IsLegalOrderAs, IsLinearizableAs}
 use Rattle.lin_chain.specs.Replays.{IsReplay}
+use Rattle.lin_witness.specs.declared.witness.Witness.{Witness}
+use Rattle.lin_witness.specs.Witnesses.{IsWitness, order_in}
+use Rattle.lin_witness.specs.lemmas.Legality.{witness_legal}
+use Rattle.lin_sets.specs.Intervals.{AreAll, AreIntervalsOf, IntervalsTell, reached_in}
+use Rattle.lin_sets.specs.declared.intervals.Intervals.{Intervals as SetIntervals}
+use Rattle.lin_chain.proofs.Tellings.{telling_end}
 use Rattle.lin_chain.proofs.Replaying.{SpellsOrders, checkpoint_kept, known_same, pairs_take, replay_linearizable, take_alike}
 
 -- what is known of the first events holds of any events that agree on these
@@ -42,10 +49,10 @@ replay_alike r h edited local below same right = record {
   last = right.last;
 }
 
-longer : (h edited : List Event) (local n : ℕ) → n ≤ local → n ≤ length h → take local h ≡ take local edited → n ≤ length edited
+pub longer : (h edited : List Event) (local n : ℕ) → n ≤ local → n ≤ length h → take local h ≡ take local edited → n ≤ length edited
 longer h edited local n below inside same = let long = ap length same in omega (arith, length-take local h, length-take local edited, long)
 
-dead_alike : (kind : Kind) (h edited : List Event) (local at : ℕ) → at < local → take local h ≡ take local edited → IsDeadAt kind h at → IsDeadAt kind edited at
+pub dead_alike : (kind : Kind) (h edited : List Event) (local at : ℕ) → at < local → take local h ≡ take local edited → IsDeadAt kind h at → IsDeadAt kind edited at
 dead_alike kind h edited local at below same dead = record {
   before = subst (IsLinearizableAs kind) (take_alike at local h edited (omega arith) same) dead.before;
   failing = λ lin. dead.failing (subst (IsLinearizableAs kind) (sym (take_alike (at + 1) local h edited (omega arith) same)) lin);
@@ -57,34 +64,82 @@ over_alike kind budget h edited local at below same over = record {
   over = subst (λ l. IsOver (start kind) (Step kind) l budget) (take_alike (at + 1) local h edited (omega arith) same) over.over;
 }
 
+-- intervals that go back to the place hold of any events that agree on those before it, and so does a dead one before it
+pub telling_cut : (old : Telling) (new : SetIntervals) (failing : Bool) (h edited : List Event) (local : ℕ) → IsTelling old h → take local h ≡ take local edited → (AreIntervalsOf old.intervals h → AreIntervalsOf new h)
+    → reached_in new ≡ min local (alive_in old) → (failing ≡ true → (old.failing ≡ true) × (alive_in old < local)) → IsTelling (record { intervals = new; failing = failing }) edited
+telling_cut old new failing h edited local right same told reached stays =
+    let below : reached_in new ≤ local = omega (arith, reached) in
+    record {
+      within = longer h edited local (reached_in new) below (omega (arith, reached, right.within)) same;
+      told = subst (AreAll new) (take_alike (reached_in new) local h edited below same) (told right.told);
+      dead = λ e.
+          let was = stays e in
+          let dead = right.dead was.0 in
+          let here : alive_in old ≡ reached_in new = omega (arith, reached, was.1) in
+          let all = longer h edited local (alive_in old + 1) (omega (arith, was.1)) (omega (arith, dead.0)) same in
+          (omega (arith, all, here), subst (IsDeadAt Set edited) here (dead_alike Set h edited local (alive_in old) was.1 same dead.1));
+    }
+
 -- what was found of events ahead of the place holds of any events that agree on these
-pub found_alike : (kind : Kind) (h edited : List Event) (local : ℕ) (found : Found) → take local h ≡ take local edited → IsFound kind h found → IsFound kind edited (found_before local found)
-found_alike kind h edited local Nothing same is = tt
-found_alike kind h edited local (Order order of) same is = by (nat_le of local) refl
+pub found_alike : (kind : Kind) (h edited : List Event) (local : ℕ) (found : Found) → take local h ≡ take local edited → ((witness : Witness) → found ≡ Going witness → ⊥) → ((at : ℕ) (witness : Witness) → found ≡ Failing at witness → ⊥)
+    → ((telling : Telling) → found ≡ Intervals telling → ⊥)
+    → IsFound kind h found → IsFound kind edited (rest_before local found)
+found_alike kind h edited local Nothing same other beside others is = tt
+found_alike kind h edited local (Order order of) same other beside others is = by (nat_le of local) refl
   where
-    by : (b : Bool) → nat_le of local ≡ b → IsFound kind edited (found_before local (Order order of))
+    by : (b : Bool) → nat_le of local ≡ b → IsFound kind edited (rest_before local (Order order of))
     by true e =
         let below = leb-true of local e in
         subst (λ b. IsFound kind edited (if b then Order order of else Nothing)) (sym e)
         (longer h edited local of below is.0 same, subst (λ l. IsLegalOrderAs kind l order.items) (take_alike of local h edited below same) is.1)
     by false e = subst (λ b. IsFound kind edited (if b then Order order of else Nothing)) (sym e) tt
-found_alike kind h edited local (Failure at) same is = by (nat_lt at local) refl
+found_alike kind h edited local (Going witness) same other beside others is = absurd (other witness refl)
+found_alike kind h edited local (Failure at) same other beside others is = by (nat_lt at local) refl
   where
-    by : (b : Bool) → nat_lt at local ≡ b → IsFound kind edited (found_before local (Failure at))
+    by : (b : Bool) → nat_lt at local ≡ b → IsFound kind edited (rest_before local (Failure at))
     by true e =
         let below = (Decides-ltb at local).0 e in
         subst (λ b. IsFound kind edited (if b then Failure at else Nothing)) (sym e)
         ((let all = longer h edited local (at + 1) (omega (arith, below)) (omega (arith, is.0)) same in omega (arith, all)), dead_alike kind h edited local at below same is.1)
     by false e = subst (λ b. IsFound kind edited (if b then Failure at else Nothing)) (sym e) tt
+found_alike kind h edited local (Failing at witness) same other beside others is = absurd (beside at witness refl)
+found_alike kind h edited local (Intervals telling) same other beside others is = absurd (others telling refl)
+
+-- what is left of what doesn't go on
+pub before_rest : (local : ℕ) (found new : Found) → ((witness : Witness) → found ≡ Going witness → ⊥) → ((at : ℕ) (witness : Witness) → found ≡ Failing at witness → ⊥) → ((telling : Telling) → found ≡ Intervals telling → ⊥)
+    → new ≡ rest_before local found → IsFoundBefore local found new
+before_rest local Nothing new other beside others is = is
+before_rest local (Order order of) new other beside others is = is
+before_rest local (Going witness) new other beside others is = absurd (other witness refl)
+before_rest local (Failure at) new other beside others is = is
+before_rest local (Failing at witness) new other beside others is = absurd (beside at witness refl)
+before_rest local (Intervals telling) new other beside others is = absurd (others telling refl)
+
+-- a failure ahead of the place stays, beside the order as it was cut
+pub failing_stays : (local at : ℕ) (witness left : Witness) → at < local → (witness.of ≤ local → left ≡ witness) → (local < witness.of → left.of ≤ local) → IsFoundBefore local (Failing at witness) (Failing at left)
+failing_stays local at witness left below same back = (left, subst (λ b. Failing at left ≡ (if b then Failing at left else Going left)) (sym ((Decides-ltb at local).1 below)) refl, same, back)
+
+-- else the order goes on alone
+pub failing_goes : (local at : ℕ) (witness left : Witness) → (at < local → ⊥) → (witness.of ≤ local → left ≡ witness) → (local < witness.of → left.of ≤ local) → IsFoundBefore local (Failing at witness) (Going left)
+failing_goes local at witness left above same back = (left, by (nat_lt at local) refl, same, back)
+  where
+    by : (b : Bool) → nat_lt at local ≡ b → Going left ≡ (if nat_lt at local then Failing at left else Going left)
+    by true e = absurd (above ((Decides-ltb at local).0 e))
+    by false e = subst (λ b. Going left ≡ (if b then Failing at left else Going left)) (sym e) refl
+
+pub failing_alike : (kind : Kind) (h edited : List Event) (local at : ℕ) (witness left : Witness) → at < local → take local h ≡ take local edited → left.object ≡ witness.object → (IsWitness witness h → IsWitness left edited)
+    → IsFound kind h (Failing at witness) → IsFound kind edited (Failing at left)
+failing_alike kind h edited local at witness left below same object right is =
+    (((let all = longer h edited local (at + 1) (omega (arith, below)) (omega (arith, is.0.0)) same in omega (arith, all)), dead_alike kind h edited local at below same is.0.1), (ap (λ (o : Any). o.kind) object ∙ is.1.0, right is.1.1))
 
 -- a chain is right for what agrees with the events that it took in
-pub right_alike : (chain : Chain) (h edited : List Event) (local : ℕ) → ready_count chain ≤ local → take local h ≡ take local edited → IsRight chain h
-    → IsRight (record chain { found = found_before local chain.found }) edited
-right_alike chain h edited local below same right = record {
+pub right_alike : (chain : Chain) (found : Found) (h edited : List Event) (local : ℕ) → ready_count chain ≤ local → take local h ≡ take local edited → IsFound (kind_in chain) edited found → IsRight chain h
+    → IsRight (record chain { found = found }) edited
+right_alike chain found h edited local below same is right = record {
   within = longer h edited local chain.ready below right.within same;
   replay = replay_alike chain.replay h edited local (reached chain.end right.stands) same right.replay;
   stands = stands chain.end right.stands;
-  found = found_alike (kind_in chain) h edited local chain.found same right.found;
+  found = is;
 }
   where
     reached : (end : End) → Stands chain h end → chain.replay.reached ≤ local
@@ -98,13 +153,13 @@ right_alike chain h edited local below same right = record {
     stands (Over at) was = (was.0, was.1, was.2, was.3, over_alike (kind_in chain) chain.budget h edited local at (omega (arith, was.2, below)) same was.4)
 
 -- behind a dead or over event, fewer may be taken in
-pub right_fewer : (chain : Chain) (h edited : List Event) (local at : ℕ) → local < ready_count chain → at < local → take local h ≡ take local edited → (chain.end ≡ Dead at) ⊎ (chain.end ≡ Over at) → IsRight chain h
-    → IsRight (record chain { ready = local; found = found_before local chain.found }) edited
-right_fewer chain h edited local at below before same is right = record {
+pub right_fewer : (chain : Chain) (found : Found) (h edited : List Event) (local at : ℕ) → local < ready_count chain → at < local → take local h ≡ take local edited → (chain.end ≡ Dead at) ⊎ (chain.end ≡ Over at)
+    → IsFound (kind_in chain) edited found → IsRight chain h → IsRight (record chain { ready = local; found = found }) edited
+right_fewer chain found h edited local at below before same is found_is right = record {
   within = longer h edited local local (omega arith) (omega (arith, right.within)) same;
   replay = replay_alike chain.replay h edited local (omega (arith, known is, before)) same right.replay;
   stands = stands is;
-  found = found_alike (kind_in chain) h edited local chain.found same right.found;
+  found = found_is;
 }
   where
     known : (chain.end ≡ Dead at) ⊎ (chain.end ≡ Over at) → chain.replay.reached ≤ at + 1
@@ -176,8 +231,8 @@ right_end law orders chain h budget all over right = by chain.end refl
         record { inside = was.inside; over = over_smaller (kind_in chain) (take (at + 1) h) chain.budget budget (over at is) was.over }
 
 -- what is told of all events is true of them
-pub right_answer : EmptyIsLegal → SpellsOrders → (chain : Chain) (h : List Event) (budget count : ℕ) → count ≡ length h → IsAnswered chain count → IsFor budget chain → IsRight chain h → IsEndOf (kind_in chain) budget h (told_in chain count)
-right_answer law orders chain h budget count all answered over right = by chain.found refl
+pub right_answer : EmptyIsLegal → SpellsOrders → IntervalsTell → (chain : Chain) (h : List Event) (budget count : ℕ) → count ≡ length h → IsAnswered chain count → IsFor budget chain → IsRight chain h → IsEndOf (kind_in chain) budget h (told_in chain count)
+right_answer law orders intervals chain h budget count all answered over right = by chain.found refl
   where
     frontier : told_by chain.found count ≡ None → IsEndOf (kind_in chain) budget h chain.end
     frontier none = elim answered [ inl ready ↦ right_end law orders chain h budget (ready ∙ all) over right | inr some ↦ absurd (some none) ]
@@ -195,31 +250,30 @@ right_answer law orders chain h budget count all answered over right = by chain.
         by_count false e =
             subst (λ b. IsEndOf (kind_in chain) budget h (told_or chain.end (if b then Some Alive else None))) (sym e)
             (frontier (ap (λ f. told_by f count) is ∙ ap (λ b. if b then Some Alive else None) e))
-    by (Failure at) is = (subst (IsFound (kind_in chain) h) is right.found).1
-
--- the place at which events are told to be dead is one of theirs
-pub dead_within : (chain : Chain) (h : List Event) (count at : ℕ) → count ≡ length h → told_in chain count ≡ Dead at → IsRight chain h → at < count
-dead_within chain h count at all dead right = by chain.found refl
-  where
-    frontier : told_by chain.found count ≡ None → at < count
-    frontier none =
-        let stands = subst (Stands chain h) (ap (told_or chain.end) (sym none) ∙ dead) right.stands in
-        omega (arith, stands.1, right.within, all)
-
-    one_place : (i : ℕ) → Dead i ≡ Dead at → i ≡ at
-    one_place i e = cc e
-
-    by : (found : Found) → chain.found ≡ found → at < count
-    by Nothing e = frontier (ap (λ f. told_by f count) e)
-    by (Order order of) e = by_count (nat_eq of count) refl
+    by (Going witness) is = by_count (nat_eq witness.of count) refl
       where
-        by_count : (b : Bool) → nat_eq of count ≡ b → at < count
-        by_count true f = absurd (cc (sym (ap (told_or chain.end) (ap (λ k. told_by k count) e ∙ ap (λ b. if b then Some Alive else None) f)) ∙ dead))
-        by_count false f = frontier (ap (λ k. told_by k count) e ∙ ap (λ b. if b then Some Alive else None) f)
-    by (Failure i) e =
-        let inside = (subst (IsFound (kind_in chain) h) e right.found).0 in
-        let same : i ≡ at = one_place i (sym (ap (told_or chain.end) (ap (λ k. told_by k count) e)) ∙ dead) in
-        omega (arith, inside, same, all)
+        by_count : (b : Bool) → nat_eq witness.of count ≡ b → IsEndOf (kind_in chain) budget h (told_or chain.end (told_by (Going witness) count))
+        by_count true e =
+            let known = subst (IsFound (kind_in chain) h) is right.found in
+            let same : witness.of ≡ count = (Decides-eqb witness.of count).0 e in
+            subst (λ b. IsEndOf (kind_in chain) budget h (told_or chain.end (if b then Some Alive else None))) (sym e) (
+              order_in witness,
+              subst (λ l. IsLegalOrderAs (kind_in chain) l (order_in witness)) (take_all witness.of h (omega (arith, same, all)))
+                  (subst (λ k. IsLegalOrderAs k (take witness.of h) (order_in witness)) known.0 (witness_legal witness h known.1)),
+            )
+        by_count false e =
+            subst (λ b. IsEndOf (kind_in chain) budget h (told_or chain.end (if b then Some Alive else None))) (sym e)
+            (frontier (ap (λ f. told_by f count) is ∙ ap (λ b. if b then Some Alive else None) e))
+    by (Failure at) is = (subst (IsFound (kind_in chain) h) is right.found).1
+    by (Failing at witness) is = (subst (IsFound (kind_in chain) h) is right.found).0.1
+    by (Intervals telling) is = by_told (told_of telling count) refl
+      where
+        known : IsFound (kind_in chain) h (Intervals telling)
+        known = subst (IsFound (kind_in chain) h) is right.found
+
+        by_told : (told : Option End) → told_of telling count ≡ told → IsEndOf (kind_in chain) budget h (told_or chain.end told)
+        by_told None e = frontier (ap (λ f. told_by f count) is ∙ e)
+        by_told (Some end) e = subst (λ k. IsEndOf k budget h end) (sym known.0) (telling_end intervals telling h budget count end all known.1 e)
 
 -- behind a dead or over event, all events may be taken in
 pub right_all : (chain : Chain) (h : List Event) (count : ℕ) → count ≡ length h → (chain.end ≡ Alive → ready_count chain ≡ count) → IsRight chain h → IsRight (record chain { ready = count }) h
@@ -234,33 +288,6 @@ right_all chain h count is all right = record {
     by Alive e = subst (Stands chain h) e right.stands ∙ all e
     by (Dead at) e = let was = subst (Stands chain h) e right.stands in (was.0, omega (arith, was.1, right.within, is), was.2, was.3)
     by (Over at) e = let was = subst (Stands chain h) e right.stands in (was.0, was.1, omega (arith, was.2, right.within, is), was.3, was.4)
-
--- the events at the picks, one by one
-there_is : (h : List Event) (at : ℕ) → at < length h → (event : Event) × (slice_get h at ≡ Some event)
-there_is [] at inside = absurd (omega arith)
-there_is (e ∷ rest) zero inside = (e, refl)
-there_is (e ∷ rest) (suc at) inside = there_is rest at (omega arith)
-
-picked : (h : List Event) (at : ℕ) (picks : List ℕ) (inside : at < length h) → events_at h (at ∷ picks) ≡ (there_is h at inside).0 ∷ events_at h picks
-picked h at picks inside = ap (λ o. cons_option o (events_at h picks)) (there_is h at inside).1
-
-pub length-events_at : (h : List Event) (picks : List ℕ) → All (λ at. at < length h) picks → length (events_at h picks) ≡ length picks
-length-events_at h [] inside = refl
-length-events_at h (at ∷ picks) inside =
-    let first = All-head (λ n. n < length h) at picks inside in
-    let rest = length-events_at h picks (All-tail (λ n. n < length h) at picks inside) in
-    ap length (picked h at picks first) ∙ ap (λ n. suc n) rest
-
-pub event_picked : (h : List Event) (picks : List ℕ) (k at : ℕ) → All (λ n. n < length h) picks → slice_get picks k ≡ Some at → slice_get (events_at h picks) k ≡ slice_get h at
-event_picked h [] k at inside there = cc
-event_picked h (n ∷ picks) zero at inside there =
-    let first = All-head (λ m. m < length h) n picks inside in
-    ap (λ l. slice_get l 0) (picked h n picks first) ∙ sym (there_is h n first).1 ∙ ap (λ m. slice_get h m) (some_same there)
-  where
-    some_same : Some n ≡ Some at → n ≡ at
-    some_same e = cc
-event_picked h (n ∷ picks) (suc k) at inside there =
-    ap (λ l. slice_get l (suc k)) (picked h n picks (All-head (λ m. m < length h) n picks inside)) ∙ event_picked h picks k at (All-tail (λ m. m < length h) n picks inside) there
 
 -- while a chain goes on: it is right, has taken in no less than at first, and at most one step for each event
 pub record IsGoing (h : List Event) (first now : Chain) (budget : ℕ) (before meter : Meter) : Type 0 where
@@ -279,11 +306,14 @@ from_fewer Alive m n below from = from
 from_fewer (Dead at) m n below from = omega (arith, from)
 from_fewer (Over at) m n below from = omega (arith, from)
 
--- the event that is read through a pick
-pub event_there : (h : List Event) (picks : List ℕ) (k : ℕ) (event : Event) → All (λ at. at < length h) picks → k < length picks → event ≡ get_or h (get_or picks k 0) event → IsEvent (events_at h picks) k event
-event_there h picks k event inside below is =
-    event_picked h picks k (get_or picks k 0) inside (slice_get-get_or picks k 0 below) ∙ slice_get_read h (length h) (get_or picks k 0) event refl (inside k 0 below) is
-
 -- an alive chain has taken in what it knows
 pub reached_ready : (chain : Chain) (h : List Event) → chain.end ≡ Alive → IsRight chain h → chain.replay.reached ≡ ready_count chain
 reached_ready chain h alive right = subst (Stands chain h) alive right.stands
+
+-- where it is told of events that they have an order, but no order was found, the frontiers took them in
+pub order_taken_in : (chain : Chain) (count : ℕ) → told_in chain count ≡ Alive → (told_by chain.found count ≡ Some Alive → ⊥) → IsAnswered chain count → (chain.end ≡ Alive) × (ready_count chain ≡ count)
+order_taken_in chain count told none answered = by (told_by chain.found count) refl
+  where
+    by : (t : Option End) → told_by chain.found count ≡ t → (chain.end ≡ Alive) × (ready_count chain ≡ count)
+    by None e = (sym (ap (told_or chain.end) e) ∙ told, elim answered [ inl ready ↦ ready | inr some ↦ absurd (some e) ])
+    by (Some end) e = absurd (none (e ∙ ap Some (sym (ap (told_or chain.end) e) ∙ told)))

@@ -1,6 +1,4 @@
-pub mod Lists
-pub mod Opening
-pub mod Listing
+pub mod Tellings
 pub mod Replaying
 pub mod Budgets
 pub mod Chaining

@@ -31,7 +31,7 @@ use Rattle.lin_chain.specs.declared.replay.Replay.{Replay}
 use Rattle.lin_chain.specs.Replays.{Links, Members, IsCheckpoint, IsCurrent, IsKnown, IsPrepared, IsReplay}
 use Rattle.lin_orders.specs.Linearizable.{IsLegalOrderAs, IsLinearizableAs}
 use Rattle.lin_lists.specs.lemmas.Lists.{get_cases}
-use Rattle.lin_chain.proofs.Lists.{contains_from_get, one_there}
+use Rattle.lin_witness.specs.lemmas.Lists.{contains_from_get, one_there}
 
 -- what a beginning has at a place, the whole has there
 get_from_take : {A : Type 0} (n : ℕ) (xs : List A) (k : ℕ) (x : A) → slice_get (take n xs) k ≡ Some x → (k < n) × (slice_get xs k ≡ Some x)

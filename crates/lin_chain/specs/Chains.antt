@@ -26,11 +26,11 @@ kept_count chain = held_count chain.replay
 abbrev pub end_in : Chain → End
 end_in chain = chain.end
 
--- how the first so many events end: by what a search found of them, or else by where the frontiers stand
+-- how the first so many events end: by what was found of them, or else by where the frontiers stand
 abbrev pub told_in : Chain → ℕ → End
 told_in chain count = told_or chain.end (told_by chain.found count)
 
--- that is known: they were taken in, or a search tells
+-- that is known: they were taken in, or what was found tells
 abbrev pub IsAnswered : Chain → ℕ → Type 0
 IsAnswered chain count = (ready_count chain ≡ count) ⊎ (told_by chain.found count ≢ None)
 

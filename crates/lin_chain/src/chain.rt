@@ -6,16 +6,18 @@ ghost use Rattle.lin_events.specs.declared.events.Event.{Event as EventOf};
 ghost use Rattle.lin_events.specs.Operations.{IsEvent};
 ghost use Rattle.lin_events.specs.WellFormed.{IsWellFormed};
 ghost use Rattle.lin_objects.specs.Steps.{Step as StepOf, start as start_of};
+ghost use Rattle.lin_objects.specs.declared.kinds.Kind.TheVariants as kinds;
 ghost use Rattle.lin_orders.specs.Parts.{events_at};
 ghost use Rattle.lin_order.specs.Refutations.{IsRefutation, sets_of};
 ghost use Rattle.lin_orders.specs.Configurations.{IsOver};
 ghost use Rattle.lin_chain.specs.Chains.{IsAnswered, IsFor, IsRight, end_before, end_in, end_under, kept_count, kind_in, ready_count, ready_under, told_in};
 ghost use Rattle.lin_chain.specs.declared.chain.End.{End as EndOf};
 ghost use Rattle.lin_chain.specs.Ends.{IsEndOf, IsFrom};
-ghost use Rattle.lin_chain.specs.Founds.{found_before, told_by};
+ghost use Rattle.lin_chain.specs.Founds.{IsFoundBefore, known_by, told_by};
 ghost use Rattle.lin_orders.specs.Linearizable.{IsLegalOrderAs};
 
 use crate::found::Found;
+use crate::patience::{Patience, is_worth};
 use crate::refuting::refutation_of;
 use crate::replay::{Replay, SPACING, Taken};
 use lin_compressed::{Scratch, is_counted, members_spell_legal_orders};
@@ -23,6 +25,7 @@ use lin_events::{Event, Meter, OutOfMemory};
 use lin_objects::{Any, Kind};
 use lin_order::Refutation;
 use lin_orders::{Placed, empty_is_legal};
+use lin_sets::intervals_tell;
 use std::alloc::Global;
 
 /// Whether the events of an object have a legal order (Herlihy and Wing 1990, section 3). Places count its events from 0.
@@ -49,40 +52,6 @@ pub enum RefuteFault {
 
 /// Under a budget up to this frontiers are soon at their end, or over: where a search told, they may then go on.
 const SMALL_BUDGET: u32 = 4_096;
-
-/// How much work the next events are worth.
-#[derive(Clone, Copy)]
-struct Patience {
-    /// So many tries are counted at most, when an event is begun.
-    tries: u64,
-    /// An event may be tried in so many ways at most.
-    ways: u64,
-}
-
-impl Patience {
-    /// Few tries, for what comes before a search of so many events: configurations that would fill the budget aren't made.
-    fn little(meter: &Meter, events: usize) -> Patience {
-        let more = (events as u64 / 8).saturating_add(1_024);
-        Patience {
-            tries: meter.tries().saturating_add(more),
-            ways: 1_024,
-        }
-    }
-
-    /// What is enough for most objects under a small budget to come to their end, or to be over.
-    fn enough(meter: &Meter, budget: u32) -> Patience {
-        let more = (budget as u64).saturating_mul(128);
-        Patience {
-            tries: meter.tries().saturating_add(more),
-            ways: more,
-        }
-    }
-
-    /// Whether an event that may be tried in so many ways is worth it.
-    fn allows(self, meter: &Meter, ways: u64) -> bool {
-        ways <= self.ways && ways < self.tries.saturating_sub(meter.tries())
-    }
-}
 
 /// What is known of the first events of one object, and whether they have a legal order.
 #[derive(Drop)]
@@ -127,7 +96,7 @@ impl Chain {
         self.end
     }
 
-    /// How the first so many events end, as far as it is known: by what a search found of them, or else by where its frontiers stand.
+    /// How the first so many events end, as far as it is known: by what was found of them, or else by where its frontiers stand.
     pub fn told(&self, count: usize) -> End
         ensures { result ≡ told_in self.now count }
     {
@@ -167,11 +136,12 @@ impl Chain {
 
     /// Forgets what depends on the events from the place on: they are about to change.
     ///
-    /// It goes back to the checkpoint at or before the place, and needs no memory. Where an earlier event is dead or over, that stays.
+    /// It goes back to the checkpoint at or before the place, and needs no memory. Where an earlier event is dead or over, that stays. So does
+    /// an order that was found, as far as it goes. A set's intervals go back to just the place.
     pub fn cut(&mut self, local: usize)
         ensures kind { kind_in self.new ≡ kind_in self.old }
         ensures same { ready_count self.old ≤ local → self.new ≡ record self.old { found = self.new.found } }
-        ensures found { self.new.found ≡ found_before local self.old.found }
+        ensures found { IsFoundBefore local self.old.found self.new.found }
         ensures back { local < ready_count self.old → ready_count self.new ≤ local }
         ensures near { local < ready_count self.old → local / 64 * 64 ≤ ready_count self.new }
         ensures end { local < ready_count self.old → end_in self.new ≡ end_before local (end_in self.old) }
@@ -194,23 +164,33 @@ impl Chain {
 
     /// Answers whether the object's events, which stand at the picks, have a legal order.
     ///
-    /// Asks that the chain is right for the first `ready()` of them, and that they are well-formed. What was found of all of them is told
-    /// again. Else the rest is taken in: each event past those that were counts as one step; those behind a dead or over one aren't taken in.
-    /// A chain that is over for a smaller budget counts as cut there. Where a search may be made, all events are searched for a legal order,
-    /// and then for a failure, if the chain is over, or, for a kind whose frontiers get large, not at its end after few tries; what is
-    /// found is kept, and the chain may then stay behind. Under a budget for which all configurations are counted nothing is searched.
-    /// Where memory is refused, the events before the refusal are taken in.
+    /// Asks that the chain is right for the first `ready()` of them, and that they are well-formed, and that so many are known: no more than
+    /// it took in. What was found of all of them is told again. Else the rest is taken in: each event past those that were counts as one step;
+    /// those behind a dead or over one aren't taken in. A chain that is over for a smaller budget counts as cut there.
+    ///
+    /// A set is told by its intervals, which go on event by event: one step for each that they don't have. It is never over then, and the chain
+    /// may stay behind. So it is unless all configurations are counted, or more events are known than the intervals have, and nothing may be
+    /// searched.
+    ///
+    /// Where the chain is over, an order that was found of at least the known events goes on over the rest, one step for each. Where a search
+    /// may be made, that comes first, for an order that is near the end; else all events are searched for a legal order, and then for a
+    /// failure, if the chain is over, or, for a kind whose frontiers get large, not at its end after few tries; what is found is kept, and the
+    /// chain may then stay behind. Under a budget for which all configurations are counted nothing is searched. Where memory is refused, the
+    /// events before the refusal are taken in.
     pub fn settle(
         &mut self,
         events: &[Event],
         picks: &[usize],
         budget: u32,
+        known: usize,
         search: bool,
         meter: &mut Meter,
     ) -> Result<End, OutOfMemory>
         requires right { IsRight self.old (events_at events.now picks.now) }
         requires inside { All (λ at. at < length events.now) picks.now }
         requires well_formed { (functions : ItemOf → NameOf → Bool) × IsWellFormed functions (events_at events.now picks.now) }
+        requires known { told_by self.old.found (length picks.now) ≡ None → known ≤ ready_under budget self.old }
+        requires fits { known ≤ length picks.now }
         ensures kind { kind_in self.new ≡ kind_in self.old }
         ensures end { IfOk result (IsEndOf (kind_in self.old) budget (events_at events.now picks.now)) }
         ensures told { IfOk result (λ end. told_in self.new (length picks.now) ≡ end) }
@@ -220,24 +200,191 @@ impl Chain {
         ensures under { (end_under budget self.new ≡ end_in self.new) × (ready_under budget self.new ≡ ready_count self.new) }
         ensures no_less { ready_under budget self.old ≤ ready_count self.new }
         ensures remains { (other : ℕ) → min (ready_under budget self.old) (ready_under other self.old) ≤ ready_under other self.new }
-        ensures settled { ready_under budget self.old ≡ length picks.now → search ≡ false → IsOk result }
-        ensures idle { ready_under budget self.old ≡ length picks.now → search ≡ false → (meter.new ≡ meter.old) × (end_in self.new ≡ end_under budget self.old) }
-        ensures all { OnOk result (search ≡ false → told_by self.old.found (length picks.now) ≡ None → ready_count self.new ≡ length picks.now) }
-        ensures steps { meter.new.steps ≤ meter.old.steps + (length picks.now - ready_under budget self.old) + (if search then 6 * length picks.now else 0) }
+        ensures settled { known ≡ length picks.now → search ≡ false → IsOk result }
+        ensures idle { known ≡ length picks.now → search ≡ false → (meter.new ≡ meter.old) × (end_in self.new ≡ end_under budget self.old) }
+        ensures all { OnOk result (search ≡ false → told_by self.old.found (length picks.now) ≡ None → (kind_in self.old ≡ kinds.Set → ⊥) → ready_count self.new ≡ length picks.now) }
+        ensures steps { meter.new.steps ≤ meter.old.steps + (if search then 7 * length picks.now else 2 * (length picks.now - known)) }
         ensures scans { meter.new.scans ≡ meter.old.scans }
     {
         empty_is_legal();
         members_spell_legal_orders::<Any>();
+        intervals_tell();
         self.retry(budget);
         if let Some(end) = self.found.told(picks.len()) {
             return Ok(end);
         }
-        if search && !is_counted(budget as usize) {
-            self.search(events, picks, budget, meter)?;
-        } else {
-            self.take_all(events, picks, budget, meter)?;
-        }
+        self.answer(events, picks, budget, known, search, meter)?;
         Ok(self.told(picks.len()))
+    }
+
+    /// Takes the rest of the events in, or finds out how all of them end.
+    fn answer(
+        &mut self,
+        events: &[Event],
+        picks: &[usize],
+        budget: u32,
+        known: usize,
+        search: bool,
+        meter: &mut Meter,
+    ) -> Result<(), OutOfMemory>
+        requires right { IsRight self.old (events_at events.now picks.now) }
+        requires inside { All (λ at. at < length events.now) picks.now }
+        requires well_formed { (functions : ItemOf → NameOf → Bool) × IsWellFormed functions (events_at events.now picks.now) }
+        requires retried { IsFor budget self.old }
+        requires known { known ≤ ready_count self.old }
+        ensures kind { kind_in self.new ≡ kind_in self.old }
+        ensures right { IsRight self.new (events_at events.now picks.now) }
+        ensures answered { OnOk result (IsAnswered self.new (length picks.now)) }
+        ensures all { OnOk result (search ≡ false → (kind_in self.old ≡ kinds.Set → ⊥) → ready_count self.new ≡ length picks.now) }
+        ensures retried { IsFor budget self.new }
+        ensures no_less { ready_count self.old ≤ ready_count self.new }
+        ensures remains { (other : ℕ) → ready_under other self.old ≤ ready_under other self.new }
+        ensures settled { known ≡ length picks.now → search ≡ false → IsOk result }
+        ensures idle { known ≡ length picks.now → search ≡ false → (meter.new ≡ meter.old) × (end_in self.new ≡ end_in self.old) }
+        ensures steps { meter.new.steps ≤ meter.old.steps + (if search then 7 * length picks.now else 2 * (length picks.now - known)) }
+        ensures scans { meter.new.scans ≡ meter.old.scans }
+    {
+        if self.has_intervals(budget, known, search) {
+            self.tell(events, picks, meter)
+        } else if search && !is_counted(budget as usize) {
+            self.seek(events, picks, budget, meter)
+        } else {
+            self.follow(events, picks, budget, known, meter)
+        }
+    }
+
+    /// Whether intervals tell: of a set whose configurations aren't counted, if they have the known events, or all may be searched.
+    fn has_intervals(&self, budget: u32, known: usize, search: bool) -> bool
+        ensures { result ≡ true → (kind_in self.now ≡ kinds.Set) × (search ≡ false → known ≤ known_by self.now.found) }
+    {
+        matches!(self.replay.kind(), Kind::Set)
+            && !is_counted(budget as usize)
+            && (search || known <= self.found.known())
+    }
+
+    /// Intervals tell how all events of a set end.
+    fn tell(
+        &mut self,
+        events: &[Event],
+        picks: &[usize],
+        meter: &mut Meter,
+    ) -> Result<(), OutOfMemory>
+        requires right { IsRight self.old (events_at events.now picks.now) }
+        requires inside { All (λ at. at < length events.now) picks.now }
+        requires well_formed { (functions : ItemOf → NameOf → Bool) × IsWellFormed functions (events_at events.now picks.now) }
+        requires set { kind_in self.old ≡ kinds.Set }
+        ensures others { self.new ≡ record self.old { found = self.new.found } }
+        ensures right { IsRight self.new (events_at events.now picks.now) }
+        ensures told { OnOk result (told_by self.new.found (length picks.now) ≢ None) }
+        ensures idle { length picks.now ≤ known_by self.old.found → IsOk result × (meter.new ≡ meter.old) }
+        ensures steps { meter.new.steps ≤ meter.old.steps + (length picks.now - known_by self.old.found) }
+        ensures scans { meter.new.scans ≡ meter.old.scans }
+    {
+        let alloc = self.replay.alloc();
+        self.found.tell(alloc, events, picks, meter)
+    }
+
+    /// Takes the rest of the events in; where the chain is over, an order of at least the known ones goes on. A search is asked how, where no
+    /// event is taken in.
+    fn follow(
+        &mut self,
+        events: &[Event],
+        picks: &[usize],
+        budget: u32,
+        known: usize,
+        meter: &mut Meter,
+    ) -> Result<(), OutOfMemory>
+        requires right { IsRight self.old (events_at events.now picks.now) }
+        requires inside { All (λ at. at < length events.now) picks.now }
+        requires well_formed { (functions : ItemOf → NameOf → Bool) × IsWellFormed functions (events_at events.now picks.now) }
+        requires retried { IsFor budget self.old }
+        requires known { known ≤ ready_count self.old }
+        ensures kind { kind_in self.new ≡ kind_in self.old }
+        ensures right { IsRight self.new (events_at events.now picks.now) }
+        ensures all { OnOk result (ready_count self.new ≡ length picks.now) }
+        ensures retried { IsFor budget self.new }
+        ensures no_less { ready_count self.old ≤ ready_count self.new }
+        ensures remains { (other : ℕ) → ready_under other self.old ≤ ready_under other self.new }
+        ensures settled { known ≡ length picks.now → IsOk result }
+        ensures idle { known ≡ length picks.now → (meter.new ≡ meter.old) × (end_in self.new ≡ end_in self.old) }
+        ensures steps { meter.new.steps ≤ meter.old.steps + 2 * (length picks.now - known) }
+        ensures scans { meter.new.scans ≡ meter.old.scans }
+    {
+        let ask = !self.end.is_alive();
+        self.take_all(events, picks, budget, meter)?;
+        if let End::Over(_) = self.end {
+            self.extend(events, picks, known, ask, meter)?;
+        }
+        Ok(())
+    }
+
+    /// An order that was found goes on; where it doesn't come to the end, all events are searched.
+    fn seek(
+        &mut self,
+        events: &[Event],
+        picks: &[usize],
+        budget: u32,
+        meter: &mut Meter,
+    ) -> Result<(), OutOfMemory>
+        requires right { IsRight self.old (events_at events.now picks.now) }
+        requires inside { All (λ at. at < length events.now) picks.now }
+        requires well_formed { (functions : ItemOf → NameOf → Bool) × IsWellFormed functions (events_at events.now picks.now) }
+        requires retried { IsFor budget self.old }
+        ensures kind { kind_in self.new ≡ kind_in self.old }
+        ensures right { IsRight self.new (events_at events.now picks.now) }
+        ensures answered { OnOk result (IsAnswered self.new (length picks.now)) }
+        ensures retried { IsFor budget self.new }
+        ensures no_less { ready_count self.old ≤ ready_count self.new }
+        ensures remains { (other : ℕ) → ready_under other self.old ≤ ready_under other self.new }
+        ensures steps { meter.new.steps ≤ meter.old.steps + 7 * length picks.now }
+        ensures scans { meter.new.scans ≡ meter.old.scans }
+    {
+        let was_going = self.mend(events, picks, meter)?;
+        if self.found.told(picks.len()).is_some() {
+            return Ok(());
+        }
+        self.search(events, picks, budget, was_going, meter)
+    }
+
+    /// An order that was found goes on over all events, if it can. Whether there was one.
+    fn mend(
+        &mut self,
+        events: &[Event],
+        picks: &[usize],
+        meter: &mut Meter,
+    ) -> Result<bool, OutOfMemory>
+        requires right { IsRight self.old (events_at events.now picks.now) }
+        requires inside { All (λ at. at < length events.now) picks.now }
+        requires well_formed { (functions : ItemOf → NameOf → Bool) × IsWellFormed functions (events_at events.now picks.now) }
+        ensures others { self.new ≡ record self.old { found = self.new.found } }
+        ensures right { IsRight self.new (events_at events.now picks.now) }
+        ensures idle { result ≡ Ok false → meter.new ≡ meter.old }
+        ensures steps { meter.new.steps ≤ meter.old.steps + length picks.now }
+        ensures scans { meter.new.scans ≡ meter.old.scans }
+    {
+        self.found.mend(events, picks, meter)
+    }
+
+    /// An order that was found of at least the known events goes on over the rest. A search may be asked how.
+    fn extend(
+        &mut self,
+        events: &[Event],
+        picks: &[usize],
+        known: usize,
+        ask: bool,
+        meter: &mut Meter,
+    ) -> Result<(), OutOfMemory>
+        requires right { IsRight self.old (events_at events.now picks.now) }
+        requires inside { All (λ at. at < length events.now) picks.now }
+        requires well_formed { (functions : ItemOf → NameOf → Bool) × IsWellFormed functions (events_at events.now picks.now) }
+        ensures others { self.new ≡ record self.old { found = self.new.found } }
+        ensures right { IsRight self.new (events_at events.now picks.now) }
+        ensures idle { length picks.now ≤ known → IsOk result × (meter.new ≡ meter.old) }
+        ensures steps { meter.new.steps ≤ meter.old.steps + 2 * (length picks.now - known) }
+        ensures once { ask ≡ false → meter.new.steps ≤ meter.old.steps + (length picks.now - known) }
+        ensures scans { meter.new.scans ≡ meter.old.scans }
+    {
+        self.found.go_on(events, picks, known, ask, meter)
     }
 
     /// Takes the rest of the events in, up to one at which the chain is dead or over.
@@ -260,6 +407,7 @@ impl Chain {
         ensures remains { (other : ℕ) → ready_under other self.old ≤ ready_under other self.new }
         ensures settled { ready_count self.old ≡ length picks.now → IsOk result }
         ensures idle { ready_count self.old ≡ length picks.now → (meter.new ≡ meter.old) × (end_in self.new ≡ end_in self.old) }
+        ensures ended { (end_in self.old ≡ End.Alive → ⊥) → meter.new ≡ meter.old }
         ensures found { self.new.found ≡ self.old.found }
         ensures steps { meter.new.steps + ready_count self.old ≤ meter.old.steps + length picks.now }
         ensures scans { meter.new.scans ≡ meter.old.scans }
@@ -302,12 +450,14 @@ impl Chain {
         Ok(())
     }
 
-    /// Takes events in, and searches all of them, once: where the chain is over, or stays behind after few tries.
+    /// Takes events in, and searches all of them, once: where the chain is over, or stays behind after few tries. Before that an order may have
+    /// gone on, at a step for each of them at most.
     fn search(
         &mut self,
         events: &[Event],
         picks: &[usize],
         budget: u32,
+        before: bool,
         meter: &mut Meter,
     ) -> Result<(), OutOfMemory>
         requires right { IsRight self.old (events_at events.now picks.now) }
@@ -321,10 +471,11 @@ impl Chain {
         ensures no_less { ready_count self.old ≤ ready_count self.new }
         ensures remains { (other : ℕ) → ready_under other self.old ≤ ready_under other self.new }
         ensures steps { meter.new.steps + ready_count self.old ≤ meter.old.steps + 7 * length picks.now }
+        ensures fewer { before ≡ true → meter.new.steps + ready_count self.old ≤ meter.old.steps + 6 * length picks.now }
         ensures scans { meter.new.scans ≡ meter.old.scans }
     {
         if self.is_slow(events, picks, budget, meter)? {
-            self.look(events, picks, meter)?;
+            self.look(events, picks, before, meter)?;
             if self.found.told(picks.len()).is_some() {
                 return self.catch_up(events, picks, budget, meter);
             }
@@ -332,7 +483,7 @@ impl Chain {
         }
         self.take_all(events, picks, budget, meter)?;
         if let End::Over(_) = self.end {
-            self.look(events, picks, meter)?;
+            self.look(events, picks, before, meter)?;
         }
         Ok(())
     }
@@ -394,27 +545,31 @@ impl Chain {
         if !is_searched_first(self.replay.kind()) {
             return Ok(false);
         }
-        let patience = Patience::little(meter, picks.len());
+        let patience = Patience::little(meter, self.replay.kind(), picks.len());
         self.take_some(events, picks, budget, patience, meter)?;
         Ok(self.end.is_alive() && self.ready < picks.len())
     }
 
-    /// Keeps what a search of all events finds.
+    /// Keeps what a search of all events finds; where it finds nothing, what was there. Before it an order may have gone on.
     fn look(
         &mut self,
         events: &[Event],
         picks: &[usize],
+        before: bool,
         meter: &mut Meter,
     ) -> Result<(), OutOfMemory>
         requires right { IsRight self.old (events_at events.now picks.now) }
         requires inside { All (λ at. at < length events.now) picks.now }
+        requires well_formed { (functions : ItemOf → NameOf → Bool) × IsWellFormed functions (events_at events.now picks.now) }
         ensures others { self.new ≡ record self.old { found = self.new.found } }
         ensures right { IsRight self.new (events_at events.now picks.now) }
         ensures steps { meter.new.steps ≤ meter.old.steps + 6 * length picks.now }
+        ensures fewer { before ≡ true → meter.new.steps ≤ meter.old.steps + 5 * length picks.now }
         ensures scans { meter.new.scans ≡ meter.old.scans }
     {
         let alloc = self.replay.alloc();
-        self.found = Found::search(alloc, self.replay.kind(), events, picks, meter)?;
+        let found = Found::search(alloc, self.replay.kind(), events, picks, before, meter)?;
+        self.found.keep(found);
         Ok(())
     }
 
@@ -522,8 +677,8 @@ impl Chain {
         let End::Alive = self.told(count) else {
             return Ok(None);
         };
-        match self.found.order(count) {
-            Some(order) => Ok(Some(copied(alloc, order)?)),
+        match self.found.order(alloc, count)? {
+            Some(order) => Ok(Some(order)),
             None => Ok(Some(self.replay.order(alloc)?)),
         }
     }
@@ -566,41 +721,16 @@ impl End {
     }
 }
 
-/// Whether searches come before frontiers for an object of the kind: of the others, frontiers have fewer members.
+/// Whether searches come before frontiers for an object of the kind, where these get large. Sets and locks aren't searched.
 fn is_searched_first(kind: Kind) -> bool {
-    matches!(kind, Kind::Fifo | Kind::Bag | Kind::Set)
+    matches!(
+        kind,
+        Kind::Register | Kind::CasRegister | Kind::Fifo | Kind::Bag
+    )
 }
 
-/// In how many orders some of so many operations may stand.
-fn arrangements(count: usize) -> u64 {
-    let mut found: u64 = 1;
-    for chosen in 1..=count {
-        found = found.saturating_mul(chosen as u64).saturating_add(1);
-    }
-    found
-}
-
-/// In how many ways one more event may be tried while so many operations are open: some of these may have been placed, in any order where
-/// that makes different states, and each other one may come next; but there are no more members than the budget.
-fn ways(kind: Kind, open: usize, budget: u32) -> u64 {
-    let placed = match kind {
-        Kind::Fifo => arrangements(open),
-        _ => 1 << open.min(32),
-    };
-    placed.min(budget as u64).saturating_mul(open as u64)
-}
-
-/// Whether one more event is worth it, if there is a limit.
-fn is_worth(meter: &Meter, patience: Option<Patience>, replay: &Replay, budget: u32) -> bool
-    ensures { patience ≡ None → result ≡ true }
-{
-    match patience {
-        None => true,
-        Some(patience) => patience.allows(meter, ways(replay.kind(), replay.open(), budget)),
-    }
-}
-
-fn copied(alloc: Global, order: &[Placed]) -> Result<Vec<Placed>, OutOfMemory>
+/// An equal order on its own memory.
+pub(crate) fn copied(alloc: Global, order: &[Placed]) -> Result<Vec<Placed>, OutOfMemory>
     ensures { IfOk result (λ copy. copy.items ≡ order.now) }
 {
     let mut copy = Vec::with_capacity(alloc, order.len())?;

@@ -4,8 +4,10 @@
 mod chain;
 mod exact;
 mod found;
+mod patience;
 mod pending;
 mod refuting;
 mod replay;
+mod telling;
 
 pub use chain::{Chain, End, RefuteFault};

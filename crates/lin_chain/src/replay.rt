@@ -18,7 +18,7 @@ ghost use Rattle.lin_orders.specs.Linearizable.{IsLegalOrderAs, IsLinearizableAs
 use crate::pending::Pending;
 use lin_compressed::{Advance, Compressed, Scratch, members_spell_legal_orders};
 use lin_events::{Event, Meter, OutOfMemory, beginnings_are_well_formed};
-use lin_frontier::{NodeId, Open, append_operations, nothing_is_open_at_first};
+use lin_frontier::{Arrival, NodeId, Open, append_operations, nothing_is_open_at_first};
 use lin_members::RoundNodes;
 use lin_objects::{Any, Kind};
 use lin_orders::{Placed, empty_is_legal};
@@ -111,6 +111,15 @@ impl Replay {
             (Some(_), _) => self.pending.as_slice().len(),
             (None, Some(last)) => last.crashed.saturating_add(last.live.len()),
             (None, None) => 0,
+        }
+    }
+
+    /// How many members the frontier after them has.
+    pub(crate) fn members(&self) -> usize {
+        match (&self.present, self.checkpoints.last()) {
+            (Some(frontier), _) => frontier.len(),
+            (None, Some(last)) => last.frontier.len(),
+            (None, None) => 1,
         }
     }
 
@@ -271,17 +280,14 @@ impl Replay {
         let Some(frontier) = current(&self.present, &self.checkpoints) else {
             unreachable!()
         };
-        let step = frontier.advance(
-            self.alloc,
-            &self.object,
-            self.pending.as_slice(),
-            self.reached,
+        let arrival = Arrival {
+            object: &self.object,
+            alloc: self.alloc,
+            pending: self.pending.as_slice(),
+            at: self.reached,
             event,
-            budget,
-            &mut self.nodes,
-            meter,
-            scratch,
-        )?;
+        };
+        let step = frontier.advance(&arrival, budget, &mut self.nodes, meter, scratch)?;
         match step {
             Advance::Same => {
                 self.stay(event)?;

@@ -1,5 +1,4 @@
-//! Searches for a legal order of a register, a queue, a bag or a set, and for a failure where none is found: what is found has
-//! passed a check.
+//! Searches for a legal order of a register, a queue or a bag, and for a failure where none is found: what is found has passed a check.
 #![tactic(auto)]
 
 mod bags;
@@ -8,7 +7,8 @@ mod elements;
 mod operations;
 mod queues;
 mod ranks;
-mod sets;
 mod witness;
 
+pub use bags::bag_order;
+pub use queues::queue_order;
 pub use witness::{finds_failure, finds_order};

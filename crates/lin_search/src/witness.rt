@@ -2,23 +2,23 @@
 //!
 //! What goes through events counts a step for each of them: the search for an order, the check of it, the search for a failure, and the
 //! check of the conflict that it found. The check of an order counts a try for each operation of it.
-ghost use Rattle.std.specs.Prelude.{◌≡◌, ◌≢◌, ◌≤◌, ◌+◌, ◌*◌, ◌∷◌, ◌++◌, [], None, Ok, All, IfOk, IfSome, IsTrue, OnOk, length};
+ghost use Rattle.lin_events.specs.declared.items.Item.{Item as ItemOf};
+ghost use Rattle.lin_events.specs.declared.calls.Name.{Name as NameOf};
+ghost use Rattle.lin_events.specs.WellFormed.{IsWellFormed};
+ghost use Rattle.std.specs.Prelude.{◌≡◌, ◌≢◌, ◌<◌, ◌≤◌, ◌⊎◌, ◌+◌, ◌*◌, ◌∷◌, ◌++◌, [], Bool, None, Ok, All, IfOk, IfSome, IsTrue, OnOk, length, take};
 ghost use Rattle.lin_events.specs.Meters.{ticked};
-ghost use Rattle.lin_objects.specs.declared.kinds.Kind.TheVariants.{Mutex};
+ghost use Rattle.lin_objects.specs.declared.kinds.Kind.TheVariants.{Fifo, Mutex, Set};
 ghost use Rattle.lin_objects.specs.Kinds.{kind_of, same_for_all};
 ghost use Rattle.lin_orders.specs.Linearizable.{IsDeadAt, IsLegalOrder, IsLegalOrderAs, IsLinearizableAs};
 ghost use Rattle.lin_orders.specs.Parts.{events_at};
 
 use crate::bags::bag_order;
 use crate::queues::queue_order;
-use crate::sets::set_order;
 use lin_events::{Event, Item, Meter, OutOfMemory};
-use lin_failures::{
-    BagConflict, Conflict, QueueConflict, SetConflict, bag_failure, is_bag_refuted,
-    is_queue_refuted, is_refuted, is_set_refuted, queue_failure, set_failure,
-};
+use lin_failures::{BagConflict, Conflict, bag_failure, is_bag_refuted, is_refuted};
 use lin_objects::{Kind, Kinds};
 use lin_orders::{Placed, check_order};
+use lin_queues::{End, failing_event};
 use lin_registers::{register_failure, register_order};
 use std::alloc::Global;
 
@@ -96,8 +96,7 @@ fn attempted(
         Kind::Register | Kind::CasRegister => register_order(alloc, events, meter),
         Kind::Fifo => queue_order(alloc, events),
         Kind::Bag => bag_order(alloc, events),
-        Kind::Set => set_order(alloc, events),
-        Kind::Mutex => Ok(None),
+        Kind::Set | Kind::Mutex => Ok(None),
     }
 }
 
@@ -181,8 +180,8 @@ fn shown_of(
 
 /// A legal order of the events at the places, which all are of one key, if one is found. Of events of several keys none is.
 ///
-/// Orders of registers, of sets, of bags, and of queues in which no item is put twice, are looked for. Takes time and memory linear in
-/// the events, apart from how many operations are open at a time, from the time to sort them, and from what reads of sets found.
+/// Orders of registers, of bags, and of queues in which no item is put twice, are looked for. Takes time and memory linear in the events,
+/// apart from how many operations are open at a time, and from the time to sort them.
 /// `OutOfMemory` is answered only where memory was refused. The order names operations by their places among these events.
 ///
 /// The search counts a step for each place, and the check of the order that it found one more for each event there. A call is tried for
@@ -197,16 +196,16 @@ pub fn finds_order(
     ensures legal { IfOk result (λ found. IfSome found (λ order. IsLegalOrderAs kind (events_at events.now picks.now) order.items)) }
     ensures counted { IfOk result (λ found. IfSome found (λ order. meter.new.steps ≡ ticked meter.old.steps (length picks.now + length (events_at events.now picks.now)))) }
     ensures tried { IfOk result (λ found. IfSome found (λ order. ticked meter.old.tries (length order.items) ≤ meter.new.tries)) }
-    ensures searched { kind ≢ Mutex → IfOk result (λ found. ticked meter.old.steps (length picks.now) ≤ meter.new.steps) }
-    ensures unsearched { kind ≡ Mutex → (result ≡ Ok None) × (meter.new ≡ meter.old) }
+    ensures searched { kind ≢ Mutex → kind ≢ Set → IfOk result (λ found. ticked meter.old.steps (length picks.now) ≤ meter.new.steps) }
+    ensures unsearched { (kind ≡ Mutex) ⊎ (kind ≡ Set) → (result ≡ Ok None) × (meter.new ≡ meter.old) }
     ensures steps { meter.new.steps ≤ meter.old.steps + 2 * length picks.now }
     ensures scans { meter.new.scans ≡ meter.old.scans }
 {
     match kind {
-        Kind::Register | Kind::CasRegister | Kind::Fifo | Kind::Bag | Kind::Set => {
+        Kind::Register | Kind::CasRegister | Kind::Fifo | Kind::Bag => {
             shown_of(alloc, kind, events, picks, meter)
         }
-        Kind::Mutex => Ok(None),
+        Kind::Set | Kind::Mutex => Ok(None),
     }
 }
 
@@ -214,9 +213,7 @@ pub fn finds_order(
 #[derive(Drop)]
 enum Reason {
     Register(Conflict),
-    Queue(QueueConflict),
     Bag(BagConflict),
-    Set(SetConflict),
 }
 
 /// Operations of an object of the kind that conflict, if a search finds such ones, and the event up to which they do.
@@ -232,16 +229,10 @@ fn sought_as(
                 Reason::Register(conflict),
             )))
         }
-        Kind::Set => {
-            Ok(set_failure(alloc, events)?.map(|(at, conflict)| (at, Reason::Set(conflict))))
-        }
-        Kind::Fifo => {
-            Ok(queue_failure(alloc, events)?.map(|(at, conflict)| (at, Reason::Queue(conflict))))
-        }
         Kind::Bag => {
             Ok(bag_failure(alloc, events)?.map(|(at, conflict)| (at, Reason::Bag(conflict))))
         }
-        Kind::Mutex => Ok(None),
+        Kind::Fifo | Kind::Set | Kind::Mutex => Ok(None),
     }
 }
 
@@ -255,33 +246,25 @@ fn is_refuted_as(kind: Kind, events: &[Event], reason: &Reason) -> bool
             Kind::CasRegister => is_refuted(events, conflict),
             Kind::Fifo | Kind::Bag | Kind::Set | Kind::Mutex => false,
         },
-        Reason::Queue(conflict) => match kind {
-            Kind::Fifo => is_queue_refuted(events, conflict),
-            Kind::Register | Kind::CasRegister | Kind::Bag | Kind::Set | Kind::Mutex => false,
-        },
         Reason::Bag(conflict) => match kind {
             Kind::Bag => is_bag_refuted(events, conflict),
             Kind::Register | Kind::CasRegister | Kind::Fifo | Kind::Set | Kind::Mutex => false,
         },
-        Reason::Set(conflict) => match kind {
-            Kind::Set => is_set_refuted(events, conflict),
-            Kind::Register | Kind::CasRegister | Kind::Fifo | Kind::Bag | Kind::Mutex => false,
-        },
     }
 }
 
-/// The event at which an object of the kind fails, if operations that conflict are found in the events up to it, and a legal order of those
-/// before it. The steps of the search for the failure aren't counted here.
-fn failing(
+/// The event up to which operations of an object of the kind conflict, if such ones are found. The check of them is counted, and not the search.
+fn conflicting(
     alloc: Global,
     kind: Kind,
     events: &[Event],
     meter: &mut Meter,
 ) -> Result<Option<usize>, OutOfMemory>
-    ensures dead { IfOk result (λ found. IfSome found (λ at. IsDeadAt kind events.now at)) }
-    ensures counted { IfOk result (λ found. IfSome found (λ at. meter.new.steps ≡ ticked meter.old.steps (3 * at + 1))) }
+    ensures inside { IfOk result (λ found. IfSome found (λ at. at < length events.now)) }
+    ensures refuted { IfOk result (λ found. IfSome found (λ at. IsLinearizableAs kind (take (at + 1) events.now) → ⊥)) }
+    ensures counted { IfOk result (λ found. IfSome found (λ at. meter.new.steps ≡ ticked meter.old.steps (at + 1))) }
     ensures least { meter.old.steps ≤ meter.new.steps }
-    ensures most { meter.new.steps ≤ meter.old.steps + 3 * length events.now }
+    ensures most { meter.new.steps ≤ meter.old.steps + length events.now }
     ensures scans { meter.new.scans ≡ meter.old.scans }
 {
     let Some((at, reason)) = sought_as(alloc, kind, events)? else {
@@ -291,9 +274,68 @@ fn failing(
         return Ok(None);
     }
     tick_steps(meter, at + 1);
-    if !is_refuted_as(kind, &events[..at + 1], &reason) {
-        return Ok(None);
+    if is_refuted_as(kind, &events[..at + 1], &reason) {
+        Ok(Some(at))
+    } else {
+        Ok(None)
     }
+}
+
+/// The event up to which a queue's debts can't be paid, if they come to that.
+fn indebted(
+    alloc: Global,
+    events: &[Event],
+    meter: &mut Meter,
+) -> Result<Option<usize>, OutOfMemory>
+    ensures inside { IfOk result (λ found. IfSome found (λ at. at < length events.now)) }
+    ensures refuted { (functions : ItemOf → NameOf → Bool) → IsWellFormed functions events.now → IfOk result (λ found. IfSome found (λ at. IsLinearizableAs Fifo (take (at + 1) events.now) → ⊥)) }
+    ensures counted { IfOk result (λ found. IfSome found (λ at. meter.new.steps ≡ ticked meter.old.steps (at + 1))) }
+    ensures least { meter.old.steps ≤ meter.new.steps }
+    ensures most { meter.new.steps ≤ meter.old.steps + length events.now }
+    ensures scans { meter.new.scans ≡ meter.old.scans }
+{
+    match failing_event(alloc, events, meter)? {
+        End::Fails(at) => Ok(Some(at)),
+        End::Stands | End::GaveUp => Ok(None),
+    }
+}
+
+/// The event up to which an object of the kind has no legal order, if one is found.
+fn refuted(
+    alloc: Global,
+    kind: Kind,
+    events: &[Event],
+    meter: &mut Meter,
+) -> Result<Option<usize>, OutOfMemory>
+    ensures inside { IfOk result (λ found. IfSome found (λ at. at < length events.now)) }
+    ensures refuted { (functions : ItemOf → NameOf → Bool) → IsWellFormed functions events.now → IfOk result (λ found. IfSome found (λ at. IsLinearizableAs kind (take (at + 1) events.now) → ⊥)) }
+    ensures counted { IfOk result (λ found. IfSome found (λ at. meter.new.steps ≡ ticked meter.old.steps (at + 1))) }
+    ensures least { meter.old.steps ≤ meter.new.steps }
+    ensures most { meter.new.steps ≤ meter.old.steps + length events.now }
+    ensures scans { meter.new.scans ≡ meter.old.scans }
+{
+    match kind {
+        Kind::Fifo => indebted(alloc, events, meter),
+        _ => conflicting(alloc, kind, events, meter),
+    }
+}
+
+/// The event at which an object of the kind fails, if one is found up to which it has no legal order, and a legal order of the events before it.
+fn failing(
+    alloc: Global,
+    kind: Kind,
+    events: &[Event],
+    meter: &mut Meter,
+) -> Result<Option<usize>, OutOfMemory>
+    ensures dead { (functions : ItemOf → NameOf → Bool) → IsWellFormed functions events.now → IfOk result (λ found. IfSome found (λ at. IsDeadAt kind events.now at)) }
+    ensures counted { IfOk result (λ found. IfSome found (λ at. meter.new.steps ≡ ticked meter.old.steps (3 * at + 1))) }
+    ensures least { meter.old.steps ≤ meter.new.steps }
+    ensures most { meter.new.steps ≤ meter.old.steps + 3 * length events.now }
+    ensures scans { meter.new.scans ≡ meter.old.scans }
+{
+    let Some(at) = refuted(alloc, kind, events, meter)? else {
+        return Ok(None);
+    };
     tick_steps(meter, at);
     let Some(_) = shown(alloc, kind, &events[..at], meter)? else {
         return Ok(None);
@@ -309,7 +351,7 @@ fn failing_of(
     picks: &[usize],
     meter: &mut Meter,
 ) -> Result<Option<usize>, OutOfMemory>
-    ensures dead { IfOk result (λ found. IfSome found (λ at. IsDeadAt kind (events_at events.now picks.now) at)) }
+    ensures dead { (functions : ItemOf → NameOf → Bool) → IsWellFormed functions (events_at events.now picks.now) → IfOk result (λ found. IfSome found (λ at. IsDeadAt kind (events_at events.now picks.now) at)) }
     ensures counted { IfOk result (λ found. IfSome found (λ at. meter.new.steps ≡ ticked meter.old.steps (length picks.now + (3 * at + 1)))) }
     ensures searched { IfOk result (λ found. ticked meter.old.steps (length picks.now) ≤ meter.new.steps) }
     ensures steps { meter.new.steps ≤ meter.old.steps + 4 * length picks.now }
@@ -319,14 +361,14 @@ fn failing_of(
     failing(alloc, kind, own.as_slice(), meter)
 }
 
-/// Which of the events at the places is the one at which the shortest beginning without a legal order ends, if one is found.
+/// Which of the events at the places is the one at which the shortest beginning without a legal order ends, if one is found. It is right of well-formed
+/// events.
 ///
-/// Looked at are registers, where values are left by one update each, queues, where items are put in once each, bags, and sets. Takes
-/// time and memory linear in the events, apart from how many operations are open at a time, and from what reads of sets found.
+/// Looked at are registers, queues and bags. Takes time and memory linear in the events, apart from how many operations are open at a time.
 /// `OutOfMemory` is answered only where memory was refused.
 ///
-/// The search counts a step for each place. Where it finds operations that conflict, their check counts one for each event up to the one
-/// where they do, and the order of those before it two for each: one for its search, and one for its check.
+/// The search counts a step for each place. Where it finds an event, what shows that there is no legal order up to it counts one for each event up to and with it, and
+/// the order of those before it two for each: one for its search, and one for its check.
 pub fn finds_failure(
     alloc: Global,
     kind: Kind,
@@ -334,17 +376,17 @@ pub fn finds_failure(
     picks: &[usize],
     meter: &mut Meter,
 ) -> Result<Option<usize>, OutOfMemory>
-    ensures dead { IfOk result (λ found. IfSome found (λ at. IsDeadAt kind (events_at events.now picks.now) at)) }
+    ensures dead { (functions : ItemOf → NameOf → Bool) → IsWellFormed functions (events_at events.now picks.now) → IfOk result (λ found. IfSome found (λ at. IsDeadAt kind (events_at events.now picks.now) at)) }
     ensures counted { IfOk result (λ found. IfSome found (λ at. meter.new.steps ≡ ticked meter.old.steps (length picks.now + (3 * at + 1)))) }
-    ensures searched { kind ≢ Mutex → IfOk result (λ found. ticked meter.old.steps (length picks.now) ≤ meter.new.steps) }
-    ensures unsearched { kind ≡ Mutex → (result ≡ Ok None) × (meter.new ≡ meter.old) }
+    ensures searched { kind ≢ Mutex → kind ≢ Set → IfOk result (λ found. ticked meter.old.steps (length picks.now) ≤ meter.new.steps) }
+    ensures unsearched { (kind ≡ Mutex) ⊎ (kind ≡ Set) → (result ≡ Ok None) × (meter.new ≡ meter.old) }
     ensures steps { meter.new.steps ≤ meter.old.steps + 4 * length picks.now }
     ensures scans { meter.new.scans ≡ meter.old.scans }
 {
     match kind {
-        Kind::Register | Kind::CasRegister | Kind::Fifo | Kind::Bag | Kind::Set => {
+        Kind::Register | Kind::CasRegister | Kind::Fifo | Kind::Bag => {
             failing_of(alloc, kind, events, picks, meter)
         }
-        Kind::Mutex => Ok(None),
+        Kind::Set | Kind::Mutex => Ok(None),
     }
 }

@@ -16,7 +16,8 @@ use Rattle.lin_session.specs.declared.kept.Object.{Object}
 use Rattle.lin_session.specs.declared.kept.Objects.{Objects}
 use Rattle.lin_session.specs.inner.Costs.{cost_of, cost_of_all}
 use Rattle.lin_session.specs.Objects.{AreKept, AreRight, IsKnownUnder, IsObject, listed_marks, split_in}
-use Rattle.lin_session.specs.Work.{mark_of}
+use Rattle.lin_session.specs.Work.{least, mark_of, stands_for, taken_in}
+use Rattle.lin_session.proofs.Marking.{least_none}
 use Rattle.lin_session.proofs.Asking.{IsObject-settled, length_spelled, picks_inside, right_spelled, spelled, well_formed_spelled}
 use Rattle.lin_session.proofs.Changes.{AreKept-one}
 use Rattle.lin_session.proofs.Found.{object_within}
@@ -99,8 +100,16 @@ module _ (s : Objects) (i : ℕ) (listed : i < length s.keys.keys) (old : Object
         let long = sym (length_spelled spell kinds budget h s.split key_there old all is_there) ∙ ap length (spelled spell kinds budget h s.split key_there old all is_there) in
         subst (λ n. IsKnownUnder budget n old.chain) (sym long) (is_there.marked.known none)
 
+    -- and of one of which some are, no more stand than were taken in
+    pub due_there : (first : ℕ) → old.mark.due ≡ Some first → first ≤ ready_under budget old.chain
+    due_there first due =
+        let is = is_there.marked in
+        let alone : taken_in old.mark ≡ Some first = ap (λ b. least old.mark.due b) (is.apart first due) ∙ least_none old.mark.due ∙ due in
+        let stands = ap (λ t. stands_for t (length (part key_there h))) alone in
+        omega (arith, is.ready, stands)
+
 -- one object costs no more than all
-pub cost-within : (budget : ℕ) (objects : List Object) (i : ℕ) (o : Object) → slice_get objects i ≡ Some o → cost_of budget o ≤ cost_of_all budget objects
-cost-within budget [] i o at = cc
-cost-within budget (x ∷ objects) zero o at = let same : x ≡ o = cc in omega (arith, ap (cost_of budget) same)
-cost-within budget (x ∷ objects) (suc i) o at = omega (arith, cost-within budget objects i o at)
+pub cost-within : (objects : List Object) (i : ℕ) (o : Object) → slice_get objects i ≡ Some o → cost_of o ≤ cost_of_all objects
+cost-within [] i o at = cc
+cost-within (x ∷ objects) zero o at = let same : x ≡ o = cc in omega (arith, ap cost_of same)
+cost-within (x ∷ objects) (suc i) o at = omega (arith, cost-within objects i o at)

@@ -1,5 +1,5 @@
 -- From where the chain of an object stands to the answer for the object.
-use Rattle.std.proofs.Common.{Bool, true, false, nat_eq, if◌then◌else◌, ◌≡◌, ◌<◌, ◌-◌, ◌+◌, ℕ, List, length, slice_get, slice_index, get_or, take, AllPairs, Option, None, Some, inl, inr, refl, sym, ap, subst, ◌∙◌, arith}
+use Rattle.std.proofs.Common.{◌≡◌, ◌<◌, ◌-◌, ◌+◌, ℕ, List, length, slice_get, slice_index, get_or, take, AllPairs, Option, None, Some, inl, inr, refl, sym, ap, subst, ◌∙◌, arith}
 use Rattle.std.proofs.lemmas.Bool.{cases_order, cases_lt}
 use Rattle.std.proofs.lemmas.List.{take_all}
 use Rattle.std.proofs.lemmas.Option.{none-some, same_Some, slice_get_within, slice_get-get_or, get_or_from_slice_get}
@@ -17,11 +17,7 @@ use Rattle.lin_orders.specs.PartLaws.{PositionsSpellParts, PartsOfPrefixes, Part
 use Rattle.lin_orders.specs.Configurations.{IsOver}
 use Rattle.lin_chain.specs.declared.chain.End.{End}
 use Rattle.lin_chain.specs.declared.chain.End.TheVariants.{Alive, Dead, Over}
-use Rattle.lin_chain.specs.declared.chain.Chain.{Chain}
-use Rattle.lin_chain.specs.declared.found.Found.{Found}
-use Rattle.lin_chain.specs.declared.found.Found.TheVariants.{Nothing, Order, Failure}
-use Rattle.lin_chain.specs.Chains.{end_in, kind_in, told_in, IsRight}
-use Rattle.lin_chain.specs.Founds.{told_by, told_or}
+use Rattle.lin_chain.specs.Chains.{kind_in, IsRight}
 use Rattle.lin_chain.specs.Ends.{IsEndOf}
 use Rattle.lin_session.specs.declared.answers.Verdict.{Verdict}
 use Rattle.lin_session.specs.declared.answers.Verdict.TheVariants.{Yes, No, Undecided}
@@ -162,19 +158,6 @@ pub finds_over : (picks : List ℕ) (end : End) (found : Option ℕ × Option �
 finds_over picks Alive found at told over = absurd (none-some at (sym (ap (λ (r : Option ℕ × Option ℕ). r.1) told) ∙ over))
 finds_over picks (Dead i) found at told over = absurd (none-some at (sym (ap (λ (r : Option ℕ × Option ℕ). r.1) told) ∙ over))
 finds_over picks (Over i) found at told over = (i, refl, same_Some at (slice_index picks i) (sym over ∙ ap (λ (r : Option ℕ × Option ℕ). r.1) told))
-
--- what a search found is never over
-pub told_over : (chain : Chain) (count i : ℕ) → told_in chain count ≡ Over i → end_in chain ≡ Over i
-told_over chain count i told = by chain.found refl
-  where
-    by : (found : Found) → chain.found ≡ found → end_in chain ≡ Over i
-    by Nothing e = sym (ap (λ f. told_or chain.end (told_by f count)) e) ∙ told
-    by (Order order of) e = by_count (nat_eq of count) refl
-      where
-        by_count : (b : Bool) → nat_eq of count ≡ b → end_in chain ≡ Over i
-        by_count true f = absurd (cc (sym (ap (λ k. told_or chain.end (told_by k count)) e ∙ ap (λ b. told_or chain.end (if b then Some Alive else None)) f) ∙ told))
-        by_count false f = sym (ap (λ k. told_or chain.end (told_by k count)) e ∙ ap (λ b. told_or chain.end (if b then Some Alive else None)) f) ∙ told
-    by (Failure at) e = absurd (cc (sym (ap (λ f. told_or chain.end (told_by f count)) e) ∙ told))
 
 -- the verdict for one object
 pub verdict_told : (kinds : Item → Kind) (budget : ℕ) (h : List Event) (key : Item) (failing over : Option ℕ) (told : Verdict) → IsFinding kinds budget h key failing over → IsTold failing over told

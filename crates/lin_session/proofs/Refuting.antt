@@ -1,5 +1,5 @@
 -- From sets that refute the events of an object to sets that refute it in a prefix of the history.
-use Rattle.std.proofs.Common.{◌≡◌, ◌<◌, ◌+◌, ℕ, zero, suc, Bool, true, false, nat_eq, if◌then◌else◌, Some, None, List, Result, Ok, Err, ◌≢◌, length, slice_index, take, inl, inr, refl, sym, ap, subst, ◌∙◌, add-one, arith}
+use Rattle.std.proofs.Common.{◌≡◌, ◌<◌, ◌+◌, ℕ, zero, suc, List, Result, Ok, Err, ◌≢◌, length, slice_index, take, inl, inr, refl, sym, ap, subst, ◌∙◌, add-one, arith}
 use Rattle.std.specs.Prelude.{IfErr}
 use Rattle.std.proofs.lemmas.Bool.{cases_lt}
 use Rattle.std.proofs.lemmas.List.{take_all}
@@ -12,13 +12,11 @@ use Rattle.lin_orders.specs.Parts.{ArePositionsOf, events_at, part}
 use Rattle.lin_orders.specs.PartLaws.{PositionsSpellParts, PartsUpToPositions}
 use Rattle.lin_order.specs.Refutations.{Config, IsRefutation}
 use Rattle.lin_orders.specs.Configurations.{IsOver}
-use Rattle.lin_chain.specs.declared.chain.End.TheVariants.{Alive, Dead}
-use Rattle.lin_chain.specs.declared.found.Found.{Found}
-use Rattle.lin_chain.specs.declared.found.Found.TheVariants.{Nothing, Order, Failure}
-use Rattle.lin_chain.specs.Founds.{IsFound, told_by, told_or}
+use Rattle.lin_chain.specs.declared.chain.End.TheVariants.{Dead}
+use Rattle.lin_chain.specs.lemmas.Told.{dead_told}
 use Rattle.lin_chain.specs.declared.chain.RefuteFault.{RefuteFault}
 use Rattle.lin_chain.specs.declared.chain.RefuteFault.TheVariants.{NotDead, TooLarge, OutOfMemory}
-use Rattle.lin_chain.specs.Chains.{Stands, kind_in, told_in}
+use Rattle.lin_chain.specs.Chains.{kind_in, told_in}
 use Rattle.lin_session.specs.declared.kept.Object.{Object}
 use Rattle.lin_session.specs.inner.Judgements.{IsDead}
 use Rattle.lin_session.specs.Objects.{IsObject}
@@ -61,27 +59,7 @@ module _ (spell : PositionsSpellParts) (up_to : PartsUpToPositions) (kinds : Ite
 
   -- the place at which it is told to be dead is that of one of its events
   dead_inside : (at : ℕ) → told_in o.chain (length o.picks.items) ≡ Dead at → at < length o.picks.items
-  dead_inside at dead = by o.chain.found refl
-    where
-      count : ℕ
-      count = length o.picks.items
-
-      frontier : told_by o.chain.found count ≡ None → at < length o.picks.items
-      frontier none =
-          let stands = subst (Stands o.chain (part key h)) (ap (told_or o.chain.end) (sym none) ∙ dead) is.right.stands in
-          omega (arith, stands.1, is.right.within, part_length)
-
-      by : (found : Found) → o.chain.found ≡ found → at < length o.picks.items
-      by Nothing e = frontier (ap (λ f. told_by f count) e)
-      by (Order order of) e = by_count (nat_eq of count) refl
-        where
-          by_count : (b : Bool) → nat_eq of count ≡ b → at < length o.picks.items
-          by_count true f = absurd (cc (sym (ap (told_or o.chain.end) (ap (λ k. told_by k count) e ∙ ap (λ b. if b then Some Alive else None) f)) ∙ dead))
-          by_count false f = frontier (ap (λ k. told_by k count) e ∙ ap (λ b. if b then Some Alive else None) f)
-      by (Failure i) e =
-          let inside = (subst (IsFound (kind_in o.chain) (part key h)) e is.right.found).0 in
-          let same : i ≡ at = one_dead i at (sym (ap (told_or o.chain.end) (ap (λ k. told_by k count) e)) ∙ dead) in
-          omega (arith, inside, same, part_length)
+  dead_inside at dead = (dead_told o.chain (part key h) (length o.picks.items) at (sym part_length) dead is.right).0
 
   pub refuted_in : (n : ℕ) (sets : List (List Config)) → IsDead n o → (at : ℕ) × (told_in o.chain (length o.picks.items) ≡ Dead at) × IsRefutation (take (at + 1) (events_at h o.picks.items)) (kind_in o.chain) sets
       → IsRefutation (part key (take n h)) (kinds key) sets

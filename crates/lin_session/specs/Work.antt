@@ -1,5 +1,5 @@
 -- What a question costs after edits: how many of the first events still stand as they were found.
-use Rattle.std.specs.Prelude.{◌≡◌, ◌+◌, ◌-◌, ◌*◌, ◌/◌, ◌||◌, ℕ, min, not, nat_le, nat_lt, List, [], ◌∷◌, Option, None, Some, filter, length, take, if◌then◌else◌}
+use Rattle.std.specs.Prelude.{◌≡◌, ◌-◌, ◌*◌, ◌/◌, ◌||◌, ℕ, min, not, nat_le, nat_lt, List, [], ◌∷◌, Option, None, Some, filter, length, take, if◌then◌else◌}
 use Rattle.std.specs.List.{sum_by}
 use Rattle.lin_events.specs.declared.items.Item.{Item}
 use Rattle.lin_events.specs.Items.{item_eq}
@@ -113,14 +113,15 @@ abbrev pub keys_of : List Event → List Item
 keys_of [] = []
 keys_of (event ∷ h) = event.key ∷ filter (λ key. not (item_eq event.key key)) (keys_of h)
 
--- where at least half of the events are due, all may be searched besides, once: six steps for each
-abbrev pub searched : Option ℕ → ℕ → ℕ
-searched None count = 0
-searched (Some first) count = if nat_le (2 * first) count then 6 * count else 0
+-- How many steps it takes to tell of so many events of an object, of which so many first ones stand. Where nothing is due none; else two for each that
+-- is due, one for its frontiers and one for an order of it that goes on. Where at least half are due, all may be searched, once: seven for each of all.
+abbrev pub steps_for : Option ℕ → ℕ → ℕ
+steps_for None count = 0
+steps_for (Some first) count = if nat_le (2 * first) count then 7 * count else 2 * (count - first)
 
--- what a question about the object costs: as many steps as it has events behind those that stand, and those of a search
+-- what a question about the object costs
 abbrev pub cost : (Item → Mark) → List Event → Item → ℕ
-cost marks h key = anew (marks key).due (length (part key h)) + searched (marks key).due (length (part key h))
+cost marks h key = steps_for (marks key).due (length (part key h))
 
 -- and one about the scope
 abbrev pub cost_in : (Item → Mark) → List Event → Scope → ℕ

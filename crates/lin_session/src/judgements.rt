@@ -174,7 +174,7 @@ impl Objects {
         ensures dead { (n : ℕ) → result ≡ Ok (Verdict.No n) → IsDeadFor self.new (Scope.Object key) n }
         ensures over { (at : ℕ) → result ≡ Ok (Verdict.Undecided at) → IsOverFor self.new (Scope.Object key) at }
         ensures scans { meter.new.scans ≡ meter.old.scans }
-        ensures steps { (i : ℕ) (object : ObjectOf) → slice_get self.old.keys.keys i ≡ Some key → slice_get self.old.objects.items i ≡ Some object → meter.new.steps ≤ meter.old.steps + cost_of budget object }
+        ensures steps { (i : ℕ) (object : ObjectOf) → slice_get self.old.keys.keys i ≡ Some key → slice_get self.old.objects.items i ≡ Some object → meter.new.steps ≤ meter.old.steps + cost_of object }
         ensures idle { (Contains self.old.keys.keys key → ⊥) → meter.new ≡ meter.old }
         ensures settled { AreSettled budget self.old (Scope.Object key) → IsOk result }
         ensures rests { AreSettled budget self.old (Scope.Object key) → meter.new ≡ meter.old }
@@ -207,7 +207,7 @@ impl Objects {
         ensures alive { result ≡ Ok Verdict.Yes → AreAlive self.new Scope.Whole }
         ensures over { (at : ℕ) → result ≡ Ok (Verdict.Undecided at) → IsOverFor self.new Scope.Whole at }
         ensures scans { meter.new.scans ≡ meter.old.scans }
-        ensures steps { meter.new.steps ≤ meter.old.steps + cost_of_all budget self.old.objects.items }
+        ensures steps { meter.new.steps ≤ meter.old.steps + cost_of_all self.old.objects.items }
         ensures settled { All (IsSettled budget) self.old.objects.items → IsOk result }
         ensures rests { All (IsSettled budget) self.old.objects.items → meter.new ≡ meter.old }
         ensures marks { AreSameMarks (marks_in self.old) (marks_in self.new) }
@@ -239,7 +239,7 @@ impl Objects {
         ensures alive { IfOk result (λ r. r.0 ≡ None → r.1 ≡ None → All IsAlive self.new.objects.items) }
         ensures over { IfOk result (λ r. (at : ℕ) → r.1 ≡ Some at → IsOverFor self.new Scope.Whole at) }
         ensures scans { meter.new.scans ≡ meter.old.scans }
-        ensures steps { meter.new.steps ≤ meter.old.steps + cost_of_all budget self.old.objects.items }
+        ensures steps { meter.new.steps ≤ meter.old.steps + cost_of_all self.old.objects.items }
         ensures settled { All (IsSettled budget) self.old.objects.items → IsOk result }
         ensures rests { All (IsSettled budget) self.old.objects.items → meter.new ≡ meter.old }
         ensures marks { AreSameMarks (marks_in self.old) (marks_in self.new) }
@@ -276,7 +276,7 @@ impl Objects {
         ensures over { IfOk result (λ r. (at : ℕ) (object : ObjectOf) → r.1 ≡ Some at → slice_get self.new.objects.items i ≡ Some object → StandsOver at object) }
         ensures others { (j : ℕ) (object : ObjectOf) → j ≢ i → slice_get self.new.objects.items j ≡ Some object → slice_get self.old.objects.items j ≡ Some object }
         ensures scans { meter.new.scans ≡ meter.old.scans }
-        ensures steps { (object : ObjectOf) → slice_get self.old.objects.items i ≡ Some object → meter.new.steps ≤ meter.old.steps + cost_of budget object }
+        ensures steps { (object : ObjectOf) → slice_get self.old.objects.items i ≡ Some object → meter.new.steps ≤ meter.old.steps + cost_of object }
         ensures settled { (object : ObjectOf) → slice_get self.old.objects.items i ≡ Some object → IsSettled budget object → IsOk result }
         ensures rests { (object : ObjectOf) → slice_get self.old.objects.items i ≡ Some object → IsSettled budget object → meter.new ≡ meter.old }
         ensures marks { AreSameMarks (marks_in self.old) (marks_in self.new) }

@@ -1,6 +1,6 @@
 //! How much of what was found stands after an edit.
-ghost use Rattle.std.specs.Prelude.{◌≡◌, ◌<◌, ◌*◌, None, true, false};
-ghost use Rattle.lin_session.specs.Work.{ahead_of, answered_at, least, raised, rounded, rounded_too, searched, touched, unasked};
+ghost use Rattle.std.specs.Prelude.{◌≡◌, ◌<◌, ◌≤◌, ◌*◌, ◌-◌, ℕ, None, Some, min, true, false};
+ghost use Rattle.lin_session.specs.Work.{ahead_of, answered_at, least, raised, rounded, rounded_too, stands_for, steps_for, touched, unasked};
 
 use lin_chain::End;
 
@@ -48,13 +48,24 @@ impl Mark {
 
     /// Whether so many of its events are due, of so many, that all may be searched.
     pub(crate) fn is_mostly_due(&self, count: usize) -> bool
-        ensures due { result ≡ true → (0 < count) × (searched self.now.due count ≡ 6 * count) }
+        ensures due { result ≡ true → (0 < count) × (steps_for self.now.due count ≡ 7 * count) }
+        ensures rest { (first : ℕ) → self.now.due ≡ Some first → 2 * (count - first) ≤ steps_for self.now.due count }
         ensures none { self.now.due ≡ None → result ≡ false }
         ensures empty { count ≡ 0 → result ≡ false }
     {
         match self.due {
             Some(first) => 0 < count && first <= count / 2,
             None => false,
+        }
+    }
+
+    /// How many of so many of its events stand as they were found.
+    pub(crate) fn standing(&self, count: usize) -> usize
+        ensures { result ≡ min (stands_for self.now.due count) count }
+    {
+        match self.due {
+            Some(first) => first.min(count),
+            None => count,
         }
     }
 

@@ -1,5 +1,5 @@
 //! What is kept of one object: where its events stand, and what is known of their legal orders.
-ghost use Rattle.std.specs.Prelude.{◌≡◌, ◌≢◌, ◌+◌, ◌-◌, ◌<◌, ◌≤◌, ◌∷◌, ◌++◌, [], ℕ, List, Bool, All, None, min, IsOk, IsTrue, IfOk, IfSome, OnOk, OnErr, Ok, length, map, take};
+ghost use Rattle.std.specs.Prelude.{◌≡◌, ◌≢◌, ◌+◌, ◌-◌, ◌<◌, ◌≤◌, ◌∷◌, ◌++◌, [], ℕ, List, Bool, All, None, Some, min, IsOk, IsTrue, IfOk, IfSome, OnOk, OnErr, Ok, length, map, take};
 ghost use Rattle.lin_events.specs.declared.items.Item.{Item as ItemOf};
 ghost use Rattle.lin_events.specs.declared.calls.Name.{Name as NameOf};
 ghost use Rattle.lin_events.specs.declared.events.Event.{Event as EventOf};
@@ -34,6 +34,7 @@ impl Object {
         requires inside { All (λ at. at < length events.now) self.old.picks.items }
         requires well_formed { (functions : ItemOf → NameOf → Bool) × IsWellFormed functions (events_at events.now self.old.picks.items) }
         requires known { self.old.mark.due ≡ None → IsKnownUnder budget (length self.old.picks.items) self.old.chain }
+        requires stands { (first : ℕ) → self.old.mark.due ≡ Some first → first ≤ ready_under budget self.old.chain }
         ensures picks { self.new.picks ≡ self.old.picks }
         ensures count { self.new.count ≡ length self.old.picks.items }
         ensures mark { self.new.mark ≡ self.old.mark }
@@ -43,7 +44,7 @@ impl Object {
         ensures told { IfOk result (λ end. told_in self.new.chain (length self.old.picks.items) ≡ end) }
         ensures answered { OnOk result (IsAnswered self.new.chain (length self.old.picks.items)) }
         ensures scans { meter.new.scans ≡ meter.old.scans }
-        ensures steps { meter.new.steps ≤ meter.old.steps + cost_of budget self.old }
+        ensures steps { meter.new.steps ≤ meter.old.steps + cost_of self.old }
         ensures settled { IsSettled budget self.old → IsOk result }
         ensures idle { IsSettled budget self.old → meter.new ≡ meter.old }
         ensures known { self.old.mark.due ≡ None → IsKnownUnder budget (length self.old.picks.items) self.new.chain × (end_in self.new.chain ≡ end_under budget self.old.chain) }
@@ -53,8 +54,9 @@ impl Object {
     {
         self.count = self.picks.len();
         let search = self.mark.is_mostly_due(self.picks.len());
+        let known = self.mark.standing(self.picks.len());
         self.chain
-            .settle(events, &self.picks, budget, search, meter)
+            .settle(events, &self.picks, budget, known, search, meter)
     }
 
     /// In positions of the history what its chain tells in places among its events.

@@ -130,6 +130,13 @@ impl Session {
         self.events.get(at)
     }
 
+    /// The events of the history, on the memory that they have; what was found of it goes.
+    pub fn into_history(self) -> Vec<Event>
+        ensures { result.items ≡ self.present.history }
+    {
+        self.events
+    }
+
     /// The kind of the key's object.
     pub fn kind_of(&self, key: Item) -> Kind
         ensures { result ≡ kind_of self.now.present.kinds key }
@@ -173,9 +180,10 @@ impl Session {
 
     /// Whether the present history is linearizable, for the scope.
     ///
-    /// An event of the scope's objects that is looked at anew is a step: those behind what stands as it was found; and where at least half
-    /// of an object's events do, a search may look at each six times more. What no edit touched since a question takes no step, no try and
-    /// no memory, whatever was answered, and time linear in the number of objects of the scope.
+    /// An event of the scope's objects that is looked at anew is a step: each of those behind what stands as it was found may be looked at
+    /// twice, for frontiers and for an order that goes on; and where at least half of an object's events are due, a search may look at all,
+    /// which makes seven times each at most. What no edit touched since a question takes no step, no try and no memory, whatever was
+    /// answered, and time linear in the number of objects of the scope.
     ///
     /// `OutOfMemory` is answered only where memory was refused; then the next question is answered as if this one had not been asked.
     pub fn ask(&mut self, alloc: Global, scope: Scope) -> Result<Verdict, OutOfMemory>

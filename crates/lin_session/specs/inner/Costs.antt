@@ -1,5 +1,5 @@
 -- What it costs to judge objects whose events are told apart.
-use Rattle.std.specs.Prelude.{◌≡◌, ◌+◌, ◌-◌, ◌≤◌, ◌⊎◌, ℕ, List, [], ◌∷◌, All, Option, None, Some, length, slice_get}
+use Rattle.std.specs.Prelude.{◌≡◌, ◌+◌, ◌≤◌, ◌⊎◌, ℕ, List, [], ◌∷◌, All, None, Some, length, slice_get}
 use Rattle.lin_events.specs.declared.items.Item.{Item}
 use Rattle.lin_chain.specs.Chains.{IsAnswered, end_in, end_under, ready_count, ready_under}
 use Rattle.lin_session.specs.declared.answers.Scope.{Scope}
@@ -7,30 +7,25 @@ use Rattle.lin_session.specs.declared.answers.Scope.TheVariants as scope
 use Rattle.lin_session.specs.declared.kept.Object.{Object}
 use Rattle.lin_session.specs.declared.kept.Objects.{Objects}
 use Rattle.lin_session.specs.Marks.{IsOf}
-use Rattle.lin_session.specs.Work.{searched}
+use Rattle.lin_session.specs.Work.{steps_for}
 
--- how many steps it takes to settle the object: none where nothing is due; else one for each event that its chain has still to take in, and those of a
--- search, if one may be made
-abbrev pub cost_of : ℕ → Object → ℕ
-cost_of budget object = by object.mark.due
-  where
-    by : Option ℕ → ℕ
-    by None = 0
-    by (Some first) = length object.picks.items - ready_under budget object.chain + searched (Some first) (length object.picks.items)
+-- how many steps it takes to settle the object
+abbrev pub cost_of : Object → ℕ
+cost_of object = steps_for object.mark.due (length object.picks.items)
 
 -- all of the objects together
-abbrev pub cost_of_all : ℕ → List Object → ℕ
-cost_of_all budget [] = 0
-cost_of_all budget (object ∷ objects) = cost_of budget object + cost_of_all budget objects
+abbrev pub cost_of_all : List Object → ℕ
+cost_of_all [] = 0
+cost_of_all (object ∷ objects) = cost_of object + cost_of_all objects
 
 -- nothing is due of the object, or it has no event
 abbrev pub IsSettled : ℕ → Object → Type 0
 IsSettled budget object = (object.mark.due ≡ None) ⊎ (length object.picks.items ≡ 0)
 
 -- to judge the objects of the scope takes at most so many steps
-abbrev pub IsCost : ℕ → Objects → Scope → ℕ → Type 0
-IsCost budget objects (scope.Object key) n = (i : ℕ) (object : Object) → slice_get objects.keys.keys i ≡ Some key → slice_get objects.objects.items i ≡ Some object → cost_of budget object ≤ n
-IsCost budget objects scope.Whole n = cost_of_all budget objects.objects.items ≤ n
+abbrev pub IsCost : Objects → Scope → ℕ → Type 0
+IsCost objects (scope.Object key) n = (i : ℕ) (object : Object) → slice_get objects.keys.keys i ≡ Some key → slice_get objects.objects.items i ≡ Some object → cost_of object ≤ n
+IsCost objects scope.Whole n = cost_of_all objects.objects.items ≤ n
 
 -- nothing is due of them
 abbrev pub AreSettled : ℕ → Objects → Scope → Type 0

@@ -7,7 +7,7 @@ use Rattle.lin_order.specs.Refutations.{IsRefutation, sets_of}
 use Rattle.lin_order.specs.declared.refutations.Refutation.{Refutation}
 use Rattle.lin_orders.specs.Configurations.{IsOver}
 use Rattle.lin_orders.specs.Linearizable.{IsLinearizableAs}
-use Rattle.lin_chain.proofs.Chaining.{event_there, length-events_at}
+use Rattle.lin_witness.specs.lemmas.Picks.{event_there, length-events_at}
 use Rattle.lin_chain.proofs.ExactSets.{AreAll, sets_refute, take_within}
 use Rattle.lin_chain.proofs.refuting.refutation_of.Goals as goal
 use Rattle.lin_chain.proofs.refuting.refutation_of.Goals.{In_ok-take_in}

@@ -8,14 +8,15 @@ use Rattle.lin_search.proofs.witness.failing.Goals as goal
 pub returns-clause-counted : goal.returns-clause-counted
 returns-clause-counted c =
     let before = c.args.meter.now.steps in
-    let refuted = c.tick_steps.new.meter.steps in
-    let sought = c.tick_steps-2.new.meter.steps in
+    let refuted = c.refuted.new.meter.steps in
+    let sought = c.tick_steps.new.meter.steps in
     let checked = c.shown.new.meter.steps in
     let at = c.in-Some.at in
-    let first : refuted ≡ ticked before (at + 1) = ap (λ (m : Meter). m.steps) c.tick_steps.ensures.counted in
-    let second : sought ≡ ticked refuted at = ap (λ (m : Meter). m.steps) c.tick_steps-2.ensures.counted in
+    let first : refuted ≡ ticked before (at + 1) = rw c.in-Some.is at c.in_ok-at.ensures.counted in
+    let second : sought ≡ ticked refuted at = ap (λ (m : Meter). m.steps) c.tick_steps.ensures.counted in
     let third : checked ≡ ticked sought (length (take at c.args.events.now)) = rw c.in-Some-2.is at c.in_ok-shown.ensures.counted in
-    let within : at ≤ length c.args.events.now = omega (arith, c.if-at-events.false) in
+    let inside = rw c.in-Some.is at c.in_ok-at.ensures.inside in
+    let within : at ≤ length c.args.events.now = omega (arith, inside) in
     let size = length-take-le at c.args.events.now within in
     let both = then_ticked before (at + 1) at refuted sought first second in
     let total : (at + 1 + at) + at ≡ 3 * at + 1 = omega arith in

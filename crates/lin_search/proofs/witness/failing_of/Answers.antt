@@ -1,4 +1,6 @@
-use Rattle.std.proofs.Common.{◌≡◌, ◌≤◌, ◌+◌, ◌*◌, length, ap, arith, ◌∙◌}
+use Rattle.std.proofs.Common.{◌≡◌, ◌≤◌, ◌+◌, ◌*◌, List, length, ap, arith, sym, subst, ◌∙◌}
+use Rattle.lin_events.specs.declared.events.Event.{Event}
+use Rattle.lin_events.specs.WellFormed.{IsWellFormed}
 use Rattle.std.proofs.lemmas.Option.{IfSome_then}
 use Rattle.std.proofs.lemmas.Result.{IfOk-weaker}
 use Rattle.lin_orders.specs.Parts.{events_at}
@@ -18,3 +20,8 @@ returns-clause-steps c =
     let same : length c.as_slice.result.now ≡ length (events_at c.args.events.now c.args.picks.now) = ap length (c.as_slice.ensures.value ∙ c.in_ok-own.ensures.own) in
     let few = events_most c.args.events.now c.args.picks.now in
     omega arith
+
+pub returns-clause-dead : goal.returns-clause-dead
+returns-clause-dead c functions formed =
+    let same : c.as_slice.result.now ≡ events_at c.args.events.now c.args.picks.now = c.as_slice.ensures.value ∙ c.in_ok-own.ensures.own in
+    rw same at (c.failing.ensures.dead functions (subst (λ (h : List Event). IsWellFormed functions h) (sym same) formed))

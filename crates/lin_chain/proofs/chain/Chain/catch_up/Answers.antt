@@ -1,5 +1,5 @@
 use Rattle.std.proofs.Common.{arith}
-use Rattle.lin_chain.proofs.Chaining.{length-events_at}
+use Rattle.lin_witness.specs.lemmas.Picks.{length-events_at}
 use Rattle.lin_chain.proofs.chain.Chain.catch_up.Goals as goal
 
 pub returns-then-budget-gt-SMALL_BUDGET-clause-steps : goal.returns-then-budget-gt-SMALL_BUDGET-clause-steps

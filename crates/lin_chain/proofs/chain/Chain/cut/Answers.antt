@@ -2,22 +2,21 @@ use Rattle.std.proofs.Common.{◌≡◌, ◌*◌, ◌/◌, ◌≤◌, ◌⊎◌,
 use Rattle.lin_chain.specs.declared.chain.End.{End}
 use Rattle.lin_chain.specs.declared.chain.End.TheVariants.{Dead, Over}
 use Rattle.lin_objects.specs.declared.any.Any.{Any}
-use Rattle.lin_chain.specs.Chains.{IsRight, kind_in}
+use Rattle.lin_chain.specs.Chains.{kind_in}
 use Rattle.lin_chain.specs.Founds.{IsFound}
 use Rattle.lin_chain.proofs.Replaying.{take_alike}
 use Rattle.lin_chain.proofs.Budgets.{left_fewer}
-use Rattle.lin_chain.proofs.Chaining.{checkpoint_before, found_alike, right_alike, right_alive, right_fewer}
+use Rattle.lin_chain.proofs.Chaining.{checkpoint_before, right_alike, right_alive, right_fewer}
 use Rattle.lin_chain.proofs.chain.Chain.cut.Goals as goal
 use Rattle.lin_chain.proofs.chain.Chain.cut.Goals.{in_default-via-in_default, in_default-via-in-Dead+else-at-local}
 
 pub returns-then-self-local-clause-right : goal.returns-then-self-local-clause-right
 returns-then-self-local-clause-right c = λ h edited right same.
-    subst (λ f. IsRight (record c.args.self.now { found = f }) edited) (sym c.cut.ensures) (right_alike c.args.self.now h edited c.args.local c.if-self-local.true same right)
+    right_alike c.args.self.now c.cut.new.self h edited c.args.local c.if-self-local.true same (c.cut.ensures.right (kind_in c.args.self.now) h edited right.found same) right
 
 pub returns-in-Dead-clause-right : goal.returns-in-Dead-clause-right
 returns-in-Dead-clause-right c = λ h edited right same.
-    subst (λ f. IsRight (record c.args.self.now { ready = c.args.local; found = f }) edited) (sym c.cut.ensures)
-    (right_fewer c.args.self.now h edited c.args.local c.in-Dead.at c.if-self-local.false c.if-at-local.true same c.in-Dead.is right)
+    right_fewer c.args.self.now c.cut.new.self h edited c.args.local c.in-Dead.at c.if-self-local.false c.if-at-local.true same c.in-Dead.is (c.cut.ensures.right (kind_in c.args.self.now) h edited right.found same) right
 
 pub returns-in-Dead-clause-left : goal.returns-in-Dead-clause-left
 returns-in-Dead-clause-left c = λ budget. left_fewer budget c.args.local c.in-Dead.at c.args.self.now c.if-self-local.false c.if-at-local.true c.in-Dead.is
@@ -36,8 +35,7 @@ returns-in_default-clause-right c = λ h edited right same.
     let inside = checkpoint_before self h local c.if-self-local.false behind right in
     right_alive c.go_back.new.self c.go_back.new.self.reached self.budget c.cut.new.self edited refl
     (c.go_back.ensures.right h edited right.replay inside (take_alike (64 * (local / 64)) local h edited (omega arith) same))
-    (subst (λ (o : Any). IsFound o.kind edited c.cut.new.self) (sym c.go_back.ensures.object)
-    (subst (IsFound (kind_in self) edited) (sym c.cut.ensures) (found_alike (kind_in self) h edited local self.found same right.found)))
+    (subst (λ (o : Any). IsFound o.kind edited c.cut.new.self) (sym c.go_back.ensures.object) (c.cut.ensures.right (kind_in self) h edited right.found same))
   where
     behind : (at : ℕ) → (c.args.self.now.end ≡ Dead at) ⊎ (c.args.self.now.end ≡ Over at) → c.args.local ≤ at
     behind at is = elim c.in_default.branch [

@@ -1,8 +1,9 @@
-use Rattle.std.proofs.Common.{◌≡◌, ◌∙◌, arith, length, sym}
+use Rattle.std.proofs.Common.{◌≡◌, ◌∙◌, arith, sym}
 use Rattle.lin_chain.specs.declared.chain.End.TheVariants.{Alive}
 use Rattle.lin_orders.specs.Parts.{events_at}
 use Rattle.lin_chain.specs.Chains.{IsRight, ready_count}
-use Rattle.lin_chain.proofs.Chaining.{event_there, from_fewer, length-events_at, reached_ready}
+use Rattle.lin_chain.proofs.Chaining.{from_fewer, reached_ready}
+use Rattle.lin_witness.specs.lemmas.Picks.{event_there, length-events_at}
 use Rattle.lin_chain.proofs.chain.Chain.go_on.Goals as goal
 use Rattle.lin_chain.proofs.chain.Chain.go_on.Goals.{After-take_in}
 

@@ -1,5 +1,5 @@
 use Rattle.std.proofs.Common.{arith}
-use Rattle.lin_chain.proofs.Chaining.{length-events_at}
+use Rattle.lin_witness.specs.lemmas.Picks.{length-events_at}
 use Rattle.lin_chain.proofs.chain.Chain.is_slow.Goals as goal
 
 pub returns-then-not-is_searched_first-clause-steps : goal.returns-then-not-is_searched_first-clause-steps

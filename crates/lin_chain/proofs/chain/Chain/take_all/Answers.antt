@@ -1,15 +1,14 @@
-use Rattle.std.proofs.Common.{◌≡◌, ◌≢◌, ◌≤◌, ◌+◌, ◌∙◌, ℕ, true, false, Result, Ok, Err, IsOk, List, refl, sym, subst, arith, length}
+use Rattle.std.proofs.Common.{◌≡◌, ◌≤◌, ◌+◌, ◌∙◌, ℕ, true, false, Result, Ok, Err, IsOk, List, refl, sym, subst, arith, length}
 use Rattle.lin_events.specs.declared.lists.OutOfMemory.{OutOfMemory}
 use Rattle.lin_events.specs.declared.events.Event.{Event}
 use Rattle.lin_events.specs.declared.meter.Meter.{Meter}
-use Rattle.lin_objects.specs.declared.kinds.Kind.{Kind}
 use Rattle.lin_orders.specs.Parts.{events_at}
 use Rattle.lin_chain.specs.declared.chain.Chain.{Chain}
-use Rattle.lin_chain.specs.declared.chain.End.TheVariants.{Alive, Over}
-use Rattle.lin_chain.specs.declared.found.Found.{Found}
+use Rattle.lin_chain.specs.declared.chain.End.TheVariants.{Alive}
 use Rattle.lin_chain.specs.Chains.{IsFor, IsRight, kind_in, ready_count, ready_under}
 use Rattle.lin_chain.proofs.Budgets.{not_retried, taken_under, taken_more}
-use Rattle.lin_chain.proofs.Chaining.{length-events_at, right_all}
+use Rattle.lin_chain.proofs.Chaining.{right_all}
+use Rattle.lin_witness.specs.lemmas.Picks.{length-events_at}
 use Rattle.lin_chain.proofs.chain.Chain.take_all.Goals as goal
 use Rattle.lin_chain.proofs.chain.Chain.take_all.Goals.{After-is_alive, Joined-is_alive, then-is_alive+in_ok-go_on, else-is_alive}
 

@@ -1,5 +1,5 @@
 use Rattle.std.proofs.Common.{arith}
-use Rattle.lin_chain.proofs.Chaining.{length-events_at}
+use Rattle.lin_witness.specs.lemmas.Picks.{length-events_at}
 use Rattle.lin_chain.proofs.chain.Chain.take_some.Goals as goal
 
 pub returns-in_err-go_on-clause-steps : goal.returns-in_err-go_on-clause-steps

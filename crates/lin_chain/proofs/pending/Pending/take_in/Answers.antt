@@ -8,8 +8,8 @@ use Rattle.lin_events.specs.declared.events.Body.{Body}
 use Rattle.lin_events.specs.declared.events.Body.TheVariants.{Ok, Fail, Info}
 use Rattle.lin_events.specs.WellFormed.{Completes}
 use Rattle.lin_frontier.specs.declared.pending.Open.{Open}
-use Rattle.lin_chain.proofs.Lists.{swap_front}
-use Rattle.lin_chain.proofs.Listing.{pending_invoked, pending_returned, pending_crashed, completed_listed}
+use Rattle.lin_witness.specs.lemmas.Lists.{swap_front}
+use Rattle.lin_witness.specs.lemmas.Listing.{pending_invoked, pending_returned, pending_crashed, completed_listed}
 use Rattle.lin_chain.proofs.pending.Pending.take_in.Goals as goal
 
 -- an ok and a fail complete an operation

@@ -75,7 +75,7 @@ returns-in-Whole-clause-judged c =
     c.judge_whole.ensures.judged
 
 -- the events are told apart, so a question costs what is due
-cost : (c : In_ok-split) → IsCost c.args.present.now.budget c.split.new.self c.args.scope (cost_in (marks_in c.args.self.now) c.args.present.now.history.now c.args.scope)
+cost : (c : In_ok-split) → IsCost c.split.new.self c.args.scope (cost_in (marks_in c.args.self.now) c.args.present.now.history.now c.args.scope)
 cost c =
     scope_cost c.positions_spell_parts.ensures (kind_of c.args.present.now.kinds.now) c.args.present.now.budget c.args.present.now.history.now c.split.new.self (c.split.ensures.right c.args.present.now.budget c.requires.right) c.in_ok-split.ensures.all (marks_in c.args.self.now) c.split.ensures.marks c.args.scope
 
@@ -83,11 +83,11 @@ settled : (c : In_ok-split) → IsNothingDue c.args.present.now.history.now c.ar
 settled c =
     scope_settled c.positions_spell_parts.ensures (kind_of c.args.present.now.kinds.now) c.args.present.now.budget c.args.present.now.history.now c.split.new.self (c.split.ensures.right c.args.present.now.budget c.requires.right) c.in_ok-split.ensures.all (marks_in c.args.self.now) c.split.ensures.marks c.args.scope
 
-object_steps : (c : After-judge_object) (n : ℕ) → IsCost c.args.present.now.budget c.split.new.self c.args.scope n → c.judge_object.new.meter.steps ≤ c.args.meter.now.steps + n
+object_steps : (c : After-judge_object) (n : ℕ) → IsCost c.split.new.self c.args.scope n → c.judge_object.new.meter.steps ≤ c.args.meter.now.steps + n
 object_steps c n most =
     let s = c.split.new.self in
     let key = c.in-Object.key in
-    let costs = subst (λ q. IsCost c.args.present.now.budget s q n) c.in-Object.is most in
+    let costs = subst (λ q. IsCost s q n) c.in-Object.is most in
     elim (is_listed s.keys.keys key) [
       | inl at ↦
           let within = slice_get_within s.keys.keys at.0 key at.1 in
@@ -98,9 +98,9 @@ object_steps c n most =
           omega (arith, ap (λ m. m.steps) idle)
     ]
 
-whole_steps : (c : After-judge_whole) (n : ℕ) → IsCost c.args.present.now.budget c.split.new.self c.args.scope n → c.judge_whole.new.meter.steps ≤ c.args.meter.now.steps + n
+whole_steps : (c : After-judge_whole) (n : ℕ) → IsCost c.split.new.self c.args.scope n → c.judge_whole.new.meter.steps ≤ c.args.meter.now.steps + n
 whole_steps c n most =
-    let costs = subst (λ q. IsCost c.args.present.now.budget c.split.new.self q n) c.in-Whole.is most in
+    let costs = subst (λ q. IsCost c.split.new.self q n) c.in-Whole.is most in
     omega (arith, c.judge_whole.ensures.steps, costs)
 
 pub returns-in-Object-clause-steps : goal.returns-in-Object-clause-steps

@@ -46,8 +46,8 @@ loop-i-preserved c =
       scans = c.judge_listed.ensures.scans ∙ inv.scans;
       steps =
           let n = next (goal.at.loop-i-preserved c).In-loop-i in
-          let more = cost-next c.args.budget c.args.self.now.objects.items i n.0 n.2 in
-          let one = ap (λ m. cost_of_all c.args.budget (take m c.args.self.now.objects.items)) (add-one i) in
+          let more = cost-next c.args.self.now.objects.items i n.0 n.2 in
+          let one = ap (λ m. cost_of_all (take m c.args.self.now.objects.items)) (add-one i) in
           omega (arith, inv.steps, c.judge_listed.ensures.steps n.0 n.1, more, one);
       behind = λ j object below object_at. inv.behind j object (omega (arith, below)) (c.judge_listed.ensures.others j object (λ e. omega (arith, e, below)) object_at);
       split = c.judge_listed.ensures.split ∙ inv.split;
@@ -116,8 +116,8 @@ pub returns-in_err-found-clause-steps : goal.returns-in_err-found-clause-steps
 returns-in_err-found-clause-steps c =
     let n = next (goal.at.returns-in_err-found-clause-steps c).In-loop-i in
     let objects = c.args.self.now.objects.items in
-    let more = cost-next c.args.budget objects c.loop-i.i n.0 n.2 in
-    let all = cost-first c.args.budget objects (suc c.loop-i.i) in
+    let more = cost-next objects c.loop-i.i n.0 n.2 in
+    let all = cost-first objects (suc c.loop-i.i) in
     omega (arith, c.loop-i.invariant.steps, c.judge_listed.ensures.steps n.0 n.1, more, all)
 
 pub returns-in_err-found-clause-settled : goal.returns-in_err-found-clause-settled
@@ -126,7 +126,7 @@ returns-in_err-found-clause-settled c = λ all.
     absurd (not_ok c.judge_listed.result c.in_err-found.field-0.0 c.in_err-found.was (c.judge_listed.ensures.settled n.0 n.1 (All-at (IsSettled c.args.budget) c.args.self.now.objects.items all c.loop-i.i n.0 n.2)))
 
 pub returns-clause-steps : goal.returns-clause-steps
-returns-clause-steps c = omega (arith, c.loop-i.invariant.steps, cost-first c.args.budget c.args.self.now.objects.items c.loop-i.i)
+returns-clause-steps c = omega (arith, c.loop-i.invariant.steps, cost-first c.args.self.now.objects.items c.loop-i.i)
 
 pub returns-in_err-found-clause-marks : goal.returns-in_err-found-clause-marks
 returns-in_err-found-clause-marks c = λ key. c.judge_listed.ensures.marks key ∙ c.loop-i.invariant.marks key

@@ -14,7 +14,7 @@ use Rattle.lin_session.proofs.kept.Objects.judge_all.Given as goal
 abbrev pub invariant-loop-i : goal.invariant-loop-i
 invariant-loop-i l = record {
   keys : l.self.keys ≡ l.initial.self.keys;
-  steps : l.meter.steps ≤ l.initial.meter.steps + cost_of_all l.budget (take l.i l.initial.self.objects.items);
+  steps : l.meter.steps ≤ l.initial.meter.steps + cost_of_all (take l.i l.initial.self.objects.items);
   behind : (j : ℕ) (object : Object) → l.i ≤ j → slice_get l.self.objects.items j ≡ Some object → slice_get l.initial.self.objects.items j ≡ Some object;
   scans : l.meter.scans ≡ l.initial.meter.scans;
   split : split_in l.self ≡ split_in l.initial.self;

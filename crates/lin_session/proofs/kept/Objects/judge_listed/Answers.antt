@@ -9,8 +9,9 @@ use Rattle.lin_session.specs.Objects.{AreRight, IsObject}
 use Rattle.lin_session.specs.inner.Objects.{Finds, IsPlaceIn}
 use Rattle.lin_session.specs.inner.Costs.{cost_of, IsJudged, IsSettled}
 use Rattle.lin_session.specs.inner.Judgements.{IsAlive, StandsOver}
-use Rattle.lin_session.proofs.Advancing.{after, fine_there, inside, known_there, marks_stay, object_there, one_object, others_stay, right_there, spelled_length}
-use Rattle.lin_session.proofs.Asking.{IsPlaceIn-end, spelled, finding_of, finds_alive, finds_over, told_over}
+use Rattle.lin_session.proofs.Advancing.{after, due_there, fine_there, inside, known_there, marks_stay, object_there, one_object, others_stay, right_there, spelled_length}
+use Rattle.lin_session.proofs.Asking.{IsPlaceIn-end, spelled, finding_of, finds_alive, finds_over}
+use Rattle.lin_chain.specs.lemmas.Told.{told_over}
 use Rattle.lin_session.proofs.Found.{not_ok}
 use Rattle.lin_lists.specs.lemmas.Lists.{get_set_cases}
 use Rattle.lin_session.proofs.kept.Objects.judge_listed.Goals as goal
@@ -44,6 +45,10 @@ settle-requires-clause-well_formed c =
 pub settle-requires-clause-known : goal.settle-requires-clause-known
 settle-requires-clause-known c =
     known_there c.args.self.now c.args.i c.requires.listed c.index_mut-object.result.now c.index_mut-object.ensures.value c.positions_spell_parts.ensures c.args.budget c.args.events.now c.requires.split c.requires.right.0 c.requires.right.1
+
+pub settle-requires-clause-stands : goal.settle-requires-clause-stands
+settle-requires-clause-stands c =
+    due_there c.args.self.now c.args.i c.requires.listed c.index_mut-object.result.now c.index_mut-object.ensures.value c.positions_spell_parts.ensures c.args.budget c.args.events.now c.requires.split c.requires.right.0 c.requires.right.1
 
 pub returns-in_err-end-clause-right : goal.returns-in_err-end-clause-right
 returns-in_err-end-clause-right c = λ kinds kept.
@@ -109,12 +114,12 @@ returns-in_err-end-clause-others c = others_stay c.args.self.now c.args.i c.requ
 pub returns-clause-steps : goal.returns-clause-steps
 returns-clause-steps c = λ object object_at.
     let same = one_object c.args.self.now c.args.i c.requires.listed c.index_mut-object.result.now c.index_mut-object.ensures.value object object_at in
-    omega (arith, c.settle.ensures.steps, ap (cost_of c.args.budget) same)
+    omega (arith, c.settle.ensures.steps, ap cost_of same)
 
 pub returns-in_err-end-clause-steps : goal.returns-in_err-end-clause-steps
 returns-in_err-end-clause-steps c = λ object object_at.
     let same = one_object c.args.self.now c.args.i c.requires.listed c.index_mut-object.result.now c.index_mut-object.ensures.value object object_at in
-    omega (arith, c.settle.ensures.steps, ap (cost_of c.args.budget) same)
+    omega (arith, c.settle.ensures.steps, ap cost_of same)
 
 pub returns-in_err-end-clause-settled : goal.returns-in_err-end-clause-settled
 returns-in_err-end-clause-settled c = λ object object_at settled.
