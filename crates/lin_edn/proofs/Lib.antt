@@ -23,5 +23,6 @@ pub mod Sizes
 pub mod Skims
 pub mod Sound
 pub mod Standing
+pub mod Stops
 pub mod Unique
 pub mod Wrong

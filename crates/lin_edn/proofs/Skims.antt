@@ -7,14 +7,14 @@ use Rattle.lin_edn.specs.inner.Machine.{Mode, between, in_run, after_hash, after
 use Rattle.lin_edn.specs.Run.{run_value}
 use Rattle.lin_edn.specs.Rows.{IsRow, IsRound, bracket_of, row_levels}
 use Rattle.lin_edn.specs.Skimming.{Shape, brackets, a_discard, a_tag, shape_of, IsIn, LeavesOpen, HasSeen, IsMoreOf, is_more_of, shapes_of, IsOpenText}
-use Rattle.lin_edn.specs.inner.Skimming.{still, put_shape, with_part, apart_shape, ended_shape, deeper_shape, close_shape, begins_shape, goes_on_shape, quotes_shape, taken_shape, HasGone, row_shapes}
+use Rattle.lin_edn.specs.inner.Skimming.{still, put_shape, with_part, apart_shape, ended_shape, deeper_shape, close_shape, begins_shape, goes_on_shape, quotes_shape, taken_shape, HasGone, HasStopped, row_shapes}
 use Rattle.lin_edn.specs.Value.{Value, atom, text as a_text, tagged, made}
 use Rattle.lin_edn.specs.declared.EdnCause.TheVariants.{Unbalanced, TooDeep}
 use Rattle.lin_edn.specs.declared.series.Series.{Series}
 use Rattle.lin_edn.specs.declared.skim.Part.{Part}
 use Rattle.lin_edn.specs.declared.skim.Part.TheVariants as part
 use Rattle.lin_edn.specs.declared.skim.Skim.{Skim}
-use Rattle.lin_edn.proofs.Back.{What, what, Stands, AfterTurn, step_holds}
+use Rattle.lin_edn.proofs.Back.{What, what, levels, Stands, AfterTurn, step_holds}
 use Rattle.lin_edn.proofs.Fronts.{made_empty, made_grown}
 use Rattle.lin_edn.specs.lemmas.Longer.{one_longer, inside_longer, tag_longer, text_longer, escape_longer, comment_longer, open_longer}
 use Rattle.lin_edn.proofs.Sound.{unfinished_of}
@@ -37,14 +37,23 @@ pub data Follows : ℕ → ℕ → Turn → List Shape → Part → Type 0 where
   follows : {at b : ℕ} {t : Turn} {ls : List Shape} {p : Part} (st : List Frame) (m : Mode) → t ≡ go st m → each shape_of st ≡ ls → part_of m ≡ p →
       begun at st m ≡ b → Follows at b t ls p
 
+-- after a turn nothing is open
+abbrev pub IsOver : Turn → Type 0
+IsOver (go st m) = (st ≡ []) × (m ≡ between)
+IsOver (stop a) = Unit {0}
+
 -- what an outcome of the shapes says of a turn
-abbrev Matches : ℕ → ℕ → Turn → Option (List Shape × Part) → Type 0
-Matches at b t None = Unit {0}
+abbrev pub Matches : ℕ → ℕ → Turn → Option (List Shape × Part) → Type 0
+Matches at b t None = IsOver t
 Matches at b t (Some r) = Follows at b t r.0 r.1
 
 put_case : (v : Value) (p : ℕ) (st : List Frame) (q : ℕ) (o : Option (List Shape)) → put_shape (each shape_of st) ≡ o →
     Matches q (outermost p st) (put v p st q) (with_part part.Between o)
-put_case v p st q None h = tt
+put_case v p [] q None h = tt
+put_case v p (frame k o vs ∷ st) q None h = absurd (cc)
+put_case v p (discarding o ∷ []) q None h = (refl, refl)
+put_case v p (discarding o ∷ (f ∷ st)) q None h = absurd (cc)
+put_case v p (tagging o i w ∷ st) q None h = put_case (tagged i w v) o st q None h
 put_case v p [] q (Some ls) h = absurd (cc)
 put_case v p (frame k o vs ∷ st) q (Some ls) h =
     follows (frame k o (vs ++ v ∷ []) ∷ st) between refl (ap (λ b. brackets k b ∷ each shape_of st) (made_grown k vs v) ∙ cc) refl refl
@@ -56,7 +65,7 @@ put_matches : (v : Value) (p : ℕ) (st : List Frame) (q : ℕ) → Matches q (o
 put_matches v p st q = put_case v p st q (put_shape (each shape_of st)) refl
 
 still_matches : (p at : ℕ) (st : List Frame) → Matches at (outermost p st) (go st between) (with_part part.Between (still (each shape_of st)))
-still_matches p at [] = tt
+still_matches p at [] = (refl, refl)
 still_matches p at (f ∷ st) = follows (f ∷ st) between refl refl refl refl
 
 -- what a byte ends before itself
@@ -65,10 +74,14 @@ run_if : (at p : ℕ) (w : List ℕ) (st : List Frame) (b : Bool) → Matches at
 run_if at p w st true = put_matches (run_value p w) p st at
 run_if at p w st false = follows st (in_run p w) refl refl refl refl
 
-tag_if : (at p : ℕ) (w : List ℕ) (st : List Frame) (b : Bool) → Matches at (outermost p st) (if b then go (tagging p (p + 1) w ∷ st) between else go st (in_tag p w))
-    (if b then Some (a_tag ∷ each shape_of st, part.Between) else Some (each shape_of st, part.Tag))
-tag_if at p w st true = follows (tagging p (p + 1) w ∷ st) between refl refl refl refl
-tag_if at p w st false = follows st (in_tag p w) refl refl refl refl
+tag_if : (at p : ℕ) (w : List ℕ) (st : List Frame) → length st < 64 → (b : Bool) →
+    Matches at (outermost p st) (if b then go (tagging p (p + 1) w ∷ st) between else go st (in_tag p w))
+    (if b then deeper_shape (each shape_of st) (a_tag ∷ each shape_of st, part.Between) else Some (each shape_of st, part.Tag))
+tag_if at p w st lt true =
+    let few : length (each shape_of st) < 64 = rw length-map lt in
+    subst (λ x. Matches at (outermost p st) (go (tagging p (p + 1) w ∷ st) between) (if x then None else Some (a_tag ∷ each shape_of st, part.Between)))
+    (sym (is_above 64 (length (each shape_of st)) few)) (follows (tagging p (p + 1) w ∷ st) between refl refl refl refl)
+tag_if at p w st lt false = follows st (in_tag p w) refl refl refl refl
 
 apart_matches : (at p : ℕ) (w : List ℕ) (st : List Frame) (b : Behind) → Matches at (outermost p st) (apart b at st p w) (apart_shape b (each shape_of st))
 apart_matches at p w st opens_set = follows st (after_hash p w) refl refl refl refl
@@ -78,15 +91,16 @@ apart_matches at p w st joins = follows st (after_hash p w) refl refl refl refl
 apart_matches at p w st stands_apart = put_matches (atom p w) p st at
 apart_matches at p w st names_tag = follows st (after_hash p w) refl refl refl refl
 
-ended_matches : (at c : ℕ) (st : List Frame) (m : Mode) → Matches at (begun at st m) (ended at st m c) (ended_shape (part_of m) (each shape_of st) c)
-ended_matches at c st between = follows st between refl refl refl refl
-ended_matches at c st (in_run p w) = run_if at p w st (is_stop c)
-ended_matches at c st (after_hash p w) = apart_matches at p w st (behind c)
-ended_matches at c st (after_backslash p w) = follows st (after_backslash p w) refl refl refl refl
-ended_matches at c st (in_tag p w) = tag_if at p w st (is_stop c)
-ended_matches at c st (in_text p w) = follows st (in_text p w) refl refl refl refl
-ended_matches at c st (in_escape p w) = follows st (in_escape p w) refl refl refl refl
-ended_matches at c st (in_comment p) = follows st (in_comment p) refl refl refl refl
+pub ended_matches : (text rest : List ℕ) (at c : ℕ) (st : List Frame) (m : Mode) → Stands text at st m rest →
+    Matches at (begun at st m) (ended at st m c) (ended_shape (part_of m) (each shape_of st) c)
+ended_matches text rest at c st between h = follows st between refl refl refl refl
+ended_matches text rest at c st (in_run p w) h = run_if at p w st (is_stop c)
+ended_matches text rest at c st (after_hash p w) h = apart_matches at p w st (behind c)
+ended_matches text rest at c st (after_backslash p w) h = follows st (after_backslash p w) refl refl refl refl
+ended_matches text rest at c st (in_tag p w) h = (let all : suc h.0 + length st ≡ 64 = levels h.2 in tag_if at p w st (omega arith) (is_stop c))
+ended_matches text rest at c st (in_text p w) h = follows st (in_text p w) refl refl refl refl
+ended_matches text rest at c st (in_escape p w) h = follows st (in_escape p w) refl refl refl refl
+ended_matches text rest at c st (in_comment p) h = follows st (in_comment p) refl refl refl refl
 
 -- the byte itself
 deeper_case : (at b here p : ℕ) (t : Turn) (r : List Shape × Part) (d : Bool) → Follows at b t r.0 r.1 →
@@ -147,7 +161,7 @@ newline_if : (at p : ℕ) (st : List Frame) (b : Bool) → Matches (at + 1) (out
 newline_if at p st true = still_matches p (at + 1) st
 newline_if at p st false = follows st (in_comment p) refl refl refl refl
 
-taken_matches : (at c : ℕ) (st : List Frame) (m : Mode) → Matches (at + 1) (begun at st m) (taken at st m c) (taken_shape (part_of m) (each shape_of st) c)
+pub taken_matches : (at c : ℕ) (st : List Frame) (m : Mode) → Matches (at + 1) (begun at st m) (taken at st m c) (taken_shape (part_of m) (each shape_of st) c)
 taken_matches at c st between = begins_matches at c st (class c)
 taken_matches at c st (in_run p w) = follows st (in_run p (w ++ c ∷ [])) refl refl refl refl
 taken_matches at c st (after_hash p w) = goes_on_matches at c p w st (behind c)
@@ -183,7 +197,7 @@ leaves_of text rest at st (in_text p w) h le b = (le, h.0, st, p, h.1, h.2, (w, 
 leaves_of text rest at st (in_escape p w) h le b = (le, h.0, st, p, h.1, h.2, (w, h.3), refl, b)
 leaves_of text rest at st (in_comment p) h le b = (le, h.0, st, p, h.1, h.2, h.3, refl, b)
 
-state_of : (part : Part) (n p at : ℕ) (st : List Frame) (text s rest : List ℕ) → Open text n st p s → IsIn part n p s at rest →
+pub state_of : (part : Part) (n p at : ℕ) (st : List Frame) (text s rest : List ℕ) → Open text n st p s → IsIn part n p s at rest →
     (m : Mode) × (part_of m ≡ part) × (begun at st m ≡ outermost p st) × Stands text at st m rest
 state_of part.Between n p at st text s rest o i =
     (between, refl, ap (λ q. outermost q st) (sym i.0), (n, subst (λ q. Open text n st q rest) i.0 (subst (Open text n st p) i.1 o)))
@@ -201,6 +215,12 @@ after_step : (text rest : List ℕ) (at : ℕ) (t : Turn) (ls : List Shape) (p :
 after_step text rest at t ls p (follows st m e s q b) h le =
     subst (LeavesOpen text at rest ls) q (subst (λ x. LeavesOpen text at rest x (part_of m)) s (leaves_of text rest at st m (subst (AfterTurn text at rest) e h).0 le b))
 
+-- what a byte ends before itself leaves open, where the machine is
+pub follows_ended : (text rest : List ℕ) (at c : ℕ) (st : List Frame) (m : Mode) (ls1 : List Shape) (p1 : Part) → Stands text at st m rest → begun at st m ≡ 0 →
+    ended_shape (part_of m) (each shape_of st) c ≡ Some (ls1, p1) → Follows at 0 (ended at st m c) ls1 p1
+follows_ended text rest at c st m ls1 p1 stands first shaped =
+    subst (λ b. Follows at b (ended at st m c) ls1 p1) first (matched at (begun at st m) (ended at st m c) _ (ls1, p1) shaped (ended_matches text rest at c st m stands))
+
 pub one_more_open : (at c : ℕ) (ls ls1 ls2 : List Shape) (p p1 p2 : Part) → ended_shape p ls c ≡ Some (ls1, p1) → at < longest →
     taken_shape p1 ls1 c ≡ Some (ls2, p2) → (text rest : List ℕ) → LeavesOpen text at (c ∷ rest) ls p → LeavesOpen text (at + 1) rest ls2 p2
 one_more_open at c ls ls1 ls2 p p1 p2 e lt f text rest seen =
@@ -209,7 +229,7 @@ one_more_open at c ls ls1 ls2 p p1 p2 e lt f text rest seen =
     let m = state.0 in
     let first_byte : begun at st m ≡ 0 = state.2 ∙ seen.8 in
     let shaped : ended_shape (part_of m) (each shape_of st) c ≡ Some (ls1, p1) = ap (λ x. ended_shape x (each shape_of st) c) state.1 ∙ ap (λ x. ended_shape p x c) seen.7 ∙ e in
-    let first_half = subst (λ b. Follows at b (ended at st m c) ls1 p1) first_byte (matched at (begun at st m) (ended at st m c) _ (ls1, p1) shaped (ended_matches at c st m)) in
+    let first_half = follows_ended text (c ∷ rest) at c st m ls1 p1 state.3 first_byte shaped in
     after_step text rest (at + 1) (step longest at st m c) ls2 p2 (limited_follows at c (ended at st m c) ls1 ls2 p1 p2 first_half lt f)
     (step_holds at c text rest st m state.3 (omega arith)) (omega arith)
 
@@ -279,13 +299,18 @@ in_longer part.Text n p q s t i x = (i.0, text_longer i.1 x)
 in_longer part.Escape n p q s t i x = (i.0, escape_longer i.1 x)
 in_longer part.Comment n p q s t i x = comment_longer i x
 
+leaves_longer : (old : Skim) (text piece : List ℕ) → HasSeen old text → LeavesOpen (text ++ piece) old.length piece (shapes_of old.levels.items) old.part
+leaves_longer old text piece seen =
+    let h = seen.1 in (h.0, h.1, h.2, h.3, h.4 ++ piece, open_longer h.5 piece, in_longer old.part h.1 h.3 old.length h.4 [] h.6 piece, h.7, h.8)
+
 pub seen_gone : (old new : Skim) (text piece : List ℕ) → HasGone old new piece → HasSeen old text → HasSeen new (text ++ piece)
-seen_gone old new text piece g seen =
-    let h = seen.1 in (
-      (let e = length-append text piece in let i : new.length ≡ old.length + length piece = g.0 in let j : old.length ≡ length text = seen.0 in omega arith),
-      g.1 (text ++ piece) [] (subst (λ l. LeavesOpen (text ++ piece) old.length l (shapes_of old.levels.items) old.part) (sym (append-nil piece))
-          (h.0, h.1, h.2, h.3, h.4 ++ piece, open_longer h.5 piece, in_longer old.part h.1 h.3 old.length h.4 [] h.6 piece, h.7, h.8)),
-    )
+seen_gone old new text piece g seen = (
+  (let e = length-append text piece in let i : new.length ≡ old.length + length piece = g.0 in let j : old.length ≡ length text = seen.0 in omega arith),
+  g.1 (text ++ piece) [] (subst (λ l. LeavesOpen (text ++ piece) old.length l (shapes_of old.levels.items) old.part) (sym (append-nil piece)) (leaves_longer old text piece seen)),
+)
+
+pub seen_stopped : (old : Skim) (text piece : List ℕ) (is_comment : Bool) → HasStopped old piece → HasSeen old text → IsOpenText is_comment (text ++ piece) → ⊥
+seen_stopped old text piece is_comment stopped seen is = stopped (text ++ piece) is_comment (leaves_longer old text piece seen) is
 
 -- in a list or vector
 row_shape : (b : Bool) (o : ℕ) (vs : List Value) → shape_of (frame (bracket_of b) o vs) ≡ brackets (bracket_of b) true
@@ -303,16 +328,25 @@ round_shapes false b begun o st vs round first = (
   ap (outermost o) round.1 ∙ round.0 ∙ first,
 )
 
+row_leaves : (r : Series) (text : List ℕ) (vs : List Value) → r.begun ≡ 0 → IsRow r text vs →
+    LeavesOpen text r.at (drop r.at text) (row_shapes r.is_tagged r.is_vector) part.Between
+row_leaves r text vs first row =
+    let round = round_shapes r.is_tagged r.is_vector r.begun row.2 row.3 vs row.4 first in
+    (row.1, row_levels r, frame (bracket_of r.is_vector) row.2 vs ∷ row.3, r.at, drop r.at text, row.5, (refl, refl), round.0, round.1)
+
 pub seen_in : (r : Series) (text : List ℕ) (vs : List Value) (old new : Skim) → old.length ≡ r.at → shapes_of old.levels.items ≡ row_shapes r.is_tagged r.is_vector →
     old.part ≡ part.Between → r.begun ≡ 0 → HasGone old new (drop r.at text) → IsRow r text vs → HasSeen new text
 seen_in r text vs old new size shapes is_between first g row =
-    let rest = drop r.at text in
-    let round = round_shapes r.is_tagged r.is_vector r.begun row.2 row.3 vs row.4 first in
-    let begins : LeavesOpen text r.at rest (row_shapes r.is_tagged r.is_vector) part.Between =
-    (row.1, row_levels r, frame (bracket_of r.is_vector) row.2 vs ∷ row.3, r.at, rest, row.5, (refl, refl), round.0, round.1) in (
+    let rest = drop r.at text in (
       (let e = length-drop r.at text in let i : r.at ≤ length text = row.0 in let j : new.length ≡ old.length + length rest = g.0 in omega arith),
-      g.1 text [] (rw (size, shapes, is_between, append-nil rest) begins),
+      g.1 text [] (rw (size, shapes, is_between, append-nil rest) (row_leaves r text vs first row)),
     )
+
+pub stopped_in : (r : Series) (text : List ℕ) (vs : List Value) (is_comment : Bool) (old : Skim) → old.length ≡ r.at →
+    shapes_of old.levels.items ≡ row_shapes r.is_tagged r.is_vector → old.part ≡ part.Between → r.begun ≡ 0 → HasStopped old (drop r.at text) → IsRow r text vs →
+    IsOpenText is_comment text → ⊥
+stopped_in r text vs is_comment old size shapes is_between first stopped row is =
+    stopped text is_comment (rw (size, shapes, is_between) (row_leaves r text vs first row)) is
 
 -- bytes that leave open what is open
 pub still_more : (old now : Skim) (bytes : List ℕ) (at : ℕ) → at < length bytes → now.part ≡ old.part → IsMoreOf old bytes → is_more_of now.part (get_or bytes at 0) ≡ true

@@ -1,25 +1,26 @@
 //! A reader that keeps no values, and goes on where it stopped.
 
-ghost use Rattle.std.specs.Prelude.{◌≡◌, ℕ, ◌<◌, List, [], ◌∷◌, ◌++◌, length, ◌==◌, true, false, Some, IfSome};
+ghost use Rattle.std.specs.Prelude.{◌≡◌, ℕ, Bool, ◌<◌, List, [], ◌∷◌, ◌++◌, length, ◌==◌, true, false, None, Some, MatchOption, OnSome};
 ghost use Rattle.lin_edn.specs.Bytes as bytes;
-ghost use Rattle.lin_edn.specs.Grammar.{longest};
+ghost use Rattle.lin_edn.specs.Grammar.{longest, IsUnfinished};
 ghost use Rattle.lin_edn.specs.Rows.{IsRow, bracket_of};
 ghost use Rattle.lin_edn.specs.Scans.{is_quoting};
 ghost use Rattle.lin_edn.specs.Skimming as skimming;
 ghost use Rattle.lin_edn.specs.inner.Skimming as shapes;
 ghost use Rattle.lin_edn.specs.Skimming.{HasSeen, IsMoreOf, is_more_of, IsOpenText, shapes_of, level_view};
-ghost use Rattle.lin_edn.specs.inner.Skimming.{HasGone, row_shapes};
+ghost use Rattle.lin_edn.specs.inner.Skimming.{HasGone, HasStopped, Does, row_shapes};
 ghost use Rattle.lin_edn.specs.Value.{Value};
 ghost use Rattle.lin_edn.specs.declared.skim.Part.TheVariants as part;
 
 use crate::reader::{Behind, DEEPEST, LONGEST, behind_hash};
 use crate::scan::{is_stop, is_white};
 use crate::series::Series;
-use std::alloc::Global;
+use arrayvec::ArrayVec;
 
 /// An open level.
-#[derive(Clone, Copy)]
+#[derive(Clone, Copy, Default)]
 pub(crate) enum Level {
+    #[default]
     List,
     Vector,
     Set,
@@ -43,23 +44,26 @@ pub(crate) enum Part {
     Comment,
 }
 
+/// The open levels, the innermost last.
+type Levels = ArrayVec<Level, DEEPEST>;
+
 /// What an unfinished element, discard or comment has open, without its values.
 ///
-/// It is for a text that comes in pieces: it sees each byte once, and says when the text is worth reading again.
+/// It is for a text that comes in pieces: it sees each byte once, takes no memory, and says when the text is worth reading again.
 #[derive(Drop)]
 pub struct Skim {
-    levels: Vec<Level>,
+    levels: Levels,
     part: Part,
     length: usize,
 }
 
 impl Skim {
     /// A reader that has seen nothing.
-    pub fn new(alloc: Global) -> Skim
+    pub fn new() -> Skim
         ensures { HasSeen result [] }
     {
         Skim {
-            levels: Vec::new(alloc),
+            levels: ArrayVec::new(),
             part: Part::Between,
             length: 0,
         }
@@ -76,10 +80,11 @@ impl Skim {
 
     /// Goes on over more bytes of a text that begins with a byte that isn't white.
     ///
-    /// True where what the text begins with is still unfinished. False where it may be whole, too long or faulty, or where
-    /// memory ran out: then `next_element` tells, and this has to be cleared.
+    /// True where what the text begins with is still unfinished. False where it is whole, too long or faulty: then `next_element`
+    /// tells, and this has to be cleared.
     pub fn go_on(&mut self, piece: &[u8]) -> bool
         ensures seen { result ≡ true → (text : List ℕ) → HasSeen self.old text → HasSeen self.new (text ++ piece.now) }
+        ensures goes_on { (text : List ℕ) (is_comment : Bool) → HasSeen self.old text → IsOpenText is_comment (text ++ piece.now) → result ≡ true }
         // In a run, a text or a comment it goes on as long as nothing ends.
         ensures more { IsMoreOf self.old piece.now → result ≡ true }
     {
@@ -90,7 +95,8 @@ impl Skim {
     ///
     /// True and false mean what they mean of `go_on`.
     pub fn go_on_in(&mut self, series: &Series, text: &[u8]) -> bool
-        ensures { result ≡ true → (vs : List Value) → IsRow series.now text.now vs → HasSeen self.new text.now }
+        ensures seen { result ≡ true → (vs : List Value) → IsRow series.now text.now vs → HasSeen self.new text.now }
+        ensures goes_on { (vs : List Value) → IsRow series.now text.now vs → IsUnfinished text.now 0 → result ≡ true }
     {
         let at = series.place();
         if at > text.len() {
@@ -100,9 +106,7 @@ impl Skim {
             return false;
         }
         self.levels.clear();
-        if !open_in(&mut self.levels, series) {
-            return false;
-        }
+        open_in(&mut self.levels, series);
         self.part = Part::Between;
         self.length = at;
         self.pass(&text[at..])
@@ -121,6 +125,7 @@ impl Skim {
     /// Goes on over bytes.
     fn pass(&mut self, bytes: &[u8]) -> bool
         ensures gone { result ≡ true → HasGone self.old self.new bytes.now }
+        ensures stopped { result ≡ false → HasStopped self.old bytes.now }
         ensures more { IsMoreOf self.old bytes.now → result ≡ true }
     {
         for at in 0..bytes.len() {
@@ -134,6 +139,7 @@ impl Skim {
     /// Takes one byte.
     fn take(&mut self, c: u8) -> bool
         ensures gone { result ≡ true → HasGone self.old self.new (c ∷ []) }
+        ensures stopped { result ≡ false → (rest : List ℕ) → HasStopped self.old (c ∷ rest) }
         ensures more { is_more_of self.old.part c ≡ true → self.old.length < longest → (result ≡ true) × (self.new.part ≡ self.old.part) }
     {
         let Some(part) = end_before(&mut self.levels, self.part, c) else {
@@ -152,14 +158,14 @@ impl Skim {
 }
 
 /// Opens a list or vector, and the tag in front of it if it has one.
-fn open_in(levels: &mut Vec<Level>, series: &Series) -> bool
+fn open_in(levels: &mut Levels, series: &Series)
     requires { levels.old.items ≡ [] }
-    ensures { result ≡ true → shapes_of levels.new.items ≡ row_shapes series.now.is_tagged series.now.is_vector }
+    ensures { shapes_of levels.new.items ≡ row_shapes series.now.is_tagged series.now.is_vector }
 {
     if series.is_tagged() {
-        return push(levels, Level::Tag) && push(levels, level_of(series));
+        push(levels, Level::Tag);
     }
-    push(levels, level_of(series))
+    push(levels, level_of(series));
 }
 
 /// The level that a list or vector is.
@@ -188,53 +194,59 @@ fn depth(levels: &[Level]) -> usize
 }
 
 /// Opens a level.
-fn push(levels: &mut Vec<Level>, level: Level) -> bool
-    ensures { result ≡ true → shapes_of levels.new.items ≡ level_view level ∷ shapes_of levels.old.items }
+fn push(levels: &mut Levels, level: Level)
+    requires { length (shapes_of levels.old.items) < 64 }
+    ensures { shapes_of levels.new.items ≡ level_view level ∷ shapes_of levels.old.items }
 {
-    levels.push(level).is_ok()
+    levels.push(level);
 }
 
 /// Leaves the innermost level.
-fn pop(levels: &mut Vec<Level>) -> Option<Level>
-    ensures { IfSome result (λ l. shapes_of levels.old.items ≡ level_view l ∷ shapes_of levels.new.items) }
+fn pop(levels: &mut Levels) -> Option<Level>
+    ensures level { MatchOption result (shapes_of levels.old.items ≡ []) (λ l. shapes_of levels.old.items ≡ level_view l ∷ shapes_of levels.new.items) }
+    ensures room { OnSome result (length (shapes_of levels.new.items) < 64) }
 {
+    // The length tells, too, that no more are open than fit: so there is room for one more once one is left.
+    if levels.len() == 0 {
+        return None;
+    }
     levels.pop()
 }
 
 /// Opens a level, where one more can be open.
-fn enter(levels: &mut Vec<Level>, level: Level) -> Option<Part>
-    ensures { IfSome result (λ p. shapes.deeper_shape (shapes_of levels.old.items) (level_view level ∷ shapes_of levels.old.items, part.Between)
-        ≡ Some (shapes_of levels.new.items, p)) }
+fn enter(levels: &mut Levels, level: Level) -> Option<Part>
+    ensures { Does (shapes.deeper_shape (shapes_of levels.old.items) (level_view level ∷ shapes_of levels.old.items, part.Between)) levels.new.items result }
 {
     if depth(levels) >= DEEPEST {
         return None;
     }
-    if push(levels, level) {
-        Some(Part::Between)
-    } else {
-        None
-    }
+    push(levels, level);
+    Some(Part::Between)
 }
 
 /// Puts an element into the innermost level; false where nothing is open any more.
-fn put(levels: &mut Vec<Level>) -> bool
-    ensures { result ≡ true → shapes.put_shape (shapes_of levels.old.items) ≡ Some (shapes_of levels.new.items) }
+fn put(levels: &mut Levels) -> bool
+    ensures some { result ≡ true → shapes.put_shape (shapes_of levels.old.items) ≡ Some (shapes_of levels.new.items) }
+    ensures none { result ≡ false → shapes.put_shape (shapes_of levels.old.items) ≡ None }
 {
-    match pop(levels) {
-        None => false,
-        Some(Level::List) => push(levels, Level::List),
-        Some(Level::Vector) => push(levels, Level::Vector),
-        Some(Level::Set) => push(levels, Level::Set),
-        Some(Level::EvenMap) => push(levels, Level::OddMap),
-        Some(Level::OddMap) => push(levels, Level::EvenMap),
-        Some(Level::Tag) => put(levels),
-        Some(Level::Discard) => !is_empty(levels),
+    let Some(level) = pop(levels) else {
+        return false;
+    };
+    match level {
+        Level::List => push(levels, Level::List),
+        Level::Vector => push(levels, Level::Vector),
+        Level::Set => push(levels, Level::Set),
+        Level::EvenMap => push(levels, Level::OddMap),
+        Level::OddMap => push(levels, Level::EvenMap),
+        Level::Tag => return put(levels),
+        Level::Discard => return !is_empty(levels),
     }
+    true
 }
 
 /// What is open behind an element that is put in.
-fn settle(levels: &mut Vec<Level>) -> Option<Part>
-    ensures { IfSome result (λ p. shapes.with_part part.Between (shapes.put_shape (shapes_of levels.old.items)) ≡ Some (shapes_of levels.new.items, p)) }
+fn settle(levels: &mut Levels) -> Option<Part>
+    ensures { Does (shapes.with_part part.Between (shapes.put_shape (shapes_of levels.old.items))) levels.new.items result }
 {
     if put(levels) {
         Some(Part::Between)
@@ -245,7 +257,7 @@ fn settle(levels: &mut Vec<Level>) -> Option<Part>
 
 /// What is open behind a blank.
 fn pass(levels: &[Level]) -> Option<Part>
-    ensures { IfSome result (λ p. shapes.with_part part.Between (shapes.still (shapes_of levels.now)) ≡ Some (shapes_of levels.now, p)) }
+    ensures { Does (shapes.with_part part.Between (shapes.still (shapes_of levels.now))) levels.now result }
 {
     if is_empty(levels) {
         None
@@ -254,26 +266,15 @@ fn pass(levels: &[Level]) -> Option<Part>
     }
 }
 
-/// Ends a tag.
-fn end_tag(levels: &mut Vec<Level>) -> Option<Part>
-    ensures { IfSome result (λ p. (p ≡ part.Between) × (shapes_of levels.new.items ≡ skimming.a_tag ∷ shapes_of levels.old.items)) }
-{
-    if push(levels, Level::Tag) {
-        Some(Part::Between)
-    } else {
-        None
-    }
-}
-
 /// What is open once a byte has ended what it ends before itself.
-fn end_before(levels: &mut Vec<Level>, part: Part, c: u8) -> Option<Part>
-    ensures ended { IfSome result (λ p. shapes.ended_shape part (shapes_of levels.old.items) c ≡ Some (shapes_of levels.new.items, p)) }
+fn end_before(levels: &mut Levels, part: Part, c: u8) -> Option<Part>
+    ensures ended { Does (shapes.ended_shape part (shapes_of levels.old.items) c) levels.new.items result }
     ensures more { is_more_of part c ≡ true → result ≡ Some part }
 {
     match part {
         Part::Run if is_stop(c) => settle(levels),
         Part::Run => Some(Part::Run),
-        Part::Tag if is_stop(c) => end_tag(levels),
+        Part::Tag if is_stop(c) => enter(levels, Level::Tag),
         Part::Tag => Some(Part::Tag),
         Part::Hash => end_hash(levels, c),
         Part::Between => Some(Part::Between),
@@ -285,8 +286,8 @@ fn end_before(levels: &mut Vec<Level>, part: Part, c: u8) -> Option<Part>
 }
 
 /// What is open once a byte has ended a `#` that stands alone.
-fn end_hash(levels: &mut Vec<Level>, c: u8) -> Option<Part>
-    ensures { IfSome result (λ p. shapes.apart_shape (bytes.behind c) (shapes_of levels.old.items) ≡ Some (shapes_of levels.new.items, p)) }
+fn end_hash(levels: &mut Levels, c: u8) -> Option<Part>
+    ensures { Does (shapes.apart_shape (bytes.behind c) (shapes_of levels.old.items)) levels.new.items result }
 {
     match behind_hash(c) {
         Behind::Apart => settle(levels),
@@ -314,8 +315,8 @@ pub(crate) fn can_close(level: Level, c: u8) -> bool
 }
 
 /// Takes a closing byte.
-fn close(levels: &mut Vec<Level>, c: u8) -> Option<Part>
-    ensures { IfSome result (λ p. shapes.close_shape (shapes_of levels.old.items) c ≡ Some (shapes_of levels.new.items, p)) }
+fn close(levels: &mut Levels, c: u8) -> Option<Part>
+    ensures { Does (shapes.close_shape (shapes_of levels.old.items) c) levels.new.items result }
 {
     let level = pop(levels)?;
     if can_close(level, c) {
@@ -326,8 +327,8 @@ fn close(levels: &mut Vec<Level>, c: u8) -> Option<Part>
 }
 
 /// Takes a byte where an element may begin.
-fn begin(levels: &mut Vec<Level>, c: u8) -> Option<Part>
-    ensures { IfSome result (λ p. shapes.begins_shape (bytes.class c) (shapes_of levels.old.items) c ≡ Some (shapes_of levels.new.items, p)) }
+fn begin(levels: &mut Levels, c: u8) -> Option<Part>
+    ensures { Does (shapes.begins_shape (bytes.class c) (shapes_of levels.old.items) c) levels.new.items result }
 {
     match c {
         _ if is_white(c) => pass(levels),
@@ -345,7 +346,7 @@ fn begin(levels: &mut Vec<Level>, c: u8) -> Option<Part>
 
 /// Begins a tag, where one more level can be open.
 fn begin_tag(levels: &[Level]) -> Option<Part>
-    ensures { IfSome result (λ p. shapes.deeper_shape (shapes_of levels.now) (shapes_of levels.now, part.Tag) ≡ Some (shapes_of levels.now, p)) }
+    ensures { Does (shapes.deeper_shape (shapes_of levels.now) (shapes_of levels.now, part.Tag)) levels.now result }
 {
     if depth(levels) >= DEEPEST {
         None
@@ -355,8 +356,8 @@ fn begin_tag(levels: &[Level]) -> Option<Part>
 }
 
 /// Takes the byte behind a `#` that doesn't stand alone.
-fn go_on(levels: &mut Vec<Level>, c: u8) -> Option<Part>
-    ensures { IfSome result (λ p. shapes.goes_on_shape (bytes.behind c) (shapes_of levels.old.items) ≡ Some (shapes_of levels.new.items, p)) }
+fn go_on(levels: &mut Levels, c: u8) -> Option<Part>
+    ensures { Does (shapes.goes_on_shape (bytes.behind c) (shapes_of levels.old.items)) levels.new.items result }
 {
     match behind_hash(c) {
         Behind::Set => enter(levels, Level::Set),
@@ -369,8 +370,8 @@ fn go_on(levels: &mut Vec<Level>, c: u8) -> Option<Part>
 }
 
 /// Takes a byte of a text.
-fn in_text(levels: &mut Vec<Level>, c: u8) -> Option<Part>
-    ensures quotes { IfSome result (λ p. shapes.quotes_shape (bytes.quoted c) (shapes_of levels.old.items) ≡ Some (shapes_of levels.new.items, p)) }
+fn in_text(levels: &mut Levels, c: u8) -> Option<Part>
+    ensures quotes { Does (shapes.quotes_shape (bytes.quoted c) (shapes_of levels.old.items)) levels.new.items result }
     ensures more { is_quoting c ≡ false → result ≡ Some part.Text }
 {
     match c {
@@ -381,8 +382,8 @@ fn in_text(levels: &mut Vec<Level>, c: u8) -> Option<Part>
 }
 
 /// Takes a byte that ends nothing before itself.
-fn take_byte(levels: &mut Vec<Level>, part: Part, c: u8) -> Option<Part>
-    ensures taken { IfSome result (λ p. shapes.taken_shape part (shapes_of levels.old.items) c ≡ Some (shapes_of levels.new.items, p)) }
+fn take_byte(levels: &mut Levels, part: Part, c: u8) -> Option<Part>
+    ensures taken { Does (shapes.taken_shape part (shapes_of levels.old.items) c) levels.new.items result }
     ensures more { is_more_of part c ≡ true → result ≡ Some part }
 {
     match part {

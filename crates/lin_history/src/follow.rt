@@ -101,7 +101,7 @@ impl Follow {
             held: Vec::new(alloc),
             rest: Rest {
                 alloc,
-                skim: Skim::new(alloc),
+                skim: Skim::new(),
                 is_seen: true,
                 row: None,
             },

@@ -37,13 +37,7 @@ fn newlines(bytes: &[u8]) -> u64
     ensures count { result ≡ count_newlines bytes.now }
     ensures within { result ≤ length bytes.now }
 {
-    let mut count = 0;
-    for i in 0..bytes.len() {
-        if bytes[i] == b'\n' {
-            count += 1;
-        }
-    }
-    count
+    bytes.iter().filter(|byte| **byte == b'\n').count() as u64
 }
 
 /// A later place of a text.

@@ -70,7 +70,7 @@ impl Places {
             held: Vec::new(alloc),
             rest: Rest {
                 alloc,
-                skim: Skim::new(alloc),
+                skim: Skim::new(),
                 is_seen: true,
             },
         }
@@ -174,7 +174,7 @@ fn take_in(
     }
     match read_on(rest.alloc, keyed, held.as_slice(), next, places, names) {
         Ok(read) => {
-            drop_front(held, read.next.at);
+            drop_front(rest.alloc, held, read.next.at);
             look_at(rest, held.as_slice());
             Ok(read)
         }
@@ -214,15 +214,20 @@ fn look_at(rest: &mut Rest, held: &[u8])
     rest.is_seen = rest.skim.go_on(held);
 }
 
-/// Drops so many bytes at the front, in place.
-fn drop_front(held: &mut Vec<u8>, used: usize)
+/// Drops so many bytes at the front. The few behind them get a place of their own, which is quicker, or stay in place where memory is refused.
+fn drop_front(alloc: Global, held: &mut Vec<u8>, used: usize)
     requires { used ≤ length held.old.items }
     ensures { held.new.items ≡ drop used held.old.items }
 {
     if used == 0 {
         return;
     }
-    let left = held.len() - used;
-    held.copy_within(used.., 0);
-    held.truncate(left);
+    match Vec::from_slice(alloc, &held[used..]) {
+        Ok(rest) => *held = rest,
+        Err(_) => {
+            let left = held.len() - used;
+            held.copy_within(used.., 0);
+            held.truncate(left);
+        }
+    }
 }

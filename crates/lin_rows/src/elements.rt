@@ -64,7 +64,7 @@ fn openness(alloc: Global, text: &[u8]) -> (bool, bool) {
 /// `skim TEXT`: whether the reader without values says of each front what the reader says, up to the first that isn't open.
 pub fn skim(alloc: Global, text: &str, out: &mut String) -> Option<()> {
     let bytes = text.as_bytes();
-    let mut skim = Skim::new(alloc);
+    let mut skim = Skim::new();
     for n in 0..bytes.len() {
         let goes_on = skim.go_on(&bytes[n..n + 1]);
         let (is_open, is_comment) = openness(alloc, &bytes[..n + 1]);
@@ -80,7 +80,7 @@ pub fn skim(alloc: Global, text: &str, out: &mut String) -> Option<()> {
 
 /// `skim-pieces PIECE|PIECE|..`: whether what is skimmed is open behind each piece; an empty piece stands for forgetting all.
 pub fn skim_pieces(alloc: Global, text: &str, out: &mut String) -> Option<()> {
-    let mut skim = Skim::new(alloc);
+    let mut skim = Skim::new();
     for piece in text.split('|') {
         if piece.is_empty() {
             skim.clear();
@@ -123,7 +123,7 @@ pub fn skim_within(alloc: Global, text: &str, out: &mut String) -> Option<()> {
         return out.push_str("none").ok();
     };
     let _walked = walk(alloc, &mut series, text.as_bytes());
-    let goes_on = Skim::new(alloc).go_on_in(&series, text.as_bytes());
+    let goes_on = Skim::new().go_on_in(&series, text.as_bytes());
     write!(out, "{goes_on}").ok()
 }
 

@@ -2,10 +2,11 @@
 use Rattle.std.specs.Prelude.{◌≡◌, ℕ, ◌+◌, Bool, true, false, ◌&&◌, ◌==◌, nat_le, if◌then◌else◌, List, [], ◌∷◌, ◌++◌, length, Option, Some, None, option_map, not}
 use Rattle.lin_edn.specs.Bytes.{Kind, a_list, a_vector, a_set, a_map, Class, class, white, semicolon, opener, closer, quote, backslash, hash, inside, is_stop, is_newline, closing, Behind, behind, opens_set, opens_text, discards, joins, stands_apart, names_tag, Quoted, quoted, ends, escapes, stays}
 use Rattle.lin_edn.specs.Rows.{bracket_of}
+use Rattle.lin_edn.specs.declared.skim.Level.{Level}
 use Rattle.lin_edn.specs.declared.skim.Part.{Part}
 use Rattle.lin_edn.specs.declared.skim.Part.TheVariants as part
 use Rattle.lin_edn.specs.declared.skim.Skim.{Skim}
-use Rattle.lin_edn.specs.Skimming.{Shape, brackets, a_discard, a_tag, shapes_of, LeavesOpen}
+use Rattle.lin_edn.specs.Skimming.{Shape, brackets, a_discard, a_tag, shapes_of, LeavesOpen, IsOpenText}
 
 -- the levels that a vector or list opens, behind a tag or none
 abbrev pub row_shapes : Bool → Bool → List Shape
@@ -16,6 +17,15 @@ row_shapes false is_vector = brackets (bracket_of is_vector) true ∷ []
 abbrev pub HasGone : Skim → Skim → List ℕ → Type 0
 HasGone old new bytes = (new.length ≡ old.length + length bytes) × ((text rest : List ℕ) →
     LeavesOpen text old.length (bytes ++ rest) (shapes_of old.levels.items) old.part → LeavesOpen text new.length rest (shapes_of new.levels.items) new.part)
+
+-- it stopped at one of these bytes: what stands before them leaves nothing open with them
+abbrev pub HasStopped : Skim → List ℕ → Type 0
+HasStopped old bytes = (text : List ℕ) (is_comment : Bool) → LeavesOpen text old.length bytes (shapes_of old.levels.items) old.part → IsOpenText is_comment text → ⊥
+
+-- the code goes on as the shapes do, or stops as they do
+abbrev pub Does : Option (List Shape × Part) → List Level → Option Part → Type 0
+Does next levels None = next ≡ None
+Does next levels (Some p) = next ≡ Some (shapes_of levels, p)
 
 -- whether a level can be closed after one more element
 abbrev pub grown : Kind → Bool → Bool
@@ -47,19 +57,19 @@ apart_shape joins ls = Some (ls, part.Hash)
 apart_shape stands_apart ls = with_part part.Between (put_shape ls)
 apart_shape names_tag ls = Some (ls, part.Hash)
 
+abbrev pub deeper_shape : List Shape → List Shape × Part → Option (List Shape × Part)
+deeper_shape ls r = if nat_le 64 (length ls) then None else Some r
+
 -- what a byte ends before itself
 abbrev pub ended_shape : Part → List Shape → ℕ → Option (List Shape × Part)
 ended_shape part.Between ls c = Some (ls, part.Between)
 ended_shape part.Run ls c = if is_stop c then with_part part.Between (put_shape ls) else Some (ls, part.Run)
 ended_shape part.Hash ls c = apart_shape (behind c) ls
 ended_shape part.Backslash ls c = Some (ls, part.Backslash)
-ended_shape part.Tag ls c = if is_stop c then Some (a_tag ∷ ls, part.Between) else Some (ls, part.Tag)
+ended_shape part.Tag ls c = if is_stop c then deeper_shape ls (a_tag ∷ ls, part.Between) else Some (ls, part.Tag)
 ended_shape part.Text ls c = Some (ls, part.Text)
 ended_shape part.Escape ls c = Some (ls, part.Escape)
 ended_shape part.Comment ls c = Some (ls, part.Comment)
-
-abbrev pub deeper_shape : List Shape → List Shape × Part → Option (List Shape × Part)
-deeper_shape ls r = if nat_le 64 (length ls) then None else Some r
 
 -- a byte closes a level
 abbrev pub closes : Shape → ℕ → Bool

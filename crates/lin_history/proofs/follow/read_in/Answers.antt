@@ -10,7 +10,7 @@ close-requires-clause-whole c = rw c.in-Closed.is at c.in_ok-used.ensures.row
 pub resting-read-requires : goal.resting-read-requires
 resting-read-requires c =
     let row = rw c.in-Open.is at c.in_ok-used.ensures.row in
-    (c.if-not-rest.false, c.go_on_in-rest.ensures c.if-not-rest.false row.0 row.1)
+    (c.if-not-rest.false, c.go_on_in-rest.ensures.seen c.if-not-rest.false row.0 row.1)
 
 pub returns-in_ok-read-in-Closed-clause-begun : goal.returns-in_ok-read-in-Closed-clause-begun
 returns-in_ok-read-in-Closed-clause-begun c =
@@ -35,7 +35,7 @@ returns-then-more-clause-held c =
     let row = rw c.in-Open.is at c.in_ok-used.ensures.row in (
       (rw c.resting-read.ensures.used (omega arith)),
       subst (λ n. Knows (record { alloc = c.args.rest.now.alloc; skim = c.go_on_in-rest.new.self; is_seen = c.go_on_in-rest.result; row = Some c.read_maps.new.row }) (drop n c.args.held.now))
-          (sym c.resting-read.ensures.used) (λ e. c.go_on_in-rest.ensures e row.0 row.1, row),
+          (sym c.resting-read.ensures.used) (λ e. c.go_on_in-rest.ensures.seen e row.0 row.1, row),
     )
 
 pub returns-then-more-clause-read : goal.returns-then-more-clause-read
@@ -51,7 +51,7 @@ returns-else-more-clause-held c =
       (rw c.resting-read.ensures.used (omega arith)),
       subst (λ n. Knows (record { alloc = c.args.rest.now.alloc; skim = c.go_on_in-rest.new.self; is_seen = c.go_on_in-rest.result; row = c.args.rest.now.row }) (drop n c.args.held.now))
           (sym c.resting-read.ensures.used)
-          (λ e. c.go_on_in-rest.ensures e row.0 row.1, subst (λ o. IsBegun o c.args.held.now) (sym c.requires.row) tt),
+          (λ e. c.go_on_in-rest.ensures.seen e row.0 row.1, subst (λ o. IsBegun o c.args.held.now) (sym c.requires.row) tt),
     )
 
 pub returns-else-more-clause-read : goal.returns-else-more-clause-read

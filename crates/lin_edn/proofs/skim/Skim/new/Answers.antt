@@ -4,4 +4,4 @@ use Rattle.lin_edn.specs.Skimming.{shapes_of}
 use Rattle.lin_edn.proofs.skim.Skim.new.Goals as goal
 
 pub returns : goal.returns
-returns c = (refl, none_seen (shapes_of c.new.result.items) (ap shapes_of c.new.ensures.items))
+returns c = (refl, none_seen (shapes_of c.new.result.items) (ap shapes_of c.new.ensures))

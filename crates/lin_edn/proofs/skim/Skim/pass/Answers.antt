@@ -1,6 +1,7 @@
 use Rattle.std.proofs.Common.{◌<◌, ◌≤◌, ◌∷◌, [], length, take, get_or, refl, sym, subst, arith, ◌∙◌, true≢false}
 use Rattle.std.proofs.lemmas.List.{take_more, take_all}
 use Rattle.lin_edn.proofs.Skims.{nothing_gone, gone_twice, still_more, still_short}
+use Rattle.lin_edn.proofs.Stops.{stopped_at}
 use Rattle.lin_edn.specs.inner.Skimming.{HasGone}
 use Rattle.lin_edn.proofs.skim.Skim.pass.Goals as goal
 
@@ -24,6 +25,7 @@ returns-then-not-take c =
     let at = c.loop-at.at in
     let inside : at < length bytes = omega arith in record {
       gone = λ e. absurd (true≢false (sym e));
+      stopped = λ e. stopped_at c.args.self.now c.loop-at.self bytes at inside c.loop-at.invariant.0 (c.take.ensures.stopped c.if-not-take.true);
       more = λ m. absurd (true≢false (sym (c.take.ensures.more (still_more c.args.self.now c.loop-at.self bytes at inside (c.loop-at.invariant.1 m) m)
           (still_short c.args.self.now c.loop-at.self bytes at inside c.loop-at.invariant.0 m)).0 ∙ c.if-not-take.true));
     }
