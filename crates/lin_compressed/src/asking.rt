@@ -31,6 +31,13 @@ struct Update<'a, S: Eq + Hash> {
     placed: Placed,
 }
 
+/// A member, and the configuration that the update that returns makes of it.
+#[derive(Drop)]
+struct Returned<'a, S: Eq + Hash> {
+    member: &'a Member<S>,
+    config: Config<S>,
+}
+
 /// Whether the operation was called before the event at the position.
 fn is_early(operation: &Open, until: u32) -> bool
     ensures { IsTrue result ↔ (operation.now.at < until) }
@@ -120,21 +127,21 @@ impl<'a, O: SeqObject> Completion<'a, O> {
     /// Puts in `out` the member with the update placed behind all, which leads to the configuration.
     fn return_behind(
         &self,
-        member: &Member<O::State>,
-        config: Config<O::State>,
+        returned: Returned<O::State>,
         now: u32,
         out: &mut Vec<Member<O::State>>,
         nodes: &mut RoundNodes,
         meter: &mut Meter,
         scratch: &mut Scratch<O>,
     ) -> Result<(), OutOfMemory>
-        requires { config.1 ≡ member.now.0.placed }
+        requires { returned.config.1 ≡ returned.member.now.0.placed }
         ensures grown { IsGrown nodes.old nodes.new }
-        ensures made { OnOk result ((n : MemberOf O.State × PathOf) × (out.new.items ≡ out.old.items ++ n ∷ []) × (n.0.state ≡ config.0)
-            × (O.observing self.now.object.now self.now.operation.now.call ≡ false → O.step self.now.object.now member.now.0.state self.now.operation.now.call config.0 self.now.reply.now
-            → IsReturnedBehind (O.step self.now.object.now) (O.observing self.now.object.now) self.now.operation.now self.now.reply.now self.now.pending.now nodes.new now member.now n)) }
+        ensures made { OnOk result ((n : MemberOf O.State × PathOf) × (out.new.items ≡ out.old.items ++ n ∷ []) × (n.0.state ≡ returned.entry.config.0)
+            × (O.observing self.now.object.now self.now.operation.now.call ≡ false → O.step self.now.object.now returned.entry.member.now.0.state self.now.operation.now.call returned.entry.config.0 self.now.reply.now
+            → IsReturnedBehind (O.step self.now.object.now) (O.observing self.now.object.now) self.now.operation.now self.now.reply.now self.now.pending.now nodes.new now returned.entry.member.now n)) }
         ensures tried { IsTriedAtMost (length self.now.pending.now) meter.old meter.new }
     {
+        let Returned { member, config } = returned;
         let path = self.path_behind(member.path(), now, nodes)?;
         let offers = self.offers_behind(member, &mut scratch.steps, meter, &mut scratch.pool)?;
         push_member(
@@ -150,28 +157,27 @@ impl<'a, O: SeqObject> Completion<'a, O> {
     /// Puts in `out` the member with the update placed ahead of the last one. The configuration is the one that the update leads to.
     fn return_ahead(
         &self,
-        member: &Member<O::State>,
-        config: &Config<O::State>,
+        returned: &Returned<O::State>,
         out: &mut Vec<Member<O::State>>,
         nodes: &mut RoundNodes,
         meter: &mut Meter,
         scratch: &mut Scratch<O>,
     ) -> Result<(), OutOfMemory>
-        requires placed { config.now.1 ≡ member.now.0.placed }
-        requires early { self.now.operation.now.at < member.now.1.until }
+        requires placed { returned.now.config.1 ≡ returned.now.member.now.0.placed }
+        requires early { self.now.operation.now.at < returned.now.member.now.1.until }
         ensures grown { IsGrown nodes.old nodes.new }
         ensures made { OnOk result ((n : MemberOf O.State × PathOf) × (out.new.items ≡ out.old.items ++ n ∷ [])
-            × (O.observing self.now.object.now self.now.operation.now.call ≡ false → O.step self.now.object.now member.now.0.state self.now.operation.now.call config.now.0 self.now.reply.now
-            → (now : ℕ) → IsReturnedAhead (O.step self.now.object.now) (O.observing self.now.object.now) self.now.operation.now self.now.reply.now self.now.pending.now nodes.new now member.now config.now.0 n)) }
+            × (O.observing self.now.object.now self.now.operation.now.call ≡ false → O.step self.now.object.now returned.now.member.now.0.state self.now.operation.now.call returned.now.config.0 self.now.reply.now
+            → (now : ℕ) → IsReturnedAhead (O.step self.now.object.now) (O.observing self.now.object.now) self.now.operation.now self.now.reply.now self.now.pending.now nodes.new now returned.now.member.now returned.now.config.0 n)) }
         ensures tried { IsTriedAtMost (length self.now.pending.now) meter.old meter.new }
     {
         let operations = early(
             self.pending.as_slice(),
-            member.path().until,
+            returned.member.path().until,
             scratch.early(),
         )?;
         let before = Pending::of(&operations);
-        self.return_beside(member, &before, config, out, nodes, meter, scratch)?;
+        self.return_beside(returned, &before, out, nodes, meter, scratch)?;
         scratch.keep_early(operations);
         Ok(())
     }
@@ -179,23 +185,23 @@ impl<'a, O: SeqObject> Completion<'a, O> {
     /// The same, given the early operations.
     fn return_beside(
         &self,
-        member: &Member<O::State>,
+        returned: &Returned<O::State>,
         before: &Pending,
-        config: &Config<O::State>,
         out: &mut Vec<Member<O::State>>,
         nodes: &mut RoundNodes,
         meter: &mut Meter,
         scratch: &mut Scratch<O>,
     ) -> Result<(), OutOfMemory>
-        requires before { before.now ≡ early_of member.now.1.until self.now.pending.now }
-        requires placed { config.now.1 ≡ member.now.0.placed }
-        requires early { self.now.operation.now.at < member.now.1.until }
+        requires before { before.now ≡ early_of returned.now.member.now.1.until self.now.pending.now }
+        requires placed { returned.now.config.1 ≡ returned.now.member.now.0.placed }
+        requires early { self.now.operation.now.at < returned.now.member.now.1.until }
         ensures grown { IsGrown nodes.old nodes.new }
         ensures made { OnOk result ((n : MemberOf O.State × PathOf) × (out.new.items ≡ out.old.items ++ n ∷ [])
-            × (O.observing self.now.object.now self.now.operation.now.call ≡ false → O.step self.now.object.now member.now.0.state self.now.operation.now.call config.now.0 self.now.reply.now
-            → (now : ℕ) → IsReturnedAhead (O.step self.now.object.now) (O.observing self.now.object.now) self.now.operation.now self.now.reply.now self.now.pending.now nodes.new now member.now config.now.0 n)) }
+            × (O.observing self.now.object.now self.now.operation.now.call ≡ false → O.step self.now.object.now returned.now.member.now.0.state self.now.operation.now.call returned.now.config.0 self.now.reply.now
+            → (now : ℕ) → IsReturnedAhead (O.step self.now.object.now) (O.observing self.now.object.now) self.now.operation.now self.now.reply.now self.now.pending.now nodes.new now returned.now.member.now returned.now.config.0 n)) }
         ensures tried { IsTriedAtMost (length self.now.pending.now) meter.old meter.new }
     {
+        let Returned { member, config } = returned;
         let path = self.path_ahead(member.path(), nodes)?;
         let offers = self.offers_with(
             member,
@@ -244,10 +250,11 @@ impl<'a, O: SeqObject> Completion<'a, O> {
             return Ok(());
         };
         let config = member.config().with_state(state)?;
+        let returned = Returned { member, config };
         if is_early(self.operation, member.path().until) {
-            self.return_ahead(member, &config, out, nodes, meter, scratch)?;
+            self.return_ahead(&returned, out, nodes, meter, scratch)?;
         }
-        self.return_behind(member, config, now, out, nodes, meter, scratch)
+        self.return_behind(returned, now, out, nodes, meter, scratch)
     }
 
     /// Puts in `out` the member with the update, which gives the observer its reply, and the observer placed behind all. The

@@ -468,65 +468,76 @@ impl<'a, O: SeqObject> Completion<'a, O> {
         Ok(Some(offers))
     }
 
-    /// Puts in `out` what the operation makes of the member with its reply. Where more can come of the member, puts in `next`,
+    /// Puts in `out` what the operation makes of the member with its reply. Where more can come of the member, puts in `scratch.next`,
     /// which is written over, what placing an update makes of it, and answers what is on offer behind it.
     fn work_off(
         &self,
         member: &Member<O::State>,
         out: &mut Vec<Member<O::State>>,
-        next: &mut Vec<(Config<O::State>, Placed)>,
         nodes: &mut RoundNodes,
-        steps: &mut Vec<(O::State, Reply)>,
         meter: &mut Meter,
-        pool: &mut Pool,
+        scratch: &mut Scratch<O>,
     ) -> Result<Option<Offers>, OutOfMemory>
         ensures grown { IsGrown nodes.old nodes.new }
         ensures found { OnOk result (IsFinding (O.step self.now.object.now) (O.observing self.now.object.now) self.now.operation.now self.now.reply.now self.now.pending.now nodes.new member.now out.old.items out.new.items) }
         ensures done { IfOk result (λ found. IfNone found (IsDone (O.observing self.now.object.now) self.now.operation.now self.now.pending.now out.new.items member.now.0)) }
         ensures passed { IfOk result (λ found. IfSome found (λ _. IsPassed (O.step self.now.object.now) (O.observing self.now.object.now) self.now.operation.now self.now.reply.now self.now.pending.now out.new.items member.now)) }
         ensures offered { IfOk result (λ found. IfSome found (AreBehind (O.step self.now.object.now) (O.observing self.now.object.now) self.now.pending.now member.now)) }
-        ensures placed { IfOk result (λ found. IfSome found (λ _. AreUpdates (O.step self.now.object.now) (O.observing self.now.object.now) self.now.pending.now (member.now.0.state, member.now.0.placed) next.new.items)) }
+        ensures placed { IfOk result (λ found. IfSome found (λ _. AreUpdates (O.step self.now.object.now) (O.observing self.now.object.now) self.now.pending.now (member.now.0.state, member.now.0.placed) scratch.new.next.items)) }
         ensures tried { IsTriedAtMost (2 * length self.now.pending.now + 1) meter.old meter.new }
     {
-        match self.complete(member, out, nodes, steps, meter, pool)? {
+        match self.complete(
+            member,
+            out,
+            nodes,
+            &mut scratch.steps,
+            meter,
+            &mut scratch.pool,
+        )? {
             Some(offers) => {
-                self.updates(self.pending, member.config(), next, steps, meter, pool)?;
+                self.updates(
+                    self.pending,
+                    member.config(),
+                    &mut scratch.next,
+                    &mut scratch.steps,
+                    meter,
+                    &mut scratch.pool,
+                )?;
                 Ok(Some(offers))
             }
             None => Ok(None),
         }
     }
 
-    /// Where more can come of the member, takes in what neither a start nor a visited member dominates.
+    /// Where more can come of the member, takes in what neither a start nor a visited member dominates of what `scratch.next` holds.
     fn visit_found(
         &self,
         onward: Onward,
-        next: &mut Vec<(Config<O::State>, Placed)>,
         starts: &[&Member<O::State>],
         seen: &mut Seen,
         visited: &mut Vec<Member<O::State>>,
         nodes: &mut RoundNodes,
-        pool: &mut Pool,
+        scratch: &mut Scratch<O>,
     ) -> Result<(), OutOfMemory>
         ensures grown { IsGrown nodes.old nodes.new }
         ensures none { OnOk result (IfNone onward.offers ((visited.new.items ≡ visited.old.items) × (nodes.new ≡ nodes.old))) }
-        ensures some { OnOk result (IfSome onward.offers (λ offers. IsVisiting (O.observing self.now.object.now) self.now.pending.now next.old.items offers onward.path nodes.new
+        ensures some { OnOk result (IfSome onward.offers (λ offers. IsVisiting (O.observing self.now.object.now) self.now.pending.now scratch.old.next.items offers onward.path nodes.new
             (map (λ m. m.now) starts.now ++ visited.old.items) (map (λ m. m.now) starts.now ++ visited.new.items))) }
     {
         let Onward { path, offers } = onward;
         let Some(offers) = offers else {
             return Ok(());
         };
-        while let Some((config, placed)) = next.pop() {
+        while let Some((config, placed)) = scratch.next.pop() {
             let reached = Reached {
                 path,
                 config,
                 placed,
                 offers: &offers,
             };
-            self.visit_one(reached, starts, seen, visited, nodes, pool)?;
+            self.visit_one(reached, starts, seen, visited, nodes, &mut scratch.pool)?;
         }
-        offers.give_up(&mut pool.offers);
+        offers.give_up(&mut scratch.pool.offers);
         Ok(())
     }
 
@@ -574,11 +585,9 @@ impl<'a, O: SeqObject> Completion<'a, O> {
         hindering: Option<usize>,
         member: &Member<O::State>,
         out: &mut Vec<Member<O::State>>,
-        next: &mut Vec<(Config<O::State>, Placed)>,
         nodes: &mut RoundNodes,
-        steps: &mut Vec<(O::State, Reply)>,
         meter: &mut Meter,
-        pool: &mut Pool,
+        scratch: &mut Scratch<O>,
     ) -> Result<Option<Offers>, OutOfMemory>
         requires { IfSome hindering (AreHindering (O.observing self.now.object.now) (O.hindered self.now.object.now) self.now.operation.now self.now.reply.now self.now.pending.now) }
         ensures grown { IsGrown nodes.old nodes.new }
@@ -586,15 +595,22 @@ impl<'a, O: SeqObject> Completion<'a, O> {
         ensures settled { IfOk result (λ found. IfNone found (IsSettled (O.step self.now.object.now) (O.observing self.now.object.now) self.now.operation.now self.now.reply.now self.now.pending.now out.new.items member.now)) }
         ensures passed { IfOk result (λ found. IfSome found (λ _. IsPassed (O.step self.now.object.now) (O.observing self.now.object.now) self.now.operation.now self.now.reply.now self.now.pending.now out.new.items member.now)) }
         ensures offered { IfOk result (λ found. IfSome found (AreBehind (O.step self.now.object.now) (O.observing self.now.object.now) self.now.pending.now member.now)) }
-        ensures placed { IfOk result (λ found. IfSome found (λ _. AreUpdates (O.step self.now.object.now) (O.observing self.now.object.now) self.now.pending.now (member.now.0.state, member.now.0.placed) next.new.items)) }
+        ensures placed { IfOk result (λ found. IfSome found (λ _. AreUpdates (O.step self.now.object.now) (O.observing self.now.object.now) self.now.pending.now (member.now.0.state, member.now.0.placed) scratch.new.next.items)) }
         ensures tried { IsTriedAtMost (2 * length self.now.pending.now + 1) meter.old meter.new }
     {
         if self.goes_ahead(hindering, member.state()) {
-            let offers = self.update(member, out, nodes, steps, meter, pool)?;
-            offers.give_up(&mut pool.offers);
+            let offers = self.update(
+                member,
+                out,
+                nodes,
+                &mut scratch.steps,
+                meter,
+                &mut scratch.pool,
+            )?;
+            offers.give_up(&mut scratch.pool.offers);
             return Ok(None);
         }
-        self.work_off(member, out, next, nodes, steps, meter, pool)
+        self.work_off(member, out, nodes, meter, scratch)
     }
 
     /// What the operation makes of the members with its reply.
@@ -615,18 +631,7 @@ impl<'a, O: SeqObject> Completion<'a, O> {
             return Ok(None);
         }
         let found = scratch.found(room)?;
-        empty(&mut scratch.visited);
-        self.search(
-            starts,
-            found,
-            limit,
-            nodes,
-            meter,
-            &mut scratch.visited,
-            &mut scratch.next,
-            &mut scratch.steps,
-            &mut scratch.pool,
-        )
+        self.search(starts, found, limit, nodes, meter, scratch)
     }
 
     /// What the operation makes of the members with its reply, on all ways from them by placing updates, put in the empty list;
@@ -638,14 +643,10 @@ impl<'a, O: SeqObject> Completion<'a, O> {
         limit: usize,
         nodes: &mut RoundNodes,
         meter: &mut Meter,
-        visited: &mut Vec<Member<O::State>>,
-        next: &mut Vec<(Config<O::State>, Placed)>,
-        steps: &mut Vec<(O::State, Reply)>,
-        pool: &mut Pool,
+        scratch: &mut Scratch<O>,
     ) -> Result<Option<Vec<Member<O::State>>>, OutOfMemory>
         requires within { length starts.now ≤ limit }
         requires empty { found.items ≡ [] }
-        requires unvisited { visited.old.items ≡ [] }
         ensures grown { IsGrown nodes.old nodes.new }
         ensures found { IfOk result (λ found. IfSome found (λ out. IsFoundFrom (O.step self.now.object.now) (O.observing self.now.object.now) self.now.operation.now self.now.reply.now self.now.pending.now nodes.new (map (λ m. m.now) starts.now) out.items)) }
         ensures tried { IsTriedAtMost (limit * (2 * length self.now.pending.now + 1)) meter.old meter.new }
@@ -653,14 +654,15 @@ impl<'a, O: SeqObject> Completion<'a, O> {
         let hindering = self.hindering();
         let mut seen = Seen::new(self.alloc, self.pending, noted(hindering, starts))?;
         let mut out = found;
+        let mut visited = scratch.visited();
         for start in starts {
             let path = start.path();
-            let found = self.take_up(hindering, start, &mut out, next, nodes, steps, meter, pool)?;
+            let found = self.take_up(hindering, start, &mut out, nodes, meter, scratch)?;
             let onward = Onward {
                 path,
                 offers: found,
             };
-            self.visit_found(onward, next, starts, &mut seen, visited, nodes, pool)?;
+            self.visit_found(onward, starts, &mut seen, &mut visited, nodes, scratch)?;
         }
         let mut tried = starts.len();
         let mut at = 0;
@@ -669,16 +671,17 @@ impl<'a, O: SeqObject> Completion<'a, O> {
                 return Ok(None);
             }
             let path = member.path();
-            let found = self.take_up(hindering, member, &mut out, next, nodes, steps, meter, pool)?;
+            let found = self.take_up(hindering, member, &mut out, nodes, meter, scratch)?;
             let onward = Onward {
                 path,
                 offers: found,
             };
-            self.visit_found(onward, next, starts, &mut seen, visited, nodes, pool)?;
+            self.visit_found(onward, starts, &mut seen, &mut visited, nodes, scratch)?;
             tried += 1;
             at += 1;
         }
-        give_up_all(visited, pool);
+        give_up_all(&mut visited, &mut scratch.pool);
+        scratch.keep_visited(visited);
         Ok(Some(out))
     }
 }

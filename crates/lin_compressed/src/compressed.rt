@@ -57,6 +57,15 @@ impl<O: SeqObject> Model for Compressed<O> {
     ghost view = { λ c. c.members.items };
 }
 
+/// How a frontier goes on, and how far.
+#[derive(Clone, Copy, Drop)]
+pub(crate) struct Search {
+    /// It goes on without overwritten updates: an ok is searched for.
+    pub alone: bool,
+    /// A search may come to so many members.
+    pub limit: usize,
+}
+
 /// What one more event makes of a compressed frontier, where a search may come to so many members.
 #[derive(Drop)]
 pub(crate) enum Found<O: SeqObject> {
@@ -317,22 +326,22 @@ fn next_members<O: SeqObject>(
     arrival: &Arrival<O>,
     members: &[Member<O::State>],
     pending: &Pending,
-    alone: bool,
-    limit: usize,
+    search: Search,
     nodes: &mut RoundNodes,
     meter: &mut Meter,
     scratch: &mut Scratch<O>,
 ) -> Result<Option<Vec<Member<O::State>>>, OutOfMemory>
-    requires { alone ≡ false → O.overwriting arrival.now.object.now ≡ true }
+    requires { search.alone ≡ false → O.overwriting arrival.now.object.now ≡ true }
     ensures grown { IsGrown nodes.old nodes.new }
-    ensures alone { IfOk result (λ found. IfSome found (λ out. alone ≡ true → CompletesOpen arrival.now.event.now arrival.now.pending.now
+    ensures alone { IfOk result (λ found. IfSome found (λ out. search.alone ≡ true → CompletesOpen arrival.now.event.now arrival.now.pending.now
         → IsNextOf (O.step arrival.now.object.now) (O.observing arrival.now.object.now) arrival.now.event.now.process arrival.now.event.now.body arrival.now.pending.now pending.now nodes.new members.now out.items)) }
-    ensures next { IfOk result (λ found. IfSome found (λ out. alone ≡ false → CompletesOpen arrival.now.event.now arrival.now.pending.now
+    ensures next { IfOk result (λ found. IfSome found (λ out. search.alone ≡ false → CompletesOpen arrival.now.event.now arrival.now.pending.now
         → IsNextWith (O.step arrival.now.object.now) (O.observing arrival.now.object.now) arrival.now.event.now.process arrival.now.event.now.body arrival.now.pending.now pending.now nodes.new arrival.now.at members.now out.items)) }
-    ensures oks { IfOk result (λ found. IfNone found ((alone ≡ true) × (name : NameOf) × (reply : ReplyOf) × (arrival.now.event.now.body ≡ BodyOf.Ok name reply))) }
-    ensures tried { IsTriedAtMost (limit * (2 * length pending.now + 1) + length members.now * (2 * ((length pending.now + 1) * (length pending.now + 1)))) meter.old meter.new }
-    ensures searched { alone ≡ true → IsTriedAtMost (limit * (2 * length pending.now + 1)) meter.old meter.new }
+    ensures oks { IfOk result (λ found. IfNone found ((search.alone ≡ true) × (name : NameOf) × (reply : ReplyOf) × (arrival.now.event.now.body ≡ BodyOf.Ok name reply))) }
+    ensures tried { IsTriedAtMost (search.limit * (2 * length pending.now + 1) + length members.now * (2 * ((length pending.now + 1) * (length pending.now + 1)))) meter.old meter.new }
+    ensures searched { search.alone ≡ true → IsTriedAtMost (search.limit * (2 * length pending.now + 1)) meter.old meter.new }
 {
+    let Search { alone, limit } = search;
     match &arrival.event.body {
         Body::Invoke(_) => Ok(Some(all_copied(
             arrival.object,
@@ -404,21 +413,20 @@ pub(crate) fn open_after(
 fn advanced<O: SeqObject>(
     arrival: &Arrival<O>,
     members: &[Member<O::State>],
-    alone: bool,
-    limit: usize,
+    search: Search,
     nodes: &mut RoundNodes,
     meter: &mut Meter,
     scratch: &mut Scratch<O>,
 ) -> Result<Option<Vec<Member<O::State>>>, OutOfMemory>
-    requires fits { alone ≡ true → AreAlone (O.overwriting arrival.now.object.now) members.now }
-    requires goes { alone ≡ false → O.overwriting arrival.now.object.now ≡ true }
+    requires fits { search.alone ≡ true → AreAlone (O.overwriting arrival.now.object.now) members.now }
+    requires goes { search.alone ≡ false → O.overwriting arrival.now.object.now ≡ true }
     ensures grown { IsGrown nodes.old nodes.new }
     ensures next { IfOk result (λ found. IfSome found (λ out. (functions : ItemOf → NameOf → Bool) (h : List EventOf) → IsNextEvent functions h arrival.now.pending.now arrival.now.at arrival.now.event.now
         → IsCovering (O.starts arrival.now.object.now) (O.step arrival.now.object.now) (O.observing arrival.now.object.now) (O.overwriting arrival.now.object.now) h members.now nodes.old
         → IsCompressed (O.starts arrival.now.object.now) (O.step arrival.now.object.now) (O.observing arrival.now.object.now) (O.overwriting arrival.now.object.now) (with_event h arrival.now.event.now) out.items nodes.new)) }
-    ensures oks { IfOk result (λ found. IfNone found ((alone ≡ true) × (name : NameOf) × (reply : ReplyOf) × (arrival.now.event.now.body ≡ BodyOf.Ok name reply))) }
-    ensures tried { IsTriedAtMost (limit * (2 * length arrival.now.pending.now + 3) + length members.now * (2 * ((length arrival.now.pending.now + 2) * (length arrival.now.pending.now + 2)))) meter.old meter.new }
-    ensures searched { alone ≡ true → IsTriedAtMost (limit * (2 * length arrival.now.pending.now + 3)) meter.old meter.new }
+    ensures oks { IfOk result (λ found. IfNone found ((search.alone ≡ true) × (name : NameOf) × (reply : ReplyOf) × (arrival.now.event.now.body ≡ BodyOf.Ok name reply))) }
+    ensures tried { IsTriedAtMost (search.limit * (2 * length arrival.now.pending.now + 3) + length members.now * (2 * ((length arrival.now.pending.now + 2) * (length arrival.now.pending.now + 2)))) meter.old meter.new }
+    ensures searched { search.alone ≡ true → IsTriedAtMost (search.limit * (2 * length arrival.now.pending.now + 3)) meter.old meter.new }
 {
     well_formed_is_alternating();
     ends_are_unique();
@@ -436,13 +444,11 @@ fn advanced<O: SeqObject>(
     rounds_allow_overwritten::<O>();
     let after = open_after(scratch.open(), arrival.pending, arrival.at, arrival.event)?;
     let pending = Pending::of(&after);
-    let Some(found) = next_members(
-        arrival, members, &pending, alone, limit, nodes, meter, scratch,
-    )?
+    let Some(found) = next_members(arrival, members, &pending, search, nodes, meter, scratch)?
     else {
         return Ok(None);
     };
-    let kept = kept(arrival.object, arrival.alloc, &pending, found, alone)?;
+    let kept = kept(arrival.object, arrival.alloc, &pending, found, search.alone)?;
     scratch.keep_open(after);
     Ok(Some(kept))
 }
@@ -482,14 +488,13 @@ impl<O: SeqObject> Compressed<O> {
     pub(crate) fn advance_up_to(
         &self,
         arrival: &Arrival<O>,
-        alone: bool,
-        limit: usize,
+        search: Search,
         nodes: &mut RoundNodes,
         meter: &mut Meter,
         scratch: &mut Scratch<O>,
     ) -> Result<Found<O>, OutOfMemory>
-        requires fits { alone ≡ true → AreAlone (O.overwriting arrival.now.object.now) self.now }
-        requires goes { alone ≡ false → O.overwriting arrival.now.object.now ≡ true }
+        requires fits { search.alone ≡ true → AreAlone (O.overwriting arrival.now.object.now) self.now }
+        requires goes { search.alone ≡ false → O.overwriting arrival.now.object.now ≡ true }
         // Where the frontier is one of a history, with these operations open, the answer speaks of that history with the event behind
         // it, which has to be well-formed.
         ensures next { IfOk result (λ step. (next : List (MemberOf O.State × PathOf)) → step ≡ Found.Next next → (functions : ItemOf → NameOf → Bool) (h : List EventOf)
@@ -500,21 +505,21 @@ impl<O: SeqObject> Compressed<O> {
             → IsNextEvent functions h arrival.now.pending.now arrival.now.at arrival.now.event.now → IsCompressed (O.starts arrival.now.object.now) (O.step arrival.now.object.now) (O.observing arrival.now.object.now) (O.overwriting arrival.now.object.now) h self.now nodes.old
             → IsLinearizableBy (O.starts arrival.now.object.now) (O.step arrival.now.object.now) (with_event h arrival.now.event.now) → ⊥) }
         // Only an ok is searched for.
-        ensures oks { IfOk result (λ step. step ≡ Found.TooMany → (alone ≡ true) × (name : NameOf) × (reply : ReplyOf) × (arrival.now.event.now.body ≡ BodyOf.Ok name reply)) }
+        ensures oks { IfOk result (λ step. step ≡ Found.TooMany → (search.alone ≡ true) × (name : NameOf) × (reply : ReplyOf) × (arrival.now.event.now.body ≡ BodyOf.Ok name reply)) }
         // Nodes are only added; and none is where there is no next frontier.
         ensures grown { IsGrown nodes.old nodes.new }
         ensures kept { IfOk result (λ step. (step ≡ Found.Empty) ⊎ (step ≡ Found.TooMany) → nodes.new ≡ nodes.old) }
         ensures refused { OnErr result (nodes.new ≡ nodes.old) }
         ensures steps { meter.new.steps ≡ ticked meter.old.steps 1 }
-        ensures tries { meter.new.tries ≤ meter.old.tries + (limit * (2 * length arrival.now.pending.now + 3) + length self.now * (2 * ((length arrival.now.pending.now + 2) * (length arrival.now.pending.now + 2)))) }
-        ensures searched { alone ≡ true → meter.new.tries ≤ meter.old.tries + limit * (2 * length arrival.now.pending.now + 3) }
+        ensures tries { meter.new.tries ≤ meter.old.tries + (search.limit * (2 * length arrival.now.pending.now + 3) + length self.now * (2 * ((length arrival.now.pending.now + 2) * (length arrival.now.pending.now + 2)))) }
+        ensures searched { search.alone ≡ true → meter.new.tries ≤ meter.old.tries + search.limit * (2 * length arrival.now.pending.now + 3) }
         ensures scans { meter.new.scans ≡ meter.old.scans }
     {
         legal_orders_end(arrival.object);
         members_are_exact(arrival.object);
         meter.tick_step();
         let count = nodes.len();
-        match advanced(arrival, &self.members, alone, limit, nodes, meter, scratch) {
+        match advanced(arrival, &self.members, search, nodes, meter, scratch) {
             Ok(Some(members)) => {
                 if members.is_empty() {
                     nodes.cut(count);

@@ -19,7 +19,7 @@ pub struct Scratch<O: SeqObject> {
     found: Vec<Member<O::State>>,
     open: Vec<Open>,
     early: Vec<Open>,
-    pub(crate) visited: Vec<Member<O::State>>,
+    visited: Vec<Member<O::State>>,
     pub(crate) next: Vec<(Config<O::State>, Placed)>,
     pub(crate) steps: Vec<(O::State, Reply)>,
     pub(crate) pool: Pool,
@@ -119,6 +119,20 @@ impl<O: SeqObject> Scratch<O> {
     #[inline(always)]
     pub(crate) fn keep_early(&mut self, early: Vec<Open>) {
         self.early = early;
+    }
+
+    /// An empty list for members that a search comes to.
+    #[inline(always)]
+    pub(crate) fn visited(&mut self) -> Vec<Member<O::State>>
+        ensures { result.items ≡ [] }
+    {
+        emptied(self.alloc, &mut self.visited)
+    }
+
+    /// Takes the list of visited members back.
+    #[inline(always)]
+    pub(crate) fn keep_visited(&mut self, visited: Vec<Member<O::State>>) {
+        self.visited = visited;
     }
 
     /// An empty list for configurations.

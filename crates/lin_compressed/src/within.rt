@@ -21,10 +21,10 @@ ghost use Rattle.lin_members.specs.Members.{Member as MemberOf};
 ghost use Rattle.lin_frontier.specs.Nodes.{IsGrown};
 ghost use Rattle.lin_frontier.specs.Walks.{IsTriedAtMost};
 
-use crate::compressed::{Compressed, Found, alone_all, open_after, push_all_taken_out};
+use crate::compressed::{Compressed, Found, Search, alone_all, open_after, push_all_taken_out};
 use crate::scratch::Scratch;
-use lin_events::{Body, Event, Meter, OutOfMemory, ends_are_unique, well_formed_is_alternating};
-use lin_frontier::{Arrival, Open, Pending};
+use lin_events::{Body, Meter, OutOfMemory, ends_are_unique, well_formed_is_alternating};
+use lin_frontier::{Arrival, Pending};
 use lin_listing::{are_surely_more, listed};
 use lin_members::{
     Member, Pool, RoundNodes, dominated_can_go, members_after_events, members_are_exact,
@@ -196,11 +196,7 @@ impl<O: SeqObject> Compressed<O> {
     /// members that there may be too many configurations before the event.
     pub fn advance(
         &self,
-        alloc: Global,
-        object: &O,
-        pending: &[Open],
-        at: usize,
-        event: &Event,
+        arrival: &Arrival<O>,
         budget: u32,
         nodes: &mut RoundNodes,
         meter: &mut Meter,
@@ -209,45 +205,38 @@ impl<O: SeqObject> Compressed<O> {
         // Where the frontier is one of a history, with these operations open, the answer speaks of that history with the event behind
         // it, which has to be well-formed.
         ensures next { IfOk result (λ step. (next : List (MemberOf O.State × PathOf)) → step ≡ Advance.Next next → (functions : ItemOf → NameOf → Bool) (h : List EventOf)
-            → IsNextEvent functions h pending.now at event.now → IsCompressed (O.starts object.now) (O.step object.now) (O.observing object.now) (O.overwriting object.now) h self.now nodes.old
-            → IsCompressed (O.starts object.now) (O.step object.now) (O.observing object.now) (O.overwriting object.now) (with_event h event.now) next nodes.new) }
+            → IsNextEvent functions h arrival.now.pending.now arrival.now.at arrival.now.event.now → IsCompressed (O.starts arrival.now.object.now) (O.step arrival.now.object.now) (O.observing arrival.now.object.now) (O.overwriting arrival.now.object.now) h self.now nodes.old
+            → IsCompressed (O.starts arrival.now.object.now) (O.step arrival.now.object.now) (O.observing arrival.now.object.now) (O.overwriting arrival.now.object.now) (with_event h arrival.now.event.now) next nodes.new) }
         ensures same { IfOk result (λ step. step ≡ Advance.Same → (functions : ItemOf → NameOf → Bool) (h : List EventOf)
-            → IsNextEvent functions h pending.now at event.now → IsCompressed (O.starts object.now) (O.step object.now) (O.observing object.now) (O.overwriting object.now) h self.now nodes.old
-            → IsCompressed (O.starts object.now) (O.step object.now) (O.observing object.now) (O.overwriting object.now) (with_event h event.now) self.now nodes.new) }
+            → IsNextEvent functions h arrival.now.pending.now arrival.now.at arrival.now.event.now → IsCompressed (O.starts arrival.now.object.now) (O.step arrival.now.object.now) (O.observing arrival.now.object.now) (O.overwriting arrival.now.object.now) h self.now nodes.old
+            → IsCompressed (O.starts arrival.now.object.now) (O.step arrival.now.object.now) (O.observing arrival.now.object.now) (O.overwriting arrival.now.object.now) (with_event h arrival.now.event.now) self.now nodes.new) }
         ensures some { IfOk result (λ step. (next : List (MemberOf O.State × PathOf)) → step ≡ Advance.Next next → 0 < length next) }
         ensures empty { IfOk result (λ step. step ≡ Advance.Empty → (functions : ItemOf → NameOf → Bool) (h : List EventOf)
-            → IsNextEvent functions h pending.now at event.now → IsCompressed (O.starts object.now) (O.step object.now) (O.observing object.now) (O.overwriting object.now) h self.now nodes.old
-            → IsLinearizableBy (O.starts object.now) (O.step object.now) (with_event h event.now) → ⊥) }
+            → IsNextEvent functions h arrival.now.pending.now arrival.now.at arrival.now.event.now → IsCompressed (O.starts arrival.now.object.now) (O.step arrival.now.object.now) (O.observing arrival.now.object.now) (O.overwriting arrival.now.object.now) h self.now nodes.old
+            → IsLinearizableBy (O.starts arrival.now.object.now) (O.step arrival.now.object.now) (with_event h arrival.now.event.now) → ⊥) }
         ensures over { IfOk result (λ step. step ≡ Advance.Over → (functions : ItemOf → NameOf → Bool) (h : List EventOf)
-            → IsNextEvent functions h pending.now at event.now → IsCompressed (O.starts object.now) (O.step object.now) (O.observing object.now) (O.overwriting object.now) h self.now nodes.old
-            → IsOver (O.starts object.now) (O.step object.now) (with_event h event.now) budget) }
+            → IsNextEvent functions h arrival.now.pending.now arrival.now.at arrival.now.event.now → IsCompressed (O.starts arrival.now.object.now) (O.step arrival.now.object.now) (O.observing arrival.now.object.now) (O.overwriting arrival.now.object.now) h self.now nodes.old
+            → IsOver (O.starts arrival.now.object.now) (O.step arrival.now.object.now) (with_event h arrival.now.event.now) budget) }
         ensures before { IfOk result (λ step. step ≡ Advance.OverBefore → (functions : ItemOf → NameOf → Bool) (h : List EventOf)
-            → IsNextEvent functions h pending.now at event.now → IsCompressed (O.starts object.now) (O.step object.now) (O.observing object.now) (O.overwriting object.now) h self.now nodes.old
-            → (0 < at) × IsOver (O.starts object.now) (O.step object.now) h budget) }
+            → IsNextEvent functions h arrival.now.pending.now arrival.now.at arrival.now.event.now → IsCompressed (O.starts arrival.now.object.now) (O.step arrival.now.object.now) (O.observing arrival.now.object.now) (O.overwriting arrival.now.object.now) h self.now nodes.old
+            → (0 < arrival.now.at) × IsOver (O.starts arrival.now.object.now) (O.step arrival.now.object.now) h budget) }
         // Nodes are only added; and none is where there is no next frontier.
         ensures grown { IsGrown nodes.old nodes.new }
         ensures kept { IfOk result (λ step. (step ≡ Advance.Same) ⊎ (step ≡ Advance.Empty) ⊎ (step ≡ Advance.Over) ⊎ (step ≡ Advance.OverBefore) → nodes.new ≡ nodes.old) }
         ensures refused { OnErr result (nodes.new ≡ nodes.old) }
         ensures steps { meter.new.steps ≡ ticked meter.old.steps 1 }
-        ensures tries { meter.new.tries ≤ meter.old.tries + (budget * (4 * length pending.now + 4) + length self.now * (2 * ((length pending.now + 2) * (length pending.now + 2)))) }
+        ensures tries { meter.new.tries ≤ meter.old.tries + (budget * (4 * length arrival.now.pending.now + 4) + length self.now * (2 * ((length arrival.now.pending.now + 2) * (length arrival.now.pending.now + 2)))) }
         // Members count only where the object is overwritten.
-        ensures searched { O.overwriting object.now ≡ false → meter.new.tries ≤ meter.old.tries + budget * (4 * length pending.now + 4) }
-        ensures within { length self.now ≤ budget → meter.new.tries ≤ meter.old.tries + budget * (3 * ((length pending.now + 2) * (length pending.now + 2))) }
+        ensures searched { O.overwriting arrival.now.object.now ≡ false → meter.new.tries ≤ meter.old.tries + budget * (4 * length arrival.now.pending.now + 4) }
+        ensures within { length self.now ≤ budget → meter.new.tries ≤ meter.old.tries + budget * (3 * ((length arrival.now.pending.now + 2) * (length arrival.now.pending.now + 2))) }
         ensures scans { meter.new.scans ≡ meter.old.scans }
     {
-        let arrival = Arrival {
-            object,
-            alloc,
-            pending,
-            at,
-            event,
-        };
         let budget = budget as usize;
-        if let Body::Invoke(_) = &event.body {
-            return self.invoked(&arrival, budget, nodes, meter);
+        if let Body::Invoke(_) = &arrival.event.body {
+            return self.invoked(arrival, budget, nodes, meter);
         }
         let count = nodes.len();
-        match self.step(&arrival, budget, nodes, meter, scratch) {
+        match self.step(arrival, budget, nodes, meter, scratch) {
             Ok(Advance::Next(next)) => Ok(Advance::Next(next)),
             Ok(none) => {
                 nodes.cut(count);
@@ -338,7 +327,7 @@ impl<O: SeqObject> Compressed<O> {
             return Err(OutOfMemory);
         };
         let limit = longest_search(budget, is_over);
-        match self.advance_up_to(arrival, alone, limit, nodes, meter, scratch)? {
+        match self.advance_up_to(arrival, Search { alone, limit }, nodes, meter, scratch)? {
             Found::Empty => Ok(Advance::Empty),
             Found::Next(next) => {
                 // Members are compared with one another, so fewer of them cost as much as a search.

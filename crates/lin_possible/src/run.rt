@@ -21,7 +21,7 @@ use lin_compressed::{Advance, Compressed, Scratch};
 use lin_events::{
     Event, Meter, OutOfMemory, beginnings_are_well_formed, well_formed_is_alternating,
 };
-use lin_frontier::{Open, Pending, nothing_is_open_at_first, take_in as take_in_open};
+use lin_frontier::{Arrival, Open, Pending, nothing_is_open_at_first, take_in as take_in_open};
 use lin_listing::listed;
 use lin_members::{Member, RoundNodes, push_member, rounds_spell_members, same};
 use lin_objects::{Any, Kind, SeqObject, State};
@@ -104,17 +104,16 @@ impl Run {
             → (n : ℕ) × IsOver (start_of (kind_of self.old)) (StepOf (kind_of self.old)) (take n h) budget }
     {
         beginnings_are_well_formed();
-        let step = self.frontier.advance(
+        let arrival = Arrival {
+            object: &self.object,
             alloc,
-            &self.object,
-            self.pending.as_slice(),
+            pending: self.pending.as_slice(),
             at,
             event,
-            budget,
-            &mut self.nodes,
-            meter,
-            scratch,
-        )?;
+        };
+        let step = self
+            .frontier
+            .advance(&arrival, budget, &mut self.nodes, meter, scratch)?;
         match step {
             Advance::Same => self.open(at, event),
             Advance::Next(next) => {

@@ -46,7 +46,7 @@ returns-clause-next g c functions h next covering =
     let same = c.of-pending.ensures ∙ c.deref.ensures.value in
     let completes = completes_open begin step observes laws functions h c.args.arrival.now.pending.now c.args.arrival.now.at c.args.arrival.now.event.now next pending opened in
     let covered = covering_stays begin step observes (g.O.SeqObject.overwriting c.args.arrival.now.object.now) h c.args.nodes.now c.next_members.new.nodes c.args.members.now c.next_members.ensures.grown covering in
-    elim (cases_Bool c.args.alone) [
+    elim (cases_Bool c.args.search.alone) [
       | inl alone ↦
           alone_advances begin step observes laws functions h c.args.arrival.now.pending.now c.args.arrival.now.at c.args.arrival.now.event.now next pending opened (g.O.SeqObject.unchanged c.args.arrival.now.object.now) c.next_members.new.nodes c.args.members.now
           c.in-Some.found.items c.in_ok-kept.kept.items c.dominated_can_go.ensures.thinned (g.O.SeqObject.overwriting c.args.arrival.now.object.now) (c.requires.fits alone)
@@ -59,32 +59,32 @@ returns-clause-next g c functions h next covering =
 
 pub returns-in_err-found-clause-tried : goal.returns-in_err-found-clause-tried
 returns-in_err-found-clause-tried g c =
-    tried_within c.args.limit (length c.args.members.now) (length c.of-pending.result) (length c.args.arrival.now.pending.now) _ _ (omega (arith, c.in_ok-after.ensures.len, ap length (c.of-pending.ensures ∙ c.deref.ensures.value))) c.next_members.ensures.tried
+    tried_within c.args.search.limit (length c.args.members.now) (length c.of-pending.result) (length c.args.arrival.now.pending.now) _ _ (omega (arith, c.in_ok-after.ensures.len, ap length (c.of-pending.ensures ∙ c.deref.ensures.value))) c.next_members.ensures.tried
 
 pub returns-in_default-clause-tried : goal.returns-in_default-clause-tried
 returns-in_default-clause-tried g c =
-    tried_within c.args.limit (length c.args.members.now) (length c.of-pending.result) (length c.args.arrival.now.pending.now) _ _ (omega (arith, c.in_ok-after.ensures.len, ap length (c.of-pending.ensures ∙ c.deref.ensures.value))) c.next_members.ensures.tried
+    tried_within c.args.search.limit (length c.args.members.now) (length c.of-pending.result) (length c.args.arrival.now.pending.now) _ _ (omega (arith, c.in_ok-after.ensures.len, ap length (c.of-pending.ensures ∙ c.deref.ensures.value))) c.next_members.ensures.tried
 
 pub returns-clause-tried : goal.returns-clause-tried
 returns-clause-tried g c =
-    tried_within c.args.limit (length c.args.members.now) (length c.of-pending.result) (length c.args.arrival.now.pending.now) _ _ (omega (arith, c.in_ok-after.ensures.len, ap length (c.of-pending.ensures ∙ c.deref.ensures.value))) c.next_members.ensures.tried
+    tried_within c.args.search.limit (length c.args.members.now) (length c.of-pending.result) (length c.args.arrival.now.pending.now) _ _ (omega (arith, c.in_ok-after.ensures.len, ap length (c.of-pending.ensures ∙ c.deref.ensures.value))) c.next_members.ensures.tried
 
 pub returns-in_err-kept-clause-tried : goal.returns-in_err-kept-clause-tried
 returns-in_err-kept-clause-tried g c =
-    tried_within c.args.limit (length c.args.members.now) (length c.of-pending.result) (length c.args.arrival.now.pending.now) _ _ (omega (arith, c.in_ok-after.ensures.len, ap length (c.of-pending.ensures ∙ c.deref.ensures.value))) c.next_members.ensures.tried
+    tried_within c.args.search.limit (length c.args.members.now) (length c.of-pending.result) (length c.args.arrival.now.pending.now) _ _ (omega (arith, c.in_ok-after.ensures.len, ap length (c.of-pending.ensures ∙ c.deref.ensures.value))) c.next_members.ensures.tried
 
 pub returns-in_err-found-clause-searched : goal.returns-in_err-found-clause-searched
 returns-in_err-found-clause-searched g c alone =
-    tried_longer c.args.limit (2 * length c.of-pending.result + 1) (2 * length c.args.arrival.now.pending.now + 3) _ _ (omega (arith, c.in_ok-after.ensures.len, ap length (c.of-pending.ensures ∙ c.deref.ensures.value))) (c.next_members.ensures.searched alone)
+    tried_longer c.args.search.limit (2 * length c.of-pending.result + 1) (2 * length c.args.arrival.now.pending.now + 3) _ _ (omega (arith, c.in_ok-after.ensures.len, ap length (c.of-pending.ensures ∙ c.deref.ensures.value))) (c.next_members.ensures.searched alone)
 
 pub returns-in_default-clause-searched : goal.returns-in_default-clause-searched
 returns-in_default-clause-searched g c alone =
-    tried_longer c.args.limit (2 * length c.of-pending.result + 1) (2 * length c.args.arrival.now.pending.now + 3) _ _ (omega (arith, c.in_ok-after.ensures.len, ap length (c.of-pending.ensures ∙ c.deref.ensures.value))) (c.next_members.ensures.searched alone)
+    tried_longer c.args.search.limit (2 * length c.of-pending.result + 1) (2 * length c.args.arrival.now.pending.now + 3) _ _ (omega (arith, c.in_ok-after.ensures.len, ap length (c.of-pending.ensures ∙ c.deref.ensures.value))) (c.next_members.ensures.searched alone)
 
 pub returns-clause-searched : goal.returns-clause-searched
 returns-clause-searched g c alone =
-    tried_longer c.args.limit (2 * length c.of-pending.result + 1) (2 * length c.args.arrival.now.pending.now + 3) _ _ (omega (arith, c.in_ok-after.ensures.len, ap length (c.of-pending.ensures ∙ c.deref.ensures.value))) (c.next_members.ensures.searched alone)
+    tried_longer c.args.search.limit (2 * length c.of-pending.result + 1) (2 * length c.args.arrival.now.pending.now + 3) _ _ (omega (arith, c.in_ok-after.ensures.len, ap length (c.of-pending.ensures ∙ c.deref.ensures.value))) (c.next_members.ensures.searched alone)
 
 pub returns-in_err-kept-clause-searched : goal.returns-in_err-kept-clause-searched
 returns-in_err-kept-clause-searched g c alone =
-    tried_longer c.args.limit (2 * length c.of-pending.result + 1) (2 * length c.args.arrival.now.pending.now + 3) _ _ (omega (arith, c.in_ok-after.ensures.len, ap length (c.of-pending.ensures ∙ c.deref.ensures.value))) (c.next_members.ensures.searched alone)
+    tried_longer c.args.search.limit (2 * length c.of-pending.result + 1) (2 * length c.args.arrival.now.pending.now + 3) _ _ (omega (arith, c.in_ok-after.ensures.len, ap length (c.of-pending.ensures ∙ c.deref.ensures.value))) (c.next_members.ensures.searched alone)

@@ -13,16 +13,16 @@ returns-clause-made g c =
       n,
       pushed,
       λ update steps now.
-          is_returned_ahead _ _ c.args.self.now.operation.now c.args.self.now.reply.now c.args.self.now.pending.now now c.args.member.now c.path_ahead.new.nodes c.args.config.now c.in_ok-offers.offers c.path.result c.in_ok-path.path c.path.ensures
+          is_returned_ahead _ _ c.args.self.now.operation.now c.args.self.now.reply.now c.args.self.now.pending.now now c.args.returned.now.member.now c.path_ahead.new.nodes c.args.returned.now.config c.in_ok-offers.offers c.path.result c.in_ok-path.path c.path.ensures
           (record { at = c.args.self.now.operation.now.at; reply = c.args.self.now.reply.now }) c.args.before.now made c.requires.placed c.requires.before
-          c.in_ok-offers.ensures.offered refl c.in_ok-path.ensures.ahead (c.in_ok-config.ensures ∙ (λ i. (c.args.member.now.0.state, (c.config.ensures i).1))) update c.requires.early steps,
+          c.in_ok-offers.ensures.offered refl c.in_ok-path.ensures.ahead (c.in_ok-config.ensures ∙ (λ i. (c.args.returned.now.member.now.0.state, (c.config.ensures i).1))) update c.requires.early steps,
     )) c.push_member.ensures
 
 pub returns-in_err-offers-clause-tried : goal.returns-in_err-offers-clause-tried
-returns-in_err-offers-clause-tried g c = early_tried c.args.before.now c.args.member.now.1.until c.args.self.now.pending.now _ _ c.requires.before c.offers_with.ensures.tried
+returns-in_err-offers-clause-tried g c = early_tried c.args.before.now c.args.returned.now.member.now.1.until c.args.self.now.pending.now _ _ c.requires.before c.offers_with.ensures.tried
 
 pub returns-in_err-config-clause-tried : goal.returns-in_err-config-clause-tried
-returns-in_err-config-clause-tried g c = early_tried c.args.before.now c.args.member.now.1.until c.args.self.now.pending.now _ _ c.requires.before c.offers_with.ensures.tried
+returns-in_err-config-clause-tried g c = early_tried c.args.before.now c.args.returned.now.member.now.1.until c.args.self.now.pending.now _ _ c.requires.before c.offers_with.ensures.tried
 
 pub returns-clause-tried : goal.returns-clause-tried
-returns-clause-tried g c = early_tried c.args.before.now c.args.member.now.1.until c.args.self.now.pending.now _ _ c.requires.before c.offers_with.ensures.tried
+returns-clause-tried g c = early_tried c.args.before.now c.args.returned.now.member.now.1.until c.args.self.now.pending.now _ _ c.requires.before c.offers_with.ensures.tried

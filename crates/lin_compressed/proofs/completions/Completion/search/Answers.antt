@@ -9,7 +9,7 @@ use Rattle.lin_compressed.proofs.completions.Completion.search.Goals as goal
 pub loop-start-init : goal.loop-start-init
 loop-start-init g c = record {
   within = omega arith;
-  working = working_alone _ _ _ _ _ _ _ c.args.visited.now.items c.args.found.items c.requires.unvisited c.requires.empty;
+  working = working_alone _ _ _ _ _ _ _ c.visited-visited.result.items c.args.found.items c.visited-visited.ensures c.requires.empty;
   tried = tried_none _ _;
 }
 
@@ -40,7 +40,7 @@ loop-start-preserved g c =
       within = omega (arith, c.loop-start-test.true);
       working = working_next (g.O.SeqObject.step c.args.self.now.object.now) (g.O.SeqObject.observing c.args.self.now.object.now) c.args.self.now.pending.now c.args.self.now.operation.now c.args.self.now.reply.now
           starts c.args.nodes.now c.loop-start.nodes c.take_up.new.nodes c.loop-start.start-index (starts ++ c.loop-start.visited.items) c.loop-start.out.items c.take_up.new.out.items c.start-item.result.now here.0 here.1
-          e.grown e.found c.loop-start.invariant.working c.take_up.new.next.items c.in_ok-found.found c.path-path.result c.visit_found.new.nodes (starts ++ c.visit_found.new.visited.items) c.path-path.ensures
+          e.grown e.found c.loop-start.invariant.working c.take_up.new.scratch.next.items c.in_ok-found.found c.path-path.result c.visit_found.new.nodes (starts ++ c.visit_found.new.visited.items) c.path-path.ensures
           e.settled e.passed e.offered e.placed v.grown (none_behind c.in_ok-found.found starts _ _ _ _ v.none) v.some;
       tried = tried_turn c.loop-start.start-index (2 * length c.args.self.now.pending.now + 1) _ _ _ c.loop-start.invariant.tried c.take_up.ensures.tried;
     }
@@ -88,7 +88,7 @@ loop-member-preserved g c =
       within = omega (arith, c.if-tried-limit.false);
       working = working_next (g.O.SeqObject.step c.args.self.now.object.now) (g.O.SeqObject.observing c.args.self.now.object.now) c.args.self.now.pending.now c.args.self.now.operation.now c.args.self.now.reply.now
           starts c.args.nodes.now c.loop-member.nodes c.take_up-in-Some.new.nodes c.loop-member.tried (starts ++ c.loop-member.visited.items) c.loop-member.out.items c.take_up-in-Some.new.out.items c.in-Some.member.now here.0 here.1
-          e.grown e.found c.loop-member.invariant.working c.take_up-in-Some.new.next.items c.in_ok-found-2.found c.path-path-in-Some.result c.visit_found-in-Some.new.nodes (starts ++ c.visit_found-in-Some.new.visited.items) c.path-path-in-Some.ensures
+          e.grown e.found c.loop-member.invariant.working c.take_up-in-Some.new.scratch.next.items c.in_ok-found-2.found c.path-path-in-Some.result c.visit_found-in-Some.new.nodes (starts ++ c.visit_found-in-Some.new.visited.items) c.path-path-in-Some.ensures
           e.settled e.passed e.offered e.placed v.grown (none_behind c.in_ok-found-2.found starts _ _ _ _ v.none) v.some;
       tried = tried_turn c.loop-member.tried (2 * length c.args.self.now.pending.now + 1) _ _ _ c.loop-member.invariant.tried c.take_up-in-Some.ensures.tried;
     }

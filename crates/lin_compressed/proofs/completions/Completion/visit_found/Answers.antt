@@ -10,7 +10,7 @@ returns-in_err-visit_one-clause-grown g c = grown_grown _ _ _ c.loop-config.inva
 
 pub loop-config-preserved : goal.loop-config-preserved
 loop-config-preserved g c =
-    taking_turn _ _ _ _ _ _ _ c.loop-config.next.items c.pop.new.self.items c.loop-config.nodes _ (c.in-Some-pop.config, c.in-Some-pop.placed) c.in-Some-pop.ensures.items c.loop-config.invariant c.visit_one.new.nodes _ c.visit_one.ensures.grown
+    taking_turn _ _ _ _ _ _ _ c.loop-config.scratch.next.items c.pop.new.self.items c.loop-config.nodes _ (c.in-Some-pop.config, c.in-Some-pop.placed) c.in-Some-pop.ensures.items c.loop-config.invariant c.visit_one.new.nodes _ c.visit_one.ensures.grown
     (rw (sym c.offers.view_is) at c.in_ok-visit_one.ensures.taken)
 
 pub returns-clause-grown : goal.returns-clause-grown
@@ -18,4 +18,4 @@ returns-clause-grown g c = c.loop-config.invariant.nodes_grown
 
 pub returns-clause-some : goal.returns-clause-some
 returns-clause-some g c =
-    rw c.in-Some.is (rw (sym c.offers.view_is) (taking_end _ _ _ _ _ _ _ c.loop-config.next.items c.loop-config.nodes _ (sym c.loop-config.next.ok.0 ∙ c.in_default-pop.ensures.cases.0) c.loop-config.invariant))
+    rw c.in-Some.is (rw (sym c.offers.view_is) (taking_end _ _ _ _ _ _ _ c.loop-config.scratch.next.items c.loop-config.nodes _ (sym c.loop-config.scratch.next.ok.0 ∙ c.in_default-pop.ensures.cases.0) c.loop-config.invariant))

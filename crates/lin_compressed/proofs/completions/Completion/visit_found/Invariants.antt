@@ -4,8 +4,8 @@ use Rattle.lin_listing.specs.lemmas.Visiting.{IsTakingIn}
 use Rattle.lin_compressed.proofs.completions.Completion.visit_found.Given as goal
 
 abbrev pub invariant-loop-config : goal.invariant-loop-config
-invariant-loop-config g l = IsTakingIn (g.O.SeqObject.observing l.self.object.now) l.self.pending.now l.fn.next.items l.next.items (shared l.offers-inside.list) l.path l.fn.nodes l.nodes
+invariant-loop-config g l = IsTakingIn (g.O.SeqObject.observing l.self.object.now) l.self.pending.now l.fn.scratch.next.items l.scratch.next.items (shared l.offers-inside.list) l.path l.fn.nodes l.nodes
     (map (λ m. m.now) l.starts ++ l.fn.visited.items) (map (λ m. m.now) l.starts ++ l.visited.items)
 
 abbrev pub decreases-loop-config : goal.decreases-loop-config
-decreases-loop-config g l = vec_len l.next
+decreases-loop-config g l = vec_len l.scratch.next

@@ -24,12 +24,12 @@ returns-in-Ok g c = record {
   steps = c.in-Ok.ensures.steps;
   tries = c.in-Ok.ensures.tries;
   searched = c.in-Ok.ensures.searched;
-  within = λ few. tried_few c.args.meter.now c.step.new.meter c.args.budget (length c.args.self.now) (length c.args.pending.now) few c.step.ensures.tries;
+  within = λ few. tried_few c.args.meter.now c.step.new.meter c.args.budget (length c.args.self.now) (length c.args.arrival.now.pending.now) few c.step.ensures.tries;
   scans = c.in-Ok.ensures.scans;
 }
 
 pub returns-in-Ok-Next-clause-within : goal.returns-in-Ok-Next-clause-within
-returns-in-Ok-Next-clause-within g c few = tried_few c.args.meter.now c.step.new.meter c.args.budget (length c.args.self.now) (length c.args.pending.now) few c.step.ensures.tries
+returns-in-Ok-Next-clause-within g c few = tried_few c.args.meter.now c.step.new.meter c.args.budget (length c.args.self.now) (length c.args.arrival.now.pending.now) few c.step.ensures.tries
 
 pub returns-in-Err-clause-within : goal.returns-in-Err-clause-within
-returns-in-Err-clause-within g c few = tried_few c.args.meter.now c.step.new.meter c.args.budget (length c.args.self.now) (length c.args.pending.now) few c.step.ensures.tries
+returns-in-Err-clause-within g c few = tried_few c.args.meter.now c.step.new.meter c.args.budget (length c.args.self.now) (length c.args.arrival.now.pending.now) few c.step.ensures.tries

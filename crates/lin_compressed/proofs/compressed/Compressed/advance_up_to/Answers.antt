@@ -40,25 +40,25 @@ advanced-requires-clause-fits g c alone overwriting m there = c.requires.fits al
 pub returns-then-is_empty-clause-tries : goal.returns-then-is_empty-clause-tries
 returns-then-is_empty-clause-tries g c =
     let len = length c.args.arrival.now.pending.now in
-    tried_since c.args.meter.now c.tick_step.new.self c.advanced.new.meter (c.args.limit * (2 * len + 3)) (length c.deref.result.now) (length c.args.self.now) (2 * ((len + 2) * (len + 2))) (ap (λ (m : Meter). m.tries) c.tick_step.ensures)
+    tried_since c.args.meter.now c.tick_step.new.self c.advanced.new.meter (c.args.search.limit * (2 * len + 3)) (length c.deref.result.now) (length c.args.self.now) (2 * ((len + 2) * (len + 2))) (ap (λ (m : Meter). m.tries) c.tick_step.ensures)
     (ap length (c.deref.ensures.value ∙ c.self.view_is)) c.advanced.ensures.tried
 
 pub returns-else-is_empty-clause-tries : goal.returns-else-is_empty-clause-tries
 returns-else-is_empty-clause-tries g c =
     let len = length c.args.arrival.now.pending.now in
-    tried_since c.args.meter.now c.tick_step.new.self c.advanced.new.meter (c.args.limit * (2 * len + 3)) (length c.deref.result.now) (length c.args.self.now) (2 * ((len + 2) * (len + 2))) (ap (λ (m : Meter). m.tries) c.tick_step.ensures)
+    tried_since c.args.meter.now c.tick_step.new.self c.advanced.new.meter (c.args.search.limit * (2 * len + 3)) (length c.deref.result.now) (length c.args.self.now) (2 * ((len + 2) * (len + 2))) (ap (λ (m : Meter). m.tries) c.tick_step.ensures)
     (ap length (c.deref.ensures.value ∙ c.self.view_is)) c.advanced.ensures.tried
 
 pub returns-in-Ok-None-clause-tries : goal.returns-in-Ok-None-clause-tries
 returns-in-Ok-None-clause-tries g c =
     let len = length c.args.arrival.now.pending.now in
-    tried_since c.args.meter.now c.tick_step.new.self c.advanced.new.meter (c.args.limit * (2 * len + 3)) (length c.deref.result.now) (length c.args.self.now) (2 * ((len + 2) * (len + 2))) (ap (λ (m : Meter). m.tries) c.tick_step.ensures)
+    tried_since c.args.meter.now c.tick_step.new.self c.advanced.new.meter (c.args.search.limit * (2 * len + 3)) (length c.deref.result.now) (length c.args.self.now) (2 * ((len + 2) * (len + 2))) (ap (λ (m : Meter). m.tries) c.tick_step.ensures)
     (ap length (c.deref.ensures.value ∙ c.self.view_is)) c.advanced.ensures.tried
 
 pub returns-in-Err-clause-tries : goal.returns-in-Err-clause-tries
 returns-in-Err-clause-tries g c =
     let len = length c.args.arrival.now.pending.now in
-    tried_since c.args.meter.now c.tick_step.new.self c.advanced.new.meter (c.args.limit * (2 * len + 3)) (length c.deref.result.now) (length c.args.self.now) (2 * ((len + 2) * (len + 2))) (ap (λ (m : Meter). m.tries) c.tick_step.ensures)
+    tried_since c.args.meter.now c.tick_step.new.self c.advanced.new.meter (c.args.search.limit * (2 * len + 3)) (length c.deref.result.now) (length c.args.self.now) (2 * ((len + 2) * (len + 2))) (ap (λ (m : Meter). m.tries) c.tick_step.ensures)
     (ap length (c.deref.ensures.value ∙ c.self.view_is)) c.advanced.ensures.tried
 
 pub returns-then-is_empty-clause-kept : goal.returns-then-is_empty-clause-kept
