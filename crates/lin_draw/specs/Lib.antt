@@ -1,3 +1,4 @@
 pub mod Letters
+pub mod Pictures
 pub mod Pieces
 pub mod Labels

@@ -1,4 +1,7 @@
 //! A picture put together.
+ghost use Rattle.std.specs.Prelude.{◌≡◌, ◌++◌, IfOk, codes};
+ghost use Rattle.lin_draw.specs.Pictures.{IsSvg};
+
 use crate::bars::{ROW, Scene, TOP, put_bars, put_dots, put_rows};
 use crate::canvas::{Piece, letters_of, put};
 use crate::layouts::{FADE, LETTER, MARGIN};
@@ -78,7 +81,7 @@ fn size_of(scene: &Scene, texts: &Texts) -> Size {
     }
 }
 
-/// Puts the beginning of a picture last.
+/// Puts what the first mark of a picture says last, and its title.
 fn put_opening(
     alloc: Global,
     text: &mut Vec<u8>,
@@ -89,7 +92,7 @@ fn put_opening(
         alloc,
         text,
         &[
-            Piece::Plain("<svg xmlns=\"http://www.w3.org/2000/svg\" class=\"lincheck\" width=\""),
+            Piece::Plain("xmlns=\"http://www.w3.org/2000/svg\" class=\"lincheck\" width=\""),
             Piece::Number(size.width),
             Piece::Plain("\" height=\""),
             Piece::Number(size.height),
@@ -205,8 +208,8 @@ fn put_operations(alloc: Global, text: &mut Vec<u8>, scene: &Scene) -> Result<()
     put_note(alloc, text, layout.left, layout.rows.len())
 }
 
-/// The picture.
-pub(crate) fn drawn(alloc: Global, scene: &Scene, texts: &Texts) -> Result<Vec<u8>, AllocError> {
+/// What stands between the first mark of the picture and its last.
+fn inside_of(alloc: Global, scene: &Scene, texts: &Texts) -> Result<Vec<u8>, AllocError> {
     let mut text = Vec::new(alloc);
     let size = size_of(scene, texts);
     put_opening(alloc, &mut text, size, texts.head)?;
@@ -215,6 +218,23 @@ pub(crate) fn drawn(alloc: Global, scene: &Scene, texts: &Texts) -> Result<Vec<u
     put_legend(&mut text, texts.is_failure, !scene.layout.dots.is_empty())?;
     put_operations(alloc, &mut text, scene)?;
     put_lines(alloc, &mut text, bottom_of(scene.layout.rows.len()), texts)?;
+    Ok(text)
+}
+
+/// The SVG with this inside.
+fn enclosed(alloc: Global, inside: &[u8]) -> Result<Vec<u8>, AllocError>
+    ensures { IfOk result (λ text. text.items ≡ (codes "<svg " ++ inside.now) ++ codes "</svg>\n") }
+{
+    let mut text = Vec::from_slice(alloc, b"<svg ")?;
+    text.extend_from_slice(inside)?;
     text.extend_from_slice(b"</svg>\n")?;
     Ok(text)
+}
+
+/// The picture.
+pub(crate) fn drawn(alloc: Global, scene: &Scene, texts: &Texts) -> Result<Vec<u8>, AllocError>
+    ensures { IfOk result (λ text. IsSvg text.items) }
+{
+    let inside = inside_of(alloc, scene, texts)?;
+    enclosed(alloc, inside.as_slice())
 }

@@ -2,6 +2,7 @@
 ghost use Rattle.std.specs.Prelude.{◌≡◌, ℕ, [], IfOk};
 ghost use Rattle.lin_events.specs.declared.shapes.Cause.{Cause as CauseOf};
 ghost use Rattle.lin_orders.specs.Tables.{IsNextTable};
+ghost use Rattle.lin_draw.specs.Pictures.{IsSvg};
 
 use crate::bars::Scene;
 use crate::choosing::{Choice, Focus, choose, named_of};
@@ -77,7 +78,9 @@ fn finished(
     own: &Own,
     mut layout: Layout,
     texts: &Texts,
-) -> Result<Vec<u8>, OutOfMemory> {
+) -> Result<Vec<u8>, OutOfMemory>
+    ensures { IfOk result (λ text. IsSvg text.items) }
+{
     let width = width_of(alloc, texts)?;
     layout.widen(width.saturating_sub(MARGIN));
     let scene = Scene {
@@ -97,6 +100,7 @@ fn pictured(
     choice: Choice,
 ) -> Result<Vec<u8>, OutOfMemory>
     requires { IsNextTable object.now.own.now.events.items object.now.ends.now }
+    ensures { IfOk result (λ text. IsSvg text.items) }
 {
     let Choice { chosen, all } = choice;
     let layout = fit(alloc, object, chosen)?;
@@ -120,7 +124,9 @@ fn pictured(
 }
 
 /// The picture of what is asked.
-fn picture_of(alloc: Global, asked: &Asked) -> Result<Vec<u8>, OutOfMemory> {
+fn picture_of(alloc: Global, asked: &Asked) -> Result<Vec<u8>, OutOfMemory>
+    ensures { IfOk result (λ text. IsSvg text.items) }
+{
     let own = events_for(alloc, asked)?;
     let ends = ends_of(alloc, own.events.as_slice())?;
     let failing = failing_of(asked.answer, &own, ends.as_slice());
@@ -153,7 +159,8 @@ pub fn picture_with_places(
     lines: &[u8],
     places: Option<&[Place]>,
 ) -> Result<Vec<u8>, OutOfMemory>
-    ensures { IfOk result (λ text. (at : ℕ) (cause : CauseOf) → answer.now ≡ Answer.IllFormed at cause → text.items ≡ []) }
+    ensures ill_formed { IfOk result (λ text. (at : ℕ) (cause : CauseOf) → answer.now ≡ Answer.IllFormed at cause → text.items ≡ []) }
+    ensures drawn { IfOk result (λ text. ((at : ℕ) (cause : CauseOf) → answer.now ≡ Answer.IllFormed at cause → ⊥) → IsSvg text.items) }
 {
     if let Answer::IllFormed { .. } = answer {
         return Ok(Vec::new(alloc));

@@ -1,3 +1,4 @@
+pub mod Fallen
 pub mod Known
 pub mod Laws
 pub mod Own

@@ -1,22 +1,20 @@
 //! What is told of a no.
 ghost use Rattle.std.specs.Prelude.{◌≡◌, ◌-◌, ◌++◌, ℕ, List, IfOk, OnOk, decimal, length, option_map};
 ghost use Rattle.lin_orders.specs.Tables.{IsNextTable};
-ghost use Rattle.lin_session.specs.Answers.{IsAnswer, kinds_in};
-ghost use Rattle.lin_session.specs.declared.answers.Answer.{Answer as AnswerOf};
-ghost use Rattle.lin_session.specs.declared.answers.Scope.{Scope as ScopeOf};
+ghost use Rattle.lin_session.specs.Edits.{Present};
 ghost use Rattle.lin_window.specs.Operations.{IsFailing, IsInvoked};
 ghost use Rattle.lin_window.specs.Tables.{told_of};
 ghost use Rattle.lin_explain.specs.Failures.{AreReasons, AreSpots, IsFailureText, IsNoText, ends_text, failing_in, failing_text, head_text, operation_line, prefix_line, reply_in};
 ghost use Rattle.lin_explain.specs.inner.Known.{ArePossible, IsQuietBefore};
 ghost use Rattle.lin_explain.specs.inner.Laws.{IsFailure};
 ghost use Rattle.lin_explain.specs.Own.{without_last as all_but_last};
+ghost use Rattle.lin_explain.specs.inner.Fallen.{IsFallen};
 ghost use Rattle.lin_explain.specs.inner.Own.{stretch_of};
 ghost use Rattle.lin_explain.specs.Possible.{IsPossibleText};
 
-use crate::heads::{kind_for, put_object};
+use crate::fallen::Fallen;
+use crate::heads::put_object;
 use crate::known::{Quiet, known_before};
-use crate::laws::noes_fail;
-use crate::own::{Own, own_of};
 use crate::parts::{Failed, Spot, Why};
 use crate::possible::{Possibilities, put_possible};
 use crate::since::put_since;
@@ -29,7 +27,6 @@ use lin_objects::Kind;
 use lin_orders::{ends_of, positions_spell_parts};
 use lin_outcomes::Before;
 use lin_possible::Possible;
-use lin_session::Session;
 use lin_window::{Stretch, failing_operation};
 use lin_words::{put_event_spot, put_operation};
 use std::alloc::{AllocError, Global};
@@ -264,25 +261,24 @@ fn put_failure(
 fn put_own(
     alloc: Global,
     text: &mut Vec<u8>,
-    session: &Session,
-    own: &Own,
-    ending: &Event,
+    fallen: &Fallen,
     prefix: usize,
     origin: &Origin,
 ) -> Result<Failed, OutOfMemory>
-    requires failure { IsFailure (kinds_in session.now.present ending.now.key) own.now.events.items ending.now }
-    requires picks { length own.now.picks.items ≡ length own.now.events.items }
+    requires failure { IsFailure fallen.now.kind fallen.now.own.events.items fallen.now.ending }
+    requires picks { length fallen.now.own.picks.items ≡ length fallen.now.own.events.items }
     ensures { IfOk result (λ failed. (lines : List ℕ) × (call : ℕ)
-        × IsFailureText (kinds_in session.now.present ending.now.key) session.now.present.budget (stretch_of origin.now.names.now own.now (option_map (λ p. p.now) origin.now.places)) prefix call ending.now lines failed
+        × IsFailureText fallen.now.kind fallen.now.budget (stretch_of origin.now.names.now fallen.now.own (option_map (λ p. p.now) origin.now.places)) prefix call fallen.now.ending lines failed
         × (text.new.items ≡ text.old.items ++ lines)) }
 {
+    let own = &fallen.own;
     let ends = ends_of(alloc, own.events.as_slice())?;
     let Some(call) = failing_operation(own.events.as_slice(), ends.as_slice()) else {
         unreachable!()
     };
     let failure = Failure {
-        kind: kind_for(session, ending),
-        budget: session.budget(),
+        kind: fallen.kind,
+        budget: fallen.budget,
         stretch: Stretch {
             events: own.events.as_slice(),
             ends: ends.as_slice(),
@@ -293,7 +289,7 @@ fn put_own(
         prefix,
         call,
     };
-    put_failure(alloc, text, &failure, ending)
+    put_failure(alloc, text, &failure, &fallen.ending)
 }
 
 /// Puts what is told of a no last: the failing operation, what was possible before its end, why there is no legal order, and what ran
@@ -301,19 +297,15 @@ fn put_own(
 pub(crate) fn put_no(
     alloc: Global,
     text: &mut Vec<u8>,
-    session: &Session,
+    fallen: &Fallen,
     prefix: usize,
     origin: &Origin,
 ) -> Result<Failed, OutOfMemory>
-    requires { (scope : ScopeOf) × IsAnswer session.now.present scope (AnswerOf.No prefix) }
-    ensures { IfOk result (λ failed. (lines : List ℕ) × IsNoText origin.now.names.now session.now.present (option_map (λ p. p.now) origin.now.places) prefix lines failed
+    requires { (now : Present) × IsFallen now prefix fallen.now }
+    ensures { IfOk result (λ failed. (lines : List ℕ)
+        × ((now : Present) → IsFallen now prefix fallen.now → IsNoText origin.now.names.now now (option_map (λ p. p.now) origin.now.places) prefix lines failed)
         × (text.new.items ≡ text.old.items ++ lines)) }
 {
-    let Some(ending) = session.event(prefix - 1) else {
-        unreachable!()
-    };
     positions_spell_parts();
-    noes_fail(kind_for(session, ending));
-    let own = own_of(alloc, session, ending, prefix)?;
-    put_own(alloc, text, session, &own, ending, prefix, origin)
+    put_own(alloc, text, fallen, prefix, origin)
 }

@@ -3,6 +3,7 @@
 
 mod counts;
 mod failures;
+mod fallen;
 mod heads;
 mod ill_formed;
 mod known;
@@ -24,4 +25,4 @@ mod yes;
 pub use parts::{Choices, Explanation, Failed, Parts, Spot, Why};
 pub use reading::{Placed, read_placed};
 pub use refused::{place_of, refusal_lines};
-pub use telling::{Asked, explanation_of};
+pub use telling::{Asked, explanation_from, explanation_of};

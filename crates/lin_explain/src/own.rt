@@ -1,9 +1,10 @@
 //! The events of one object.
 ghost use Rattle.std.specs.Prelude.{◌≡◌, ◌≤◌, ◌∷◌, ◌++◌, [], IfOk, OnOk, length, take};
 ghost use Rattle.lin_events.specs.Items.{item_eq};
+ghost use Rattle.lin_orders.specs.Parts.{ArePositionsOf, part};
 ghost use Rattle.lin_explain.specs.inner.Own.{IsOwn};
 
-use lin_events::{Event, OutOfMemory};
+use lin_events::{Event, Item, OutOfMemory};
 use lin_orders::parts_grow;
 use lin_session::Session;
 use std::alloc::Global;
@@ -55,4 +56,58 @@ pub(crate) fn own_of(
         }
     }
     Ok(own)
+}
+
+/// Whether the event is of the key.
+fn is_of(event: &Event, key: Item) -> bool
+    ensures { result ≡ item_eq event.now.key key }
+{
+    event.key == key
+}
+
+/// Where the events of the key stand among the first so many of the history.
+fn picks_of(
+    alloc: Global,
+    session: &Session,
+    key: Item,
+    count: usize,
+) -> Result<Vec<usize>, OutOfMemory>
+    requires within { count ≤ length session.now.present.history }
+    ensures { IfOk result (λ picks. ArePositionsOf key (take count session.now.present.history) picks.items) }
+{
+    parts_grow();
+    let mut picks = Vec::new(alloc);
+    for at in 0..count {
+        let Some(event) = session.event(at) else {
+            unreachable!()
+        };
+        if is_of(event, key) {
+            picks.push(at)?;
+        }
+    }
+    Ok(picks)
+}
+
+/// Keeps the events of the key.
+fn keep_own(events: &mut Vec<Event>, key: Item)
+    ensures { events.new.items ≡ part key events.old.items }
+{
+    events.retain(|event| event.key == key);
+}
+
+/// The events of the key among the first so many of the history, on the memory of the session, which goes with all that it found.
+pub(crate) fn own_from(
+    alloc: Global,
+    session: Session,
+    key: Item,
+    count: usize,
+) -> Result<Own, OutOfMemory>
+    requires within { count ≤ length session.present.history }
+    ensures { IfOk result (IsOwn key (take count session.present.history)) }
+{
+    let picks = picks_of(alloc, &session, key, count)?;
+    let mut events = session.into_history();
+    events.truncate(count);
+    keep_own(&mut events, key);
+    Ok(Own { events, picks })
 }

@@ -68,12 +68,12 @@ pub fn read_placed<R: Read>(
         }
         let refusal = take_piece(&mut follow, &mut events, &piece[..count], names)?;
         places.feed(&piece[..count], names)?;
-        tail.feed(&piece[..count])?;
         if let Some(refusal) = refusal {
+            tail.feed(&piece[..count])?;
             let is_pair = is_of_two_parts(alloc, keyed, refusal, &places, &tail);
             return Ok((History::Refused(refusal), Placed { places, is_pair }));
         }
-        tail.cut(places.as_slice());
+        tail.go_on(&piece[..count], places.as_slice())?;
     }
     Err(RunFault::TooMuch)
 }

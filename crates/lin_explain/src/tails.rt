@@ -1,5 +1,5 @@
 //! The last bytes of a text that comes in pieces.
-ghost use Rattle.std.specs.Prelude.{◌≡◌, ◌++◌, [], ℕ, List, IfSome, OnOk, drop};
+ghost use Rattle.std.specs.Prelude.{◌≡◌, ◌+◌, ◌≤◌, ◌++◌, [], ℕ, List, IfSome, OnOk, drop, length};
 ghost use Rattle.lin_explain.specs.inner.Tails.{IsTail};
 
 use lin_places::Place;
@@ -31,8 +31,39 @@ impl Tail {
         self.bytes.extend_from_slice(piece)
     }
 
+    /// Where in a piece that comes next the offset lies, if it does.
+    fn within(&self, piece: &[u8], offset: u64) -> Option<usize>
+        ensures { IfSome result (λ at. (at ≤ length piece.now) × (self.now.base + length self.now.bytes.items + at ≡ offset)) }
+    {
+        let passed = offset.checked_sub(self.base)?;
+        let at = passed.checked_sub(self.bytes.len() as u64)?;
+        if at > piece.len() as u64 {
+            return None;
+        }
+        Some(at as usize)
+    }
+
+    /// Takes in a piece of the text, and drops what stands before the last of the places.
+    pub(crate) fn go_on(&mut self, piece: &[u8], places: &[Place]) -> Result<(), AllocError>
+        ensures { OnOk result ((text : List ℕ) → IsTail self.old text → IsTail self.new (text ++ piece.now)) }
+    {
+        let Some(last) = places.last() else {
+            return self.feed(piece);
+        };
+        let Some(at) = self.within(piece, last.offset) else {
+            self.feed(piece)?;
+            self.cut(places);
+            return Ok(());
+        };
+        // What is dropped of the piece is never copied.
+        self.bytes.clear();
+        self.base = last.offset;
+        self.bytes.extend_from_slice(&piece[at..])?;
+        Ok(())
+    }
+
     /// Drops what stands before the last of the places.
-    pub(crate) fn cut(&mut self, places: &[Place])
+    fn cut(&mut self, places: &[Place])
         ensures { (text : List ℕ) → IsTail self.old text → IsTail self.new text }
     {
         let Some(last) = places.last() else {

@@ -6,7 +6,8 @@ ghost use Rattle.lin_window.specs.Tables.{position_in, told_of};
 ghost use Rattle.lin_explain.specs.Whys.{IsWhyText, form_name as name_of};
 
 use crate::parts::Why;
-use lin_certificates::{Certificate, find_certificate};
+use lin_candidates::find_certificate;
+use lin_certificates::Certificate;
 use lin_events::OutOfMemory;
 use lin_objects::Kind;
 use lin_reasons::{Told, put_reason};

@@ -1,5 +1,5 @@
--- What is right to print where a history is drawn. Nothing is said of a picture itself.
-use Rattle.std.specs.Prelude.{◌≡◌, ◌++◌, ◌⊎◌, ℕ, true, List, Option, Result, codes}
+-- What is right to print where a history is drawn. Of a picture itself nothing is said but that it is an SVG.
+use Rattle.std.specs.Prelude.{◌≡◌, ◌++◌, ◌⊎◌, ℕ, true, false, List, Option, Result, codes}
 use Rattle.std.specs.Io.KnownBytes.{IsAtEnd}
 use Rattle.lin_events.specs.declared.events.Event.{Event}
 use Rattle.lin_events.specs.declared.items.Item.{Item}
@@ -15,6 +15,7 @@ use Rattle.lin_formats.specs.declared.settings.Settings.{Settings}
 use Rattle.lin_formats.specs.declared.verdicts.Refusal.{Refusal}
 use Rattle.lin_formats.specs.declared.verdicts.Status.{Status}
 use Rattle.lin_formats.specs.declared.verdicts.Status.TheVariants as ends
+use Rattle.lin_draw.specs.Pictures.{IsSvg}
 use Rattle.lin_explain.specs.Explained.{scope_of}
 use Rattle.lin_report.specs.Explanations.{IsKey}
 use Rattle.lin_report.specs.Reports.{IsPrintRun, answer_status, answer_text, is_ill_formed, opened, refusal_line}
@@ -25,6 +26,7 @@ pub record IsDrawing (now : Present) (key : Option Item) (text : List ℕ) (stat
   pub answer : Answer
   pub is_answer : IsAnswer now (scope_of key) answer
   pub says : is_ill_formed (verdict_of answer) ≡ true → text ≡ answer_text (verdict_of answer) ++ codes "\n"
+  pub drawn : is_ill_formed (verdict_of answer) ≡ false → IsSvg text
   pub status_is : status ≡ answer_status (verdict_of answer)
 
 -- What is right to print of the bytes of a file, with the status: why they are refused; or a drawing of the history that they are, for the

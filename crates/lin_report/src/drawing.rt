@@ -1,12 +1,13 @@
 //! Pictures of histories.
-ghost use Rattle.std.specs.Prelude.{◌≡◌, ◌<◌, ◌≤◌, ◌++◌, Some, codes, length, option_map, IfOk, IsErrOf};
-ghost use Rattle.lin_session.specs.Answers.{IsAnswer};
+ghost use Rattle.std.specs.Prelude.{◌≡◌, ◌<◌, ◌≤◌, ◌++◌, Some, codes, false, length, option_map, IfOk, IsErrOf};
+ghost use Rattle.lin_session.specs.Answers.{IsAnswer, verdict_of as verdict_in};
 ghost use Rattle.lin_formats.specs.Devices.{device_of, failures_of, Counts};
 ghost use Rattle.lin_formats.specs.Histories.{is_read_failed};
 ghost use Rattle.lin_formats.specs.Inputs.{limit};
 ghost use Rattle.lin_formats.specs.Verdicts.{is_write_failed, IsReadTooFar};
 ghost use Rattle.lin_report.specs.Pictures.{IsDrawing, IsDrawRun, IsRightDrawing};
-ghost use Rattle.lin_report.specs.Reports.{IsPrinted, opened};
+ghost use Rattle.lin_draw.specs.Pictures.{IsSvg};
+ghost use Rattle.lin_report.specs.Reports.{IsPrinted, is_ill_formed as is_ill_formed_in, opened};
 ghost use Rattle.lin_explain.specs.Explained.{scope_of as scope_for};
 
 use crate::answers::{is_ill_formed, status_of, told_words, verdict_of};
@@ -34,6 +35,7 @@ fn picture_of(
     places: &Places,
 ) -> Result<Vec<u8>, OutOfMemory>
     requires { IsAnswer session.now.present (scope_for asked.key) answer.now }
+    ensures { IfOk result (λ text. is_ill_formed_in (verdict_in answer.now) ≡ false → IsSvg text.items) }
 {
     let places = Some(places.as_slice());
     let told = explanation_of(alloc, session, names, answer, asked, places)?;
@@ -110,7 +112,7 @@ fn find<R: Read>(
 /// Draws the history in a file, with what is found of it for the whole or for the object of a key: writes a picture as SVG, and gives the
 /// status. Of a history that isn't well-formed, and of a file that is refused, it writes the line that says so.
 ///
-/// The file is read as by `check`, which see for what is asked and for errors. No promise says what is drawn.
+/// The file is read as by `check`, which see for what is asked and for errors. Of what is drawn no promise says more than that it is an SVG.
 pub fn draw<R: Read, W: Write>(
     alloc: Global,
     settings: Settings,

@@ -1,5 +1,5 @@
 //! Why the answer is what it is.
-ghost use Rattle.std.specs.Prelude.{◌≡◌, ◌<◌, ◌≤◌, Some, length, option_map, IfOk, IsErrOf};
+ghost use Rattle.std.specs.Prelude.{◌≡◌, ◌<◌, ◌≤◌, None, Some, length, IfOk, IsErrOf};
 ghost use Rattle.lin_formats.specs.Devices.{device_of, failures_of, Counts};
 ghost use Rattle.lin_formats.specs.Histories.{is_read_failed};
 ghost use Rattle.lin_formats.specs.Inputs.{limit};
@@ -8,7 +8,8 @@ ghost use Rattle.lin_report.specs.Explanations.{IsExplainRun, IsExplanation, IsK
 ghost use Rattle.lin_explain.specs.Explained.{scope_of as scope_for};
 ghost use Rattle.lin_explain.specs.Hints.{hint_text};
 ghost use Rattle.lin_names.specs.Names.{Begins};
-ghost use Rattle.lin_report.specs.Reports.{IsPrinted, opened};
+ghost use Rattle.lin_session.specs.Answers.{verdict_of as verdict_in};
+ghost use Rattle.lin_report.specs.Reports.{IsPrinted, answer_status, opened};
 ghost use Rattle.lin_report.specs.Runs.{IsCommandReply};
 ghost use Rattle.lin_report.specs.declared.commands.Command.TheVariants as command;
 
@@ -19,13 +20,15 @@ use crate::json_explanations::{json_explanation, json_refused};
 use crate::replies::Reply;
 use crate::sessions::{names_are_apart, session_of};
 use lin_events::{Event, Item, OutOfMemory};
-use lin_explain::{Asked, Explanation, Placed, explanation_of, read_placed, refusal_lines};
+use lin_explain::{
+    Asked, Explanation, Placed, explanation_from, explanation_of, read_placed, refusal_lines,
+};
 use lin_formats::{
     Counted, History, Refusal, RunFault, Settings, Status, put_number, refusal_words, write_whole,
 };
 use lin_names::{Names, Said};
-use lin_places::{Place, Places};
-use lin_session::{Scope, Session, Verdict};
+use lin_places::Places;
+use lin_session::{Answer, Scope, Session, Verdict};
 use std::alloc::{AllocError, Global};
 use std::io::{Read, Write};
 
@@ -88,26 +91,39 @@ fn told_as(
     }
 }
 
+/// What is printed of an answer to so many events, as it is wanted.
+fn answered(
+    alloc: Global,
+    names: &Names,
+    format: Format,
+    events: usize,
+    answer: &Answer,
+    told: &Explanation,
+) -> Result<Answered, AllocError>
+    ensures { IfOk result (λ answered. (answered.text.items ≡ explanation_text names.now format events (verdict_in answer.now) told.now.lines.items told.now.parts) × (answered.status ≡ answer_status (verdict_in answer.now))) }
+{
+    let verdict = verdict_of(answer);
+    let text = told_as(alloc, names, format, events, verdict, told)?;
+    Ok(Answered {
+        text,
+        status: status_of(verdict),
+    })
+}
+
 /// An explanation of the answer for the scope.
 fn explanation(
     alloc: Global,
     session: &mut Session,
     names: &Names,
-    format: Format,
     asked: Asked,
-    places: Option<&[Place]>,
 ) -> Result<Answered, OutOfMemory>
-    ensures explained { IfOk result (λ answered. IsExplanation names.now format session.old.present asked (option_map (λ p. p.now) places.entry) answered.text.items answered.status) }
+    ensures explained { IfOk result (λ answered. IsExplanation names.now Format.Text session.old.present asked None answered.text.items answered.status) }
     ensures present { session.new.present ≡ session.old.present }
 {
-    let answer = session.order(alloc, scope_of(asked.key))?;
-    let verdict = verdict_of(&answer);
-    let told = explanation_of(alloc, session, names, &answer, asked, places)?;
-    let text = told_as(alloc, names, format, session.len(), verdict, &told)?;
-    Ok(Answered {
-        text,
-        status: status_of(verdict),
-    })
+    let scope = scope_of(asked.key);
+    let answer = session.order(alloc, scope)?;
+    let told = explanation_of(alloc, session, names, &answer, asked, None)?;
+    Ok(answered(alloc, names, Format::Text, session.len(), &answer, &told)?)
 }
 
 /// How many lines a text has.
@@ -138,7 +154,7 @@ pub fn explain_reply(
         with_order: false,
         keyed,
     };
-    let answered = explanation(alloc, session, names, Format::Text, asked, None)?;
+    let answered = explanation(alloc, session, names, asked)?;
     let mut text = Vec::from_slice(alloc, b"explained ")?;
     put_number(&mut text, line_count(answered.text.as_slice()) as u64)?;
     text.push(b'\n')?;
@@ -149,7 +165,7 @@ pub fn explain_reply(
     })
 }
 
-/// An explanation of these events.
+/// An explanation of these events. The session goes before a no is explained.
 fn explained(
     alloc: Global,
     settings: Settings,
@@ -164,8 +180,11 @@ fn explained(
     ensures { IfOk result (λ answered. IsExplanation names.now format (opened settings events.items) asked (Some places.now.places) answered.text.items answered.status) }
 {
     let mut session = session_of(alloc, settings, events)?;
+    let count = session.len();
+    let answer = session.order(alloc, scope_of(asked.key))?;
     let places = Some(places.as_slice());
-    explanation(alloc, &mut session, names, format, asked, places)
+    let told = explanation_from(alloc, session, names, &answer, asked, places)?;
+    Ok(answered(alloc, names, format, count, &answer, &told)?)
 }
 
 /// The lines that are told of a file that is refused.

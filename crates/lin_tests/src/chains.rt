@@ -33,7 +33,7 @@ fn sets_of_a_dead_chain_pass_the_check(rt: HostRuntime) -> Result<(), Fail> {
     let picks = [0, 1, 2, 3];
     let mut chain = Chain::new(alloc, Kind::Register);
     let end = chain
-        .settle(&events, &picks, 100, true, &mut meter)
+        .settle(&events, &picks, 100, 0, true, &mut meter)
         .expect(&rt, "memory");
     assert!(rt; end == End::Dead(3));
     let Ok(refutation) = chain.refute(alloc, &events, &picks, 100) else {

@@ -1,9 +1,9 @@
-use Rattle.std.proofs.Common.{◌≡◌, ◌∙◌, ap, length, option_map, subst}
+use Rattle.std.proofs.Common.{◌≡◌, ◌∙◌, None, ap, length, subst}
 use Rattle.lin_session.specs.Answers.{IsAnswer, verdict_of}
 use Rattle.lin_session.specs.Edits.{Present}
 use Rattle.lin_explain.specs.Explained.{Explains}
 use Rattle.lin_report.specs.Explanations.{explanation_text}
-use Rattle.lin_report.specs.Reports.{answer_status}
+use Rattle.lin_report.specs.declared.formats.Format.TheVariants.{Text}
 use Rattle.lin_report.proofs.explaining.explanation.Goals as goal
 
 pub returns-clause-explained : goal.returns-clause-explained
@@ -11,16 +11,14 @@ returns-clause-explained c =
     let answer = c.in_ok-answer.answer in
     let lines = c.in_ok-told.told.lines.items in
     let parts = c.in_ok-told.told.parts in
-    let places = option_map (λ p. p.now) c.args.places in
     let present = c.in_ok-answer.ensures.present in
     let count : c.len.result ≡ length c.args.session.now.present.history = c.len.ensures ∙ ap (λ (now : Present). length now.history) present in
     record {
       answer = answer;
       lines = lines;
       parts = parts;
-      is_answer = subst (λ scope. IsAnswer c.args.session.now.present scope answer) c.scope_of.ensures c.in_ok-answer.ensures.answer;
-      explained = subst (λ now. Explains c.args.names.now now c.args.asked places answer lines parts) present c.in_ok-told.ensures;
-      says = c.in_ok-text.ensures ∙ ap (λ verdict. explanation_text c.args.names.now c.args.format c.len.result verdict lines parts) c.verdict_of-verdict.ensures
-          ∙ ap (λ n. explanation_text c.args.names.now c.args.format n (verdict_of answer) lines parts) count;
-      status_is = c.status_of.ensures ∙ ap answer_status c.verdict_of-verdict.ensures;
+      is_answer = subst (λ scope. IsAnswer c.args.session.now.present scope answer) c.scope_of-scope.ensures c.in_ok-answer.ensures.answer;
+      explained = subst (λ now. Explains c.args.names.now now c.args.asked None answer lines parts) present c.in_ok-told.ensures;
+      says = c.in_ok-answered.ensures.0 ∙ ap (λ n. explanation_text c.args.names.now Text n (verdict_of answer) lines parts) count;
+      status_is = c.in_ok-answered.ensures.1;
     }
