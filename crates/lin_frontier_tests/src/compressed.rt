@@ -1,14 +1,10 @@
 //! Frontiers that keep what decides: how many members are left after worked histories, and what comes of drawn ones.
-use crate::drawn::{Draw, KINDS, drawn_history, has_legal_order, is_legal_order, register_history};
-use crate::events::{fail, info, invoke, ok, write};
-use crate::exact_sets::{Came, came_of};
-use lin_compressed::{Advance, Compressed, Scratch};
-use lin_events::{Body, Call, Event, IntSet, Item, Meter, Name, Reply, Val};
-use lin_frontier::{Open, take_in};
-use lin_members::RoundNodes;
-use lin_objects::{Any, Kind};
+use crate::drawn::{KINDS, drawn_history, has_legal_order, register_history};
+use crate::exact_sets::came_of;
+use lin_events::{Body, Call, Event, IntSet, Item, Name, Reply, Val};
+use lin_objects::Kind;
+use lin_walks::{AMPLE, Came, Draw, fail, info, invoke, ok, told, walked, write};
 use std::alloc::Global;
-use std::mem;
 use std::process::Abort;
 
 fn done(process: u64, name: Name) -> Event {
@@ -19,135 +15,9 @@ fn gives(process: u64, name: Name, value: Val) -> Event {
     ok(process, name, Reply::Value(value))
 }
 
-const AMPLE: u32 = 65_536;
-
-/// A walk through the events of an object.
-#[derive(Drop)]
-struct Walk {
-    object: Any,
-    frontier: Compressed<Any>,
-    nodes: RoundNodes,
-    pending: Vec<Open>,
-    meter: Meter,
-    scratch: Scratch<Any>,
-}
-
-impl Walk {
-    /// Before the first event.
-    fn start(rt: &impl Abort, alloc: Global, kind: Kind) -> Walk {
-        let object = Any { kind };
-        let nodes = RoundNodes::new(alloc);
-        let frontier = Compressed::start(alloc, &object, &nodes).expect(rt, "memory");
-        Walk {
-            object,
-            frontier,
-            nodes,
-            pending: Vec::new(alloc),
-            meter: Meter::new(),
-            scratch: Scratch::new(alloc),
-        }
-    }
-
-    /// Takes in the event, or tells what came of it if it leaves no frontier.
-    fn step(
-        &mut self,
-        rt: &impl Abort,
-        alloc: Global,
-        at: usize,
-        event: &Event,
-        budget: u32,
-    ) -> Option<Came> {
-        let kept = self.nodes.len();
-        let advance = self
-            .frontier
-            .advance(
-                alloc,
-                &self.object,
-                &self.pending,
-                at,
-                event,
-                budget,
-                &mut self.nodes,
-                &mut self.meter,
-                &mut self.scratch,
-            )
-            .expect(rt, "memory");
-        let has_new_nodes = self.nodes.len() != kept;
-        match advance {
-            Advance::Same => {
-                let same = self.frontier.copy(alloc, &self.object).expect(rt, "memory");
-                self.frontier = same;
-            }
-            Advance::Next(next) => {
-                self.scratch
-                    .take_back(mem::replace(&mut self.frontier, next));
-            }
-            Advance::Empty => return Some(Came::Empty.without_frontier(has_new_nodes)),
-            Advance::Over => return Some(Came::Over.without_frontier(has_new_nodes)),
-            Advance::OverBefore => return Some(Came::OverBefore.without_frontier(has_new_nodes)),
-        }
-        take_in(&mut self.pending, at, event).expect(rt, "memory");
-        None
-    }
-
-    /// Whether each member's node spells a legal order of the events.
-    fn is_sound(&self, rt: &impl Abort, alloc: Global, events: &[Event]) -> bool {
-        for i in 0..self.frontier.len() {
-            if let Some(member) = self.frontier.get(&self.object, i) {
-                let node = member.path().node as usize;
-                let order = self.nodes.order(alloc, node).expect(rt, "memory");
-                if !is_legal_order(rt, alloc, self.object.kind, events, &order) {
-                    return false;
-                }
-            }
-        }
-        true
-    }
-}
-
-/// What a walk through events costs.
-#[derive(Clone, Copy, Debug, PartialEq, Eq)]
-struct Counts {
-    /// The members after each event, all together.
-    members: u64,
-    tries: u64,
-    nodes: u64,
-}
-
-/// What comes of the events, one after the other, up to the first that leaves no frontier; and what that costs.
-fn walked(
-    rt: &impl Abort,
-    alloc: Global,
-    kind: Kind,
-    events: &[Event],
-    budget: u32,
-) -> (Came, Counts) {
-    let mut walk = Walk::start(rt, alloc, kind);
-    let mut members = 0u64;
-    let mut ended = None;
-    for at in 0..events.len() {
-        ended = walk.step(rt, alloc, at, &events[at], budget);
-        if ended.is_some() {
-            break;
-        }
-        members = members.saturating_add(walk.frontier.len() as u64);
-    }
-    let came = match ended {
-        Some(came) => came,
-        None if walk.is_sound(rt, alloc, events) => Came::Sound(walk.frontier.len()),
-        None => Came::Unsound(walk.frontier.len()),
-    };
-    let counts = Counts {
-        members,
-        tries: walk.meter.tries(),
-        nodes: walk.nodes.len() as u64,
-    };
-    (came, counts)
-}
-
 /// What comes of the events, one after the other, up to the first that leaves no frontier.
 fn came_within(rt: &impl Abort, alloc: Global, kind: Kind, events: &[Event], budget: u32) -> Came {
-    let (came, _counts) = walked(rt, alloc, kind, events, budget);
+    let (came, _counts) = walked(alloc, kind, events, budget).expect(rt, "memory");
     came
 }
 
@@ -161,18 +31,6 @@ fn comes_within(
     wanted: Came,
 ) {
     assert_eq!(rt; came_within(rt, alloc, kind, events, budget), wanted);
-}
-
-/// Whether so many events, the first ones, have a legal order, if frontiers tell.
-pub(crate) fn told(
-    rt: &impl Abort,
-    alloc: Global,
-    kind: Kind,
-    events: &[Event],
-    count: usize,
-) -> Option<bool> {
-    let first = &events[..count.min(events.len())];
-    came_within(rt, alloc, kind, first, AMPLE).told()
 }
 
 #[test]
@@ -534,7 +392,7 @@ fn an_overwritten_write_is_seen_by_early_reads_alone(rt: HostRuntime) {
 fn a_register_with_five_clients_keeps_few_members(rt: HostRuntime) {
     let alloc = rt.alloc();
     let events = register_history(&rt, alloc, 20_000, &mut Draw { seed: 11 });
-    let (came, counts) = walked(&rt, alloc, Kind::Register, &events, AMPLE);
+    let (came, counts) = walked(alloc, Kind::Register, &events, AMPLE).expect(&rt, "memory");
     assert_eq!(rt; matches!(came, Came::Sound(_)), true);
     // For an event on average at most 1.5 members, 1.5 tries and 1 new node.
     assert_eq!(rt; counts.members <= 30_000, true);
@@ -567,7 +425,7 @@ fn adds_of_many_clients_keep_one_member(rt: HostRuntime) {
     let alloc = rt.alloc();
     let all: Vec<i64> = (0..40).collect(alloc).expect(&rt, "memory");
     let events = adds_and_a_read(&rt, alloc, 40, &all);
-    let (came, counts) = walked(&rt, alloc, Kind::Set, &events, AMPLE);
+    let (came, counts) = walked(alloc, Kind::Set, &events, AMPLE).expect(&rt, "memory");
     assert_eq!(rt; came, Came::Sound(1));
     // One member after each event, and one try for each completion.
     assert_eq!(rt; counts.members, 82);
@@ -580,7 +438,7 @@ fn adds_of_many_clients_keep_one_member(rt: HostRuntime) {
 fn first_difference(rt: &impl Abort, alloc: Global, kind: Kind, events: &[Event]) -> Option<usize> {
     for count in 0..events.len() + 1 {
         let has_order = has_legal_order(rt, alloc, kind, &events[..count]);
-        if told(rt, alloc, kind, events, count) != Some(has_order) {
+        if told(alloc, kind, events, count).expect(rt, "memory") != Some(has_order) {
             return Some(count);
         }
     }
@@ -650,7 +508,7 @@ fn a_queue_without_order_that_holds_enough_keeps_one_member(rt: HostRuntime) {
             ))
             .expect(&rt, "memory");
     }
-    let (came, counts) = walked(&rt, alloc, Kind::Bag, &events, AMPLE);
+    let (came, counts) = walked(alloc, Kind::Bag, &events, AMPLE).expect(&rt, "memory");
     assert_eq!(rt; came, Came::Sound(1));
     assert_eq!(rt; counts.members, events.len() as u64);
 }

@@ -1,8 +1,8 @@
-//! Drawn histories of one object; whether they have a legal order, by trying all lists of operations; what is found without frontiers.
-use lin_events::{Body, Call, Event, IntSet, Item, Meter, Name, Reply, Val};
+//! Drawn histories of one object, and whether they have a legal order, by trying all lists of operations.
+use lin_events::{Body, Call, Event, IntSet, Item, Name, Reply, Val};
 use lin_objects::{Any, Kind, Kinds, SeqObject};
 use lin_orders::{Placed, check_order};
-use lin_search::{finds_failure, finds_order};
+use lin_walks::Draw;
 use std::alloc::Global;
 use std::process::Abort;
 
@@ -16,67 +16,50 @@ pub const KINDS: [Kind; 6] = [
     Kind::Bag,
 ];
 
-/// Numbers drawn by a linear congruential generator, the same in each run.
-#[derive(Drop)]
-pub(crate) struct Draw {
-    pub(crate) seed: u64,
+/// Nil, 1 or 2.
+fn value(draw: &mut Draw) -> Val {
+    match draw.below(3) {
+        0 => Val::Nil,
+        1 => Val::Item(Item::Int(1)),
+        _ => Val::Item(Item::Int(2)),
+    }
 }
 
-impl Draw {
-    /// A number below the bound, or 0 where that is 0.
-    pub(crate) fn below(&mut self, bound: u64) -> u64 {
-        self.seed = self
-            .seed
-            .wrapping_mul(6_364_136_223_846_793_005)
-            .wrapping_add(1_442_695_040_888_963_407);
-        (self.seed >> 33).checked_rem(bound).unwrap_or(0)
-    }
+fn number(draw: &mut Draw) -> i64 {
+    if draw.below(2) == 0 { 1 } else { 2 }
+}
 
-    /// Nil, 1 or 2.
-    fn value(&mut self) -> Val {
-        match self.below(3) {
-            0 => Val::Nil,
-            1 => Val::Item(Item::Int(1)),
-            _ => Val::Item(Item::Int(2)),
-        }
+fn call(kind: Kind, draw: &mut Draw) -> Call {
+    match (kind, draw.below(3)) {
+        (Kind::Register, 0) => Call::Write(value(draw)),
+        (Kind::Register, _) => Call::Read,
+        (Kind::CasRegister, 0) => Call::Read,
+        (Kind::CasRegister, 1) => Call::Write(value(draw)),
+        (Kind::CasRegister, _) => Call::Cas(value(draw), value(draw)),
+        (Kind::Fifo | Kind::Bag, 0) => Call::Dequeue,
+        (Kind::Fifo | Kind::Bag, _) => Call::Enqueue(Item::Int(number(draw))),
+        (Kind::Set, 0) => Call::Read,
+        (Kind::Set, _) => Call::Add(Item::Int(number(draw))),
+        (Kind::Mutex, 0) => Call::Release,
+        (Kind::Mutex, _) => Call::Acquire,
     }
+}
 
-    fn number(&mut self) -> i64 {
-        if self.below(2) == 0 { 1 } else { 2 }
-    }
-
-    fn call(&mut self, kind: Kind) -> Call {
-        match (kind, self.below(3)) {
-            (Kind::Register, 0) => Call::Write(self.value()),
-            (Kind::Register, _) => Call::Read,
-            (Kind::CasRegister, 0) => Call::Read,
-            (Kind::CasRegister, 1) => Call::Write(self.value()),
-            (Kind::CasRegister, _) => Call::Cas(self.value(), self.value()),
-            (Kind::Fifo | Kind::Bag, 0) => Call::Dequeue,
-            (Kind::Fifo | Kind::Bag, _) => Call::Enqueue(Item::Int(self.number())),
-            (Kind::Set, 0) => Call::Read,
-            (Kind::Set, _) => Call::Add(Item::Int(self.number())),
-            (Kind::Mutex, 0) => Call::Release,
-            (Kind::Mutex, _) => Call::Acquire,
-        }
-    }
-
-    /// A reply that the call may get in some state.
-    fn reply(&mut self, rt: &impl Abort, alloc: Global, kind: Kind, call: Call) -> Reply {
-        match (kind, call) {
-            (Kind::Set, Call::Read) => {
-                let mut members = IntSet::new(alloc);
-                if self.below(2) == 0 {
-                    members.insert(Item::Int(1)).expect(rt, "memory");
-                }
-                if self.below(2) == 0 {
-                    members.insert(Item::Int(2)).expect(rt, "memory");
-                }
-                Reply::Members(members)
+/// A reply that the call may get in some state.
+fn reply(rt: &impl Abort, alloc: Global, kind: Kind, call: Call, draw: &mut Draw) -> Reply {
+    match (kind, call) {
+        (Kind::Set, Call::Read) => {
+            let mut members = IntSet::new(alloc);
+            if draw.below(2) == 0 {
+                members.insert(Item::Int(1)).expect(rt, "memory");
             }
-            (_, Call::Read) | (_, Call::Dequeue) => Reply::Value(self.value()),
-            _ => Reply::Done,
+            if draw.below(2) == 0 {
+                members.insert(Item::Int(2)).expect(rt, "memory");
+            }
+            Reply::Members(members)
         }
+        (_, Call::Read) | (_, Call::Dequeue) => Reply::Value(value(draw)),
+        _ => Reply::Done,
     }
 }
 
@@ -139,14 +122,14 @@ fn drawn_body(
 ) -> Option<(Body, Client)> {
     match client {
         Client::Idle => {
-            let call = draw.call(kind);
+            let call = call(kind, draw);
             Some((Body::Invoke(call), Client::Busy(call)))
         }
         Client::Busy(call) => match draw.below(6) {
             0 => Some((Body::Fail(call.name()), Client::Idle)),
             1 => Some((Body::Info(call.name()), Client::Retired)),
             _ => {
-                let reply = draw.reply(rt, alloc, kind, call);
+                let reply = reply(rt, alloc, kind, call, draw);
                 Some((Body::Ok(call.name(), reply), Client::Idle))
             }
         },
@@ -286,43 +269,4 @@ pub(crate) fn has_legal_order(
         }
     }
     false
-}
-
-/// The places of all events.
-fn places(rt: &impl Abort, alloc: Global, events: &[Event]) -> Vec<usize> {
-    let mut places = Vec::new(alloc);
-    for at in 0..events.len() {
-        places.push(at).expect(rt, "memory");
-    }
-    places
-}
-
-/// Whether an order of the events is found.
-pub(crate) fn is_found(rt: &impl Abort, alloc: Global, kind: Kind, events: &[Event]) -> bool {
-    finds_order(
-        alloc,
-        kind,
-        events,
-        &places(rt, alloc, events),
-        &mut Meter::new(),
-    )
-    .expect(rt, "memory")
-    .is_some()
-}
-
-/// The place of the event at which the object fails, as far as it is found.
-pub(crate) fn failing(
-    rt: &impl Abort,
-    alloc: Global,
-    kind: Kind,
-    events: &[Event],
-) -> Option<usize> {
-    finds_failure(
-        alloc,
-        kind,
-        events,
-        &places(rt, alloc, events),
-        &mut Meter::new(),
-    )
-    .expect(rt, "memory")
 }

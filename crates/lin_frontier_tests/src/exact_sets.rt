@@ -1,46 +1,13 @@
 //! Frontiers that hold all configurations: how many there are after worked histories, and what comes of drawn ones.
-use crate::drawn::{Draw, KINDS, drawn_history, has_legal_order, is_legal_order};
-use crate::events::{fail, info, invoke, ok, write};
+use crate::drawn::{KINDS, drawn_history, has_legal_order, is_legal_order};
 use lin_events::{Call, Event, Item, Meter, Name, Reply, Val};
 use lin_frontier::{Config, Frontier, Nodes, Open, Step, take_in};
 use lin_objects::{Any, Kind, SeqObject, State};
+use lin_walks::{Came, Draw, fail, info, invoke, ok, write};
 use std::alloc::Global;
 use std::process::Abort;
 
 const AMPLE: u32 = 1000;
-
-/// What came of the last event.
-#[derive(Clone, Copy, Debug, PartialEq, Eq)]
-pub(crate) enum Came {
-    /// So many configurations; each node spells a legal order.
-    Sound(usize),
-    /// So many configurations, one of which has a node that spells no legal order.
-    Unsound(usize),
-    Empty,
-    Over,
-    /// The events before it are over.
-    OverBefore,
-}
-
-impl Came {
-    /// What came of an event that left no frontier: this, if it left no nodes either.
-    pub(crate) fn without_frontier(self, has_new_nodes: bool) -> Came {
-        if has_new_nodes {
-            Came::Unsound(0)
-        } else {
-            self
-        }
-    }
-
-    /// Whether the events have a legal order, if that is told.
-    pub(crate) fn told(self) -> Option<bool> {
-        match self {
-            Came::Sound(_) => Some(true),
-            Came::Empty => Some(false),
-            Came::Unsound(_) | Came::Over | Came::OverBefore => None,
-        }
-    }
-}
 
 /// Whether each configuration's node spells a legal order of the events.
 fn is_sound(

@@ -1,9 +1,8 @@
 //! Legal orders of queues with many clients, found though they have too many configurations to be kept.
-use crate::compressed::told;
-use crate::drawn::{Draw, failing, is_found};
-use crate::events::{fail, info, invoke, ok};
+use crate::found::{failing, is_found, told};
 use lin_events::{Call, Event, Item, Name, Reply, Val};
 use lin_objects::Kind;
+use lin_walks::{Draw, fail, info, invoke, ok};
 use std::alloc::Global;
 use std::process::Abort;
 

@@ -1,9 +1,8 @@
 //! Legal orders and failures of sets, found without frontiers.
-use crate::compressed::told;
-use crate::drawn::{Draw, failing, is_found};
-use crate::events::{fail, info, invoke, ok};
+use crate::found::{failing, is_found, told};
 use lin_events::{Call, Event, IntSet, Item, Name, Reply};
 use lin_objects::Kind;
+use lin_walks::{Draw, fail, info, invoke, ok};
 use std::alloc::Global;
 use std::process::Abort;
 

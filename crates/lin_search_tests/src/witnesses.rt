@@ -1,8 +1,8 @@
 //! Legal orders of registers with many clients, found though they have too many configurations to be kept.
-use crate::drawn::{Draw, is_found};
-use crate::events::{fail, info, invoke, ok, write};
+use crate::found::is_found;
 use lin_events::{Call, Event, Item, Name, Reply, Val};
 use lin_objects::Kind;
+use lin_walks::{Draw, fail, info, invoke, ok, write};
 use std::alloc::Global;
 use std::process::Abort;
 

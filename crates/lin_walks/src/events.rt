@@ -1,7 +1,7 @@
 //! Events of one object, in short forms.
 use lin_events::{Body, Call, Event, Item, Name, Reply, Val};
 
-pub(crate) fn invoke(process: u64, call: Call) -> Event {
+pub fn invoke(process: u64, call: Call) -> Event {
     Event {
         process,
         key: Item::Int(0),
@@ -9,7 +9,7 @@ pub(crate) fn invoke(process: u64, call: Call) -> Event {
     }
 }
 
-pub(crate) fn ok(process: u64, name: Name, reply: Reply) -> Event {
+pub fn ok(process: u64, name: Name, reply: Reply) -> Event {
     Event {
         process,
         key: Item::Int(0),
@@ -17,7 +17,7 @@ pub(crate) fn ok(process: u64, name: Name, reply: Reply) -> Event {
     }
 }
 
-pub(crate) fn fail(process: u64, name: Name) -> Event {
+pub fn fail(process: u64, name: Name) -> Event {
     Event {
         process,
         key: Item::Int(0),
@@ -25,7 +25,7 @@ pub(crate) fn fail(process: u64, name: Name) -> Event {
     }
 }
 
-pub(crate) fn info(process: u64, name: Name) -> Event {
+pub fn info(process: u64, name: Name) -> Event {
     Event {
         process,
         key: Item::Int(0),
@@ -33,6 +33,6 @@ pub(crate) fn info(process: u64, name: Name) -> Event {
     }
 }
 
-pub(crate) fn write(number: i64) -> Call {
+pub fn write(number: i64) -> Call {
     Call::Write(Val::Item(Item::Int(number)))
 }

@@ -1,9 +1,8 @@
 //! Failures of registers that are found without frontiers: operations that conflict, and a legal order of the events before.
-use crate::compressed::told;
-use crate::drawn::{Draw, failing};
-use crate::events::{info, invoke, ok, write};
+use crate::found::{failing, told};
 use lin_events::{Call, Event, Item, Name, Reply, Val};
 use lin_objects::Kind;
+use lin_walks::{Draw, info, invoke, ok, write};
 use std::alloc::Global;
 use std::process::Abort;
 
