@@ -24,7 +24,7 @@ trap 'kill "$edits" 2> /dev/null; wait; rm -rf "$room"' EXIT
 
 RT_JOBS=${RT_JOBS:-$checks} rt ci | tee "$log"
 [ "${PIPESTATUS[0]}" = 0 ] || exit 1
-for script in tests/imports.py tests/closure.py tests/rows.py tests/readme.sh tests/generated.sh tests/edits.py tests/items.py tests/growths.py tests/refutations.py tests/explain.py tests/pictures.py tests/progress.py; do
+for script in tests/imports.py tests/closure.py tests/rows.py tests/readme.sh tests/generated.sh tests/edits.py tests/items.py tests/growths.py tests/refutations.py tests/recordings.py tests/explain.py tests/pictures.py tests/progress.py; do
     echo "== $script"
     "$script" | tee -a "$log"
     [ "${PIPESTATUS[0]}" = 0 ] || exit 1
@@ -32,4 +32,6 @@ done
 echo "== tests/must_fail.py"
 tail -n +1 -f --pid="$edits" "$room/tried" | tee -a "$log"
 wait "$edits" || exit 1
+times > "$room/times"
+awk 'NR == 2 { gsub(/[ms]/, " "); printf "processor minutes: %d\n", $1 + $3 }' "$room/times"
 awk '/^[0-9]+ passed, [0-9]+ failed$/ { passed += $1; failed += $3 } END { printf "%d passed, %d failed\n", passed, failed }' "$log"

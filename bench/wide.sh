@@ -8,9 +8,12 @@
 #      number of its own (mean of 20 such pairs, which leave 20 operations open), with the first answer and the last. Processor seconds,
 #      differences of runs with and without these commands, each run the least of three rounds; where a difference is less than what these
 #      rounds differ by, it says less than what. Sets and fifos also under a budget of 4,096.
+#   3. `keyed`: many compare-and-set registers (bench/keyed.py): `check --keyed`, and beside it `verify --keyed` of the empty order, which reads
+#      the file and decides nothing. Processor seconds of one run each, and the verdict.
 # The program is the repository's, or LINCHECK where that is set.
 # usage: bench/wide.sh [EVENTS [RECORDING-CLIENTS ..]]   (default 20000 and all)
 #        bench/wide.sh questions [EVENTS]
+#        bench/wide.sh keyed [EVENTS]   (default 1000000)
 set -eu
 here=$(cd "$(dirname "$0")" && pwd)
 program=${LINCHECK:-$here/../crates/lincheck/out/lincheck}
@@ -118,11 +121,25 @@ questions() { # events
     busy cas-few 5 "$1" write 3 65536
 }
 
-if [ "${1:-}" = questions ]; then
+keyed() { # events
+    local said TIMEFORMAT='%U %S'
+    "$here/keyed.py" "$1" > "$file"
+    { time "$program" check --keyed --kind cas-register "$file" > "$folder/printed"; } 2> "$folder/time" || true
+    said=$(tail -n 1 "$folder/printed")
+    { time "$program" verify --keyed --kind cas-register "$file" empty > "$folder/printed"; } 2>> "$folder/time" || true
+    echo "| events | MB | check s | verify s | check / verify | prints |"
+    echo "|---|---|---|---|---|---|"
+    awk -v events="$1" -v bytes="$(stat -c %s "$file")" -v said="$said" '{ seconds[NR] = $1 + $2 }
+        END { printf "| %s | %.1f | %.2f | %.2f | %.1f | %s |\n", events, bytes / 1e6, seconds[1], seconds[2], seconds[1] / seconds[2], said }' "$folder/time"
+}
+
+if [ "${1:-}" = keyed ]; then
+    keyed "${2:-1000000}"
+elif [ "${1:-}" = questions ]; then
     questions "${2:-20000}"
 elif [ $# -gt 1 ]; then
     check "$@"
 else
     check "${1:-20000}" register-few-{10,20,30} register-unique-{10,20,30} fifo-growing-{3,5,10} fifo-crashed-10 set-crashed-10 \
-        cas-few-{5,10} cas-unique-{5,10}
+        cas-few-{5,10,20,50} cas-unique-{5,10,20,50}
 fi

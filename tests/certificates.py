@@ -7,7 +7,6 @@ from edits import START, Event, operations, steps
 
 NOUNS = {'register': 'register', 'cas-register': 'register', 'fifo': 'queue', 'set': 'set', 'mutex': 'lock', 'unordered-queue': 'queue'}
 MOST_LISTED, MOST_ITEMS = 3, 8
-FORMS = ['shape', 'unwritten', 'overwritten', 'crossed', 'taken', 'passed', 'inside', 'unadded', 'lost', 'split', 'late', 'twice', 'counted']
 
 
 # the words
@@ -248,44 +247,205 @@ def is_counted(ops, name):
     return sum(op.how == 'ok' and op.does(name) for op in ops) > len(puts(ops, OTHER[name])) + (name == 'acquire')
 
 
-def certificates(kind, ops):
-    """The forms that hold, each with operations that it may name, in the order in which forms are wanted."""
-    pairs = list(itertools.permutations(ops, 2))
+def is_misshapen(kind, op):
+    """Whether it is a read of a set that gave a value, or one of a register that gave members."""
+    return op.read() is not None if kind in ('register', 'cas-register') else kind == 'set' and op.how == 'ok' and op.does('read') and op.read() is None
+
+
+# which certificate is told
+
+class Lines:
+    """The lines that tell a certificate, and the operations that they name."""
+
+    def __init__(self, ops, spot):
+        self.ops, self.spot, self.lines, self.named = ops, spot, [], set()
+
+    def put(self, line, *values):
+        self.lines.append(line % values)
+
+    def did(self, op, verb, at):
+        self.named.add(op)
+        return '%s %s at %s' % (op.words(False), verb, self.spot(at))
+
+    def returned(self, op, found=''):
+        return self.did(op, found + 'returned', op.end)
+
+    def called(self, op):
+        return self.did(op, 'was called', op.at)
+
+    def failed(self, op):
+        return self.did(op, 'failed', op.end)
+
+    def was_in(self, value, first, second):
+        self.put('  in: %s, %s', self.returned(first, 'with %d ' % value if first.does('read') else ''), self.called(second))
+
+    def some(self, say, ops):
+        """A line of the first three of these operations, if there are any."""
+        if ops:
+            self.put('  %s%s', ', '.join(map(say, ops[:3])), ', and %d more' % (len(ops) - 3) if len(ops) > 3 else '')
+
+    def nothing_does(self, why, op, failed, none):
+        self.put('why: nothing %s', why)
+        self.put('  %s', self.returned(op))
+        for other in failed[:3]:
+            self.put('  %s', self.failed(other))
+        if not failed:
+            self.put('  %s', none)
+
+    def sides(self, why, did, can, failed):
+        """What was done more often than it can have been."""
+        self.put(why, times(len(did)), times(len(can)))
+        self.some(self.returned, did)
+        self.some(self.called, can)
+        self.some(self.failed, failed)
+
+    def failed_to(self, name, *values):
+        return [op for op in self.ops if op.how == 'failed' and op.does(name, *values)]
+
+    def shape(self, r):
+        self.put('why: a read of a %s', 'register gives one value, not members' if r.read() is not None else 'set gives members, not ' + value_words(r.reply[1]))
+        self.put('  %s', self.returned(r))
+
+    def unwritten(self, r, v):
+        self.nothing_does('leaves %d' % v, r, [op for op in self.ops if op.how == 'failed' and v in op.leaves()], 'no other operation leaves it')
+
+    def overwritten(self, r, v):
+        def over(source):
+            """The operation that returned last."""
+            return max((w for w in self.ops if is_overwriting(source, w, r)), key=lambda w: w.end)
+
+        sources, most = others_that_leave(self.ops, r, v), 3 if v is not None else 2
+        self.put('why: %s was overwritten before %s', value_words(v), self.called(r))
+        if v is None:
+            self.put('  %s', self.returned(over(None)))
+        for u in sources[:most]:
+            w = over(u)
+            self.put('  %s, %s and returned at %s', self.returned(u), self.called(w), self.spot(w.end))
+        if len(sources) > most:
+            self.put('  and so were %d more updates that leave %s', len(sources) - most, value_words(v))
+
+    def crossed(self, a, b, c, e, v, w):
+        if v is None:
+            self.put('why: crossed values nil and %d, nil is the beginning and nothing leaves it', w)
+        else:
+            self.put('why: crossed values %d and %d, each left by one operation', v, w)
+            self.put('  %d before %d: %s, %s', v, w, self.returned(c), self.called(e))
+        self.put('  %d before %s: %s, %s', w, value_words(v), self.returned(b), self.called(a))
+
+    def taken(self, v):
+        self.sides('why: %d was taken out %%s and put in at most %%s' % v, taken_by(self.ops, v), puts(self.ops, 'enqueue', v), self.failed_to('enqueue', v))
+
+    def passed(self, d, i, v, w):
+        took = taken_by(self.ops, v)
+        self.put('why: %d passed %d', w, v)
+        self.put('  put in: %s, %s', self.returned(i), self.called(puts(self.ops, 'enqueue', w)[0]))
+        self.put('  taken out: %s, %s', self.returned(d), self.called(took[0]) if took else 'and nothing that may have taken %d out was called before' % v)
+
+    def inside(self, d, i, v):
+        self.put('why: %d was in the queue', v)
+        self.put('  put in: %s, %s', self.returned(i), self.called(d))
+        self.put('  taken out: nothing that may have taken %d out was called before %s', v, self.returned(d))
+
+    def unadded(self, r, v):
+        self.nothing_does('adds %d' % v, r, self.failed_to('add', v), 'no operation adds it')
+
+    def lost(self, r, k, v):
+        self.put('why: %d was lost', v)
+        self.was_in(v, k, r)
+        self.put('  %s without %d', self.returned(r), v)
+
+    def split(self, r, s, p, q):
+        self.put('why: two reads exclude each other')
+        self.put('  %s with %d and without %d', self.returned(r), p, q)
+        self.put('  %s with %d and without %d', self.returned(s), q, p)
+
+    def late(self, r, k, p, q):
+        self.put('why: %d was in before %d was added', p, q)
+        self.was_in(p, k, puts(self.ops, 'add', q)[0])
+        self.put('  %s with %d and without %d', self.returned(r), q, p)
+
+    def twice(self, j, i):
+        name = i.call.name
+        self.put('why: %sd twice', name)
+        self.put('  %s, %s', self.returned(i), self.called(j))
+        self.put('  no %s can stand between: each that didn\'t fail had returned before %s', OTHER[name], self.called(i))
+
+    def counted(self, name):
+        did = [op for op in self.ops if op.how == 'ok' and op.does(name)]
+        self.sides('why: %sd %%s and %sd at most %%s' % (name, OTHER[name]), did, puts(self.ops, OTHER[name]), self.failed_to(OTHER[name]))
+
+
+def held_of_register(ops, failing):
+    backwards = ops[::-1]
+    needed = [(r, v) for r in backwards for v in r.needs()]
+    yield from (('unwritten', (r, v)) for r, v in needed if is_unwritten(ops, r, v))
+    yield from (('overwritten', (r, v)) for r, v in needed if is_overwritten(ops, r, v))
+    values = {v for op in ops for v in op.needs() + op.leaves()}
+    pairs, crossed = list(itertools.permutations(ops, 2)), []
+    for v, w in itertools.product(values, values):
+        turns = [(b, a) for b, a in pairs if w is not None and is_held_first(ops, b, w, a, v)]
+        backs = [(None, None)] if v is None else [(c, e) for c, e in pairs if is_held_first(ops, c, v, e, w)]
+        crossed += [(a, b, c, e, v, w) for b, a in turns for c, e in backs if is_crossed(ops, v, w, b, a, c, e)]
+
+    def wanted(certificate):
+        a, b, c, e, v, w = certificate
+        return a is not failing, -a.at, -b.end, c.end if c else -1, e.at if e else -1, rank(v), w
+
+    yield from (('crossed', certificate) for certificate in sorted(crossed, key=wanted))
+
+
+def held_of_queue(kind, ops):
+    backwards = ops[::-1]
+    values = sorted({op.call.value for op in ops if op.does('enqueue')} | {v for op in ops if op.does('dequeue') and op.how == 'ok' for v in op.reply[1:] if v is not None})
+    yield from (('taken', (v,)) for v in values if is_taken(ops, v))
+    for d, i, w in itertools.product(backwards, backwards, values if kind == 'fifo' else ()):
+        first = puts(ops, 'enqueue', w)[:1]
+        yield from (('passed', (d, i, i.call.value, w)) for j in first if is_passed(ops, i, j, d, i.call.value, w))
+    yield from (('inside', (d, i, i.call.value)) for d in backwards for i in backwards if is_inside(ops, i, d, i.call.value))
+
+
+def held_of_set(ops):
+    backwards, reads = ops[::-1], [op for op in ops[::-1] if op.read() is not None]
+    values = sorted({op.call.value for op in ops if op.does('add')} | {v for r in reads for v in r.read()})
+    yield from (('unadded', (r, v)) for r in reads for v in values if is_unadded(ops, r, v))
+    yield from (('lost', (r, k, v)) for r in reads for k in backwards for v in values if is_lost(k, r, v))
+    numbers = list(itertools.product(values, values))
+    yield from (('split', (r, s, p, q)) for r in reads for s in reads for p, q in numbers if is_split(r, s, p, q))
+    for r, k, (p, q) in itertools.product(reads, backwards, numbers):
+        yield from (('late', (r, k, p, q)) for a in puts(ops, 'add', q)[:1] if is_late(ops, k, a, r, p, q))
+
+
+def held_of_mutex(ops):
+    backwards = ops[::-1]
+    yield from (('twice', (j, i)) for j in backwards for i in backwards if is_twice(ops, j.call.name, i, j))
+    yield from (('counted', (name,)) for name in OTHER if is_counted(ops, name))
+
+
+def certificates(kind, ops, failing=None):
+    """All certificates that hold, by their forms and what they are of, in the order in which they are wanted: the forms in theirs; operations
+    mostly the last called first, and numbers rising. What the lines name besides, which is all or the first of some operations, is no choice."""
+    yield from (('shape', (op,)) for op in ops[::-1] if is_misshapen(kind, op))
     if kind in ('register', 'cas-register'):
-        needed = [(op, v) for op in ops for v in op.needs()]
-        yield from (('shape', (op,)) for op in ops if op.read() is not None)
-        yield from (('unwritten', (op,)) for op, v in needed if is_unwritten(ops, op, v))
-        for op, v in needed:
-            if is_overwritten(ops, op, v):
-                for over in ([w for w in ops if is_overwriting(None, w, op)] or [op]):
-                    yield 'overwritten', (op, over, *others_that_leave(ops, op, v)[:3])
-        values = {v for op in ops for v in op.needs() + op.leaves()}
-        for v, w in itertools.product(values, values):
-            if v == w or w is None or not left_once(ops, w) or v is not None and not left_once(ops, v):
-                continue
-            backs = [(None, None)] if v is None else [(c, e) for c, e in pairs if is_held_first(ops, c, v, e, w)][:1]
-            yield from (('crossed', (b, a)) for b, a in pairs for c, e in backs if is_crossed(ops, v, w, b, a, c, e))
-    if kind in ('fifo', 'unordered-queue'):
-        values = {op.call.value for op in ops if op.does('enqueue')} | {op.reply[1] for op in ops if op.does('dequeue') and op.how == 'ok'}
-        yield from (('taken', tuple(taken_by(ops, v))) for v in values if is_taken(ops, v))
-        if kind == 'fifo':
-            for (i, d), v, w in itertools.product(pairs, values, values):
-                yield from (('passed', (i, j, d)) for j in puts(ops, 'enqueue', w)[:1] if is_passed(ops, i, j, d, v, w))
-        yield from (('inside', (i, d)) for i, d in pairs if is_inside(ops, i, d, i.call.value))
-    if kind == 'set':
-        values = {op.call.value for op in ops if op.does('add')} | {v for op in ops for v in op.read() or ()}
-        yield from (('shape', (op,)) for op in ops if op.how == 'ok' and op.does('read') and op.read() is None)
-        yield from (('unadded', (op,)) for op in ops for v in op.read() or () if is_unadded(ops, op, v))
-        yield from (('lost', (k, r)) for k, r in pairs for v in values if is_lost(k, r, v))
-        yield from (('split', (r, s)) for r, s in pairs for p in r.read() or () for q in s.read() or () if is_split(r, s, p, q))
-        for (k, r), p, q in itertools.product(pairs, values, values):
-            yield from (('late', (k, a, r)) for a in puts(ops, 'add', q)[:1] if is_late(ops, k, a, r, p, q))
-    if kind == 'mutex':
-        yield from (('twice', (i, j)) for name in OTHER for i, j in pairs if is_twice(ops, name, i, j))
-        yield from (('counted', tuple(op for op in ops if op.how == 'ok' and op.does(name))) for name in OTHER if is_counted(ops, name))
+        yield from held_of_register(ops, failing)
+    elif kind == 'set':
+        yield from held_of_set(ops)
+    elif kind == 'mutex':
+        yield from held_of_mutex(ops)
+    else:
+        yield from held_of_queue(kind, ops)
+
+
+def wanted(kind, ops, failing, spot):
+    """The form and the lines of the certificate that is told: of all that hold the first whose lines name the failing operation, else the first."""
+    first = None
+    for form, of in certificates(kind, ops, failing):
+        told = Lines(ops, spot)
+        getattr(told, form)(*of)
+        if failing in told.named:
+            return form, told.lines
+        first = first or (form, told.lines)
+    return first or (None, [])
 
 
 def wanted_form(kind, ops, failing):
-    """The form that is told where one is: the first that names the failing operation, else the first."""
-    held = sorted(certificates(kind, ops), key=lambda c: FORMS.index(c[0]))
-    return next((form for form, named in held if failing in named), held[0][0] if held else None)
+    return wanted(kind, ops, failing, str)[0]

@@ -5,7 +5,8 @@ Each history is laid out as a recording, a map a line or several, with maps of a
 `lincheck explain`, as a text and for machines; some go through `explain` of `edit` and through `check` for machines too. What is printed is
 read strictly, by the rules of docs/FORMATS.md, and each claim is judged: the answer, the operation that fails and where it stands, what it
 could have returned and what the object could be, with the operations that lead there, the certificate, where nothing ran, and the table.
-Texts that claim less than they could are counted and printed. Some recordings aren't well-formed, and some are refused.
+Of all certificates that hold the wanted one has to be told. Lists that claim less than they could are counted and printed. Some recordings
+aren't well-formed, and some are refused.
 
 usage: tests/explain.py [HISTORIES] [SEED]   (builds what isn't built, unless LINCHECK in the environment names the program)
 """
@@ -21,7 +22,7 @@ import tempfile
 from concurrent.futures import ProcessPoolExecutor
 
 sys.dont_write_bytecode = True
-from certificates import rank
+from certificates import rank, wanted
 from edits import KINDS, NAMES, Event, Model, edn
 from judges import NUMBER, STATUS, Judge, Told, Wrong, compact, head, judge_report
 from rows import built, maps
@@ -232,6 +233,19 @@ class History:
 
 # runs
 
+class Choosing(Judge):
+    """Judges an explanation, and which of the certificates it tells."""
+
+    def certificate(self, told, kind, ops):
+        first = told.next
+        form = super().certificate(told, kind, ops)
+        failing = max((op for op in ops if op.end is not None), key=lambda op: op.end)
+        lines, right = told.lines[first:told.next], wanted(kind, ops, failing, self.spot)[1]
+        if lines != right:
+            raise Wrong('another certificate is wanted. Told is\n%s\n  and not\n%s' % ('\n'.join(lines) or 'none', '\n'.join(right) or 'none'))
+        return form
+
+
 class Run:
     """Runs of the program on one recording."""
 
@@ -277,7 +291,7 @@ class Run:
                 line, offset = map(int, re.match(r'line (\d+), byte (\d+): ', lines[1]).groups())
                 wanted.append(compact({**head(lines[0]), 'line': line, 'offset': offset, 'text': '\n'.join(lines)}))
             else:
-                judge = Judge(self.model, self.places, self.counts)
+                judge = Choosing(self.model, self.places, self.counts)
                 answer = judge.explanation(lines, key, with_order)
                 wanted.append(judge.machine(lines))
             if status != STATUS[answer]:
@@ -330,7 +344,7 @@ class Run:
     def explained(self, told, model, key):
         """A reply to `explain`: how many lines, and the lines."""
         size = int(told.match('explained (%s)' % NUMBER)[1])
-        return Judge(model, None, self.counts).explanation([told.take() for _ in range(size)], key, False)
+        return Choosing(model, None, self.counts).explanation([told.take() for _ in range(size)], key, False)
 
 
 def random_runs(program, number, seed):

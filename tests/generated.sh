@@ -2,11 +2,12 @@
 # Generated histories, each with an order that is legal by the way it was made: whatever the spelling (a map a line, one vector, tags
 # and comments between, one vector behind a tag), `verify` has to say yes of that order and no of the empty one, and `check` has to say yes.
 # And recordings of unordered queues with such an order, beside others with a fault, of which both have to say no.
-# usage: tests/generated.sh   (the program has to be built)
+# usage: tests/generated.sh   (the program has to be built; it is ./lincheck, or what LINCHECK names)
 set -u
 cd "$(dirname "$0")/.."
 folder=$(mktemp -d)
 trap 'rm -rf "$folder"' EXIT
+program=${LINCHECK:-./lincheck}
 passed=0 failed=0
 
 prints() { # wanted, command
@@ -27,18 +28,18 @@ sed 's/^{/#jepsen.history.Op {/; s/, :time/ ,:time/; s/$/ ; #_ a comment/' "$fol
 # One vector behind a tag, whose maps aren't read in place: a backslash stands in each.
 sed '1s/^/#h /; s/, :index/, :note "a \\\\ b", :index/' "$folder/vector.edn" > "$folder/unusual.edn"
 for spelling in lines vector tagged unusual; do
-    prints yes ./lincheck verify "$folder/$spelling.edn" "$(cat "$folder/order")"
-    prints no ./lincheck verify "$folder/$spelling.edn" empty
-    prints "$(printf 'events 2000 objects 1\nobject 0 register: yes\nwhole: yes')" ./lincheck check "$folder/$spelling.edn"
+    prints yes "$program" verify "$folder/$spelling.edn" "$(cat "$folder/order")"
+    prints no "$program" verify "$folder/$spelling.edn" empty
+    prints "$(printf 'events 2000 objects 1\nobject 0 register: yes\nwhole: yes')" "$program" check "$folder/$spelling.edn"
 done
 
 bag() { # wanted, then words of bench/bags.py: `verify` of the order, and where two clients leave few operations open the verdict of `check`
     bench/bags.py "${@:2}" "$folder/order" > "$folder/bag.edn"
-    prints "$1" ./lincheck verify --kind unordered-queue "$folder/bag.edn" "$(cat "$folder/order")"
+    prints "$1" "$program" verify --kind unordered-queue "$folder/bag.edn" "$(cat "$folder/order")"
     [ "$5" = 10 ] || prints "whole: $1" verdict "$folder/bag.edn"
 }
 
-verdict() { ./lincheck check --kind unordered-queue "$1" | awk 'END { print $1, $2 }'; }
+verdict() { "$program" check --kind unordered-queue "$1" | awk 'END { print $1, $2 }'; }
 
 for numbers in unique few; do
     bag yes 1000 "$numbers" sound 2
