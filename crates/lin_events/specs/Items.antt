@@ -61,17 +61,17 @@ code_of (Word n) = bit_xor n (5 * 2 ^ 60)
 abbrev pub hashed_item : Item → HashWrites
 hashed_item x = fed.u64 (code_of x)
 
--- the digest with one item more
-abbrev pub mixed : ℕ → Item → ℕ
-mixed digest x = bit_xor digest (code_of x) * 1099511628211 % 18446744073709551616
+-- what an item weighs in a digest beside the one ahead of it: an odd number, so that it can be taken off again
+abbrev pub factor : ℕ
+factor = 11400714819323198485
 
--- from this digest on, that of the items
-abbrev pub digest_from : ℕ → List Item → ℕ
-digest_from digest [] = digest
-digest_from digest (x ∷ xs) = digest_from (mixed digest x) xs
+-- the sum of the items' numbers, each by its weight
+abbrev pub weighed : List Item → ℕ
+weighed [] = 0
+weighed (x ∷ xs) = code_of x + factor * weighed xs
 
 abbrev pub digest_of : List Item → ℕ
-digest_of items = digest_from 0 items
+digest_of items = weighed items % 18446744073709551616
 
 -- what is hashed of the items
 abbrev pub hashed : List Item → HashWrites

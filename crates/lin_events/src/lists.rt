@@ -1,5 +1,5 @@
 //! Want of memory, and lists and sets of items as states and replies hold them.
-ghost use Rattle.std.specs.Prelude.{◌≡◌, [], List, IfOk, IfSome, IfNone, OnOk, OnErr, IsTrue, ◌↔◌, ◌<◌, ◌≤◌, ◌-◌, true, length, drop, slice_index_or};
+ghost use Rattle.std.specs.Prelude.{◌≡◌, ◌∷◌, ◌+◌, ◌*◌, ◌^◌, ◌%◌, [], List, IfOk, IfSome, IfNone, OnOk, OnErr, IsTrue, ◌↔◌, ◌<◌, ◌≤◌, ◌-◌, true, length, drop, slice_index_or};
 ghost use Rattle.std.specs.List.{insert};
 ghost use Rattle.std.specs.Cmp.Lexicographic.{pointwise, lists_equiv, lists_per};
 ghost use Rattle.std.specs.Cmp.{partial_equiv_from_equiv};
@@ -8,7 +8,7 @@ ghost use Rattle.std.specs.Hash as fed;
 ghost use Rattle.std.specs.Hash.{same_Alike};
 ghost use Rattle.lin_lists.specs.Sets.{IsRising, with_member, members_of, StaysRising, HasMember, AreSameSets};
 ghost use Rattle.lin_events.specs.declared.items.Item.{Item as ItemOf};
-ghost use Rattle.lin_events.specs.Items.{digest_of as digest, hashed, item_cmp, item_eq, listed, mixed as mixed_in};
+ghost use Rattle.lin_events.specs.Items.{code_of, digest_of as digest, factor, hashed, item_cmp, item_eq, listed};
 ghost use Rattle.lin_events.specs.Sameness.{items_Decides, item_eq_equiv};
 
 use crate::items::Item;
@@ -33,29 +33,33 @@ impl<T: Drop> From<AllocFailed<T>> for OutOfMemory {
     }
 }
 
-// An odd number, so that two digests of which one item more is taken in stay apart (Fowler, Noll and Vo's).
-const FACTOR: u64 = 1_099_511_628_211;
+// What an item weighs in a digest beside the one ahead of it, and by what that is taken off again.
+const FACTOR: u64 = 0x9E37_79B9_7F4A_7C15;
 
-/// A list of items. Copies share it, and one that is changed gets a list of its own.
+const INVERSE: u64 = 0xF1DE_83E1_9937_733D;
+
+/// A list of items. Copies share it, as does one without the first items; one that is changed gets a list of its own.
 #[derive(Drop)]
 pub struct Items {
     /// None only where the list is empty, which takes no memory.
     list: Option<Rc<Vec<Item>>>,
+    /// How many items of the list stand ahead of these, and aren't of them.
+    dropped: usize,
     /// What is hashed, and compared first, in place of the items.
     digest: u64,
     alloc: Global,
 }
 
 impl Model for Items {
-    ghost use Rattle.std.specs.Prelude.{◌≡◌, List};
+    ghost use Rattle.std.specs.Prelude.{◌≡◌, ◌≤◌, List, drop, length};
     ghost use Rattle.lin_events.specs.declared.items.Item.{Item as ItemOf};
     ghost use Rattle.lin_events.specs.Items.{digest_of, listed};
 
     ghost Value = { List ItemOf };
 
-    ghost view = { λ a. listed a.list };
+    ghost view = { λ a. drop a.dropped (listed a.list) };
 
-    ghost invariant = { λ a. a.digest ≡ digest_of (listed a.list) };
+    ghost invariant = { λ a. (a.dropped ≤ length (listed a.list)) × (a.digest ≡ digest_of (drop a.dropped (listed a.list))) };
 }
 
 impl PartialEq for Items {
@@ -82,20 +86,31 @@ impl Hash for Items {
     }
 }
 
-/// The digest with one item more.
-fn mixed(digest: u64, item: Item) -> u64
-    ensures { result ≡ mixed_in digest item }
+/// The digest of items with one more behind so many.
+fn digest_behind(before: u64, count: u32, item: Item) -> u64
+    ensures { result ≡ (before + code_of item * factor ^ count) % 18446744073709551616 }
 {
-    (digest ^ item.code()).wrapping_mul(FACTOR)
+    let weight = FACTOR.wrapping_pow(count);
+    before.wrapping_add(item.code().wrapping_mul(weight))
+}
+
+/// The digest of all but the first of the items that have this digest.
+fn digest_after(whole: u64, items: &[Item]) -> u64
+    requires { (0 < length items.now) × (whole ≡ digest items.now) }
+    ensures { result ≡ digest (drop 1 items.now) }
+{
+    whole.wrapping_sub(items[0].code()).wrapping_mul(INVERSE)
 }
 
 /// The digest of the items.
 fn digest_of(items: &[Item]) -> u64
     ensures { result ≡ digest items.now }
 {
-    let mut digest = 0;
+    let mut digest: u64 = 0;
+    let mut weight: u64 = 1;
     for item in items {
-        digest = mixed(digest, *item);
+        digest = digest.wrapping_add(item.code().wrapping_mul(weight));
+        weight = weight.wrapping_mul(FACTOR);
     }
     digest
 }
@@ -105,10 +120,9 @@ fn digest_with(before: u64, items: &[Item], at: usize, item: Item) -> u64
     requires { (old : List ItemOf) × (before ≡ digest old) × (at ≤ length old) × (items.now ≡ insert old at item) }
     ensures { result ≡ digest items.now }
 {
-    if at + 1 == items.len() {
-        mixed(before, item)
-    } else {
-        digest_of(items)
+    match u32::try_from(at) {
+        Ok(count) if at + 1 == items.len() => digest_behind(before, count, item),
+        _ => digest_of(items),
     }
 }
 
@@ -119,6 +133,7 @@ impl Items {
     {
         Items {
             list: None,
+            dropped: 0,
             digest: 0,
             alloc,
         }
@@ -132,6 +147,7 @@ impl Items {
         let list = Rc::new(alloc, items)?;
         Ok(Items {
             list: Some(list),
+            dropped: 0,
             digest,
             alloc,
         })
@@ -141,7 +157,7 @@ impl Items {
         ensures { result.now ≡ self.now }
     {
         match &self.list {
-            Some(list) => list.as_slice(),
+            Some(list) => &list.as_slice()[self.dropped..],
             None => &[],
         }
     }
@@ -150,18 +166,16 @@ impl Items {
     pub fn copy(&self) -> Result<Items, OutOfMemory>
         ensures { IfOk result (λ copy. copy ≡ self.now) }
     {
-        let list = match &self.list {
-            Some(list) => Some(list.clone()?),
-            None => None,
-        };
+        let list = share(&self.list)?;
         Ok(Items {
             list,
+            dropped: self.dropped,
             digest: self.digest,
             alloc: self.alloc,
         })
     }
 
-    /// Puts an item in at a place; refused, the items stay. In time linear in them.
+    /// Puts an item in at a place; refused, the items stay. In time linear in them, but for the last place of a list that no copy shares.
     pub fn insert(&mut self, at: usize, item: Item) -> Result<(), OutOfMemory>
         requires { at ≤ length self.old }
         ensures ok { OnOk result (self.new ≡ insert self.old at item) }
@@ -169,27 +183,62 @@ impl Items {
     {
         if let Some(list) = &mut self.list
             && let Some(own) = Rc::get_mut(list)
+            && self.dropped <= own.len() / 2
         {
-            own.insert(at, item)?;
-            self.digest = digest_with(self.digest, own.as_slice(), at, item);
+            self.digest = put(own, self.dropped, self.digest, at, item)?;
             return Ok(());
         }
         let mut own = Vec::with_capacity(self.alloc, self.as_slice().len() + 1)?;
         own.extend_from_slice(self.as_slice())?;
-        own.insert(at, item)?;
-        let digest = digest_with(self.digest, own.as_slice(), at, item);
+        let digest = put(&mut own, 0, self.digest, at, item)?;
         self.list = Some(Rc::new(self.alloc, own)?);
+        self.dropped = 0;
         self.digest = digest;
         Ok(())
     }
 
-    /// All but the first item, in time linear in them.
+    /// All but the first item, which share the list.
     pub fn without_first(&self) -> Result<Items, OutOfMemory>
         requires { 0 < length self.now }
         ensures { IfOk result (λ rest. rest ≡ drop 1 self.now) }
     {
-        let rest = Vec::from_slice(self.alloc, &self.as_slice()[1..])?;
-        Items::from_vec(self.alloc, rest)
+        let digest = digest_after(self.digest, self.as_slice());
+        let list = share(&self.list)?;
+        Ok(Items {
+            list,
+            dropped: self.dropped + 1,
+            digest,
+            alloc: self.alloc,
+        })
+    }
+}
+
+/// Puts an item in at a place among the items behind those that were dropped, which had the digest, and gives the digest that they have now;
+/// refused, the list stays.
+fn put(
+    list: &mut Vec<Item>,
+    dropped: usize,
+    before: u64,
+    at: usize,
+    item: Item,
+) -> Result<u64, OutOfMemory>
+    requires { (dropped + at ≤ length list.old.items) × (before ≡ digest (drop dropped list.old.items)) }
+    ensures within { OnOk result (dropped ≤ length list.new.items) }
+    ensures ok { OnOk result (drop dropped list.new.items ≡ insert (drop dropped list.old.items) at item) }
+    ensures digest { IfOk result (λ now. now ≡ digest (drop dropped list.new.items)) }
+    ensures err { OnErr result (list.new.items ≡ list.old.items) }
+{
+    list.insert(dropped + at, item)?;
+    Ok(digest_with(before, &list.as_slice()[dropped..], at, item))
+}
+
+/// The same list once more.
+fn share(list: &Option<Rc<Vec<Item>>>) -> Result<Option<Rc<Vec<Item>>>, OutOfMemory>
+    ensures { IfOk result (λ again. listed again ≡ listed list.now) }
+{
+    match list {
+        Some(list) => Ok(Some(list.clone()?)),
+        None => Ok(None),
     }
 }
 

@@ -187,17 +187,51 @@ impl Any {
         if self.kind == Kind::Bag {
             return bag_next(alloc, state, call, reply);
         }
-        match (self.kind, state, call, reply) {
-            (Kind::Fifo, State::Queue(mut queue), Call::Enqueue(item), Reply::Done) => {
-                queue.push(*item)?;
-                Ok(Some(State::Queue(queue)))
-            }
-            (Kind::Set, State::Members(mut members), Call::Add(item), Reply::Done) => {
-                members.insert(*item)?;
-                Ok(Some(State::Members(members)))
-            }
-            (kind, state, call, reply) => only_next(alloc, kind, &state, call, reply),
+        if self.kind == Kind::Fifo {
+            return fifo_next(alloc, state, call, reply);
         }
+        if self.kind == Kind::Set {
+            return set_next(alloc, state, call, reply);
+        }
+        only_next(alloc, self.kind, &state, call, reply)
+    }
+}
+
+/// The same of a queue.
+fn fifo_next(
+    alloc: Global,
+    state: State,
+    call: &Call,
+    reply: &Reply,
+) -> Result<Option<State>, OutOfMemory>
+    ensures some { IfOk result (λ found. IfSome found (λ next. Step Kind.Fifo state call.now next reply.now)) }
+    ensures none { IfOk result (λ found. IfNone found ((next : State) → Step Kind.Fifo state call.now next reply.now → ⊥)) }
+{
+    match (state, call, reply) {
+        (State::Queue(mut queue), Call::Enqueue(item), Reply::Done) => {
+            queue.push(*item)?;
+            Ok(Some(State::Queue(queue)))
+        }
+        (state, call, reply) => only_next(alloc, Kind::Fifo, &state, call, reply),
+    }
+}
+
+/// The same of a set.
+fn set_next(
+    alloc: Global,
+    state: State,
+    call: &Call,
+    reply: &Reply,
+) -> Result<Option<State>, OutOfMemory>
+    ensures some { IfOk result (λ found. IfSome found (λ next. Step Kind.Set state call.now next reply.now)) }
+    ensures none { IfOk result (λ found. IfNone found ((next : State) → Step Kind.Set state call.now next reply.now → ⊥)) }
+{
+    match (state, call, reply) {
+        (State::Members(mut members), Call::Add(item), Reply::Done) => {
+            members.insert(*item)?;
+            Ok(Some(State::Members(members)))
+        }
+        (state, call, reply) => only_next(alloc, Kind::Set, &state, call, reply),
     }
 }
 

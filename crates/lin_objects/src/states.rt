@@ -91,7 +91,7 @@ impl IntQueue {
         self.items.insert(count, item)
     }
 
-    /// A queue of all but the oldest item, in time linear in those that wait.
+    /// A queue of all but the oldest item, which shares the items.
     pub(crate) fn without_first(&self) -> Result<IntQueue, OutOfMemory>
         requires { 0 < length self.now }
         ensures { IfOk result (λ next. next ≡ drop 1 self.now) }

@@ -16,4 +16,4 @@ returns-else-self-other c = unlike (nat_eq c.self.inside.digest c.other.inside.d
     by false e = e
     by true e =
         let same = items_same c.args.self.now c.args.other.now e in
-        absurd (c.if-self-other.false (c.self.invariant ∙ ap digest_of (c.self.view_is ∙ same ∙ sym c.other.view_is) ∙ sym c.other.invariant))
+        absurd (c.if-self-other.false (c.self.invariant.1 ∙ ap digest_of (c.self.view_is ∙ same ∙ sym c.other.view_is) ∙ sym c.other.invariant.1))
