@@ -48,6 +48,14 @@ CALL = re.compile(r'(?:(\w+)\s*(\.|::)\s*|(\.)\s*)?(?<!fn )\b(\w+)\s*(?:::<[^()]
 TAKEN_AWAY = re.compile(r'(\./)?proofs/.*(has no field|is not in scope|has no `|was not admitted)')
 
 
+def link_or_copy(source, to):
+    """Gives a file a second name, or copies it where it can't have one."""
+    try:
+        os.link(source, to)
+    except OSError:
+        shutil.copy2(source, to)
+
+
 def kit():
     """rt itself, as a module: so the edits are read, and the prover is called, as rt ci does both."""
     found = shutil.which('rt')
@@ -57,7 +65,7 @@ def kit():
     loader = importlib.machinery.SourceFileLoader('rt', os.path.realpath(found))
     made = importlib.util.module_from_spec(importlib.util.spec_from_loader('rt', loader))
     loader.exec_module(made)
-    lacks = [it for it in ('edited', 'unread', 'processors', 'free', 'link_or_copy', 'rtlib') if not hasattr(made, it)]
+    lacks = [it for it in ('edited', 'unread', 'processors', 'free', 'rtlib') if not hasattr(made, it)]
     if lacks:
         sys.exit('must_fail.py: this kit\'s rt has no %s' % ', '.join(lacks))
     return made
@@ -524,7 +532,7 @@ class Following:
         if crate in self.below:
             mine = '%s/rlibs/%s.rlib' % (self.room, crate.name)
             try:
-                shutil.copytree(crate.rlib, mine, copy_function=rt.link_or_copy)
+                shutil.copytree(crate.rlib, mine, copy_function=link_or_copy)
                 is_whole = not COUNTED.search(self.said())
             except OSError:
                 is_whole = False

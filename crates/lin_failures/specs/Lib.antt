@@ -4,5 +4,6 @@ pub mod Adding
 pub mod SetConflicts
 pub mod QueueConflicts
 pub mod BagConflicts
+pub mod LockConflicts
 pub mod lemmas
 pub mod inner

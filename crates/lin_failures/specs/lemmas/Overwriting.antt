@@ -23,7 +23,7 @@ use Rattle.lin_failures.specs.inner.Conflicts.{Holds, IsShown}
 use Rattle.lin_failures.specs.lemmas.Conflicting.{found, no_other, set, value_is, wrote}
 use Rattle.lin_failures.specs.lemmas.Standing.{At, not_failed, ok_there, one_place, stands_ahead, one_there}
 
-same_value : (x y : Val) → Replied.Value x ≡ Replied.Value y → x ≡ y
+pub same_value : (x y : Val) → Replied.Value x ≡ Replied.Value y → x ≡ y
 same_value x y e = cc
 
 -- a call that leaves some value
@@ -31,7 +31,7 @@ abbrev pub Updates : Call → Type 0
 Updates call = (v : Val) × Leaves call v
 
 -- the register holds what the call needs
-needed : (kind : Kind) → IsRegister kind → (s next : State) (call : Call) (reply : Reply) (v : Val) → Step kind s call next reply → Needs call reply v → s ≡ Value v
+pub needed : (kind : Kind) → IsRegister kind → (s next : State) (call : Call) (reply : Reply) (v : Val) → Step kind s call next reply → Needs call reply v → s ≡ Value v
 needed kind is s next Read (Replied.Value x) v step needs = let at = found kind is s next (Replied.Value x) step in at.1 ∙ ap Value (sym (same_value x at.0 at.3) ∙ needs)
 needed CasRegister is (Value y) next (Cas from to) reply v step needs = ap Value (step.0 ∙ needs)
 needed CasRegister is s next (Cas from to) reply v step needs = absurd step
@@ -41,26 +41,26 @@ needed kind is s next (Cas from to) reply v step needs = absurd is
 needed kind is s next call reply v step needs = absurd needs
 
 -- a call leaves what the register holds behind it, or leaves nothing and changes nothing
-effect : (kind : Kind) → IsRegister kind → (s next : State) (call : Call) (reply : Reply) (v : Val) → Step kind s call next reply → next ≡ Value v → Leaves call v ⊎ ((s ≡ Value v) × (Updates call → ⊥))
+pub effect : (kind : Kind) → IsRegister kind → (s next : State) (call : Call) (reply : Reply) (v : Val) → Step kind s call next reply → next ≡ Value v → Leaves call v ⊎ ((s ≡ Value v) × (Updates call → ⊥))
 effect kind is s next Read reply v step holds = let at = found kind is s next reply step in inr (at.1 ∙ sym at.2 ∙ holds, λ updates. updates.1)
 effect kind is s next (Write w) reply v step holds = inl (value_is w v (sym (wrote kind is s next w reply step) ∙ holds))
 effect kind is s next (Cas from to) reply v step holds = inl (value_is to v (sym (set kind is s next from to reply step) ∙ holds))
 effect kind is s next call reply v step holds = absurd (no_other kind is s next call reply tt step)
 
 -- it leaves one value
-leaves_one : (call : Call) (v w : Val) → Leaves call v → Leaves call w → v ≡ w
+pub leaves_one : (call : Call) (v w : Val) → Leaves call v → Leaves call w → v ≡ w
 leaves_one (Write x) v w left other = sym left ∙ other
 leaves_one (Cas from to) v w left other = sym left ∙ other
 leaves_one call v w left other = absurd left
 
 -- an operation behind which the register holds a value needs it or leaves it
-shows : (call : Call) (reply : Reply) (v : Val) → Holds call reply v → Needs call reply v ⊎ Leaves call v
+pub shows : (call : Call) (reply : Reply) (v : Val) → Holds call reply v → Needs call reply v ⊎ Leaves call v
 shows Read (Replied.Value x) v held = inl held
 shows (Write x) reply v held = inr held
 shows (Cas from to) reply v held = inr held
 shows call reply v held = absurd held
 
-starts_nil : (kind : Kind) → IsRegister kind → start kind ≡ Value Nil
+pub starts_nil : (kind : Kind) → IsRegister kind → start kind ≡ Value Nil
 starts_nil Register is = refl
 starts_nil CasRegister is = refl
 starts_nil kind is = absurd is
@@ -78,7 +78,7 @@ module _ (kind : Kind) (is_register : IsRegister kind) (h : List Event) where
   NoneAhead order i = (k : ℕ) → k < i → UpdatesAt order k → ⊥
 
   -- what an operation needs was left ahead of it, or the register began with it
-  sourced : (s t : State) (v : Val) (order : List Placed) (i : ℕ) (p : Placed) (call : Call) → Runs (Step kind) h s order t → At order i p → IsCall h p.at call → Needs call p.reply v
+  pub sourced : (s t : State) (v : Val) (order : List Placed) (i : ℕ) (p : Placed) (call : Call) → Runs (Step kind) h s order t → At order i p → IsCall h p.at call → Needs call p.reply v
       → LeftAhead order v i ⊎ ((s ≡ Value v) × NoneAhead order i)
   sourced s t v [] i p call run there is needs = absurd there
   sourced s t v (x ∷ order) zero p call run there is needs =
@@ -109,10 +109,10 @@ module _ (kind : Kind) (is_register : IsRegister kind) (h : List Event) where
 
   module _ (order : List Placed) (legal : IsLegalOrderAs kind h order) where
     -- the ok operation stands there, and what it needs was left ahead of it, or it is nil and nothing was
-    abbrev Seat : Val → ℕ → Type 0
+    abbrev pub Seat : Val → ℕ → Type 0
     Seat v at = (i : ℕ) × (p : Placed) × At order i p × (p.at ≡ at) × (LeftAhead order v i ⊎ ((Nil ≡ v) × NoneAhead order i))
 
-    seat : (v : Val) (at : ℕ) → Returned h (λ call reply. Needs call reply v) at → Seat v at
+    pub seat : (v : Val) (at : ℕ) → Returned h (λ call reply. Needs call reply v) at → Seat v at
     seat v at is =
         let p : Placed = record { at = at; reply = is.2 } in
         let place = ok_there kind h order legal at is.1 is.2 is.4 in (
@@ -127,20 +127,20 @@ module _ (kind : Kind) (is_register : IsRegister kind) (h : List Event) where
         )
 
     -- what stands ahead is another operation
-    another : (i j : ℕ) (p q : Placed) (at : ℕ) → At order i p → p.at ≡ at → At order j q → j < i → q.at ≢ at
+    pub another : (i j : ℕ) (p q : Placed) (at : ℕ) → At order i p → p.at ≡ at → At order j q → j < i → q.at ≢ at
     another i j p q at at_p is at_q less same = let equal = one_place kind h order legal i j p q at_p at_q (is ∙ sym same) in omega (arith, equal, less)
 
-    updates_at : (j : ℕ) (q : Placed) (c : Call) (v : Val) → At order j q → IsCall h q.at c → Leaves c v → UpdatesAt order j
+    pub updates_at : (j : ℕ) (q : Placed) (c : Call) (v : Val) → At order j q → IsCall h q.at c → Leaves c v → UpdatesAt order j
     updates_at j q c v there is leaves = (q, c, there, is, (v, leaves))
 
-    one_value : (i j : ℕ) (p q : Placed) (c d : Call) (v w : Val) → i ≡ j → At order i p → At order j q → IsCall h p.at c → IsCall h q.at d → Leaves c v → Leaves d w → v ≡ w
+    pub one_value : (i j : ℕ) (p q : Placed) (c d : Call) (v w : Val) → i ≡ j → At order i p → At order j q → IsCall h p.at c → IsCall h q.at d → Leaves c v → Leaves d w → v ≡ w
     one_value i j p q c d v w equal at_p at_q is_c is_d leaves_v leaves_w =
         let same : p ≡ q = one_there order j p q (subst (λ k. At order k p) equal at_p) at_q in
         let call = one_call h q.at c d (subst (λ (z : Placed). IsCall h z.at c) same is_c) is_d in
         leaves_one d v w (subst (λ z. Leaves z v) call leaves_v) leaves_w
 
     -- what was left is ahead of the operation that shows another value
-    left_behind : (v : Val) (at over : ℕ) → (s : Seat v at) → (left : LeftAhead order v s.0) → ArePast h at v over → (k : ℕ) (p : Placed) → At order k p → p.at ≡ over → left.0 < k
+    pub left_behind : (v : Val) (at over : ℕ) → (s : Seat v at) → (left : LeftAhead order v s.0) → ArePast h at v over → (k : ℕ) (p : Placed) → At order k p → p.at ≡ over → left.0 < k
     left_behind v at over s left past k p there is = elim (past left.1.at left.2 left.5 left.6) [
       | inl same ↦ absurd (another s.0 left.0 s.1 left.1 at s.2 s.3 left.4 left.3 same)
       | inr more ↦ elim more [
@@ -150,14 +150,14 @@ module _ (kind : Kind) (is_register : IsRegister kind) (h : List Event) where
     ]
 
     -- where an update stands between, what an operation needs is not held any more
-    covered : (v : Val) (at over : ℕ) → (s : Seat v at) → ArePast h at v over → (k : ℕ) (p : Placed) → At order k p → p.at ≡ over → k < s.0 → UpdatesAt order k → ⊥
+    pub covered : (v : Val) (at over : ℕ) → (s : Seat v at) → ArePast h at v over → (k : ℕ) (p : Placed) → At order k p → p.at ≡ over → k < s.0 → UpdatesAt order k → ⊥
     covered v at over s past k p there is ahead updates = elim s.4 [
       | inl left ↦ left.7 k (left_behind v at over s left past k p there is) ahead updates
       | inr none ↦ none.1 k ahead updates
     ]
 
     -- nor where another value is read between
-    apart : (v w : Val) (at over : ℕ) → (w ≡ v → ⊥) → (s : Seat v at) (t : Seat w over) → ArePast h at v over → t.0 < s.0 → ⊥
+    pub apart : (v w : Val) (at over : ℕ) → (w ≡ v → ⊥) → (s : Seat v at) (t : Seat w over) → ArePast h at v over → t.0 < s.0 → ⊥
     apart v w at over differ s t past ahead = elim s.4 [
       | inl left ↦
           let behind = left_behind v at over s left past t.0 t.1 t.2 t.3 in
