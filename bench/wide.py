@@ -11,13 +11,15 @@ RECORDING is one of
   fifo-growing      a queue into which each number is put once; two enqueues for each dequeue
   fifo-crashed      one enqueue for each dequeue; 50 dequeues that took an element crash
   set-crashed       adds of numbers that differ, of which 70 crash, and 300 reads beside them
-An operation takes effect at some time between its invocation and its return; half of the writes and adds that crash never do. A new client
+  mutex-crashed     acquires and releases of a lock, which fail where it is held, or free; 2 in 100 crash
+An operation takes effect at some time between its invocation and its return; half of the writes, adds, acquires and releases that crash never do. A new client
 comes in the place of one that crashed. So a `sound` recording is linearizable: the operations as they took effect are a legal order.
 The others have one fault when nine tenths of the operations were made, and aren't:
   stale    a read of a register finds a value that was overwritten before it was invoked (for its sake nobody writes 0 for a while)
   lost     the first element of a queue goes, and nobody took it
   twice    the first element of a queue is taken twice
   missed   a read of a set doesn't find a number whose add had returned
+  shared   a lock that is held is acquired, again and again while nobody releases it
 WANTED_FILE gets the answer that is right for the recording in its first line (`no` where it isn't known of which prefix), and for a sound
 one that order in its second.
 """
@@ -220,6 +222,31 @@ class Set(Thing):
         return is_fault
 
 
+class Lock(Thing):
+    def __init__(self, draw, fault, crashes):
+        super().__init__(draw, fault, crashes)
+        self.is_held = False
+
+    def call(self):
+        if self.fault == 'shared' and QUIET[0] < self.share < QUIET[1]:
+            return 'acquire', 'nil'
+        return self.draw.choice(['acquire', 'release']), 'nil'
+
+    def take_effect(self, operation):
+        if self.fault == 'shared' and self.share >= QUIET[1]:
+            self.fault = 'sound'
+        if self.goes_missing(operation):
+            return
+        acquires = operation.function == 'acquire'
+        if acquires == self.is_held and not (acquires and self.is_faulty('shared')):
+            operation.ending = 'fail'
+            return
+        self.is_held, operation.reply = acquires, 'done'
+
+    def end(self, _operation, _at):
+        return False
+
+
 # The kind for `--kind`, the faults, and what makes the object from the draw, the fault and the number of operations.
 RECORDINGS = {
     'register-few': ('register', ['stale'], lambda draw, fault, _: Register(draw, fault, 0, False, ['read', 'write'])),
@@ -229,6 +256,7 @@ RECORDINGS = {
     'fifo-growing': ('fifo', ['lost', 'twice'], lambda draw, fault, _: Queue(draw, fault, 0, 2 / 3)),
     'fifo-crashed': ('fifo', ['lost', 'twice'], lambda draw, fault, _: Queue(draw, fault, CRASHED_DEQUEUES, 1 / 2)),
     'set-crashed': ('set', ['missed'], lambda draw, fault, _: Set(draw, fault, CRASHED_ADDS)),
+    'mutex-crashed': ('mutex', ['shared'], lambda draw, fault, n: Lock(draw, fault, n // 50)),
 }
 
 

@@ -35,6 +35,7 @@ faults() { # recording
     case $1 in
         fifo*) echo lost twice ;;
         set*) echo missed ;;
+        mutex*) echo shared ;;
         *) echo stale ;;
     esac
 }
@@ -141,5 +142,5 @@ elif [ $# -gt 1 ]; then
     check "$@"
 else
     check "${1:-20000}" register-few-{10,20,30} register-unique-{10,20,30} fifo-growing-{3,5,10} fifo-crashed-10 set-crashed-10 \
-        cas-few-{5,10,20,50} cas-unique-{5,10,20,50}
+        cas-few-{5,10,20,50} cas-unique-{5,10,20,50} mutex-crashed-{5,20,50}
 fi

@@ -721,12 +721,9 @@ impl End {
     }
 }
 
-/// Whether searches come before frontiers for an object of the kind, where these get large. Sets and locks aren't searched.
+/// Whether searches come before frontiers for an object of the kind, where these get large. Sets aren't searched.
 fn is_searched_first(kind: Kind) -> bool {
-    matches!(
-        kind,
-        Kind::Register | Kind::CasRegister | Kind::Fifo | Kind::Bag
-    )
+    !matches!(kind, Kind::Set)
 }
 
 /// An equal order on its own memory.

@@ -13,3 +13,4 @@ pub mod Quiet
 pub mod Invoking
 pub mod Completing
 pub mod Ending
+pub mod Opening

@@ -26,13 +26,13 @@ use Rattle.lin_events.specs.Alternation.{IsAlternating}
 use Rattle.lin_events.specs.WellFormedLaws.{EndsAreUnique, WellFormedIsAlternating}
 use Rattle.lin_events.specs.lemmas.OneMore.{one_call}
 use Rattle.lin_orders.specs.Orders.{IsCall}
+use Rattle.lin_orders.specs.lemmas.Opening.{end_back, one_of_process, others_open}
 use Rattle.lin_queues.specs.declared.elements.Element.{Element}
 use Rattle.lin_queues.specs.declared.opens.Open.{Open}
 use Rattle.lin_queues.specs.Gathering.{IsReturning, MayPay, MayTake, MayTakeEarly}
 use Rattle.lin_queues.specs.Opens.{AreOpen}
 use Rattle.lin_queues.specs.Members.{View, Told, IsInside, AreOwed, owed}
 use Rattle.lin_queues.proofs.Lists.{one_there, get_appended, get_from_contains, get_map}
-use Rattle.lin_queues.proofs.Opening.{end_back, one_of_process, others_open}
 use Rattle.lin_queues.proofs.Telling.{told_on, told_emptied, told_put, told_lost, told_paid, told_taken, told_gained}
 
 module _ (functions : Item → Name → Bool) (h : List Event) (event : Event) (place : ℕ) (whole : List Event) (order : List Placed) (time : ℕ) (now : time ≡ length h) (v : View) where

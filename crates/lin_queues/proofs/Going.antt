@@ -1,9 +1,11 @@
 -- What the engine knows after one more event.
-use Rattle.std.proofs.Common.{◌≡◌, ◌≢◌, ◌<◌, ℕ, Bool, false, List, [], ◌∷◌, ◌++◌, length, Some, inl, inr, refl, sym, ap, ◌∙◌, subst, arith, slice_get, Contains}
+use Rattle.std.proofs.Common.{◌≡◌, ◌≢◌, ◌<◌, ℕ, Bool, false, List, [], ◌∷◌, ◌++◌, length, ◌⊎◌, Some, inl, inr, refl, sym, ap, ◌∙◌, subst, arith, slice_get, get_or, Contains}
+use Rattle.std.specs.List.{remove}
 use Rattle.std.proofs.lemmas.Bool.{false≢true}
+use Rattle.std.proofs.lemmas.Option.{get_or_from_slice_get}
 use Rattle.lin_events.specs.declared.items.Item.{Item}
 use Rattle.lin_events.specs.declared.events.Event.{Event}
-use Rattle.lin_events.specs.declared.events.Body.TheVariants.{Invoke, Fail, Info}
+use Rattle.lin_events.specs.declared.events.Body.TheVariants.{Invoke, Ok, Fail, Info}
 use Rattle.lin_events.specs.declared.calls.Call.{Call}
 use Rattle.lin_events.specs.declared.calls.Call.TheVariants.{Enqueue}
 use Rattle.lin_events.specs.declared.calls.Name.{Name}
@@ -17,6 +19,7 @@ use Rattle.lin_objects.specs.declared.kinds.Kind.TheVariants.{Fifo}
 use Rattle.lin_orders.specs.declared.placed.Placed.{Placed}
 use Rattle.lin_orders.specs.Linearizable.{IsLinearizableAs}
 use Rattle.lin_orders.specs.ConfigurationLaws.{with_event}
+use Rattle.lin_orders.specs.lemmas.Opening.{one_of_process, was_open}
 use Rattle.lin_lists.specs.lemmas.Lists.{get_left, get_cases, get_last}
 use Rattle.lin_debts.specs.Debts.{IsWhole}
 use Rattle.lin_debts.specs.Laws.{BeginningLaw, Completes, FailLaw, InfoLaw, InvocationLaw, NoneLaw}
@@ -29,9 +32,8 @@ use Rattle.lin_queues.specs.Gathering.{HaveReturned, IsCovered, IsReturning}
 use Rattle.lin_queues.specs.Members.{AreEnqueues, Told, view_of}
 use Rattle.lin_queues.specs.Opens.{AreOpen}
 use Rattle.lin_queues.specs.Reaching.{Reached}
-use Rattle.lin_queues.proofs.Listing.{enqueues_on, returned_on, enqueues_whole}
+use Rattle.lin_queues.proofs.Listing.{enqueues_on, returned_on, enqueues_whole, open_returned}
 use Rattle.lin_queues.proofs.Lists.{one_there}
-use Rattle.lin_queues.proofs.Opening.{one_of_process, was_open}
 use Rattle.lin_queues.proofs.Telling.{told_on}
 
 -- members that tell of each legal order
@@ -93,6 +95,15 @@ pub completing : (h : List Event) (event : Event) (functions : Item → Name →
 completing h event functions well_formed pending opened at o there same =
     let was = opened.sound at o there in
     record { well_formed = well_formed; key = was.0; is_open = subst (λ p. IsOpen h o.place p was.0 o.call) same was.1 }
+
+-- and the list without it
+pub taken_off : WellFormedIsAlternating → EndsAreUnique → (functions : Item → Name → Bool) (h : List Event) (event : Event) (name : Name) → formed.Completes event.body name
+    → ((n : Name) × (reply : Reply) × (event.body ≡ Ok n reply)) ⊎ ((n : Name) × (event.body ≡ Fail n)) → IsWellFormed functions (with_event h event) → (pending : List Open) → AreOpen h pending → (at : ℕ) (o : Open) → slice_get pending at ≡ Some o
+    → o.process ≡ event.process → (rest : List Open) → rest ≡ remove pending at → (taken : Open) → taken ≡ get_or pending at taken → AreOpen (with_event h event) rest × Completes functions h event taken.place taken.call
+taken_off alternating unique functions h event name completes returned well_formed pending opened at o there same rest left taken is = (
+  subst (AreOpen (with_event h event)) (sym left) (open_returned alternating unique functions h event pending name completes returned well_formed opened at o there same),
+  subst (λ (x : Open). Completes functions h event x.place x.call) (sym (is ∙ get_or_from_slice_get pending at o taken there)) (completing h event functions well_formed pending opened at o there same),
+)
 
 -- the event returns this operation
 module _ (debts : Debts) (functions : Item → Name → Bool) (h : List Event) (event : Event) (place : ℕ) (call : Call) (reply : Reply) (completing' : IsCompleting debts functions h event place call reply) where

@@ -1,5 +1,4 @@
 pub mod Lists
-pub mod Opening
 pub mod Chaining
 pub mod Telling
 pub mod Paying

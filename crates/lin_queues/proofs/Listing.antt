@@ -17,6 +17,7 @@ use Rattle.lin_events.specs.WellFormedLaws.{EndsAreUnique, WellFormedIsAlternati
 use Rattle.lin_events.specs.Alternation.{IsAlternating}
 use Rattle.lin_orders.specs.declared.placed.Placed.{Placed}
 use Rattle.lin_orders.specs.ConfigurationLaws.{with_event}
+use Rattle.lin_orders.specs.lemmas.Opening.{end_kept, open_kept, opens, open_back, open_beside, open_before, others_open, one_of_process}
 use Rattle.lin_lists.specs.lemmas.Lists.{get_left, get_cases, get_last}
 use Rattle.lin_debts.specs.Debts.{IsWhole}
 use Rattle.lin_queues.specs.declared.elements.Element.{Element}
@@ -27,7 +28,6 @@ use Rattle.lin_queues.specs.Gathering.{HaveReturned}
 use Rattle.lin_queues.specs.Members.{AreEnqueues}
 use Rattle.lin_queues.specs.Opens.{AreOpen}
 use Rattle.lin_queues.proofs.Lists.{one_there, get_remove_cases, get_removed, get_appended}
-use Rattle.lin_queues.proofs.Opening.{end_kept, open_kept, opens, open_back, open_beside, open_before, others_open, one_of_process}
 
 -- an invocation puts its operation last
 pub open_invoked : (h : List Event) (event : Event) (xs : List Open) (call : Call) (new : Open) → event.body ≡ Invoke call → new ≡ record { process = event.process; place = length h; call = call } → AreOpen h xs

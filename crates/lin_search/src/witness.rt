@@ -7,15 +7,18 @@ ghost use Rattle.lin_events.specs.declared.calls.Name.{Name as NameOf};
 ghost use Rattle.lin_events.specs.WellFormed.{IsWellFormed};
 ghost use Rattle.std.specs.Prelude.{◌≡◌, ◌≢◌, ◌<◌, ◌≤◌, ◌⊎◌, ◌+◌, ◌*◌, ◌∷◌, ◌++◌, [], Bool, None, Ok, All, IfOk, IfSome, IsTrue, OnOk, length, take};
 ghost use Rattle.lin_events.specs.Meters.{ticked};
-ghost use Rattle.lin_objects.specs.declared.kinds.Kind.TheVariants.{Fifo, Mutex, Set};
+ghost use Rattle.lin_objects.specs.declared.kinds.Kind.TheVariants.{Fifo, Set};
 ghost use Rattle.lin_objects.specs.Kinds.{kind_of, same_for_all};
 ghost use Rattle.lin_orders.specs.Linearizable.{IsDeadAt, IsLegalOrder, IsLegalOrderAs, IsLinearizableAs};
 ghost use Rattle.lin_orders.specs.Parts.{events_at};
 
 use crate::bags::bag_order;
+use crate::locks::{lock_failure, lock_order};
 use crate::queues::queue_order;
 use lin_events::{Event, Item, Meter, OutOfMemory};
-use lin_failures::{BagConflict, Conflict, bag_failure, is_bag_refuted, is_refuted};
+use lin_failures::{
+    BagConflict, Conflict, LockConflict, bag_failure, is_bag_refuted, is_lock_refuted, is_refuted,
+};
 use lin_objects::{Kind, Kinds};
 use lin_orders::{Placed, check_order};
 use lin_queues::{End, failing_event};
@@ -96,7 +99,8 @@ fn attempted(
         Kind::Register | Kind::CasRegister => register_order(alloc, events, meter),
         Kind::Fifo => queue_order(alloc, events),
         Kind::Bag => bag_order(alloc, events),
-        Kind::Set | Kind::Mutex => Ok(None),
+        Kind::Mutex => lock_order(alloc, events),
+        Kind::Set => Ok(None),
     }
 }
 
@@ -180,7 +184,7 @@ fn shown_of(
 
 /// A legal order of the events at the places, which all are of one key, if one is found. Of events of several keys none is.
 ///
-/// Orders of registers, of bags, and of queues in which no item is put twice, are looked for. Takes time and memory linear in the events,
+/// Orders of registers, of bags, of locks, and of queues in which no item is put twice, are looked for. Takes time and memory linear in the events,
 /// apart from how many operations are open at a time, and from the time to sort them.
 /// `OutOfMemory` is answered only where memory was refused. The order names operations by their places among these events.
 ///
@@ -196,16 +200,16 @@ pub fn finds_order(
     ensures legal { IfOk result (λ found. IfSome found (λ order. IsLegalOrderAs kind (events_at events.now picks.now) order.items)) }
     ensures counted { IfOk result (λ found. IfSome found (λ order. meter.new.steps ≡ ticked meter.old.steps (length picks.now + length (events_at events.now picks.now)))) }
     ensures tried { IfOk result (λ found. IfSome found (λ order. ticked meter.old.tries (length order.items) ≤ meter.new.tries)) }
-    ensures searched { kind ≢ Mutex → kind ≢ Set → IfOk result (λ found. ticked meter.old.steps (length picks.now) ≤ meter.new.steps) }
-    ensures unsearched { (kind ≡ Mutex) ⊎ (kind ≡ Set) → (result ≡ Ok None) × (meter.new ≡ meter.old) }
+    ensures searched { kind ≢ Set → IfOk result (λ found. ticked meter.old.steps (length picks.now) ≤ meter.new.steps) }
+    ensures unsearched { kind ≡ Set → (result ≡ Ok None) × (meter.new ≡ meter.old) }
     ensures steps { meter.new.steps ≤ meter.old.steps + 2 * length picks.now }
     ensures scans { meter.new.scans ≡ meter.old.scans }
 {
     match kind {
-        Kind::Register | Kind::CasRegister | Kind::Fifo | Kind::Bag => {
+        Kind::Register | Kind::CasRegister | Kind::Fifo | Kind::Bag | Kind::Mutex => {
             shown_of(alloc, kind, events, picks, meter)
         }
-        Kind::Set | Kind::Mutex => Ok(None),
+        Kind::Set => Ok(None),
     }
 }
 
@@ -214,6 +218,7 @@ pub fn finds_order(
 enum Reason {
     Register(Conflict),
     Bag(BagConflict),
+    Lock(LockConflict),
 }
 
 /// Operations of an object of the kind that conflict, if a search finds such ones, and the event up to which they do.
@@ -232,7 +237,10 @@ fn sought_as(
         Kind::Bag => {
             Ok(bag_failure(alloc, events)?.map(|(at, conflict)| (at, Reason::Bag(conflict))))
         }
-        Kind::Fifo | Kind::Set | Kind::Mutex => Ok(None),
+        Kind::Mutex => {
+            Ok(lock_failure(alloc, events)?.map(|(at, conflict)| (at, Reason::Lock(conflict))))
+        }
+        Kind::Fifo | Kind::Set => Ok(None),
     }
 }
 
@@ -249,6 +257,10 @@ fn is_refuted_as(kind: Kind, events: &[Event], reason: &Reason) -> bool
         Reason::Bag(conflict) => match kind {
             Kind::Bag => is_bag_refuted(events, conflict),
             Kind::Register | Kind::CasRegister | Kind::Fifo | Kind::Set | Kind::Mutex => false,
+        },
+        Reason::Lock(conflict) => match kind {
+            Kind::Mutex => is_lock_refuted(events, conflict),
+            Kind::Register | Kind::CasRegister | Kind::Fifo | Kind::Set | Kind::Bag => false,
         },
     }
 }
@@ -364,7 +376,7 @@ fn failing_of(
 /// Which of the events at the places is the one at which the shortest beginning without a legal order ends, if one is found. It is right of well-formed
 /// events.
 ///
-/// Looked at are registers, queues and bags. Takes time and memory linear in the events, apart from how many operations are open at a time.
+/// Looked at are registers, queues, bags and locks. Takes time and memory linear in the events, apart from how many operations are open at a time.
 /// `OutOfMemory` is answered only where memory was refused.
 ///
 /// The search counts a step for each place. Where it finds an event, what shows that there is no legal order up to it counts one for each event up to and with it, and
@@ -378,15 +390,15 @@ pub fn finds_failure(
 ) -> Result<Option<usize>, OutOfMemory>
     ensures dead { (functions : ItemOf → NameOf → Bool) → IsWellFormed functions (events_at events.now picks.now) → IfOk result (λ found. IfSome found (λ at. IsDeadAt kind (events_at events.now picks.now) at)) }
     ensures counted { IfOk result (λ found. IfSome found (λ at. meter.new.steps ≡ ticked meter.old.steps (length picks.now + (3 * at + 1)))) }
-    ensures searched { kind ≢ Mutex → kind ≢ Set → IfOk result (λ found. ticked meter.old.steps (length picks.now) ≤ meter.new.steps) }
-    ensures unsearched { (kind ≡ Mutex) ⊎ (kind ≡ Set) → (result ≡ Ok None) × (meter.new ≡ meter.old) }
+    ensures searched { kind ≢ Set → IfOk result (λ found. ticked meter.old.steps (length picks.now) ≤ meter.new.steps) }
+    ensures unsearched { kind ≡ Set → (result ≡ Ok None) × (meter.new ≡ meter.old) }
     ensures steps { meter.new.steps ≤ meter.old.steps + 4 * length picks.now }
     ensures scans { meter.new.scans ≡ meter.old.scans }
 {
     match kind {
-        Kind::Register | Kind::CasRegister | Kind::Fifo | Kind::Bag => {
+        Kind::Register | Kind::CasRegister | Kind::Fifo | Kind::Bag | Kind::Mutex => {
             failing_of(alloc, kind, events, picks, meter)
         }
-        Kind::Set | Kind::Mutex => Ok(None),
+        Kind::Set => Ok(None),
     }
 }

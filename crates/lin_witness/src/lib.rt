@@ -3,7 +3,7 @@
 
 mod opened;
 mod outcomes;
-mod queues;
+mod retold;
 mod searching;
 mod witness;
 

@@ -1,9 +1,9 @@
-//! How a search says an order of a register or a queue, ordered or not, may go on: nothing is promised of it.
+//! How a search says an order of a register, of a queue, ordered or not, or of a lock may go on: nothing is promised of it.
 ghost use Rattle.std.specs.Prelude.{◌≡◌, ◌≤◌, ◌<◌, ◌+◌, ◌-◌, OnOk, length};
 ghost use Rattle.lin_events.specs.Meters.{ticked};
 
 use crate::opened::Opened;
-use crate::queues::queue_hint;
+use crate::retold::retold_hint;
 use lin_events::{Event, Meter, OutOfMemory, Reply, Val};
 use lin_frontier::{Config, Open};
 use lin_objects::State;
@@ -11,8 +11,8 @@ use lin_orders::Placed;
 use lin_registers::{Waiting, register_order_from};
 use std::alloc::Global;
 
-/// What may be placed next, the first one last, over the object's events from the place on: if the configuration is one of a register or a
-/// queue, ordered or not, and a search finds it. Each of these events is a step.
+/// What may be placed next, the first one last, over the object's events from the place on: if the configuration is one of a register, of a
+/// queue, ordered or not, or of a lock, and a search finds it. Each of these events is a step.
 pub(crate) fn suggested(
     alloc: Global,
     config: &Config<State>,
@@ -30,8 +30,10 @@ pub(crate) fn suggested(
     let rest = rest_of(alloc, events, picks, of, meter)?;
     match config.state() {
         State::Value(held) => register_hint(alloc, *held, config, opened, &rest, of, meter),
-        State::Queue(_) | State::Bag(_) => queue_hint(alloc, config, opened, &rest, of),
-        State::Members(_) | State::Held(_) => Ok(None),
+        State::Queue(_) | State::Bag(_) | State::Held(_) => {
+            retold_hint(alloc, config, opened, &rest, of)
+        }
+        State::Members(_) => Ok(None),
     }
 }
 

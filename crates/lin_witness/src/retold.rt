@@ -1,14 +1,14 @@
-//! How a search says an order of a queue, ordered or not, may go on. It takes events of a queue that begins empty, so what waits is put in
-//! first. Nothing is promised of what it says.
+//! How a search says an order of a queue, ordered or not, or of a lock may go on. It takes events of an object that begins empty, or free, so
+//! what waits is put in first, and a lock that is held is acquired. Nothing is promised of what it says.
 use crate::opened::Opened;
 use lin_events::{Body, Call, Event, Item, Name, OutOfMemory, Reply};
 use lin_frontier::{Config, Open, is_absent};
 use lin_objects::State;
 use lin_orders::Placed;
-use lin_search::{bag_order, queue_order};
+use lin_search::{bag_order, lock_order, queue_order};
 use std::alloc::Global;
 
-/// Events of a queue that begins empty, for a search to go through: they come to where the object stands, and go on as it does.
+/// Events of an object that begins empty, or free, for a search to go through: they come to where the object stands, and go on as it does.
 #[derive(Drop)]
 struct Retold {
     events: Vec<Event>,
@@ -40,6 +40,15 @@ impl Retold {
         for item in items {
             self.add(0, Body::Invoke(Call::Enqueue(*item)), None)?;
             self.add(0, Body::Ok(Name::Enqueue, Reply::Done), None)?;
+        }
+        Ok(())
+    }
+
+    /// The lock was acquired, if it is held.
+    fn acquire(&mut self, held: bool) -> Result<(), OutOfMemory> {
+        if held {
+            self.add(0, Body::Invoke(Call::Acquire), None)?;
+            self.add(0, Body::Ok(Name::Acquire, Reply::Done), None)?;
         }
         Ok(())
     }
@@ -122,9 +131,36 @@ fn first_of(items: &[Item], count: usize) -> &[Item] {
     &items[..count.min(items.len())]
 }
 
+/// Events that come to the state, if it is one of a queue, ordered or not, or of a lock. Of what waits in an ordered queue no more is told than
+/// this many items.
+fn retold_to(alloc: Global, state: &State, most: usize) -> Result<Option<Retold>, OutOfMemory> {
+    let mut retold = Retold::new(alloc);
+    match state {
+        State::Queue(queue) => retold.put_in(first_of(queue.as_slice(), most))?,
+        State::Bag(bag) => retold.put_in(bag.as_slice())?,
+        State::Held(held) => retold.acquire(*held)?,
+        State::Value(_) | State::Members(_) => return Ok(None),
+    }
+    Ok(Some(retold))
+}
+
+/// An order of events that come to the state, and go on from it, if a search finds one.
+fn order_of(
+    alloc: Global,
+    state: &State,
+    events: &[Event],
+) -> Result<Option<Vec<Placed>>, OutOfMemory> {
+    match state {
+        State::Queue(_) => queue_order(alloc, events),
+        State::Bag(_) => bag_order(alloc, events),
+        State::Held(_) => lock_order(alloc, events),
+        State::Value(_) | State::Members(_) => Ok(None),
+    }
+}
+
 /// What may be placed next, the first one last, over the rest of the events, which begins at the place: if the configuration is one of a
-/// queue, ordered or not, and a search finds it. Of what waits in an ordered queue no more is told than can be taken out.
-pub(crate) fn queue_hint(
+/// queue, ordered or not, or of a lock, and a search finds it. Of what waits in an ordered queue no more is told than can be taken out.
+pub(crate) fn retold_hint(
     alloc: Global,
     config: &Config<State>,
     opened: &Opened,
@@ -132,22 +168,15 @@ pub(crate) fn queue_hint(
     of: usize,
 ) -> Result<Option<Vec<Placed>>, OutOfMemory> {
     let most = rest.len().saturating_add(opened.len());
-    let mut retold = Retold::new(alloc);
-    match config.state() {
-        State::Queue(queue) => retold.put_in(first_of(queue.as_slice(), most))?,
-        State::Bag(bag) => retold.put_in(bag.as_slice())?,
-        _ => return Ok(None),
-    }
+    let Some(mut retold) = retold_to(alloc, config.state(), most)? else {
+        return Ok(None);
+    };
     retold.open(config, &opened.crashed)?;
     retold.open(config, &opened.live)?;
     if !retold.follow(alloc, config, rest, of)? {
         return Ok(None);
     }
-    let found = match config.state() {
-        State::Queue(_) => queue_order(alloc, &retold.events)?,
-        _ => bag_order(alloc, &retold.events)?,
-    };
-    match found {
+    match order_of(alloc, config.state(), &retold.events)? {
         Some(order) => Ok(Some(retold.turned(alloc, order)?)),
         None => Ok(None),
     }
