@@ -22,4 +22,5 @@ pub mod Overs
 pub mod Listed
 pub mod Touching
 pub mod Scanned
+pub mod Questions
 pub mod Advancing

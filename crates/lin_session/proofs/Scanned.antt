@@ -40,12 +40,12 @@ module _ (now : Present) (low : Option ℕ) (scan more : Scan) (objects : Object
   }
 
   -- all are, and told apart
-  pub up_to_end : (apart : Objects) → ready_count more ≡ length h → AreRight apart (kind_of now.kinds) now.budget h → split_in apart ≡ length h → IsUpToDate now None more apart
-  up_to_end apart all kept split = record {
+  pub up_to_end : (apart : Objects) → ready_count more ≡ length h → (g : List Event) → g ≡ now.history → AreRight apart (kind_of now.kinds) now.budget g → split_in apart ≡ length g → IsUpToDate now None more apart
+  up_to_end apart all g same kept split = record {
     few = was.few;
     budgeted = was.budgeted;
     scanned = subst (IsRight more (kind_of now.kinds)) there right;
     taken_in = all ∙ ap length there;
-    kept = subst (AreRight apart (kind_of now.kinds) now.budget) there kept;
-    apart = λ none fine. split ∙ ap length there;
+    kept = subst (AreRight apart (kind_of now.kinds) now.budget) same kept;
+    apart = λ none fine. split ∙ ap length same;
   }
