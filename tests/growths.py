@@ -76,6 +76,9 @@ MANY_ADDS = "; ".join(f"p{client} invoke add {client}" for client in range(14)) 
 MANY_ENQUEUES = "; ".join(f"p{client} invoke enqueue {client}; p{client} info enqueue" for client in range(14)) + (
     "; p20 invoke enqueue 50; p20 ok enqueue; p21 invoke dequeue; p21 ok dequeue 7; p21 invoke dequeue; p21 ok dequeue 50"
 )
+MANY_HOLDERS = "; ".join(f"p{client} invoke acquire; p{client + 7} invoke release" for client in range(7)) + (
+    "; p14 invoke acquire; p14 ok acquire; p15 invoke acquire; p15 ok acquire; p14 invoke release; p14 ok release"
+)
 
 
 def over(kind, recording, opened, wrong):
@@ -132,6 +135,7 @@ SEARCHED = [
     over("set", MANY_ADDS, "{:process 15, :type :invoke, :f :add, :value 15}", "{:process 14, :type :ok, :f :read, :value #{0 1 2 99}}"),
     over("fifo", MANY_ENQUEUES, "{:process 22, :type :invoke, :f :dequeue, :value nil}", "{:process 21, :type :ok, :f :dequeue, :value 99}"),
     over("unordered-queue", MANY_ENQUEUES, "{:process 22, :type :invoke, :f :dequeue, :value nil}", "{:process 21, :type :ok, :f :dequeue, :value 99}"),
+    over("mutex", MANY_HOLDERS, "{:process 16, :type :invoke, :f :release, :value nil}", "{:process 14, :type :fail, :f :release, :value nil}"),
     (["check", "--kind", "set", "--budget", "1024", FILE], MANY_ADDS, []),
     (["explain", "--order", "--kind", "cas-register", "--budget", "1024", FILE], MANY_WRITES, []),
 ]
