@@ -107,11 +107,11 @@ fn a_value_that_was_written_twice(rt: HostRuntime) {
     assert!(rt; failing(&rt, rt.alloc(), Kind::CasRegister, &events) == None);
 }
 
-/// Failures are looked for of registers alone.
+/// A lock begins free.
 #[test]
-fn none_is_looked_for_of_a_lock(rt: HostRuntime) {
+fn a_lock_is_released_that_nobody_acquired(rt: HostRuntime) {
     let events = [invoke(0, Call::Release), ok(0, Name::Release, Reply::Done)];
-    assert!(rt; failing(&rt, rt.alloc(), Kind::Mutex, &events) == None);
+    assert!(rt; failing(&rt, rt.alloc(), Kind::Mutex, &events) == Some(1));
 }
 
 /// What a client of a register is about.

@@ -135,9 +135,9 @@ fn none_is_found_for_a_value_that_nobody_wrote(rt: HostRuntime) {
     assert!(rt; is_found(&rt, rt.alloc(), Kind::Register, &events[..2]));
 }
 
-/// Orders are looked for of registers alone.
+/// A lock that is free is acquired.
 #[test]
-fn none_is_looked_for_of_a_lock(rt: HostRuntime) {
+fn one_is_found_of_a_lock(rt: HostRuntime) {
     let events = [invoke(0, Call::Acquire), ok(0, Name::Acquire, Reply::Done)];
-    assert!(rt; !is_found(&rt, rt.alloc(), Kind::Mutex, &events));
+    assert!(rt; is_found(&rt, rt.alloc(), Kind::Mutex, &events));
 }
