@@ -4,6 +4,5 @@ pub mod Adding
 pub mod SetConflicts
 pub mod QueueConflicts
 pub mod BagConflicts
-pub mod LockConflicts
 pub mod lemmas
 pub mod inner

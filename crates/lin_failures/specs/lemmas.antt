@@ -3,6 +3,5 @@ pub mod QueueConflicting
 pub mod SetConflicting
 pub mod Counting
 pub mod BagConflicting
-pub mod LockConflicting
 pub mod Standing
 pub mod Overwriting

@@ -1,15 +1,13 @@
-//! Failures of a register, a bag or a lock: operations that conflict, so that no order of them is legal; and where to look for them in bags.
+//! Failures of a register or a bag: operations that conflict, so that no order of them is legal; and where to look for them in bags.
 #![tactic(auto)]
 
 mod adds;
 mod bag_conflict;
 mod bag_failures;
 mod conflict;
-mod lock_conflict;
 mod overwritten;
 mod takings;
 
 pub use bag_conflict::{BagConflict, is_bag_refuted};
 pub use bag_failures::bag_failure;
 pub use conflict::{Block, Conflict, is_refuted};
-pub use lock_conflict::{LockConflict, is_lock_refuted};

@@ -39,7 +39,7 @@ fn is_needed(events: &[Event], operation: usize, value: Val) -> bool
 }
 
 /// Whether the operation is known to have failed, or to be before the place.
-pub(crate) fn is_over(events: &[Event], operation: usize, place: usize) -> bool
+fn is_over(events: &[Event], operation: usize, place: usize) -> bool
     ensures { IsTrue result → IsFailed events.now operation ⊎ IsBefore events.now operation place }
 {
     let Some((process, _)) = invocation_at(events, operation) else {

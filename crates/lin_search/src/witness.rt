@@ -7,18 +7,16 @@ ghost use Rattle.lin_events.specs.declared.calls.Name.{Name as NameOf};
 ghost use Rattle.lin_events.specs.WellFormed.{IsWellFormed};
 ghost use Rattle.std.specs.Prelude.{◌≡◌, ◌≢◌, ◌<◌, ◌≤◌, ◌⊎◌, ◌+◌, ◌*◌, ◌∷◌, ◌++◌, [], Bool, None, Ok, All, IfOk, IfSome, IsTrue, OnOk, length, take};
 ghost use Rattle.lin_events.specs.Meters.{ticked};
-ghost use Rattle.lin_objects.specs.declared.kinds.Kind.TheVariants.{Fifo, Set};
+ghost use Rattle.lin_objects.specs.declared.kinds.Kind.TheVariants.{Fifo, Mutex, Set};
 ghost use Rattle.lin_objects.specs.Kinds.{kind_of, same_for_all};
 ghost use Rattle.lin_orders.specs.Linearizable.{IsDeadAt, IsLegalOrder, IsLegalOrderAs, IsLinearizableAs};
 ghost use Rattle.lin_orders.specs.Parts.{events_at};
 
 use crate::bags::bag_order;
-use crate::locks::{lock_failure, lock_order};
 use crate::queues::queue_order;
 use lin_events::{Event, Item, Meter, OutOfMemory};
-use lin_failures::{
-    BagConflict, Conflict, LockConflict, bag_failure, is_bag_refuted, is_lock_refuted, is_refuted,
-};
+use lin_failures::{BagConflict, Conflict, bag_failure, is_bag_refuted, is_refuted};
+use lin_locks::{lock_failure, lock_order};
 use lin_objects::{Kind, Kinds};
 use lin_orders::{Placed, check_order};
 use lin_queues::{End, failing_event};
@@ -218,7 +216,6 @@ pub fn finds_order(
 enum Reason {
     Register(Conflict),
     Bag(BagConflict),
-    Lock(LockConflict),
 }
 
 /// Operations of an object of the kind that conflict, if a search finds such ones, and the event up to which they do.
@@ -237,10 +234,7 @@ fn sought_as(
         Kind::Bag => {
             Ok(bag_failure(alloc, events)?.map(|(at, conflict)| (at, Reason::Bag(conflict))))
         }
-        Kind::Mutex => {
-            Ok(lock_failure(alloc, events)?.map(|(at, conflict)| (at, Reason::Lock(conflict))))
-        }
-        Kind::Fifo | Kind::Set => Ok(None),
+        Kind::Fifo | Kind::Set | Kind::Mutex => Ok(None),
     }
 }
 
@@ -257,10 +251,6 @@ fn is_refuted_as(kind: Kind, events: &[Event], reason: &Reason) -> bool
         Reason::Bag(conflict) => match kind {
             Kind::Bag => is_bag_refuted(events, conflict),
             Kind::Register | Kind::CasRegister | Kind::Fifo | Kind::Set | Kind::Mutex => false,
-        },
-        Reason::Lock(conflict) => match kind {
-            Kind::Mutex => is_lock_refuted(events, conflict),
-            Kind::Register | Kind::CasRegister | Kind::Fifo | Kind::Set | Kind::Bag => false,
         },
     }
 }
@@ -312,6 +302,22 @@ fn indebted(
     }
 }
 
+/// The event up to which what a lock's operations owe can't be paid, if they come to that.
+fn unpaid(alloc: Global, events: &[Event], meter: &mut Meter) -> Result<Option<usize>, OutOfMemory>
+    ensures inside { IfOk result (λ found. IfSome found (λ at. at < length events.now)) }
+    ensures refuted { (functions : ItemOf → NameOf → Bool) → IsWellFormed functions events.now → IfOk result (λ found. IfSome found (λ at. IsLinearizableAs Mutex (take (at + 1) events.now) → ⊥)) }
+    ensures counted { IfOk result (λ found. IfSome found (λ at. meter.new.steps ≡ ticked meter.old.steps (at + 1))) }
+    ensures least { meter.old.steps ≤ meter.new.steps }
+    ensures most { meter.new.steps ≤ meter.old.steps + length events.now }
+    ensures scans { meter.new.scans ≡ meter.old.scans }
+{
+    let Some(at) = lock_failure(alloc, events)? else {
+        return Ok(None);
+    };
+    tick_steps(meter, at + 1);
+    Ok(Some(at))
+}
+
 /// The event up to which an object of the kind has no legal order, if one is found.
 fn refuted(
     alloc: Global,
@@ -328,6 +334,7 @@ fn refuted(
 {
     match kind {
         Kind::Fifo => indebted(alloc, events, meter),
+        Kind::Mutex => unpaid(alloc, events, meter),
         _ => conflicting(alloc, kind, events, meter),
     }
 }

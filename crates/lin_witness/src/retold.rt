@@ -5,7 +5,8 @@ use lin_events::{Body, Call, Event, Item, Name, OutOfMemory, Reply};
 use lin_frontier::{Config, Open, is_absent};
 use lin_objects::State;
 use lin_orders::Placed;
-use lin_search::{bag_order, lock_order, queue_order};
+use lin_locks::lock_order;
+use lin_search::{bag_order, queue_order};
 use std::alloc::Global;
 
 /// Events of an object that begins empty, or free, for a search to go through: they come to where the object stands, and go on as it does.

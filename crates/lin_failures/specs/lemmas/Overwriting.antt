@@ -23,7 +23,7 @@ use Rattle.lin_failures.specs.inner.Conflicts.{Holds, IsShown}
 use Rattle.lin_failures.specs.lemmas.Conflicting.{found, no_other, set, value_is, wrote}
 use Rattle.lin_failures.specs.lemmas.Standing.{At, not_failed, ok_there, one_place, stands_ahead, one_there}
 
-pub same_value : (x y : Val) → Replied.Value x ≡ Replied.Value y → x ≡ y
+same_value : (x y : Val) → Replied.Value x ≡ Replied.Value y → x ≡ y
 same_value x y e = cc
 
 -- a call that leaves some value
@@ -31,7 +31,7 @@ abbrev pub Updates : Call → Type 0
 Updates call = (v : Val) × Leaves call v
 
 -- the register holds what the call needs
-pub needed : (kind : Kind) → IsRegister kind → (s next : State) (call : Call) (reply : Reply) (v : Val) → Step kind s call next reply → Needs call reply v → s ≡ Value v
+needed : (kind : Kind) → IsRegister kind → (s next : State) (call : Call) (reply : Reply) (v : Val) → Step kind s call next reply → Needs call reply v → s ≡ Value v
 needed kind is s next Read (Replied.Value x) v step needs = let at = found kind is s next (Replied.Value x) step in at.1 ∙ ap Value (sym (same_value x at.0 at.3) ∙ needs)
 needed CasRegister is (Value y) next (Cas from to) reply v step needs = ap Value (step.0 ∙ needs)
 needed CasRegister is s next (Cas from to) reply v step needs = absurd step
@@ -41,26 +41,26 @@ needed kind is s next (Cas from to) reply v step needs = absurd is
 needed kind is s next call reply v step needs = absurd needs
 
 -- a call leaves what the register holds behind it, or leaves nothing and changes nothing
-pub effect : (kind : Kind) → IsRegister kind → (s next : State) (call : Call) (reply : Reply) (v : Val) → Step kind s call next reply → next ≡ Value v → Leaves call v ⊎ ((s ≡ Value v) × (Updates call → ⊥))
+effect : (kind : Kind) → IsRegister kind → (s next : State) (call : Call) (reply : Reply) (v : Val) → Step kind s call next reply → next ≡ Value v → Leaves call v ⊎ ((s ≡ Value v) × (Updates call → ⊥))
 effect kind is s next Read reply v step holds = let at = found kind is s next reply step in inr (at.1 ∙ sym at.2 ∙ holds, λ updates. updates.1)
 effect kind is s next (Write w) reply v step holds = inl (value_is w v (sym (wrote kind is s next w reply step) ∙ holds))
 effect kind is s next (Cas from to) reply v step holds = inl (value_is to v (sym (set kind is s next from to reply step) ∙ holds))
 effect kind is s next call reply v step holds = absurd (no_other kind is s next call reply tt step)
 
 -- it leaves one value
-pub leaves_one : (call : Call) (v w : Val) → Leaves call v → Leaves call w → v ≡ w
+leaves_one : (call : Call) (v w : Val) → Leaves call v → Leaves call w → v ≡ w
 leaves_one (Write x) v w left other = sym left ∙ other
 leaves_one (Cas from to) v w left other = sym left ∙ other
 leaves_one call v w left other = absurd left
 
 -- an operation behind which the register holds a value needs it or leaves it
-pub shows : (call : Call) (reply : Reply) (v : Val) → Holds call reply v → Needs call reply v ⊎ Leaves call v
+shows : (call : Call) (reply : Reply) (v : Val) → Holds call reply v → Needs call reply v ⊎ Leaves call v
 shows Read (Replied.Value x) v held = inl held
 shows (Write x) reply v held = inr held
 shows (Cas from to) reply v held = inr held
 shows call reply v held = absurd held
 
-pub starts_nil : (kind : Kind) → IsRegister kind → start kind ≡ Value Nil
+starts_nil : (kind : Kind) → IsRegister kind → start kind ≡ Value Nil
 starts_nil Register is = refl
 starts_nil CasRegister is = refl
 starts_nil kind is = absurd is

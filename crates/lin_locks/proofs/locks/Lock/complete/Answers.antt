@@ -1,0 +1,57 @@
+use Rattle.std.proofs.Common.{◌≡◌, ◌∙◌, ℕ, Bool, List, Option, Some, length, nat_eq, sym, ap, subst}
+use Rattle.std.specs.Map.{lookup}
+use Rattle.lin_events.specs.declared.items.Item.{Item}
+use Rattle.lin_events.specs.declared.calls.Name.{Name}
+use Rattle.lin_events.specs.declared.calls.Reply.{Reply}
+use Rattle.lin_events.specs.declared.events.Body.TheVariants.{Ok as Returns}
+use Rattle.lin_events.specs.declared.events.Event.{Event}
+use Rattle.lin_events.specs.WellFormed.{IsWellFormed}
+use Rattle.lin_events.specs.WellFormedLaws.{WellFormedIsAlternating}
+use Rattle.lin_orders.specs.ConfigurationLaws.{with_event}
+use Rattle.lin_orders.specs.lemmas.Completing.{ok_completes}
+use Rattle.lin_locks.specs.declared.locks.Lock.{Lock}
+use Rattle.lin_locks.specs.declared.locks.Running.{Running}
+use Rattle.lin_locks.specs.inner.Locks.{AreRunning, IsEnding, IsLock}
+use Rattle.lin_locks.proofs.Knowing.{known, running_stays, tells_done}
+use Rattle.lin_locks.proofs.locks.Lock.complete.Goals as goal
+
+-- the operation of the process is known, and the event ends it
+ends_known : (law : WellFormedIsAlternating) (functions : Item → Name → Bool) (h : List Event) (event : Event) (formed : IsWellFormed functions (with_event h event)) (name : Name) (reply : Reply) → event.body ≡ Returns name reply
+    → (process : ℕ) → event.process ≡ process → (lock : Lock) → IsLock lock h → (found : Option Running) → found ≡ lookup (nat_eq process) lock.running.entries
+    → (it : Running) × (found ≡ Some it) × IsEnding functions h event it.begin it.call
+ends_known law functions h event formed name reply body process of_it lock is found looked =
+    known functions h event law formed name (ok_completes event.body name reply body) lock.running.entries is.running found (looked ∙ ap (λ p. lookup (nat_eq p) lock.running.entries) (sym of_it))
+
+ends_this : (law : WellFormedIsAlternating) (functions : Item → Name → Bool) (h : List Event) (event : Event) (formed : IsWellFormed functions (with_event h event)) (name : Name) (reply : Reply) → event.body ≡ Returns name reply
+    → (process : ℕ) → event.process ≡ process → (lock : Lock) → IsLock lock h → (found : Option Running) → found ≡ lookup (nat_eq process) lock.running.entries → (running : Running) → found ≡ Some running
+    → IsEnding functions h event running.begin running.call
+ends_this law functions h event formed name reply body process of_it lock is found looked running is_this =
+    let all = ends_known law functions h event formed name reply body process of_it lock is found looked in
+    subst (λ (r : Running). IsEnding functions h event r.begin r.call) (one (sym all.1 ∙ is_this)) all.2
+  where
+    one : {a b : Running} → Some a ≡ Some b → a ≡ b
+    one e = cc
+
+pub returns-in_default-clause-on : goal.returns-in_default-clause-on
+returns-in_default-clause-on c is event name body of_it functions h here formed lock =
+    let all = ends_known c.well_formed_is_alternating.ensures functions h event formed name c.args.reply.now body c.args.process of_it c.args.self.now lock c.called.result c.called.ensures in
+    absurd (c.in_default.not-Some all.0 all.1)
+
+pub returns-in-Done-clause-on : goal.returns-in-Done-clause-on
+returns-in-Done-clause-on c is event name body of_it functions h here formed lock =
+    let ending = ends_this c.well_formed_is_alternating.ensures functions h event formed name c.args.reply.now body c.args.process of_it c.args.self.now lock c.called.result c.called.ensures c.in-Some.running c.in-Some.is in
+    record {
+      running = subst (λ r. AreRunning (with_event h event) r) (ap (λ m. m.entries) (sym c.leave.ensures.running))
+          (running_stays functions h event c.well_formed_is_alternating.ensures formed name (ok_completes event.body name c.args.reply.now body) c.args.self.now.running.entries lock.running);
+      sides = c.leave.ensures.on is functions h event name c.args.reply.now here body ending lock.sides;
+    }
+
+pub returns-in-Done-clause-fails : goal.returns-in-Done-clause-fails
+returns-in-Done-clause-fails c is event name body of_it functions h here formed lock =
+    let ending = ends_this c.well_formed_is_alternating.ensures functions h event formed name c.args.reply.now body c.args.process of_it c.args.self.now lock c.called.result c.called.ensures c.in-Some.running c.in-Some.is in
+    c.leave.ensures.down is functions h event name c.args.reply.now here body ending lock.sides
+
+pub returns-in_default-reply-clause-fails : goal.returns-in_default-reply-clause-fails
+returns-in_default-reply-clause-fails c is event name body of_it functions h here formed lock legal =
+    let ending = ends_this c.well_formed_is_alternating.ensures functions h event formed name c.args.reply.now body c.args.process of_it c.args.self.now lock c.called.result c.called.ensures c.in-Some.running c.in-Some.is in
+    c.in_default-reply.not-Done (tells_done functions h event c.well_formed_is_alternating.ensures name c.args.reply.now body c.in-Some.running.begin c.in-Some.running.call ending legal)

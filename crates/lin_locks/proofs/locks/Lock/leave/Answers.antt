@@ -1,0 +1,24 @@
+use Rattle.std.proofs.Common.{◌≡◌, true, false, sym, subst, inl, inr}
+use Rattle.lin_locks.specs.inner.Debts.{lock_call}
+use Rattle.lin_locks.specs.inner.Locks.{TurnsDown, TurnsOn}
+use Rattle.lin_locks.proofs.Knowing.{of_lock_call}
+use Rattle.lin_locks.proofs.locks.Lock.leave.Goals as goal
+
+pub returns-in-Acquire-clause-on : goal.returns-in-Acquire-clause-on
+returns-in-Acquire-clause-on c is = subst (λ call. TurnsOn c.args.self.now c.turn.new.self call c.args.running.begin c.args.at) (sym c.in-Acquire.is) (c.turn.ensures.on is)
+
+pub returns-in-Acquire-clause-down : goal.returns-in-Acquire-clause-down
+returns-in-Acquire-clause-down c is = subst (λ call. TurnsDown c.args.self.now call c.args.running.begin c.args.at) (sym c.in-Acquire.is) (c.turn.ensures.down is)
+
+pub returns-in-Release-clause-on : goal.returns-in-Release-clause-on
+returns-in-Release-clause-on c is = subst (λ call. TurnsOn c.args.self.now c.turn-in-Release.new.self call c.args.running.begin c.args.at) (sym c.in-Release.is) (c.turn-in-Release.ensures.on is)
+
+pub returns-in-Release-clause-down : goal.returns-in-Release-clause-down
+returns-in-Release-clause-down c is = subst (λ call. TurnsDown c.args.self.now call c.args.running.begin c.args.at) (sym c.in-Release.is) (c.turn-in-Release.ensures.down is)
+
+pub returns-in_default-clause-down : goal.returns-in_default-clause-down
+returns-in_default-clause-down c is functions h event name reply end body ending sides legal =
+    elim (of_lock_call functions h event c.well_formed_is_alternating.ensures name reply body c.args.running.begin c.args.running.call ending legal) [
+      | inl acquires ↦ c.in_default.not-Acquire acquires
+      | inr releases ↦ c.in_default.not-Release releases
+    ]

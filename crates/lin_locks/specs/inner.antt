@@ -1,0 +1,3 @@
+pub mod Debts
+pub mod Sides
+pub mod Locks

@@ -1,0 +1,51 @@
+-- What is known of the operations of one of a lock's calls, and of both.
+use Rattle.std.specs.Prelude.{◌≡◌, ◌≢◌, ◌<◌, ◌≤◌, ◌++◌, ◌∷◌, [], ℕ, Bool, not, List, All, AllPairs, Contains, Some, length, slice_get}
+use Rattle.lin_events.specs.declared.items.Item.{Item}
+use Rattle.lin_events.specs.declared.events.Event.{Event}
+use Rattle.lin_events.specs.declared.calls.Call.{Call}
+use Rattle.lin_events.specs.Operations.{IsOpen}
+use Rattle.lin_locks.specs.declared.sides.Debt.{Debt}
+use Rattle.lin_locks.specs.declared.sides.Side.{Side}
+use Rattle.lin_locks.specs.inner.Debts.{AreOwed, AreRising, Config, IsBalanced, IsOfLock, IsPaid, lock_call}
+
+-- the open operations with the call are listed, rising, and what is owed of it
+pub record IsSide (h : List Event) (call : Call) (side : Side) : Type 0 where
+  pub rising : AllPairs ◌<◌ side.open.items
+  pub within : (at : ℕ) → Contains side.open.items at → at < length h
+  pub listed : (at process : ℕ) (key : Item) → IsOpen h at process key call → Contains side.open.items at
+  pub ordered : AreRising side.debts.items
+  pub past : (debt : Debt) → Contains side.debts.items debt → debt.until < length h
+  pub owed : AreOwed h call side.debts.items
+
+-- the sides of the one call and of the other one, and the lock as it would be if just what is owed were placed
+pub record AreSides (h : List Event) (one : Bool) (own other : Side) (lock : Bool) : Type 0 where
+  pub own_side : IsSide h (lock_call one) own
+  pub other_side : IsSide h (lock_call (not one)) other
+  pub balanced : (c : Config) → IsOfLock h c → IsBalanced h one (length own.debts.items) (length other.debts.items) lock c
+
+-- one debt can't be paid together with those before it
+abbrev pub IsUnpayable : Side → Type 0
+IsUnpayable side = (k : ℕ) × (debt : Debt) × (slice_get side.debts.items k ≡ Some debt) × ((begin : ℕ) → slice_get side.open.items k ≡ Some begin → debt.until ≤ begin)
+
+-- the operation that was invoked there is open no longer
+pub record IsClosed (begin : ℕ) (old new : List ℕ) : Type 0 where
+  pub kept : (at : ℕ) → Contains old at → at ≢ begin → Contains new at
+  pub rising : AllPairs ◌<◌ old → AllPairs ◌<◌ new
+  pub none_new : (at : ℕ) → Contains new at → Contains old at
+
+-- an operation returns, and pays a debt
+abbrev pub IsPaying : ℕ → Side → Side → Type 0
+IsPaying begin old new = IsClosed begin old.open.items new.open.items × (debt : Debt) × IsPaid begin old.debts.items debt new.debts.items
+
+-- or stands last, since no debt came up behind its invocation
+pub record IsStanding (begin : ℕ) (old new : Side) : Type 0 where
+  pub closed : IsClosed begin old.open.items new.open.items
+  pub debts : new.debts.items ≡ old.debts.items
+  pub early : AreRising old.debts.items → All (λ debt. debt.until ≤ begin) old.debts.items
+
+-- and one of the other call is owed from then on
+pub record IsOwing (until : ℕ) (old new : Side) : Type 0 where
+  pub open_same : new.open.items ≡ old.open.items
+  pub debt : Debt
+  pub time : debt.until ≡ until
+  pub debts : new.debts.items ≡ old.debts.items ++ debt ∷ []
