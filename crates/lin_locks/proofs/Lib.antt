@@ -4,3 +4,7 @@ pub mod Passing
 pub mod Turning
 pub mod Siding
 pub mod Knowing
+pub mod Filled
+pub mod Filling
+pub mod Payable
+pub mod Going

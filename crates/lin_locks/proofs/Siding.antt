@@ -213,7 +213,7 @@ module _ (functions : Item → Name → Bool) (h : List Event) (event : Event) (
     each_less : AreLess h (with_event h event) i (lock_call one)
     each_less = ok_less functions h event name alternates reply is i key (lock_call one) is_open
 
-    not_it : (other : Call) (at process : ℕ) (k : Item) → IsOpen (with_event h event) at process k other → IsOpen h at process k other × (at ≢ i)
+    pub not_it : (other : Call) (at process : ℕ) (k : Item) → IsOpen (with_event h event) at process k other → IsOpen h at process k other × (at ≢ i)
     not_it other at process k opened = (
       was_open functions h event name alternates (ok_completes event.body name reply is) at process k other opened,
       λ same. opened.no_ok (length h) reply (subst (λ n. IsOk (with_event h event) n (length h) reply) (sym same) (event, ends_it functions h event name alternates (ok_completes event.body name reply is) i key (lock_call one) is_open, name, is)),
@@ -228,12 +228,12 @@ module _ (functions : Item → Name → Bool) (h : List Event) (event : Event) (
     pub sides_paid : (own now other : Side) (lock : Bool) → IsPaying i own now → AreSides h one own other lock → AreSides (with_event h event) one now other lock
     unfolding each_less
     sides_paid own now other lock paying was =
-        let paid = paying.2 in
-        let kept = parts own.debts.items paying.1 now.debts.items paid in
+        let paid = paying.paid in
+        let kept = parts own.debts.items paying.debt now.debts.items paid in
         record {
-          own_side = side_after h event i (lock_call one) own now was.own_side paying.0 (not_it (lock_call one)) (kept.1 was.own_side.ordered)
+          own_side = side_after h event i (lock_call one) own now was.own_side paying.closed (not_it (lock_call one)) (kept.1 was.own_side.ordered)
               (λ debt there. still_past h event own.debts.items was.own_side.past debt (kept.2 debt there))
-              (owed_paid h (with_event h event) i one each_less own.debts.items paying.1 now.debts.items was.own_side.ordered paid was.own_side.owed);
+              (owed_paid h (with_event h event) i one each_less own.debts.items paying.debt now.debts.items was.own_side.ordered paid was.own_side.owed);
           other_side = side_stays other was.other_side;
           balanced = balanced_less h (with_event h event) i one each_less (length own.debts.items) (length other.debts.items) lock (length now.debts.items) (length other.debts.items) lock
               (let many = kept.0 in omega (arith, many)) was.balanced;

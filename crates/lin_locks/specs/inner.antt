@@ -1,3 +1,4 @@
 pub mod Debts
 pub mod Sides
+pub mod Fillings
 pub mod Locks

@@ -1,31 +1,39 @@
 //! A legal order of a lock's events, and the event up to which they have none.
-ghost use Rattle.std.specs.Prelude.{◌≡◌, ◌<◌, ◌+◌, Bool, IfOk, IfSome, length, take};
+ghost use Rattle.std.specs.Prelude.{◌<◌, Bool, IfNone, IfOk, IfSome, MatchOption, length};
 ghost use Rattle.lin_events.specs.declared.items.Item.{Item as ItemOf};
 ghost use Rattle.lin_events.specs.declared.calls.Name.{Name as NameOf};
 ghost use Rattle.lin_events.specs.WellFormed.{IsWellFormed};
 ghost use Rattle.lin_objects.specs.declared.kinds.Kind.TheVariants.{Mutex as MutexOf};
-ghost use Rattle.lin_orders.specs.Linearizable.{IsLinearizableAs};
+ghost use Rattle.lin_orders.specs.Linearizable.{IsDeadAt, IsLinearizableAs};
 
 use crate::locks::Lock;
 use lin_events::{Event, OutOfMemory, beginnings_are_well_formed};
 use lin_orders::Placed;
 use std::alloc::Global;
 
-/// A legal order of the events of a lock, if one is found.
-pub fn lock_order(alloc: Global, events: &[Event]) -> Result<Option<Vec<Placed>>, OutOfMemory> {
+/// An order of the events of a lock; none only where well-formed events have no legal one. That it is a legal order is left to a check.
+///
+/// Takes time and memory linear in the events. `OutOfMemory` is answered only where memory was refused.
+pub fn lock_order(alloc: Global, events: &[Event]) -> Result<Option<Vec<Placed>>, OutOfMemory>
+    ensures { (functions : ItemOf → NameOf → Bool) → IsWellFormed functions events.now → IfOk result (λ found. IfNone found (IsLinearizableAs MutexOf events.now → ⊥)) }
+{
+    beginnings_are_well_formed();
     let mut lock = Lock::new(alloc);
-    for (at, event) in events.iter().enumerate() {
-        if !lock.take_in(at, event)? {
+    for at in 0..events.len() {
+        if !lock.take_in(at, &events[at])? {
             return Ok(None);
         }
     }
     Ok(Some(lock.finish(alloc)?))
 }
 
-/// Goes through the events of a lock for one up to and with which they have no legal order. It is right of well-formed events.
+/// Which of the events of a lock is the one at which the shortest beginning without a legal order ends; none where all of them have one. It is right
+/// of well-formed events.
+///
+/// Takes time and memory linear in the events. `OutOfMemory` is answered only where memory was refused.
 pub fn lock_failure(alloc: Global, events: &[Event]) -> Result<Option<usize>, OutOfMemory>
     ensures inside { IfOk result (λ found. IfSome found (λ at. at < length events.now)) }
-    ensures failing { (functions : ItemOf → NameOf → Bool) → IsWellFormed functions events.now → IfOk result (λ found. IfSome found (λ at. IsLinearizableAs MutexOf (take (at + 1) events.now) → ⊥)) }
+    ensures dead { (functions : ItemOf → NameOf → Bool) → IsWellFormed functions events.now → IfOk result (λ found. MatchOption found (IsLinearizableAs MutexOf events.now) (λ at. IsDeadAt MutexOf events.now at)) }
 {
     beginnings_are_well_formed();
     let mut lock = Lock::new(alloc);

@@ -1,5 +1,5 @@
 //! The engine: what has come of a lock by some event.
-ghost use Rattle.std.specs.Prelude.{◌≡◌, ◌≤◌, [], ℕ, Bool, IfNone, IfSome, Ok, Some, true, false, length, nat_eq, not, if◌then◌else◌};
+ghost use Rattle.std.specs.Prelude.{◌≡◌, ◌≤◌, ◌++◌, ◌∷◌, [], ℕ, Bool, None, IfNone, IfSome, Ok, Some, true, false, length, nat_eq, not, if◌then◌else◌, slice_set};
 ghost use Rattle.std.specs.Map.{lookup};
 ghost use Rattle.lin_events.specs.declared.calls.Call.{Call as CallOf};
 ghost use Rattle.lin_events.specs.declared.calls.Name.{Name as NameOf};
@@ -7,7 +7,7 @@ ghost use Rattle.lin_events.specs.declared.calls.Reply.{Reply as ReplyOf};
 ghost use Rattle.lin_events.specs.declared.events.Event.{Event as EventOf};
 ghost use Rattle.lin_events.specs.declared.events.Body.TheVariants.{Invoke as Invokes, Ok as Returns, Fail as FailsOf, Info as Informs};
 ghost use Rattle.lin_locks.specs.inner.Debts.{lock_call};
-ghost use Rattle.lin_locks.specs.inner.Sides.{IsOwing, IsPaying, IsStanding};
+ghost use Rattle.lin_locks.specs.inner.Sides.{IsOwingAt, IsPaying, IsStanding};
 ghost use Rattle.lin_locks.specs.inner.Locks.{GoesOn, IsFailing, IsLock, TurnsDown, TurnsOn};
 
 use crate::sides::{Debt, Side};
@@ -43,6 +43,15 @@ struct Return {
     fits: bool,
 }
 
+/// Puts the operation that was invoked there at a place of the order that was owed.
+pub(crate) fn fill(order: &mut Vec<Option<usize>>, place: usize, begin: usize)
+    ensures { order.new.items ≡ slice_set order.old.items place (Some begin) }
+{
+    if place < order.len() {
+        order[place] = Some(begin);
+    }
+}
+
 /// Takes in that an operation of the one side's call returns.
 fn turned(
     own: &mut Side,
@@ -50,15 +59,13 @@ fn turned(
     order: &mut Vec<Option<usize>>,
     returned: Return,
 ) -> Result<Turn, OutOfMemory>
-    ensures pays { result ≡ Ok Turn.Pays → IsPaying returned.begin own.old own.new × (other.new ≡ other.old) }
-    ensures stands { result ≡ Ok Turn.Stands → returned.fits ≡ true → IsStanding returned.begin own.old own.new × (other.new ≡ other.old) }
-    ensures owes { result ≡ Ok Turn.Stands → returned.fits ≡ false → IsStanding returned.begin own.old own.new × IsOwing returned.end other.old other.new }
+    ensures pays { result ≡ Ok Turn.Pays → (paying : IsPaying returned.begin own.old own.new) × (other.new ≡ other.old) × (order.new.items ≡ slice_set order.old.items paying.debt.slot (Some returned.begin)) }
+    ensures stands { result ≡ Ok Turn.Stands → returned.fits ≡ true → IsStanding returned.begin own.old own.new × (other.new ≡ other.old) × (order.new.items ≡ order.old.items ++ Some returned.begin ∷ []) }
+    ensures owes { result ≡ Ok Turn.Stands → returned.fits ≡ false → IsStanding returned.begin own.old own.new × IsOwingAt returned.end (length order.old.items) other.old other.new × (order.new.items ≡ (order.old.items ++ None ∷ []) ++ Some returned.begin ∷ []) }
     ensures fails { result ≡ Ok Turn.Fails → (returned.fits ≡ false) × IsStanding returned.begin own.old own.new × (length other.old.open.items ≤ length other.old.debts.items) }
 {
     if let Some(debt) = own.pay(returned.begin) {
-        if let Some(place) = order.get_mut(debt.slot) {
-            *place = Some(returned.begin);
-        }
+        fill(order, debt.slot, returned.begin);
         return Ok(Turn::Pays);
     }
     if !returned.fits {
@@ -229,8 +236,8 @@ impl Lock {
 
     /// The order, in which what is owed is paid by open operations.
     pub(crate) fn finish(mut self, alloc: Global) -> Result<Vec<Placed>, OutOfMemory> {
-        self.acquires.settle(self.order.as_mut_slice());
-        self.releases.settle(self.order.as_mut_slice());
+        self.acquires.settle(&mut self.order);
+        self.releases.settle(&mut self.order);
         let mut placed = Vec::with_capacity(alloc, self.order.len())?;
         for place in &self.order {
             if let Some(at) = place {

@@ -1,9 +1,11 @@
 //! The operations of one of a lock's calls.
-ghost use Rattle.std.specs.Prelude.{◌≡◌, ◌<◌, ◌≤◌, ◌++◌, ◌∷◌, [], ℕ, All, IfNone, IfSome, OnOk, Some, false, length, slice_get};
+ghost use Rattle.std.specs.Prelude.{◌≡◌, ◌<◌, ◌≤◌, ◌⊎◌, ◌++◌, ◌∷◌, [], ℕ, IfNone, IfSome, OnOk, Some, true, false, length, slice_get};
 ghost use Rattle.lin_locks.specs.declared.sides.Debt.{Debt as DebtOf};
 ghost use Rattle.lin_locks.specs.inner.Debts.{AreRising, IsPaid};
-ghost use Rattle.lin_locks.specs.inner.Sides.{IsClosed, IsUnpayable};
+ghost use Rattle.lin_locks.specs.inner.Sides.{AreEarly, IsClosed, IsGone, IsUnpayable};
+ghost use Rattle.lin_locks.specs.inner.Fillings.{PayInTurn};
 
+use crate::locks::fill;
 use lin_events::OutOfMemory;
 use std::alloc::Global;
 
@@ -50,6 +52,7 @@ impl Side {
     fn close(&mut self, begin: usize)
         ensures debts { self.new.debts ≡ self.old.debts }
         ensures closed { IsClosed begin self.old.open.items self.new.open.items }
+        ensures gone { IsGone begin self.old.open.items self.new.open.items }
     {
         if let Ok(at) = self.open.binary_search(&begin) {
             let _ = self.open.remove(at);
@@ -72,8 +75,9 @@ impl Side {
     /// The operation that was invoked there returns, and pays the earliest debt that it can, if there is one.
     pub(crate) fn pay(&mut self, begin: usize) -> Option<Debt>
         ensures closed { IsClosed begin self.old.open.items self.new.open.items }
+        ensures gone { IsGone begin self.old.open.items self.new.open.items }
         ensures paid { IfSome result (λ debt. IsPaid begin self.old.debts.items debt self.new.debts.items) }
-        ensures none { IfNone result ((self.new.debts.items ≡ self.old.debts.items) × (AreRising self.old.debts.items → All (λ debt. debt.until ≤ begin) self.old.debts.items)) }
+        ensures none { IfNone result ((self.new.debts.items ≡ self.old.debts.items) × AreEarly begin self.old.debts.items) }
     {
         self.close(begin);
         let at = self.first_behind(begin);
@@ -88,6 +92,7 @@ impl Side {
     pub(crate) fn owe(&mut self, debt: Debt) -> Result<bool, OutOfMemory>
         ensures open { self.new.open ≡ self.old.open }
         ensures debts { OnOk result (self.new.debts.items ≡ self.old.debts.items ++ debt ∷ []) }
+        ensures enough { result ≡ Ok true → length self.old.debts.items < length self.new.open.items }
         ensures few { result ≡ Ok false → length self.new.open.items ≤ length self.old.debts.items }
     {
         self.debts.push(debt)?;
@@ -97,14 +102,16 @@ impl Side {
     /// Whether the open one at the place may pay the debt there.
     fn pays(&self, at: usize) -> bool
         requires { at < length self.now.debts.items }
-        ensures { result ≡ false → (debt : DebtOf) (begin : ℕ) → slice_get self.now.debts.items at ≡ Some debt → slice_get self.now.open.items at ≡ Some begin → debt.until ≤ begin }
+        ensures pays { result ≡ true → (debt : DebtOf) → slice_get self.now.debts.items at ≡ Some debt → (begin : ℕ) × (slice_get self.now.open.items at ≡ Some begin) × (begin < debt.until) }
+        ensures late { result ≡ false → (debt : DebtOf) (begin : ℕ) → slice_get self.now.debts.items at ≡ Some debt → slice_get self.now.open.items at ≡ Some begin → debt.until ≤ begin }
     {
         at < self.open.len() && self.open[at] < self.debts[at].until
     }
 
     /// Whether each debt can be paid, one by one.
     fn is_payable(&self) -> bool
-        ensures { result ≡ false → IsUnpayable self.now }
+        ensures payable { result ≡ true → PayInTurn self.now.open.items self.now.debts.items }
+        ensures unpaid { result ≡ false → IsUnpayable self.now }
     {
         for at in 0..self.debts.len() {
             if !self.pays(at) {
@@ -118,6 +125,8 @@ impl Side {
     pub(crate) fn withdraw(&mut self, begin: usize) -> bool
         ensures debts { self.new.debts ≡ self.old.debts }
         ensures closed { IsClosed begin self.old.open.items self.new.open.items }
+        ensures gone { IsGone begin self.old.open.items self.new.open.items }
+        ensures payable { result ≡ true → AreEarly begin self.new.debts.items ⊎ PayInTurn self.new.open.items self.new.debts.items }
         ensures unpaid { result ≡ false → IsUnpayable self.new }
     {
         self.close(begin);
@@ -126,11 +135,9 @@ impl Side {
     }
 
     /// Those that are owed are paid by open ones.
-    pub(crate) fn settle(&self, order: &mut [Option<usize>]) {
+    pub(crate) fn settle(&self, order: &mut Vec<Option<usize>>) {
         for (debt, begin) in self.debts.iter().zip(self.open.iter()) {
-            if let Some(place) = order.get_mut(debt.slot) {
-                *place = Some(*begin);
-            }
+            fill(order, debt.slot, *begin);
         }
     }
 }

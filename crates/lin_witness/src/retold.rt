@@ -3,9 +3,9 @@
 use crate::opened::Opened;
 use lin_events::{Body, Call, Event, Item, Name, OutOfMemory, Reply};
 use lin_frontier::{Config, Open, is_absent};
+use lin_locks::lock_order;
 use lin_objects::State;
 use lin_orders::Placed;
-use lin_locks::lock_order;
 use lin_search::{bag_order, queue_order};
 use std::alloc::Global;
 

@@ -6,7 +6,7 @@ use Rattle.lin_events.specs.declared.events.Event.{Event}
 use Rattle.lin_events.specs.declared.events.Body.TheVariants.{Ok, Fail}
 use Rattle.lin_events.specs.declared.calls.Call.{Call}
 use Rattle.lin_events.specs.declared.calls.Name.{Name}
-use Rattle.lin_events.specs.declared.calls.Reply.{Reply}
+use Rattle.lin_events.specs.declared.calls.Reply.TheVariants.{Done}
 use Rattle.lin_events.specs.Operations.{IsOpen}
 use Rattle.lin_events.specs.WellFormed.{IsWellFormed}
 use Rattle.lin_objects.specs.declared.kinds.Kind.TheVariants.{Mutex}
@@ -14,15 +14,17 @@ use Rattle.lin_orders.specs.Linearizable.{IsLinearizableAs}
 use Rattle.lin_orders.specs.ConfigurationLaws.{with_event}
 use Rattle.lin_locks.specs.declared.locks.Lock.{Lock}
 use Rattle.lin_locks.specs.declared.locks.Running.{Running}
+use Rattle.lin_locks.specs.inner.Fillings.{AreFilled}
 use Rattle.lin_locks.specs.inner.Sides.{AreSides}
 
 -- each open operation is the one that its process called last
 abbrev pub AreRunning : List Event → List (ℕ × Running) → Type 0
 AreRunning h running = (at process : ℕ) (key : Item) (call : Call) → IsOpen h at process key call → lookup (nat_eq process) running ≡ Some (record { begin = at; call = call })
 
--- both sides of the lock
-abbrev pub HasSides : Lock → List Event → Type 0
-HasSides lock h = AreSides h true lock.acquires lock.releases lock.held
+-- both sides of the lock, and the order that goes with them
+pub record HasSides (lock : Lock) (h : List Event) : Type 0 where
+  pub sides : AreSides h true lock.acquires lock.releases lock.held
+  pub order : AreFilled h true lock.order.items lock.acquires lock.releases lock.held
 
 pub record IsLock (lock : Lock) (h : List Event) : Type 0 where
   pub running : AreRunning h lock.running.entries
@@ -36,12 +38,12 @@ pub record IsEnding (functions : Item → Name → Bool) (h : List Event) (event
 
 -- the operation with the call returns at the place: what is known of the sides stays right
 abbrev pub TurnsOn : Lock → Lock → Call → ℕ → ℕ → Type 0
-TurnsOn old new call begin end = (functions : Item → Name → Bool) (h : List Event) (event : Event) (name : Name) (reply : Reply) → end ≡ length h → event.body ≡ Ok name reply
+TurnsOn old new call begin end = (functions : Item → Name → Bool) (h : List Event) (event : Event) (name : Name) → end ≡ length h → event.body ≡ Ok name Done
     → IsEnding functions h event begin call → HasSides old h → HasSides new (with_event h event)
 
 -- or there is no legal order
 abbrev pub TurnsDown : Lock → Call → ℕ → ℕ → Type 0
-TurnsDown old call begin end = (functions : Item → Name → Bool) (h : List Event) (event : Event) (name : Name) (reply : Reply) → end ≡ length h → event.body ≡ Ok name reply
+TurnsDown old call begin end = (functions : Item → Name → Bool) (h : List Event) (event : Event) (name : Name) → end ≡ length h → event.body ≡ Ok name Done
     → IsEnding functions h event begin call → HasSides old h → IsLinearizableAs Mutex (with_event h event) → ⊥
 
 -- with the event at the place, what is known stays right

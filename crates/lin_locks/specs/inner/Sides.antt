@@ -1,5 +1,6 @@
 -- What is known of the operations of one of a lock's calls, and of both.
 use Rattle.std.specs.Prelude.{◌≡◌, ◌≢◌, ◌<◌, ◌≤◌, ◌++◌, ◌∷◌, [], ℕ, Bool, not, List, All, AllPairs, Contains, Some, length, slice_get}
+use Rattle.std.specs.List.{remove}
 use Rattle.lin_events.specs.declared.items.Item.{Item}
 use Rattle.lin_events.specs.declared.events.Event.{Event}
 use Rattle.lin_events.specs.declared.calls.Call.{Call}
@@ -33,15 +34,27 @@ pub record IsClosed (begin : ℕ) (old new : List ℕ) : Type 0 where
   pub rising : AllPairs ◌<◌ old → AllPairs ◌<◌ new
   pub none_new : (at : ℕ) → Contains new at → Contains old at
 
+-- and it alone is
+abbrev pub IsGone : ℕ → List ℕ → List ℕ → Type 0
+IsGone begin old new = AllPairs ◌<◌ old → Contains old begin → (place : ℕ) × (slice_get old place ≡ Some begin) × (new ≡ remove old place)
+
+-- no debt came up behind the invocation
+abbrev pub AreEarly : ℕ → List Debt → Type 0
+AreEarly begin debts = AreRising debts → All (λ debt. debt.until ≤ begin) debts
+
 -- an operation returns, and pays a debt
-abbrev pub IsPaying : ℕ → Side → Side → Type 0
-IsPaying begin old new = IsClosed begin old.open.items new.open.items × (debt : Debt) × IsPaid begin old.debts.items debt new.debts.items
+pub record IsPaying (begin : ℕ) (old new : Side) : Type 0 where
+  pub closed : IsClosed begin old.open.items new.open.items
+  pub gone : IsGone begin old.open.items new.open.items
+  pub debt : Debt
+  pub paid : IsPaid begin old.debts.items debt new.debts.items
 
 -- or stands last, since no debt came up behind its invocation
 pub record IsStanding (begin : ℕ) (old new : Side) : Type 0 where
   pub closed : IsClosed begin old.open.items new.open.items
+  pub gone : IsGone begin old.open.items new.open.items
   pub debts : new.debts.items ≡ old.debts.items
-  pub early : AreRising old.debts.items → All (λ debt. debt.until ≤ begin) old.debts.items
+  pub early : AreEarly begin old.debts.items
 
 -- and one of the other call is owed from then on
 pub record IsOwing (until : ℕ) (old new : Side) : Type 0 where
@@ -49,3 +62,9 @@ pub record IsOwing (until : ℕ) (old new : Side) : Type 0 where
   pub debt : Debt
   pub time : debt.until ≡ until
   pub debts : new.debts.items ≡ old.debts.items ++ debt ∷ []
+
+-- with a place of its own in the order, and enough that may pay
+pub record IsOwingAt (until place : ℕ) (old new : Side) : Type 0 where
+  pub owing : IsOwing until old new
+  pub slot : owing.debt.slot ≡ place
+  pub enough : length old.debts.items < length old.open.items

@@ -9,6 +9,7 @@ use Rattle.lin_events.specs.WellFormed.{IsWellFormed}
 use Rattle.lin_orders.specs.ConfigurationLaws.{with_event}
 use Rattle.lin_locks.specs.declared.locks.Running.{Running}
 use Rattle.lin_locks.specs.inner.Locks.{AreRunning}
+use Rattle.lin_locks.proofs.Going.{filled_beside, filled_joined, filled_round}
 use Rattle.lin_locks.proofs.Knowing.{running_joined}
 use Rattle.lin_locks.proofs.Siding.{round, sides_beside, sides_joined}
 use Rattle.lin_locks.proofs.locks.Lock.begin.Goals as goal
@@ -27,8 +28,12 @@ returns-in-Acquire c is event body of_it functions h here formed lock =
     record {
       running = running_joined functions h event c.well_formed_is_alternating.ensures formed c.args.call body c.args.self.now.running.entries c.insert.new.self.entries
           (joined_by c.args.self.now.running.entries c.insert.new.self.entries c.args.at c.args.process c.args.call c.in_ok-insert.ensures.updates.0 event of_it h here) lock.running;
-      sides = sides_joined functions h event c.args.call body alternates true c.args.self.now.acquires c.begin.new.self c.args.self.now.releases c.args.self.now.held c.in-Acquire.is
-          (rw is at c.begin.ensures.open ∙ ap (λ n. c.args.self.now.acquires.open.items ++ n ∷ []) here) (ap (λ v. v.items) c.begin.ensures.debts) lock.sides;
+      sides = record {
+        sides = sides_joined functions h event c.args.call body alternates true c.args.self.now.acquires c.begin.new.self c.args.self.now.releases c.args.self.now.held c.in-Acquire.is
+            (rw is at c.begin.ensures.open ∙ ap (λ n. c.args.self.now.acquires.open.items ++ n ∷ []) here) (ap (λ v. v.items) c.begin.ensures.debts) lock.sides.sides;
+        order = filled_joined functions h event c.args.call body alternates true c.args.self.now.order.items c.args.self.now.acquires c.begin.new.self c.args.self.now.releases c.args.self.now.held c.in-Acquire.is
+            (rw is at c.begin.ensures.open ∙ ap (λ n. c.args.self.now.acquires.open.items ++ n ∷ []) here) (ap (λ v. v.items) c.begin.ensures.debts) lock.sides.sides lock.sides.order;
+      };
     }
 
 pub returns-in-Release : goal.returns-in-Release
@@ -37,10 +42,17 @@ returns-in-Release c is event body of_it functions h here formed lock =
     record {
       running = running_joined functions h event c.well_formed_is_alternating.ensures formed c.args.call body c.args.self.now.running.entries c.insert.new.self.entries
           (joined_by c.args.self.now.running.entries c.insert.new.self.entries c.args.at c.args.process c.args.call c.in_ok-insert.ensures.updates.0 event of_it h here) lock.running;
-      sides = round (with_event h event) false c.begin-in-Release.new.self c.args.self.now.acquires c.args.self.now.held
-          (sides_joined functions h event c.args.call body alternates false c.args.self.now.releases c.begin-in-Release.new.self c.args.self.now.acquires c.args.self.now.held c.in-Release.is
-          (rw is at c.begin-in-Release.ensures.open ∙ ap (λ n. c.args.self.now.releases.open.items ++ n ∷ []) here) (ap (λ v. v.items) c.begin-in-Release.ensures.debts)
-          (round h true c.args.self.now.acquires c.args.self.now.releases c.args.self.now.held lock.sides));
+      sides = record {
+        sides = round (with_event h event) false c.begin-in-Release.new.self c.args.self.now.acquires c.args.self.now.held
+            (sides_joined functions h event c.args.call body alternates false c.args.self.now.releases c.begin-in-Release.new.self c.args.self.now.acquires c.args.self.now.held c.in-Release.is
+            (rw is at c.begin-in-Release.ensures.open ∙ ap (λ n. c.args.self.now.releases.open.items ++ n ∷ []) here) (ap (λ v. v.items) c.begin-in-Release.ensures.debts)
+            (round h true c.args.self.now.acquires c.args.self.now.releases c.args.self.now.held lock.sides.sides));
+        order = filled_round (with_event h event) false c.args.self.now.order.items c.begin-in-Release.new.self c.args.self.now.acquires c.args.self.now.held
+            (filled_joined functions h event c.args.call body alternates false c.args.self.now.order.items c.args.self.now.releases c.begin-in-Release.new.self c.args.self.now.acquires c.args.self.now.held c.in-Release.is
+            (rw is at c.begin-in-Release.ensures.open ∙ ap (λ n. c.args.self.now.releases.open.items ++ n ∷ []) here) (ap (λ v. v.items) c.begin-in-Release.ensures.debts)
+            (round h true c.args.self.now.acquires c.args.self.now.releases c.args.self.now.held lock.sides.sides)
+            (filled_round h true c.args.self.now.order.items c.args.self.now.acquires c.args.self.now.releases c.args.self.now.held lock.sides.order));
+      };
     }
 
 pub returns-in_default : goal.returns-in_default
@@ -49,5 +61,8 @@ returns-in_default c is event body of_it functions h here formed lock =
     record {
       running = running_joined functions h event c.well_formed_is_alternating.ensures formed c.args.call body c.args.self.now.running.entries c.insert.new.self.entries
           (joined_by c.args.self.now.running.entries c.insert.new.self.entries c.args.at c.args.process c.args.call c.in_ok-insert.ensures.updates.0 event of_it h here) lock.running;
-      sides = sides_beside functions h event c.args.call body alternates c.args.self.now.acquires c.args.self.now.releases c.args.self.now.held c.in_default.not-Acquire c.in_default.not-Release lock.sides;
+      sides = record {
+        sides = sides_beside functions h event c.args.call body alternates c.args.self.now.acquires c.args.self.now.releases c.args.self.now.held c.in_default.not-Acquire c.in_default.not-Release lock.sides.sides;
+        order = filled_beside functions h event c.args.call body alternates c.args.self.now.order.items c.args.self.now.acquires c.args.self.now.releases c.args.self.now.held lock.sides.sides lock.sides.order;
+      };
     }

@@ -43,13 +43,13 @@ returns-in-Done-clause-on c is event name body of_it functions h here formed loc
     record {
       running = subst (λ r. AreRunning (with_event h event) r) (ap (λ m. m.entries) (sym c.leave.ensures.running))
           (running_stays functions h event c.well_formed_is_alternating.ensures formed name (ok_completes event.body name c.args.reply.now body) c.args.self.now.running.entries lock.running);
-      sides = c.leave.ensures.on is functions h event name c.args.reply.now here body ending lock.sides;
+      sides = c.leave.ensures.on is functions h event name here (body ∙ ap (Returns name) c.in-Done.is) ending lock.sides;
     }
 
 pub returns-in-Done-clause-fails : goal.returns-in-Done-clause-fails
 returns-in-Done-clause-fails c is event name body of_it functions h here formed lock =
     let ending = ends_this c.well_formed_is_alternating.ensures functions h event formed name c.args.reply.now body c.args.process of_it c.args.self.now lock c.called.result c.called.ensures c.in-Some.running c.in-Some.is in
-    c.leave.ensures.down is functions h event name c.args.reply.now here body ending lock.sides
+    c.leave.ensures.down is functions h event name here (body ∙ ap (Returns name) c.in-Done.is) ending lock.sides
 
 pub returns-in_default-reply-clause-fails : goal.returns-in_default-reply-clause-fails
 returns-in_default-reply-clause-fails c is event name body of_it functions h here formed lock legal =

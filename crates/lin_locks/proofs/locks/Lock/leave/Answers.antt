@@ -1,4 +1,5 @@
 use Rattle.std.proofs.Common.{◌≡◌, true, false, sym, subst, inl, inr}
+use Rattle.lin_events.specs.declared.calls.Reply.TheVariants.{Done}
 use Rattle.lin_locks.specs.inner.Debts.{lock_call}
 use Rattle.lin_locks.specs.inner.Locks.{TurnsDown, TurnsOn}
 use Rattle.lin_locks.proofs.Knowing.{of_lock_call}
@@ -17,8 +18,8 @@ pub returns-in-Release-clause-down : goal.returns-in-Release-clause-down
 returns-in-Release-clause-down c is = subst (λ call. TurnsDown c.args.self.now call c.args.running.begin c.args.at) (sym c.in-Release.is) (c.turn-in-Release.ensures.down is)
 
 pub returns-in_default-clause-down : goal.returns-in_default-clause-down
-returns-in_default-clause-down c is functions h event name reply end body ending sides legal =
-    elim (of_lock_call functions h event c.well_formed_is_alternating.ensures name reply body c.args.running.begin c.args.running.call ending legal) [
+returns-in_default-clause-down c is functions h event name end body ending sides legal =
+    elim (of_lock_call functions h event c.well_formed_is_alternating.ensures name Done body c.args.running.begin c.args.running.call ending legal) [
       | inl acquires ↦ c.in_default.not-Acquire acquires
       | inr releases ↦ c.in_default.not-Release releases
     ]

@@ -2,6 +2,7 @@ use Rattle.std.proofs.Common.{◌≡◌, Bool, Ok, Result, refl}
 use Rattle.lin_events.specs.declared.lists.OutOfMemory.{OutOfMemory}
 use Rattle.lin_orders.specs.ConfigurationLaws.{with_event}
 use Rattle.lin_orders.specs.lemmas.Completing.{info_completes}
+use Rattle.lin_locks.proofs.Going.{filled_informed}
 use Rattle.lin_locks.proofs.Knowing.{running_stays}
 use Rattle.lin_locks.proofs.Siding.{sides_informed}
 use Rattle.lin_locks.proofs.locks.Lock.take_in.Goals as goal
@@ -30,5 +31,8 @@ returns-in-Info-clause-on c is functions h here formed lock =
     let alternates = (c.well_formed_is_alternating.ensures functions (with_event h c.args.event.now)).0 formed in
     record {
       running = running_stays functions h c.args.event.now c.well_formed_is_alternating.ensures formed _ (info_completes c.args.event.now.body _ c.in-Info.is) c.args.self.now.running.entries lock.running;
-      sides = sides_informed functions h c.args.event.now _ alternates c.in-Info.is c.args.self.now.acquires c.args.self.now.releases c.args.self.now.held lock.sides;
+      sides = record {
+        sides = sides_informed functions h c.args.event.now _ alternates c.in-Info.is c.args.self.now.acquires c.args.self.now.releases c.args.self.now.held lock.sides.sides;
+        order = filled_informed functions h c.args.event.now _ alternates c.in-Info.is c.args.self.now.order.items c.args.self.now.acquires c.args.self.now.releases c.args.self.now.held lock.sides.order;
+      };
     }
