@@ -5,7 +5,7 @@
 ghost use Rattle.lin_events.specs.declared.items.Item.{Item as ItemOf};
 ghost use Rattle.lin_events.specs.declared.calls.Name.{Name as NameOf};
 ghost use Rattle.lin_events.specs.WellFormed.{IsWellFormed};
-ghost use Rattle.std.specs.Prelude.{◌≡◌, ◌≢◌, ◌<◌, ◌≤◌, ◌⊎◌, ◌+◌, ◌*◌, ◌∷◌, ◌++◌, [], Bool, None, Ok, All, IfOk, IfSome, IsTrue, OnOk, length, take};
+ghost use Rattle.std.specs.Prelude.{◌≡◌, ◌≢◌, ◌<◌, ◌≤◌, ◌⊎◌, ◌+◌, ◌*◌, ◌∷◌, ◌++◌, [], Bool, None, Ok, All, IfNone, IfOk, IfSome, IsTrue, MatchOption, OnOk, length, take};
 ghost use Rattle.lin_events.specs.Meters.{ticked};
 ghost use Rattle.lin_objects.specs.declared.kinds.Kind.TheVariants.{Fifo, Mutex, Set};
 ghost use Rattle.lin_objects.specs.Kinds.{kind_of, same_for_all};
@@ -302,22 +302,6 @@ fn indebted(
     }
 }
 
-/// The event up to which what a lock's operations owe can't be paid, if they come to that.
-fn unpaid(alloc: Global, events: &[Event], meter: &mut Meter) -> Result<Option<usize>, OutOfMemory>
-    ensures inside { IfOk result (λ found. IfSome found (λ at. at < length events.now)) }
-    ensures refuted { (functions : ItemOf → NameOf → Bool) → IsWellFormed functions events.now → IfOk result (λ found. IfSome found (λ at. IsLinearizableAs Mutex (take (at + 1) events.now) → ⊥)) }
-    ensures counted { IfOk result (λ found. IfSome found (λ at. meter.new.steps ≡ ticked meter.old.steps (at + 1))) }
-    ensures least { meter.old.steps ≤ meter.new.steps }
-    ensures most { meter.new.steps ≤ meter.old.steps + length events.now }
-    ensures scans { meter.new.scans ≡ meter.old.scans }
-{
-    let Some(at) = lock_failure(alloc, events)? else {
-        return Ok(None);
-    };
-    tick_steps(meter, at + 1);
-    Ok(Some(at))
-}
-
 /// The event up to which an object of the kind has no legal order, if one is found.
 fn refuted(
     alloc: Global,
@@ -334,9 +318,24 @@ fn refuted(
 {
     match kind {
         Kind::Fifo => indebted(alloc, events, meter),
-        Kind::Mutex => unpaid(alloc, events, meter),
         _ => conflicting(alloc, kind, events, meter),
     }
+}
+
+/// The event at which a lock fails; none where it has a legal order.
+fn locked(alloc: Global, events: &[Event], meter: &mut Meter) -> Result<Option<usize>, OutOfMemory>
+    ensures inside { IfOk result (λ found. IfSome found (λ at. at < length events.now)) }
+    ensures dead { (functions : ItemOf → NameOf → Bool) → IsWellFormed functions events.now → IfOk result (λ found. MatchOption found (IsLinearizableAs Mutex events.now) (λ at. IsDeadAt Mutex events.now at)) }
+    ensures counted { IfOk result (λ found. IfSome found (λ at. meter.new.steps ≡ ticked meter.old.steps (at + 1))) }
+    ensures least { meter.old.steps ≤ meter.new.steps }
+    ensures most { meter.new.steps ≤ meter.old.steps + length events.now }
+    ensures scans { meter.new.scans ≡ meter.old.scans }
+{
+    let Some(at) = lock_failure(alloc, events)? else {
+        return Ok(None);
+    };
+    tick_steps(meter, at + 1);
+    Ok(Some(at))
 }
 
 /// The event at which an object of the kind fails, if one is found up to which it has no legal order, and a legal order of the events before it.
@@ -362,6 +361,23 @@ fn failing(
     Ok(Some(at))
 }
 
+/// The same of a lock's events at the places, with all steps counted.
+fn locked_of(
+    alloc: Global,
+    events: &[Event],
+    picks: &[usize],
+    meter: &mut Meter,
+) -> Result<Option<usize>, OutOfMemory>
+    ensures dead { (functions : ItemOf → NameOf → Bool) → IsWellFormed functions (events_at events.now picks.now) → IfOk result (λ found. MatchOption found (IsLinearizableAs Mutex (events_at events.now picks.now)) (λ at. IsDeadAt Mutex (events_at events.now picks.now) at)) }
+    ensures counted { IfOk result (λ found. IfSome found (λ at. meter.new.steps ≡ ticked meter.old.steps (length picks.now + (at + 1)))) }
+    ensures searched { IfOk result (λ found. ticked meter.old.steps (length picks.now) ≤ meter.new.steps) }
+    ensures steps { meter.new.steps ≤ meter.old.steps + 2 * length picks.now }
+    ensures scans { meter.new.scans ≡ meter.old.scans }
+{
+    let own = picked(alloc, events, picks, meter)?;
+    locked(alloc, own.as_slice(), meter)
+}
+
 /// The same of the events at the places, with all steps counted.
 fn failing_of(
     alloc: Global,
@@ -381,13 +397,13 @@ fn failing_of(
 }
 
 /// Which of the events at the places is the one at which the shortest beginning without a legal order ends, if one is found. It is right of well-formed
-/// events.
+/// events. Of a lock it is found exactly where there is one.
 ///
 /// Looked at are registers, queues, bags and locks. Takes time and memory linear in the events, apart from how many operations are open at a time.
 /// `OutOfMemory` is answered only where memory was refused.
 ///
 /// The search counts a step for each place. Where it finds an event, what shows that there is no legal order up to it counts one for each event up to and with it, and
-/// the order of those before it two for each: one for its search, and one for its check.
+/// but for locks the order of those before it two for each: one for its search, and one for its check.
 pub fn finds_failure(
     alloc: Global,
     kind: Kind,
@@ -396,16 +412,19 @@ pub fn finds_failure(
     meter: &mut Meter,
 ) -> Result<Option<usize>, OutOfMemory>
     ensures dead { (functions : ItemOf → NameOf → Bool) → IsWellFormed functions (events_at events.now picks.now) → IfOk result (λ found. IfSome found (λ at. IsDeadAt kind (events_at events.now picks.now) at)) }
-    ensures counted { IfOk result (λ found. IfSome found (λ at. meter.new.steps ≡ ticked meter.old.steps (length picks.now + (3 * at + 1)))) }
+    ensures decided { kind ≡ Mutex → (functions : ItemOf → NameOf → Bool) → IsWellFormed functions (events_at events.now picks.now) → IfOk result (λ found. IfNone found (IsLinearizableAs Mutex (events_at events.now picks.now))) }
+    ensures counted { kind ≢ Mutex → IfOk result (λ found. IfSome found (λ at. meter.new.steps ≡ ticked meter.old.steps (length picks.now + (3 * at + 1)))) }
+    ensures lock_counted { kind ≡ Mutex → IfOk result (λ found. IfSome found (λ at. meter.new.steps ≡ ticked meter.old.steps (length picks.now + (at + 1)))) }
     ensures searched { kind ≢ Set → IfOk result (λ found. ticked meter.old.steps (length picks.now) ≤ meter.new.steps) }
     ensures unsearched { kind ≡ Set → (result ≡ Ok None) × (meter.new ≡ meter.old) }
     ensures steps { meter.new.steps ≤ meter.old.steps + 4 * length picks.now }
     ensures scans { meter.new.scans ≡ meter.old.scans }
 {
     match kind {
-        Kind::Register | Kind::CasRegister | Kind::Fifo | Kind::Bag | Kind::Mutex => {
+        Kind::Register | Kind::CasRegister | Kind::Fifo | Kind::Bag => {
             failing_of(alloc, kind, events, picks, meter)
         }
+        Kind::Mutex => locked_of(alloc, events, picks, meter),
         Kind::Set => Ok(None),
     }
 }
