@@ -1,5 +1,5 @@
 -- Orders with places that are owed.
-use Rattle.std.proofs.Common.{◌≡◌, ◌≢◌, ◌<◌, ◌≤◌, ◌+◌, ℕ, zero, suc, Bool, true, false, cond, List, [], ◌∷◌, ◌++◌, ◌⊎◌, AllPairs, Contains, Option, Some, None, length, set, slice_get, get_or, nat_eq, inl, inr, refl, sym, ap, subst, ◌∙◌, arith}
+use Rattle.std.proofs.Common.{◌≡◌, ◌≢◌, ◌≤◌, ◌+◌, ℕ, zero, suc, cond, List, [], ◌∷◌, ◌++◌, ◌⊎◌, AllPairs, Contains, Option, Some, None, length, set, slice_get, get_or, nat_eq, inl, inr, refl, sym, ap, subst, ◌∙◌, arith}
 use Rattle.std.proofs.lemmas.List.Elements.{Contains-append_cases, Contains-append_left, Contains-append_right, Contains-get_or}
 use Rattle.std.proofs.lemmas.Bool.{cases_Bool}
 use Rattle.std.proofs.lemmas.Bool.Decides.{Decides-eqb}
@@ -8,15 +8,17 @@ use Rattle.lin_lists.specs.lemmas.Elements.{all_of, first_or_rest, nothing_in}
 use Rattle.lin_events.specs.declared.calls.Reply.TheVariants.{Done}
 use Rattle.lin_failures.specs.lemmas.Counting.{first_apart, pairs_rest}
 use Rattle.lin_orders.specs.declared.placed.Placed.{Placed}
-use Rattle.lin_locks.specs.declared.sides.Debt.{Debt}
 use Rattle.lin_locks.specs.inner.Fillings.{filled, paying}
 
 -- an operation that is done
 abbrev pub done : ℕ → Placed
 done at = record { at = at; reply = Done }
 
-same_some : {A : Type 0} {a b : A} → Some a ≡ Some b → a ≡ b
-same_some e = cc
+shift : (a b : ℕ) → suc a + b ≡ a + suc b
+shift a b = omega arith
+
+none : (a : ℕ) → a ≡ a + 0
+none a = omega arith
 
 -- what stands in a filled order
 pub in_filled : (pays : ℕ → ℕ) (order : List (Option ℕ)) (k : ℕ) (p : Placed) → Contains (filled pays k order) p
@@ -32,9 +34,6 @@ in_filled pays (Some at ∷ order) k p there = elim (first_or_rest (done at) (fi
     ],
   )
 ]
-  where
-    shift : (a b : ℕ) → suc a + b ≡ a + suc b
-    shift a b = omega arith
 in_filled pays (None ∷ order) k p there = elim (first_or_rest (done (pays k)) (filled pays (suc k) order) p there) [
   | inl same ↦ (0, inr (refl, sym (ap (λ (x : Placed). x.at) same) ∙ ap pays (none k)))
   | inr rest ↦ let found = in_filled pays order (suc k) p rest in (
@@ -45,31 +44,16 @@ in_filled pays (None ∷ order) k p there = elim (first_or_rest (done (pays k)) 
     ],
   )
 ]
-  where
-    shift : (a b : ℕ) → suc a + b ≡ a + suc b
-    shift a b = omega arith
-
-    none : (a : ℕ) → a ≡ a + 0
-    none a = omega arith
 
 -- what is owed stands there as it is paid
 pub paid_in : (pays : ℕ → ℕ) (order : List (Option ℕ)) (k j : ℕ) → slice_get order j ≡ Some None → Contains (filled pays k order) (done (pays (k + j)))
 paid_in pays [] k j there = absurd (let never = there in cc)
 paid_in pays (Some at ∷ order) k zero there = absurd (let never = there in cc)
 paid_in pays (None ∷ order) k zero there = (0, omega arith, ap (λ n. done (pays n)) (none k))
-  where
-    none : (a : ℕ) → a ≡ a + 0
-    none a = omega arith
 paid_in pays (Some at ∷ order) k (suc j) there =
     Contains-append_right (done at ∷ []) (filled pays (suc k) order) (done (pays (k + suc j))) (subst (λ n. Contains (filled pays (suc k) order) (done (pays n))) (shift k j) (paid_in pays order (suc k) j there))
-  where
-    shift : (a b : ℕ) → suc a + b ≡ a + suc b
-    shift a b = omega arith
 paid_in pays (None ∷ order) k (suc j) there =
     Contains-append_right (done (pays k) ∷ []) (filled pays (suc k) order) (done (pays (k + suc j))) (subst (λ n. Contains (filled pays (suc k) order) (done (pays n))) (shift k j) (paid_in pays order (suc k) j there))
-  where
-    shift : (a b : ℕ) → suc a + b ≡ a + suc b
-    shift a b = omega arith
 
 -- only the payments of its places count
 pub filled_same : (p q : ℕ → ℕ) (order : List (Option ℕ)) (k : ℕ) → ((n : ℕ) → k ≤ n → p n ≡ q n) → filled p k order ≡ filled q k order
@@ -86,17 +70,8 @@ filled_named pays (None ∷ order) k at = ap (λ l. done (pays k) ∷ l) (filled
 
 pub filled_owed : (pays : ℕ → ℕ) (order : List (Option ℕ)) (k : ℕ) → filled pays k (order ++ None ∷ []) ≡ filled pays k order ++ done (pays (k + length order)) ∷ []
 filled_owed pays [] k = ap (λ n. done (pays n) ∷ []) (none k)
-  where
-    none : (a : ℕ) → a ≡ a + 0
-    none a = omega arith
 filled_owed pays (Some x ∷ order) k = ap (λ l. done x ∷ l) (filled_owed pays order (suc k) ∙ ap (λ n. filled pays (suc k) order ++ done (pays n) ∷ []) (shift k (length order)))
-  where
-    shift : (a b : ℕ) → suc a + b ≡ a + suc b
-    shift a b = omega arith
 filled_owed pays (None ∷ order) k = ap (λ l. done (pays k) ∷ l) (filled_owed pays order (suc k) ∙ ap (λ n. filled pays (suc k) order ++ done (pays n) ∷ []) (shift k (length order)))
-  where
-    shift : (a b : ℕ) → suc a + b ≡ a + suc b
-    shift a b = omega arith
 
 -- one place is paid for good
 pub filled_paid : (p q : ℕ → ℕ) (order : List (Option ℕ)) (k s at : ℕ) → slice_get order s ≡ Some None → p (k + s) ≡ at → ((n : ℕ) → n ≢ k + s → p n ≡ q n) → filled p k order ≡ filled q k (set order s (Some at))
@@ -104,20 +79,11 @@ filled_paid p q [] k s at there is others = absurd (let never = there in cc)
 filled_paid p q (Some x ∷ order) k zero at there is others = absurd (let never = there in cc)
 filled_paid p q (None ∷ order) k zero at there is others =
     ap (λ n. done n ∷ filled p (suc k) order) (ap p (none k) ∙ is) ∙ ap (λ l. done at ∷ l) (filled_same p q order (suc k) (λ n past. others n (λ same. omega (arith, past, same))))
-  where
-    none : (a : ℕ) → a ≡ a + 0
-    none a = omega arith
 filled_paid p q (Some x ∷ order) k (suc s) at there is others =
     ap (λ l. done x ∷ l) (filled_paid p q order (suc k) s at there (ap p (shift k s) ∙ is) (λ n differ. others n (λ same. differ (same ∙ sym (shift k s)))))
-  where
-    shift : (a b : ℕ) → suc a + b ≡ a + suc b
-    shift a b = omega arith
 filled_paid p q (None ∷ order) k (suc s) at there is others =
     ap (λ n. done n ∷ filled p (suc k) order) (others k (λ same. omega (arith, same)))
     ∙ ap (λ l. done (q k) ∷ l) (filled_paid p q order (suc k) s at there (ap p (shift k s) ∙ is) (λ n differ. others n (λ same. differ (same ∙ sym (shift k s)))))
-  where
-    shift : (a b : ℕ) → suc a + b ≡ a + suc b
-    shift a b = omega arith
 
 module _ (pays : ℕ → ℕ) (slot at : ℕ) where
   pub paying_here : paying pays slot at slot ≡ at

@@ -1,5 +1,5 @@
 -- What one more event makes of the order that goes with a lock.
-use Rattle.std.proofs.Common.{◌≡◌, ◌≢◌, ◌<◌, ◌≤◌, ◌+◌, ℕ, zero, suc, Bool, true, false, not, List, [], ◌∷◌, ◌++◌, ◌⊎◌, AllPairs, Contains, Option, Some, None, length, set, filter, slice_get, inl, inr, refl, sym, ap, subst, ◌∙◌, arith}
+use Rattle.std.proofs.Common.{◌≡◌, ◌≢◌, ◌<◌, ◌+◌, ℕ, zero, suc, Bool, true, false, not, List, [], ◌∷◌, ◌++◌, ◌⊎◌, AllPairs, Contains, Option, Some, None, length, set, filter, slice_get, inl, inr, refl, sym, ap, subst, ◌∙◌, arith}
 use Rattle.std.proofs.lemmas.Bool.{cases_eq}
 use Rattle.std.proofs.lemmas.Option.{slice_get_within}
 use Rattle.std.proofs.lemmas.List.Elements.{Contains-append_cases, Contains-append_left, Contains-append_right, Contains-get_or, Contains-push, Contains-push_cases}
@@ -16,7 +16,7 @@ use Rattle.lin_events.specs.declared.events.Body.TheVariants.{Invoke, Ok, Fail, 
 use Rattle.lin_events.specs.declared.events.Event.{Event}
 use Rattle.lin_events.specs.Alternation.{IsAlternating}
 use Rattle.lin_events.specs.Operations.{IsFailed, IsOk, IsOpen, IsOperation}
-use Rattle.lin_events.specs.lemmas.OneMore.{alternates_before, ok_kept, one_call, one_open, open_other}
+use Rattle.lin_events.specs.lemmas.OneMore.{alternates_before, ok_kept, one_call, one_open}
 use Rattle.lin_objects.specs.declared.kinds.Kind.TheVariants.{Mutex}
 use Rattle.lin_objects.specs.declared.states.State.TheVariants.{Held}
 use Rattle.lin_objects.specs.Steps.{Step, start}

@@ -1,7 +1,6 @@
 -- The order that goes with a lock goes on with it, and is a legal one once its debts are paid.
-use Rattle.std.proofs.Common.{◌≡◌, ◌≢◌, ◌<◌, ◌≤◌, ◌+◌, ℕ, Bool, true, false, not, List, [], ◌∷◌, ◌++◌, ◌⊎◌, AllPairs, Contains, Option, Some, None, length, set, slice_get, inl, inr, refl, sym, ap, subst, ◌∙◌, arith}
+use Rattle.std.proofs.Common.{◌≡◌, ◌≢◌, ℕ, Bool, true, false, not, List, [], ◌∷◌, ◌++◌, ◌⊎◌, AllPairs, Contains, Option, Some, None, length, set, slice_get, inl, inr, refl, sym, subst, ◌∙◌, arith}
 use Rattle.std.specs.Bool.{if◌then◌else◌}
-use Rattle.std.proofs.lemmas.Option.{slice_get_within}
 use Rattle.std.proofs.lemmas.List.Elements.{Contains-push_cases}
 use Rattle.lin_lists.specs.lemmas.Elements.{nothing_in}
 use Rattle.lin_events.specs.declared.items.Item.{Item}
@@ -28,42 +27,29 @@ use Rattle.lin_locks.specs.declared.sides.Side.{Side}
 use Rattle.lin_locks.specs.inner.Debts.{lock_call}
 use Rattle.lin_locks.specs.inner.Fillings.{AreFilled, IsKept, IsLegalFilled, IsPayable, PayInTurn, filled, in_turn}
 use Rattle.lin_locks.specs.inner.Locks.{IsLock}
-use Rattle.lin_locks.specs.inner.Sides.{AreEarly, AreSides, IsClosed, IsGone, IsOwingAt, IsPaying, IsSide, IsStanding}
+use Rattle.lin_locks.specs.inner.Sides.{AreEarly, AreSides, IsGone, IsOwingAt, IsPaying, IsSide, IsStanding}
 use Rattle.lin_locks.proofs.Filling.{kept_named, kept_on, kept_owed, kept_paid, legal_failed, legal_informed, legal_invoked, legal_owes, legal_paid, legal_stands, ok_now}
 use Rattle.lin_locks.proofs.Lists.{from_removed, there_in}
 use Rattle.lin_locks.proofs.Payable.{other_left, payment_in_turn, turn_is, turn_joined, turn_leaves, turn_owed, turn_paid, turn_stands}
 use Rattle.lin_locks.proofs.Placing.{other_call}
 
 -- the same told of the other call first
+kept_round : (h : List Event) (order : List (Option ℕ)) (own other : List Debt) → IsKept h order own other → IsKept h order other own
+kept_round h order own other is = record {
+  own_places = is.other_places;
+  other_places = is.own_places;
+  own_once = is.other_once;
+  other_once = is.own_once;
+  apart = λ c d in_c in_d same. is.apart d c in_d in_c (sym same);
+  each = λ k there. elim (is.each k there) [ inl mine ↦ inr mine | inr theirs ↦ inl theirs ];
+  named = is.named;
+}
+
 pub filled_round : (h : List Event) (one : Bool) (order : List (Option ℕ)) (own other : Side) (lock : Bool) → AreFilled h one order own other lock → AreFilled h (not one) order other own lock
-filled_round h true order own other lock is = record {
-  kept = record {
-    own_places = is.kept.other_places;
-    other_places = is.kept.own_places;
-    own_once = is.kept.other_once;
-    other_once = is.kept.own_once;
-    apart = λ c d in_c in_d same. is.kept.apart d c in_d in_c (sym same);
-    each = λ k there. elim (is.kept.each k there) [ inl mine ↦ inr mine | inr theirs ↦ inl theirs ];
-    named = is.kept.named;
-  };
-  legal = λ pays first second. is.legal pays second first;
-  own_payable = is.other_payable;
-  other_payable = is.own_payable;
-}
-filled_round h false order own other lock is = record {
-  kept = record {
-    own_places = is.kept.other_places;
-    other_places = is.kept.own_places;
-    own_once = is.kept.other_once;
-    other_once = is.kept.own_once;
-    apart = λ c d in_c in_d same. is.kept.apart d c in_d in_c (sym same);
-    each = λ k there. elim (is.kept.each k there) [ inl mine ↦ inr mine | inr theirs ↦ inl theirs ];
-    named = is.kept.named;
-  };
-  legal = λ pays first second. is.legal pays second first;
-  own_payable = is.other_payable;
-  other_payable = is.own_payable;
-}
+filled_round h true order own other lock is =
+    record { kept = kept_round h order own.debts.items other.debts.items is.kept; legal = λ pays first second. is.legal pays second first; own_payable = is.other_payable; other_payable = is.own_payable }
+filled_round h false order own other lock is =
+    record { kept = kept_round h order own.debts.items other.debts.items is.kept; legal = λ pays first second. is.legal pays second first; own_payable = is.other_payable; other_payable = is.own_payable }
 
 -- before any event
 pub filled_begins : (own other : Side) → own.open.items ≡ [] → own.debts.items ≡ [] → other.open.items ≡ [] → other.debts.items ≡ [] → (order : List (Option ℕ)) → order ≡ [] → AreFilled [] true order own other false

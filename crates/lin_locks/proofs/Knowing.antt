@@ -1,5 +1,5 @@
 -- The operations that the processes called last, and what an ok tells of its operation.
-use Rattle.std.proofs.Common.{◌≡◌, ◌<◌, ◌+◌, ℕ, Bool, true, false, cond, List, [], ◌∷◌, ◌++◌, ◌⊎◌, Some, None, Option, Contains, length, nat_eq, inl, inr, refl, sym, ap, subst, ◌∙◌, arith}
+use Rattle.std.proofs.Common.{◌≡◌, ℕ, Bool, true, false, cond, List, ◌⊎◌, Some, Option, length, nat_eq, inl, inr, sym, ap, subst, ◌∙◌, arith}
 use Rattle.std.specs.Map.{lookup}
 use Rattle.std.proofs.lemmas.Bool.{cases_Bool}
 use Rattle.std.proofs.lemmas.Bool.Decides.{Decides-eqb}
@@ -21,7 +21,7 @@ use Rattle.lin_objects.specs.Steps.{Step, start}
 use Rattle.lin_orders.specs.Linearizable.{IsLinearizableAs}
 use Rattle.lin_orders.specs.ConfigurationLaws.{with_event}
 use Rattle.lin_orders.specs.lemmas.Ending.{ends}
-use Rattle.lin_orders.specs.lemmas.Opening.{open_back, open_beside, opens}
+use Rattle.lin_orders.specs.lemmas.Opening.{open_back, opens}
 use Rattle.lin_locks.specs.declared.locks.Running.{Running}
 use Rattle.lin_locks.specs.inner.Debts.{Config, IsOfLock, lock_call}
 use Rattle.lin_locks.specs.inner.Locks.{AreRunning, IsEnding}

@@ -1,5 +1,5 @@
 -- What is owed and how it is balanced after a completion.
-use Rattle.std.proofs.Common.{◌≡◌, ◌≢◌, ◌<◌, ◌≤◌, ◌+◌, ℕ, Bool, true, false, not, List, [], ◌∷◌, ◌++◌, ◌⊎◌, All, Contains, Some, length, slice_get, inl, inr, refl, sym, ap, subst, ◌∙◌, arith}
+use Rattle.std.proofs.Common.{◌≡◌, ◌≢◌, ◌<◌, ◌≤◌, ◌+◌, ℕ, Bool, true, false, not, List, [], ◌∷◌, ◌++◌, All, Some, length, slice_get, inl, inr, sym, ap, subst, ◌∙◌, arith}
 use Rattle.std.proofs.lemmas.List.Elements.{All-contains}
 use Rattle.std.proofs.lemmas.List.{length_push}
 use Rattle.lin_lists.specs.lemmas.Elements.{last_of}
@@ -13,7 +13,7 @@ use Rattle.lin_locks.specs.declared.sides.Debt.{Debt}
 use Rattle.lin_locks.specs.inner.Debts.{AreAll, AreOwed, AreRising, Config, IsBalanced, IsOfLock, IsPaid, IsPlacedOpen, agrees, lock_call}
 use Rattle.lin_locks.proofs.Lists.{all_map, beside_one, least_fits, least_map, least_of_list, least_without, there_in, without}
 use Rattle.lin_locks.proofs.Passing.{AreLess, AreSame, IsLess}
-use Rattle.lin_locks.proofs.Placing.{agrees_other, agrees_same, other_call}
+use Rattle.lin_locks.proofs.Placing.{agrees_same, other_call}
 
 -- the operations that are placed early enough to pay a debt
 abbrev IsEarly : List Event → Config → Call → ℕ → ℕ → Type 0

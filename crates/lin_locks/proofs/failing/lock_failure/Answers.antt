@@ -1,37 +1,15 @@
-use Rattle.std.proofs.Common.{◌≡◌, ◌<◌, ◌+◌, Bool, Ok, take, sym, ap, subst, ◌∙◌, arith}
-use Rattle.std.proofs.lemmas.List.{length-take-le, take_all}
-use Rattle.lin_events.specs.declared.calls.Name.{Name}
-use Rattle.lin_events.specs.declared.items.Item.{Item}
-use Rattle.lin_events.specs.WellFormed.{IsWellFormed}
+use Rattle.std.proofs.Common.{Ok, sym, ap, subst, ◌∙◌}
+use Rattle.std.specs.Prelude.{IfOk, MatchOption}
 use Rattle.lin_objects.specs.declared.kinds.Kind.TheVariants.{Mutex}
-use Rattle.lin_orders.specs.Linearizable.{IsLinearizableAs}
-use Rattle.lin_orders.specs.lemmas.Lists.{take_more}
-use Rattle.lin_locks.specs.inner.Locks.{IsLock}
+use Rattle.lin_orders.specs.Linearizable.{IsDeadAt, IsLinearizableAs}
 use Rattle.lin_locks.proofs.Going.{lock_is_linearizable}
+use Rattle.lin_locks.proofs.failing.lock_failure.Goals.{in-Stands, in-Fails}
 use Rattle.lin_locks.proofs.failing.lock_failure.Goals as goal
 
-pub returns-then-not-branch-clause-dead : goal.returns-then-not-branch-clause-dead
-returns-then-not-branch-clause-dead c = λ functions formed.
-    let events = c.args.events.now in
-    let here = c.loop-at.at in
-    let more = take_more events here c.index-events-at.result c.loop-at-test.true c.index-events-at.is in
-    let first = subst (IsWellFormed functions) more (c.beginnings_are_well_formed.ensures functions events (here + 1) formed) in
-    let inside = c.loop-at-test.true in
-    record {
-      before = lock_is_linearizable c.loop-at.lock (take here events) (c.loop-at.invariant functions formed);
-      failing = λ legal. c.take_in.ensures.fails (c.in_ok-take_in.was ∙ ap Ok c.if-not-branch.true) functions (take here events) (sym (length-take-le here events (omega (arith, inside)))) first (c.loop-at.invariant functions formed)
-          (subst (IsLinearizableAs Mutex) more legal);
-    }
-
-pub loop-at-preserved : goal.loop-at-preserved
-loop-at-preserved c = λ functions formed.
-    let events = c.args.events.now in
-    let here = c.loop-at.at in
-    let more = take_more events here c.index-events-at.result c.loop-at-test.true c.index-events-at.is in
-    let first = subst (IsWellFormed functions) more (c.beginnings_are_well_formed.ensures functions events (here + 1) formed) in
-    let inside = c.loop-at-test.true in
-    subst (IsLock c.take_in.new.self) (sym more)
-    (c.take_in.ensures.on (c.in_ok-take_in.was ∙ ap Ok c.if-not-branch.false) functions (take here events) (sym (length-take-le here events (omega (arith, inside)))) first (c.loop-at.invariant functions formed))
-
 pub returns-clause-dead : goal.returns-clause-dead
-returns-clause-dead c = λ functions formed. subst (IsLinearizableAs Mutex) (take_all c.loop-at.at c.args.events.now c.loop-at-test.false) (lock_is_linearizable c.loop-at.lock (take c.loop-at.at c.args.events.now) (c.loop-at.invariant functions formed))
+returns-clause-dead c functions formed = elim c.match-branch-2.branch [
+  | in-Stands w ↦ subst (λ r. IfOk r (λ found. MatchOption found (IsLinearizableAs Mutex c.args.events.now) (λ at. IsDeadAt Mutex c.args.events.now at))) (sym w.result-is)
+      (lock_is_linearizable w.in-Stands.field-0 c.args.events.now (c.followed.ensures.stands w.in-Stands.field-0 (c.in_ok-at.was ∙ ap Ok w.in-Stands.is) functions formed))
+  | in-Fails w ↦ subst (λ r. IfOk r (λ found. MatchOption found (IsLinearizableAs Mutex c.args.events.now) (λ at. IsDeadAt Mutex c.args.events.now at))) (sym w.result-is)
+      (c.followed.ensures.fails w.in-Fails.at (c.in_ok-at.was ∙ ap Ok w.in-Fails.is) functions formed)
+]

@@ -1,4 +1,4 @@
-use Rattle.std.proofs.Common.{◌≡◌, ◌<◌, ◌∷◌, ◌++◌, [], None, Some, Ok, length, refl, sym, ap, subst, ◌∙◌, arith}
+use Rattle.std.proofs.Common.{◌<◌, ◌∷◌, ◌++◌, [], Some, Ok, length, refl, sym, ap, subst, ◌∙◌, arith}
 use Rattle.lin_locks.specs.declared.sides.Side.{Side}
 use Rattle.lin_locks.specs.inner.Sides.{IsOwingAt}
 use Rattle.lin_locks.proofs.locks.turned.Goals.{then-not-returned+in_ok-push+in_ok-owe+else-not-branch, else-not-returned}

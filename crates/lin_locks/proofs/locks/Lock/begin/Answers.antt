@@ -1,14 +1,9 @@
-use Rattle.std.proofs.Common.{◌≡◌, ◌∷◌, ◌++◌, [], ℕ, Bool, true, false, List, Some, cond, length, nat_eq, sym, ap, subst, ◌∙◌}
+use Rattle.std.proofs.Common.{◌≡◌, ◌∷◌, ◌++◌, [], ℕ, true, false, List, Some, cond, length, nat_eq, sym, ap, ◌∙◌}
 use Rattle.std.specs.Map.{lookup}
-use Rattle.lin_events.specs.declared.items.Item.{Item}
 use Rattle.lin_events.specs.declared.calls.Call.{Call}
-use Rattle.lin_events.specs.declared.calls.Name.{Name}
-use Rattle.lin_events.specs.declared.events.Body.TheVariants.{Invoke}
 use Rattle.lin_events.specs.declared.events.Event.{Event}
-use Rattle.lin_events.specs.WellFormed.{IsWellFormed}
 use Rattle.lin_orders.specs.ConfigurationLaws.{with_event}
 use Rattle.lin_locks.specs.declared.locks.Running.{Running}
-use Rattle.lin_locks.specs.inner.Locks.{AreRunning}
 use Rattle.lin_locks.proofs.Going.{filled_beside, filled_joined, filled_round}
 use Rattle.lin_locks.proofs.Knowing.{running_joined}
 use Rattle.lin_locks.proofs.Siding.{round, sides_beside, sides_joined}

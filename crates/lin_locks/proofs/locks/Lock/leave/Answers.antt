@@ -1,6 +1,5 @@
-use Rattle.std.proofs.Common.{◌≡◌, true, false, sym, subst, inl, inr}
+use Rattle.std.proofs.Common.{sym, subst, inl, inr}
 use Rattle.lin_events.specs.declared.calls.Reply.TheVariants.{Done}
-use Rattle.lin_locks.specs.inner.Debts.{lock_call}
 use Rattle.lin_locks.specs.inner.Locks.{TurnsDown, TurnsOn}
 use Rattle.lin_locks.proofs.Knowing.{of_lock_call}
 use Rattle.lin_locks.proofs.locks.Lock.leave.Goals as goal

@@ -1,4 +1,4 @@
-use Rattle.std.proofs.Common.{◌<◌, [], arith}
+use Rattle.std.proofs.Common.{[], arith}
 use Rattle.std.proofs.lemmas.Option.{slice_get_within}
 use Rattle.lin_locks.proofs.Going.{filled_begins}
 use Rattle.lin_locks.proofs.Siding.{sides_begin}
