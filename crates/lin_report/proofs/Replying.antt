@@ -46,14 +46,14 @@ stands_on keyed before now old names follow left more stands = record {
 
 -- a command that reads no file is done where it is replied to
 done_by : (keyed : Bool) (command : Command) (before : RunState) (now new : Present) (text : List ℕ) (status : Option Status) → now ≡ before.present
-    → IsCommandReply before.names command now new text status → IsDone keyed command before (record before { present = new }) text status
-done_by keyed (Edit edit) before now new text status same reply = (new, subst (λ p. IsCommandReply before.names (Edit edit) p new text status) same reply, refl)
-done_by keyed Skipped before now new text status same reply = (new, subst (λ p. IsCommandReply before.names Skipped p new text status) same reply, refl)
-done_by keyed (Ask scope) before now new text status same reply = (new, subst (λ p. IsCommandReply before.names (Ask scope) p new text status) same reply, refl)
-done_by keyed (Order scope) before now new text status same reply = (new, subst (λ p. IsCommandReply before.names (Order scope) p new text status) same reply, refl)
-done_by keyed Report before now new text status same reply = (new, subst (λ p. IsCommandReply before.names Report p new text status) same reply, refl)
-done_by keyed (Refute key) before now new text status same reply = (new, subst (λ p. IsCommandReply before.names (Refute key) p new text status) same reply, refl)
-done_by keyed (Explain scope) before now new text status same reply = (new, subst (λ p. IsCommandReply before.names (Explain scope) p new text status) same reply, refl)
+    → IsCommandReply before.names keyed command now new text status → IsDone keyed command before (record before { present = new }) text status
+done_by keyed (Edit edit) before now new text status same reply = (new, subst (λ p. IsCommandReply before.names keyed (Edit edit) p new text status) same reply, refl)
+done_by keyed Skipped before now new text status same reply = (new, subst (λ p. IsCommandReply before.names keyed Skipped p new text status) same reply, refl)
+done_by keyed (Ask scope) before now new text status same reply = (new, subst (λ p. IsCommandReply before.names keyed (Ask scope) p new text status) same reply, refl)
+done_by keyed (Order scope) before now new text status same reply = (new, subst (λ p. IsCommandReply before.names keyed (Order scope) p new text status) same reply, refl)
+done_by keyed Report before now new text status same reply = (new, subst (λ p. IsCommandReply before.names keyed Report p new text status) same reply, refl)
+done_by keyed (Refute key) before now new text status same reply = (new, subst (λ p. IsCommandReply before.names keyed (Refute key) p new text status) same reply, refl)
+done_by keyed (Explain scope) before now new text status same reply = (new, subst (λ p. IsCommandReply before.names keyed (Explain scope) p new text status) same reply, refl)
 done_by keyed Pull before now new text status same reply = elim reply [ ]
 
 -- a line of which so much is held, read by these names, which are more than those before
@@ -89,7 +89,7 @@ module _ (keyed : Bool) (held line : List ℕ) (is : held ≡ take (longest_line
   command_said after text status command read done = (names, grown, Ok (Some command), said_by (Ok (Some command)) (λ e. cc) read, done)
 
   pub plainly_said : (new : Present) (text : List ℕ) (status : Option Status) (command : Command) → IsReadBy keyed names held (Ok (Some command))
-      → IsCommandReply names command now new text status → (end : RunState) × StandsAt keyed end new names follow left × IsReply keyed before line end text status
+      → IsCommandReply names keyed command now new text status → (end : RunState) × StandsAt keyed end new names follow left × IsReply keyed before line end text status
   plainly_said new text status command read reply =
       let there = stands_there in (
         record before { present = new; names = names },

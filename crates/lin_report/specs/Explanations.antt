@@ -1,5 +1,5 @@
 -- What is right to tell of why an answer is what it is.
-use Rattle.std.specs.Prelude.{◌≡◌, ◌-◌, ◌++◌, ◌⊎◌, ℕ, List, Option, Some, None, Result, codes, count_by, decimal, length, nat_eq, option_map, take}
+use Rattle.std.specs.Prelude.{◌≡◌, ◌-◌, ◌++◌, ◌⊎◌, ℕ, Bool, false, List, Option, Some, None, Result, codes, count_by, decimal, length, nat_eq, option_map, take}
 use Rattle.std.specs.Io.KnownBytes.{IsAtEnd}
 use Rattle.lin_events.specs.declared.events.Event.{Event}
 use Rattle.lin_events.specs.declared.items.Item.{Item}
@@ -46,6 +46,10 @@ abbrev pub key_of : Scope → Option Item
 key_of (Object key) = Some key
 key_of Whole = None
 
+-- what a command asks: a yes is told without its order
+abbrev pub asked_by : Bool → Scope → Asked
+asked_by keyed scope = record { key = key_of scope; with_order = false; keyed = keyed }
+
 -- with these spellings of words
 module _ (names : List (List ℕ)) where
   -- An explanation: the answer's line, and those that explain it; or one line of JSON, which has this text as well.
@@ -65,8 +69,8 @@ module _ (names : List (List ℕ)) where
     pub status_is : status ≡ answer_status (verdict_of answer)
 
   -- the reply to a command: how many lines follow, and they; events that come by commands have no places
-  abbrev pub IsExplainReply : Present → Scope → List ℕ → Option Status → Type 0
-  IsExplainReply now scope reply status = (text : List ℕ) × (found : Status) × (asked : Asked) × (asked.key ≡ key_of scope) × IsExplanation Text now asked None text found
+  abbrev pub IsExplainReply : Bool → Present → Scope → List ℕ → Option Status → Type 0
+  IsExplainReply keyed now scope reply status = (text : List ℕ) × (found : Status) × IsExplanation Text now (asked_by keyed scope) None text found
       × (reply ≡ codes "explained " ++ decimal (line_count text) ++ codes "\n" ++ text) × (status ≡ Some found)
 
 -- the line that refuses a file, the one that tells where and why, and a hint if there is one

@@ -94,17 +94,17 @@ module _ (names : List (List ℕ)) where
 
   -- What a command that reads no file makes of the present state, what is written, and the status where that is an answer. Each
   -- answer may be any that is right.
-  abbrev pub IsCommandReply : Command → Present → Present → List ℕ → Option Status → Type 0
-  IsCommandReply (Edit edit) before after text status = IsEditReply edit before after text × (status ≡ None)
-  IsCommandReply Skipped before after text status = (after ≡ before) × (text ≡ codes "skipped\n") × (status ≡ None)
-  IsCommandReply (Ask scope) before after text status = (after ≡ before) × (verdict : Verdict) × IsVerdict before scope verdict
+  abbrev pub IsCommandReply : Bool → Command → Present → Present → List ℕ → Option Status → Type 0
+  IsCommandReply keyed (Edit edit) before after text status = IsEditReply edit before after text × (status ≡ None)
+  IsCommandReply keyed Skipped before after text status = (after ≡ before) × (text ≡ codes "skipped\n") × (status ≡ None)
+  IsCommandReply keyed (Ask scope) before after text status = (after ≡ before) × (verdict : Verdict) × IsVerdict before scope verdict
       × (text ≡ answer_text verdict ++ codes "\n") × (status ≡ Some (answer_status verdict))
-  IsCommandReply (Order scope) before after text status = (after ≡ before) × (answer : Answer) × IsAnswer before scope answer
+  IsCommandReply keyed (Order scope) before after text status = (after ≡ before) × (answer : Answer) × IsAnswer before scope answer
       × (text ≡ order_answer_text answer ++ codes "\n") × (status ≡ Some (answer_status (verdict_of answer)))
-  IsCommandReply Report before after text status = (after ≡ before) × (whole : Status) × IsReport names Text before text whole × (status ≡ Some whole)
-  IsCommandReply (Refute key) before after text status = (after ≡ before) × IsRefuteReply before key text status
-  IsCommandReply (Explain scope) before after text status = (after ≡ before) × IsExplainReply names before scope text status
-  IsCommandReply Pull before after text status = ⊥
+  IsCommandReply keyed Report before after text status = (after ≡ before) × (whole : Status) × IsReport names Text before text whole × (status ≡ Some whole)
+  IsCommandReply keyed (Refute key) before after text status = (after ≡ before) × IsRefuteReply before key text status
+  IsCommandReply keyed (Explain scope) before after text status = (after ≡ before) × IsExplainReply names keyed before scope text status
+  IsCommandReply keyed Pull before after text status = ⊥
 
 -- why the file is refused, if it is; an element that is unfinished waits
 abbrev pub refusal_in : Result (Unit {0}) FollowFault → Option Refusal
@@ -164,7 +164,7 @@ abbrev pub IsDone : Bool → Command → RunState → RunState → List ℕ → 
 IsDone keyed Pull before after text status = (refused : Option Refusal) × IsPull keyed before after refused
     × (text ≡ pull_text refused (length after.present.history)) × (status ≡ None)
 IsDone keyed command before after text status =
-    (present : Present) × IsCommandReply before.names command before.present present text status × (after ≡ record before { present = present })
+    (present : Present) × IsCommandReply before.names keyed command before.present present text status × (after ≡ record before { present = present })
 
 -- the same behind what a line says: nothing, a command, or why it is refused
 abbrev pub IsSaidDone : Bool → Result (Option Command) CommandFault → RunState → RunState → List ℕ → Option Status → Type 0

@@ -147,7 +147,7 @@ pub fn explain_reply(
     names: &Names,
     scope: Scope,
 ) -> Result<Reply, OutOfMemory>
-    ensures { IfOk result (λ reply. IsCommandReply names.now (command.Explain scope) session.old.present session.new.present reply.text.items reply.status) }
+    ensures { IfOk result (λ reply. IsCommandReply names.now keyed (command.Explain scope) session.old.present session.new.present reply.text.items reply.status) }
 {
     let asked = Asked {
         key: key_of(scope),

@@ -1,5 +1,5 @@
 //! The reply to `refute`: a refutation is made, and told only once it is checked.
-ghost use Rattle.std.specs.Prelude.{◌≡◌, ◌≤◌, ◌-◌, ◌++◌, ℕ, List, IfOk, MatchOption, codes, decimal, length, take};
+ghost use Rattle.std.specs.Prelude.{◌≡◌, ◌≤◌, ◌-◌, ◌++◌, ℕ, Bool, List, IfOk, MatchOption, codes, decimal, length, take};
 ghost use Rattle.lin_events.specs.WellFormed.{IsWellFormed};
 ghost use Rattle.lin_objects.specs.Kinds.{functions_of};
 ghost use Rattle.lin_orders.specs.Linearizable.{IsLinearizableFor};
@@ -82,7 +82,7 @@ fn checked(
 
 /// A refutation of the object, or its answer where that isn't a no.
 pub fn refute(alloc: Global, session: &mut Session, key: Item) -> Result<Reply, OutOfMemory>
-    ensures { IfOk result (λ reply. (names : List (List ℕ)) → IsCommandReply names (Command.Refute key) session.old.present session.new.present reply.text.items reply.status) }
+    ensures { IfOk result (λ reply. (names : List (List ℕ)) (keyed : Bool) → IsCommandReply names keyed (Command.Refute key) session.old.present session.new.present reply.text.items reply.status) }
 {
     answers_are_verdicts();
     match session.refute(alloc, key) {

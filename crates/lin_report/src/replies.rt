@@ -1,5 +1,5 @@
 //! The replies to commands that read no file.
-ghost use Rattle.std.specs.Prelude.{◌≡◌, ◌≢◌, ◌++◌, ℕ, List, None, Some, IfOk, codes};
+ghost use Rattle.std.specs.Prelude.{◌≡◌, ◌≢◌, ◌++◌, ℕ, Bool, List, None, Some, IfOk, codes};
 ghost use Rattle.lin_report.specs.Reports.{answer_status, answer_text};
 ghost use Rattle.lin_report.specs.Runs.{IsCommandReply, IsEditReply, order_answer_text};
 ghost use Rattle.lin_report.specs.Runs as said;
@@ -99,7 +99,7 @@ pub fn answered(alloc: Global, verdict: Verdict) -> Result<Reply, OutOfMemory>
 
 /// What is found for the scope.
 fn ask(alloc: Global, session: &mut Session, scope: Scope) -> Result<Reply, OutOfMemory>
-    ensures { IfOk result (λ reply. (names : List (List ℕ)) → IsCommandReply names (Command.Ask scope) session.old.present session.new.present reply.text.items reply.status) }
+    ensures { IfOk result (λ reply. (names : List (List ℕ)) (keyed : Bool) → IsCommandReply names keyed (Command.Ask scope) session.old.present session.new.present reply.text.items reply.status) }
 {
     let verdict = session.ask(alloc, scope)?;
     answered(alloc, verdict)
@@ -130,7 +130,7 @@ fn order(
     names: &Names,
     scope: Scope,
 ) -> Result<Reply, OutOfMemory>
-    ensures { IfOk result (λ reply. IsCommandReply names.now (Command.Order scope) session.old.present session.new.present reply.text.items reply.status) }
+    ensures { IfOk result (λ reply. (keyed : Bool) → IsCommandReply names.now keyed (Command.Order scope) session.old.present session.new.present reply.text.items reply.status) }
 {
     let answer = session.order(alloc, scope)?;
     let mut text = order_words(alloc, names, &answer)?;
@@ -143,7 +143,7 @@ fn order(
 
 /// What is found of all objects.
 fn report(alloc: Global, session: &mut Session, names: &Names) -> Result<Reply, OutOfMemory>
-    ensures { IfOk result (λ reply. IsCommandReply names.now Command.Report session.old.present session.new.present reply.text.items reply.status) }
+    ensures { IfOk result (λ reply. (keyed : Bool) → IsCommandReply names.now keyed Command.Report session.old.present session.new.present reply.text.items reply.status) }
 {
     let mut text = Vec::new(alloc);
     let status = write_report(alloc, session, names, &mut text)?;
@@ -162,7 +162,7 @@ pub fn reply_to(
     command: Command,
 ) -> Result<Reply, OutOfMemory>
     requires { command ≢ Command.Pull }
-    ensures { IfOk result (λ reply. IsCommandReply names.now command session.old.present session.new.present reply.text.items reply.status) }
+    ensures { IfOk result (λ reply. IsCommandReply names.now keyed command session.old.present session.new.present reply.text.items reply.status) }
 {
     match command {
         Command::Edit(edit) => Ok(Reply::plain(make(alloc, session, edit)?)),

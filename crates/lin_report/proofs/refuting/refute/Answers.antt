@@ -16,7 +16,7 @@ checked-requires-clause-well_formed c =
     subst (λ (now : Present). IsWellFormed (functions_of (kinds_in now)) now.history) (sym c.refute.ensures.present) told.0.0
 
 pub returns-in-Some : goal.returns-in-Some
-returns-in-Some c = λ names.
+returns-in-Some c = λ names keyed.
     let text = c.in-Some.reply.text.items in
     let status = c.in-Some.reply.status in
     let told = rw c.in-Some.is at c.in_ok-reply-in-Ok-No.ensures in (
@@ -25,7 +25,7 @@ returns-in-Some c = λ names.
     )
 
 pub returns-in_ok-text-in-Err-TooLarge : goal.returns-in_ok-text-in-Err-TooLarge
-returns-in_ok-text-in-Err-TooLarge c = λ names.
+returns-in_ok-text-in-Err-TooLarge c = λ names keyed.
     let now = c.args.session.now.present in
     let large = rw c.in-Err-TooLarge.field-0-is at c.in-Err-TooLarge.ensures.unrefuted in
     let verdict = c.answers_are_verdicts.ensures now (Object c.args.key) (No large.0.0) large.0.1 in
@@ -37,5 +37,5 @@ returns-in-Ok-Not c =
     let found = c.in-Ok-Not.answer in
     let told = rw c.in-Ok-Not.field-0-is at c.in-Ok-Not.ensures.refuted in
     let verdict = c.answers_are_verdicts.ensures now (Object c.args.key) found told.0 in
-    if_ok c.answered.result (λ reply is names. (c.refute.ensures.present, inr (inl (verdict_of found, verdict, never_no found told.1, is.0, is.1))))
+    if_ok c.answered.result (λ reply is names keyed. (c.refute.ensures.present, inr (inl (verdict_of found, verdict, never_no found told.1, is.0, is.1))))
     (rw c.verdict_of.ensures at c.answered.ensures)
