@@ -21,7 +21,6 @@ KINDS = ['register', 'cas-register', 'fifo', 'set', 'mutex', 'unordered-queue']
 NAMES = {'register': ['read', 'write'], 'cas-register': ['read', 'write', 'cas'], 'fifo': ['enqueue', 'dequeue'],
          'set': ['read', 'add'], 'mutex': ['acquire', 'release'], 'unordered-queue': ['enqueue', 'dequeue']}
 CAUSES = ['RetiredProcess', 'BusyProcess', 'NotOfKind', 'NoInvocation', 'OtherCall', 'OtherKey']
-WIDE_KINDS = [kind for kind in KINDS if kind != 'mutex']
 # So many configurations of an object are listed. Wide scripts make no edit that leads to more, and their budgets are far below.
 LARGE = 30000
 START = {'register': None, 'cas-register': None, 'fifo': (), 'set': frozenset(), 'mutex': False, 'unordered-queue': ()}
@@ -529,7 +528,7 @@ def main():
     right = wrong = 0
     for number in range(scripts + scripts // 15):
         draw = random.Random(seed * 1000003 + number)
-        script = Script(draw) if number < scripts else WideScript(draw, WIDE_KINDS[number % len(WIDE_KINDS)])
+        script = Script(draw) if number < scripts else WideScript(draw, KINDS[number % len(KINDS)])
         for _ in range(30 if number < scripts else 60):
             script.command()
         said = subprocess.run([program] + script.words, input='\n'.join(script.lines) + '\n', capture_output=True, text=True).stdout.splitlines()
