@@ -1,7 +1,7 @@
 #!/usr/bin/env bash
-# Measures `lincheck check` beside `verify FILE empty`, which only reads, and md5sum, on generated histories: one register with five
-# clients, and 100 registers, one for each key, with 50 clients. It prints a table: processor seconds (user and system), the least of three
-# rounds; the most memory that `check` held, in times the file (ulimit -v, so address space, less 16 MiB); and instructions an event
+# Measures `lincheck check` beside `verify FILE empty`, which only reads, md5sum, and the best plain algorithm that we know, with nothing
+# proved (plain.cpp, by g++ -O2), on generated histories: one register with five clients, and 100 registers, one for each key, with 50
+# clients. It prints a table: processor seconds (user and system), the least of three rounds; the most memory that `check` held, in times the file (ulimit -v, so address space, less 16 MiB); and instructions an event
 # (valgrind --tool=callgrind, on the first 10,000 events) that `check` takes beyond `verify`.
 # usage: bench/check.sh [EVENTS..]   (default 10000 100000 1000000)
 set -eu
@@ -65,19 +65,21 @@ held() { # the program's words: the least whole number of times the file within 
 }
 
 line() { # name, then words beside the file
-    local name=$1 sum reading checking more few=$folder/few.edn
+    local name=$1 sum reading checking plain more few=$folder/few.edn
     shift
     sum=$(seconds md5sum "$file")
     reading=$(seconds "$program" verify "$@" "$file" empty)
     checking=$(seconds "$program" check "$@" "$file")
+    plain=$(seconds "$folder/plain" "$@" "$file")
     head -n 10000 "$file" > "$few"
     more=$(( $(instructions "$program" check "$@" "$few") - $(instructions "$program" verify "$@" "$few" empty) ))
     "$program" check "$@" "$file" > "$folder/printed"
-    echo "| $name | $sum | $reading | $checking | $(held check "$@" "$file") | $((more / $(wc -l < "$few"))) | $(tail -n 1 "$folder/printed") |"
+    echo "| $name | $sum | $reading | $checking | $plain | $(held check "$@" "$file") | $((more / $(wc -l < "$few"))) | $(tail -n 1 "$folder/printed") |"
 }
 
-echo "| history | md5sum s | verify s | check s | memory, times the file | instructions an event, beyond reading | prints |"
-echo "|---|---|---|---|---|---|---|"
+g++ -std=c++20 -O2 -o "$folder/plain" "$here/plain.cpp"
+echo "| history | md5sum s | verify s | check s | plain s | memory, times the file | instructions an event, beyond reading | prints |"
+echo "|---|---|---|---|---|---|---|---|"
 file=$folder/history.edn
 for events in "$@"; do
     "$here/generate.sh" "$events" > "$file"
