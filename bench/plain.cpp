@@ -11,6 +11,8 @@
 #include <ctime>
 #include <string>
 #include <string_view>
+#include <unordered_set>
+#include <utility>
 #include <vector>
 
 using Value = int64_t;
@@ -33,13 +35,26 @@ struct Configuration {
     bool operator==(const Configuration &) const = default;
 };
 
+struct Hash {
+    size_t operator()(const Configuration &one) const {
+        return ((one.placed ^ (one.placed >> 31)) * 0x9e3779b97f4a7c15 + one.value) * 0xbf58476d1ce4e5b9 >> 7;
+    }
+};
+
 struct Register {
     uint64_t reads = 0, writes = 0;
     Value values[64];
     std::vector<Configuration> all{{0, NIL}}, next;
+    std::unordered_set<Configuration, Hash> known;
 
-    static void add(std::vector<Configuration> &to, Configuration one) {
-        if (std::find(to.begin(), to.end(), one) == to.end()) to.push_back(one);
+    // (few are compared one by one)
+    void add(Configuration one) {
+        if (all.size() < 16) {
+            if (std::find(all.begin(), all.end(), one) == all.end()) all.push_back(one);
+            return;
+        }
+        if (known.empty()) known.insert(all.begin(), all.end());
+        if (known.insert(one).second) all.push_back(one);
     }
 
     Configuration with_reads(Configuration one) const {
@@ -62,14 +77,15 @@ struct Register {
         for (size_t at = 0; at < all.size(); at++) {
             const Configuration one = all[at];
             if (one.placed & bit) {
-                add(next, {one.placed & ~bit, one.value});
+                next.push_back({one.placed & ~bit, one.value});
                 continue;
             }
             for (uint64_t left = writes & ~one.placed; left; left &= left - 1) {
                 const int write = __builtin_ctzll(left);
-                add(all, with_reads({one.placed | 1ull << write, values[write]}));
+                add(with_reads({one.placed | 1ull << write, values[write]}));
             }
         }
+        if (!known.empty()) known.clear();
         return goes_on(bit);
     }
 
@@ -77,7 +93,7 @@ struct Register {
         const uint64_t bit = 1ull << slot;
         next.clear();
         for (const auto &one : all)
-            if (!(one.placed & bit)) add(next, one);
+            if (!(one.placed & bit)) next.push_back(one);
         return goes_on(bit);
     }
 

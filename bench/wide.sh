@@ -2,7 +2,8 @@
 # Measures `lincheck` on recordings of one object whose clients are busy nearly always (bench/wide.py):
 #   1. `check`: of each recording a sound one and one for each of its faults. It prints what the verdict has to be by the way the recording
 #      was made (`no` alone where it isn't known of which prefix), its size, processor seconds (user and system) of one run, which gets
-#      300 seconds, and the verdict.
+#      300 seconds, and the verdict; of registers also the seconds of the best plain algorithm that we know, with nothing proved (plain.cpp, by
+#      g++ -O2), which gets 60.
 #   2. `questions`: what they cost in `edit`, beside one register with five clients (bench/generate.sh): `pull`, the first `ask`, a
 #      further `ask` (mean of 100), and an `ask` after an `append` of an invocation by a new process, which writes, or adds or enqueues a
 #      number of its own (mean of 20 such pairs, which leave 20 operations open), with the first answer and the last. Processor seconds,
@@ -40,6 +41,14 @@ faults() { # recording
     esac
 }
 
+plain() { # recording: what the best plain algorithm that we know takes for the file of it, if it is one of a register
+    local status=0 TIMEFORMAT='%U %S'
+    [[ $1 = register* ]] || return 0
+    [ -x "$folder/plain" ] || g++ -std=c++20 -O2 -o "$folder/plain" "$here/plain.cpp"
+    { time timeout 60 "$folder/plain" "$file" > "$folder/plainly" 2>&1; } 2> "$folder/time" || status=$?
+    if [ "$status" -gt 1 ]; then echo 'nothing within 60 seconds'; else awk '{ printf "%.2f", $1 + $2 }' "$folder/time"; fi
+}
+
 line() { # recording, clients, fault, events
     local status=0 said TIMEFORMAT='%U %S'
     "$here/wide.py" "$1" "$4" "$3" "$2" "$seed" "$folder/wanted" > "$file" || return 0
@@ -47,15 +56,16 @@ line() { # recording, clients, fault, events
     said=$(tail -n 1 "$folder/printed")
     [ "$status" -le 2 ] || said="nothing, status $status"
     [ "$status" -ne 124 ] || said="nothing within $limit seconds"
-    awk -v name="$1, $2 clients, $4 events, $3" -v wanted="$(head -n 1 "$folder/wanted")" -v bytes="$(stat -c %s "$file")" -v said="$said" '{
-        printf "| %s | %s | %.1f | %.2f | %s |\n", name, wanted, bytes / 1e6, $1 + $2, said }' "$folder/time"
+    cp "$folder/time" "$folder/own"
+    awk -v name="$1, $2 clients, $4 events, $3" -v wanted="$(head -n 1 "$folder/wanted")" -v bytes="$(stat -c %s "$file")" -v said="$said" -v plain="$(plain "$1")" '{
+        printf "| %s | %s | %.1f | %.2f | %s | %s |\n", name, wanted, bytes / 1e6, $1 + $2, said, plain }' "$folder/own"
 }
 
 check() { # events, then recordings with clients
     local events=$1 recording fault
     shift
-    echo "| recording | has to be | MB | check s | prints |"
-    echo "|---|---|---|---|---|"
+    echo "| recording | has to be | MB | check s | prints | plain s |"
+    echo "|---|---|---|---|---|---|"
     for recording in "$@"; do
         for fault in sound $(faults "$recording"); do
             line "${recording%-*}" "${recording##*-}" "$fault" "$events"
