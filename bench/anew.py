@@ -1,7 +1,8 @@
 #!/usr/bin/env python3
 """Tells which crates are proved anew after a change of a private body in a crate, and what that takes, by the table of docs/TIMES.md.
 
-usage: bench/anew.py [CRATE ..]     (without crates: one low one, exact sets, searches, and a printed text)
+usage: bench/anew.py [CRATE ..]     (without crates: one low one, exact sets, searches, and a printed text; and the program, from nothing)
+       bench/anew.py lincheck       (the program and all that it stands on, as a first build proves them)
 
 A change of a body has the crate and all that stand on it proved anew by `rt ci`; proofs of the others are kept from an earlier run on the same
 machine. Prints a table: the crates, their processor minutes, and the minutes elapsed if they are worked on side by side, the longest chain first,
@@ -12,7 +13,8 @@ import re
 import sys
 
 TOP = os.path.join(os.path.dirname(os.path.abspath(__file__)), "..")
-DEFAULT = ["lin_edn", "lin_frontier", "lin_search", "lin_formats"]
+PROGRAM = "lincheck"
+DEFAULT = ["lin_edn", "lin_frontier", "lin_search", "lin_formats", PROGRAM]
 
 
 def read_crates():
@@ -40,6 +42,14 @@ def above(crates, changed):
     return [it for it in crates if it in found]
 
 
+def below(crates, top):
+    """The crates that the top one stands on, and itself."""
+    found = {top}
+    while more := {low for it in found for low in crates[it]} - found:
+        found |= more
+    return [it for it in crates if it in found]
+
+
 def elapsed(crates, seconds, anew, lanes):
     """Seconds until all are proved, at most so many at a time, first those with the longest chain behind them."""
     behind = {}
@@ -61,13 +71,14 @@ def main(words):
     crates, seconds = read_crates(), read_seconds()
     print("| changed | proved anew | processor minutes | four processors | two |\n|---|---|---|---|---|")
     for changed in words or DEFAULT:
-        anew = above(crates, changed)
+        anew = below(crates, PROGRAM) if changed == PROGRAM else above(crates, changed)
         lacks = [it for it in anew if it not in seconds]
         if lacks:
             print(f"anew.py: docs/TIMES.md has no row of {', '.join(lacks)}", file=sys.stderr)
             return 1
         minutes = [sum(seconds[it] for it in anew), *(elapsed(crates, seconds, anew, lanes) for lanes in (4, 2))]
-        print(f"| `{changed}` | {len(anew)}: {', '.join(it.removeprefix('lin_') for it in anew)} | {' | '.join(f'{it / 60:.0f}' for it in minutes)} |")
+        names = "all below the program" if changed == PROGRAM else ', '.join(it.removeprefix('lin_') for it in anew)
+        print(f"| `{changed}` | {len(anew)}: {names} | {' | '.join(f'{it / 60:.0f}' for it in minutes)} |")
     return 0
 
 
