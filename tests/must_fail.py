@@ -3,8 +3,8 @@
 
 An edit is written as rt's own must-fail edits are: a line `file: src/x.rt`, then pairs of lines `old: TEXT` and `new: TEXT`, where
 each TEXT stands in that file once. What a check takes before it comes to the edited function is most of a try, so several edits go
-into one check, a wave: those of which no edited function calls another, directly or through others. `rattle` lists each function by
-itself, and an edit counts as refused only by a line of its own function.
+into one check, a wave: those that change different functions, of which none call each other in a ring. `rattle` lists each function by
+itself, judges a caller by the contracts of what it calls, proved or not, and an edit counts as refused only by a line of its own function.
 
 For each crate:
 1. Each function that no edit changes gets an empty body and a proof that is one hole, where it can have that. `rattle check
@@ -274,7 +274,7 @@ class Edit:
     def meets(self, other):
         """Whether the two can't be told apart in one check."""
         mine, its = {*self.functions}, {*other.functions}
-        return self.is_alone or other.is_alone or bool(mine & its or mine & other.reached or its & self.reached)
+        return self.is_alone or other.is_alone or bool(mine & its or mine & other.reached and its & self.reached)
 
 
 def link(old, new):
@@ -289,9 +289,9 @@ def outside(text, functions):
 
 
 def waves_of(edits):
-    """Few waves: an edit goes behind those of the functions that its own calls."""
+    """Few waves: an edit goes into the first in which it can be told apart from the others."""
     waves = []
-    for edit in sorted(edits, key=lambda it: len(it.reached)):
+    for edit in edits:
         fits = (it for it in waves if not any(edit.meets(other) for other in it))
         wave = next(fits, None)
         if wave is None:
