@@ -5,7 +5,5 @@ mod candidates;
 mod crossings;
 mod endings;
 mod finding;
-#[cfg(test)]
-mod rows;
 
 pub use finding::find_certificate;

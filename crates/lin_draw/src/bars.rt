@@ -5,7 +5,7 @@ use crate::layouts::{Bar, Dot, LABEL, Layout};
 use crate::operations::{Operation, Outcome};
 use crate::own::Own;
 use lin_names::Names;
-use lin_places::Place;
+use lin_texts::Place;
 use std::alloc::{AllocError, Global};
 
 /// Where the first row begins, and how high each is.

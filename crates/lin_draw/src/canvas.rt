@@ -4,7 +4,7 @@ ghost use Rattle.std.specs.List.{flat_map};
 ghost use Rattle.lin_draw.specs.Letters.{letter_text, letters, shown_letter, shown_text};
 ghost use Rattle.lin_draw.specs.Pieces.{piece_text};
 
-use lin_formats::put_number;
+use lin_texts::put_number;
 use std::alloc::{AllocError, Global};
 
 /// A piece of an SVG.

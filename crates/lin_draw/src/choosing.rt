@@ -5,7 +5,7 @@ ghost use Rattle.lin_orders.specs.Tables.{IsNextTable};
 use crate::operations::is_call;
 use crate::own::Own;
 use lin_events::OutOfMemory;
-use lin_formats::number;
+use lin_texts::number;
 use lin_window::ran_beside;
 use std::alloc::Global;
 

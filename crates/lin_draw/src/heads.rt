@@ -1,10 +1,10 @@
 //! The texts over and under the rows.
 ghost use Rattle.std.specs.Prelude.{◌<◌, IfSome, length};
 
+use lin_answers::{Answer, Present};
 use lin_events::Item;
-use lin_formats::{kind_word, put_item, put_number};
 use lin_names::Names;
-use lin_session::{Answer, Session};
+use lin_texts::{kind_word, put_item, put_number};
 use std::alloc::{AllocError, Global};
 
 /// What a picture is about: the object of this key, if there is one, by so many of the first events.
@@ -15,27 +15,27 @@ pub(crate) struct Subject {
 }
 
 /// The key of the event at the position, if there is one.
-fn key_at(session: &Session, at: usize) -> Option<Item> {
-    match session.event(at) {
+fn key_at(present: &Present<'_>, at: usize) -> Option<Item> {
+    match present.event(at) {
         Some(event) => Some(event.key),
         None => None,
     }
 }
 
 /// What the picture is about that is drawn where a key is asked for, or the whole.
-pub(crate) fn subject_of(session: &Session, answer: &Answer, key: Option<Item>) -> Subject {
-    let count = session.len();
+pub(crate) fn subject_of(present: &Present<'_>, answer: &Answer, key: Option<Item>) -> Subject {
+    let count = present.len();
     match answer {
         Answer::No { prefix } => Subject {
-            key: key_at(session, prefix.saturating_sub(1)),
+            key: key_at(present, prefix.saturating_sub(1)),
             count: *prefix,
         },
         Answer::Undecided { at } => Subject {
-            key: key_at(session, *at),
+            key: key_at(present, *at),
             count,
         },
         _ => Subject {
-            key: key.or_else(|| key_at(session, count.saturating_sub(1))),
+            key: key.or_else(|| key_at(present, count.saturating_sub(1))),
             count,
         },
     }
@@ -89,14 +89,14 @@ fn around_call(line: &[u8]) -> Option<(&[u8], &[u8])> {
 /// Puts the key's object and its kind last, behind a comma.
 fn put_object(
     text: &mut Vec<u8>,
-    session: &Session,
+    present: &Present<'_>,
     names: &Names,
     key: Item,
 ) -> Result<(), AllocError> {
     text.extend_from_slice(b", object ")?;
     put_item(text, names, key)?;
     text.push(b' ')?;
-    text.extend_from_slice(kind_word(session.kind_of(key)).as_bytes())
+    text.extend_from_slice(kind_word(present.kind_of(key)).as_bytes())
 }
 
 /// Puts the answer last.
@@ -125,7 +125,7 @@ fn failure_in<'a>(answer: &Answer, lines: &'a [u8]) -> Option<(&'a [u8], &'a [u8
 /// Puts last what the answer is about: the object, of a no with the failing operation.
 fn put_subject(
     text: &mut Vec<u8>,
-    session: &Session,
+    present: &Present<'_>,
     names: &Names,
     answer: &Answer,
     key: Option<Item>,
@@ -140,14 +140,14 @@ fn put_subject(
             text.extend_from_slice(front)?;
             text.extend_from_slice(behind)
         }
-        None => put_object(text, session, names, key),
+        None => put_object(text, present, names, key),
     }
 }
 
 /// The head of a picture.
 pub(crate) fn head_of(
     alloc: Global,
-    session: &Session,
+    present: &Present<'_>,
     names: &Names,
     answer: &Answer,
     key: Option<Item>,
@@ -155,7 +155,7 @@ pub(crate) fn head_of(
 ) -> Result<Vec<u8>, AllocError> {
     let mut head = Vec::new(alloc);
     put_answer(&mut head, answer)?;
-    put_subject(&mut head, session, names, answer, key, lines)?;
+    put_subject(&mut head, present, names, answer, key, lines)?;
     Ok(head)
 }
 

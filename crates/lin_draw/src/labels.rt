@@ -5,9 +5,8 @@ ghost use Rattle.lin_draw.specs.Labels.{label_text, reply_label, short_reply};
 use crate::operations::{Operation, Outcome};
 use crate::own::Own;
 use lin_events::Reply;
-use lin_formats::put_number;
 use lin_names::Names;
-use lin_places::Place;
+use lin_texts::{Place, put_number};
 use lin_words::{put_call, put_event_spot, put_operation, put_reply};
 use std::alloc::{AllocError, Global};
 

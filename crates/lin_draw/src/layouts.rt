@@ -8,9 +8,9 @@ use crate::labels::label_of;
 use crate::operations::{Operation, Outcome, operation_at};
 use crate::own::Own;
 use lin_events::{OutOfMemory, Reply};
-use lin_formats::put_number;
 use lin_names::Names;
 use lin_orders::Placed;
+use lin_texts::put_number;
 use std::alloc::{AllocError, Global};
 
 /// The empty border of a picture.

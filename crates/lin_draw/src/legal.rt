@@ -1,9 +1,22 @@
 //! Legal orders of the events before a failure.
 use crate::own::Own;
-use lin_events::{Item, OutOfMemory};
+use lin_answers::Present;
+use lin_events::{Event, Item, OutOfMemory};
+use lin_objects::Kind;
 use lin_orders::Placed;
-use lin_session::{Answer, Scope, Session};
 use std::alloc::Global;
+
+/// Who finds the legal orders that pictures show.
+pub trait Orders {
+    /// A legal order of these events of one object, by their places, if one is found within the budget.
+    fn order_of(
+        &self,
+        alloc: Global,
+        kind: Kind,
+        budget: u32,
+        events: Vec<Event>,
+    ) -> Result<Option<Vec<Placed>>, OutOfMemory>;
+}
 
 /// The operations of an order of these events, by their positions in the history.
 fn with_positions(
@@ -24,37 +37,36 @@ fn with_positions(
 }
 
 /// A legal order of the object's events, if they have one that is found within the budget.
-fn order_of(
+fn order_of<O: Orders>(
     alloc: Global,
-    session: &Session,
+    orders: &O,
+    present: &Present<'_>,
     key: Item,
     own: Own,
 ) -> Result<Option<Vec<Placed>>, OutOfMemory> {
     let Own { events, picks } = own;
-    let Ok(mut asked) = Session::of(alloc, session.kind_of(key), session.budget(), events) else {
-        return Ok(None);
-    };
-    match asked.order(alloc, Scope::Whole)? {
-        Answer::Yes(order) => Ok(Some(with_positions(alloc, order, picks.as_slice())?)),
-        _ => Ok(None),
+    match orders.order_of(alloc, present.kind_of(key), present.budget(), events)? {
+        Some(order) => Ok(Some(with_positions(alloc, order, picks.as_slice())?)),
+        None => Ok(None),
     }
 }
 
 /// A legal order of all events but the last one, in which the failing operation ends: if there is one, an order without that
 /// operation. None where none is found within the budget.
-pub(crate) fn order_before(
+pub(crate) fn order_before<O: Orders>(
     alloc: Global,
-    session: &Session,
+    orders: &O,
+    present: &Present<'_>,
     key: Item,
     own: &Own,
     failing: usize,
 ) -> Result<Vec<Placed>, OutOfMemory> {
     let without = own.without(alloc, Some(failing))?;
-    if let Some(order) = order_of(alloc, session, key, without)? {
+    if let Some(order) = order_of(alloc, orders, present, key, without)? {
         return Ok(order);
     }
     let before = own.without(alloc, None)?;
-    match order_of(alloc, session, key, before)? {
+    match order_of(alloc, orders, present, key, before)? {
         Some(order) => Ok(order),
         None => Ok(Vec::new(alloc)),
     }

@@ -16,4 +16,5 @@ mod own;
 mod pictures;
 mod styles;
 
+pub use legal::Orders;
 pub use pictures::picture_with_places;

@@ -1,8 +1,8 @@
 //! The events of one object.
 ghost use Rattle.std.specs.Prelude.{◌≡◌, ◌∷◌, ◌++◌, [], OnOk};
 
+use lin_answers::Present;
 use lin_events::{Event, Item, OutOfMemory};
-use lin_session::Session;
 use std::alloc::Global;
 
 /// The events of an object among the first so many of a history, and their positions in it.
@@ -24,7 +24,7 @@ fn take_in(alloc: Global, own: &mut Own, event: &Event, at: usize) -> Result<(),
 /// The events of the key's object among the first so many of the history.
 pub(crate) fn own_of(
     alloc: Global,
-    session: &Session,
+    present: &Present<'_>,
     key: Item,
     count: usize,
 ) -> Result<Own, OutOfMemory> {
@@ -33,7 +33,7 @@ pub(crate) fn own_of(
         picks: Vec::new(alloc),
     };
     for at in 0..count {
-        if let Some(event) = session.event(at)
+        if let Some(event) = present.event(at)
             && event.key == key
         {
             take_in(alloc, &mut own, event, at)?;

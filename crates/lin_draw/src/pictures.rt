@@ -10,20 +10,20 @@ use crate::drawing::{Texts, drawn, width_of};
 use crate::fitting::fit;
 use crate::heads::{Subject, head_of, left_out, subject_of, told_of};
 use crate::layouts::{Layout, MARGIN, Object};
-use crate::legal::order_before;
+use crate::legal::{Orders, order_before};
 use crate::own::{Own, own_of};
+use lin_answers::{Answer, Present};
 use lin_events::{Item, OutOfMemory};
 use lin_names::Names;
 use lin_orders::{Placed, ends_of};
-use lin_places::Place;
-use lin_session::{Answer, Session};
+use lin_texts::Place;
 use lin_window::failing_operation;
 use std::alloc::Global;
 
 /// What is drawn, and what is known of it.
 #[derive(Clone, Copy)]
 struct Asked<'a, 'p> {
-    session: &'a Session,
+    present: &'a Present<'a>,
     /// The spellings of words.
     names: &'a Names,
     answer: &'a Answer,
@@ -43,14 +43,15 @@ fn failing_of(answer: &Answer, own: &Own, ends: &[Option<usize>]) -> Option<usiz
 }
 
 /// A legal order of the events before the end of the failing operation, if one fails.
-fn found_order(
+fn found_order<O: Orders>(
     alloc: Global,
+    orders: &O,
     asked: &Asked,
     own: &Own,
     failing: Option<usize>,
 ) -> Result<Vec<Placed>, OutOfMemory> {
     match (asked.subject.key, failing) {
-        (Some(key), Some(call)) => order_before(alloc, asked.session, key, own, call),
+        (Some(key), Some(call)) => order_before(alloc, orders, asked.present, key, own, call),
         _ => Ok(Vec::new(alloc)),
     }
 }
@@ -66,8 +67,8 @@ fn order_in<'a>(answer: &'a Answer, found: &'a [Placed]) -> &'a [Placed] {
 /// The events of the object.
 fn events_for(alloc: Global, asked: &Asked) -> Result<Own, OutOfMemory> {
     match asked.subject.key {
-        Some(key) => own_of(alloc, asked.session, key, asked.subject.count),
-        None => own_of(alloc, asked.session, Item::Int(0), 0),
+        Some(key) => own_of(alloc, asked.present, key, asked.subject.count),
+        None => own_of(alloc, asked.present, Item::Int(0), 0),
     }
 }
 
@@ -106,7 +107,7 @@ fn pictured(
     let layout = fit(alloc, object, chosen)?;
     let head = head_of(
         alloc,
-        asked.session,
+        asked.present,
         asked.names,
         asked.answer,
         asked.subject.key,
@@ -124,7 +125,7 @@ fn pictured(
 }
 
 /// The picture of what is asked.
-fn picture_of(alloc: Global, asked: &Asked) -> Result<Vec<u8>, OutOfMemory>
+fn picture_of<O: Orders>(alloc: Global, orders: &O, asked: &Asked) -> Result<Vec<u8>, OutOfMemory>
     ensures { IfOk result (λ text. IsSvg text.items) }
 {
     let own = events_for(alloc, asked)?;
@@ -136,7 +137,7 @@ fn picture_of(alloc: Global, asked: &Asked) -> Result<Vec<u8>, OutOfMemory>
         named: named.as_slice(),
     };
     let choice = choose(alloc, &own, ends.as_slice(), &focus)?;
-    let found = found_order(alloc, asked, &own, failing)?;
+    let found = found_order(alloc, orders, asked, &own, failing)?;
     let object = Object {
         names: asked.names,
         own: &own,
@@ -148,11 +149,12 @@ fn picture_of(alloc: Global, asked: &Asked) -> Result<Vec<u8>, OutOfMemory>
 
 /// A picture of the operations around the answer, as an SVG, and where their events stand in the file.
 ///
-/// The answer is the session's for the key's object, or for the whole; the lines are those of its explanation behind the answer's own. An
+/// The answer is the history's for the key's object, or for the whole; the lines are those of its explanation behind the answer's own. An
 /// ill-formed history isn't drawn: its text is empty.
-pub fn picture_with_places(
+pub fn picture_with_places<O: Orders>(
     alloc: Global,
-    session: &Session,
+    orders: &O,
+    present: &Present<'_>,
     names: &Names,
     answer: &Answer,
     key: Option<Item>,
@@ -166,12 +168,12 @@ pub fn picture_with_places(
         return Ok(Vec::new(alloc));
     }
     let asked = Asked {
-        session,
+        present,
         names,
         answer,
-        subject: subject_of(session, answer, key),
+        subject: subject_of(present, answer, key),
         lines,
         places,
     };
-    picture_of(alloc, &asked)
+    picture_of(alloc, orders, &asked)
 }

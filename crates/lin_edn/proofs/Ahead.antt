@@ -2,11 +2,12 @@
 use Rattle.std.proofs.Common.{◌≡◌, ℕ, zero, suc, ◌+◌, ◌-◌, ◌<◌, ◌≤◌, Bool, true, false, not, List, [], ◌∷◌, length, drop, get_or, refl, sym, ap, subst, ◌∙◌, inl, inr, arith, drop-cons, ◌||◌, ◌==◌}
 use Rattle.std.proofs.lemmas.Bool.{cases_lt}
 use Rattle.std.specs.List.{slice_range}
-use Rattle.lin_edn.specs.Bytes.{a_map, Class, white, semicolon, opener, closer, quote, backslash, hash, inside, class, is_white, is_stop, is_newline, quoted, stays}
+use Rattle.lin_bytes.specs.Bytes.{a_map, Class, white, semicolon, opener, closer, quote, backslash, hash, inside, class, is_white, is_stop, is_newline, quoted, stays}
 use Rattle.lin_edn.specs.Grammar.{Frame, longest, outermost}
 use Rattle.lin_edn.specs.inner.Machine.{Mode, between, in_run, in_tag, in_text, in_comment, go, run, begun}
 use Rattle.lin_edn.specs.Scans.{IsStopAt, is_dark, is_quoting}
-use Rattle.lin_edn.specs.inner.Scans.{IsAhead, is_inside}
+use Rattle.lin_bytes.specs.Bytes.{is_inside}
+use Rattle.lin_edn.specs.inner.Scans.{IsAhead}
 use Rattle.lin_edn.specs.declared.reader.Mode.{Mode as CodeMode}
 use Rattle.lin_edn.specs.declared.reader.Mode.TheVariants as mode
 use Rattle.lin_edn.specs.inner.Turns.{mode_of, IsBegun}

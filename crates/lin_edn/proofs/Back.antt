@@ -1,6 +1,6 @@
 -- What is read is spelled, and a fault has its cause.
 use Rattle.std.proofs.Common.{◌≡◌, ℕ, suc, zero, ◌+◌, ◌<◌, ◌≤◌, Bool, true, false, List, [], ◌∷◌, length, refl, sym, ap, arith, Option, Some, None, nat_le, ◌==◌, subst, if◌then◌else◌}
-use Rattle.lin_edn.specs.Bytes.{Kind, a_set, Class, white, semicolon, opener, closer, quote, backslash, hash, inside, class, is_stop, is_newline, closing, Behind, behind, opens_set, opens_text, discards as discards_next, joins, stands_apart, names_tag, Quoted, quoted, ends, escapes, stays}
+use Rattle.lin_bytes.specs.Bytes.{Kind, a_set, Class, white, semicolon, opener, closer, quote, backslash, hash, inside, class, is_stop, is_newline, closing, Behind, behind, opens_set, opens_text, discards as discards_next, joins, stands_apart, names_tag, Quoted, quoted, ends, escapes, stays}
 use Rattle.lin_edn.specs.Grammar.{One, one, Inside, first, joined, character, next, Tag, first_of_tag, next_of_tag, Text, Escape, opened, opened_by_hash, plain, pair, escape, Comment, starts, goes, Opens, bracket, set_bracket, discards, Blank, white_byte, comment, discarded, no_blank, Element, run as a_run, hash_alone, whole_text, tagged_element, collection, Row, empty, blank, element, one_more, longest, no_blank_yet, one_more_short, Spells, spells, IsBlankText, nothing_more, open_comment, IsInReach, Frame, frame, discarding, tagging, Open, none_open, within, waits, awaits, Faulty, unbalanced, odd_map, too_deep, hash_too_deep, deepens, fits, place_of, outermost}
 use Rattle.lin_edn.specs.inner.Machine.{Mode, between, in_run, after_hash, after_backslash, in_tag, in_text, in_escape, in_comment, Answer, complete, blank as blank_answer, partial, fault, too_long, Turn, go, stop, run, step, limited, ended, taken, begun, on_turn, put, deeper, begins, goes_on, quotes, apart, close, closed, at_end}
 use Rattle.lin_edn.specs.Run.{run_value}

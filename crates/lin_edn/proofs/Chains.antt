@@ -1,7 +1,7 @@
 -- Blanks are passed in one way.
 use Rattle.std.proofs.Common.{◌≡◌, ℕ, ◌+◌, ◌≤◌, ◌<◌, ◌⊎◌, inl, inr, true, List, [], ◌∷◌, ◌++◌, refl, sym, ◌∙◌, subst, arith}
 use Rattle.std.proofs.lemmas.Bool.{cases_lt}
-use Rattle.lin_edn.specs.Bytes.{Class, semicolon, hash, class, is_newline}
+use Rattle.lin_bytes.specs.Bytes.{Class, semicolon, hash, class, is_newline}
 use Rattle.lin_edn.specs.Grammar.{one, Comment, starts, goes, Discard, discards, Blank, white_byte, comment, discarded, Blanks, Element, longest, ShortBlanks, no_blank_yet, one_more_short, tagging}
 use Rattle.lin_edn.specs.inner.Machine.{complete, run, between}
 use Rattle.lin_edn.specs.Value.{Value, tagged}

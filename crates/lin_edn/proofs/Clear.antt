@@ -1,7 +1,7 @@
 -- Bytes of a run, a few at a time.
 use Rattle.std.proofs.Common.{◌≡◌, ℕ, ◌+◌, ◌<◌, ◌≤◌, inl, inr, false, true, List, get_or, sym, ap, ◌∙◌, arith}
 use Rattle.std.proofs.lemmas.Bool.{cases_lt}
-use Rattle.lin_edn.specs.Bytes.{is_stop}
+use Rattle.lin_bytes.specs.Bytes.{is_stop}
 use Rattle.lin_edn.specs.Scans.{IsStopAt}
 
 -- no byte between two places stops a run

@@ -1,6 +1,6 @@
 -- Numbers behind further digits.
 use Rattle.std.proofs.Common.{◌≡◌, ℕ, suc, ◌+◌, ◌*◌, ◌-◌, ◌<◌, ◌≤◌, ◌^◌, Bool, true, false, if◌then◌else◌, List, [], ◌∷◌, length, drop, get_or, refl, ap, ◌∙◌, arith, Option, Some, None, drop-cons}
-use Rattle.lin_edn.specs.Bytes.{is_digit}
+use Rattle.lin_bytes.specs.Bytes.{is_digit}
 use Rattle.lin_edn.specs.inner.Numbers.{capped}
 use Rattle.lin_edn.specs.Run.{number_after}
 use Rattle.lin_edn.proofs.Limit.{is_above}

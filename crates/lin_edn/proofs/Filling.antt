@@ -3,7 +3,7 @@ use Rattle.std.proofs.Common.{inl, inr, ◌≡◌, ℕ, suc, ◌+◌, ◌<◌, �
 use Rattle.std.proofs.lemmas.Bool.{cases_lt}
 use Rattle.std.proofs.lemmas.List.{drop-drop}
 use Rattle.std.specs.Option.{is_some}
-use Rattle.lin_edn.specs.Bytes.{Kind, a_list, a_vector, a_set, a_map, class, white, closer, quote, inside, is_white, closing}
+use Rattle.lin_bytes.specs.Bytes.{Kind, a_list, a_vector, a_set, a_map, class, white, closer, quote, inside, is_white, closing}
 use Rattle.lin_edn.specs.Grammar.{one, Tag, IsTagAt, Opens, bracket, set_bracket, Blank, Blanks, no_blank, one_more, Element, Row, empty, blank, element}
 use Rattle.lin_edn.specs.Scans.{IsStopAt, is_dark}
 use Rattle.lin_edn.specs.Simple.{IsSimple, FindsSimple}

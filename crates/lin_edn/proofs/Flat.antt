@@ -1,6 +1,6 @@
 -- The code's open maps, and its stack.
 use Rattle.std.proofs.Common.{◌≡◌, ℕ, List, [], ◌∷◌, ◌++◌, refl, ap, ◌∙◌, Some, None, option_map, map as each, reverse}
-use Rattle.lin_edn.specs.Bytes.{a_map}
+use Rattle.lin_bytes.specs.Bytes.{a_map}
 use Rattle.lin_edn.specs.Value.{Value, map, entries_of, entry, pairs_from, made}
 use Rattle.lin_edn.specs.Grammar.{Frame, place_of, outermost}
 use Rattle.lin_edn.specs.inner.Levels.{flat, frame_view, frames_of}

@@ -1,6 +1,6 @@
 -- What is spelled is read, where it has at most so many bytes.
 use Rattle.std.proofs.Common.{◌≡◌, ℕ, suc, ◌+◌, ◌<◌, ◌≤◌, true, false, List, [], ◌∷◌, ◌++◌, length, refl, sym, ap, ◌∙◌, arith, Some, if◌then◌else◌}
-use Rattle.lin_edn.specs.Bytes.{Kind, a_list, a_vector, a_set, a_map, Class, opener, hash, class, is_stop, is_newline, closing, Behind, behind, opens_set, opens_text, discards as discards_next, joins, names_tag, Quoted, quoted, ends, escapes, stays}
+use Rattle.lin_bytes.specs.Bytes.{Kind, a_list, a_vector, a_set, a_map, Class, opener, hash, class, is_stop, is_newline, closing, Behind, behind, opens_set, opens_text, discards as discards_next, joins, names_tag, Quoted, quoted, ends, escapes, stays}
 use Rattle.lin_edn.specs.Grammar.{One, one, Inside, first, joined, character, next, Tag, first_of_tag, next_of_tag, Text, Escape, opened, opened_by_hash, plain, pair, escape, Comment, starts, goes, Opens, bracket, set_bracket, Discard, discards, Blank, white_byte, comment, discarded, Blanks, no_blank, one_more, Element, run as a_run, hash_alone, whole_text, tagged_element, collection, Row, empty, blank, element, longest, ShortBlanks, no_blank_yet, one_more_short, Spells, spells, IsBlankText, nothing_more, open_comment, Frame, frame, discarding, tagging, outermost}
 use Rattle.lin_edn.specs.inner.Machine.{Mode, between, in_run, after_hash, after_backslash, in_tag, in_text, in_escape, in_comment, complete, blank as blank_answer, Turn, go, stop, run, limited, ended, taken, begun, on_turn, put, deeper, begins, goes_on, quotes, apart, closed, too_long}
 use Rattle.lin_edn.specs.Run.{run_value}

@@ -1,7 +1,7 @@
 -- What is read so far can be finished.
 use Rattle.std.proofs.Common.{◌≡◌, true, false, not, is_some, ℕ, suc, ◌+◌, ◌<◌, ◌≤◌, List, [], ◌∷◌, ◌++◌, length, take, refl, sym, ap, ◌∙◌, arith, Option, Some, None, option_map, subst, append_assoc, append-nil, length-append}
 use Rattle.std.proofs.Math.Seq.{take-append_seam}
-use Rattle.lin_edn.specs.Bytes.{Kind, a_list, a_vector, a_set, a_map, closing}
+use Rattle.lin_bytes.specs.Bytes.{Kind, a_list, a_vector, a_set, a_map, closing}
 use Rattle.lin_edn.specs.Grammar.{one, first, character, whole_text, pair, Comment, Discard, discards, Blank, white_byte, comment, discarded, Blanks, no_blank, one_more, Element, run as a_run, hash_alone, tagged_element, collection, Row, blank as blank_row, element, longest, ShortBlanks, no_blank_yet, one_more_short, Whole, an_element, a_discard, Thing, element_or_discard, a_comment, Reads, reads, IsViable, IsLeast, Frame, frame, discarding, tagging, Open, none_open, within, waits, awaits, outermost, place_of}
 use Rattle.lin_edn.specs.inner.Machine.{Mode, between, in_run, after_hash, after_backslash, in_tag, in_text, in_escape, in_comment, Answer, complete, blank, partial, fault, too_long, Turn, go, stop, run, step, on_turn, at_end, begun}
 use Rattle.lin_edn.specs.Run.{run_value}

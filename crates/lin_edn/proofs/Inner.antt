@@ -1,7 +1,7 @@
 -- What stands behind one tag or two that wait for their element, in words of the grammar.
 use Rattle.std.proofs.Common.{◌≡◌, ℕ, true, suc, ◌+◌, ◌-◌, ◌<◌, ◌≤◌, Bool, false, List, [], ◌∷◌, length, drop, ap, ◌∙◌, Some, refl, subst, arith}
 use Rattle.std.proofs.lemmas.List.{drop-drop}
-use Rattle.lin_edn.specs.Bytes.{Kind, hash, behind, discards as discards_next, is_stop, closing}
+use Rattle.lin_bytes.specs.Bytes.{Kind, hash, behind, discards as discards_next, is_stop, closing}
 use Rattle.lin_edn.specs.Grammar.{One, Tag, Opens, discards, Blank, discarded, Blanks, no_blank, one_more, Element, tagged_element, collection, Row, empty, blank, element, longest, Frame, frame, discarding, tagging, outermost}
 use Rattle.lin_edn.specs.inner.Machine.{Answer, complete, blank as blank_answer, partial, fault, too_long, run, between, put}
 use Rattle.lin_edn.specs.Rows.{IsElementAt, IsNoElementAt, levels_behind}

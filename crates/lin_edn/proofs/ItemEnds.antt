@@ -1,6 +1,6 @@
 -- Where a string or keyword ends.
 use Rattle.std.proofs.Common.{◌≡◌, ◌⊎◌, inl, inr, ℕ, ℤ, suc, ◌+◌, ◌<◌, ◌≤◌, ◌==◌, ◌&&◌, not, Bool, true, false, option_map, if◌then◌else◌, List, [], ◌∷◌, ◌++◌, length, drop, get_or, take, ◌-◌, slice_index, Option, Some, None, IfSome, IfNone, refl, sym, ap, subst, ◌∙◌, arith, eqb-true, length-append, ◌||◌}
-use Rattle.lin_edn.specs.Bytes.{Kind, a_list, a_vector, a_set, a_map, Class, class, white, semicolon, opener, closer, quote, backslash, hash, inside, Behind, behind, opens_set, opens_text, discards as discards_next, joins, stands_apart, names_tag, Quoted, quoted, ends, escapes, stays, is_stop}
+use Rattle.lin_bytes.specs.Bytes.{Kind, a_list, a_vector, a_set, a_map, Class, class, white, semicolon, opener, closer, quote, backslash, hash, inside, Behind, behind, opens_set, opens_text, discards as discards_next, joins, stands_apart, names_tag, Quoted, quoted, ends, escapes, stays, is_stop}
 use Rattle.lin_edn.specs.Grammar.{One, one, Inside, first, joined, character, next, Text, opened, opened_by_hash, plain, pair, Escape, escape, Element, run, hash_alone, whole_text, tagged_element, collection}
 use Rattle.lin_edn.specs.Run.{run_value, of_number, integer, is_keyword, is_plain_numeral, in_range, number_after}
 use Rattle.std.specs.Prelude.{codes}
@@ -9,9 +9,10 @@ use Rattle.std.proofs.lemmas.List.{drop-append-le, drop_all, get_or_append_left,
 use Rattle.std.proofs.lemmas.Bool.{cases_lt, agree_below_at}
 use Rattle.std.specs.List.{slice_range}
 use Rattle.lin_edn.specs.Value.{Value, nil, bool, atom, text, keyword, list, vector, set, map, made, values_of, pairs_from, Entries}
-use Rattle.lin_edn.specs.ItemEnds.{IsWord, IsItemEnd, by_quoted, closing_end, closing_after}
+use Rattle.lin_bytes.specs.TextEnds.{by_quoted, closing_end, closing_after}
+use Rattle.lin_edn.specs.ItemEnds.{IsWord, IsItemEnd}
 use Rattle.lin_edn.specs.Scans.{IsStopAt}
-use Rattle.lin_edn.specs.inner.Scans.{is_inside}
+use Rattle.lin_bytes.specs.Bytes.{is_inside}
 use Rattle.lin_edn.specs.inner.Turns.{behind_of}
 use Rattle.lin_edn.specs.declared.reader.Behind.{Behind as CodeBehind}
 use Rattle.lin_edn.specs.declared.reader.Behind.TheVariants as code

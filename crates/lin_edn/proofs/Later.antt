@@ -2,7 +2,7 @@
 use Rattle.std.proofs.Common.{◌≡◌, ℕ, ◌+◌, Bool, true, false, List, [], ◌∷◌, ◌++◌, length, refl, sym, ap, ◌∙◌, Option, Some, None, option_map, nat_le, ◌==◌, if◌then◌else◌, add_assoc, map as each, ℤ, codes, rules, tests}
 use Rattle.std.proofs.lemmas.List.{map-append, length-map}
 use Rattle.std.specs.Str.{bytes_eq}
-use Rattle.lin_edn.specs.Bytes.{Kind, a_list, a_vector, a_set, a_map, Class, white, semicolon, opener, closer, quote, backslash, hash, inside, class, is_stop, is_newline, closing, Behind, behind, opens_set, opens_text, discards, joins, stands_apart, names_tag, Quoted, quoted, ends, escapes, stays}
+use Rattle.lin_bytes.specs.Bytes.{Kind, a_list, a_vector, a_set, a_map, Class, white, semicolon, opener, closer, quote, backslash, hash, inside, class, is_stop, is_newline, closing, Behind, behind, opens_set, opens_text, discards, joins, stands_apart, names_tag, Quoted, quoted, ends, escapes, stays}
 use Rattle.lin_edn.specs.Grammar.{Frame, frame, discarding, tagging, outermost}
 use Rattle.lin_edn.specs.Laws.{later, later_values, later_entries}
 use Rattle.lin_edn.specs.inner.Machine.{Mode, between, in_run, after_hash, after_backslash, in_tag, in_text, in_escape, in_comment, Answer, complete, blank, partial, fault, too_long, Turn, go, stop, run, step, limited, ended, taken, begun, on_turn, put, deeper, begins, goes_on, quotes, apart, close, closed, at_end, open_end}

@@ -1,7 +1,7 @@
 -- Collections that are found in place, in words of the grammar.
 use Rattle.std.proofs.Common.{◌≡◌, ℕ, suc, ◌+◌, ◌-◌, ◌<◌, ◌≤◌, Bool, true, false, ◌&&◌, ◌==◌, List, [], ◌∷◌, ◌++◌, length, drop, get_or, Option, Some, None, refl, sym, ap, subst, arith, ◌∙◌, true≢false}
 use Rattle.std.specs.Option.{is_some}
-use Rattle.lin_edn.specs.Bytes.{Kind, a_list, a_vector, a_set, a_map, class, opener, hash, behind, opens_set, closing}
+use Rattle.lin_bytes.specs.Bytes.{Kind, a_list, a_vector, a_set, a_map, class, opener, hash, behind, opens_set, closing}
 use Rattle.lin_edn.specs.Grammar.{One, Opens, bracket, set_bracket, Element, collection, Row, empty, element}
 use Rattle.lin_edn.specs.Scans.{IsStopAt, is_dark}
 use Rattle.lin_edn.specs.Simple.{IsSimple, FindsSimple}

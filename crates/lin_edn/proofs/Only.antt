@@ -2,7 +2,7 @@
 use Rattle.std.proofs.Common.{◌≡◌, ℕ, ◌+◌, ◌≤◌, ◌<◌, inl, inr, Bool, true, false, List, [], ◌∷◌, ◌++◌, length, take, drop, get_or, refl, sym, ap, ◌∙◌, subst, arith, append_assoc, take-append-drop, length-append, length-take-le}
 use Rattle.std.proofs.lemmas.Bool.{cases_lt}
 use Rattle.std.proofs.lemmas.List.{get_or-take, get_or_append_left}
-use Rattle.lin_edn.specs.Bytes.{class, white, semicolon, hash, is_newline}
+use Rattle.lin_bytes.specs.Bytes.{class, white, semicolon, hash, is_newline}
 use Rattle.lin_edn.specs.Grammar.{one, Comment, goes, Discard, Blank, white_byte, comment, discarded, Element, longest, ShortBlanks, spells, nothing_more, open_comment, Whole, an_element, a_discard, Thing, element_or_discard, a_comment, IsUnfinished, IsTooLong, IsInReach}
 use Rattle.lin_edn.specs.inner.Machine.{Answer, complete, blank, partial, fault, too_long, run, between}
 use Rattle.lin_edn.specs.Reading.{IsWrong}

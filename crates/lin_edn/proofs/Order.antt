@@ -1,6 +1,6 @@
 -- What stands at the top begins no later as bytes are taken, and a greater limit answers alike.
 use Rattle.std.proofs.Common.{◌≡◌, ℕ, ◌+◌, ◌<◌, ◌≤◌, Bool, true, false, List, [], ◌∷◌, ◌++◌, length, refl, sym, ap, ◌∙◌, subst, arith, Option, Some, None, nat_le, ◌==◌, if◌then◌else◌}
-use Rattle.lin_edn.specs.Bytes.{a_set, Class, white, semicolon, opener, closer, quote, backslash, hash, inside, class, is_stop, is_newline, closing, Behind, behind, opens_set, opens_text, discards, joins, stands_apart, names_tag, Quoted, quoted, ends, escapes, stays}
+use Rattle.lin_bytes.specs.Bytes.{a_set, Class, white, semicolon, opener, closer, quote, backslash, hash, inside, class, is_stop, is_newline, closing, Behind, behind, opens_set, opens_text, discards, joins, stands_apart, names_tag, Quoted, quoted, ends, escapes, stays}
 use Rattle.lin_edn.specs.Grammar.{Frame, frame, discarding, tagging, outermost}
 use Rattle.lin_edn.specs.inner.Machine.{Mode, between, in_run, after_hash, after_backslash, in_tag, in_text, in_escape, in_comment, Answer, complete, blank, partial, fault, too_long, Turn, go, stop, run, step, limited, ended, taken, begun, on_turn, put, begins, goes_on, quotes, apart, close, closed, at_end}
 use Rattle.lin_edn.specs.Run.{run_value}

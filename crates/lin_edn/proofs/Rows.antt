@@ -2,7 +2,7 @@
 use Rattle.std.proofs.Common.{◌≡◌, ℕ, ◌+◌, ◌≤◌, ◌<◌, Bool, true, false, not, List, [], ◌∷◌, ◌++◌, length, drop, get_or, inl, inr, Option, Some, None, IfNone, MatchOption, Ok, refl, sym, ap, ◌∙◌, subst, arith, true≢false, append_assoc, append-nil, length-append, length-drop}
 use Rattle.std.proofs.lemmas.List.{drop-append-le}
 use Rattle.std.proofs.lemmas.Bool.{cases_lt}
-use Rattle.lin_edn.specs.Bytes.{Kind, closing, is_white}
+use Rattle.lin_bytes.specs.Bytes.{Kind, closing, is_white}
 use Rattle.lin_edn.specs.Grammar.{Opens, Blanks, no_blank, Row, empty, blank, element, longest, ShortBlanks, Spells, IsTagAt, Frame, frame, tagging, Open, none_open, awaits, within}
 use Rattle.lin_edn.specs.inner.Machine.{run, between, complete, put}
 use Rattle.lin_edn.specs.Rows.{IsRow, IsRound, IsBehind, IsClosed, IsElementAt, IsAtNothing, bracket_of, value_in, IsBracketless, row_levels}

@@ -2,7 +2,7 @@
 use Rattle.std.proofs.Common.{rules, inl, inr, ◌≡◌, ℕ, suc, ◌+◌, ◌-◌, ◌<◌, ◌≤◌, Bool, true, false, not, ◌==◌, if◌then◌else◌, List, ◌∷◌, drop, get_or, get_or-drop, add-zero, Some, refl, sym, ap, subst, arith, ◌∙◌, true≢false}
 use Rattle.std.proofs.lemmas.Bool.{cases_lt}
 use Rattle.std.proofs.lemmas.List.{drop-drop}
-use Rattle.lin_edn.specs.Bytes.{Kind, a_list, a_vector, a_map, Class, class, white, semicolon, opener, closer, quote, backslash, hash, inside, is_white, is_stop, closing, Behind, behind, opens_set, opens_text, discards as discards_next, joins, stands_apart, names_tag, quoted, ends}
+use Rattle.lin_bytes.specs.Bytes.{Kind, a_list, a_vector, a_map, Class, class, white, semicolon, opener, closer, quote, backslash, hash, inside, is_white, is_stop, closing, Behind, behind, opens_set, opens_text, discards as discards_next, joins, stands_apart, names_tag, quoted, ends}
 use Rattle.lin_edn.specs.Grammar.{one, Inside, first, joined, character, next, Tag, first_of_tag, next_of_tag, IsTagAt, Text, Escape, opened, opened_by_hash, plain, pair, escape, Comment, starts, goes, Opens, bracket, set_bracket, discards, Blank, white_byte, comment, discarded, Blanks, Element, run, hash_alone, whole_text, tagged_element, collection, Row}
 use Rattle.lin_edn.specs.Scans.{IsStopAt, is_dark, is_quoting}
 use Rattle.lin_edn.specs.Simple.{is_simple, is_simple_behind, IsSimple}

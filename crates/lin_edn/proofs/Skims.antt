@@ -1,7 +1,7 @@
 -- The reader without values goes with the machine.
 use Rattle.std.proofs.Common.{◌≡◌, ℕ, zero, suc, ◌+◌, ◌<◌, Bool, true, false, ◌&&◌, ◌==◌, nat_le, if◌then◌else◌, List, [], ◌∷◌, ◌++◌, length, get_or, subst, take, length-take-le, ◌≤◌, drop, length-drop, map as each, refl, sym, ap, ◌∙◌, arith, Option, Some, None, is_some, rules, tests, append_assoc, append-nil, length-append}
 use Rattle.std.proofs.lemmas.List.{length-map}
-use Rattle.lin_edn.specs.Bytes.{a_set, Class, class, white, semicolon, opener, closer, quote, backslash, hash, inside, is_stop, is_newline, closing, Behind, behind, opens_set, opens_text, discards, joins, stands_apart, names_tag, Quoted, quoted, ends, escapes, stays}
+use Rattle.lin_bytes.specs.Bytes.{a_set, Class, class, white, semicolon, opener, closer, quote, backslash, hash, inside, is_stop, is_newline, closing, Behind, behind, opens_set, opens_text, discards, joins, stands_apart, names_tag, Quoted, quoted, ends, escapes, stays}
 use Rattle.lin_edn.specs.Grammar.{no_blank_yet, Open, none_open, Frame, frame, discarding, tagging, longest, IsUnfinished, IsBlankText, outermost}
 use Rattle.lin_edn.specs.inner.Machine.{Mode, between, in_run, after_hash, after_backslash, in_tag, in_text, in_escape, in_comment, partial, blank, fault, too_long, Turn, go, stop, run, step, limited, ended, taken, begun, put, deeper, begins, goes_on, quotes, apart, close, closed, at_end}
 use Rattle.lin_edn.specs.Run.{run_value}

@@ -1,11 +1,11 @@
 -- What the scans of rows of bytes find, in words of the grammar.
 use Rattle.std.proofs.Common.{◌≡◌, ℕ, ◌+◌, ◌<◌, ◌≤◌, true, false, List, [], ◌∷◌, length, drop, get_or, refl, sym, subst, arith, ◌∙◌}
 use Rattle.std.specs.List.{slice_range}
-use Rattle.lin_edn.specs.Bytes.{Class, class, white, inside, quote, hash, is_white, is_stop, quoted, ends, behind, names_tag}
+use Rattle.lin_bytes.specs.Bytes.{Class, class, white, inside, quote, hash, is_white, is_stop, quoted, ends, behind, names_tag}
 use Rattle.lin_edn.specs.Grammar.{One, one, Inside, first, next, Tag, first_of_tag, next_of_tag, IsTagAt, Blanks, no_blank, one_more, Text, opened, plain, Blank, white_byte, Element, run as a_run, whole_text, Row, blank, ShortBlanks, one_more_short, longest}
 use Rattle.lin_edn.specs.Run.{run_value}
 use Rattle.lin_edn.specs.Scans.{IsStopAt, is_dark, is_quoting}
-use Rattle.lin_edn.specs.inner.Scans.{is_inside}
+use Rattle.lin_bytes.specs.Bytes.{is_inside}
 use Rattle.lin_edn.specs.Value.{Value, text as text_value}
 use Rattle.lin_edn.proofs.Ahead.{along_to, at_byte, lit, white_class, inside_of, stays_of}
 use Rattle.lin_edn.specs.inner.Machine.{complete}

@@ -1,6 +1,6 @@
 -- What is wrong with a byte is what the machine tells, where the limit is great enough.
 use Rattle.std.proofs.Common.{◌≡◌, ℕ, suc, ◌+◌, ◌<◌, ◌≤◌, true, false, List, [], ◌∷◌, length, refl, sym, ap, ◌∙◌, arith, None, nat_le, if◌then◌else◌}
-use Rattle.lin_edn.specs.Bytes.{Kind, a_list, a_vector, a_set, a_map, hash, opener, closer, closing, Behind, behind, opens_set, opens_text, discards as discards_next, joins, stands_apart, names_tag}
+use Rattle.lin_bytes.specs.Bytes.{Kind, a_list, a_vector, a_set, a_map, hash, opener, closer, closing, Behind, behind, opens_set, opens_text, discards as discards_next, joins, stands_apart, names_tag}
 use Rattle.lin_edn.specs.Grammar.{longest, One, Frame, frame, discarding, tagging, Open, none_open, within, waits, awaits, fits, deepens, Faulty, unbalanced, odd_map, too_deep, hash_too_deep, outermost}
 use Rattle.lin_edn.specs.inner.Machine.{Mode, in_run, after_hash, after_backslash, in_tag, in_text, in_escape, in_comment, go, run, between, Turn, stop, fault, deeper, close, closed}
 use Rattle.lin_edn.specs.Value.{Value, made}

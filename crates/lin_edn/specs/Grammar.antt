@@ -3,7 +3,7 @@
 -- A row as `Element n p s v q t` reads: with n more levels, the bytes s, which stand from place p on,
 -- begin with the spelling of v, which ends before place q, from where on the bytes t stand.
 use Rattle.std.specs.Prelude.{◌≡◌, ℕ, suc, ◌+◌, ◌<◌, ◌≤◌, Bool, true, false, List, [], ◌∷◌, ◌++◌, length, drop, take, Some, None, ◌==◌}
-use Rattle.lin_edn.specs.Bytes.{Kind, a_set, Class, class, white, semicolon, opener, closer, quote, backslash, hash, inside, is_stop, is_newline, closing, Behind, behind, opens_set, opens_text, discards as discards_next, joins, stands_apart, names_tag, quoted, ends, escapes, stays}
+use Rattle.lin_bytes.specs.Bytes.{Kind, a_set, Class, class, white, semicolon, opener, closer, quote, backslash, hash, inside, is_stop, is_newline, closing, Behind, behind, opens_set, opens_text, discards as discards_next, joins, stands_apart, names_tag, quoted, ends, escapes, stays}
 use Rattle.lin_edn.specs.Run.{run_value}
 use Rattle.lin_edn.specs.Value.{Value, atom, text, tagged, made}
 use Rattle.lin_edn.specs.declared.EdnCause.{EdnCause}

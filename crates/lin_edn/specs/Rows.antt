@@ -1,6 +1,6 @@
 -- A list or vector that is read element by element, in words of the grammar.
 use Rattle.std.specs.Prelude.{◌≡◌, ℕ, ◌<◌, ◌≤◌, Bool, true, false, List, [], ◌∷◌, ◌++◌, length, drop, slice_index}
-use Rattle.lin_edn.specs.Bytes.{Kind, a_list, a_vector, closing, is_white}
+use Rattle.lin_bytes.specs.Bytes.{Kind, a_list, a_vector, closing, is_white}
 use Rattle.lin_edn.specs.Grammar.{longest, Blanks, Element, Spells, Frame, frame, tagging, Open}
 use Rattle.lin_edn.specs.Value.{Value, list, vector, tagged, values_of}
 use Rattle.lin_edn.specs.View.{view}

@@ -1,7 +1,7 @@
 -- Which value a run spells.
 use Rattle.std.specs.Prelude.{ℕ, ◌+◌, ◌*◌, ◌-◌, ◌^◌, ℤ, pos, neg_ℤ, Bool, true, false, ◌&&◌, ◌||◌, ◌==◌, not, nat_le, nat_lt, if◌then◌else◌, List, [], ◌∷◌, length, take, slice_index, Option, Some, None, codes}
 use Rattle.std.specs.Str.{bytes_eq}
-use Rattle.lin_edn.specs.Bytes.{is_digit}
+use Rattle.lin_bytes.specs.Bytes.{is_digit}
 use Rattle.lin_edn.specs.Value.{Value, nil, bool, int, atom, keyword}
 
 abbrev pub is_minus : ℕ → Bool

@@ -1,6 +1,6 @@
 -- Where a row of bytes ends.
 use Rattle.std.specs.Prelude.{◌≡◌, ℕ, ◌<◌, ◌≤◌, Bool, true, false, not, ◌||◌, ◌==◌, List, slice_index}
-use Rattle.lin_edn.specs.Bytes.{is_white}
+use Rattle.lin_bytes.specs.Bytes.{is_white}
 
 -- the first byte from a place on that stops, or the end
 abbrev pub IsStopAt : (ℕ → Bool) → List ℕ → ℕ → ℕ → ℕ → Type 0

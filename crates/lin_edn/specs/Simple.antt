@@ -1,6 +1,6 @@
 -- Which elements are found in place at least: those without comments, discards, characters and escaped bytes.
 use Rattle.std.specs.Prelude.{◌≡◌, ℕ, ◌+◌, ◌<◌, ◌≤◌, Bool, true, false, List, drop, slice_index}
-use Rattle.lin_edn.specs.Bytes.{Class, class, white, semicolon, opener, closer, quote, backslash, hash, inside, Behind, behind, opens_set, opens_text, discards, joins, stands_apart, names_tag}
+use Rattle.lin_bytes.specs.Bytes.{Class, class, white, semicolon, opener, closer, quote, backslash, hash, inside, Behind, behind, opens_set, opens_text, discards, joins, stands_apart, names_tag}
 use Rattle.lin_edn.specs.Grammar.{Element}
 use Rattle.lin_edn.specs.Value.{Value}
 

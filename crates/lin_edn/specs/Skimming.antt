@@ -1,6 +1,6 @@
 -- What a reader that keeps no values knows of the text so far, in words of the grammar.
 use Rattle.std.specs.Prelude.{◌≡◌, ℕ, ◌+◌, ◌<◌, ◌≤◌, Bool, true, false, List, [], length, slice_index, map, reverse, is_some, not}
-use Rattle.lin_edn.specs.Bytes.{Kind, a_list, a_vector, a_set, a_map, backslash, hash, is_stop, is_newline}
+use Rattle.lin_bytes.specs.Bytes.{Kind, a_list, a_vector, a_set, a_map, backslash, hash, is_stop, is_newline}
 use Rattle.lin_edn.specs.Grammar.{One, Inside, Tag, Text, Escape, Comment, Frame, frame, discarding, tagging, outermost, Open, longest, IsUnfinished, IsBlankText}
 use Rattle.lin_edn.specs.Scans.{is_quoting}
 use Rattle.lin_edn.specs.Value.{made}

@@ -1,6 +1,6 @@
 -- What an element is, apart from where it lies in memory.
 use Rattle.std.specs.Prelude.{ℕ, ℤ, Bool, List, [], ◌∷◌, Option, Some, None, option_map}
-use Rattle.lin_edn.specs.Bytes.{Kind, a_list, a_vector, a_set, a_map}
+use Rattle.lin_bytes.specs.Bytes.{Kind, a_list, a_vector, a_set, a_map}
 
 mutual
   -- An atom, keyword, text or tag carries the place of its first byte, and its bytes.

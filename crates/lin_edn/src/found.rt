@@ -7,10 +7,11 @@ ghost use Rattle.lin_edn.specs.Run.{run_value};
 ghost use Rattle.lin_edn.specs.Scans.{IsStopAt, is_dark};
 ghost use Rattle.lin_edn.specs.Simple.{FindsBegun, FindsSimple};
 ghost use Rattle.lin_edn.specs.Value.{Value, text as text_value};
-ghost use Rattle.lin_edn.specs.Bytes.{class, inside, quote};
+ghost use Rattle.lin_bytes.specs.Bytes.{class, inside, quote};
 
 use crate::reader::{Behind, behind_hash};
-use crate::scan::{is_plain, plain_end, run_end, white_end};
+use crate::scan::{plain_end, run_end, white_end};
+use lin_bytes::is_plain;
 
 /// Where the white from a place on ends, or `end`.
 #[inline(always)]

@@ -1,11 +1,11 @@
 //! Where strings and keywords end.
 
-ghost use Rattle.std.specs.Prelude.{◌≡◌, ℕ, ◌<◌, ◌≤◌, List, ◌∷◌, length, drop, slice_index, false, IfSome, IfNone};
-ghost use Rattle.lin_edn.specs.Bytes as bytes;
-ghost use Rattle.lin_edn.specs.ItemEnds.{IsItemEnd, closing_end, closing_after};
+ghost use Rattle.std.specs.Prelude.{◌≡◌, ℕ, ◌<◌, length, slice_index, IfSome, IfNone};
+ghost use Rattle.lin_edn.specs.ItemEnds.{IsItemEnd};
 
 use crate::reader::{Behind, behind_hash};
 use crate::scan::run_end;
+use lin_bytes::text_end;
 
 /// Where the string or keyword ends that begins at a place, if one does. The end of the text finishes a keyword, and no string.
 pub fn item_end(text: &[u8], at: usize) -> Option<usize>
@@ -45,32 +45,4 @@ fn keyword_end(text: &[u8], at: usize) -> Option<usize>
         return None;
     }
     Some(end)
-}
-
-/// Where the text ends whose opening quote stands before a place, if it is closed.
-pub fn text_end(text: &[u8], from: usize) -> Option<usize>
-    requires { from ≤ length text.now }
-    ensures { result ≡ closing_end false from (drop from text.now) }
-{
-    let mut escaped = false;
-    for at in from..text.len() {
-        match passed(escaped, text[at]) {
-            Some(next) => escaped = next,
-            None => return Some(at + 1),
-        }
-    }
-    None
-}
-
-/// Whether the byte behind a byte of a text is escaped; none where this one closes the text.
-fn passed(escaped: bool, c: u8) -> Option<bool>
-    ensures { (q : ℕ) (t : List ℕ) → closing_end escaped q (c ∷ t) ≡ closing_after result q t }
-{
-    if escaped {
-        return Some(false);
-    }
-    if c == b'"' {
-        return None;
-    }
-    Some(c == b'\\')
 }

@@ -1,7 +1,7 @@
 //! What is open round an element: collections, tags and discards.
 
 ghost use Rattle.std.specs.Prelude.{◌≡◌, ℕ, ◌+◌, List, ◌∷◌, ◌++◌, [], length, Some, IfOk, IfSome, IfNone, OnOk, map, option_map};
-ghost use Rattle.lin_edn.specs.Bytes as bytes;
+ghost use Rattle.lin_bytes.specs.Bytes as bytes;
 ghost use Rattle.lin_edn.specs.Grammar.{frame};
 ghost use Rattle.lin_edn.specs.Grammar as grammar;
 ghost use Rattle.lin_edn.specs.inner.Machine as machine;

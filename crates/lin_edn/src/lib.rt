@@ -21,13 +21,13 @@ mod series;
 mod skim;
 
 pub use crate::found::{run_until, tag_until, text_until, white_until};
-pub use crate::item_ends::{item_end, text_end};
+pub use crate::item_ends::item_end;
 pub use crate::nested::nested_until;
 pub use crate::reader::window;
 pub use crate::run::{integer, run_element};
-pub use crate::scan::is_stop;
 pub use crate::series::{Inside, Series};
 pub use crate::skim::Skim;
+pub use lin_bytes::{is_stop, text_end};
 use std::alloc::{AllocError, Global};
 
 /// A part of the input: `text` is `input[at..at + text.len()]`.

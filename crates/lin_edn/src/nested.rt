@@ -1,7 +1,7 @@
 //! Values of an input, with what is nested in them, found in place.
 
 ghost use Rattle.std.specs.Prelude.{◌≡◌, ℕ, ◌+◌, ◌<◌, ◌≤◌, Bool, List, true, IfSome, IfNone, length, drop, slice_index};
-ghost use Rattle.lin_edn.specs.Bytes.{Kind};
+ghost use Rattle.lin_bytes.specs.Bytes.{Kind};
 ghost use Rattle.lin_edn.specs.Grammar.{Element, Opens};
 ghost use Rattle.lin_edn.specs.Skimming.{brackets, level_view};
 ghost use Rattle.lin_edn.specs.inner.Skimming.{grown};

@@ -2,7 +2,7 @@
 
 ghost use Rattle.std.specs.Prelude.{◌≡◌, ℕ, ◌+◌, ◌<◌, ◌≤◌, nat_le, slice_index, drop, Ok, List, length, IfOk, [], ◌∷◌, map, option_map};
 ghost use Rattle.std.specs.List.{slice_range};
-ghost use Rattle.lin_edn.specs.Bytes as bytes;
+ghost use Rattle.lin_bytes.specs.Bytes as bytes;
 ghost use Rattle.lin_edn.specs.Grammar.{longest};
 ghost use Rattle.lin_edn.specs.Grammar as grammar;
 ghost use Rattle.lin_edn.specs.inner.Levels.{frame_view, frames_of, flat};
@@ -16,8 +16,9 @@ use crate::levels::{
     Frame, Placed, Sequence, closing, depth, finish, gathered, map_of, opened_at, pop, push,
 };
 use crate::run::run_element;
-use crate::scan::{is_stop, is_white, line_end, plain_end, run_end, white_end};
+use crate::scan::{line_end, plain_end, run_end, white_end};
 use crate::{Edn, EdnCause, EdnFault, Entry, Next, Span};
+use lin_bytes::{is_stop, is_white};
 use std::alloc::{AllocError, Global};
 
 // The greatest number of bytes that a top-level element, comment or discard has.

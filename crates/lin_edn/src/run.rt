@@ -2,7 +2,7 @@
 
 ghost use Rattle.std.specs.Prelude.{◌≡◌, ℕ, ◌≤◌, ◌<◌, ◌^◌, length, Option, Some, None, is_some, nat_le, if◌then◌else◌, false};
 ghost use Rattle.lin_edn.specs.Run as run;
-ghost use Rattle.lin_edn.specs.Bytes as bytes;
+ghost use Rattle.lin_bytes.specs.Bytes as bytes;
 ghost use Rattle.lin_edn.specs.View.{view};
 ghost use Rattle.lin_edn.specs.inner.Numbers.{capped};
 

@@ -1,48 +1,10 @@
 //! Where rows of bytes end.
 
-ghost use Rattle.std.specs.Prelude.{◌≡◌, ◌≤◌, length};
-ghost use Rattle.lin_edn.specs.Bytes as bytes;
+ghost use Rattle.std.specs.Prelude.{◌≤◌, length};
+ghost use Rattle.lin_bytes.specs.Bytes as bytes;
 ghost use Rattle.lin_edn.specs.Scans.{IsStopAt, is_dark, is_quoting};
-ghost use Rattle.lin_edn.specs.inner.Scans.{is_inside};
 
-// The classes of the bytes: PLAIN begins a run, 1 is `#`, from WHITE on a byte stops a run.
-const PLAIN: u8 = 0;
-
-const WHITE: u8 = 2;
-
-static CLASSES: [u8; 256] = [
-    0, 0, 0, 0, 0, 0, 0, 0, 0, 2, 2, 2, 2, 2, 0, 0, 0, 0, 0, 0, 0, 0, 0, 0, 0, 0, 0, 0, 0, 0, 0, 0,
-    2, 0, 3, 1, 0, 0, 0, 0, 3, 3, 0, 0, 2, 0, 0, 0, 0, 0, 0, 0, 0, 0, 0, 0, 0, 0, 0, 3, 0, 0, 0, 0,
-    0, 0, 0, 0, 0, 0, 0, 0, 0, 0, 0, 0, 0, 0, 0, 0, 0, 0, 0, 0, 0, 0, 0, 0, 0, 0, 0, 3, 3, 3, 0, 0,
-    0, 0, 0, 0, 0, 0, 0, 0, 0, 0, 0, 0, 0, 0, 0, 0, 0, 0, 0, 0, 0, 0, 0, 0, 0, 0, 0, 3, 0, 3, 0, 0,
-    0, 0, 0, 0, 0, 0, 0, 0, 0, 0, 0, 0, 0, 0, 0, 0, 0, 0, 0, 0, 0, 0, 0, 0, 0, 0, 0, 0, 0, 0, 0, 0,
-    0, 0, 0, 0, 0, 0, 0, 0, 0, 0, 0, 0, 0, 0, 0, 0, 0, 0, 0, 0, 0, 0, 0, 0, 0, 0, 0, 0, 0, 0, 0, 0,
-    0, 0, 0, 0, 0, 0, 0, 0, 0, 0, 0, 0, 0, 0, 0, 0, 0, 0, 0, 0, 0, 0, 0, 0, 0, 0, 0, 0, 0, 0, 0, 0,
-    0, 0, 0, 0, 0, 0, 0, 0, 0, 0, 0, 0, 0, 0, 0, 0, 0, 0, 0, 0, 0, 0, 0, 0, 0, 0, 0, 0, 0, 0, 0, 0,
-];
-
-#[inline(always)]
-pub(crate) fn is_white(c: u8) -> bool
-    ensures { result ≡ bytes.is_white c }
-{
-    CLASSES[c as usize] == WHITE
-}
-
-/// Whether a byte ends a run.
-#[inline(always)]
-pub fn is_stop(c: u8) -> bool
-    ensures { result ≡ bytes.is_stop c }
-{
-    CLASSES[c as usize] >= WHITE
-}
-
-/// Whether a byte begins a run.
-#[inline(always)]
-pub(crate) fn is_plain(c: u8) -> bool
-    ensures { result ≡ is_inside (bytes.class c) }
-{
-    CLASSES[c as usize] == PLAIN
-}
+use lin_bytes::{is_stop, is_white};
 
 /// Where the bytes of a run from a place on end.
 #[inline(never)]

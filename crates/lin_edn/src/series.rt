@@ -1,7 +1,7 @@
 //! A list or vector that is read element by element.
 
 ghost use Rattle.std.specs.Prelude.{◌≡◌, ℕ, ◌+◌, ◌<◌, ◌≤◌, ◌++◌, [], List, IfOk, IfSome, IfNone, MatchOption, Ok, drop, length, slice_index};
-ghost use Rattle.lin_edn.specs.Bytes as bytes;
+ghost use Rattle.lin_bytes.specs.Bytes as bytes;
 ghost use Rattle.lin_edn.specs.Grammar.{longest, tagging, Opens, Row, ShortBlanks};
 ghost use Rattle.lin_edn.specs.inner.Levels.{frame_view, frames_of};
 ghost use Rattle.lin_edn.specs.inner.Machine.{Answer, complete};

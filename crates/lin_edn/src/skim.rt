@@ -1,7 +1,7 @@
 //! A reader that keeps no values, and goes on where it stopped.
 
 ghost use Rattle.std.specs.Prelude.{◌≡◌, ℕ, Bool, ◌<◌, List, [], ◌∷◌, ◌++◌, length, ◌==◌, true, false, None, Some, MatchOption, OnSome};
-ghost use Rattle.lin_edn.specs.Bytes as bytes;
+ghost use Rattle.lin_bytes.specs.Bytes as bytes;
 ghost use Rattle.lin_edn.specs.Grammar.{longest, IsUnfinished};
 ghost use Rattle.lin_edn.specs.Rows.{IsRow, bracket_of};
 ghost use Rattle.lin_edn.specs.Scans.{is_quoting};
@@ -13,9 +13,9 @@ ghost use Rattle.lin_edn.specs.Value.{Value};
 ghost use Rattle.lin_edn.specs.declared.skim.Part.TheVariants as part;
 
 use crate::reader::{Behind, DEEPEST, LONGEST, behind_hash};
-use crate::scan::{is_stop, is_white};
 use crate::series::Series;
 use arrayvec::ArrayVec;
+use lin_bytes::{is_stop, is_white};
 
 /// An open level.
 #[derive(Clone, Copy, Default)]

@@ -2,11 +2,11 @@
 use Rattle.std.proofs.Common.{◌<◌, ◌≤◌, ℕ, zero, suc, length, arith}
 use Rattle.std.proofs.lemmas.Option.{slice_get_within}
 use Rattle.lin_events.specs.declared.shapes.Cause.{Cause}
-use Rattle.lin_session.specs.Answers.{IsAnswer}
-use Rattle.lin_session.specs.Edits.{Present}
-use Rattle.lin_session.specs.declared.answers.Answer.TheVariants.{IllFormed, No, Undecided}
-use Rattle.lin_session.specs.declared.answers.Scope.{Scope}
-use Rattle.lin_session.specs.declared.answers.Scope.TheVariants.{Object, Whole}
+use Rattle.lin_answers.specs.Answers.{IsAnswer}
+use Rattle.lin_answers.specs.Edits.{Present}
+use Rattle.lin_answers.specs.declared.answers.Answer.TheVariants.{IllFormed, No, Undecided}
+use Rattle.lin_answers.specs.declared.answers.Scope.{Scope}
+use Rattle.lin_answers.specs.declared.answers.Scope.TheVariants.{Object, Whole}
 
 pub bad_within : (now : Present) (scope : Scope) (at : ℕ) (cause : Cause) → IsAnswer now scope (IllFormed at cause) → at < length now.history
 bad_within now scope at cause answer = slice_get_within now.history at answer.0.event answer.0.stands

@@ -2,8 +2,6 @@ pub mod Answered
 pub mod Before
 pub mod Counting
 pub mod Failing
-pub mod Later
 pub mod Noes
 pub mod Parting
 pub mod Texts
-pub mod ValuePairs

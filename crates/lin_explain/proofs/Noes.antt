@@ -8,10 +8,10 @@ use Rattle.lin_orders.specs.Linearizable.{IsLinearizable, IsLinearizableFor}
 use Rattle.lin_orders.specs.Merging.{IsLocal}
 use Rattle.lin_orders.specs.PartLaws.{LinearizableByPart, PartsAreWellFormed, PartsGrow}
 use Rattle.lin_orders.specs.Parts.{part}
-use Rattle.lin_session.specs.Answers.{IsAnswer, kinds_in}
-use Rattle.lin_session.specs.declared.answers.Answer.TheVariants.{No}
-use Rattle.lin_session.specs.declared.answers.Scope.{Scope}
-use Rattle.lin_session.specs.declared.answers.Scope.TheVariants.{Object, Whole}
+use Rattle.lin_answers.specs.Answers.{IsAnswer, kinds_in}
+use Rattle.lin_answers.specs.declared.answers.Answer.TheVariants.{No}
+use Rattle.lin_answers.specs.declared.answers.Scope.{Scope}
+use Rattle.lin_answers.specs.declared.answers.Scope.TheVariants.{Object, Whole}
 use Rattle.lin_explain.specs.inner.Laws.{FailuresEnd, IsFailure, NoesFail}
 use Rattle.lin_explain.proofs.Answered.{prefix_within}
 use Rattle.lin_explain.proofs.Failing.{object_fails, whole_fails}

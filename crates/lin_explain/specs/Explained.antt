@@ -1,13 +1,13 @@
 -- The lines of an explanation that follow the answer's own, for each answer.
 use Rattle.std.specs.Prelude.{◌≡◌, ℕ, List, Option, Some, None}
 use Rattle.lin_events.specs.declared.items.Item.{Item}
-use Rattle.lin_places.specs.declared.place.Place.{Place}
-use Rattle.lin_session.specs.Answers.{kinds_in}
-use Rattle.lin_session.specs.Edits.{Present}
-use Rattle.lin_session.specs.declared.answers.Answer.{Answer}
-use Rattle.lin_session.specs.declared.answers.Answer.TheVariants.{IllFormed, Yes, No, Undecided}
-use Rattle.lin_session.specs.declared.answers.Scope.{Scope}
-use Rattle.lin_session.specs.declared.answers.Scope.TheVariants.{Object, Whole}
+use Rattle.lin_texts.specs.declared.place.Place.{Place}
+use Rattle.lin_answers.specs.Answers.{kinds_in}
+use Rattle.lin_answers.specs.Edits.{Present}
+use Rattle.lin_answers.specs.declared.answers.Answer.{Answer}
+use Rattle.lin_answers.specs.declared.answers.Answer.TheVariants.{IllFormed, Yes, No, Undecided}
+use Rattle.lin_answers.specs.declared.answers.Scope.{Scope}
+use Rattle.lin_answers.specs.declared.answers.Scope.TheVariants.{Object, Whole}
 use Rattle.lin_explain.specs.Failures.{IsNoText}
 use Rattle.lin_explain.specs.IllFormed.{IsIllFormedText}
 use Rattle.lin_explain.specs.Undecided.{IsUndecidedText}

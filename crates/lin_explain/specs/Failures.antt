@@ -7,9 +7,9 @@ use Rattle.lin_events.specs.declared.events.Body.TheVariants.{Invoke, Ok, Fail, 
 use Rattle.lin_events.specs.Operations.{IsEvent}
 use Rattle.lin_objects.specs.declared.kinds.Kind.{Kind}
 use Rattle.lin_orders.specs.Parts.{IsNth}
-use Rattle.lin_places.specs.declared.place.Place.{Place}
-use Rattle.lin_session.specs.Answers.{kinds_in}
-use Rattle.lin_session.specs.Edits.{Present}
+use Rattle.lin_texts.specs.declared.place.Place.{Place}
+use Rattle.lin_answers.specs.Answers.{kinds_in}
+use Rattle.lin_answers.specs.Edits.{Present}
 use Rattle.lin_window.specs.Operations.{IsFailing}
 use Rattle.lin_window.specs.Tables.{Told}
 use Rattle.lin_words.specs.Operations.{operation_text}

@@ -2,8 +2,8 @@
 use Rattle.std.specs.Prelude.{ℕ, List, ◌++◌, codes}
 use Rattle.lin_events.specs.declared.items.Item.{Item}
 use Rattle.lin_objects.specs.declared.kinds.Kind.{Kind}
-use Rattle.lin_formats.specs.Items.{item_text}
-use Rattle.lin_formats.specs.Kinds.{kind_text}
+use Rattle.lin_texts.specs.Items.{item_text}
+use Rattle.lin_texts.specs.Kinds.{kind_text}
 
 module _ (names : List (List ℕ)) where
   abbrev pub object_text : Item → Kind → List ℕ

@@ -11,9 +11,9 @@ use Rattle.lin_events.specs.declared.shapes.Cause.TheVariants.{RetiredProcess, B
 use Rattle.lin_events.specs.Names.{name_of}
 use Rattle.lin_events.specs.Operations.{IsEvent, IsOf}
 use Rattle.lin_objects.specs.declared.kinds.Kind.{Kind}
-use Rattle.lin_formats.specs.Items.{item_text}
-use Rattle.lin_formats.specs.Kinds.{kind_text}
-use Rattle.lin_places.specs.declared.place.Place.{Place}
+use Rattle.lin_texts.specs.Items.{item_text}
+use Rattle.lin_texts.specs.Kinds.{kind_text}
+use Rattle.lin_texts.specs.declared.place.Place.{Place}
 use Rattle.lin_words.specs.Operations.{event_text, name_text}
 use Rattle.lin_words.specs.Spots.{event_spot_text}
 use Rattle.lin_explain.specs.Parts.{IsSpot}

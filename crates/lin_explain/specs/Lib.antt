@@ -1,12 +1,10 @@
 pub mod Counts
 pub mod Failures
 pub mod Heads
-pub mod Hints
 pub mod IllFormed
 pub mod Own
 pub mod Parts
 pub mod Possible
-pub mod Refused
 pub mod Since
 pub mod Undecided
 pub mod Whys

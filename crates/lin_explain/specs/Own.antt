@@ -3,7 +3,7 @@ use Rattle.std.specs.Prelude.{◌≡◌, ◌-◌, ℕ, List, Option, length, tak
 use Rattle.lin_events.specs.declared.items.Item.{Item}
 use Rattle.lin_events.specs.declared.events.Event.{Event}
 use Rattle.lin_orders.specs.Parts.{ArePositionsOf, part}
-use Rattle.lin_places.specs.declared.place.Place.{Place}
+use Rattle.lin_texts.specs.declared.place.Place.{Place}
 use Rattle.lin_window.specs.Tables.{Told}
 
 -- the events of the key in the history, with the spellings of words, and where they stand and are found

@@ -3,9 +3,9 @@ use Rattle.std.specs.Prelude.{◌≡◌, ℕ, List, Option, Some, None, slice_ge
 use Rattle.lin_events.specs.declared.items.Item.{Item}
 use Rattle.lin_events.specs.declared.events.Event.{Event}
 use Rattle.lin_objects.specs.declared.kinds.Kind.{Kind}
-use Rattle.lin_places.specs.declared.place.Place.{Place}
-use Rattle.lin_session.specs.Answers.{kinds_in}
-use Rattle.lin_session.specs.Edits.{Present}
+use Rattle.lin_texts.specs.declared.place.Place.{Place}
+use Rattle.lin_answers.specs.Answers.{kinds_in}
+use Rattle.lin_answers.specs.Edits.{Present}
 use Rattle.lin_words.specs.Operations.{event_text}
 use Rattle.lin_explain.specs.declared.parts.Spot.{Spot}
 

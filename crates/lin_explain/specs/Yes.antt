@@ -3,9 +3,9 @@ use Rattle.std.specs.Prelude.{◌≡◌, ◌-◌, ◌++◌, ℕ, Bool, true, fal
 use Rattle.lin_events.specs.declared.items.Item.{Item}
 use Rattle.lin_events.specs.declared.events.Event.{Event}
 use Rattle.lin_orders.specs.declared.placed.Placed.{Placed}
-use Rattle.lin_session.specs.Edits.{Present}
-use Rattle.lin_session.specs.Keys.{AreKeys}
-use Rattle.lin_formats.specs.Texts.{order_text}
+use Rattle.lin_answers.specs.Edits.{Present}
+use Rattle.lin_answers.specs.Keys.{AreKeys}
+use Rattle.lin_texts.specs.Texts.{order_text}
 use Rattle.lin_explain.specs.Counts.{count_in, open_in}
 use Rattle.lin_explain.specs.Parts.{object_in}
 use Rattle.lin_explain.specs.declared.parts.Parts.{Parts}

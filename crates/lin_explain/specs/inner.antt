@@ -2,4 +2,3 @@ pub mod Fallen
 pub mod Known
 pub mod Laws
 pub mod Own
-pub mod Tails

@@ -2,8 +2,8 @@
 ghost use Rattle.std.specs.Prelude.{◌≡◌};
 ghost use Rattle.lin_explain.specs.Counts.{count_in, counts, is_within as within, open_in, says as sort_says};
 
+use lin_answers::Present;
 use lin_events::{Body, Event, Item};
-use lin_session::Session;
 
 /// What an event says.
 #[derive(Clone, Copy)]
@@ -45,12 +45,12 @@ fn is_counted(key: Option<Item>, sort: Sort, event: &Event) -> bool
 }
 
 /// How many events of the sort the history has, or the object of the key.
-pub(crate) fn count(session: &Session, key: Option<Item>, sort: Sort) -> usize
-    ensures { result ≡ count_in key sort session.now.present.history }
+pub(crate) fn count(present: &Present<'_>, key: Option<Item>, sort: Sort) -> usize
+    ensures { result ≡ count_in key sort present.now.history }
 {
     let mut found = 0;
-    for at in 0..session.len() {
-        let Some(event) = session.event(at) else {
+    for at in 0..present.len() {
+        let Some(event) = present.event(at) else {
             unreachable!()
         };
         if is_counted(key, sort, event) {
@@ -61,10 +61,10 @@ pub(crate) fn count(session: &Session, key: Option<Item>, sort: Sort) -> usize
 }
 
 /// How many operations are neither ok nor failed.
-pub(crate) fn count_open(session: &Session, key: Option<Item>) -> usize
-    ensures { result ≡ open_in key session.now.present.history }
+pub(crate) fn count_open(present: &Present<'_>, key: Option<Item>) -> usize
+    ensures { result ≡ open_in key present.now.history }
 {
-    count(session, key, Sort::Invoked)
-        .saturating_sub(count(session, key, Sort::Ok))
-        .saturating_sub(count(session, key, Sort::Failed))
+    count(present, key, Sort::Invoked)
+        .saturating_sub(count(present, key, Sort::Ok))
+        .saturating_sub(count(present, key, Sort::Failed))
 }

@@ -1,7 +1,7 @@
 //! What is told of a no.
 ghost use Rattle.std.specs.Prelude.{◌≡◌, ◌-◌, ◌++◌, ℕ, List, IfOk, OnOk, decimal, length, option_map};
 ghost use Rattle.lin_orders.specs.Tables.{IsNextTable};
-ghost use Rattle.lin_session.specs.Edits.{Present};
+ghost use Rattle.lin_answers.specs.Edits.{Present};
 ghost use Rattle.lin_window.specs.Operations.{IsFailing, IsInvoked};
 ghost use Rattle.lin_window.specs.Tables.{told_of};
 ghost use Rattle.lin_explain.specs.Failures.{AreReasons, AreSpots, IsFailureText, IsNoText, ends_text, failing_in, failing_text, head_text, operation_line, prefix_line, reply_in};
@@ -21,12 +21,12 @@ use crate::since::put_since;
 use crate::spots::{Origin, spot_of};
 use crate::whys::put_why;
 use lin_events::{Body, Event, OutOfMemory, Reply};
-use lin_formats::put_number;
 use lin_names::Names;
 use lin_objects::Kind;
 use lin_orders::{ends_of, positions_spell_parts};
 use lin_outcomes::Before;
 use lin_possible::Possible;
+use lin_texts::put_number;
 use lin_window::{Stretch, failing_operation};
 use lin_words::{put_event_spot, put_operation};
 use std::alloc::{AllocError, Global};

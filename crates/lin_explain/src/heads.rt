@@ -1,14 +1,14 @@
 //! Words that several answers begin with, and what they need of an event.
 ghost use Rattle.std.specs.Prelude.{◌≡◌, ◌++◌, OnOk, codes};
-ghost use Rattle.lin_session.specs.Answers.{kinds_in};
-ghost use Rattle.lin_formats.specs.Items.{item_text};
+ghost use Rattle.lin_answers.specs.Answers.{kinds_in};
+ghost use Rattle.lin_texts.specs.Items.{item_text};
 ghost use Rattle.lin_explain.specs.Heads.{object_text};
 
+use lin_answers::Present;
 use lin_events::Event;
-use lin_formats::{kind_word, put_item};
 use lin_names::Names;
 use lin_objects::Kind;
-use lin_session::Session;
+use lin_texts::{kind_word, put_item};
 use std::alloc::AllocError;
 
 /// Puts the key of an event last.
@@ -19,10 +19,10 @@ pub(crate) fn put_key(text: &mut Vec<u8>, names: &Names, event: &Event) -> Resul
 }
 
 /// The kind of an event's object.
-pub(crate) fn kind_for(session: &Session, event: &Event) -> Kind
-    ensures { result ≡ kinds_in session.now.present event.now.key }
+pub(crate) fn kind_for(present: &Present<'_>, event: &Event) -> Kind
+    ensures { result ≡ kinds_in present.now event.now.key }
 {
-    session.kind_of(event.key)
+    present.kind_of(event.key)
 }
 
 /// Puts the word object, the key of an event's object, its kind and a colon last.

@@ -1,17 +1,17 @@
 //! What is told of a history that isn't well-formed.
 ghost use Rattle.std.specs.Prelude.{◌≡◌, ◌<◌, ◌++◌, ℕ, List, None, Some, Option, IfOk, OnOk, IfNone, IfSome, codes, length, option_map};
 ghost use Rattle.lin_events.specs.declared.events.Event.{Event as EventOf};
-ghost use Rattle.lin_session.specs.Answers.{kinds_in};
+ghost use Rattle.lin_answers.specs.Answers.{kinds_in};
 ghost use Rattle.lin_explain.specs.IllFormed.{IsIllFormedText, IsLastBefore, IsLastPlace, bad_text, before_line, before_text, function_text, keys_text, kinds_text, not_of_kind_text, sentence_text, stood_text};
 
 use crate::heads::{kind_for, put_key};
 use crate::parts::Parts;
 use crate::spots::{Origin, spot_of};
+use lin_answers::Present;
 use lin_events::{Body, Cause, Event, Name, OutOfMemory};
-use lin_formats::kind_word;
 use lin_names::Names;
 use lin_objects::Kind;
-use lin_session::Session;
+use lin_texts::kind_word;
 use lin_words::{name_word, put_event, put_event_spot};
 use std::alloc::{AllocError, Global};
 
@@ -31,13 +31,13 @@ fn put_stood(
 }
 
 /// Where the last event of the process before a position stands.
-fn last_before(session: &Session, process: u64, at: usize) -> Option<usize>
-    requires { at < length session.now.present.history }
-    ensures { IsLastPlace session.now.present.history process at result }
+fn last_before(present: &Present<'_>, process: u64, at: usize) -> Option<usize>
+    requires { at < length present.now.history }
+    ensures { IsLastPlace present.now.history process at result }
 {
     let mut found = None;
     for earlier in 0..at {
-        let Some(event) = session.event(earlier) else {
+        let Some(event) = present.event(earlier) else {
             unreachable!()
         };
         if event.process == process {
@@ -48,12 +48,12 @@ fn last_before(session: &Session, process: u64, at: usize) -> Option<usize>
 }
 
 /// The last event of the process before a position, behind where it stands, if there is one.
-fn event_before(session: &Session, process: u64, at: usize) -> (usize, Option<&Event>)
-    requires { at < length session.now.present.history }
-    ensures { IsLastBefore session.now.present.history process at result.0 (option_map (λ e. e.now) result.1) }
+fn event_before<'a>(present: &Present<'a>, process: u64, at: usize) -> (usize, Option<&'a Event>)
+    requires { at < length present.now.history }
+    ensures { IsLastBefore present.now.history process at result.0 (option_map (λ e. e.now) result.1) }
 {
-    match last_before(session, process, at) {
-        Some(earlier) => (earlier, session.event(earlier)),
+    match last_before(present, process, at) {
+        Some(earlier) => (earlier, present.event(earlier)),
         None => (0, None),
     }
 }
@@ -180,20 +180,20 @@ fn put_before_line(
 /// Puts the lines on a bad event last: the event, the one before it of the same process, and what is asked of histories.
 fn put_bad(
     text: &mut Vec<u8>,
-    session: &Session,
+    present: &Present<'_>,
     at: usize,
     event: &Event,
     cause: Cause,
     origin: &Origin,
 ) -> Result<(), AllocError>
-    requires { at < length session.now.present.history }
-    ensures { OnOk result ((earlier : ℕ) × (before : Option EventOf) × IsLastBefore session.now.present.history event.now.process at earlier before
-        × (text.new.items ≡ text.old.items ++ bad_text origin.now.names.now (kinds_in session.now.present event.now.key) (option_map (λ p. p.now) origin.now.places) at event.now earlier before cause)) }
+    requires { at < length present.now.history }
+    ensures { OnOk result ((earlier : ℕ) × (before : Option EventOf) × IsLastBefore present.now.history event.now.process at earlier before
+        × (text.new.items ≡ text.old.items ++ bad_text origin.now.names.now (kinds_in present.now event.now.key) (option_map (λ p. p.now) origin.now.places) at event.now earlier before cause)) }
 {
-    let (earlier, before) = event_before(session, event.process, at);
+    let (earlier, before) = event_before(present, event.process, at);
     put_stood(text, origin, at, event)?;
     put_before_line(text, origin, earlier, before, cause)?;
-    let kind = kind_for(session, event);
+    let kind = kind_for(present, event);
     put_sentence(text, origin.names, kind, event, before, cause)
 }
 
@@ -201,20 +201,20 @@ fn put_bad(
 pub(crate) fn put_ill_formed(
     alloc: Global,
     text: &mut Vec<u8>,
-    session: &Session,
+    present: &Present<'_>,
     at: usize,
     cause: Cause,
     origin: &Origin,
 ) -> Result<Parts, OutOfMemory>
-    requires { at < length session.now.present.history }
+    requires { at < length present.now.history }
     ensures { IfOk result (λ parts. (lines : List ℕ)
-        × IsIllFormedText origin.now.names.now session.now.present.history (kinds_in session.now.present) (option_map (λ p. p.now) origin.now.places) at cause lines parts
+        × IsIllFormedText origin.now.names.now present.now.history (kinds_in present.now) (option_map (λ p. p.now) origin.now.places) at cause lines parts
         × (text.new.items ≡ text.old.items ++ lines)) }
 {
-    let Some(event) = session.event(at) else {
+    let Some(event) = present.event(at) else {
         unreachable!()
     };
-    put_bad(text, session, at, event, cause, origin)?;
+    put_bad(text, present, at, event, cause, origin)?;
     let event = spot_of(alloc, origin, at, event)?;
     Ok(Parts::IllFormed { event })
 }

@@ -4,9 +4,9 @@ ghost use Rattle.lin_events.specs.Items.{item_eq};
 ghost use Rattle.lin_orders.specs.Parts.{ArePositionsOf, part};
 ghost use Rattle.lin_explain.specs.inner.Own.{IsOwn};
 
+use lin_answers::{Present, WholeHistory};
 use lin_events::{Event, Item, OutOfMemory};
 use lin_orders::parts_grow;
-use lin_session::Session;
 use std::alloc::Global;
 
 /// The events of an object among the first so many of a history, and their positions in it.
@@ -35,12 +35,12 @@ fn is_beside(event: &Event, other: &Event) -> bool
 /// The events of the object of an event among the first so many of the history.
 pub(crate) fn own_of(
     alloc: Global,
-    session: &Session,
+    present: &Present<'_>,
     of: &Event,
     count: usize,
 ) -> Result<Own, OutOfMemory>
-    requires within { count ≤ length session.now.present.history }
-    ensures { IfOk result (IsOwn of.now.key (take count session.now.present.history)) }
+    requires within { count ≤ length present.now.history }
+    ensures { IfOk result (IsOwn of.now.key (take count present.now.history)) }
 {
     parts_grow();
     let mut own = Own {
@@ -48,7 +48,7 @@ pub(crate) fn own_of(
         picks: Vec::new(alloc),
     };
     for at in 0..count {
-        let Some(event) = session.event(at) else {
+        let Some(event) = present.event(at) else {
             unreachable!()
         };
         if is_beside(event, of) {
@@ -68,17 +68,17 @@ fn is_of(event: &Event, key: Item) -> bool
 /// Where the events of the key stand among the first so many of the history.
 fn picks_of(
     alloc: Global,
-    session: &Session,
+    present: &Present<'_>,
     key: Item,
     count: usize,
 ) -> Result<Vec<usize>, OutOfMemory>
-    requires within { count ≤ length session.now.present.history }
-    ensures { IfOk result (λ picks. ArePositionsOf key (take count session.now.present.history) picks.items) }
+    requires within { count ≤ length present.now.history }
+    ensures { IfOk result (λ picks. ArePositionsOf key (take count present.now.history) picks.items) }
 {
     parts_grow();
     let mut picks = Vec::new(alloc);
     for at in 0..count {
-        let Some(event) = session.event(at) else {
+        let Some(event) = present.event(at) else {
             unreachable!()
         };
         if is_of(event, key) {
@@ -95,18 +95,18 @@ fn keep_own(events: &mut Vec<Event>, key: Item)
     events.retain(|event| event.key == key);
 }
 
-/// The events of the key among the first so many of the history, on the memory of the session, which goes with all that it found.
+/// The events of the key among the first so many of the history, on the memory of the whole, of which the rest goes.
 pub(crate) fn own_from(
     alloc: Global,
-    session: Session,
+    history: WholeHistory,
     key: Item,
     count: usize,
 ) -> Result<Own, OutOfMemory>
-    requires within { count ≤ length session.present.history }
-    ensures { IfOk result (IsOwn key (take count session.present.history)) }
+    requires within { count ≤ length history.history }
+    ensures { IfOk result (IsOwn key (take count history.history)) }
 {
-    let picks = picks_of(alloc, &session, key, count)?;
-    let mut events = session.into_history();
+    let picks = picks_of(alloc, &history.present(), key, count)?;
+    let mut events = history.into_events();
     events.truncate(count);
     keep_own(&mut events, key);
     Ok(Own { events, picks })

@@ -1,7 +1,7 @@
 //! What is told beside the text of an explanation, in parts.
 use lin_events::Item;
 use lin_objects::Kind;
-use lin_places::Place;
+use lin_texts::Place;
 
 /// An event that an explanation speaks of.
 #[derive(Drop)]

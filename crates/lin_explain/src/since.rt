@@ -9,7 +9,7 @@ ghost use Rattle.lin_explain.specs.Since.{IsSinceText, since_head};
 use crate::failures::Failure;
 use crate::known::Quiet;
 use lin_events::OutOfMemory;
-use lin_formats::put_number;
+use lin_texts::put_number;
 use lin_window::{Listed, Window, put_operations};
 use std::alloc::{AllocError, Global};
 

@@ -1,8 +1,8 @@
 //! The lines of an explanation.
 ghost use Rattle.std.specs.Prelude.{◌≡◌, ◌++◌, ℕ, List, IfOk, option_map};
-ghost use Rattle.lin_session.specs.Answers.{IsAnswer};
-ghost use Rattle.lin_session.specs.declared.answers.Answer.{Answer as AnswerOf};
-ghost use Rattle.lin_session.specs.declared.answers.Scope.{Scope as ScopeOf};
+ghost use Rattle.lin_answers.specs.Answers.{IsAnswer};
+ghost use Rattle.lin_answers.specs.declared.answers.Answer.{Answer as AnswerOf};
+ghost use Rattle.lin_answers.specs.declared.answers.Scope.{Scope as ScopeOf};
 ghost use Rattle.lin_explain.specs.Explained.{Explains, scope_of};
 ghost use Rattle.lin_explain.specs.Failures.{IsNoText};
 ghost use Rattle.lin_explain.specs.declared.parts.Failed.{Failed as FailedOf};
@@ -15,10 +15,10 @@ use crate::parts::{Explanation, Parts};
 use crate::spots::Origin;
 use crate::undecided::put_undecided;
 use crate::yes::put_yes;
+use lin_answers::{Answer, Present, WholeHistory};
 use lin_events::{Item, OutOfMemory};
 use lin_names::Names;
-use lin_places::Place;
-use lin_session::{Answer, Session};
+use lin_texts::Place;
 use std::alloc::Global;
 
 /// What an explanation is asked about.
@@ -36,59 +36,59 @@ pub struct Asked {
 fn put_answer(
     alloc: Global,
     text: &mut Vec<u8>,
-    session: &Session,
+    present: &Present<'_>,
     answer: &Answer,
     asked: Asked,
     origin: &Origin,
 ) -> Result<Parts, OutOfMemory>
-    requires { IsAnswer session.now.present (scope_of asked.key) answer.now }
-    ensures { IfOk result (λ parts. (lines : List ℕ) × Explains origin.now.names.now session.now.present asked (option_map (λ p. p.now) origin.now.places) answer.now lines parts
+    requires { IsAnswer present.now (scope_of asked.key) answer.now }
+    ensures { IfOk result (λ parts. (lines : List ℕ) × Explains origin.now.names.now present.now asked (option_map (λ p. p.now) origin.now.places) answer.now lines parts
         × (text.new.items ≡ text.old.items ++ lines)) }
 {
     match answer {
         Answer::IllFormed { at, cause } => {
-            put_ill_formed(alloc, text, session, *at, *cause, origin)
+            put_ill_formed(alloc, text, present, *at, *cause, origin)
         }
-        Answer::Yes(order) => put_yes(alloc, text, origin.names, session, order.as_slice(), asked),
+        Answer::Yes(order) => put_yes(alloc, text, origin.names, present, order.as_slice(), asked),
         Answer::No { prefix } => {
-            let fallen = fallen_of(alloc, session, *prefix)?;
+            let fallen = fallen_of(alloc, present, *prefix)?;
             let failed = put_no(alloc, text, &fallen, *prefix, origin)?;
             Ok(Parts::No(failed))
         }
-        Answer::Undecided { at } => put_undecided(alloc, text, session, *at, origin, asked.keyed),
+        Answer::Undecided { at } => put_undecided(alloc, text, present, *at, origin, asked.keyed),
     }
 }
 
 /// An explanation of the answer: the lines that follow the answer's own, and what they say in parts.
 pub fn explanation_of(
     alloc: Global,
-    session: &Session,
+    present: &Present<'_>,
     names: &Names,
     answer: &Answer,
     asked: Asked,
     places: Option<&[Place]>,
 ) -> Result<Explanation, OutOfMemory>
-    requires { IsAnswer session.now.present (scope_of asked.key) answer.now }
-    ensures { IfOk result (λ told. Explains names.now session.now.present asked (option_map (λ p. p.now) places.entry) answer.now told.lines.items told.parts) }
+    requires { IsAnswer present.now (scope_of asked.key) answer.now }
+    ensures { IfOk result (λ told. Explains names.now present.now asked (option_map (λ p. p.now) places.entry) answer.now told.lines.items told.parts) }
 {
     let mut lines = Vec::new(alloc);
     let origin = Origin { names, places };
-    let parts = put_answer(alloc, &mut lines, session, answer, asked, &origin)?;
+    let parts = put_answer(alloc, &mut lines, present, answer, asked, &origin)?;
     Ok(Explanation { lines, parts })
 }
 
-/// What explains a no, where the session isn't needed any more.
+/// What explains a no, where the history isn't needed any more.
 fn explained_no(
     alloc: Global,
-    session: Session,
+    history: WholeHistory,
     origin: &Origin,
     prefix: usize,
 ) -> Result<Explanation, OutOfMemory>
-    requires { (scope : ScopeOf) × IsAnswer session.present scope (AnswerOf.No prefix) }
+    requires { (scope : ScopeOf) × IsAnswer history scope (AnswerOf.No prefix) }
     ensures { IfOk result (λ told. (failed : FailedOf) × (told.parts ≡ PartsOf.No failed)
-        × IsNoText origin.now.names.now session.present (option_map (λ p. p.now) origin.now.places) prefix told.lines.items failed) }
+        × IsNoText origin.now.names.now history (option_map (λ p. p.now) origin.now.places) prefix told.lines.items failed) }
 {
-    let fallen = fallen_from(alloc, session, prefix)?;
+    let fallen = fallen_from(alloc, history, prefix)?;
     let mut lines = Vec::new(alloc);
     let failed = put_no(alloc, &mut lines, &fallen, prefix, origin)?;
     Ok(Explanation {
@@ -97,22 +97,22 @@ fn explained_no(
     })
 }
 
-/// As `explanation_of`, where the session isn't needed any more: what it keeps goes before a no is explained.
+/// As `explanation_of`, where the history isn't needed any more: of a no only the events of its object stay.
 pub fn explanation_from(
     alloc: Global,
-    session: Session,
+    history: WholeHistory,
     names: &Names,
     answer: &Answer,
     asked: Asked,
     places: Option<&[Place]>,
 ) -> Result<Explanation, OutOfMemory>
-    requires { IsAnswer session.present (scope_of asked.key) answer.now }
-    ensures { IfOk result (λ told. Explains names.now session.present asked (option_map (λ p. p.now) places.entry) answer.now told.lines.items told.parts) }
+    requires { IsAnswer history (scope_of asked.key) answer.now }
+    ensures { IfOk result (λ told. Explains names.now history asked (option_map (λ p. p.now) places.entry) answer.now told.lines.items told.parts) }
 {
     match answer {
         Answer::No { prefix } => {
-            explained_no(alloc, session, &Origin { names, places }, *prefix)
+            explained_no(alloc, history, &Origin { names, places }, *prefix)
         }
-        _ => explanation_of(alloc, &session, names, answer, asked, places),
+        _ => explanation_of(alloc, &history.present(), names, answer, asked, places),
     }
 }

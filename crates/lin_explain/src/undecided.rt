@@ -9,11 +9,11 @@ use crate::heads::{kind_for, put_object};
 use crate::own::own_of;
 use crate::parts::Parts;
 use crate::spots::{Origin, spot_of};
+use lin_answers::Present;
 use lin_events::{Event, OutOfMemory};
-use lin_formats::put_number;
 use lin_objects::Kind;
 use lin_orders::ends_of;
-use lin_session::Session;
+use lin_texts::put_number;
 use lin_window::{Listed, Stretch, open_counts, put_operations};
 use lin_words::{put_event, put_event_spot};
 use std::alloc::{AllocError, Global};
@@ -163,18 +163,18 @@ fn put_open(
 fn put_object_open(
     alloc: Global,
     text: &mut Vec<u8>,
-    session: &Session,
+    present: &Present<'_>,
     at: usize,
     event: &Event,
     origin: &Origin,
     keyed: bool,
 ) -> Result<(), OutOfMemory>
-    requires { at < length session.now.present.history }
-    ensures { OnOk result ((stretch : Told) × (lines : List ℕ) × IsStretch origin.now.names.now event.now.key (take (at + 1) session.now.present.history) (option_map (λ p. p.now) origin.now.places) stretch
-        × IsOpenText stretch session.now.present.budget keyed lines × (text.new.items ≡ text.old.items ++ lines)) }
+    requires { at < length present.now.history }
+    ensures { OnOk result ((stretch : Told) × (lines : List ℕ) × IsStretch origin.now.names.now event.now.key (take (at + 1) present.now.history) (option_map (λ p. p.now) origin.now.places) stretch
+        × IsOpenText stretch present.now.budget keyed lines × (text.new.items ≡ text.old.items ++ lines)) }
 {
-    let _count = session.len();
-    let own = own_of(alloc, session, event, at + 1)?;
+    let _count = present.len();
+    let own = own_of(alloc, present, event, at + 1)?;
     let ends = ends_of(alloc, own.events.as_slice())?;
     let stretch = Stretch {
         events: own.events.as_slice(),
@@ -183,28 +183,28 @@ fn put_object_open(
         names: origin.names,
         places: origin.places,
     };
-    put_open(alloc, text, &stretch, session.budget(), keyed)
+    put_open(alloc, text, &stretch, present.budget(), keyed)
 }
 
 /// Puts what is told last where the events up to and with a position are too many for the budget.
 pub(crate) fn put_undecided(
     alloc: Global,
     text: &mut Vec<u8>,
-    session: &Session,
+    present: &Present<'_>,
     at: usize,
     origin: &Origin,
     keyed: bool,
 ) -> Result<Parts, OutOfMemory>
-    requires { at < length session.now.present.history }
-    ensures { IfOk result (λ parts. (lines : List ℕ) × IsUndecidedText origin.now.names.now session.now.present keyed (option_map (λ p. p.now) origin.now.places) at lines parts
+    requires { at < length present.now.history }
+    ensures { IfOk result (λ parts. (lines : List ℕ) × IsUndecidedText origin.now.names.now present.now keyed (option_map (λ p. p.now) origin.now.places) at lines parts
         × (text.new.items ≡ text.old.items ++ lines)) }
 {
-    let Some(event) = session.event(at) else {
+    let Some(event) = present.event(at) else {
         unreachable!()
     };
-    let kind = kind_for(session, event);
-    put_event_line(text, kind, session.budget(), origin, at, event)?;
-    put_object_open(alloc, text, session, at, event, origin, keyed)?;
+    let kind = kind_for(present, event);
+    put_event_line(text, kind, present.budget(), origin, at, event)?;
+    put_object_open(alloc, text, present, at, event, origin, keyed)?;
     Ok(Parts::Undecided {
         key: event.key,
         kind,

@@ -7,78 +7,78 @@ ghost use Rattle.lin_explain.specs.Counts.{count_in, open_in};
 use crate::counts::{Sort, count, count_open};
 use crate::parts::Parts;
 use crate::telling::Asked;
+use lin_answers::Present;
 use lin_events::{Item, OutOfMemory};
-use lin_formats::{put_number, write_order};
 use lin_names::Names;
 use lin_objects::Kind;
 use lin_orders::Placed;
-use lin_session::Session;
+use lin_texts::{put_number, write_order};
 use std::alloc::{AllocError, Global};
 
 /// Puts how many events of the sort there are last.
 fn put_count(
     text: &mut Vec<u8>,
-    session: &Session,
+    present: &Present<'_>,
     key: Option<Item>,
     sort: Sort,
 ) -> Result<(), AllocError>
-    ensures { OnOk result (text.new.items ≡ text.old.items ++ decimal (count_in key sort session.now.present.history)) }
+    ensures { OnOk result (text.new.items ≡ text.old.items ++ decimal (count_in key sort present.now.history)) }
 {
-    put_number(text, count(session, key, sort) as u64)
+    put_number(text, count(present, key, sort) as u64)
 }
 
 /// Puts how many operations are open last.
-fn put_open(text: &mut Vec<u8>, session: &Session, key: Option<Item>) -> Result<(), AllocError>
-    ensures { OnOk result (text.new.items ≡ text.old.items ++ decimal (open_in key session.now.present.history)) }
+fn put_open(text: &mut Vec<u8>, present: &Present<'_>, key: Option<Item>) -> Result<(), AllocError>
+    ensures { OnOk result (text.new.items ≡ text.old.items ++ decimal (open_in key present.now.history)) }
 {
-    put_number(text, count_open(session, key) as u64)
+    put_number(text, count_open(present, key) as u64)
 }
 
 /// Puts how many open operations an order places last.
 #[tactic(auto, unfolding(crate::specs::Yes::placed_in))]
 fn put_placed(
     text: &mut Vec<u8>,
-    session: &Session,
+    present: &Present<'_>,
     key: Option<Item>,
     order: &[Placed],
 ) -> Result<(), AllocError>
-    ensures { OnOk result (text.new.items ≡ text.old.items ++ decimal (placed_in key session.now.present.history order.now)) }
+    ensures { OnOk result (text.new.items ≡ text.old.items ++ decimal (placed_in key present.now.history order.now)) }
 {
-    let placed = order.len().saturating_sub(count(session, key, Sort::Ok));
+    let placed = order.len().saturating_sub(count(present, key, Sort::Ok));
     put_number(text, placed as u64)
 }
 
 /// Puts the line that counts operations last.
 fn put_counts(
     text: &mut Vec<u8>,
-    session: &Session,
+    present: &Present<'_>,
     key: Option<Item>,
     objects: usize,
 ) -> Result<(), AllocError>
-    ensures { OnOk result (text.new.items ≡ text.old.items ++ counts_text key session.now.present.history objects) }
+    ensures { OnOk result (text.new.items ≡ text.old.items ++ counts_text key present.now.history objects) }
 {
     text.extend_from_slice(b"operations ")?;
-    put_count(text, session, key, Sort::Invoked)?;
+    put_count(text, present, key, Sort::Invoked)?;
     text.extend_from_slice(b": ok ")?;
-    put_count(text, session, key, Sort::Ok)?;
+    put_count(text, present, key, Sort::Ok)?;
     text.extend_from_slice(b", failed ")?;
-    put_count(text, session, key, Sort::Failed)?;
-    put_open_counts(text, session, key, objects)
+    put_count(text, present, key, Sort::Failed)?;
+    put_open_counts(text, present, key, objects)
 }
 
 /// Puts the end of that line last.
 fn put_open_counts(
     text: &mut Vec<u8>,
-    session: &Session,
+    present: &Present<'_>,
     key: Option<Item>,
     objects: usize,
 ) -> Result<(), AllocError>
-    ensures { OnOk result (text.new.items ≡ text.old.items ++ open_counts_text key session.now.present.history objects) }
+    ensures { OnOk result (text.new.items ≡ text.old.items ++ open_counts_text key present.now.history objects) }
 {
     text.extend_from_slice(b", open ")?;
-    put_open(text, session, key)?;
+    put_open(text, present, key)?;
     text.extend_from_slice(b" (crashed ")?;
-    put_count(text, session, key, Sort::Crashed)?;
+    put_count(text, present, key, Sort::Crashed)?;
     text.extend_from_slice(b"); objects ")?;
     put_number(text, objects as u64)?;
     text.extend_from_slice(b"\n")
@@ -87,16 +87,16 @@ fn put_open_counts(
 /// Puts the line that tells how many open operations an order places last.
 fn put_places(
     text: &mut Vec<u8>,
-    session: &Session,
+    present: &Present<'_>,
     key: Option<Item>,
     order: &[Placed],
 ) -> Result<(), AllocError>
-    ensures { OnOk result (text.new.items ≡ text.old.items ++ places_text key session.now.present.history order.now) }
+    ensures { OnOk result (text.new.items ≡ text.old.items ++ places_text key present.now.history order.now) }
 {
     text.extend_from_slice(b"a legal order places ")?;
-    put_placed(text, session, key, order)?;
+    put_placed(text, present, key, order)?;
     text.extend_from_slice(b" of the ")?;
-    put_open(text, session, key)?;
+    put_open(text, present, key)?;
     text.extend_from_slice(b" open ones\n")?;
     Ok(())
 }
@@ -105,14 +105,14 @@ fn put_places(
 fn objects_of(
     alloc: Global,
     names: &Names,
-    session: &Session,
+    present: &Present<'_>,
     key: Option<Item>,
 ) -> Result<usize, OutOfMemory>
-    ensures { IfOk result (AreObjects names.now key session.now.present.history) }
+    ensures { IfOk result (AreObjects names.now key present.now.history) }
 {
     match key {
         Some(_) => Ok(1),
-        None => Ok(session.objects(alloc, names)?.len()),
+        None => Ok(present.objects(alloc, names)?.len()),
     }
 }
 
@@ -138,25 +138,25 @@ fn put_lines(
     alloc: Global,
     text: &mut Vec<u8>,
     names: &Names,
-    session: &Session,
+    present: &Present<'_>,
     order: &[Placed],
     asked: Asked,
 ) -> Result<(), OutOfMemory>
-    ensures { OnOk result ((objects : ℕ) × AreObjects names.now asked.key session.now.present.history objects
-        × (text.new.items ≡ text.old.items ++ yes_text names.now asked.key asked.with_order session.now.present.history objects order.now)) }
+    ensures { OnOk result ((objects : ℕ) × AreObjects names.now asked.key present.now.history objects
+        × (text.new.items ≡ text.old.items ++ yes_text names.now asked.key asked.with_order present.now.history objects order.now)) }
 {
-    let objects = objects_of(alloc, names, session, asked.key)?;
-    put_counts(text, session, asked.key, objects)?;
-    put_places(text, session, asked.key, order)?;
+    let objects = objects_of(alloc, names, present, asked.key)?;
+    put_counts(text, present, asked.key, objects)?;
+    put_places(text, present, asked.key, order)?;
     put_order_line(text, names, asked.with_order, order)
 }
 
 /// The object of the key with its kind, if one is named.
-fn object_of(session: &Session, key: Option<Item>) -> Option<(Item, Kind)>
-    ensures { result ≡ object_in session.now.present key }
+fn object_of(present: &Present<'_>, key: Option<Item>) -> Option<(Item, Kind)>
+    ensures { result ≡ object_in present.now key }
 {
     match key {
-        Some(key) => Some((key, session.kind_of(key))),
+        Some(key) => Some((key, present.kind_of(key))),
         None => None,
     }
 }
@@ -166,15 +166,15 @@ pub(crate) fn put_yes(
     alloc: Global,
     text: &mut Vec<u8>,
     names: &Names,
-    session: &Session,
+    present: &Present<'_>,
     order: &[Placed],
     asked: Asked,
 ) -> Result<Parts, OutOfMemory>
-    ensures { IfOk result (λ parts. (lines : List ℕ) × IsYesText names.now session.now.present asked.key asked.with_order order.now lines parts
+    ensures { IfOk result (λ parts. (lines : List ℕ) × IsYesText names.now present.now asked.key asked.with_order order.now lines parts
         × (text.new.items ≡ text.old.items ++ lines)) }
 {
-    put_lines(alloc, text, names, session, order, asked)?;
+    put_lines(alloc, text, names, present, order, asked)?;
     Ok(Parts::Yes {
-        object: object_of(session, asked.key),
+        object: object_of(present, asked.key),
     })
 }

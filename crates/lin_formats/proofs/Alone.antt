@@ -13,13 +13,13 @@ use Rattle.lin_objects.specs.Kinds.{functions_of}
 use Rattle.lin_orders.specs.declared.placed.Placed.{Placed}
 use Rattle.lin_orders.specs.Linearizable.{IsLegalOrder}
 use Rattle.lin_formats.specs.Inputs.{limit, IsFaulty, AreRefused, IsTooMany, IsWhole}
-use Rattle.lin_formats.specs.Orders.{order_of, order_said, order_written, IsOrderBy}
+use Rattle.lin_texts.specs.Orders.{order_of, order_said, order_written, IsOrderBy}
 use Rattle.lin_formats.specs.Verdicts.{all_of, IsJudged, IsRightBy}
 use Rattle.lin_formats.specs.declared.verdicts.Refusal.{Refusal}
 use Rattle.lin_formats.specs.declared.verdicts.Refusal.TheVariants.{Edn, Event as OfEvent, Truncated, Full, BadPair}
 use Rattle.lin_formats.specs.declared.verdicts.OrderVerdict.{OrderVerdict}
 use Rattle.lin_formats.specs.declared.verdicts.OrderVerdict.TheVariants.{Yes, No, IllFormed, Refused}
-use Rattle.lin_formats.specs.declared.settings.Settings.{Settings}
+use Rattle.lin_texts.specs.declared.settings.Settings.{Settings}
 
 -- an `Ok` is no `Err`
 ok_no_err : {A B : Type 0} (a : A) (b : B) → Ok a ≡ Err b → ⊥

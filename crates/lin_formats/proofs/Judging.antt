@@ -16,12 +16,12 @@ use Rattle.lin_names.specs.Names.{Begins}
 use Rattle.lin_names.specs.lemmas.Begins.{agrees_before}
 use Rattle.lin_formats.specs.Histories.{EndsFor, IsHistory}
 use Rattle.lin_formats.specs.Inputs.{IsWhole}
-use Rattle.lin_formats.specs.Orders.{IsOrderBy}
+use Rattle.lin_texts.specs.Orders.{IsOrderBy}
 use Rattle.lin_formats.specs.Verdicts.{all_of, IsJudged, IsReadFor, IsVerifiedBy}
 use Rattle.lin_formats.specs.lemmas.Reading.{stops_at_end}
 use Rattle.lin_formats.specs.declared.inputs.History.{History}
 use Rattle.lin_formats.specs.declared.inputs.History.TheVariants.{Whole}
-use Rattle.lin_formats.specs.declared.settings.Settings.{Settings}
+use Rattle.lin_texts.specs.declared.settings.Settings.{Settings}
 use Rattle.lin_formats.specs.declared.verdicts.OrderVerdict.{OrderVerdict}
 use Rattle.lin_formats.specs.declared.verdicts.OrderVerdict.TheVariants.{Yes, No, IllFormed, Refused}
 

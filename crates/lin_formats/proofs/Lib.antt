@@ -1,15 +1,4 @@
 pub mod Alone
-pub mod Calm
-pub mod Digits
-pub mod Joined
 pub mod Judging
-pub mod Members
-pub mod Pairs
-pub mod PartsOfTexts
-pub mod PrintedSets
-pub mod ReadBack
-pub mod Replies
-pub mod Rising
 pub mod Taking
-pub mod TooLarge
 pub mod Written

@@ -13,8 +13,8 @@ use Rattle.lin_formats.specs.Inputs.{limit, refusal_of, AreRefused, IsTooMany}
 use Rattle.lin_formats.specs.Intakes.{AreSeen, IsFed, IsFedOn, IsTooMuch}
 use Rattle.lin_formats.specs.declared.verdicts.Refusal.{Refusal}
 use Rattle.lin_formats.specs.declared.verdicts.Refusal.TheVariants.{Edn, Event as OfEvent, Truncated}
-use Rattle.lin_formats.specs.declared.faults.RunFault.{RunFault}
-use Rattle.lin_formats.specs.declared.faults.RunFault.TheVariants.{TooMuch}
+use Rattle.lin_texts.specs.declared.faults.RunFault.{RunFault}
+use Rattle.lin_texts.specs.declared.faults.RunFault.TheVariants.{TooMuch}
 
 pub none_of : {X : Type 0} (xs : List X) → length xs ≡ 0 → [] ≡ xs
 none_of [] none = refl

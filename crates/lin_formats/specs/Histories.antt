@@ -6,8 +6,8 @@ use Rattle.lin_formats.specs.declared.verdicts.Refusal.{Refusal}
 use Rattle.lin_formats.specs.declared.verdicts.Refusal.TheVariants as refusal
 use Rattle.lin_formats.specs.declared.inputs.History.{History}
 use Rattle.lin_formats.specs.declared.inputs.History.TheVariants.{Whole, Refused}
-use Rattle.lin_formats.specs.declared.faults.RunFault.{RunFault}
-use Rattle.lin_formats.specs.declared.faults.RunFault.TheVariants.{ReadFailed, WriteFailed, OutOfMemory, TooMuch}
+use Rattle.lin_texts.specs.declared.faults.RunFault.{RunFault}
+use Rattle.lin_texts.specs.declared.faults.RunFault.TheVariants.{ReadFailed, WriteFailed, OutOfMemory, TooMuch}
 
 -- by these names the bytes say this
 abbrev pub IsHistory : Bool → List (List ℕ) → List ℕ → History → Type 0

@@ -6,8 +6,8 @@ use Rattle.lin_history.specs.declared.follow.FollowFault.TheVariants as fault
 use Rattle.lin_history.specs.Stream.{IsStreamBy}
 use Rattle.lin_formats.specs.declared.verdicts.Refusal.{Refusal}
 use Rattle.lin_formats.specs.declared.verdicts.Refusal.TheVariants.{Edn, Event, Truncated, Full, BadPair}
-use Rattle.lin_formats.specs.declared.faults.RunFault.{RunFault}
-use Rattle.lin_formats.specs.declared.faults.RunFault.TheVariants.{OutOfMemory, TooMuch}
+use Rattle.lin_texts.specs.declared.faults.RunFault.{RunFault}
+use Rattle.lin_texts.specs.declared.faults.RunFault.TheVariants.{OutOfMemory, TooMuch}
 
 -- the greatest number of events of a file
 abbrev pub limit : ℕ

@@ -1,16 +1,7 @@
 pub mod VerdictTexts
-pub mod Orders
-pub mod Parts
 pub mod Devices
-pub mod Fronts
 pub mod Histories
 pub mod Inputs
-pub mod Integers
-pub mod Items
-pub mod Kinds
-pub mod OrderLaws
-pub mod Saying
-pub mod Texts
 pub mod Verdicts
 pub mod VerdictLaws
 pub mod lemmas

@@ -4,10 +4,9 @@ use Rattle.lin_edn.specs.declared.EdnCause.{EdnCause}
 use Rattle.lin_edn.specs.declared.EdnCause.TheVariants as edn
 use Rattle.lin_history.specs.declared.table.EventFault.{EventFault}
 use Rattle.lin_history.specs.declared.table.EventFault.TheVariants as fault
-use Rattle.lin_events.specs.declared.shapes.Cause.{Cause}
-use Rattle.lin_events.specs.declared.shapes.Cause.TheVariants as cause
-use Rattle.lin_formats.specs.declared.verdicts.Status.{Status}
-use Rattle.lin_formats.specs.declared.verdicts.Status.TheVariants as status
+use Rattle.lin_texts.specs.Causes.{cause_text}
+use Rattle.lin_texts.specs.declared.status.Status.{Status}
+use Rattle.lin_texts.specs.declared.status.Status.TheVariants as status
 use Rattle.lin_formats.specs.declared.verdicts.Refusal.{Refusal}
 use Rattle.lin_formats.specs.declared.verdicts.Refusal.TheVariants.{Edn, Event, Truncated, Full, BadPair}
 use Rattle.lin_formats.specs.declared.verdicts.OrderVerdict.{OrderVerdict}
@@ -32,15 +31,6 @@ event_fault_text fault.BadFunction = codes "6 BadFunction"
 event_fault_text fault.BadKey = codes "7 BadKey"
 event_fault_text fault.BadValue = codes "8 BadValue"
 event_fault_text fault.OutOfMemory = codes "9 OutOfMemory"
-
--- the number and the name of why an event is bad
-abbrev pub cause_text : Cause → List ℕ
-cause_text cause.RetiredProcess = codes "1 RetiredProcess"
-cause_text cause.BusyProcess = codes "2 BusyProcess"
-cause_text cause.NotOfKind = codes "3 NotOfKind"
-cause_text cause.NoInvocation = codes "4 NoInvocation"
-cause_text cause.OtherCall = codes "5 OtherCall"
-cause_text cause.OtherKey = codes "6 OtherKey"
 
 -- the text of a refusal
 abbrev pub refusal_text : Refusal → List ℕ

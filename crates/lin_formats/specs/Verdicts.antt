@@ -13,15 +13,15 @@ use Rattle.lin_orders.specs.Linearizable.{IsLegalOrder}
 use Rattle.lin_formats.specs.VerdictTexts.{line_of, status_of}
 use Rattle.lin_formats.specs.Inputs.{AreRefused, IsWhole}
 use Rattle.lin_formats.specs.Histories.{StopsFor}
-use Rattle.lin_formats.specs.Orders.{order_written, IsOrderBy}
+use Rattle.lin_texts.specs.Orders.{order_written, IsOrderBy}
 use Rattle.lin_formats.specs.declared.verdicts.Refusal.{Refusal}
 use Rattle.lin_formats.specs.declared.verdicts.Refusal.TheVariants as refusal
-use Rattle.lin_formats.specs.declared.verdicts.Status.{Status}
+use Rattle.lin_texts.specs.declared.status.Status.{Status}
 use Rattle.lin_formats.specs.declared.verdicts.OrderVerdict.{OrderVerdict}
 use Rattle.lin_formats.specs.declared.verdicts.OrderVerdict.TheVariants.{Yes, No, IllFormed, Refused}
-use Rattle.lin_formats.specs.declared.faults.RunFault.{RunFault}
-use Rattle.lin_formats.specs.declared.faults.RunFault.TheVariants.{ReadFailed, WriteFailed, OutOfMemory, TooMuch}
-use Rattle.lin_formats.specs.declared.settings.Settings.{Settings}
+use Rattle.lin_texts.specs.declared.faults.RunFault.{RunFault}
+use Rattle.lin_texts.specs.declared.faults.RunFault.TheVariants.{ReadFailed, WriteFailed, OutOfMemory, TooMuch}
+use Rattle.lin_texts.specs.declared.settings.Settings.{Settings}
 
 -- every key has an object of this kind
 abbrev pub all_of : Kind → Item → Kind

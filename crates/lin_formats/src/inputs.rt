@@ -12,11 +12,11 @@ ghost use Rattle.lin_formats.specs.Verdicts.{IsReadTooFar};
 ghost use Rattle.lin_formats.specs.Histories.{EndsFor, IsHistory, StopsFor, is_read_failed};
 
 use crate::counted::Counted;
-use crate::faults::RunFault;
 use crate::verdicts::Refusal;
 use lin_events::{Event, OutOfMemory};
 use lin_history::{Follow, FollowFault};
 use lin_names::{Names, names_grow};
+use lin_texts::RunFault;
 use std::alloc::Global;
 use std::io::Read;
 

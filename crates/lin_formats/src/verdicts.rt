@@ -1,22 +1,12 @@
 //! What a run answers, and its text.
-ghost use Rattle.std.specs.Prelude.{◌≡◌, ◌++◌, IfOk, OnOk, decimal};
-ghost use Rattle.lin_formats.specs.VerdictTexts.{edn_cause_text, event_fault_text, cause_text, line_of, refusal_text, status_of, verdict_text};
+ghost use Rattle.std.specs.Prelude.{◌≡◌, IfOk};
+ghost use Rattle.lin_formats.specs.VerdictTexts.{edn_cause_text, event_fault_text, line_of, refusal_text, status_of, verdict_text};
 
-use itoa::Buffer;
 use lin_edn::EdnCause;
 use lin_events::Cause;
 use lin_history::EventFault;
+use lin_texts::{Status, cause_words, put_number};
 use std::alloc::{AllocError, Global};
-
-/// How a run ends.
-#[derive(Clone, Copy, Debug, PartialEq, Eq)]
-pub enum Status {
-    Yes,
-    No,
-    Undecided,
-    IllFormed,
-    Refused,
-}
 
 /// Why the input, or the text of an order, is refused.
 #[derive(Clone, Copy, Debug, PartialEq, Eq)]
@@ -85,28 +75,6 @@ pub fn event_fault(fault: EventFault) -> &'static str
         EventFault::BadValue => "8 BadValue",
         EventFault::OutOfMemory => "9 OutOfMemory",
     }
-}
-
-/// The number and the name of why an event is bad.
-pub fn cause_words(cause: Cause) -> &'static str
-    ensures { result.now ≡ cause_text cause }
-{
-    match cause {
-        Cause::RetiredProcess => "1 RetiredProcess",
-        Cause::BusyProcess => "2 BusyProcess",
-        Cause::NotOfKind => "3 NotOfKind",
-        Cause::NoInvocation => "4 NoInvocation",
-        Cause::OtherCall => "5 OtherCall",
-        Cause::OtherKey => "6 OtherKey",
-    }
-}
-
-/// Puts a number last.
-pub fn put_number(line: &mut Vec<u8>, number: u64) -> Result<(), AllocError>
-    ensures { OnOk result (line.new.items ≡ line.old.items ++ decimal number) }
-{
-    let mut digits = Buffer::new();
-    line.extend_from_slice(digits.format(number).as_bytes())
 }
 
 /// The text of a refusal.

@@ -8,16 +8,14 @@ ghost use Rattle.lin_formats.specs.Histories.{is_read_failed};
 ghost use Rattle.lin_formats.specs.Verdicts.{is_write_failed, IsJudged, IsReadTooFar, IsVerifiedBy, IsVerifyRun};
 
 use crate::counted::Counted;
-use crate::faults::{OrderFault, RunFault};
 use crate::inputs::{History, read_history, some_numbering};
-use crate::orders::read_order;
-use crate::settings::Settings;
-use crate::verdicts::{OrderVerdict, Refusal, Status, line};
+use crate::verdicts::{OrderVerdict, Refusal, line};
 use crate::writing::write_whole;
 use lin_events::{Event, Meter, OutOfMemory, Shape};
 use lin_names::Names;
 use lin_objects::{Kind, Kinds};
 use lin_orders::check_order;
+use lin_texts::{OrderFault, RunFault, Settings, Status, read_order};
 use lin_wellformed::Scan;
 use std::alloc::Global;
 use std::io::{Read, Write};

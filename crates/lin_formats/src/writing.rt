@@ -4,7 +4,7 @@ ghost use Rattle.std.specs.Io.KnownBytes.{Appends};
 ghost use Rattle.lin_formats.specs.Devices.{device_of, failures_of};
 
 use crate::counted::Counted;
-use crate::faults::RunFault;
+use lin_texts::RunFault;
 use std::io::Write;
 
 /// Writes a text whole, in as many calls as the writer needs.

@@ -1,7 +1,7 @@
 -- Usual maps: the values that their bytes spell.
 use Rattle.std.proofs.Common.{◌≡◌, ℕ, suc, ℤ, ◌+◌, ◌<◌, Bool, true, false, List, [], ◌∷◌, ◌++◌, Option, Some, None, codes, drop, drop-cons, length, get_or, option_map, append-nil, append_assoc, refl, sym, ap, subst, ◌∙◌, arith, if◌then◌else◌}
 use Rattle.std.specs.Str.{bytes_eq}
-use Rattle.lin_edn.specs.Bytes.{Class, class, opener, hash, behind, opens_set, a_vector, a_set, a_map}
+use Rattle.lin_bytes.specs.Bytes.{Class, class, opener, hash, behind, opens_set, a_vector, a_set, a_map}
 use Rattle.lin_edn.specs.Grammar.{One, one, Element, Opens, collection, bracket, set_bracket, Row, empty, element}
 use Rattle.lin_edn.specs.Run.{run_value, of_number, is_keyword, integer}
 use Rattle.lin_edn.specs.Value.{Value, nil, bool, keyword, atom, vector, map, values_of, entry, entries_of, pairs_from}

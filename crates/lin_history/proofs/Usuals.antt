@@ -2,7 +2,7 @@
 use Rattle.std.proofs.Common.{◌≡◌, ℕ, pos, ◌<◌, ◌≤◌, Bool, true, false, if◌then◌else◌, List, [], ◌∷◌, Option, Some, None, Ok, drop, option_map, option_and_then, codes, refl, sym, ap, subst, ◌∙◌, arith}
 use Rattle.std.proofs.lemmas.Option.{none-some}
 use Rattle.std.specs.List.{list_any, slice_range}
-use Rattle.lin_edn.specs.Bytes.{is_newline}
+use Rattle.lin_bytes.specs.Bytes.{is_newline}
 use Rattle.lin_edn.specs.Grammar.{Element}
 use Rattle.lin_edn.specs.Laws.{ElementsAreUnique}
 use Rattle.lin_edn.specs.Run.{run_value}

@@ -2,7 +2,7 @@
 ghost use Rattle.std.specs.Prelude.{◌≡◌, false, ℕ, Bool, ◌||◌, ◌++◌, [], ◌∷◌, true, Some, None, map, option_map, Err, MatchOption, IsTrue, IsSome, is_some, IfOk, OnErr};
 ghost use Rattle.std.specs.List.{list_any};
 ghost use Rattle.std.specs.Str.{bytes_eq};
-ghost use Rattle.lin_edn.specs.Bytes.{is_newline};
+ghost use Rattle.lin_bytes.specs.Bytes.{is_newline};
 ghost use Rattle.lin_edn.specs.Run.{run_value};
 ghost use Rattle.lin_edn.specs.Value.{Value, int, keyword, map as map_value, nil as nil_value, values_of, entries_of};
 ghost use Rattle.lin_edn.specs.View.{view, entry_view};

@@ -1,7 +1,7 @@
 //! Values of usual maps, read in place.
 ghost use Rattle.std.specs.Prelude.{◌≡◌, ℕ, ◌+◌, ◌<◌, ◌≤◌, ◌∷◌, ◌++◌, [], List, IfSome, Some, option_map, length, drop, map};
-ghost use Rattle.lin_edn.specs.Bytes as bytes;
-ghost use Rattle.lin_edn.specs.Bytes.{a_vector};
+ghost use Rattle.lin_bytes.specs.Bytes as bytes;
+ghost use Rattle.lin_bytes.specs.Bytes.{a_vector};
 ghost use Rattle.lin_edn.specs.Grammar.{Element, Opens, Row};
 ghost use Rattle.lin_edn.specs.Run.{run_value};
 ghost use Rattle.lin_edn.specs.Value.{Value, made, text as text_value};

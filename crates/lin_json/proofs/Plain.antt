@@ -2,7 +2,7 @@
 use Rattle.std.proofs.Common.{◌≡◌, ◌<◌, ◌/◌, ◌%◌, ◌==◌, ◌∙◌, ◌⊎◌, inl, inr, subst, sym, ℕ, zero, ℤ, pos, negsuc, suc, Bool, true, false, List, [], ◌∷◌, ◌++◌, if◌then◌else◌, ap, refl, arith}
 use Rattle.std.specs.Fmt.{digit_glyph, digits, digits_onto, signed_decimal}
 use Rattle.std.specs.List.{flat_map}
-use Rattle.lin_formats.specs.Items.{spelled_text}
+use Rattle.lin_texts.specs.Items.{spelled_text}
 use Rattle.lin_names.specs.Spelled.{seen, truth}
 use Rattle.lin_names.specs.declared.said.Said.{Said}
 use Rattle.lin_names.specs.declared.said.Said.TheVariants.{Int, Bool as Truth}

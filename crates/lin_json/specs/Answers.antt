@@ -2,10 +2,10 @@
 use Rattle.std.specs.Prelude.{ℕ, List, ◌++◌, codes, decimal}
 use Rattle.lin_events.specs.declared.items.Item.{Item}
 use Rattle.lin_objects.specs.declared.kinds.Kind.{Kind}
-use Rattle.lin_formats.specs.Kinds.{kind_text}
-use Rattle.lin_formats.specs.Items.{item_text}
-use Rattle.lin_formats.specs.declared.verdicts.Status.{Status}
-use Rattle.lin_formats.specs.declared.verdicts.Status.TheVariants.{Yes, No, Undecided, IllFormed, Refused}
+use Rattle.lin_texts.specs.Kinds.{kind_text}
+use Rattle.lin_texts.specs.Items.{item_text}
+use Rattle.lin_texts.specs.declared.status.Status.{Status}
+use Rattle.lin_texts.specs.declared.status.Status.TheVariants.{Yes, No, Undecided, IllFormed, Refused}
 use Rattle.lin_json.specs.Strings.{string_json}
 
 -- only a yes says that the history is linearizable, and only a no that it isn't

@@ -4,9 +4,9 @@ use Rattle.lin_events.specs.declared.items.Item.{Item}
 use Rattle.lin_explain.specs.declared.parts.Parts.{Parts}
 use Rattle.lin_explain.specs.declared.parts.Parts.TheVariants.{Yes, No, Undecided, IllFormed}
 use Rattle.lin_explain.specs.declared.parts.Spot.{Spot}
-use Rattle.lin_formats.specs.declared.verdicts.Status.{Status}
+use Rattle.lin_texts.specs.declared.status.Status.{Status}
 use Rattle.lin_objects.specs.declared.kinds.Kind.{Kind}
-use Rattle.lin_places.specs.declared.place.Place.{Place}
+use Rattle.lin_texts.specs.declared.place.Place.{Place}
 use Rattle.lin_json.specs.Answers.{counted_json, head_json, named_json}
 use Rattle.lin_json.specs.Failures.{failed_json, named_event, place_json, spot_json}
 use Rattle.lin_json.specs.Strings.{string_json}

@@ -8,7 +8,7 @@ use Rattle.lin_explain.specs.declared.parts.Failed.{Failed}
 use Rattle.lin_explain.specs.declared.parts.Spot.{Spot}
 use Rattle.lin_explain.specs.declared.parts.Why.{Why}
 use Rattle.lin_objects.specs.declared.kinds.Kind.{Kind}
-use Rattle.lin_places.specs.declared.place.Place.{Place}
+use Rattle.lin_texts.specs.declared.place.Place.{Place}
 use Rattle.lin_json.specs.Answers.{named_json}
 use Rattle.lin_json.specs.Strings.{string_json}
 

@@ -1,14 +1,14 @@
 //! Answers, of a whole history and of its objects.
 ghost use Rattle.std.specs.Prelude.{◌≡◌, ◌++◌, OnOk, codes};
-ghost use Rattle.lin_formats.specs.Items.{item_text};
+ghost use Rattle.lin_texts.specs.Items.{item_text};
 ghost use Rattle.lin_json.specs.Answers.{answer_json, counted_json, head_json, named_json, object_json, objects_front, status_number as number_of, valid_text};
 ghost use Rattle.lin_json.specs.Strings.{string_json};
 
 use crate::strings::put_string;
 use lin_events::Item;
-use lin_formats::{Status, kind_word, put_item, put_number};
 use lin_names::{Names, Said, shown};
 use lin_objects::Kind;
+use lin_texts::{Status, kind_word, put_item, put_number};
 use std::alloc::AllocError;
 
 /// An answer, or why there is none: the status of a run that ends with it, and its line.

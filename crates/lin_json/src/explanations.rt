@@ -9,7 +9,7 @@ use lin_events::Item;
 use lin_explain::{Parts, Spot};
 use lin_names::Names;
 use lin_objects::Kind;
-use lin_places::Place;
+use lin_texts::Place;
 use std::alloc::AllocError;
 
 /// Puts the object that was asked about last, if one was.

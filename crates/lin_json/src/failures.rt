@@ -6,10 +6,9 @@ use crate::answers::put_named;
 use crate::strings::put_string;
 use lin_events::Item;
 use lin_explain::{Choices, Failed, Spot, Why};
-use lin_formats::put_number;
 use lin_names::Names;
 use lin_objects::Kind;
-use lin_places::Place;
+use lin_texts::{Place, put_number};
 use std::alloc::AllocError;
 
 /// Puts last where something stands, if it has a place.

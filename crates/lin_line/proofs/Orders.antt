@@ -4,9 +4,9 @@ use Rattle.std.proofs.lemmas.List.{length-map, map-append}
 use Rattle.std.specs.Prelude.{MatchBool, count_by, fold, is_ok}
 use Rattle.std.specs.Str.{bytes_eq}
 use Rattle.clap.specs.Words.{Row, Text, first_of}
-use Rattle.lin_formats.specs.Orders.{SaidPair, order_said, order_written}
+use Rattle.lin_texts.specs.Orders.{SaidPair, order_said, order_written}
 use Rattle.lin_names.specs.Names.{Numbering}
-use Rattle.lin_formats.specs.declared.settings.Settings.{Settings}
+use Rattle.lin_texts.specs.declared.settings.Settings.{Settings}
 use Rattle.lin_line.specs.CommandLine.{EndInOrder, HasSettings, IsUnsaid, SayOrder, Says, input_count, names_input_twice, texts_of}
 use Rattle.lin_line.specs.declared.misuse.NoLine.{NoLine}
 use Rattle.lin_line.specs.declared.misuse.NoLine.TheVariants.{NoOrder, TwoOrders, Unsaid}

@@ -10,10 +10,10 @@ use Rattle.clap.specs.declared.builder.value_parser.ValueParser.TheVariants.{Nam
 use Rattle.clap.specs.declared.error.Error.{Error}
 use Rattle.clap.specs.declared.error.kind.ErrorKind.{ErrorKind}
 use Rattle.clap.specs.declared.error.kind.ErrorKind.TheVariants.{ArgumentConflict, MissingRequiredArgument, OutOfMemory, ValueValidation}
-use Rattle.lin_formats.specs.Items.{item_written}
-use Rattle.lin_formats.specs.Kinds.{kind_named, kind_words}
-use Rattle.lin_formats.specs.Orders.{order_written}
-use Rattle.lin_formats.specs.declared.settings.Settings.{Settings}
+use Rattle.lin_texts.specs.Items.{item_written}
+use Rattle.lin_texts.specs.Kinds.{kind_named, kind_words}
+use Rattle.lin_texts.specs.Orders.{order_written}
+use Rattle.lin_texts.specs.declared.settings.Settings.{Settings}
 use Rattle.lin_names.specs.Spelled.{seen}
 use Rattle.lin_names.specs.declared.said.Said.{Said}
 use Rattle.lin_line.specs.declared.misuse.NoLine.{NoLine}

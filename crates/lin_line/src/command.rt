@@ -10,7 +10,7 @@ use crate::misuse::NoLine;
 use crate::version::VERSION;
 use clap::builder::ValueParser;
 use clap::{Arg, ArgAction, Command, Error};
-use lin_formats::kind_words;
+use lin_texts::kind_words;
 use std::alloc::{AllocError, Global};
 
 /// The words for the ways in which an answer is printed.

@@ -1,7 +1,7 @@
 //! What a command and its arguments say.
 ghost use Rattle.std.specs.Prelude.{◌≡◌, ◌<◌, ◌≤◌, ◌^◌, ◌⊎◌, ◌++◌, ◌∷◌, [], ℕ, false, codes, is_ok, length, map, option_and_then, option_map, IfErr, IfNone, IfOk, IfSome, MatchBool};
 ghost use Rattle.clap.specs.Words.{first_of, found_of, rows_of};
-ghost use Rattle.lin_formats.specs.Orders.{order_written};
+ghost use Rattle.lin_texts.specs.Orders.{order_written};
 ghost use Rattle.lin_line.specs.declared.words.Line.TheVariants as LineOf;
 ghost use Rattle.lin_line.specs.declared.words.Order.TheVariants as OrderOf;
 ghost use Rattle.lin_line.specs.CommandLine.{is_given as given, EndInOrder, GivesKey, HasSettings, IsUnsaid, LacksKey, LacksSettings, SpellsBudget, Says, texts_of};
@@ -10,8 +10,8 @@ ghost use Rattle.lin_line.specs.CommandLine as said;
 use crate::misuse::NoLine;
 use crate::words::{Format, Line, Order};
 use clap::ArgMatches;
-use lin_formats::{OrderFault, Settings, item_in, kind_named, read_order};
 use lin_names::{Names, Said, names_grow};
+use lin_texts::{OrderFault, Settings, item_in, kind_named, read_order};
 use std::alloc::{AllocError, Global};
 
 /// The greatest budget.

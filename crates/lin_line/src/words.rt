@@ -1,7 +1,7 @@
 //! What a command line says.
 
-use lin_formats::Settings;
 use lin_names::Said;
+use lin_texts::Settings;
 
 /// How an answer is printed.
 #[derive(Clone, Copy, Debug, PartialEq, Eq)]

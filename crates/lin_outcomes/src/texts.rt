@@ -14,10 +14,10 @@ use crate::listing::Listed;
 use crate::outcomes::{Before, Outcomes};
 use crate::told::{Told, states_told};
 use lin_events::{OutOfMemory, Reply};
-use lin_formats::put_number;
 use lin_names::Names;
 use lin_objects::Kind;
 use lin_possible::Possible;
+use lin_texts::put_number;
 use lin_words::put_list;
 use std::alloc::{AllocError, Global};
 

@@ -3,7 +3,7 @@ use Rattle.std.proofs.Common.{inl, inr, ◌≡◌, ℕ, ◌+◌, ◌<◌, ◌≤
 use Rattle.std.proofs.lemmas.Bool.{cases_lt}
 use Rattle.std.proofs.lemmas.List.{length-drop}
 use Rattle.std.specs.Option.{option_map}
-use Rattle.lin_edn.specs.Bytes.{a_list, a_vector, a_set, a_map, Class, class, white, semicolon, opener, closer, quote, backslash, hash, inside, is_white, is_stop, Behind, behind, opens_set, opens_text, discards as discards_next, joins, stands_apart, names_tag}
+use Rattle.lin_bytes.specs.Bytes.{a_list, a_vector, a_set, a_map, Class, class, white, semicolon, opener, closer, quote, backslash, hash, inside, is_white, is_stop, Behind, behind, opens_set, opens_text, discards as discards_next, joins, stands_apart, names_tag}
 use Rattle.lin_edn.specs.Grammar.{one, Inside, first, joined, character, next, Tag, first_of_tag, next_of_tag, IsTagAt, Text, Escape, opened, opened_by_hash, plain, pair, escape, Comment, starts, goes, bracket, set_bracket, discards, Blank, white_byte, comment, discarded, Blanks, no_blank, one_more, Element, run, hash_alone, whole_text, tagged_element, collection, ShortBlanks, no_blank_yet, one_more_short, Spells, spells}
 use Rattle.lin_edn.specs.Scans.{IsStopAt, is_dark}
 use Rattle.lin_edn.specs.Value.{Value, map, Entries, made, pairs_from}

@@ -15,7 +15,7 @@ use Rattle.lin_history.specs.declared.follow.FollowFault.{FollowFault}
 use Rattle.lin_history.specs.declared.follow.FollowFault.TheVariants as fault
 use Rattle.lin_places.specs.Places.{place_at, Begins, alone, inside, ArePlaces, none, one_more, StopsAt, is_bad, Marked, Marks}
 use Rattle.lin_places.specs.inner.Marks.{IsReadTo, Ends, IsRead, IsResting}
-use Rattle.lin_places.specs.declared.place.Place.{Place}
+use Rattle.lin_texts.specs.declared.place.Place.{Place}
 use Rattle.lin_places.specs.declared.place.Stop.{Stop}
 use Rattle.lin_places.specs.declared.place.Stop.TheVariants as stop
 use Rattle.lin_places.specs.declared.mark.Read.{Read}

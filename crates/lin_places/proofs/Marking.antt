@@ -1,7 +1,7 @@
 -- The places of maps, one after another.
 use Rattle.std.proofs.Common.{◌≡◌, ℕ, zero, suc, ◌+◌, ◌<◌, ◌≤◌, Bool, true, false, List, [], ◌∷◌, ◌++◌, length, drop, take, map, get_or, take-append-drop, Option, Some, None, Result, Ok, Err, refl, sym, ap, subst, arith, ◌∙◌, append_assoc, append-nil}
 use Rattle.lin_edn.specs.Grammar.{Blanks, no_blank, one_more as one_more_blank, Element, Row, blank, element, Frame, frame, Open, none_open, within, Spells, spells, longest}
-use Rattle.lin_edn.specs.Bytes.{Kind}
+use Rattle.lin_bytes.specs.Bytes.{Kind}
 use Rattle.lin_edn.specs.Value.{Value, no_values, value, values_of}
 use Rattle.std.proofs.lemmas.Bool.{false≢true}
 use Rattle.lin_edn.specs.View.{view}
@@ -13,7 +13,7 @@ use Rattle.lin_events.specs.declared.events.Event.{Event}
 use Rattle.lin_history.specs.declared.table.EventFault.{EventFault}
 use Rattle.lin_places.specs.Places.{place_at, row_of, Begins, alone, inside, ArePlaces, one_more}
 use Rattle.lin_places.specs.inner.Marks.{IsPutBehind, IsMarkedOne, IsPut, StandsAt, Follow, another, IsAmong, IsStanding, IsSound, IsUnsound, AreMarked}
-use Rattle.lin_places.specs.declared.place.Place.{Place}
+use Rattle.lin_texts.specs.declared.place.Place.{Place}
 use Rattle.lin_places.specs.declared.place.Cursor.{Cursor}
 use Rattle.lin_names.specs.Names.{Begins as BeginNames}
 use Rattle.lin_names.specs.lemmas.Begins.{agrees_before}

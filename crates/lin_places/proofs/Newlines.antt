@@ -2,9 +2,9 @@
 use Rattle.std.proofs.Common.{◌≡◌, ℕ, suc, ◌+◌, ◌-◌, ◌≤◌, List, ◌++◌, length, take, drop, filter, sym, ap, arith, ◌∙◌, length-append}
 use Rattle.std.proofs.lemmas.List.{drop-take, take-append-drop, take-take, take-append-le, drop-drop}
 use Rattle.std.proofs.lemmas.List.Elements.{filter-append}
-use Rattle.lin_edn.specs.Bytes.{is_newline}
+use Rattle.lin_bytes.specs.Bytes.{is_newline}
 use Rattle.lin_places.specs.Places.{newlines, place_at}
-use Rattle.lin_places.specs.declared.place.Place.{Place}
+use Rattle.lin_texts.specs.declared.place.Place.{Place}
 
 newlines_of : (a b : List ℕ) → newlines (a ++ b) ≡ newlines a + newlines b
 newlines_of a b = ap length (filter-append is_newline a b) ∙ length-append (filter is_newline a) (filter is_newline b)

@@ -12,7 +12,7 @@ use Rattle.lin_history.specs.Stream.{told, Gives, blanks, element, blank, unfini
 use Rattle.lin_history.specs.declared.follow.FollowFault.TheVariants as fault
 use Rattle.lin_places.specs.Places.{place_at}
 use Rattle.lin_places.specs.inner.Marks.{Fits, AreMarked, IsReadTo, IsRead, IsFront, IsPassed}
-use Rattle.lin_places.specs.declared.place.Place.{Place}
+use Rattle.lin_texts.specs.declared.place.Place.{Place}
 use Rattle.lin_places.specs.declared.place.Cursor.{Cursor}
 use Rattle.lin_places.specs.declared.place.Stop.TheVariants as stop
 use Rattle.lin_places.specs.declared.mark.Read.{Read}

@@ -2,7 +2,7 @@
 use Rattle.std.proofs.Common.{◌≡◌, ℕ, ℤ, suc, ◌+◌, ◌<◌, ◌≤◌, Bool, true, false, List, [], ◌∷◌, ◌++◌, length, length-append, drop, Option, Some, None, option_map, if◌then◌else◌, codes, refl, sym, ap, subst, arith}
 use Rattle.std.proofs.lemmas.Bool.{false≢true}
 use Rattle.std.specs.Str.{bytes_eq}
-use Rattle.lin_edn.specs.Bytes.{Kind, a_list, a_vector, a_set, a_map, closing, is_stop}
+use Rattle.lin_bytes.specs.Bytes.{Kind, a_list, a_vector, a_set, a_map, closing, is_stop}
 use Rattle.lin_edn.specs.Grammar.{one, Tag, first_of_tag, next_of_tag, Opens, bracket, set_bracket, Blank, Blanks, no_blank, one_more, Element, run, hash_alone, whole_text, tagged_element, collection, Row, empty, blank, element, frame, tagging, Open, within, awaits, longest}
 use Rattle.lin_edn.specs.Run.{run_value, of_number, is_keyword, integer}
 use Rattle.lin_edn.specs.Value.{Value, nil, bool, atom, keyword, list, vector, set, map, tagged, Values, values_of, made, Entries, pairs_from}

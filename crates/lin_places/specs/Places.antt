@@ -1,6 +1,6 @@
 -- Where the events of a byte text stand.
 use Rattle.std.specs.Prelude.{◌≡◌, ℕ, suc, ◌+◌, ◌≤◌, Bool, true, false, List, [], ◌∷◌, ◌++◌, length, take, drop, filter, Option, Some, None, Result, Ok, Err}
-use Rattle.lin_edn.specs.Bytes.{Kind, a_list, a_vector, a_set, a_map, is_newline}
+use Rattle.lin_bytes.specs.Bytes.{Kind, a_list, a_vector, a_set, a_map, is_newline}
 use Rattle.lin_edn.specs.Grammar.{Frame, frame, discarding, tagging, Open, Element, Spells}
 use Rattle.lin_edn.specs.Value.{Value, list, vector, tagged, Values, values_of}
 use Rattle.lin_names.specs.Names.{AgreesWith}
@@ -10,7 +10,7 @@ use Rattle.lin_history.specs.Table.{event}
 use Rattle.lin_events.specs.declared.events.Event.{Event}
 use Rattle.lin_history.specs.declared.follow.FollowFault.{FollowFault}
 use Rattle.lin_history.specs.declared.follow.FollowFault.TheVariants as fault
-use Rattle.lin_places.specs.declared.place.Place.{Place}
+use Rattle.lin_texts.specs.declared.place.Place.{Place}
 use Rattle.lin_places.specs.declared.place.Stop.{Stop}
 use Rattle.lin_places.specs.declared.place.Stop.TheVariants as stop
 

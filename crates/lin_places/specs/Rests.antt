@@ -4,7 +4,7 @@ use Rattle.std.specs.Prelude.{◌≡◌, ℕ, true, List, ◌++◌, drop, Result
 use Rattle.lin_edn.specs.Skimming.{HasSeen}
 use Rattle.lin_places.specs.inner.Marks.{Fits}
 use Rattle.lin_events.specs.declared.lists.OutOfMemory.{OutOfMemory}
-use Rattle.lin_places.specs.declared.place.Place.{Place}
+use Rattle.lin_texts.specs.declared.place.Place.{Place}
 use Rattle.lin_places.specs.declared.mark.Read.{Read}
 use Rattle.lin_places.specs.declared.places.Rest.{Rest}
 

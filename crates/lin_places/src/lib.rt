@@ -6,5 +6,5 @@ mod place;
 mod places;
 
 pub use lin_events::OutOfMemory;
-pub use place::Place;
+pub use lin_texts::Place;
 pub use places::Places;

@@ -11,7 +11,7 @@ ghost use Rattle.lin_history.specs.Table.{event, IsAnswer};
 ghost use Rattle.lin_places.specs.inner.Marks.{Fits, IsMarkedOne, IsPutBehind, StandsAt, IsStanding, IsAmong, AreMarked, ArePassed, IsFront, IsPassed, IsRead};
 ghost use Rattle.lin_places.specs.Places.{row_of};
 
-use crate::place::{Cursor, Place, Stop, go_to};
+use crate::place::{Cursor, Stop, go_to};
 use lin_edn::{
     Edn, EdnCause, Next, Span, blanks_are_skipped, blanks_in_front, next_element,
     places as places_lie_within, readings_are_unique, tag_until, white_until,
@@ -19,6 +19,7 @@ use lin_edn::{
 use lin_events::OutOfMemory;
 use lin_history::{Event, EventFault, NextEvent, event_of, next_event};
 use lin_names::Names;
+use lin_texts::Place;
 use std::alloc::Global;
 
 /// What was read of a text: so far, and so it stops.

@@ -3,14 +3,7 @@ ghost use Rattle.std.specs.Prelude.{◌≡◌, ℕ, ◌+◌, ◌≤◌, suc, len
 ghost use Rattle.lin_places.specs.Places.{newlines as count_newlines, place_at};
 ghost use Rattle.lin_places.specs.inner.Marks.{Fits};
 
-/// Where something stands in a byte text.
-#[derive(Clone, Copy, Debug, PartialEq, Eq)]
-pub struct Place {
-    /// How many bytes stand before it.
-    pub offset: u64,
-    /// Its line, from 1 on: a byte 10 ends a line, and nothing else does.
-    pub line: u64,
-}
+use lin_texts::Place;
 
 /// Where a text stops that is read as far as it goes.
 #[derive(Clone, Copy, Debug, PartialEq, Eq)]

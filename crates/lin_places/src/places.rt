@@ -7,11 +7,12 @@ ghost use Rattle.lin_places.specs.Places.{Marks, Feeds, bad_of, unfinished_of, i
 ghost use Rattle.lin_places.specs.Rests.{IsSeen, IsCut};
 
 use crate::mark::{Read, read_on};
-use crate::place::{Cursor, Place, Stop};
+use crate::place::{Cursor, Stop};
 use lin_edn::{Skim, more_bytes, places as places_lie_within};
 use lin_events::OutOfMemory;
 use lin_history::faults_stay;
 use lin_names::Names;
+use lin_texts::Place;
 use std::alloc::Global;
 use std::marker::Model;
 

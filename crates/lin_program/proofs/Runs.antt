@@ -5,10 +5,10 @@ use Rattle.std.proofs.Math.Seq.{split_at}
 use Rattle.std.proofs.lemmas.List.{map-append, take_all, take_more}
 use Rattle.std.proofs.lemmas.List.Sums.{fold_push}
 use Rattle.lin_report.specs.Runs.{IsEditRun}
-use Rattle.lin_formats.specs.declared.settings.Settings.{Settings}
-use Rattle.lin_formats.specs.declared.faults.RunFault.{RunFault}
-use Rattle.lin_formats.specs.declared.verdicts.Status.{Status}
-use Rattle.lin_formats.specs.declared.verdicts.Status.TheVariants.{Yes}
+use Rattle.lin_texts.specs.declared.settings.Settings.{Settings}
+use Rattle.lin_texts.specs.declared.faults.RunFault.{RunFault}
+use Rattle.lin_texts.specs.declared.status.Status.{Status}
+use Rattle.lin_texts.specs.declared.status.Status.TheVariants.{Yes}
 use Rattle.lin_program.specs.Exit.{worse, worst}
 use Rattle.lin_program.specs.Reporting.{AreReportedFrom, AreReports, Reporting, one_more}
 use Rattle.lin_program.specs.declared.endings.Stop.{Stop}

@@ -7,10 +7,10 @@ use Rattle.lin_report.specs.Pictures.{IsDrawRun}
 use Rattle.lin_report.specs.Reports.{IsCheckRun}
 use Rattle.lin_report.specs.Runs.{IsEditRun}
 use Rattle.lin_formats.specs.Verdicts.{IsVerifyRun}
-use Rattle.lin_formats.specs.declared.verdicts.Status.{Status}
-use Rattle.lin_formats.specs.declared.faults.RunFault.{RunFault}
-use Rattle.lin_formats.specs.declared.faults.RunFault.TheVariants.{ReadFailed, OutOfMemory}
-use Rattle.lin_formats.specs.declared.settings.Settings.{Settings}
+use Rattle.lin_texts.specs.declared.status.Status.{Status}
+use Rattle.lin_texts.specs.declared.faults.RunFault.{RunFault}
+use Rattle.lin_texts.specs.declared.faults.RunFault.TheVariants.{ReadFailed, OutOfMemory}
+use Rattle.lin_texts.specs.declared.settings.Settings.{Settings}
 use Rattle.lin_line.specs.declared.words.Line.{Line}
 use Rattle.lin_line.specs.declared.words.Line.TheVariants.{Check, Explain, Draw, Verify, Edit}
 use Rattle.lin_line.specs.declared.words.Order.{Order}

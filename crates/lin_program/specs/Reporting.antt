@@ -3,9 +3,9 @@ use Rattle.std.specs.Prelude.{◌≡◌, ◌⊎◌, ℕ, Bool, true, false, List
 use Rattle.std.specs.Borrow.{Bor}
 use Rattle.std.specs.Io.KnownBytes.{Appends, Keeps}
 use Rattle.std.specs.Str.{bytes_eq}
-use Rattle.lin_formats.specs.declared.verdicts.Status.{Status}
-use Rattle.lin_formats.specs.declared.faults.RunFault.{RunFault}
-use Rattle.lin_formats.specs.declared.faults.RunFault.TheVariants.{WriteFailed, OutOfMemory}
+use Rattle.lin_texts.specs.declared.status.Status.{Status}
+use Rattle.lin_texts.specs.declared.faults.RunFault.{RunFault}
+use Rattle.lin_texts.specs.declared.faults.RunFault.TheVariants.{WriteFailed, OutOfMemory}
 use Rattle.lin_program.specs.Exit.{SystemWords, worst}
 use Rattle.lin_program.specs.Tasks.{Running}
 use Rattle.lin_program.specs.declared.endings.Stop.{Stop}

@@ -6,9 +6,9 @@ use Rattle.lin_report.specs.Reports.{IsCheckRun}
 use Rattle.lin_report.specs.declared.formats.Format.{Format as ReportFormat}
 use Rattle.lin_report.specs.declared.formats.Format.TheVariants as report
 use Rattle.lin_formats.specs.Verdicts.{IsVerifyRun}
-use Rattle.lin_formats.specs.declared.verdicts.Status.{Status}
-use Rattle.lin_formats.specs.declared.faults.RunFault.{RunFault}
-use Rattle.lin_formats.specs.declared.settings.Settings.{Settings}
+use Rattle.lin_texts.specs.declared.status.Status.{Status}
+use Rattle.lin_texts.specs.declared.faults.RunFault.{RunFault}
+use Rattle.lin_texts.specs.declared.settings.Settings.{Settings}
 use Rattle.lin_line.specs.declared.words.Format.{Format}
 use Rattle.lin_line.specs.declared.words.Format.TheVariants.{Text, Json}
 use Rattle.lin_program.specs.declared.tasks.Task.{Task}

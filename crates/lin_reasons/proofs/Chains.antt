@@ -1,6 +1,6 @@
 -- Texts that are put last, one after another.
 use Rattle.std.proofs.Common.{◌≡◌, ℕ, List, ◌++◌}
-use Rattle.lin_formats.specs.lemmas.Putting.{put_next}
+use Rattle.lin_texts.specs.lemmas.Putting.{put_next}
 
 pub puts2 : (old a b one two : List ℕ) → one ≡ old ++ a → two ≡ one ++ b → two ≡ old ++ (a ++ b)
 puts2 old a b one two p q = put_next old one two a b p q

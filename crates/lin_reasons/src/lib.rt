@@ -8,8 +8,6 @@ mod naming;
 mod queues;
 mod reasons;
 mod registers;
-#[cfg(test)]
-mod rows;
 mod series;
 mod sets;
 mod sides;

@@ -14,7 +14,7 @@ use crate::series::{FIRSTS, firsts_of, put_fact, put_failures};
 use crate::told::{Told, Verb, put_called, put_end_spot, put_in_turn, reply_of};
 use lin_certificates::Certificate;
 use lin_events::{Item, Reply, Val};
-use lin_formats::put_number;
+use lin_texts::put_number;
 use lin_words::{put_short_item, put_value};
 use std::alloc::{AllocError, Global};
 

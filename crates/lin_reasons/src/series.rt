@@ -6,7 +6,7 @@ ghost use Rattle.lin_reasons.specs.Telling.{did_text};
 ghost use Rattle.lin_reasons.specs.declared.told.Verb.TheVariants.{Failed};
 
 use crate::told::{Told, Verb, put_did};
-use lin_formats::put_number;
+use lin_texts::put_number;
 use std::alloc::AllocError;
 
 /// So many operations are told one by one.

@@ -4,7 +4,7 @@ ghost use Rattle.lin_reasons.specs.Telling.{call_in, called_text, did_text, end_
 
 use lin_events::{Body, Call, Event, Item, Reply};
 use lin_names::Names;
-use lin_places::Place;
+use lin_texts::Place;
 use lin_words::{put_operation, put_short_item, put_spot};
 use std::alloc::AllocError;
 

@@ -6,7 +6,7 @@ use Rattle.std.proofs.lemmas.List.{get_or-drop, get_or-take, get_or_default, len
 use Rattle.std.proofs.Math.Seq.{take-add, take-append-add}
 use Rattle.std.proofs.lemmas.List.Elements.{All-tail, All-head}
 use Rattle.lin_report.specs.Commands.{IsCommand, IsSaid, longest_line, sense_of, sense_of_line, without_return}
-use Rattle.lin_formats.specs.Parts.{words_from}
+use Rattle.lin_texts.specs.Parts.{words_from}
 use Rattle.lin_history.specs.Reading.{Reading}
 use Rattle.lin_names.specs.Names.{Numbering}
 use Rattle.lin_report.specs.Runs.{in_front, lines_of}

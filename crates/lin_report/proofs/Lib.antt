@@ -1,4 +1,5 @@
 pub mod CommandLines
+pub mod OfWork
 pub mod Keys
 pub mod ObjectFindings
 pub mod Maps

@@ -5,10 +5,10 @@ use Rattle.std.proofs.lemmas.List.{map-append, take_more}
 use Rattle.std.proofs.lemmas.List.Elements.{All-append, All-cons}
 use Rattle.lin_events.specs.declared.items.Item.{Item}
 use Rattle.lin_events.specs.declared.items.Item.TheVariants.{Int}
-use Rattle.lin_session.specs.Answers.{IsVerdict}
-use Rattle.lin_session.specs.Edits.{Present}
-use Rattle.lin_session.specs.declared.answers.Scope.TheVariants.{Object}
-use Rattle.lin_session.specs.declared.answers.Verdict.{Verdict}
+use Rattle.lin_answers.specs.Answers.{IsVerdict}
+use Rattle.lin_answers.specs.Edits.{Present}
+use Rattle.lin_answers.specs.declared.answers.Scope.TheVariants.{Object}
+use Rattle.lin_answers.specs.declared.answers.Verdict.{Verdict}
 use Rattle.lin_report.specs.Reports.{AreFindings, is_ill_formed}
 use Rattle.lin_report.specs.declared.findings.Finding.{Finding}
 

@@ -10,12 +10,12 @@ use Rattle.lin_events.specs.Operations.{IsEvent}
 use Rattle.lin_lists.specs.lemmas.Lists.{get_taken}
 use Rattle.lin_orders.specs.Linearizable.{IsLinearizable, IsLinearizableFor}
 use Rattle.lin_orders.specs.Merging.{AbsentKeysAreLegal, IsLocal}
-use Rattle.lin_session.specs.Answers.{IsObjectVerdict, IsOverAt, IsVerdict, IsWholeVerdict, kinds_in}
-use Rattle.lin_session.specs.Edits.{Present}
-use Rattle.lin_session.specs.Keys.{AreKeys}
-use Rattle.lin_session.specs.declared.answers.Scope.TheVariants.{Object, Whole}
-use Rattle.lin_session.specs.declared.answers.Verdict.{Verdict}
-use Rattle.lin_session.specs.declared.answers.Verdict.TheVariants.{IllFormed, Yes, No, Undecided}
+use Rattle.lin_answers.specs.Answers.{IsObjectVerdict, IsOverAt, IsVerdict, IsWholeVerdict, kinds_in}
+use Rattle.lin_answers.specs.Edits.{Present}
+use Rattle.lin_answers.specs.Keys.{AreKeys}
+use Rattle.lin_answers.specs.declared.answers.Scope.TheVariants.{Object, Whole}
+use Rattle.lin_answers.specs.declared.answers.Verdict.{Verdict}
+use Rattle.lin_answers.specs.declared.answers.Verdict.TheVariants.{IllFormed, Yes, No, Undecided}
 use Rattle.lin_lists.specs.lemmas.Taken.{Contains-slice_get}
 
 -- a list of one element

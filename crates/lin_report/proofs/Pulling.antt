@@ -12,7 +12,7 @@ use Rattle.lin_history.specs.Stream.{IsStreamBy, IsStream}
 use Rattle.lin_history.specs.Sees.{Followed, IsTakenIn, IsTooMuch, Sees, Takes}
 use Rattle.lin_names.specs.Names.{AgreesWith, AreEachOnce, IsSpelling, NumberingsAgree, number_of}
 use Rattle.lin_names.specs.lemmas.Begins.{agrees_before, begins_itself, begins_on}
-use Rattle.lin_session.specs.Edits.{Present}
+use Rattle.lin_answers.specs.Edits.{Present}
 use Rattle.lin_formats.specs.Inputs.{limit}
 use Rattle.lin_formats.specs.Intakes.{AreSeen}
 use Rattle.lin_report.specs.Pulls.{Enters, IsAllOrFull, IsStop, StandsAt}

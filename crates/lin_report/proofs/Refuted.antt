@@ -12,11 +12,11 @@ use Rattle.lin_orders.specs.PartLaws.{LinearizableByPart, PartsAreWellFormed, Pa
 use Rattle.lin_order.specs.RefutationLaws.{RefutationsExcludeOrders}
 use Rattle.lin_order.specs.Refutations.{Config}
 use Rattle.lin_lists.specs.lemmas.Lists.{take_next}
-use Rattle.lin_session.specs.Answers.{kinds_in, IsVerdict}
-use Rattle.lin_session.specs.Edits.{Present}
+use Rattle.lin_answers.specs.Answers.{kinds_in, IsVerdict}
+use Rattle.lin_answers.specs.Edits.{Present}
 use Rattle.lin_session.specs.Refuting.{Refutes}
-use Rattle.lin_session.specs.declared.answers.Scope.TheVariants.{Object}
-use Rattle.lin_session.specs.declared.answers.Verdict.TheVariants.{No}
+use Rattle.lin_answers.specs.declared.answers.Scope.TheVariants.{Object}
+use Rattle.lin_answers.specs.declared.answers.Verdict.TheVariants.{No}
 
 -- one more event of a prefix is one more of the part, or none
 pub part_more : PartsGrow → (key : Item) (h : List Event) (at : ℕ) (event : Event) → IsEvent h at event → event.key ≡ key → part key (take (at + 1) h) ≡ part key (take at h) ++ event ∷ []

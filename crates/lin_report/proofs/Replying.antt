@@ -4,14 +4,14 @@ use Rattle.std.specs.Prelude.{codes}
 use Rattle.lin_history.specs.Reading.{IsReading, Reading}
 use Rattle.lin_history.specs.Sees.{Followed}
 use Rattle.lin_names.specs.lemmas.Begins.{agrees_before}
-use Rattle.lin_session.specs.Edits.{Present}
+use Rattle.lin_answers.specs.Edits.{Present}
 use Rattle.lin_report.specs.Commands.{IsCommand, IsCommandBy, IsRead, longest_line}
 use Rattle.lin_report.specs.Pulls.{StandsAt}
 use Rattle.lin_report.specs.Runs.{AreMore, IsCommandReply, IsDone, IsReply, RunState}
 use Rattle.lin_report.specs.Refusals.{fault_text}
-use Rattle.lin_formats.specs.declared.verdicts.Status.{Status}
+use Rattle.lin_texts.specs.declared.status.Status.{Status}
 use Rattle.lin_report.specs.declared.commands.Command.{Command}
-use Rattle.lin_report.specs.declared.commands.Command.TheVariants.{Edit, Skipped, Ask, Order, Report, Pull, Refute, Explain}
+use Rattle.lin_report.specs.declared.commands.Command.TheVariants.{Edit, Skipped, Ask, Order, Report, Pull, Refute, Explain, Work}
 use Rattle.lin_report.specs.declared.commands.CommandFault.{CommandFault}
 use Rattle.lin_report.specs.declared.commands.CommandFault.TheVariants.{OutOfMemory}
 use Rattle.lin_report.proofs.CommandLines.{kept_says}
@@ -54,6 +54,7 @@ done_by keyed (Order scope) before now new text status same reply = (new, subst 
 done_by keyed Report before now new text status same reply = (new, subst (λ p. IsCommandReply before.names keyed Report p new text status) same reply, refl)
 done_by keyed (Refute key) before now new text status same reply = (new, subst (λ p. IsCommandReply before.names keyed (Refute key) p new text status) same reply, refl)
 done_by keyed (Explain scope) before now new text status same reply = (new, subst (λ p. IsCommandReply before.names keyed (Explain scope) p new text status) same reply, refl)
+done_by keyed Work before now new text status same reply = (new, subst (λ p. IsCommandReply before.names keyed Work p new text status) same reply, refl)
 done_by keyed Pull before now new text status same reply = elim reply [ ]
 
 -- a line of which so much is held, read by these names, which are more than those before

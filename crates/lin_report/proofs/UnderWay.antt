@@ -13,15 +13,15 @@ use Rattle.lin_report.specs.Runs.{AreCarriedOut, AreRead, IsDone, IsReply, AreRe
 use Rattle.lin_report.specs.Runs.AreReplies.{one_more}
 use Rattle.lin_formats.specs.Intakes.{AreSeen}
 use Rattle.lin_formats.specs.Verdicts.{IsReadTooFar}
-use Rattle.lin_formats.specs.declared.verdicts.Status.{Status}
-use Rattle.lin_formats.specs.declared.verdicts.Status.TheVariants.{Yes}
-use Rattle.lin_formats.specs.declared.settings.Settings.{Settings}
+use Rattle.lin_texts.specs.declared.status.Status.{Status}
+use Rattle.lin_texts.specs.declared.status.Status.TheVariants.{Yes}
+use Rattle.lin_texts.specs.declared.settings.Settings.{Settings}
 use Rattle.lin_report.specs.declared.commands.Command.{Command}
-use Rattle.lin_report.specs.declared.commands.Command.TheVariants.{Edit, Skipped, Ask, Order, Report, Pull, Refute, Explain}
+use Rattle.lin_report.specs.declared.commands.Command.TheVariants.{Edit, Skipped, Ask, Order, Report, Pull, Refute, Explain, Work}
 use Rattle.lin_report.specs.declared.commands.CommandFault.{CommandFault}
 use Rattle.lin_report.specs.declared.runs.Engine.{Engine}
-use Rattle.lin_formats.specs.declared.faults.RunFault.{RunFault}
-use Rattle.lin_formats.specs.declared.faults.RunFault.TheVariants.{ReadFailed, WriteFailed, OutOfMemory, TooMuch}
+use Rattle.lin_texts.specs.declared.faults.RunFault.{RunFault}
+use Rattle.lin_texts.specs.declared.faults.RunFault.TheVariants.{ReadFailed, WriteFailed, OutOfMemory, TooMuch}
 use Rattle.lin_report.proofs.CommandLines.{last_line, line_ends}
 
 -- what was read of the file at a line
@@ -40,6 +40,7 @@ read_by keyed (Order scope) before after text status done = unread before after 
 read_by keyed Report before after text status done = unread before after (ap (λ (s : RunState). s.left) done.2) (ap (λ (s : RunState). s.bytes) done.2)
 read_by keyed (Refute key) before after text status done = unread before after (ap (λ (s : RunState). s.left) done.2) (ap (λ (s : RunState). s.bytes) done.2)
 read_by keyed (Explain scope) before after text status done = unread before after (ap (λ (s : RunState). s.left) done.2) (ap (λ (s : RunState). s.bytes) done.2)
+read_by keyed Work before after text status done = unread before after (ap (λ (s : RunState). s.left) done.2) (ap (λ (s : RunState). s.bytes) done.2)
 read_by keyed Pull before after text status done = (done.1.part, done.1.reads, done.1.bytes)
 
 read_at : (keyed : Bool) (said : Result (Option Command) CommandFault) (before after : RunState) (text : List ℕ) (status : Option Status) → IsSaidDone keyed said before after text status

@@ -5,10 +5,10 @@ use Rattle.std.proofs.lemmas.Bool.{false≢true}
 use Rattle.lin_events.specs.declared.items.Item.{Item}
 use Rattle.lin_history.specs.Reading.{Reading}
 use Rattle.lin_names.specs.Names.{Numbering}
-use Rattle.lin_formats.specs.Parts.{IsFirstWord, Part, words_from}
-use Rattle.lin_formats.specs.declared.parts.Word.{Word}
-use Rattle.lin_session.specs.declared.answers.Scope.{Scope}
-use Rattle.lin_session.specs.declared.answers.Scope.TheVariants.{Object}
+use Rattle.lin_texts.specs.Parts.{IsFirstWord, Part, words_from}
+use Rattle.lin_texts.specs.declared.parts.Word.{Word}
+use Rattle.lin_answers.specs.declared.answers.Scope.{Scope}
+use Rattle.lin_answers.specs.declared.answers.Scope.TheVariants.{Object}
 use Rattle.lin_report.specs.Commands.{HasKey, IsMapCommand, IsRead, IsSaid, key_in, longest_line, made_of, plain, scope_in, sense_behind, sense_of, sense_of_line, without_return}
 use Rattle.lin_report.specs.MapCommands.{IsOrNoMemory, IsScope, IsSense}
 use Rattle.lin_report.specs.declared.commands.Command.{Command}

@@ -14,16 +14,16 @@ use Rattle.lin_history.specs.declared.table.EventFault.{EventFault}
 use Rattle.lin_names.specs.Names.{Numbering}
 use Rattle.lin_names.specs.Spelled.{numbered}
 use Rattle.lin_objects.specs.declared.kinds.Kind.{Kind}
-use Rattle.lin_session.specs.declared.answers.Scope.{Scope}
-use Rattle.lin_session.specs.declared.answers.Scope.TheVariants as scope
-use Rattle.lin_session.specs.declared.edits.Edit.{Edit as EditOf}
-use Rattle.lin_session.specs.declared.edits.Edit.TheVariants as edit
-use Rattle.lin_formats.specs.Integers.{number_of}
-use Rattle.lin_formats.specs.Items.{item_written}
-use Rattle.lin_formats.specs.Kinds.{kind_named}
-use Rattle.lin_formats.specs.Parts.{Part, words_from}
+use Rattle.lin_answers.specs.declared.answers.Scope.{Scope}
+use Rattle.lin_answers.specs.declared.answers.Scope.TheVariants as scope
+use Rattle.lin_answers.specs.declared.edits.Edit.{Edit as EditOf}
+use Rattle.lin_answers.specs.declared.edits.Edit.TheVariants as edit
+use Rattle.lin_texts.specs.Integers.{number_of}
+use Rattle.lin_texts.specs.Items.{item_written}
+use Rattle.lin_texts.specs.Kinds.{kind_named}
+use Rattle.lin_texts.specs.Parts.{Part, words_from}
 use Rattle.lin_report.specs.declared.commands.Command.{Command}
-use Rattle.lin_report.specs.declared.commands.Command.TheVariants.{Edit, Skipped, Ask, Order, Report, Pull, Refute, Explain}
+use Rattle.lin_report.specs.declared.commands.Command.TheVariants.{Edit, Skipped, Ask, Order, Report, Pull, Refute, Explain, Work}
 use Rattle.lin_report.specs.declared.commands.CommandFault.{CommandFault}
 use Rattle.lin_report.specs.declared.commands.CommandFault.TheVariants.{UnknownCommand, BadWords, BadNumber, BadKind, NotOneMap, LineTooLong, Edn, Event, OutOfMemory}
 use Rattle.lin_report.specs.declared.senses.Sense.{Sense}
@@ -52,7 +52,8 @@ verb_of = stands_for (
     (codes "report", verb.Report) ∷
     (codes "pull", verb.Pull) ∷
     (codes "refute", verb.Refute) ∷
-    (codes "explain", verb.Explain) ∷ [])
+    (codes "explain", verb.Explain) ∷
+    (codes "work", verb.Work) ∷ [])
 
 -- one test after another: what is none has its fault
 abbrev pub or_refused : {A B : Type 0} → CommandFault → Option A → (A → Result B CommandFault) → Result B CommandFault
@@ -132,6 +133,7 @@ module _ (number : Numbering) where
   sense_behind verb.Pull end words = plain (λ nothing. Pull) (no_more words)
   sense_behind verb.Refute end words = plain Refute (key_in words)
   sense_behind verb.Explain end words = plain Explain (scope_in words)
+  sense_behind verb.Work end words = plain (λ nothing. Work) (no_more words)
 
   -- what the words of a line say
   abbrev pub sense_of : List Part → Result Sense CommandFault

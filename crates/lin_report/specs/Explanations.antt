@@ -7,25 +7,25 @@ use Rattle.lin_history.specs.Reading.{IsReading, Reading}
 use Rattle.lin_names.specs.Names.{AgreesWith, AreEachOnce, Numbering}
 use Rattle.lin_names.specs.Spelled.{numbered, seen}
 use Rattle.lin_names.specs.declared.said.Said.{Said}
-use Rattle.lin_session.specs.Answers.{IsAnswer, verdict_of}
-use Rattle.lin_session.specs.Edits.{Present}
-use Rattle.lin_session.specs.declared.answers.Answer.{Answer}
-use Rattle.lin_session.specs.declared.answers.Scope.{Scope}
-use Rattle.lin_session.specs.declared.answers.Verdict.{Verdict}
-use Rattle.lin_session.specs.declared.answers.Scope.TheVariants.{Object, Whole}
+use Rattle.lin_answers.specs.Answers.{IsAnswer, verdict_of}
+use Rattle.lin_answers.specs.Edits.{Present}
+use Rattle.lin_answers.specs.declared.answers.Answer.{Answer}
+use Rattle.lin_answers.specs.declared.answers.Scope.{Scope}
+use Rattle.lin_answers.specs.declared.answers.Verdict.{Verdict}
+use Rattle.lin_answers.specs.declared.answers.Scope.TheVariants.{Object, Whole}
 use Rattle.lin_formats.specs.VerdictTexts.{refusal_text}
 use Rattle.lin_formats.specs.Histories.{StopsFor}
 use Rattle.lin_formats.specs.Inputs.{AreRefused, IsWhole}
-use Rattle.lin_formats.specs.declared.faults.RunFault.{RunFault}
-use Rattle.lin_formats.specs.declared.settings.Settings.{Settings}
+use Rattle.lin_texts.specs.declared.faults.RunFault.{RunFault}
+use Rattle.lin_texts.specs.declared.settings.Settings.{Settings}
 use Rattle.lin_formats.specs.declared.verdicts.Refusal.{Refusal}
-use Rattle.lin_formats.specs.declared.verdicts.Status.{Status}
-use Rattle.lin_formats.specs.declared.verdicts.Status.TheVariants as ends
+use Rattle.lin_texts.specs.declared.status.Status.{Status}
+use Rattle.lin_texts.specs.declared.status.Status.TheVariants as ends
 use Rattle.lin_places.specs.Places.{Marked, Marks}
-use Rattle.lin_places.specs.declared.place.Place.{Place}
+use Rattle.lin_texts.specs.declared.place.Place.{Place}
 use Rattle.lin_explain.specs.Explained.{Explains, scope_of}
-use Rattle.lin_explain.specs.Hints.{IsHint}
-use Rattle.lin_explain.specs.Refused.{place_in, refused_text}
+use Rattle.lin_reading.specs.Hints.{IsHint}
+use Rattle.lin_reading.specs.Refused.{place_in, refused_text}
 use Rattle.lin_explain.specs.declared.parts.Parts.{Parts}
 use Rattle.lin_explain.specs.declared.telling.Asked.{Asked}
 use Rattle.lin_json.specs.Explanations.{explanation_json, refusal_json}

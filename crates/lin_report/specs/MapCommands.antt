@@ -2,8 +2,8 @@
 use Rattle.std.specs.Prelude.{◌≡◌, ◌≤◌, ◌⊎◌, ℕ, Bool, true, false, List, length, Option, Result, Ok, Err}
 use Rattle.lin_edn.specs.Grammar.{IsBlankText}
 use Rattle.lin_events.specs.declared.items.Item.{Item}
-use Rattle.lin_session.specs.declared.answers.Scope.{Scope}
-use Rattle.lin_session.specs.declared.answers.Scope.TheVariants.{Object}
+use Rattle.lin_answers.specs.declared.answers.Scope.{Scope}
+use Rattle.lin_answers.specs.declared.answers.Scope.TheVariants.{Object}
 use Rattle.lin_report.specs.Commands.{TakesMemory}
 use Rattle.lin_report.specs.declared.commands.Command.{Command}
 use Rattle.lin_report.specs.declared.commands.CommandFault.{CommandFault}

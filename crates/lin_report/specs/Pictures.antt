@@ -5,16 +5,16 @@ use Rattle.lin_events.specs.declared.events.Event.{Event}
 use Rattle.lin_events.specs.declared.items.Item.{Item}
 use Rattle.lin_names.specs.Names.{AreEachOnce}
 use Rattle.lin_names.specs.declared.said.Said.{Said}
-use Rattle.lin_session.specs.Answers.{IsAnswer, verdict_of}
-use Rattle.lin_session.specs.Edits.{Present}
-use Rattle.lin_session.specs.declared.answers.Answer.{Answer}
+use Rattle.lin_answers.specs.Answers.{IsAnswer, verdict_of}
+use Rattle.lin_answers.specs.Edits.{Present}
+use Rattle.lin_answers.specs.declared.answers.Answer.{Answer}
 use Rattle.lin_formats.specs.Histories.{StopsFor}
 use Rattle.lin_formats.specs.Inputs.{AreRefused, IsWhole}
-use Rattle.lin_formats.specs.declared.faults.RunFault.{RunFault}
-use Rattle.lin_formats.specs.declared.settings.Settings.{Settings}
+use Rattle.lin_texts.specs.declared.faults.RunFault.{RunFault}
+use Rattle.lin_texts.specs.declared.settings.Settings.{Settings}
 use Rattle.lin_formats.specs.declared.verdicts.Refusal.{Refusal}
-use Rattle.lin_formats.specs.declared.verdicts.Status.{Status}
-use Rattle.lin_formats.specs.declared.verdicts.Status.TheVariants as ends
+use Rattle.lin_texts.specs.declared.status.Status.{Status}
+use Rattle.lin_texts.specs.declared.status.Status.TheVariants as ends
 use Rattle.lin_draw.specs.Pictures.{IsSvg}
 use Rattle.lin_explain.specs.Explained.{scope_of}
 use Rattle.lin_report.specs.Explanations.{IsKey}

@@ -4,7 +4,7 @@ use Rattle.lin_events.specs.declared.events.Event.{Event}
 use Rattle.lin_history.specs.Reading.{Reading}
 use Rattle.lin_history.specs.Sees.{Followed, Sees}
 use Rattle.lin_names.specs.Names.{AreEachOnce}
-use Rattle.lin_session.specs.Edits.{Present}
+use Rattle.lin_answers.specs.Edits.{Present}
 use Rattle.lin_formats.specs.Inputs.{limit}
 use Rattle.lin_formats.specs.Intakes.{AreSeen}
 use Rattle.lin_report.specs.Runs.{RunState, refusal_in}

@@ -1,7 +1,7 @@
 -- The texts of refused commands and edits.
 use Rattle.std.specs.Prelude.{ℕ, List, ◌++◌, codes, decimal}
-use Rattle.lin_session.specs.declared.edits.EditFault.{EditFault}
-use Rattle.lin_session.specs.declared.edits.EditFault.TheVariants as edit
+use Rattle.lin_answers.specs.declared.edits.EditFault.{EditFault}
+use Rattle.lin_answers.specs.declared.edits.EditFault.TheVariants as edit
 use Rattle.lin_formats.specs.VerdictTexts.{edn_cause_text, event_fault_text}
 use Rattle.lin_report.specs.declared.commands.CommandFault.{CommandFault}
 use Rattle.lin_report.specs.declared.commands.CommandFault.TheVariants.{UnknownCommand, BadWords, BadNumber, BadKind, NotOneMap, LineTooLong, Edn, Event, OutOfMemory}

@@ -8,24 +8,25 @@ use Rattle.lin_names.specs.Names.{AreEachOnce}
 use Rattle.lin_objects.specs.declared.kinds.Kind.{Kind}
 use Rattle.lin_objects.specs.Kinds.{same_for_all}
 use Rattle.lin_json.specs.Answers.{answer_json, checked_json, object_json}
-use Rattle.lin_session.specs.Answers.{IsVerdict, kinds_in}
-use Rattle.lin_session.specs.Edits.{Present}
-use Rattle.lin_session.specs.Keys.{AreKeys}
-use Rattle.lin_session.specs.declared.answers.Scope.TheVariants.{Object, Whole}
-use Rattle.lin_session.specs.declared.answers.Verdict.{Verdict}
-use Rattle.lin_session.specs.declared.answers.Verdict.TheVariants.{IllFormed, Yes, No, Undecided}
-use Rattle.lin_formats.specs.VerdictTexts.{cause_text, refusal_text}
+use Rattle.lin_answers.specs.Answers.{IsVerdict, kinds_in}
+use Rattle.lin_answers.specs.Edits.{Present}
+use Rattle.lin_answers.specs.Keys.{AreKeys}
+use Rattle.lin_answers.specs.declared.answers.Scope.TheVariants.{Object, Whole}
+use Rattle.lin_answers.specs.declared.answers.Verdict.{Verdict}
+use Rattle.lin_answers.specs.declared.answers.Verdict.TheVariants.{IllFormed, Yes, No, Undecided}
+use Rattle.lin_texts.specs.Causes.{cause_text}
+use Rattle.lin_formats.specs.VerdictTexts.{refusal_text}
 use Rattle.lin_formats.specs.Histories.{StopsFor}
 use Rattle.lin_formats.specs.Inputs.{AreRefused, IsWhole}
-use Rattle.lin_formats.specs.Items.{item_text}
-use Rattle.lin_formats.specs.Kinds.{kind_text}
+use Rattle.lin_texts.specs.Items.{item_text}
+use Rattle.lin_texts.specs.Kinds.{kind_text}
 use Rattle.lin_formats.specs.Verdicts.{IsReadTooFar}
 use Rattle.lin_formats.specs.declared.verdicts.Refusal.{Refusal}
-use Rattle.lin_formats.specs.declared.verdicts.Status.{Status}
-use Rattle.lin_formats.specs.declared.verdicts.Status.TheVariants as ends
-use Rattle.lin_formats.specs.declared.faults.RunFault.{RunFault}
-use Rattle.lin_formats.specs.declared.faults.RunFault.TheVariants.{ReadFailed, WriteFailed, OutOfMemory, TooMuch}
-use Rattle.lin_formats.specs.declared.settings.Settings.{Settings}
+use Rattle.lin_texts.specs.declared.status.Status.{Status}
+use Rattle.lin_texts.specs.declared.status.Status.TheVariants as ends
+use Rattle.lin_texts.specs.declared.faults.RunFault.{RunFault}
+use Rattle.lin_texts.specs.declared.faults.RunFault.TheVariants.{ReadFailed, WriteFailed, OutOfMemory, TooMuch}
+use Rattle.lin_texts.specs.declared.settings.Settings.{Settings}
 use Rattle.lin_report.specs.declared.findings.Finding.{Finding}
 use Rattle.lin_report.specs.declared.findings.Findings.{Findings}
 use Rattle.lin_report.specs.declared.formats.Format.{Format}

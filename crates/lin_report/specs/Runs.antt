@@ -4,38 +4,39 @@ use Rattle.std.specs.Option.{option_or}
 use Rattle.std.specs.Io.KnownBytes.{Appends, Consumes, IsAtEnd}
 use Rattle.lin_events.specs.declared.events.Event.{Event}
 use Rattle.lin_events.specs.declared.items.Item.{Item}
+use Rattle.lin_events.specs.declared.meter.Meter.{Meter}
 use Rattle.lin_history.specs.declared.follow.FollowFault.{FollowFault}
 use Rattle.lin_history.specs.declared.follow.FollowFault.TheVariants as fault
 use Rattle.lin_history.specs.Stream.{IsStreamBy}
 use Rattle.lin_names.specs.Names.{AreEachOnce, Begins}
-use Rattle.lin_session.specs.Answers.{IsAnswer, IsVerdict, kinds_in, verdict_of, IsOverSomewhere}
-use Rattle.lin_session.specs.Edits.{Present, IsRefused, edited}
-use Rattle.lin_session.specs.declared.answers.Answer.{Answer}
-use Rattle.lin_session.specs.declared.answers.Answer.TheVariants as answer
-use Rattle.lin_session.specs.declared.answers.Scope.TheVariants as scope
-use Rattle.lin_session.specs.declared.answers.Verdict.{Verdict}
-use Rattle.lin_session.specs.declared.answers.Verdict.TheVariants as verdict
-use Rattle.lin_session.specs.declared.edits.Edit.{Edit as EditOf}
-use Rattle.lin_session.specs.declared.edits.EditFault.{EditFault}
-use Rattle.lin_session.specs.declared.edits.EditFault.TheVariants as edit_fault
+use Rattle.lin_answers.specs.Answers.{IsAnswer, IsVerdict, kinds_in, verdict_of, IsOverSomewhere}
+use Rattle.lin_answers.specs.Edits.{Present, IsRefused, edited}
+use Rattle.lin_answers.specs.declared.answers.Answer.{Answer}
+use Rattle.lin_answers.specs.declared.answers.Answer.TheVariants as answer
+use Rattle.lin_answers.specs.declared.answers.Scope.TheVariants as scope
+use Rattle.lin_answers.specs.declared.answers.Verdict.{Verdict}
+use Rattle.lin_answers.specs.declared.answers.Verdict.TheVariants as verdict
+use Rattle.lin_answers.specs.declared.edits.Edit.{Edit as EditOf}
+use Rattle.lin_answers.specs.declared.edits.EditFault.{EditFault}
+use Rattle.lin_answers.specs.declared.edits.EditFault.TheVariants as edit_fault
 use Rattle.lin_formats.specs.VerdictTexts.{refusal_text}
 use Rattle.lin_report.specs.Commands.{IsCommandBy}
 use Rattle.lin_report.specs.Explanations.{IsExplainReply}
 use Rattle.lin_formats.specs.Inputs.{limit}
 use Rattle.lin_report.specs.Reports.{IsReport, answer_status, answer_text, opened}
-use Rattle.lin_formats.specs.Texts.{order_text}
+use Rattle.lin_texts.specs.Texts.{order_text}
 use Rattle.lin_report.specs.Refusals.{edit_fault_text, fault_text}
 use Rattle.lin_formats.specs.declared.verdicts.Refusal.{Refusal}
 use Rattle.lin_formats.specs.declared.verdicts.Refusal.TheVariants as refusal
-use Rattle.lin_formats.specs.declared.verdicts.Status.{Status}
-use Rattle.lin_formats.specs.declared.verdicts.Status.TheVariants as status_of
+use Rattle.lin_texts.specs.declared.status.Status.{Status}
+use Rattle.lin_texts.specs.declared.status.Status.TheVariants as status_of
 use Rattle.lin_report.specs.declared.formats.Format.TheVariants.{Text}
 use Rattle.lin_report.specs.declared.commands.Command.{Command}
-use Rattle.lin_report.specs.declared.commands.Command.TheVariants.{Edit, Skipped, Ask, Order, Report, Pull, Refute, Explain}
+use Rattle.lin_report.specs.declared.commands.Command.TheVariants.{Edit, Skipped, Ask, Order, Report, Pull, Refute, Explain, Work}
 use Rattle.lin_report.specs.declared.commands.CommandFault.{CommandFault}
-use Rattle.lin_formats.specs.declared.faults.RunFault.{RunFault}
-use Rattle.lin_formats.specs.declared.faults.RunFault.TheVariants.{ReadFailed, WriteFailed, OutOfMemory, TooMuch}
-use Rattle.lin_formats.specs.declared.settings.Settings.{Settings}
+use Rattle.lin_texts.specs.declared.faults.RunFault.{RunFault}
+use Rattle.lin_texts.specs.declared.faults.RunFault.TheVariants.{ReadFailed, WriteFailed, OutOfMemory, TooMuch}
+use Rattle.lin_texts.specs.declared.settings.Settings.{Settings}
 use Rattle.lin_formats.specs.Devices.{Counts}
 use Rattle.lin_formats.specs.Verdicts.{IsReadTooFar}
 
@@ -83,6 +84,11 @@ IsRefuteReply now key text status =
     ⊎ (((n : ℕ) × IsVerdict now (scope.Object key) (verdict.No n)) × IsOverSomewhere (kinds_in now) now.budget now.history key
     × (text ≡ codes "refused refute 2 TooLarge\n") × (status ≡ None))
 
+-- the text that tells what was counted: looks at events for whether the history is well-formed, events that were taken in, and calls that
+-- were tried
+abbrev pub work_text : Meter → List ℕ
+work_text m = codes "work scans " ++ decimal m.scans ++ codes " steps " ++ decimal m.steps ++ codes " tries " ++ decimal m.tries
+
 -- with these spellings of words
 module _ (names : List (List ℕ)) where
   -- what is written of an answer with its order
@@ -93,7 +99,7 @@ module _ (names : List (List ℕ)) where
   order_answer_text (answer.Undecided at) = answer_text (verdict_of (answer.Undecided at))
 
   -- What a command that reads no file makes of the present state, what is written, and the status where that is an answer. Each
-  -- answer may be any that is right.
+  -- answer may be any that is right, and what was counted any counts: a present state doesn't tell what was done for it.
   abbrev pub IsCommandReply : Bool → Command → Present → Present → List ℕ → Option Status → Type 0
   IsCommandReply keyed (Edit edit) before after text status = IsEditReply edit before after text × (status ≡ None)
   IsCommandReply keyed Skipped before after text status = (after ≡ before) × (text ≡ codes "skipped\n") × (status ≡ None)
@@ -104,6 +110,7 @@ module _ (names : List (List ℕ)) where
   IsCommandReply keyed Report before after text status = (after ≡ before) × (whole : Status) × IsReport names Text before text whole × (status ≡ Some whole)
   IsCommandReply keyed (Refute key) before after text status = (after ≡ before) × IsRefuteReply before key text status
   IsCommandReply keyed (Explain scope) before after text status = (after ≡ before) × IsExplainReply names keyed before scope text status
+  IsCommandReply keyed Work before after text status = (after ≡ before) × ((m : Meter) × (text ≡ work_text m ++ codes "\n")) × (status ≡ None)
   IsCommandReply keyed Pull before after text status = ⊥
 
 -- why the file is refused, if it is; an element that is unfinished waits

@@ -2,9 +2,9 @@
 use Rattle.std.specs.Prelude.{◌≡◌, ℕ, List}
 use Rattle.lin_events.specs.declared.events.Event.{Event}
 use Rattle.lin_objects.specs.declared.kinds.Kinds.{Kinds}
-use Rattle.lin_session.specs.Answers.{IsVerdict}
-use Rattle.lin_session.specs.declared.answers.Scope.{Scope}
-use Rattle.lin_session.specs.declared.answers.Verdict.TheVariants.{Yes, No}
+use Rattle.lin_answers.specs.Answers.{IsVerdict}
+use Rattle.lin_answers.specs.declared.answers.Scope.{Scope}
+use Rattle.lin_answers.specs.declared.answers.Verdict.TheVariants.{Yes, No}
 
 -- whatever the budgets: where a yes is right, no no is
 abbrev pub YesExcludesNo : Type 0

@@ -2,11 +2,11 @@
 ghost use Rattle.std.specs.Prelude.{◌≡◌, ◌++◌, IfOk, OnErr, OnOk};
 ghost use Rattle.lin_report.specs.Reports.{answer_status, answer_text, told_text};
 ghost use Rattle.lin_report.specs.Reports as said;
-ghost use Rattle.lin_session.specs.Answers as asked;
+ghost use Rattle.lin_answers.specs.Answers as asked;
 
+use lin_answers::{Answer, Verdict};
 use lin_events::OutOfMemory;
 use lin_formats::{Status, cause_words, put_number};
-use lin_session::{Answer, Verdict};
 use std::alloc::{AllocError, Global};
 
 /// The answer without its order.

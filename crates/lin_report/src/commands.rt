@@ -11,11 +11,11 @@ ghost use Rattle.lin_report.specs.Commands.{IsMapCommand, IsRead};
 ghost use Rattle.lin_report.specs.MapCommands.{IsBlankOrNot, IsMade};
 
 use crate::senses::{Sense, Target, sense_of};
+use lin_answers::{Edit, Scope};
 use lin_edn::{EdnCause, EdnFault, Next, next_element, places, readings_are_unique};
 use lin_events::{Event, Item};
 use lin_history::{EventFault, NextEvent, next_event};
 use lin_names::Names;
-use lin_session::{Edit, Scope};
 use std::alloc::Global;
 use thiserror::Error;
 
@@ -41,6 +41,8 @@ pub enum Command {
     Refute(Item),
     /// Why the answer is what it is, for the whole or for one object.
     Explain(Scope),
+    /// How much was done so far.
+    Work,
 }
 
 /// Why a line is refused: the first of these that holds.

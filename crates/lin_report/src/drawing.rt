@@ -1,6 +1,6 @@
 //! Pictures of histories.
 ghost use Rattle.std.specs.Prelude.{◌≡◌, ◌<◌, ◌≤◌, ◌++◌, Some, codes, false, length, option_map, IfOk, IsErrOf};
-ghost use Rattle.lin_session.specs.Answers.{IsAnswer, verdict_of as verdict_in};
+ghost use Rattle.lin_answers.specs.Answers.{IsAnswer, verdict_of as verdict_in};
 ghost use Rattle.lin_formats.specs.Devices.{device_of, failures_of, Counts};
 ghost use Rattle.lin_formats.specs.Histories.{is_read_failed};
 ghost use Rattle.lin_formats.specs.Inputs.{limit};
@@ -15,15 +15,40 @@ use crate::checks::{Answered, refused};
 use crate::explaining::{item_of, scope_of};
 use crate::formats::Format;
 use crate::sessions::{names_are_apart, session_of};
-use lin_draw::picture_with_places;
+use lin_answers::{Answer, Scope};
+use lin_draw::{Orders, picture_with_places};
 use lin_events::{Event, Item, OutOfMemory};
-use lin_explain::{Asked, explanation_of, read_placed};
+use lin_explain::{Asked, explanation_of};
 use lin_formats::{Counted, History, RunFault, Settings, Status, write_whole};
 use lin_names::{Names, Said};
+use lin_objects::Kind;
+use lin_orders::Placed;
 use lin_places::Places;
-use lin_session::{Answer, Session};
+use lin_reading::read_placed;
+use lin_session::Session;
 use std::alloc::Global;
 use std::io::{Read, Write};
+
+/// Orders that sessions of their own find.
+struct Sessions;
+
+impl Orders for Sessions {
+    fn order_of(
+        &self,
+        alloc: Global,
+        kind: Kind,
+        budget: u32,
+        events: Vec<Event>,
+    ) -> Result<Option<Vec<Placed>>, OutOfMemory> {
+        let Ok(mut session) = Session::of(alloc, kind, budget, events) else {
+            return Ok(None);
+        };
+        match session.order(alloc, Scope::Whole)? {
+            Answer::Yes(order) => Ok(Some(order)),
+            _ => Ok(None),
+        }
+    }
+}
 
 /// The picture of an answer.
 fn picture_of(
@@ -38,10 +63,12 @@ fn picture_of(
     ensures { IfOk result (λ text. is_ill_formed_in (verdict_in answer.now) ≡ false → IsSvg text.items) }
 {
     let places = Some(places.as_slice());
-    let told = explanation_of(alloc, session, names, answer, asked, places)?;
+    let present = session.present();
+    let told = explanation_of(alloc, &present, names, answer, asked, places)?;
     picture_with_places(
         alloc,
-        session,
+        &Sessions,
+        &present,
         names,
         answer,
         asked.key,

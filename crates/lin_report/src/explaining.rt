@@ -6,9 +6,9 @@ ghost use Rattle.lin_formats.specs.Inputs.{limit};
 ghost use Rattle.lin_formats.specs.Verdicts.{is_write_failed, IsReadTooFar};
 ghost use Rattle.lin_report.specs.Explanations.{IsExplainRun, IsExplanation, IsKey, IsRightExplanation, explanation_text, key_of as key_in, line_count as lines_in, refusal_lines as lines_for, refused_told};
 ghost use Rattle.lin_explain.specs.Explained.{scope_of as scope_for};
-ghost use Rattle.lin_explain.specs.Hints.{hint_text};
+ghost use Rattle.lin_reading.specs.Hints.{hint_text};
 ghost use Rattle.lin_names.specs.Names.{Begins};
-ghost use Rattle.lin_session.specs.Answers.{verdict_of as verdict_in};
+ghost use Rattle.lin_answers.specs.Answers.{verdict_of as verdict_in};
 ghost use Rattle.lin_report.specs.Reports.{IsPrinted, answer_status, opened};
 ghost use Rattle.lin_report.specs.Runs.{IsCommandReply};
 ghost use Rattle.lin_report.specs.declared.commands.Command.TheVariants as command;
@@ -19,16 +19,16 @@ use crate::formats::Format;
 use crate::json_explanations::{json_explanation, json_refused};
 use crate::replies::Reply;
 use crate::sessions::{names_are_apart, session_of};
+use lin_answers::{Answer, Scope, Verdict};
 use lin_events::{Event, Item, OutOfMemory};
-use lin_explain::{
-    Asked, Explanation, Placed, explanation_from, explanation_of, read_placed, refusal_lines,
-};
+use lin_explain::{Asked, Explanation, explanation_from, explanation_of};
 use lin_formats::{
     Counted, History, Refusal, RunFault, Settings, Status, put_number, refusal_words, write_whole,
 };
 use lin_names::{Names, Said};
 use lin_places::Places;
-use lin_session::{Answer, Scope, Session, Verdict};
+use lin_reading::{Placed, read_placed, refusal_lines};
+use lin_session::Session;
 use std::alloc::{AllocError, Global};
 use std::io::{Read, Write};
 
@@ -122,7 +122,7 @@ fn explanation(
 {
     let scope = scope_of(asked.key);
     let answer = session.order(alloc, scope)?;
-    let told = explanation_of(alloc, session, names, &answer, asked, None)?;
+    let told = explanation_of(alloc, &session.present(), names, &answer, asked, None)?;
     Ok(answered(alloc, names, Format::Text, session.len(), &answer, &told)?)
 }
 
@@ -165,7 +165,7 @@ pub fn explain_reply(
     })
 }
 
-/// An explanation of these events. The session goes before a no is explained.
+/// An explanation of these events. What the session found of them goes first.
 fn explained(
     alloc: Global,
     settings: Settings,
@@ -183,7 +183,7 @@ fn explained(
     let count = session.len();
     let answer = session.order(alloc, scope_of(asked.key))?;
     let places = Some(places.as_slice());
-    let told = explanation_from(alloc, session, names, &answer, asked, places)?;
+    let told = explanation_from(alloc, session.into_history(), names, &answer, asked, places)?;
     Ok(answered(alloc, names, format, count, &answer, &told)?)
 }
 

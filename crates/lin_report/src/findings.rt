@@ -1,16 +1,17 @@
 //! What is found of a history and of its objects.
 ghost use Rattle.std.specs.Prelude.{◌≡◌, ℕ, List, [], if◌then◌else◌, IfOk};
-ghost use Rattle.lin_session.specs.Answers.{IsVerdict};
-ghost use Rattle.lin_session.specs.Keys.{AreKeys};
-ghost use Rattle.lin_session.specs.declared.answers.Scope.TheVariants as scope;
+ghost use Rattle.lin_answers.specs.Answers.{IsVerdict};
+ghost use Rattle.lin_answers.specs.Keys.{AreKeys};
+ghost use Rattle.lin_answers.specs.declared.answers.Scope.TheVariants as scope;
 ghost use Rattle.lin_report.specs.Reports as said;
 ghost use Rattle.lin_report.specs.Reports.{AreFindings, HasFound};
 
 use crate::answers::is_ill_formed;
+use lin_answers::{Scope, Verdict};
 use lin_events::{Item, OutOfMemory};
 use lin_names::Names;
 use lin_orders::{absent_keys_are_legal, linearizability_is_local};
-use lin_session::{Scope, Session, Verdict};
+use lin_session::Session;
 use std::alloc::Global;
 
 /// What is found of the object of a key.

@@ -1,20 +1,21 @@
 //! Explanations for machines: one line of JSON.
 ghost use Rattle.std.specs.Prelude.{◌≡◌, ◌++◌, IfOk, codes};
-ghost use Rattle.lin_explain.specs.Refused.{place_in};
+ghost use Rattle.lin_reading.specs.Refused.{place_in};
 ghost use Rattle.lin_formats.specs.VerdictTexts.{refusal_text};
-ghost use Rattle.lin_formats.specs.declared.verdicts.Status.TheVariants as ends;
+ghost use Rattle.lin_texts.specs.declared.status.Status.TheVariants as ends;
 ghost use Rattle.lin_json.specs.Explanations.{refusal_json};
 ghost use Rattle.lin_report.specs.Explanations as said;
 ghost use Rattle.lin_report.specs.Explanations.{explanation_text};
 
 use crate::answers::{status_of, told_words, verdict_words};
 use crate::formats::Format;
-use lin_explain::{Explanation, place_of};
+use lin_answers::Verdict;
+use lin_explain::Explanation;
 use lin_formats::{Refusal, Status, refusal_words};
 use lin_json::{Head, put_explanation, put_refusal};
 use lin_names::Names;
 use lin_places::Places;
-use lin_session::Verdict;
+use lin_reading::place_of;
 use std::alloc::{AllocError, Global};
 
 /// A text without the byte that ends its last line.

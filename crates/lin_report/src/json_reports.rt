@@ -1,9 +1,9 @@
 //! Reports and refusals for machines: one line of JSON.
 ghost use Rattle.std.specs.Prelude.{◌≡◌, ◌++◌, IfOk, OnOk, codes};
 ghost use Rattle.lin_formats.specs.VerdictTexts.{refusal_text};
-ghost use Rattle.lin_formats.specs.declared.verdicts.Status.TheVariants as ends;
+ghost use Rattle.lin_texts.specs.declared.status.Status.TheVariants as ends;
 ghost use Rattle.lin_json.specs.Answers.{answer_json};
-ghost use Rattle.lin_session.specs.Answers.{kinds_in};
+ghost use Rattle.lin_answers.specs.Answers.{kinds_in};
 ghost use Rattle.lin_report.specs.Reports.{json_object, json_objects, report_text};
 
 use crate::answers::{status_of, verdict_words};

@@ -19,6 +19,7 @@ mod reports;
 mod runs;
 mod senses;
 mod sessions;
+mod working;
 
 pub use answers::write_answer;
 pub use checks::check;

@@ -3,9 +3,9 @@ ghost use Rattle.std.specs.Prelude.{◌≡◌, ◌++◌, OnOk};
 ghost use Rattle.lin_report.specs.Refusals.{edit_fault_text, fault_text};
 
 use crate::commands::CommandFault;
+use lin_answers::EditFault;
 use lin_edn::EdnFault;
 use lin_formats::{edn_cause, event_fault, put_number};
-use lin_session::EditFault;
 use std::alloc::AllocError;
 
 /// Puts the text of a fault of EDN last.

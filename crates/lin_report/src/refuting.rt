@@ -5,18 +5,19 @@ ghost use Rattle.lin_objects.specs.Kinds.{functions_of};
 ghost use Rattle.lin_orders.specs.Linearizable.{IsLinearizableFor};
 ghost use Rattle.lin_orders.specs.Parts.{part};
 ghost use Rattle.lin_order.specs.Refutations.{sets_of};
-ghost use Rattle.lin_session.specs.Answers.{kinds_in};
+ghost use Rattle.lin_answers.specs.Answers.{kinds_in};
 ghost use Rattle.lin_session.specs.Refuting.{Refutes};
 ghost use Rattle.lin_report.specs.Runs.{IsCommandReply, IsRefuteReply};
 
 use crate::answers::verdict_of;
 use crate::commands::Command;
 use crate::replies::{Reply, answered};
+use lin_answers::answers_are_verdicts;
 use lin_events::{Event, Item, OutOfMemory, beginnings_are_well_formed};
 use lin_formats::{Status, put_number};
 use lin_order::{Refutation, check_refutation, refutations_exclude_orders};
 use lin_orders::{parts_grow, parts_keep_operations, parts_keep_orders};
-use lin_session::{RefuteFault, Refuted, Session, answers_are_verdicts};
+use lin_session::{RefuteFault, Refuted, Session};
 use std::alloc::{AllocError, Global};
 
 /// The object's events among the first so many.

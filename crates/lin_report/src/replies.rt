@@ -1,7 +1,7 @@
 //! The replies to commands that read no file.
 ghost use Rattle.std.specs.Prelude.{◌≡◌, ◌≢◌, ◌++◌, ℕ, Bool, List, None, Some, IfOk, codes};
 ghost use Rattle.lin_report.specs.Reports.{answer_status, answer_text};
-ghost use Rattle.lin_report.specs.Runs.{IsCommandReply, IsEditReply, order_answer_text};
+ghost use Rattle.lin_report.specs.Runs.{IsCommandReply, IsEditReply, order_answer_text, work_text};
 ghost use Rattle.lin_report.specs.Runs as said;
 ghost use Rattle.lin_report.specs.Refusals.{edit_fault_text, fault_text};
 
@@ -11,10 +11,12 @@ use crate::explaining::explain_reply;
 use crate::refused::{put_edit_fault, put_fault};
 use crate::refuting::refute;
 use crate::reports::write_report;
+use crate::working::work;
+use lin_answers::{Answer, Edit, EditFault, Scope, Verdict};
 use lin_events::OutOfMemory;
 use lin_formats::{Status, put_number, write_order};
 use lin_names::Names;
-use lin_session::{Answer, Edit, EditFault, Scope, Session, Verdict};
+use lin_session::Session;
 use std::alloc::{AllocError, Global};
 
 /// What is written for a line, and the status of a run where that is its last answer.
@@ -162,7 +164,8 @@ pub fn reply_to(
     command: Command,
 ) -> Result<Reply, OutOfMemory>
     requires { command ≢ Command.Pull }
-    ensures { IfOk result (λ reply. IsCommandReply names.now keyed command session.old.present session.new.present reply.text.items reply.status) }
+    ensures reply { IfOk result (λ reply. IsCommandReply names.now keyed command session.old.present session.new.present reply.text.items reply.status) }
+    ensures work { IfOk result (λ reply. command ≡ Command.Work → reply.text.items ≡ work_text session.old.meter ++ codes "\n") }
 {
     match command {
         Command::Edit(edit) => Ok(Reply::plain(make(alloc, session, edit)?)),
@@ -172,6 +175,7 @@ pub fn reply_to(
         Command::Report => report(alloc, session, names),
         Command::Refute(key) => refute(alloc, session, key),
         Command::Explain(scope) => explain_reply(alloc, keyed, session, names, scope),
+        Command::Work => work(alloc, session),
         Command::Pull => unreachable!(),
     }
 }

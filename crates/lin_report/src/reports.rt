@@ -1,6 +1,6 @@
 //! Reports: the text of what is found of a history and of its objects.
 ghost use Rattle.std.specs.Prelude.{◌≡◌, ◌++◌, ℕ, List, IfOk, OnErr, OnOk, codes};
-ghost use Rattle.lin_session.specs.Answers.{kinds_in};
+ghost use Rattle.lin_answers.specs.Answers.{kinds_in};
 ghost use Rattle.lin_report.specs.Reports as said;
 ghost use Rattle.lin_report.specs.Reports.{IsReport, answer_text, counts_text, line_text, lines_text, report_text};
 
@@ -8,11 +8,12 @@ use crate::answers::{status_of, verdict_words};
 use crate::findings::{Finding, Findings, find};
 use crate::formats::Format;
 use crate::json_reports::put_json_report;
+use lin_answers::Verdict;
 use lin_events::OutOfMemory;
 use lin_formats::{Status, kind_word, put_item, put_number};
 use lin_names::Names;
 use lin_objects::Kind;
-use lin_session::{Session, Verdict};
+use lin_session::Session;
 use std::alloc::{AllocError, Global};
 
 /// Puts the line that names so many events and objects last.

@@ -1,17 +1,17 @@
 //! What the words of a command line say.
 ghost use Rattle.std.specs.Prelude.{◌≡◌, ◌≤◌, None, Some, Ok, length, drop, MatchOption};
-ghost use Rattle.lin_formats.specs.Parts.{words_from};
+ghost use Rattle.lin_texts.specs.Parts.{words_from};
 ghost use Rattle.lin_names.specs.Names.{AgreesWith, Begins, Numbering};
 ghost use Rattle.lin_names.specs.Spelled.{numbered, seen};
 ghost use Rattle.lin_report.specs.Commands as said;
 ghost use Rattle.lin_report.specs.MapCommands.{IsOrNoMemory, IsScope, IsSense, IsWithin};
 
 use crate::commands::{Command, CommandFault};
+use lin_answers::{Edit, Scope};
 use lin_events::{Event, Item};
 use lin_formats::{Word, item_in, kind_named, next_word, number};
 use lin_names::{Names, Said};
 use lin_objects::Kind;
-use lin_session::{Edit, Scope};
 
 /// The first word of a command.
 #[derive(Clone, Copy)]
@@ -28,6 +28,7 @@ pub enum Verb {
     Pull,
     Refute,
     Explain,
+    Work,
 }
 
 /// Where the event of a map is put.
@@ -99,6 +100,9 @@ fn verb_of(word: &[u8]) -> Option<Verb>
     }
     if word == b"explain".as_slice() {
         return Some(Verb::Explain);
+    }
+    if word == b"work".as_slice() {
+        return Some(Verb::Work);
     }
     None
 }
@@ -257,6 +261,10 @@ fn command_behind(
         }
         Verb::Refute => Command::Refute(key_in(line, end, names)?),
         Verb::Explain => Command::Explain(scope_in(line, end, names)?),
+        Verb::Work => {
+            no_more(line, end)?;
+            Command::Work
+        }
     };
     Ok(Sense::Plain(command))
 }

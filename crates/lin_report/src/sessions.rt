@@ -4,10 +4,11 @@ ghost use Rattle.lin_formats.specs.Inputs.{limit};
 ghost use Rattle.lin_names.specs.Names.{AreEachOnce};
 ghost use Rattle.lin_report.specs.Reports.{opened};
 
+use lin_answers::{Edit, EditFault};
 use lin_events::{Event, OutOfMemory};
 use lin_formats::Settings;
 use lin_names::Names;
-use lin_session::{Edit, EditFault, Session};
+use lin_session::Session;
 use std::alloc::Global;
 
 /// A session with no event.

@@ -1,5 +1,5 @@
 //! How answers are shown.
-use crate::{Body, Event, EventFault, Item, Name, Placed, Reply, State, Val};
+use crate::{Body, Event, Item, Name, Reply, State, Val};
 
 fn put_item(out: &mut String, item: Item) -> Option<()> {
     match item {
@@ -17,7 +17,7 @@ fn put_value(out: &mut String, value: Val) -> Option<()> {
 }
 
 /// The items in brackets.
-pub fn put_items(out: &mut String, items: &[Item]) -> Option<()> {
+fn put_items(out: &mut String, items: &[Item]) -> Option<()> {
     out.push('[').ok()?;
     for (at, item) in items.iter().enumerate() {
         if at > 0 {
@@ -64,13 +64,9 @@ fn put_body(out: &mut String, body: &Body) -> Option<()> {
     }
 }
 
-/// The process, the key where it isn't 0, and what the event says.
+/// The process, and what the event says.
 pub fn put_event(out: &mut String, event: &Event) -> Option<()> {
     write!(out, "{}", event.process).ok()?;
-    if event.key != Item::Int(0) {
-        out.push('@').ok()?;
-        put_item(out, event.key)?;
-    }
     put_body(out, &event.body)
 }
 
@@ -80,23 +76,6 @@ pub fn put_events(out: &mut String, events: &[Event]) -> Option<()> {
             out.push_str(", ").ok()?;
         }
         put_event(out, event)?;
-    }
-    Some(())
-}
-
-/// What an element says.
-pub fn put_said(out: &mut String, said: &Result<Option<Event>, EventFault>) -> Option<()> {
-    match said {
-        Ok(Some(event)) => put_event(out, event),
-        Ok(None) => out.push_str("no event").ok(),
-        Err(fault) => write!(out, "{fault:?}").ok(),
-    }
-}
-
-pub fn put_order(out: &mut String, order: &[Placed]) -> Option<()> {
-    for placed in order {
-        write!(out, " {}:", placed.at).ok()?;
-        put_reply(out, &placed.reply)?;
     }
     Some(())
 }

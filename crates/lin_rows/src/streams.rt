@@ -1,7 +1,7 @@
 //! Rows about streams that are fed in pieces.
 use crate::shown::{put_event, put_events};
 use crate::words::{first_number, keyed};
-use crate::{Event, Follow, FollowFault, Names, Place, Places};
+use crate::{Event, Follow, FollowFault, Names};
 use std::alloc::Global;
 
 /// A stream, and the words that it has.
@@ -12,22 +12,26 @@ pub struct Source {
 }
 
 impl Source {
-    pub fn new(alloc: Global) -> Source {
+    pub fn new(alloc: Global, keyed: bool) -> Source {
         Source {
-            follow: Follow::new(alloc, false),
+            follow: Follow::new(alloc, keyed),
             names: Names::new(alloc),
         }
+    }
+
+    fn feed(&mut self, piece: &[u8]) -> Result<usize, FollowFault> {
+        self.follow.feed(piece, &mut self.names)
     }
 }
 
 /// A stream to which a text is fed in pieces of so many bytes.
-fn in_pieces(alloc: Global, text: &str, size: usize) -> Option<Source> {
+fn in_pieces(alloc: Global, keyed: bool, text: &[u8], size: usize) -> Option<Source> {
     if size == 0 {
         return None;
     }
-    let mut source = Source::new(alloc);
-    for piece in text.as_bytes().chunks(size) {
-        let _fed = source.follow.feed(piece, &mut source.names);
+    let mut source = Source::new(alloc, keyed);
+    for piece in text.chunks(size) {
+        let _fed = source.feed(piece);
     }
     Some(source)
 }
@@ -35,13 +39,13 @@ fn in_pieces(alloc: Global, text: &str, size: usize) -> Option<Source> {
 /// `stream`: a new stream; `stream SIZE TEXT`: one to which the text was fed in pieces of so many bytes. How many events are ready.
 pub fn stream(alloc: Global, source: &mut Source, text: &str, out: &mut String) -> Option<()> {
     let (size, rest) = first_number(text).unwrap_or((1, text));
-    *source = in_pieces(alloc, rest, size)?;
+    *source = in_pieces(alloc, false, rest.as_bytes(), size)?;
     write!(out, "{} ready", source.follow.ready()).ok()
 }
 
 /// `feed PIECE`: how many events became ready, or the fault.
 pub fn feed(source: &mut Source, piece: &str, out: &mut String) -> Option<()> {
-    let fed = source.follow.feed(piece.as_bytes(), &mut source.names);
+    let fed = source.feed(piece.as_bytes());
     write!(out, "{fed:?}").ok()
 }
 
@@ -74,20 +78,19 @@ struct Told {
 }
 
 impl Told {
-    fn new(mut follow: Follow) -> Told {
+    fn by(mut source: Source) -> Told {
         Told {
-            outcome: follow.finish(),
-            events: follow.take_all(),
+            outcome: source.follow.finish(),
+            events: source.follow.take_all(),
         }
     }
 
     /// What a text tells that is fed in two pieces.
-    fn by(alloc: Global, keyed: bool, first: &[u8], second: &[u8]) -> Told {
-        let mut names = Names::new(alloc);
-        let mut follow = Follow::new(alloc, keyed);
-        let _fed = follow.feed(first, &mut names);
-        let _fed = follow.feed(second, &mut names);
-        Told::new(follow)
+    fn by_two(alloc: Global, keyed: bool, first: &[u8], second: &[u8]) -> Told {
+        let mut source = Source::new(alloc, keyed);
+        let _fed = source.feed(first);
+        let _fed = source.feed(second);
+        Told::by(source)
     }
 
     fn has_events_of(&self, other: &Told) -> bool {
@@ -109,22 +112,19 @@ impl Told {
     }
 }
 
-/// `pieces SIZE TEXT`: whether the text tells the same fed whole and in pieces of so many bytes.
-pub fn pieces(alloc: Global, text: &str, out: &mut String) -> Option<()> {
-    let (size, rest) = first_number(text)?;
-    let whole = Told::by(alloc, false, rest.as_bytes(), b"");
-    let cut = Told::new(in_pieces(alloc, rest, size)?.follow);
-    write!(out, "same: {}", cut.is_same(&whole)).ok()
-}
-
-/// Whether a text tells the same wherever it is cut in two.
-fn tells_cut(alloc: Global, keyed: bool, text: &[u8], whole: &Told) -> bool {
+/// Whether a text tells the same wherever it is cut in two, and in pieces of some lengths.
+fn tells_cut(alloc: Global, keyed: bool, text: &[u8], whole: &Told) -> Option<bool> {
     for cut in 0..text.len() {
-        if !Told::by(alloc, keyed, &text[..cut], &text[cut..]).is_same(whole) {
-            return false;
+        if !Told::by_two(alloc, keyed, &text[..cut], &text[cut..]).is_same(whole) {
+            return Some(false);
         }
     }
-    true
+    for size in [1, 2, 3, 7, 50] {
+        if !Told::by(in_pieces(alloc, keyed, text, size)?).is_same(whole) {
+            return Some(false);
+        }
+    }
+    Some(true)
 }
 
 /// The text with a discard in each map, so that none is usual.
@@ -142,45 +142,17 @@ fn unusual(alloc: Global, text: &str) -> Option<String> {
 /// Whether a text tells the same, places aside, with a discard in each map.
 fn tells_unusual(alloc: Global, keyed: bool, text: &str, whole: &Told) -> Option<bool> {
     let longer = unusual(alloc, text)?;
-    let told = Told::by(alloc, keyed, longer.as_str().as_bytes(), b"");
+    let told = Told::by_two(alloc, keyed, longer.as_str().as_bytes(), b"");
     Some(told.has_events_of(whole) && told.placeless() == whole.placeless())
 }
 
-/// `tells TEXT`, `tells keyed TEXT`: how many events a text tells, and whether it tells the same wherever it is cut in two, and
-/// where no map is usual.
+/// `tells TEXT`, `tells keyed TEXT`: how many events a text tells, and whether it tells the same however it is cut, and where no
+/// map is usual.
 pub fn tells(alloc: Global, text: &str, out: &mut String) -> Option<()> {
     let (keyed, rest) = keyed(text);
-    let whole = Told::by(alloc, keyed, rest.as_bytes(), b"");
-    let cut = tells_cut(alloc, keyed, rest.as_bytes(), &whole);
+    let whole = Told::by_two(alloc, keyed, rest.as_bytes(), b"");
+    let cut = tells_cut(alloc, keyed, rest.as_bytes(), &whole)?;
     let unusual = tells_unusual(alloc, keyed, rest, &whole)?;
     let count = whole.events.len();
     write!(out, "{count} events, cut: {cut}, unusual: {unusual}").ok()
-}
-
-fn put_place(out: &mut String, name: &str, place: Option<Place>) -> Option<()> {
-    match place {
-        Some(place) => write!(out, "{name} {}:{}", place.offset, place.line).ok(),
-        None => Some(()),
-    }
-}
-
-/// `places SIZE TEXT`, `places keyed SIZE TEXT`: the places of a text's events as `BYTE:LINE`, fed in pieces of so many bytes, and where it
-/// stops.
-pub fn places(alloc: Global, text: &str, out: &mut String) -> Option<()> {
-    let (keyed, rest) = keyed(text);
-    let (size, rest) = first_number(rest)?;
-    if size == 0 {
-        return None;
-    }
-    let mut names = Names::new(alloc);
-    let mut places = Places::new(alloc, keyed);
-    for piece in rest.as_bytes().chunks(size) {
-        places.feed(piece, &mut names).ok()?;
-    }
-    write!(out, "{} places", places.as_slice().len()).ok()?;
-    for place in places.as_slice() {
-        write!(out, " {}:{}", place.offset, place.line).ok()?;
-    }
-    put_place(out, ", bad", places.bad())?;
-    put_place(out, ", unfinished", places.unfinished())
 }

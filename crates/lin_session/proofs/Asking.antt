@@ -19,11 +19,11 @@ use Rattle.lin_chain.specs.declared.chain.End.{End}
 use Rattle.lin_chain.specs.declared.chain.End.TheVariants.{Alive, Dead, Over}
 use Rattle.lin_chain.specs.Chains.{kind_in, IsRight}
 use Rattle.lin_chain.specs.Ends.{IsEndOf}
-use Rattle.lin_session.specs.declared.answers.Verdict.{Verdict}
-use Rattle.lin_session.specs.declared.answers.Verdict.TheVariants.{Yes, No, Undecided}
+use Rattle.lin_answers.specs.declared.answers.Verdict.{Verdict}
+use Rattle.lin_answers.specs.declared.answers.Verdict.TheVariants.{Yes, No, Undecided}
 use Rattle.lin_session.specs.declared.kept.Object.{Object}
 use Rattle.lin_session.specs.declared.marks.Mark.{Mark}
-use Rattle.lin_session.specs.Answers.{IsObjectVerdict}
+use Rattle.lin_answers.specs.Answers.{IsObjectVerdict}
 use Rattle.lin_session.specs.Objects.{IsMarkRight, IsObject}
 use Rattle.lin_session.specs.inner.Objects.{IsPlaceIn, Finds, IsOrderIn}
 use Rattle.lin_session.specs.inner.Judgements.{IsFinding, IsTold}

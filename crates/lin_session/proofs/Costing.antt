@@ -7,8 +7,8 @@ use Rattle.lin_events.specs.declared.events.Event.{Event}
 use Rattle.lin_objects.specs.declared.kinds.Kind.{Kind}
 use Rattle.lin_orders.specs.PartLaws.{PositionsSpellParts}
 use Rattle.lin_orders.specs.Parts.{part}
-use Rattle.lin_session.specs.declared.answers.Scope.{Scope}
-use Rattle.lin_session.specs.declared.answers.Scope.TheVariants as scope
+use Rattle.lin_answers.specs.declared.answers.Scope.{Scope}
+use Rattle.lin_answers.specs.declared.answers.Scope.TheVariants as scope
 use Rattle.lin_session.specs.declared.marks.Mark.{Mark}
 use Rattle.lin_session.specs.Marks.{IsNothingDue, IsOf}
 use Rattle.lin_session.specs.Objects.{AreKept, AreRight, listed_marks, split_in}

@@ -1,5 +1,4 @@
 pub mod Before
-pub mod Keys
 pub mod Changes
 pub mod Picks
 pub mod Around

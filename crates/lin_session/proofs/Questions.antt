@@ -10,10 +10,10 @@ use Rattle.lin_events.specs.declared.shapes.Shape.TheVariants.{Bad}
 use Rattle.lin_events.specs.WellFormed.{IsShape, IsWellFormed}
 use Rattle.lin_objects.specs.Kinds.{functions_of}
 use Rattle.lin_wellformed.specs.declared.scan.Scan.{Scan}
-use Rattle.lin_session.specs.declared.answers.Scope.{Scope}
+use Rattle.lin_answers.specs.declared.answers.Scope.{Scope}
 use Rattle.lin_session.specs.declared.kept.Objects.{Objects}
 use Rattle.lin_session.specs.declared.marks.Mark.{Mark}
-use Rattle.lin_session.specs.Answers.{kinds_in}
+use Rattle.lin_answers.specs.Answers.{kinds_in}
 use Rattle.lin_session.specs.Marks.{AreMarked, IsMarkedOver, IsNothingDue}
 use Rattle.lin_session.specs.Objects.{split_in}
 use Rattle.lin_session.specs.Sessions.{IsUpToDate, Standing}

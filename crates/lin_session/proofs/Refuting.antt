@@ -20,10 +20,10 @@ use Rattle.lin_chain.specs.Chains.{kind_in, told_in}
 use Rattle.lin_session.specs.declared.kept.Object.{Object}
 use Rattle.lin_session.specs.inner.Judgements.{IsDead}
 use Rattle.lin_session.specs.Objects.{IsObject}
-use Rattle.lin_session.specs.Answers.{kinds_in, IsAnswer, IsOverSomewhere}
-use Rattle.lin_session.specs.Edits.{Present}
-use Rattle.lin_session.specs.declared.answers.Answer.TheVariants.{No}
-use Rattle.lin_session.specs.declared.answers.Scope.TheVariants.{Object as ObjectOf}
+use Rattle.lin_answers.specs.Answers.{kinds_in, IsAnswer, IsOverSomewhere}
+use Rattle.lin_answers.specs.Edits.{Present}
+use Rattle.lin_answers.specs.declared.answers.Answer.TheVariants.{No}
+use Rattle.lin_answers.specs.declared.answers.Scope.TheVariants.{Object as ObjectOf}
 use Rattle.lin_session.specs.Refuting.{IsUnrefuted}
 use Rattle.lin_session.proofs.Asking.{length_spelled, spelled, whole_picked}
 

@@ -8,7 +8,7 @@ use Rattle.lin_objects.specs.Kinds.{functions_of, kind_of}
 use Rattle.lin_wellformed.specs.declared.scan.Scan.{Scan}
 use Rattle.lin_wellformed.specs.Scans.{IsRight, ready_count}
 use Rattle.lin_session.specs.declared.kept.Objects.{Objects}
-use Rattle.lin_session.specs.Edits.{Present}
+use Rattle.lin_answers.specs.Edits.{Present}
 use Rattle.lin_session.specs.Objects.{AreRight, split_in}
 use Rattle.lin_session.specs.Sessions.{IsUpToDate}
 use Rattle.lin_session.proofs.Low.{AreTakenIn-more}

@@ -5,13 +5,13 @@ use Rattle.lin_events.specs.declared.items.Item.{Item}
 use Rattle.lin_events.specs.WellFormed.{IsWellFormed}
 use Rattle.lin_objects.specs.Kinds.{functions_of}
 use Rattle.lin_orders.specs.declared.placed.Placed.{Placed}
-use Rattle.lin_session.specs.declared.answers.Answer.TheVariants as answer
-use Rattle.lin_session.specs.declared.answers.Verdict.{Verdict}
-use Rattle.lin_session.specs.declared.answers.Verdict.TheVariants.{IllFormed, Yes, No, Undecided}
-use Rattle.lin_session.specs.declared.answers.Scope.{Scope}
-use Rattle.lin_session.specs.declared.answers.Scope.TheVariants.{Object, Whole}
-use Rattle.lin_session.specs.Answers.{kinds_in, IsAnswer, IsObjectVerdict, IsWholeVerdict, IsVerdict}
-use Rattle.lin_session.specs.Edits.{Present}
+use Rattle.lin_answers.specs.declared.answers.Answer.TheVariants as answer
+use Rattle.lin_answers.specs.declared.answers.Verdict.{Verdict}
+use Rattle.lin_answers.specs.declared.answers.Verdict.TheVariants.{IllFormed, Yes, No, Undecided}
+use Rattle.lin_answers.specs.declared.answers.Scope.{Scope}
+use Rattle.lin_answers.specs.declared.answers.Scope.TheVariants.{Object, Whole}
+use Rattle.lin_answers.specs.Answers.{kinds_in, IsAnswer, IsObjectVerdict, IsWholeVerdict, IsVerdict}
+use Rattle.lin_answers.specs.Edits.{Present}
 use Rattle.lin_session.specs.inner.Judgements.{IsOrderFor}
 
 pub IsVerdict-object : (now : Present) (key : Item) (verdict : Verdict) → IsWellFormed (functions_of (kinds_in now)) now.history → IsObjectVerdict (kinds_in now) now.budget now.history key verdict

@@ -11,7 +11,7 @@ use Rattle.lin_orders.specs.PartLaws.{PartsOfPrefixes, PositionsSpellParts}
 use Rattle.lin_orders.specs.Parts.{part}
 use Rattle.lin_chain.specs.declared.chain.End.TheVariants.{Over}
 use Rattle.lin_chain.specs.Chains.{IsAnswered, end_in, ready_count}
-use Rattle.lin_session.specs.declared.answers.Scope.{Scope}
+use Rattle.lin_answers.specs.declared.answers.Scope.{Scope}
 use Rattle.lin_session.specs.declared.kept.Object.{Object}
 use Rattle.lin_session.specs.declared.marks.Mark.{Mark}
 use Rattle.lin_session.specs.inner.Costs.{IsJudged}
@@ -27,7 +27,7 @@ use Rattle.lin_lists.specs.lemmas.Lists.{get_set_cases}
 use Rattle.std.proofs.lemmas.List.{length-set}
 use Rattle.std.proofs.lemmas.Option.{slice_get-map}
 use Rattle.std.specs.Option.{option_map}
-use Rattle.lin_session.specs.declared.answers.Scope.TheVariants as scope
+use Rattle.lin_answers.specs.declared.answers.Scope.TheVariants as scope
 use Rattle.lin_lists.specs.lemmas.Taken.{there_at}
 use Rattle.lin_session.proofs.Marking.{IsMarkRight-same, IsMarkRight-settled, answered_over, answered_stands, over_true, same_over}
 use Rattle.lin_chain.specs.Ends.{IsEndOf}

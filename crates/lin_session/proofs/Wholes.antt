@@ -24,9 +24,9 @@ use Rattle.lin_orders.specs.Merging.{AbsentKeysAreLegal, IsLocal}
 use Rattle.lin_orders.specs.Parts.{part}
 use Rattle.lin_orders.specs.PartLaws.{LinearizableByPart}
 use Rattle.lin_orders.specs.Configurations.{IsConfiguration}
-use Rattle.lin_session.specs.declared.answers.Verdict.{Verdict}
-use Rattle.lin_session.specs.declared.answers.Verdict.TheVariants.{Yes, No, Undecided}
-use Rattle.lin_session.specs.Answers.{IsShortestWithout, IsOverAt, IsWholeVerdict}
+use Rattle.lin_answers.specs.declared.answers.Verdict.{Verdict}
+use Rattle.lin_answers.specs.declared.answers.Verdict.TheVariants.{Yes, No, Undecided}
+use Rattle.lin_answers.specs.Answers.{IsShortestWithout, IsOverAt, IsWholeVerdict}
 use Rattle.lin_session.specs.inner.Judgements.{IsFinding, IsCovered, AreFound, IsTold}
 use Rattle.lin_session.specs.Work.{least}
 use Rattle.lin_session.proofs.Around.{part-same}

@@ -1,9 +1,6 @@
-pub mod Edits
 pub mod Work
 pub mod Marks
-pub mod Answers
 pub mod Objects
 pub mod Sessions
 pub mod Refuting
-pub mod Keys
 pub mod inner

@@ -5,12 +5,12 @@ use Rattle.lin_orders.specs.Parts.{part}
 use Rattle.lin_order.specs.Refutations.{Config, IsRefutation, sets_of}
 use Rattle.lin_chain.specs.declared.chain.RefuteFault.{RefuteFault}
 use Rattle.lin_chain.specs.declared.chain.RefuteFault.TheVariants.{NotDead, TooLarge, OutOfMemory}
-use Rattle.lin_session.specs.declared.answers.Answer.TheVariants as answer
-use Rattle.lin_session.specs.declared.answers.Refuted.{Refuted}
-use Rattle.lin_session.specs.declared.answers.Refuted.TheVariants.{No, Not}
-use Rattle.lin_session.specs.declared.answers.Scope.TheVariants.{Object}
-use Rattle.lin_session.specs.Answers.{kinds_in, IsAnswer, IsOverSomewhere}
-use Rattle.lin_session.specs.Edits.{Present}
+use Rattle.lin_answers.specs.declared.answers.Answer.TheVariants as answer
+use Rattle.lin_session.specs.declared.refuted.Refuted.{Refuted}
+use Rattle.lin_session.specs.declared.refuted.Refuted.TheVariants.{No, Not}
+use Rattle.lin_answers.specs.declared.answers.Scope.TheVariants.{Object}
+use Rattle.lin_answers.specs.Answers.{kinds_in, IsAnswer, IsOverSomewhere}
+use Rattle.lin_answers.specs.Edits.{Present}
 
 -- the sets show that the first so many events have no legal order for the object of the key
 abbrev pub Refutes : Present → Item → ℕ → List (List Config) → Type 0

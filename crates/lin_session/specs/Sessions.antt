@@ -9,7 +9,7 @@ use Rattle.lin_wellformed.specs.Scans.{IsRight, ready_count}
 use Rattle.lin_session.specs.declared.kept.Objects.{Objects}
 use Rattle.lin_session.specs.declared.marks.Mark.{Mark}
 use Rattle.lin_session.specs.Objects.{AreRight, split_in}
-use Rattle.lin_session.specs.Edits.{Present, IsBudget}
+use Rattle.lin_answers.specs.Edits.{Present, IsBudget}
 
 -- What the session speaks of, and how much it worked for it; how many of the first events are still known to be well-formed or not, none where all
 -- are; and the marks of the objects that are listed, with their keys.

@@ -8,12 +8,12 @@ use Rattle.lin_orders.specs.Orders.{is_of_key}
 use Rattle.lin_orders.specs.Parts.{part}
 use Rattle.lin_chain.specs.declared.chain.End.{End}
 use Rattle.lin_chain.specs.declared.chain.End.TheVariants.{Alive, Dead, Over}
-use Rattle.lin_session.specs.declared.answers.Scope.{Scope}
-use Rattle.lin_session.specs.declared.answers.Scope.TheVariants.{Object, Whole}
-use Rattle.lin_session.specs.declared.edits.Edit.{Edit}
-use Rattle.lin_session.specs.declared.edits.Edit.TheVariants.{Append, Truncate, Replace, Remove, SetKind, SetBudget}
+use Rattle.lin_answers.specs.declared.answers.Scope.{Scope}
+use Rattle.lin_answers.specs.declared.answers.Scope.TheVariants.{Object, Whole}
+use Rattle.lin_answers.specs.declared.edits.Edit.{Edit}
+use Rattle.lin_answers.specs.declared.edits.Edit.TheVariants.{Append, Truncate, Replace, Remove, SetKind, SetBudget}
 use Rattle.lin_session.specs.declared.marks.Mark.{Mark}
-use Rattle.lin_session.specs.Edits.{Present}
+use Rattle.lin_answers.specs.Edits.{Present}
 
 -- the lesser of two numbers, where there are two
 abbrev pub least : Option ℕ → Option ℕ → Option ℕ

@@ -6,7 +6,7 @@ ghost use Rattle.lin_objects.specs.declared.kinds.Kind.{Kind as KindOf};
 ghost use Rattle.lin_objects.specs.Kinds.{functions_of, kind_of};
 ghost use Rattle.lin_orders.specs.Parts.{part};
 ghost use Rattle.lin_order.specs.Refutations.{IsRefutation, sets_of};
-ghost use Rattle.lin_session.specs.Answers.{IsAnswer, IsObjectVerdict, IsVerdict, IsWholeVerdict, IsOverSomewhere};
+ghost use Rattle.lin_answers.specs.Answers.{IsAnswer, IsObjectVerdict, IsVerdict, IsWholeVerdict, IsOverSomewhere};
 ghost use Rattle.lin_session.specs.declared.kept.Object.{Object as ObjectOf};
 ghost use Rattle.lin_session.specs.Objects.{AreRight, split_in};
 ghost use Rattle.lin_session.specs.inner.Objects.{marks_in};
@@ -16,10 +16,11 @@ ghost use Rattle.lin_session.specs.Marks.{IsNothingDue};
 ghost use Rattle.lin_session.specs.Refuting.{IsRefuted, IsUnrefuted};
 ghost use Rattle.lin_session.specs.Work.{AreSameMarks, cost_in};
 
-use crate::answers::{Answer, Refuted, Scope, Verdict};
 use crate::kept::Objects;
+use crate::lent::Lent;
 use crate::marks::least_of;
-use crate::present::Present;
+use crate::refuted::Refuted;
+use lin_answers::{Answer, Scope, Verdict};
 use lin_chain::RefuteFault;
 use lin_events::{Event, Item, Meter, OutOfMemory, beginnings_are_well_formed};
 use lin_order::Refutation;
@@ -35,7 +36,7 @@ impl Objects {
         &mut self,
         alloc: Global,
         scope: Scope,
-        present: &Present<'_>,
+        present: &Lent<'_>,
         meter: &mut Meter,
     ) -> Result<Answer, OutOfMemory>
         requires few { length present.now.history.now < usize.MAX }
@@ -71,7 +72,7 @@ impl Objects {
         &mut self,
         alloc: Global,
         key: Item,
-        present: &Present<'_>,
+        present: &Lent<'_>,
         meter: &mut Meter,
     ) -> Result<Refuted, RefuteFault>
         requires few { length present.now.history.now < usize.MAX }
@@ -128,7 +129,7 @@ impl Objects {
         &mut self,
         alloc: Global,
         scope: Scope,
-        present: &Present<'_>,
+        present: &Lent<'_>,
         meter: &mut Meter,
     ) -> Result<Verdict, OutOfMemory>
         requires few { length present.now.history.now < usize.MAX }

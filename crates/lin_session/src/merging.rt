@@ -10,8 +10,8 @@ ghost use Rattle.lin_session.specs.declared.kept.Object.{Object as ObjectOf};
 ghost use Rattle.lin_session.specs.inner.Judgements.{AreAlive, IsAlive, IsOrderFor};
 ghost use Rattle.lin_session.specs.Objects.{AreRight, split_in};
 
-use crate::answers::Scope;
 use crate::kept::Objects;
+use lin_answers::Scope;
 use lin_events::{Event, Item, OutOfMemory};
 use lin_objects::Kinds;
 use lin_orders::{

@@ -14,10 +14,10 @@ ghost use Rattle.lin_session.specs.inner.Judgements.{IsOverFor};
 ghost use Rattle.lin_session.specs.Marks.{AreMarked, IsMarkedOver};
 ghost use Rattle.lin_session.specs.Work.{AreSameMarks, AreTouched, raised, rounded, touched_at, unasked};
 
-use crate::answers::Scope;
 use crate::kept::{Object, Objects};
 use crate::object::{mark_all, raise_all};
 use indexmap::IndexSet;
+use lin_answers::Scope;
 use lin_events::{Event, Item, OutOfMemory};
 use lin_objects::{Kind, Kinds};
 use lin_orders::{parts_grow, parts_of_prefixes, positions_spell_parts};

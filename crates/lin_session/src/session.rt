@@ -1,12 +1,11 @@
 //! A history that is edited, with what was found of it kept up to date.
-ghost use Rattle.std.specs.Prelude.{◌≡◌, ◌≢◌, ◌↔◌, ◌<◌, ◌≤◌, ◌⊎◌, ◌+◌, ◌-◌, ◌∷◌, ◌++◌, [], ℕ, true, false, Contains, Err, None, Ok, Some, IfOk, IfErr, IfSome, IfNone, IsOk, OnOk, OnErr, length, slice_get, slice_set, remove, take, map, IsPermutation, if◌then◌else◌};
+ghost use Rattle.std.specs.Prelude.{◌≡◌, ◌≢◌, ◌↔◌, ◌<◌, ◌≤◌, ◌⊎◌, ◌+◌, ◌-◌, ◌∷◌, ◌++◌, [], ℕ, true, false, Err, None, Ok, Some, IfOk, IfErr, IfSome, IfNone, IsOk, OnOk, OnErr, length, slice_get, slice_set, remove, take, if◌then◌else◌};
 ghost use Rattle.lin_events.specs.declared.items.Item.{Item as ItemOf};
 ghost use Rattle.lin_events.specs.WellFormed.{IsWellFormed};
-ghost use Rattle.lin_names.specs.Spelled.{printed, spelled};
 ghost use Rattle.lin_objects.specs.declared.kinds.Kind.{Kind as KindOf};
 ghost use Rattle.lin_objects.specs.Kinds.{functions_of, is_named, kind_of, named_count, same_for_all, with_kind};
-ghost use Rattle.lin_session.specs.Edits.{IsBudget, IsRefused, edited};
-ghost use Rattle.lin_session.specs.Answers.{IsAnswer, IsVerdict, kinds_in};
+ghost use Rattle.lin_answers.specs.Edits.{IsBudget, IsRefused, edited};
+ghost use Rattle.lin_answers.specs.Answers.{IsAnswer, IsVerdict, kinds_in};
 ghost use Rattle.lin_session.specs.Objects.{AreRight, split_in};
 ghost use Rattle.lin_session.specs.inner.Objects.{marks_in};
 ghost use Rattle.lin_orders.specs.Orders.{is_of_key};
@@ -14,18 +13,17 @@ ghost use Rattle.lin_orders.specs.Parts.{part};
 ghost use Rattle.lin_chain.specs.Ends.{IsEndOf};
 ghost use Rattle.lin_session.specs.Marks.{AreMarked, IsMarkedOver, IsNothingDue};
 ghost use Rattle.lin_session.specs.Refuting.{IsRefuted, IsUnrefuted};
-ghost use Rattle.lin_session.specs.Keys.{AreKeys, Occurs};
+ghost use Rattle.lin_answers.specs.Keys.{AreKeys};
 ghost use Rattle.lin_session.specs.Work.{AreSameMarks, anew, cost_in, low_after, mark_after, mark_of, touched_at, truncated, unasked};
 
-use crate::answers::{Answer, Refuted, Scope, Verdict};
-use crate::edits::{Edit, EditFault};
 use crate::kept::Objects;
+use crate::lent::Lent;
 use crate::marks::{least_of, round_down};
-use crate::present::Present;
-use indexmap::IndexSet;
+use crate::refuted::Refuted;
+use lin_answers::{Answer, Edit, EditFault, Present, Scope, Verdict, WholeHistory};
 use lin_chain::{End, RefuteFault};
 use lin_events::{Event, Item, Meter, OutOfMemory, Shape};
-use lin_names::{Names, is_in_print, sort_printed};
+use lin_names::Names;
 use lin_objects::{Kind, Kinds, KindsFault};
 use lin_wellformed::Scan;
 use std::alloc::Global;
@@ -130,11 +128,18 @@ impl Session {
         self.events.get(at)
     }
 
-    /// The events of the history, on the memory that they have; what was found of it goes.
-    pub fn into_history(self) -> Vec<Event>
-        ensures { result.items ≡ self.present.history }
+    /// The history as it stands.
+    pub fn present(&self) -> Present<'_>
+        ensures { result ≡ self.now.present }
     {
-        self.events
+        Present::of(&self.events, &self.kinds, self.budget)
+    }
+
+    /// The history on the memory that it has; what was found of it goes.
+    pub fn into_history(self) -> WholeHistory
+        ensures { result ≡ self.present }
+    {
+        WholeHistory::of(self.events, self.kinds, self.budget)
     }
 
     /// The kind of the key's object.
@@ -170,12 +175,7 @@ impl Session {
     pub fn objects(&self, alloc: Global, names: &Names) -> Result<Vec<Item>, OutOfMemory>
         ensures { IfOk result (λ keys. AreKeys names.now self.now.present.history keys.items) }
     {
-        let mut keys = keys_of(alloc, &self.events)?;
-        keys.sort_unstable();
-        // `keys_of` doesn't promise that each is there once.
-        keys.dedup();
-        put_in_print(names, &mut keys);
-        Ok(keys)
+        self.present().objects(alloc, names)
     }
 
     /// Whether the present history is linearizable, for the scope.
@@ -206,7 +206,7 @@ impl Session {
             .settle(&self.events, &self.kinds, &mut self.meter)?
         {
             Shape::Good => {
-                let present = Present {
+                let present = Lent {
                     history: &self.events,
                     kinds: &self.kinds,
                     budget: self.budget,
@@ -244,7 +244,7 @@ impl Session {
             .settle(&self.events, &self.kinds, &mut self.meter)?
         {
             Shape::Good => {
-                let present = Present {
+                let present = Lent {
                     history: &self.events,
                     kinds: &self.kinds,
                     budget: self.budget,
@@ -286,7 +286,7 @@ impl Session {
         };
         match shape {
             Shape::Good => {
-                let present = Present {
+                let present = Lent {
                     history: &self.events,
                     kinds: &self.kinds,
                     budget: self.budget,
@@ -492,32 +492,6 @@ fn drop_last(events: &mut Vec<Event>, objects: &mut Objects)
     let last = events.len() - 1;
     objects.leave(events, last);
     events.truncate(last);
-}
-
-/// The keys of the events. Where the key that was listed last comes again, no hash is needed.
-fn keys_of(alloc: Global, events: &[Event]) -> Result<Vec<Item>, OutOfMemory>
-    ensures { IfOk result (λ keys. (key : ItemOf) → Contains keys.items key ↔ Occurs events.now key) }
-{
-    let mut keys = IndexSet::new(alloc);
-    for event in events {
-        match keys.last() {
-            Some(last) if *last == event.key => {}
-            _ => {
-                keys.insert(event.key)?;
-            }
-        }
-    }
-    Ok(Vec::from_slice(alloc, keys.as_slice())?)
-}
-
-/// Puts keys in the order in which they are printed, where they don't stand so already.
-fn put_in_print(names: &Names, keys: &mut Vec<Item>)
-    ensures same { IsPermutation keys.old.items keys.new.items }
-    ensures printed { map (spelled names.now) keys.new.items ≡ printed names.now keys.new.items }
-{
-    if !is_in_print(names, keys.as_slice()) {
-        sort_printed(names, keys);
-    }
 }
 
 /// Whether the budget can be set.

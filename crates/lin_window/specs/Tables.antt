@@ -6,7 +6,7 @@ use Rattle.lin_events.specs.declared.calls.Call.{Call}
 use Rattle.lin_events.specs.declared.calls.Reply.{Reply}
 use Rattle.lin_events.specs.declared.events.Event.{Event}
 use Rattle.lin_events.specs.Operations.{IsOperation}
-use Rattle.lin_places.specs.declared.place.Place.{Place}
+use Rattle.lin_texts.specs.declared.place.Place.{Place}
 use Rattle.lin_words.specs.Operations.{operation_text}
 use Rattle.lin_words.specs.Spots.{span_at}
 use Rattle.lin_words.specs.Tables.{range_text, span_text, table_text}

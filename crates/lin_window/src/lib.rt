@@ -8,8 +8,6 @@ mod operations;
 mod quiet;
 mod rows;
 mod tables;
-#[cfg(test)]
-mod tests;
 
 pub use counts::open_counts;
 pub use marks::{Listed, Window};

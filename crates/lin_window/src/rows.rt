@@ -12,7 +12,7 @@ use crate::marks::Chosen;
 use crate::operations::{Outcome, outcome_of};
 use lin_events::{Body, Call, Event};
 use lin_names::Names;
-use lin_places::Place;
+use lin_texts::Place;
 use lin_words::{Row, put_operation, put_range, put_span, span_of};
 use std::alloc::{AllocError, Global};
 

@@ -6,7 +6,7 @@ ghost use Rattle.lin_window.specs.Tables.{IsTable, listing_of, more_text, told_o
 use crate::choosing::choose;
 use crate::marks::Listed;
 use crate::rows::{Stretch, rows_of};
-use lin_formats::put_number;
+use lin_texts::put_number;
 use lin_words::put_table;
 use std::alloc::{AllocError, Global};
 

@@ -5,7 +5,7 @@ use Rattle.std.proofs.lemmas.Bool.{lt-leb}
 use Rattle.std.proofs.lemmas.List.{length-map, take-map}
 use Rattle.std.proofs.lemmas.List.Folds.{flat_map-map}
 use Rattle.lin_events.specs.declared.items.Item.{Item}
-use Rattle.lin_formats.specs.lemmas.Putting.{put_next}
+use Rattle.lin_texts.specs.lemmas.Putting.{put_next}
 use Rattle.lin_names.specs.Spelled.{Spelled, spelled}
 use Rattle.lin_words.specs.Values.{short_item_text, short_spelled, told_text}
 

@@ -1,6 +1,6 @@
 -- Where events stand, as an explanation tells it: on a line of the recording, at a byte of it, or by their position alone.
 use Rattle.std.specs.Prelude.{ℕ, ◌+◌, ◌-◌, ◌==◌, ◌||◌, ◌&&◌, nat_lt, Bool, List, ◌++◌, Option, Some, None, codes, decimal, slice_get, if◌then◌else◌, option_map}
-use Rattle.lin_places.specs.declared.place.Place.{Place}
+use Rattle.lin_texts.specs.declared.place.Place.{Place}
 use Rattle.lin_words.specs.declared.tables.Span.{Span}
 use Rattle.lin_words.specs.declared.tables.Span.TheVariants.{Lines, Bytes, Nowhere}
 

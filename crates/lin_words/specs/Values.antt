@@ -10,7 +10,7 @@ use Rattle.lin_events.specs.declared.calls.Reply.TheVariants.{Value as Answered,
 use Rattle.lin_names.specs.Spelled.{Spelled, printed, spelled}
 use Rattle.lin_objects.specs.declared.states.State.{State}
 use Rattle.lin_objects.specs.declared.states.State.TheVariants.{Value, Queue, Members, Held as IsHeld, Bag}
-use Rattle.lin_formats.specs.Items.{item_text, spelled_text}
+use Rattle.lin_texts.specs.Items.{item_text, spelled_text}
 
 -- a letter of UTF-8 may begin with the byte
 abbrev pub begins_letter : ℕ → Bool

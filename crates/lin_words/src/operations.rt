@@ -5,8 +5,8 @@ ghost use Rattle.lin_words.specs.Values.{short_item_text, value_text};
 
 use crate::values::{put_reply, put_short_item, put_value};
 use lin_events::{Body, Call, Event, Item, Name, Reply, Val};
-use lin_formats::put_number;
 use lin_names::Names;
+use lin_texts::put_number;
 use std::alloc::AllocError;
 
 /// The word of a function.

@@ -3,8 +3,7 @@ ghost use Rattle.std.specs.Prelude.{◌≡◌, ◌++◌, OnOk, option_map};
 ghost use Rattle.lin_words.specs.Spots.{event_spot_text, is_by_bytes as by_bytes, is_shared as shared, line_at as line_of, offset_at as offset_of, place_text, span_at, spot_text};
 
 use crate::tables::Span;
-use lin_formats::put_number;
-use lin_places::Place;
+use lin_texts::{Place, put_number};
 use std::alloc::AllocError;
 
 /// The line of an event, or 0 where there is none.

@@ -3,7 +3,7 @@ ghost use Rattle.std.specs.Prelude.{◌≡◌, ◌++◌, ◌∷◌, ◌-◌, [],
 ghost use Rattle.std.specs.List.{flat_map};
 ghost use Rattle.lin_words.specs.Tables.{entry_line, line_text as line_of, list_text, padded, place_column, range_text, span_text, table_text, widest};
 
-use lin_formats::put_number;
+use lin_texts::put_number;
 use std::alloc::AllocError;
 
 /// The line numbers or the offsets of the two ends of an operation; the second is missing where it has no end.

@@ -5,9 +5,9 @@ ghost use Rattle.lin_names.specs.Spelled.{spelled};
 ghost use Rattle.lin_words.specs.Values.{begins_letter, between, items_text, letter_at, queue_text, reply_text, short_item_text, short_spelled, short_text, state_text, told_text, value_text};
 
 use lin_events::{Item, Reply, Val};
-use lin_formats::{put_item, put_number};
 use lin_names::{Names, in_print, is_in_print};
 use lin_objects::State;
+use lin_texts::{put_item, put_number};
 use std::alloc::AllocError;
 
 /// So many bytes of a value are told at most.

@@ -1,6 +1,6 @@
 -- What the code holds open, as the machine's frames and turns: cited by the contracts of private functions alone.
 use Rattle.std.specs.Prelude.{◌≡◌, ℕ, List, [], ◌∷◌, map as each, Option, Some, None, option_map, reverse}
-use Rattle.lin_edn.specs.Bytes.{Kind, a_list, a_vector, a_set, a_map}
+use Rattle.lin_bytes.specs.Bytes.{Kind, a_list, a_vector, a_set, a_map}
 use Rattle.lin_edn.specs.Value.{Value}
 use Rattle.lin_edn.specs.View.{view, entry_view}
 use Rattle.lin_edn.specs.Grammar.{Frame, frame, discarding, tagging}

@@ -1,6 +1,5 @@
 -- How far the machine is where a row of bytes ends, and what it finds behind tags.
 use Rattle.std.specs.Prelude.{◌≡◌, ◌≢◌, ℕ, ◌≤◌, Bool, true, false, List, [], ◌∷◌, length, drop, Option, Some, None, Result, Ok, Err}
-use Rattle.lin_edn.specs.Bytes.{Class, white, semicolon, opener, closer, quote, backslash, hash, inside}
 use Rattle.lin_edn.specs.Grammar.{Frame, tagging, longest}
 use Rattle.lin_edn.specs.Value.{Value, tagged}
 use Rattle.lin_edn.specs.inner.Machine.{complete, run, between}
@@ -10,16 +9,6 @@ use Rattle.lin_edn.specs.declared.Edn.{Edn}
 use Rattle.lin_edn.specs.declared.EdnCause.TheVariants as cause
 use Rattle.lin_edn.specs.declared.EdnFault.{EdnFault}
 use Rattle.lin_edn.specs.declared.reader.Mode.{Mode as CodeMode}
-
-abbrev pub is_inside : Class → Bool
-is_inside white = false
-is_inside semicolon = false
-is_inside (opener k) = false
-is_inside closer = false
-is_inside quote = false
-is_inside backslash = false
-is_inside hash = false
-is_inside inside = true
 
 -- the machine is no further along at a later place, with the same levels and what is open beside them
 abbrev pub IsAhead : List ℕ → ℕ → ℕ → List Frame → CodeMode → Type 0

@@ -1,6 +1,6 @@
 -- What one more byte does to the levels that a reader without values has open: its steps, which its private functions keep to.
 use Rattle.std.specs.Prelude.{◌≡◌, ℕ, ◌+◌, Bool, true, false, ◌&&◌, ◌==◌, nat_le, if◌then◌else◌, List, [], ◌∷◌, ◌++◌, length, Option, Some, None, option_map, not}
-use Rattle.lin_edn.specs.Bytes.{Kind, a_list, a_vector, a_set, a_map, Class, class, white, semicolon, opener, closer, quote, backslash, hash, inside, is_stop, is_newline, closing, Behind, behind, opens_set, opens_text, discards, joins, stands_apart, names_tag, Quoted, quoted, ends, escapes, stays}
+use Rattle.lin_bytes.specs.Bytes.{Kind, a_list, a_vector, a_set, a_map, Class, class, white, semicolon, opener, closer, quote, backslash, hash, inside, is_stop, is_newline, closing, Behind, behind, opens_set, opens_text, discards, joins, stands_apart, names_tag, Quoted, quoted, ends, escapes, stays}
 use Rattle.lin_edn.specs.Rows.{bracket_of}
 use Rattle.lin_edn.specs.declared.skim.Level.{Level}
 use Rattle.lin_edn.specs.declared.skim.Part.{Part}

@@ -9,7 +9,7 @@ use Rattle.lin_edn.specs.declared.EdnCause.TheVariants.{Unbalanced, OddMap, TooD
 use Rattle.lin_edn.specs.declared.EdnFault.{EdnFault}
 use Rattle.lin_edn.specs.declared.Next.{Next}
 use Rattle.lin_edn.specs.declared.Next.TheVariants as next
-use Rattle.lin_edn.specs.Bytes.{Behind, opens_set, opens_text, discards, joins, stands_apart, names_tag}
+use Rattle.lin_bytes.specs.Bytes.{Behind, opens_set, opens_text, discards, joins, stands_apart, names_tag}
 use Rattle.lin_edn.specs.declared.reader.Behind.{Behind as CodeBehind}
 use Rattle.lin_edn.specs.declared.reader.Behind.TheVariants as behind
 use Rattle.lin_edn.specs.declared.reader.Ended.{Ended}

@@ -1,6 +1,6 @@
 -- More bytes behind what is spelled leave it so.
 use Rattle.std.proofs.Common.{ℕ, List, ◌∷◌, ◌++◌, ap, ◌∙◌, append_assoc}
-use Rattle.lin_edn.specs.Bytes.{Kind, Class}
+use Rattle.lin_bytes.specs.Bytes.{Kind, Class}
 use Rattle.lin_edn.specs.Grammar.{One, one, Inside, first, joined, character, next, Tag, first_of_tag, next_of_tag, Text, Escape, opened, opened_by_hash, plain, pair, escape, Comment, starts, goes, Opens, bracket, set_bracket, Discard, discards, Blank, white_byte, comment, discarded, Blanks, no_blank, one_more, Element, run, hash_alone, whole_text, tagged_element, collection, Row, empty, blank, element, ShortBlanks, no_blank_yet, one_more_short, Spells, spells, Frame, Open, none_open, within, waits, awaits, Faulty, unbalanced, odd_map, too_deep, hash_too_deep, IsLeast, IsInReach}
 use Rattle.lin_edn.specs.Reading.{IsWrong}
 use Rattle.lin_edn.specs.Value.{Value}

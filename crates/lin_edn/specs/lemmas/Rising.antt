@@ -1,6 +1,6 @@
 -- Places rise, and count the bytes before them.
 use Rattle.std.proofs.Common.{◌≡◌, ℕ, ◌+◌, ◌<◌, ◌≤◌, List, ◌∷◌, length, refl, arith}
-use Rattle.lin_edn.specs.Bytes.{Kind, Class}
+use Rattle.lin_bytes.specs.Bytes.{Kind, Class}
 use Rattle.lin_edn.specs.Grammar.{One, one, Inside, first, joined, character, next, Tag, first_of_tag, next_of_tag, Text, Escape, opened, opened_by_hash, plain, pair, escape, Comment, starts, goes, Opens, bracket, set_bracket, Discard, discards, Blank, white_byte, comment, discarded, Blanks, no_blank, one_more, Element, run, hash_alone, whole_text, tagged_element, collection, Row, empty, blank, element, Frame, Open, none_open, within, waits, awaits, outermost, place_of}
 use Rattle.lin_edn.specs.Value.{Value}
 

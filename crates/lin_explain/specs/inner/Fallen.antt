@@ -1,8 +1,8 @@
 -- The object that a no is about: words of private contracts.
 use Rattle.std.specs.Prelude.{◌≡◌, ◌-◌, ℕ, take}
 use Rattle.lin_events.specs.Operations.{IsEvent}
-use Rattle.lin_session.specs.Answers.{kinds_in}
-use Rattle.lin_session.specs.Edits.{Present}
+use Rattle.lin_answers.specs.Answers.{kinds_in}
+use Rattle.lin_answers.specs.Edits.{Present}
 use Rattle.lin_explain.specs.declared.fallen.Fallen.{Fallen}
 use Rattle.lin_explain.specs.inner.Laws.{IsFailure}
 use Rattle.lin_explain.specs.inner.Own.{IsOwn}

@@ -9,10 +9,10 @@ use Rattle.lin_objects.specs.declared.kinds.Kind.{Kind}
 use Rattle.lin_orders.specs.Linearizable.{IsLinearizableAs}
 use Rattle.lin_orders.specs.Parts.{part}
 use Rattle.lin_outcomes.specs.Outcomes.{HasNotCrashed}
-use Rattle.lin_session.specs.Answers.{IsAnswer, kinds_in}
-use Rattle.lin_session.specs.Edits.{Present}
-use Rattle.lin_session.specs.declared.answers.Answer.TheVariants.{No}
-use Rattle.lin_session.specs.declared.answers.Scope.{Scope}
+use Rattle.lin_answers.specs.Answers.{IsAnswer, kinds_in}
+use Rattle.lin_answers.specs.Edits.{Present}
+use Rattle.lin_answers.specs.declared.answers.Answer.TheVariants.{No}
+use Rattle.lin_answers.specs.declared.answers.Scope.{Scope}
 use Rattle.lin_window.specs.Operations.{IsFailing}
 use Rattle.lin_explain.specs.Own.{without_last}
 

@@ -5,7 +5,7 @@ use Rattle.std.proofs.lemmas.List.{length-take-le}
 use Rattle.std.specs.Io.KnownBytes.{Consumes, IsAtEnd}
 use Rattle.lin_formats.specs.Histories.{EndsFor, IsHistory, StopsFor}
 use Rattle.lin_formats.specs.Inputs.{AreRefused}
-use Rattle.lin_formats.specs.declared.faults.RunFault.{RunFault}
+use Rattle.lin_texts.specs.declared.faults.RunFault.{RunFault}
 use Rattle.lin_formats.specs.declared.verdicts.Refusal.{Refusal}
 use Rattle.lin_formats.specs.declared.verdicts.Refusal.TheVariants.{Edn, Event, Truncated, Full, BadPair}
 use Rattle.lin_formats.specs.declared.inputs.History.{History}

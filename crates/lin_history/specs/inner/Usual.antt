@@ -2,7 +2,7 @@
 use Rattle.std.specs.Prelude.{◌≡◌, ℕ, suc, ◌+◌, ◌<◌, ◌≤◌, Bool, true, false, List, [], ◌∷◌, length, drop, Option, Some, None, Ok, codes}
 use Rattle.lin_edn.specs.Grammar.{Element, Row, ShortBlanks, longest}
 use Rattle.std.specs.List.{slice_range}
-use Rattle.lin_edn.specs.Bytes.{Kind, a_set, a_vector}
+use Rattle.lin_bytes.specs.Bytes.{Kind, a_set, a_vector}
 use Rattle.lin_edn.specs.Run.{run_value}
 use Rattle.lin_edn.specs.Value.{Value, vector, map, Entries, values_of, entries_of}
 use Rattle.lin_names.specs.Spelled.{Spelled}

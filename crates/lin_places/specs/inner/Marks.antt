@@ -1,6 +1,6 @@
 -- What the code marks while it reads: cited by the contracts of private functions alone.
 use Rattle.std.specs.Prelude.{◌≡◌, ℕ, suc, ◌+◌, ◌≤◌, Bool, true, false, List, [], ◌∷◌, ◌++◌, length, drop, Option, Some, None, Result, Ok, Err}
-use Rattle.lin_edn.specs.Bytes.{Kind}
+use Rattle.lin_bytes.specs.Bytes.{Kind}
 use Rattle.lin_edn.specs.Grammar.{Frame, frame, Open, Blanks, Element, IsBlankText, IsUnfinished, longest}
 use Rattle.lin_edn.specs.Value.{Value}
 use Rattle.lin_history.specs.Reading.{Reading}
@@ -12,7 +12,7 @@ use Rattle.lin_events.specs.declared.lists.OutOfMemory.{OutOfMemory}
 use Rattle.lin_history.specs.declared.table.EventFault.{EventFault}
 use Rattle.lin_history.specs.declared.follow.FollowFault.{FollowFault}
 use Rattle.lin_places.specs.Places.{place_at, AreTags, is_row, Begins, ArePlaces, StopsAt, is_bad}
-use Rattle.lin_places.specs.declared.place.Place.{Place}
+use Rattle.lin_texts.specs.declared.place.Place.{Place}
 use Rattle.lin_places.specs.declared.place.Cursor.{Cursor}
 use Rattle.lin_places.specs.declared.place.Stop.{Stop}
 use Rattle.lin_places.specs.declared.place.Stop.TheVariants as stop

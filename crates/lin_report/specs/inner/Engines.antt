@@ -4,17 +4,17 @@ use Rattle.std.specs.Option.{option_or}
 use Rattle.std.specs.Io.KnownBytes.{Appends, Consumes, Keeps}
 use Rattle.lin_events.specs.declared.events.Event.{Event}
 use Rattle.lin_history.specs.Sees.{Followed}
-use Rattle.lin_session.specs.Edits.{Present}
+use Rattle.lin_answers.specs.Edits.{Present}
 use Rattle.lin_report.specs.Commands.{longest_line}
 use Rattle.lin_report.specs.Pulls.{StandsAt}
 use Rattle.lin_report.specs.Runs.{AreCarriedOut, AreMore, AreRead, IsReply, AreReplies, IsWritten, RunState, lines_of}
 use Rattle.lin_formats.specs.Intakes.{AreSeen}
 use Rattle.lin_formats.specs.Verdicts.{IsReadTooFar}
-use Rattle.lin_formats.specs.declared.verdicts.Status.{Status}
-use Rattle.lin_formats.specs.declared.verdicts.Status.TheVariants.{Yes}
+use Rattle.lin_texts.specs.declared.status.Status.{Status}
+use Rattle.lin_texts.specs.declared.status.Status.TheVariants.{Yes}
 use Rattle.lin_report.specs.declared.runs.Engine.{Engine}
-use Rattle.lin_formats.specs.declared.faults.RunFault.{RunFault}
-use Rattle.lin_formats.specs.declared.faults.RunFault.TheVariants.{WriteFailed, TooMuch}
+use Rattle.lin_texts.specs.declared.faults.RunFault.{RunFault}
+use Rattle.lin_texts.specs.declared.faults.RunFault.TheVariants.{WriteFailed, TooMuch}
 
 -- from where the run stands, it comes to stand elsewhere, and this is so
 abbrev pub Moves : Bool → Present → Present → List (List ℕ) → List (List ℕ) → Followed → Followed → Option (List ℕ) → Option (List ℕ) → (RunState → RunState → Type 0) → Type 0

@@ -7,13 +7,13 @@ use Rattle.lin_orders.specs.Linearizable.{IsLegalOrder, IsLegalOrderFor, IsLinea
 use Rattle.lin_orders.specs.declared.placed.Placed.{Placed}
 use Rattle.lin_chain.specs.declared.chain.End.TheVariants.{Alive, Dead, Over}
 use Rattle.lin_chain.specs.Chains.{IsAnswered, end_in, told_in}
-use Rattle.lin_session.specs.declared.answers.Scope.{Scope}
-use Rattle.lin_session.specs.declared.answers.Scope.TheVariants as scope
-use Rattle.lin_session.specs.declared.answers.Verdict.{Verdict}
-use Rattle.lin_session.specs.declared.answers.Verdict.TheVariants.{Yes, No, Undecided}
+use Rattle.lin_answers.specs.declared.answers.Scope.{Scope}
+use Rattle.lin_answers.specs.declared.answers.Scope.TheVariants as scope
+use Rattle.lin_answers.specs.declared.answers.Verdict.{Verdict}
+use Rattle.lin_answers.specs.declared.answers.Verdict.TheVariants.{Yes, No, Undecided}
 use Rattle.lin_session.specs.declared.kept.Object.{Object}
 use Rattle.lin_session.specs.declared.kept.Objects.{Objects}
-use Rattle.lin_session.specs.Answers.{IsShortestWithout, IsOverAt}
+use Rattle.lin_answers.specs.Answers.{IsShortestWithout, IsOverAt}
 use Rattle.lin_session.specs.Marks.{IsOf}
 
 -- what was found of one object: the prefix that fails it, or the place where it is over, or that it is linearizable

@@ -1,7 +1,7 @@
 use Rattle.std.proofs.Common.{ap, ◌∙◌, map, ◌++◌, ◌∷◌, [], None, option_map, sym}
 use Rattle.std.proofs.lemmas.List.{map-append}
 use Rattle.lin_edn.proofs.Flat.{flat_pair}
-use Rattle.lin_edn.specs.Bytes.{a_map}
+use Rattle.lin_bytes.specs.Bytes.{a_map}
 use Rattle.lin_edn.specs.Grammar.{frame}
 use Rattle.lin_edn.specs.inner.Levels.{flat}
 use Rattle.lin_edn.specs.View.{view, entry_view}

@@ -1,5 +1,5 @@
 use Rattle.std.proofs.Common.{◌<◌, arith, refl}
-use Rattle.lin_edn.specs.Bytes.{a_vector, a_list, a_map}
+use Rattle.lin_bytes.specs.Bytes.{a_vector, a_list, a_map}
 use Rattle.lin_edn.proofs.Nesting.{vector_opens, list_opens, map_opens}
 use Rattle.lin_edn.specs.lemmas.Rising.{opens_past}
 use Rattle.lin_edn.proofs.Simple.{none_opens}

@@ -1,5 +1,5 @@
 use Rattle.std.proofs.Common.{◌≡◌, ◌+◌, arith, refl}
-use Rattle.lin_edn.specs.Bytes.{a_set}
+use Rattle.lin_bytes.specs.Bytes.{a_set}
 use Rattle.lin_edn.proofs.Nesting.{set_opens}
 use Rattle.lin_edn.proofs.Simple.{set_begins, set_only}
 use Rattle.lin_edn.proofs.nested.set_at.Goals as goal

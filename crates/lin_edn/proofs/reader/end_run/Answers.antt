@@ -1,7 +1,7 @@
 use Rattle.std.proofs.Common.{◌≡◌, ℕ, List, true, get_or, sym}
 use Rattle.std.specs.List.{slice_range}
 use Rattle.lin_edn.specs.inner.Levels.{frames_of}
-use Rattle.lin_edn.specs.Bytes.{is_stop}
+use Rattle.lin_bytes.specs.Bytes.{is_stop}
 use Rattle.lin_edn.specs.Grammar.{Frame}
 use Rattle.lin_edn.specs.inner.Machine.{Turn, put, ended, in_run}
 use Rattle.lin_edn.specs.Run.{run_value}

@@ -1,6 +1,6 @@
 use Rattle.std.proofs.Common.{◌≡◌, ℕ, ◌+◌, ◌≤◌, ◌<◌, List, [], ◌∷◌, get_or, length, ap, ◌∙◌, subst, arith}
 use Rattle.std.specs.List.{slice_range}
-use Rattle.lin_edn.specs.Bytes.{behind, names_tag}
+use Rattle.lin_bytes.specs.Bytes.{behind, names_tag}
 use Rattle.lin_edn.specs.Grammar.{Frame}
 use Rattle.lin_edn.specs.inner.Levels.{frames_of}
 use Rattle.lin_edn.specs.inner.Machine.{go, deeper, goes_on, in_tag}

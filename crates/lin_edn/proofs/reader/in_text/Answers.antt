@@ -1,6 +1,6 @@
 use Rattle.std.proofs.Common.{◌≡◌, ℕ, ◌+◌, ◌≤◌, ◌<◌, List, get_or, length, subst, refl, arith}
 use Rattle.std.specs.List.{slice_range}
-use Rattle.lin_edn.specs.Bytes.{quoted}
+use Rattle.lin_bytes.specs.Bytes.{quoted}
 use Rattle.lin_edn.specs.Grammar.{Frame}
 use Rattle.lin_edn.specs.inner.Levels.{frames_of}
 use Rattle.lin_edn.specs.inner.Machine.{go, in_escape, put, quotes}

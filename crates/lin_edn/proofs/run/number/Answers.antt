@@ -1,6 +1,6 @@
 use Rattle.std.proofs.Common.{◌+◌, ap, sym, ◌∙◌, get_or, drop}
 use Rattle.lin_edn.proofs.Digits.{one_more, too_great}
-use Rattle.lin_edn.specs.Bytes.{is_digit}
+use Rattle.lin_bytes.specs.Bytes.{is_digit}
 use Rattle.lin_edn.specs.inner.Numbers.{capped}
 use Rattle.lin_edn.proofs.run.number.Goals as goal
 

@@ -1,5 +1,5 @@
 use Rattle.std.proofs.Common.{◌≡◌, ℕ, ◌≤◌, ◌<◌, false, get_or}
-use Rattle.lin_edn.specs.Bytes.{is_newline}
+use Rattle.lin_bytes.specs.Bytes.{is_newline}
 use Rattle.lin_edn.proofs.scan.line_end.Given as goal
 
 abbrev pub invariant-loop-at : goal.invariant-loop-at

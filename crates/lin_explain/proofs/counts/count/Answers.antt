@@ -6,8 +6,8 @@ use Rattle.lin_explain.proofs.counts.count.Goals.{then-is_counted, else-is_count
 
 pub loop-at-preserved : goal.loop-at-preserved
 loop-at-preserved c = elim c.if-is_counted.branch [
-  | then-is_counted w ↦ counted (counts c.args.key c.args.sort) c.args.session.now.present.history c.loop-at.at c.in-Some.event.now c.loop-at.found c.if-is_counted.found
+  | then-is_counted w ↦ counted (counts c.args.key c.args.sort) c.args.present.now.history c.loop-at.at c.in-Some.event.now c.loop-at.found c.if-is_counted.found
       c.in-Some.ensures.found c.loop-at.invariant (sym w.if-is_counted.ensures) w.found-is
-  | else-is_counted w ↦ uncounted (counts c.args.key c.args.sort) c.args.session.now.present.history c.loop-at.at c.in-Some.event.now c.loop-at.found c.if-is_counted.found
+  | else-is_counted w ↦ uncounted (counts c.args.key c.args.sort) c.args.present.now.history c.loop-at.at c.in-Some.event.now c.loop-at.found c.if-is_counted.found
       c.in-Some.ensures.found c.loop-at.invariant (sym w.if-is_counted.ensures) w.found-is
 ]

@@ -6,7 +6,7 @@ use Rattle.lin_explain.proofs.ill_formed.last_before.Goals.{then-event-process, 
 
 pub loop-earlier-preserved : goal.loop-earlier-preserved
 loop-earlier-preserved c =
-    let h = c.args.session.now.present.history in
+    let h = c.args.present.now.history in
     let k = c.loop-earlier.earlier in
     elim c.if-event-process.branch [
       | then-event-process w ↦ subst (IsLastPlace h c.args.process (k + 1)) (sym w.found-is) (at_last h c.args.process k c.in-Some.event.now c.in-Some.ensures.found w.if-event-process.true)
@@ -17,4 +17,4 @@ loop-earlier-preserved c =
 pub returns : goal.returns
 returns c =
     let same : c.loop-earlier.earlier ≡ c.args.at = omega (arith, c.loop-earlier-test.false, c.loop-earlier.auto.earlier-end) in
-    subst (λ n. IsLastPlace c.args.session.now.present.history c.args.process n c.loop-earlier.found) same c.loop-earlier.invariant
+    subst (λ n. IsLastPlace c.args.present.now.history c.args.process n c.loop-earlier.found) same c.loop-earlier.invariant

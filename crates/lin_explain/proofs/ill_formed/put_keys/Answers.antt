@@ -1,5 +1,5 @@
 use Rattle.std.proofs.Common.{◌≡◌, ◌++◌, codes, option_map, subst, sym}
-use Rattle.lin_formats.specs.Items.{item_text}
+use Rattle.lin_texts.specs.Items.{item_text}
 use Rattle.lin_explain.specs.IllFormed.{keys_text}
 use Rattle.lin_explain.proofs.Texts.{five_put}
 use Rattle.lin_explain.proofs.ill_formed.put_keys.Goals as goal

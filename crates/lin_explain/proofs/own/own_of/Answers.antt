@@ -9,7 +9,7 @@ use Rattle.lin_explain.proofs.own.own_of.Goals.{then-is_beside+in_ok-take_in, el
 pub loop-at-preserved : goal.loop-at-preserved
 loop-at-preserved c =
     let key = c.args.of.now.key in
-    let h = c.args.session.now.present.history in
+    let h = c.args.present.now.history in
     let at = c.loop-at.at in
     let own = c.loop-at.own in
     let so_far : (own.events.items ≡ part key (take at h)) × ArePositionsOf key (take at h) own.picks.items = (c.loop-at.invariant.events_of, c.loop-at.invariant.positions) in

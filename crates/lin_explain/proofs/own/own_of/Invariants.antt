@@ -3,4 +3,4 @@ use Rattle.lin_explain.specs.inner.Own.{IsOwn}
 use Rattle.lin_explain.proofs.own.own_of.Given as goal
 
 abbrev pub invariant-loop-at : goal.invariant-loop-at
-invariant-loop-at l = IsOwn l.of.key (take l.at l.session.present.history) l.own
+invariant-loop-at l = IsOwn l.of.key (take l.at l.present.history) l.own

@@ -8,7 +8,7 @@ use Rattle.lin_explain.proofs.own.picks_of.Goals.{then-is_of+in_ok-push, else-is
 pub loop-at-preserved : goal.loop-at-preserved
 loop-at-preserved c =
     let key = c.args.key in
-    let h = c.args.session.now.present.history in
+    let h = c.args.present.now.history in
     let at = c.loop-at.at in
     let picks = c.loop-at.picks.items in
     let events = part key (take at h) in

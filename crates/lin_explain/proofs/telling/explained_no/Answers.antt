@@ -9,6 +9,6 @@ returns c =
     let lines = told.2 ∙ ap (λ l. l ++ told.0) c.new-lines.ensures.items in (
       failed,
       refl,
-      subst (λ l. IsNoText c.args.origin.now.names.now c.args.session.present (option_map (λ p. p.now) c.args.origin.now.places) c.args.prefix l failed) (sym lines)
-          (told.1 c.args.session.present c.in_ok-fallen.ensures),
+      subst (λ l. IsNoText c.args.origin.now.names.now c.args.history (option_map (λ p. p.now) c.args.origin.now.places) c.args.prefix l failed) (sym lines)
+          (told.1 c.args.history c.in_ok-fallen.ensures),
     )

@@ -7,7 +7,7 @@ use Rattle.lin_explain.proofs.undecided.put_object_open.Goals as goal
 
 pub returns : goal.returns
 returns c =
-    let now = c.args.session.now.present in
+    let now = c.args.present.now in
     let own = c.in_ok-own.ensures in
     let stretch : Told = record { names = c.args.origin.now.names.now; events = c.as_slice-2.result.now; picks = c.as_slice-4.result.now; places = option_map (λ p. p.now) c.args.origin.now.places } in
     on_ok_weaker c.put_open.result

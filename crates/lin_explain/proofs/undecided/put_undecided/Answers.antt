@@ -1,12 +1,12 @@
 use Rattle.std.proofs.Common.{◌++◌, ◌∙◌, ap, option_map, rules}
-use Rattle.lin_session.specs.Answers.{kinds_in}
+use Rattle.lin_answers.specs.Answers.{kinds_in}
 use Rattle.lin_explain.specs.Undecided.{event_line}
 use Rattle.lin_explain.proofs.Texts.{two_put}
 use Rattle.lin_explain.proofs.undecided.put_undecided.Goals as goal
 
 pub returns : goal.returns
 returns c =
-    let now = c.args.session.now.present in
+    let now = c.args.present.now in
     let event = c.in-Some.event.now in
     let places = option_map (λ p. p.now) c.args.origin.now.places in
     let back = c.in_ok-put_object_open.ensures in

@@ -1,5 +1,5 @@
 use Rattle.std.proofs.Common.{◌≡◌, suc, ◌-◌, [], ◌∷◌, ◌++◌, drop, map, refl, ap, sym, ◌∙◌, subst, arith}
-use Rattle.lin_edn.specs.Bytes.{closing}
+use Rattle.lin_bytes.specs.Bytes.{closing}
 use Rattle.lin_edn.specs.Grammar.{Element, collection, Row, empty, element}
 use Rattle.lin_edn.specs.View.{view}
 use Rattle.lin_history.specs.inner.Usual.{kind_of}

@@ -1,6 +1,6 @@
 use Rattle.std.proofs.Common.{◌≡◌, ◌++◌, ◌∷◌, [], OnOk, subst, sym}
 use Rattle.std.specs.List.{flat_map}
-use Rattle.lin_formats.specs.Items.{item_text, spelled_text}
+use Rattle.lin_texts.specs.Items.{item_text, spelled_text}
 use Rattle.lin_json.specs.Strings.{byte_json}
 use Rattle.lin_json.proofs.Plain.{plain_said}
 use Rattle.lin_json.proofs.answers.put_key.Goals as goal

@@ -1,4 +1,4 @@
-use Rattle.lin_formats.specs.lemmas.Putting.{put_last, put_next}
+use Rattle.lin_texts.specs.lemmas.Putting.{put_last, put_next}
 use Rattle.lin_json.proofs.failures.put_outcome.Goals as goal
 
 pub returns : goal.returns

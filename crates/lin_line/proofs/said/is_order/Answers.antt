@@ -1,5 +1,5 @@
 use Rattle.std.proofs.Common.{◌≡◌, true, ap, is_ok, sym, subst}
-use Rattle.lin_formats.specs.Orders.{order_written}
+use Rattle.lin_texts.specs.Orders.{order_written}
 use Rattle.lin_names.specs.Names.{AreEachOnce, number_of}
 use Rattle.lin_line.proofs.Orders.{written_where_read}
 use Rattle.lin_line.proofs.said.is_order.Goals as goal

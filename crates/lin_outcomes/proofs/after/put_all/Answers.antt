@@ -1,5 +1,5 @@
 use Rattle.std.proofs.Common.{◌∙◌, ◌++◌, ap, codes}
-use Rattle.lin_formats.specs.lemmas.Putting.{all_pieces, one_more_piece}
+use Rattle.lin_texts.specs.lemmas.Putting.{all_pieces, one_more_piece}
 use Rattle.lin_outcomes.specs.Words.{placed_text}
 use Rattle.lin_outcomes.proofs.after.put_all.Goals as goal
 

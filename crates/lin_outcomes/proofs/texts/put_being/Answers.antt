@@ -1,6 +1,6 @@
 use Rattle.std.proofs.Common.{◌≡◌, ◌++◌, codes, OnOk, sym, subst}
 use Rattle.std.specs.Prelude.{if◌then◌else◌}
-use Rattle.lin_formats.specs.lemmas.Putting.{put_last}
+use Rattle.lin_texts.specs.lemmas.Putting.{put_last}
 use Rattle.lin_outcomes.specs.Texts.{listed_text}
 use Rattle.lin_outcomes.proofs.texts.put_being.Goals as goal
 

@@ -1,7 +1,7 @@
 use Rattle.std.proofs.Common.{◌≡◌, ◌++◌, codes, false, nat_eq, OnOk, sym, subst, arith}
 use Rattle.std.specs.Prelude.{if◌then◌else◌}
 use Rattle.std.proofs.lemmas.Bool.Decides.{nat_tests}
-use Rattle.lin_formats.specs.lemmas.Putting.{put_last}
+use Rattle.lin_texts.specs.lemmas.Putting.{put_last}
 use Rattle.lin_outcomes.specs.Texts.{counted, listed_text}
 use Rattle.lin_outcomes.proofs.texts.put_right.Goals as goal
 

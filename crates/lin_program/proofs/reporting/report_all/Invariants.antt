@@ -1,6 +1,6 @@
 use Rattle.std.proofs.Common.{◌≡◌, List, map, take}
 use Rattle.lin_formats.specs.Devices.{device_of, failures_of}
-use Rattle.lin_formats.specs.declared.verdicts.Status.{Status}
+use Rattle.lin_texts.specs.declared.status.Status.{Status}
 use Rattle.lin_program.specs.Exit.{worst}
 use Rattle.lin_program.specs.Reporting.{AreReports, IsReportOn}
 use Rattle.lin_program.specs.Tasks.{IsTaskRun}

@@ -1,5 +1,5 @@
 use Rattle.std.proofs.Common.{ℕ, [], ◌∷◌, ◌∙◌, ap, option_to_list, slice_get}
-use Rattle.lin_formats.specs.lemmas.Putting.{put_next}
+use Rattle.lin_texts.specs.lemmas.Putting.{put_next}
 use Rattle.lin_reasons.specs.Lines.{passed_text}
 use Rattle.lin_reasons.specs.Reasons.{both_of}
 use Rattle.lin_reasons.proofs.queues.put_passed.Goals as goal

@@ -1,7 +1,7 @@
 use Rattle.std.proofs.Common.{[], ◌∷◌, ◌++◌, ◌∙◌, ap, refl, subst, sym}
 use Rattle.lin_events.specs.declared.calls.Val.TheVariants.{Item as Held}
 use Rattle.lin_failures.specs.Conflicts.{Leaves}
-use Rattle.lin_formats.specs.lemmas.Putting.{put_next}
+use Rattle.lin_texts.specs.lemmas.Putting.{put_next}
 use Rattle.lin_reasons.specs.Groups.{Fails, IsListing}
 use Rattle.lin_reasons.specs.Lines.{unwritten_text}
 use Rattle.lin_reasons.specs.Series.{firsts}

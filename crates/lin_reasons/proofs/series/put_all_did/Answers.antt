@@ -1,5 +1,5 @@
 use Rattle.std.proofs.Common.{◌∙◌, ◌++◌, ap, codes, get_or, refl}
-use Rattle.lin_formats.specs.lemmas.Putting.{all_pieces, one_more_piece}
+use Rattle.lin_texts.specs.lemmas.Putting.{all_pieces, one_more_piece}
 use Rattle.lin_reasons.specs.Telling.{did_text}
 use Rattle.lin_reasons.proofs.series.put_all_did.Goals as goal
 

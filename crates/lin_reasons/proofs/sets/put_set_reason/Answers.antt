@@ -1,5 +1,5 @@
 use Rattle.std.proofs.Common.{[], ◌∷◌, refl, subst, sym}
-use Rattle.lin_formats.specs.lemmas.Putting.{put_next}
+use Rattle.lin_texts.specs.lemmas.Putting.{put_next}
 use Rattle.lin_reasons.specs.Lines.{late_text}
 use Rattle.lin_reasons.specs.Reasons.{ArePut, IsReasonOfSet}
 use Rattle.lin_reasons.proofs.sets.put_set_reason.Goals as goal

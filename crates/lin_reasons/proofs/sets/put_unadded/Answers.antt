@@ -1,6 +1,6 @@
 use Rattle.std.proofs.Common.{[], ◌∷◌, ◌++◌, ◌∙◌, ap, refl, subst, sym}
 use Rattle.lin_failures.specs.Adding.{Adds}
-use Rattle.lin_formats.specs.lemmas.Putting.{put_next}
+use Rattle.lin_texts.specs.lemmas.Putting.{put_next}
 use Rattle.lin_reasons.specs.Groups.{Fails, IsListing}
 use Rattle.lin_reasons.specs.Lines.{unadded_text}
 use Rattle.lin_reasons.specs.Series.{firsts}

@@ -1,5 +1,5 @@
 use Rattle.std.proofs.Common.{◌≡◌, ◌++◌, ◌∙◌, ap, codes, false, rules, subst, sym, true, true≢false}
-use Rattle.lin_session.specs.Answers.{IsAnswer, verdict_of}
+use Rattle.lin_answers.specs.Answers.{IsAnswer, verdict_of}
 use Rattle.lin_explain.specs.Explained.{scope_of}
 use Rattle.lin_report.specs.Pictures.{IsDrawing}
 use Rattle.lin_report.specs.Reports.{answer_status, answer_text, is_ill_formed, opened}

@@ -1,6 +1,6 @@
 use Rattle.std.proofs.Common.{◌∙◌, ap, sym, true≢false}
 use Rattle.std.proofs.lemmas.Result.{IfOk-weaker}
-use Rattle.lin_session.specs.Answers.{verdict_of}
+use Rattle.lin_answers.specs.Answers.{verdict_of}
 use Rattle.lin_report.specs.Reports.{is_ill_formed}
 use Rattle.lin_report.proofs.drawing.picture_of.Goals as goal
 

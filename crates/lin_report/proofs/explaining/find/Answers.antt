@@ -1,7 +1,7 @@
 use Rattle.std.proofs.Common.{◌≡◌, ℕ, Bool, true, false, List, inl, inr, refl}
 use Rattle.lin_formats.specs.declared.verdicts.Refusal.{Refusal}
 use Rattle.lin_places.specs.Places.{Marked}
-use Rattle.lin_explain.specs.Hints.{IsHint, IsOfTwoParts, hint_text}
+use Rattle.lin_reading.specs.Hints.{IsHint, IsOfTwoParts, hint_text}
 use Rattle.lin_report.proofs.Keys.{key_on}
 use Rattle.lin_report.proofs.explaining.find.Goals as goal
 

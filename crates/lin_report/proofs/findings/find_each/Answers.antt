@@ -1,8 +1,8 @@
 use Rattle.std.proofs.Common.{◌≡◌, ◌∷◌, ◌∙◌, [], arith, length, pos, slice_index_or, subst, sym}
 use Rattle.lin_events.specs.declared.items.Item.TheVariants.{Int}
-use Rattle.lin_session.specs.Answers.{IsVerdict}
-use Rattle.lin_session.specs.Keys.{AreKeys}
-use Rattle.lin_session.specs.declared.answers.Scope.TheVariants.{Object}
+use Rattle.lin_answers.specs.Answers.{IsVerdict}
+use Rattle.lin_answers.specs.Keys.{AreKeys}
+use Rattle.lin_answers.specs.declared.answers.Scope.TheVariants.{Object}
 use Rattle.lin_report.specs.Reports.{AreFindings}
 use Rattle.lin_report.proofs.ObjectFindings.{of_well_formed, one_found}
 use Rattle.lin_report.proofs.OneObject.{one_listed, only_key, verdict_of_object}

@@ -1,6 +1,6 @@
 use Rattle.std.proofs.Common.{◌++◌, ◌∙◌, ap, codes, get_or, ℕ, List, refl}
-use Rattle.lin_formats.specs.lemmas.Putting.{all_pieces, one_more_piece}
-use Rattle.lin_session.specs.Answers.{kinds_in}
+use Rattle.lin_texts.specs.lemmas.Putting.{all_pieces, one_more_piece}
+use Rattle.lin_answers.specs.Answers.{kinds_in}
 use Rattle.lin_report.specs.Reports.{json_object}
 use Rattle.lin_report.specs.declared.findings.Finding.{Finding}
 use Rattle.lin_report.proofs.json_reports.put_each.Goals as goal

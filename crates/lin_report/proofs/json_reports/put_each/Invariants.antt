@@ -1,6 +1,6 @@
 use Rattle.std.proofs.Common.{◌≡◌, ◌++◌, codes, take}
 use Rattle.std.specs.List.{flat_map}
-use Rattle.lin_session.specs.Answers.{kinds_in}
+use Rattle.lin_answers.specs.Answers.{kinds_in}
 use Rattle.lin_report.specs.Reports.{json_object}
 use Rattle.lin_report.proofs.json_reports.put_each.Given as goal
 

@@ -1,5 +1,5 @@
 use Rattle.std.proofs.Common.{◌∙◌, ◌++◌, ap}
-use Rattle.lin_formats.specs.lemmas.Putting.{put_last, put_next}
+use Rattle.lin_texts.specs.lemmas.Putting.{put_last, put_next}
 use Rattle.lin_report.proofs.refused.put_edn_fault.Goals as goal
 
 pub returns : goal.returns

@@ -1,13 +1,13 @@
 use Rattle.std.proofs.Common.{inl, inr, subst, sym, ◌∙◌}
 use Rattle.lin_events.specs.WellFormed.{IsWellFormed}
 use Rattle.lin_objects.specs.Kinds.{functions_of}
-use Rattle.lin_session.specs.declared.answers.Answer.TheVariants.{No}
-use Rattle.lin_session.specs.declared.answers.Scope.TheVariants.{Object}
-use Rattle.lin_session.specs.Answers.{kinds_in}
-use Rattle.lin_session.specs.Edits.{Present}
+use Rattle.lin_answers.specs.declared.answers.Answer.TheVariants.{No}
+use Rattle.lin_answers.specs.declared.answers.Scope.TheVariants.{Object}
+use Rattle.lin_answers.specs.Answers.{kinds_in}
+use Rattle.lin_answers.specs.Edits.{Present}
 use Rattle.lin_report.specs.Runs.{IsRefuteReply}
 use Rattle.lin_report.proofs.Answered.{if_ok, never_no}
-use Rattle.lin_session.specs.Answers.{verdict_of}
+use Rattle.lin_answers.specs.Answers.{verdict_of}
 use Rattle.lin_report.proofs.refuting.refute.Goals as goal
 
 pub checked-requires-clause-well_formed : goal.checked-requires-clause-well_formed

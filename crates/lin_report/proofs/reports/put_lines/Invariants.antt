@@ -1,5 +1,5 @@
 use Rattle.std.proofs.Common.{◌≡◌, ◌++◌, take}
-use Rattle.lin_session.specs.Answers.{kinds_in}
+use Rattle.lin_answers.specs.Answers.{kinds_in}
 use Rattle.lin_report.specs.Reports.{lines_text}
 use Rattle.lin_report.proofs.reports.put_lines.Given as goal
 

@@ -26,7 +26,7 @@ pub returns-in_ok-reply_to-in-Ok-Some-clause-reply : goal.returns-in_ok-reply_to
 returns-in_ok-reply_to-in-Ok-Some-clause-reply g c = λ line is before stands.
     let read : IsReadBy c.args.keyed c.read_command-said.new.names c.args.held.now (Ok (Some c.in-Ok-Some.command)) = rw (c.in-Ok-Some.field-0-is, c.in-Ok-Some.command-is) at c.in-Ok-Some.ensures.read in
     let more : AreMore c.args.names.now c.read_command-said.new.names = (c.read_command-said.ensures.begun, c.names_are_apart.ensures) in
-    plainly_said c.args.keyed c.args.held.now line is before _ _ _ _ _ stands more _ _ _ c.in-Ok-Some.command read c.in_ok-reply_to-in-Ok-Some.ensures
+    plainly_said c.args.keyed c.args.held.now line is before _ _ _ _ _ stands more _ _ _ c.in-Ok-Some.command read c.in_ok-reply_to-in-Ok-Some.ensures.reply
 
 pub returns-in_ok-reply_to_fault-in-Err-clause-reply : goal.returns-in_ok-reply_to_fault-in-Err-clause-reply
 returns-in_ok-reply_to_fault-in-Err-clause-reply g c = λ line is before stands.

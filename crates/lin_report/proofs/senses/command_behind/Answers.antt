@@ -1,11 +1,28 @@
-use Rattle.std.proofs.Common.{inl, ap, drop, subst}
-use Rattle.lin_formats.specs.Parts.{words_from}
-use Rattle.lin_names.specs.Names.{AgreesWith}
+use Rattle.std.proofs.Common.{inl, ap, drop, subst, sym}
+use Rattle.lin_texts.specs.Parts.{words_from}
+use Rattle.lin_names.specs.Names.{AgreesWith, Begins}
+use Rattle.lin_names.specs.lemmas.Begins.{begins_same}
 use Rattle.lin_report.specs.Commands as said
-use Rattle.lin_report.specs.declared.commands.Command.TheVariants.{Pull, Report}
+use Rattle.lin_report.specs.declared.commands.Command.TheVariants.{Pull, Report, Work}
 use Rattle.lin_report.proofs.WordSenses.{by_verb, command_made, question_made}
 use Rattle.lin_report.proofs.senses.command_behind.Goals as goal
-use Rattle.lin_report.proofs.senses.command_behind.Goals.{in-Remove+in_ok-number_in-in-Remove, in-Truncate+in_ok-number_in-in-Truncate, in-Kind+in_ok-key-in-Kind, in-Budget+in_ok-budget-in-Budget, in-Ask+in_ok-scope_in-in-Ask, in-Order+in_ok-scope_in-in-Order, in-Report+in_ok-no_more-in-Report, in-Pull+in_ok-no_more-in-Pull, in-Refute+in_ok-key_in-in-Refute, in-Explain+in_ok-scope_in-in-Explain}
+use Rattle.lin_report.proofs.senses.command_behind.Goals.{in-Remove+in_ok-number_in-in-Remove, in-Truncate+in_ok-number_in-in-Truncate, in-Kind+in_ok-key-in-Kind, in-Budget+in_ok-budget-in-Budget, in-Ask+in_ok-scope_in-in-Ask, in-Order+in_ok-scope_in-in-Order, in-Report+in_ok-no_more-in-Report, in-Pull+in_ok-no_more-in-Pull, in-Refute+in_ok-key_in-in-Refute, in-Explain+in_ok-scope_in-in-Explain, in-Work+in_ok-no_more-in-Work}
+
+pub returns-clause-begun : goal.returns-clause-begun
+returns-clause-begun c =
+    elim c.match-verb.branch [
+      | in-Remove+in_ok-number_in-in-Remove w ↦ begins_same _ _ w.names-is
+      | in-Truncate+in_ok-number_in-in-Truncate w ↦ begins_same _ _ w.names-is
+      | in-Kind+in_ok-key-in-Kind w ↦ subst (Begins c.args.names.now) (sym w.names-is) w.key_and_kind.ensures.begun
+      | in-Budget+in_ok-budget-in-Budget w ↦ begins_same _ _ w.names-is
+      | in-Ask+in_ok-scope_in-in-Ask w ↦ subst (Begins c.args.names.now) (sym w.names-is) w.scope_in.ensures.begun
+      | in-Order+in_ok-scope_in-in-Order w ↦ subst (Begins c.args.names.now) (sym w.names-is) w.scope_in-in-Order.ensures.begun
+      | in-Report+in_ok-no_more-in-Report w ↦ begins_same _ _ w.names-is
+      | in-Pull+in_ok-no_more-in-Pull w ↦ begins_same _ _ w.names-is
+      | in-Refute+in_ok-key_in-in-Refute w ↦ subst (Begins c.args.names.now) (sym w.names-is) w.key_in.ensures.begun
+      | in-Explain+in_ok-scope_in-in-Explain w ↦ subst (Begins c.args.names.now) (sym w.names-is) w.scope_in-in-Explain.ensures.begun
+      | in-Work+in_ok-no_more-in-Work w ↦ begins_same _ _ w.names-is
+    ]
 
 pub returns-clause-said : goal.returns-clause-said
 returns-clause-said c = λ number agrees.
@@ -31,4 +48,6 @@ returns-clause-said c = λ number agrees.
           (command_made _ _ _ (w.in_ok-key_in-in-Refute.ensures.key number (subst (λ n. AgreesWith n number) w.names-is agrees)))
       | in-Explain+in_ok-scope_in-in-Explain w ↦ by_verb number c.args.end words c.args.verb c.match-verb.command _ _ w.in-Explain.is w.command-is
           (question_made _ _ _ (w.in_ok-scope_in-in-Explain.ensures.scope number (subst (λ n. AgreesWith n number) w.names-is agrees)))
+      | in-Work+in_ok-no_more-in-Work w ↦ by_verb number c.args.end words c.args.verb c.match-verb.command _ _ w.in-Work.is w.command-is
+          (inl (ap (said.plain (λ nothing. Work)) w.in_ok-no_more-in-Work.ensures))
     ]

@@ -1,6 +1,6 @@
 use Rattle.std.proofs.Common.{Ok, ap, drop, not, subst, sym, ◌∙◌}
-use Rattle.lin_formats.specs.Parts.{words_from}
-use Rattle.lin_session.specs.declared.answers.Scope.TheVariants.{Object}
+use Rattle.lin_texts.specs.Parts.{words_from}
+use Rattle.lin_answers.specs.declared.answers.Scope.TheVariants.{Object}
 use Rattle.lin_report.specs.Commands as said
 use Rattle.lin_report.specs.MapCommands.{IsScope}
 use Rattle.lin_report.proofs.WordSenses.{scope_is, scope_made, scope_refused}

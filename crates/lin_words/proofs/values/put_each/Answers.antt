@@ -1,5 +1,5 @@
 use Rattle.std.proofs.Common.{◌∙◌, ◌++◌, ap, codes}
-use Rattle.lin_formats.specs.lemmas.Putting.{all_pieces}
+use Rattle.lin_texts.specs.lemmas.Putting.{all_pieces}
 use Rattle.lin_words.specs.Values.{short_item_text}
 use Rattle.lin_words.proofs.Listed.{listed}
 use Rattle.lin_words.proofs.values.put_each.Goals as goal

@@ -1,6 +1,6 @@
 use Rattle.std.proofs.Common.{◌+◌, ◌-◌, ◌<◌, ◌++◌, ◌∷◌, [], length, take, drop, refl, ap, ◌∙◌, arith, append_assoc}
 use Rattle.std.proofs.lemmas.List.{take-append-drop, take_all}
-use Rattle.lin_formats.specs.declared.faults.RunFault.TheVariants.{OutOfMemory}
+use Rattle.lin_texts.specs.declared.faults.RunFault.TheVariants.{OutOfMemory}
 use Rattle.lin_report.proofs.CommandLines.{around_end, none_between, up_to, with_end}
 use Rattle.lin_report.proofs.Refusals.{passed_on}
 use Rattle.lin_report.proofs.UnderWay.{cut_holding, cut_within, held_more, line_done}

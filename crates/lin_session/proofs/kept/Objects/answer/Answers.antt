@@ -1,6 +1,6 @@
 use Rattle.std.proofs.Common.{Ok, ap, subst, ◌∙◌}
-use Rattle.lin_session.specs.Answers.{IsVerdict}
-use Rattle.lin_session.specs.Edits.{Present}
+use Rattle.lin_answers.specs.Answers.{IsVerdict}
+use Rattle.lin_answers.specs.Edits.{Present}
 use Rattle.lin_session.proofs.Scopes.{IsAnswer-yes}
 use Rattle.lin_session.proofs.kept.Objects.answer.Goals as goal
 

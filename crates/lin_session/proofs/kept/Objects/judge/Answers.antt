@@ -4,8 +4,8 @@ use Rattle.lin_events.specs.declared.items.Item.{Item}
 use Rattle.lin_events.specs.WellFormed.{IsWellFormed}
 use Rattle.lin_objects.specs.declared.kinds.Kind.{Kind}
 use Rattle.lin_objects.specs.Kinds.{functions_of, kind_of}
-use Rattle.lin_session.specs.Answers.{IsObjectVerdict, IsWholeVerdict, IsVerdict}
-use Rattle.lin_session.specs.Edits.{Present}
+use Rattle.lin_answers.specs.Answers.{IsObjectVerdict, IsWholeVerdict, IsVerdict}
+use Rattle.lin_answers.specs.Edits.{Present}
 use Rattle.lin_session.specs.Objects.{AreRight}
 use Rattle.lin_session.proofs.Scopes.{IsVerdict-object, IsVerdict-whole}
 use Rattle.std.proofs.lemmas.Option.{slice_get_within}

@@ -1,6 +1,6 @@
 use Rattle.std.proofs.Common.{◌≡◌, ℕ, Contains, Some, [], slice_get, refl, subst, sym, ap, ◌∙◌, arith}
 use Rattle.std.proofs.lemmas.Option.{slice_get_within}
-use Rattle.lin_session.specs.declared.answers.Verdict.TheVariants.{Undecided, Yes, No}
+use Rattle.lin_answers.specs.declared.answers.Verdict.TheVariants.{Undecided, Yes, No}
 use Rattle.lin_session.proofs.Asking.{told_failing, told_undecided, verdict_told, untold}
 use Rattle.lin_lists.specs.lemmas.Taken.{element_at, one_place, there_at}
 use Rattle.lin_session.proofs.Found.{not_ok}

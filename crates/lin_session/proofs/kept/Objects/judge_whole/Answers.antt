@@ -1,7 +1,7 @@
 use Rattle.std.proofs.Common.{◌≡◌, arith}
 use Rattle.std.proofs.lemmas.Option.{slice_get_within}
 use Rattle.lin_session.proofs.Wholes.{told_is}
-use Rattle.lin_session.specs.declared.answers.Verdict.TheVariants.{Undecided, Yes}
+use Rattle.lin_answers.specs.declared.answers.Verdict.TheVariants.{Undecided, Yes}
 use Rattle.lin_session.proofs.Asking.{told_undecided, untold}
 use Rattle.lin_session.proofs.kept.Objects.judge_whole.Goals as goal
 

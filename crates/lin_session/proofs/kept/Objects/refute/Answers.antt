@@ -1,6 +1,6 @@
 use Rattle.std.proofs.Common.{Ok, ap, ◌∙◌}
 use Rattle.lin_objects.specs.Kinds.{kind_of}
-use Rattle.lin_session.specs.Edits.{Present}
+use Rattle.lin_answers.specs.Edits.{Present}
 use Rattle.lin_session.specs.Refuting.{IsUnrefuted}
 use Rattle.lin_session.proofs.Found.{passed_on}
 use Rattle.lin_session.proofs.Refuting.{IsUnrefuted-fault}

@@ -7,7 +7,7 @@ use Rattle.lin_session.specs.Objects.{AreRight}
 use Rattle.std.proofs.lemmas.List.{length_push}
 use Rattle.lin_session.proofs.Before.{AgreeBefore-events, take-appended}
 use Rattle.lin_objects.specs.Kinds.{kind_of}
-use Rattle.lin_session.specs.declared.edits.Edit.TheVariants.{Append}
+use Rattle.lin_answers.specs.declared.edits.Edit.TheVariants.{Append}
 use Rattle.lin_session.specs.inner.Objects.{marks_in}
 use Rattle.lin_session.specs.Sessions.{Standing}
 use Rattle.lin_session.specs.Work.{mark_after, mark_of}

@@ -2,13 +2,13 @@ use Rattle.std.proofs.Common.{◌≡◌, None, sym, ap, length, subst, ◌∙◌
 use Rattle.lin_events.specs.WellFormed.{IsShape}
 use Rattle.lin_objects.specs.Kinds.{functions_of, kind_of}
 use Rattle.lin_wellformed.specs.Scans.{ready_count}
-use Rattle.lin_session.specs.Answers.{IsVerdict}
+use Rattle.lin_answers.specs.Answers.{IsVerdict}
 use Rattle.lin_session.specs.Sessions.{AreTakenIn, Standing}
 use Rattle.lin_session.proofs.Found.{not_ok}
 use Rattle.std.proofs.Common.{List}
 use Rattle.lin_events.specs.declared.events.Event.{Event}
-use Rattle.lin_session.specs.Edits.{Present}
-use Rattle.lin_session.specs.declared.answers.Verdict.TheVariants.{Yes}
+use Rattle.lin_answers.specs.Edits.{Present}
+use Rattle.lin_answers.specs.declared.answers.Verdict.TheVariants.{Yes}
 use Rattle.lin_session.specs.inner.Objects.{marks_in}
 use Rattle.lin_session.proofs.Settling.{AreMarked-since}
 use Rattle.lin_session.proofs.Questions.{apart, idle, marked, marked_over, not_ill_formed, not_well_formed, nothing_due, shape_there}

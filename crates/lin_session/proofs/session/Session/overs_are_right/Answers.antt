@@ -4,7 +4,7 @@ use Rattle.lin_orders.specs.Parts.{part}
 use Rattle.lin_chain.specs.declared.chain.End.TheVariants.{Over}
 use Rattle.lin_chain.specs.Ends.{IsEndOf}
 use Rattle.lin_session.specs.declared.marks.Mark.{Mark}
-use Rattle.lin_session.specs.Answers.{kinds_in}
+use Rattle.lin_answers.specs.Answers.{kinds_in}
 use Rattle.lin_session.specs.Sessions.{Standing}
 use Rattle.lin_session.specs.Work.{mark_of}
 use Rattle.lin_session.proofs.Listed.{is_listed, mark_listed, mark_unlisted}

@@ -4,7 +4,7 @@ use Rattle.lin_objects.specs.Kinds.{functions_of, kind_of}
 use Rattle.lin_session.specs.Refuting.{IsUnrefuted}
 use Rattle.lin_session.specs.Sessions.{Standing}
 use Rattle.lin_session.proofs.Found.{passed_on}
-use Rattle.lin_session.specs.declared.answers.Scope.TheVariants.{Object}
+use Rattle.lin_answers.specs.declared.answers.Scope.TheVariants.{Object}
 use Rattle.lin_session.specs.inner.Objects.{marks_in}
 use Rattle.lin_session.proofs.Settling.{AreMarked-since}
 use Rattle.lin_session.proofs.Questions.{idle, marked, not_ill_formed, not_well_formed, shape_there}

@@ -8,7 +8,7 @@ use Rattle.lin_session.specs.Objects.{AreRight}
 use Rattle.std.proofs.Common.{arith, sym, subst}
 use Rattle.lin_session.proofs.Before.{AgreeBefore-events, take-removed}
 use Rattle.lin_objects.specs.Kinds.{kind_of}
-use Rattle.lin_session.specs.declared.edits.Edit.TheVariants.{Remove}
+use Rattle.lin_answers.specs.declared.edits.Edit.TheVariants.{Remove}
 use Rattle.lin_session.specs.inner.Objects.{marks_in}
 use Rattle.lin_session.specs.Sessions.{Standing}
 use Rattle.lin_session.specs.Work.{mark_after, mark_of, touched_at}

@@ -2,7 +2,7 @@ use Rattle.std.proofs.Common.{◌≡◌, sym, subst, arith}
 use Rattle.std.proofs.lemmas.Option.{none-some}
 use Rattle.lin_session.proofs.Before.{AgreeBefore-none}
 use Rattle.lin_objects.specs.Kinds.{kind_of}
-use Rattle.lin_session.specs.declared.edits.Edit.TheVariants.{SetKind}
+use Rattle.lin_answers.specs.declared.edits.Edit.TheVariants.{SetKind}
 use Rattle.lin_session.specs.inner.Objects.{marks_in}
 use Rattle.lin_session.specs.Sessions.{Standing}
 use Rattle.lin_session.specs.Work.{mark_after, mark_of}

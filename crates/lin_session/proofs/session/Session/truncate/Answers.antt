@@ -8,7 +8,7 @@ use Rattle.std.proofs.lemmas.List.{length-take}
 use Rattle.lin_session.proofs.Before.{AgreeBefore-events, take-truncated}
 use Rattle.lin_objects.specs.Kinds.{kind_of}
 use Rattle.std.proofs.Common.{◌≡◌}
-use Rattle.lin_session.specs.declared.edits.Edit.TheVariants.{Truncate}
+use Rattle.lin_answers.specs.declared.edits.Edit.TheVariants.{Truncate}
 use Rattle.lin_session.specs.inner.Objects.{marks_in}
 use Rattle.lin_session.specs.Sessions.{Standing}
 use Rattle.lin_session.specs.Work.{mark_after, mark_of}

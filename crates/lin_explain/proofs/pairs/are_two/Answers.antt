@@ -1,5 +1,0 @@
-use Rattle.lin_explain.proofs.ValuePairs.{are_two}
-use Rattle.lin_explain.proofs.pairs.are_two.Goals as goal
-
-pub returns : goal.returns
-returns c = are_two c.args.items.now

@@ -1,5 +1,0 @@
-use Rattle.lin_formats.proofs.PartsOfTexts.{IsOfPart}
-use Rattle.lin_formats.proofs.parts.part_end.Given as goal
-
-abbrev pub invariant-loop-at : goal.invariant-loop-at
-invariant-loop-at l = IsOfPart l.division l.text l.from l.at l.standing

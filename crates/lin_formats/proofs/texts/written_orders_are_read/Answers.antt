@@ -1,5 +1,0 @@
-use Rattle.lin_formats.proofs.ReadBack.{order_read}
-use Rattle.lin_formats.proofs.texts.written_orders_are_read.Goals as goal
-
-pub returns : goal.returns
-returns c = λ names number order agrees fits. order_read names number agrees order fits

@@ -1,6 +1,0 @@
-use Rattle.std.proofs.Common.{take}
-use Rattle.lin_session.proofs.Keys.{AreKeysIn}
-use Rattle.lin_session.proofs.session.keys_of.Given as goal
-
-abbrev pub invariant-loop-event : goal.invariant-loop-event
-invariant-loop-event l = AreKeysIn (take l.event-index l.events) l.keys.keys

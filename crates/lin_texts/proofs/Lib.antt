@@ -1,0 +1,11 @@
+pub mod Calm
+pub mod Digits
+pub mod Joined
+pub mod Members
+pub mod Pairs
+pub mod PartsOfTexts
+pub mod PrintedSets
+pub mod ReadBack
+pub mod Replies
+pub mod Rising
+pub mod TooLarge

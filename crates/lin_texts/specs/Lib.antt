@@ -1,0 +1,11 @@
+pub mod Causes
+pub mod Fronts
+pub mod Integers
+pub mod Items
+pub mod Kinds
+pub mod OrderLaws
+pub mod Orders
+pub mod Parts
+pub mod Saying
+pub mod Texts
+pub mod lemmas
