@@ -524,7 +524,8 @@ class WideScript(Script):
 def main():
     given = sys.argv[1:]
     scripts, seed = int(given[0]) if given else 600, int(given[1]) if given[1:] else 1
-    program = given[2] if given[2:] else os.path.join(os.path.dirname(os.path.abspath(__file__)), '../crates/lincheck/out/lincheck')
+    here = os.path.dirname(os.path.abspath(__file__))
+    program = given[2] if given[2:] else os.environ.get('LINCHECK') or os.path.join(here, '../crates/lincheck/out/lincheck')
     right = wrong = 0
     for number in range(scripts + scripts // 15):
         draw = random.Random(seed * 1000003 + number)

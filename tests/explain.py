@@ -34,8 +34,17 @@ HISTORIES = 3000
 WORKED = [
     ('', 'p0 invoke read; p1 invoke write 1; p1 ok write; p0 ok read 9'),
     ('--kind fifo', 'p0 invoke enqueue 1; p0 ok enqueue; p1 invoke dequeue; p1 ok dequeue 1; p2 invoke dequeue; p2 ok dequeue 1'),
+    ('--kind unordered-queue', 'p0 invoke enqueue 1; p0 ok enqueue; p1 invoke dequeue; p1 ok dequeue 1; p2 invoke dequeue; p2 ok dequeue 1'),
+    ('--kind fifo', 'p0 invoke enqueue 1; p0 ok enqueue; p0 invoke enqueue 2; p0 ok enqueue; p1 invoke dequeue; p0 invoke dequeue; p0 ok dequeue 2; '
+     'p2 invoke dequeue; p2 ok dequeue 1'),
+    ('--kind fifo', 'p1 invoke enqueue 1; p0 invoke dequeue; p2 invoke enqueue 2; p1 ok enqueue; p0 ok dequeue 2; p2 ok enqueue; p0 invoke dequeue; '
+     'p1 invoke enqueue 5; p0 ok dequeue 5'),
     ('--kind set', 'p0 invoke add 1; p0 ok add; p0 invoke add 2; p0 ok add; p1 invoke read; p1 ok read #{2}'),
     ('--kind set', 'p0 invoke add 1; p1 invoke add 2; p2 invoke read; p3 invoke read; p2 ok read #{1}; p3 ok read #{2}'),
+    ('--kind set', 'p2 invoke read; p0 invoke add 1; p0 ok add; p1 invoke add 2; p2 ok read #{2}'),
+    ('--kind set', 'p2 invoke read; p0 invoke add 1; p0 ok add; p1 invoke add 2; p3 invoke add 3; p2 ok read #{2 3}'),
+    ('--kind set', 'p0 invoke add 1; p0 ok add; p0 invoke read; p0 ok read #{1}; p0 invoke add 2; p0 ok add; p1 invoke read; p1 ok read #{2}'),
+    ('--kind set', 'p0 invoke read; p0 ok read #{7}'),
     ('', 'p1 invoke write 1; p2 invoke write 2; p3 invoke write 3; p4 invoke read; p4 ok read 9'),
     ('--keyed --key 1', 'p0 invoke write [1 1]; p1 invoke write [1 2]; p2 invoke write [1 3]; p3 invoke write [0 1]; p3 ok write [0 1]; '
      'p3 invoke read [0 nil]; p3 ok read [0 1]; p3 invoke read [0 nil]; p3 ok read [0 nil]')]

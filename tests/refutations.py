@@ -4,10 +4,10 @@
 1. Of random histories the sets of all configurations, found by trying every order of every prefix, are a refutation exactly where the
    history has no legal order. With one member or one set left out, one member in the last set, another reply, process or state, they
    are none. With one member more they may be; but sets that pass the rules hold each configuration that an order ends in.
-2. The examples of the worked tests, whose sets `check_refutation` judges there, are judged the same here.
+2. The rows `refutes` of crates/lin_rows, whose sets `check_refutation` judges there, are judged the same here.
 
 usage: tests/refutations.py [HISTORIES] [SEED]   (the last line counts what was judged)
-       tests/refutations.py --examples COUNT SEED   (prints examples for the worked tests)
+       tests/refutations.py --examples COUNT SEED   (prints such rows, each with what is said of it)
 """
 import os
 import random
@@ -17,7 +17,7 @@ import sys
 sys.dont_write_bytecode = True
 from edits import KINDS, NAMES, START, Event, bad_event, configurations, operations, steps
 
-EXAMPLES = os.path.join(os.path.dirname(os.path.abspath(__file__)), '../crates/lin_tests/src/refutations.rt')
+ROWS = os.path.join(os.path.dirname(os.path.abspath(__file__)), '../crates/lin_rows')
 
 
 def with_pair(placed, process, reply):
@@ -138,19 +138,19 @@ def judge(draw):
             yield not is_refutation(kind, events, sets) or holds_all(all_sets, sets)
 
 
-# short forms, as the worked tests have them: of a register
+# short forms, as the rows have them: of a register
 
 def text_of(value):
     return 'done' if value == 'done' else 'nil' if value[1] is None else str(value[1])
 
 
 def events_text(events):
-    return '; '.join('p%d %s %s%s' % (e.process, e.type, e.name, '' if e.value is None else ' %d' % e.value) for e in events)
+    return ' '.join('/'.join([str(e.process), e.type, e.name] + ([] if e.value is None else [str(e.value)])) for e in events)
 
 
 def sets_text(sets):
-    return ' | '.join('; '.join(' '.join([text_of(('value', state))] + ['%d=%s' % (p, text_of(r)) for p, r in placed])
-                                for state, placed in members) for members in sets)
+    return '|'.join('; '.join(' '.join([text_of(('value', state))] + ['%d:%s' % (p, text_of(r)) for p, r in placed])
+                              for state, placed in members) for members in sets)
 
 
 def value_of(word):
@@ -159,27 +159,28 @@ def value_of(word):
 
 def read_events(text):
     events = []
-    for words in (part.split() for part in text.split(';') if part.strip()):
+    for words in (word.split('/') for word in text.split()):
         value = value_of(words[3])[1] if words[3:] else None
-        events.append(Event(int(words[0][1:]), 0, words[1], words[2], value))
+        events.append(Event(int(words[0]), 0, words[1], words[2], value))
     return events
 
 
 def read_sets(text):
     def member(words):
-        pairs = (pair.split('=') for pair in words[1:])
+        pairs = (pair.split(':') for pair in words[1:])
         return value_of(words[0])[1], tuple((int(p), value_of(r)) for p, r in pairs)
 
     return [[member(part.split()) for part in part_of.split(';') if part.strip()] for part_of in text.split('|')]
 
 
 def examples():
-    """Each example of the worked tests: events, sets and what is said of them."""
-    with open(EXAMPLES) as file:
-        source = file.read()
-    named = dict(re.findall(r'const (\w+): &str =\s*"([^"]*)";', source))
-    for events, sets, says in re.findall(r'\(\s*(\w+|"[^"]*"),\s*"([^"]*)",\s*(true|false),?\s*\)', source):
-        yield events[1:-1] if events.startswith('"') else named[events], sets, says == 'true'
+    """Each row about a refutation: events, sets and what is said of them."""
+    with open(os.path.join(ROWS, 'stdin')) as asked, open(os.path.join(ROWS, 'stdout')) as answered:
+        for row, says in zip(asked, answered):
+            command, _, rest = row.rstrip('\n').partition(' ')
+            if command == 'refutes':
+                events, _, sets = rest.partition('|')
+                yield events, sets, says == 'true\n'
 
 
 def print_examples(count, seed):
@@ -195,7 +196,7 @@ def print_examples(count, seed):
         sets = draw.choice(changes)
         if is_refutation('register', events, sets) != wanted or (sets == all_sets and printed):
             continue
-        print('("%s", "%s", %s),' % (events_text(events), sets_text(sets), 'true' if wanted else 'false'))
+        print('refutes %s|%s\n%s' % (events_text(events), sets_text(sets), 'true' if wanted else 'false'))
         printed += 1
 
 
@@ -215,7 +216,7 @@ def main():
         fine = is_refutation('register', read_events(events), read_sets(sets)) == says
         right, wrong = right + fine, wrong + (not fine)
         if not fine:
-            print('("%s", "%s", %s)' % (events, sets, says))
+            print('refutes %s|%s: %s' % (events, sets, says))
     print('%d passed, %d failed' % (right, wrong))
     return 1 if wrong or not right else 0
 

@@ -16,6 +16,9 @@ A file of tests/rows/ is a topic. Its lines:
       < COMMAND                  a line of standard input; one that ends with `\\c` ends without byte 10
       <parts TEXT COUNT ..       a line of standard input, each text so many times
       + EVENT; EVENT             `append MAP` on standard input for each event, and `ok LEN` wanted, one more than the last such LEN
+      +COUNT EVENT; EVENT        the same so many times, where `#` is the number of the turn, from 0 on, but for the `#` of a set
+      % NAME=LEAST..MOST ..      `work` on standard input, and a line of its counts wanted of which each that is named (`scans`, `steps`, `tries`)
+                                 has grown by as much since the line `%` before, or the start; `NAME=COUNT` is just so much, `LEAST..` at least
       ~ BYTES                    the file grows by these bytes once all lines wanted so far are there
       !                          standard input fails once all lines wanted so far are there
 
@@ -24,12 +27,10 @@ with the history, the only one of the folder. A row stands for several where it 
 (the first A bytes of the history, the first A + 1, and so on to B) or at its end `> A..B` (a standard output that takes A bytes of what
 is wanted and then fails, one that takes A + 1, and so on). `> PATH` sends standard output elsewhere. Standard error has to stay empty.
 
-tests/covered/program.txt names what tests in Rattle once showed and the groups that show it, as `TOPIC: GROUP GROUP; TOPIC: GROUP`, and
-last `stays: WHY` where a test in Rattle still shows more. Each other file of tests/covered/ is named for a program crate, whose rows are the
-lines of its stdin: `TEST  ->  COUNT rows under 'LABEL'` or `TEST  ->  stays: WHY`, where LABEL begins a comment line there. A line of another
-form is a fault, here and in the topics, and so are a group without rows, one that is named and isn't there, and another count.
+A line of another form is a fault, and so is a group without rows.
 
-usage: tests/rows.py [TOPIC ..]   (builds what isn't built, unless LINCHECK in the environment names the program)
+usage: tests/rows.py [--quick] [TOPIC ..]   (builds what isn't built, unless LINCHECK in the environment names the program; --quick leaves out
+       what has many bytes, for a program that is slow)
 The last line counts the rows.
 """
 import dataclasses
@@ -47,9 +48,11 @@ from concurrent.futures import ThreadPoolExecutor
 
 HERE = os.path.dirname(os.path.abspath(__file__))
 FOLDER = os.path.join(HERE, 'rows')
-COVERED = os.path.join(HERE, 'covered')
 KINDS = [b'register', b'cas-register', b'fifo', b'set', b'mutex', b'unordered-queue']
 SECONDS = 600
+MANY = 10000  # bytes of a row that isn't small
+COUNTED = re.compile(rb'work scans (\d+) steps (\d+) tries (\d+)')
+COUNTS = ('scans', 'steps', 'tries')
 # Becomes a program whose files can't grow beyond a number of bytes. Python ignores the signal for that, and what it becomes does too:
 # the write that doesn't fit is cut short, and the next one fails.
 CRAMPED = 'import os, resource, sys; size = int(sys.argv[1]); resource.setrlimit(resource.RLIMIT_FSIZE, (size, size)); os.execv(sys.argv[2], sys.argv[2:])'
@@ -81,6 +84,18 @@ def maps(events):
     return found
 
 
+def bounds_of(text):
+    """The least and the greatest growth of each count that is named."""
+    found = {}
+    for word in text.split():
+        parts = re.fullmatch(r'(scans|steps|tries)=(\d+)(?:(\.\.)(\d*))?', word)
+        if not parts:
+            raise ValueError('no bound: %s' % word)
+        name, least, dots, most = parts.groups()
+        found[COUNTS.index(name)] = int(least), int(most or 1 << 64) if dots else int(least)
+    return found
+
+
 HISTORIES = {'events': lambda text: b''.join(line + b'\n' for line in maps(text)), 'text': unescaped, 'parts': repeated}
 
 
@@ -90,7 +105,7 @@ class Row:
     words: list
     status: int
     history: tuple  # how it is said, and the text that says it
-    steps: list = dataclasses.field(default_factory=list)  # bytes `told`, `wanted` or `grown`, or what has `failed`
+    steps: list = dataclasses.field(default_factory=list)  # bytes `told`, `wanted`, `counted` or `grown`, or what has `failed`
     kept: int = None  # how many bytes of the history there are, and how many standard output takes: all if None
     taken: int = None
     output: str = None
@@ -104,10 +119,14 @@ class Row:
             self.steps.append(('told', unescaped(rest[:-2] if rest.endswith('\\c') else rest + '\n')))
         elif mark == '<parts':
             self.steps.append(('told', repeated(rest) + b'\n'))
-        elif mark == '+':
-            for event in maps(rest):
-                counts = [int(text[3:]) for _, text in self.steps if text.startswith(b'ok ')]
-                self.steps += [('told', b'append %s\n' % event), ('wanted', b'ok %d\n' % (counts[-1] + 1 if counts else 1))]
+        elif re.fullmatch(r'\+\d*', mark):
+            before = next((int(text[3:]) for _, text in reversed(self.steps) if text.startswith(b'ok ')), 0)
+            turns = [re.sub(r'#(?!\{)', str(turn), rest) for turn in range(int(mark[1:]))] if mark[1:] else [rest]
+            for count, event in enumerate((event for turn in turns for event in maps(turn)), before + 1):
+                self.steps += [('told', b'append %s\n' % event), ('wanted', b'ok %d\n' % count)]
+        elif mark == '%':
+            bounds_of(rest)
+            self.steps += [('told', b'work\n'), ('counted', rest.encode())]
         elif mark == '~':
             self.steps.append(('grown', unescaped(rest)))
         elif mark == '!':
@@ -132,8 +151,19 @@ class Row:
             said = [change.pop(at, word) for at, word in enumerate(words)]
             yield dataclasses.replace(self, words=said, **change)
 
-    def wanted(self):
-        return b''.join(text for what, text in self.steps if what == 'wanted')[:self.taken]
+    def wanted(self, printed):
+        """The bytes wanted; a printed line of counts that is within its bounds is wanted as it is."""
+        lines, wanted, before = printed.splitlines(), [], (0, 0, 0)
+        for what, text in self.steps:
+            if what == 'counted':
+                found = COUNTED.fullmatch(lines[len(wanted)]) if len(wanted) < len(lines) else None
+                counts = tuple(map(int, found.groups())) if found else before
+                is_within = found and all(least <= counts[at] - before[at] <= most for at, (least, most) in bounds_of(text.decode()).items())
+                wanted.append((found[0] if is_within else b'work, since %d %d %d: ' % before + text) + b'\n')
+                before = counts
+            elif what == 'wanted':
+                wanted.append(text)
+        return b''.join(wanted)[:self.taken]
 
     def fault(self, program):
         """What is wrong with the run, or None."""
@@ -146,7 +176,7 @@ class Row:
                 printed, failed, status = self.run([program] + self.words, folder)
         except (ValueError, OSError) as error:  # there is no such history; no program starts, or it ended before its file grew
             return '%s: %s' % (self.place, error)
-        wanted = self.wanted()
+        wanted = self.wanted(printed)
         if status == self.status and not failed and (printed if wanted == b'...\n' else printed == wanted):
             return None
         # long words are cut, and of long texts the ends are shown
@@ -183,7 +213,7 @@ class Row:
         for what, text in self.steps:
             if what == 'told':
                 told += text
-            elif what == 'wanted':
+            elif what in ('wanted', 'counted'):
                 due += 1
             else:
                 if peer:
@@ -238,74 +268,30 @@ def rows_of(topic):
     return {name: [variant for row in rows for variant in row.variants()] for name, rows in groups.items()}
 
 
-def covered(topics):
-    """How many tests the table names that rows show, and how many that show more."""
-    tests, stay, file_name = set(), 0, None
-    with open(os.path.join(COVERED, 'program.txt'), encoding='ascii') as file:
-        lines = [line for line in file.read().splitlines() if line and not line.startswith('#')]
-    for line in lines:
-        if not line.startswith('  '):
-            file_name = line
-            continue
-        test, _, how = line[2:].partition(' ')
-        if not how or (file_name, test) in tests:
-            raise ValueError('COVERED.txt: %s in %s stands twice, or names no rows' % (test, file_name))
-        tests.add((file_name, test))
-        parts = how.split('; ')
-        if re.fullmatch(r'stays: .+', parts[-1]):
-            parts.pop()
-            stay += 1
-        for part in parts:
-            topic, _, names = part.partition(': ')
-            for name in names.split(' '):
-                if name not in topics.get(topic, ()):
-                    raise ValueError('program.txt: %s names %s: %s, which is not there' % (test, topic, name))
-    return len(tests) - stay, stay
-
-
-def counted(crate):
-    """How many tests the table of a program crate names that its rows show, and how many stay in Rattle."""
-    rows, label = {}, None
-    with open(os.path.join(HERE, '..', 'crates', crate, 'stdin'), encoding='latin-1') as file:
-        for line in file.read().splitlines():
-            if line.startswith(';'):
-                label = line
-                rows[label] = 0
-            elif line and label:
-                rows[label] += 1
-    shown = stay = 0
-    with open(os.path.join(COVERED, crate + '.txt'), encoding='ascii') as file:
-        for line in (line for line in file.read().splitlines() if line and not line.startswith('#')):
-            said = re.fullmatch(r"(\S+)  ->  (?:(\d+) rows under '([^']+)'|stays: .+)", line)
-            if not said:
-                raise ValueError('%s.txt: no such line here: %s' % (crate, line))
-            if said[3] and said[2] not in {str(count) for label, count in rows.items() if label.startswith(said[3])}:
-                raise ValueError('%s.txt: %s: there are not %s rows under %s' % (crate, said[1], said[2], said[3]))
-            shown, stay = shown + bool(said[3]), stay + (not said[3])
-    return shown, stay
-
-
 def built():
     """The program of this repository: one that isn't there, or is older than its sources, is built first."""
     subprocess.run([os.path.join(HERE, '..', 'lincheck'), '--help'], stdout=subprocess.DEVNULL)
     return os.path.join(HERE, '..', 'crates', 'lincheck', 'out', 'lincheck')
 
 
+def is_small(row):
+    """Whether the row has few bytes to read."""
+    how, text = row.history or ('', '')
+    return how != 'parts' and len(text) + sum(len(text) for _, text in row.steps) < MANY
+
+
 def main():
-    names = sorted(os.path.basename(path)[:-4] for path in glob.glob(os.path.join(FOLDER, '*.txt')))
+    is_quick = sys.argv[1:2] == ['--quick']
+    asked = sys.argv[2 if is_quick else 1:] or sorted(os.path.basename(path)[:-4] for path in glob.glob(os.path.join(FOLDER, '*.txt')))
     passed, faults, topics = 0, [], {}
-    try:
-        for name in names:
-            topics[name] = rows_of(name)
-        tables = [covered(topics)]
-        tables += [counted(name[:-4]) for name in sorted(os.listdir(COVERED)) if name != 'program.txt']
-        print('%d tests shown by rows, %d stay in Rattle' % tuple(map(sum, zip(*tables))))
-    except ValueError as fault:
-        faults.append(str(fault))
+    for name in asked:
+        try:
+            topics[name] = [row for group in rows_of(name).values() for row in group if not is_quick or is_small(row)]
+        except (OSError, ValueError) as fault:
+            faults.append(str(fault))
     program = os.path.abspath(os.environ.get('LINCHECK') or built())
     with ThreadPoolExecutor(os.cpu_count()) as pool:
-        for name in sys.argv[1:] or topics:
-            rows = [row for group in topics.get(name, {}).values() for row in group]
+        for name, rows in topics.items():
             found = [fault for fault in pool.map(lambda row: row.fault(program), rows) if fault]
             passed += len(rows) - len(found)
             faults += found
