@@ -1,42 +1,35 @@
 #!/usr/bin/env python3
 """Builds the program lincheck from records of its proofs, and first proves each crate that has no record of its present text.
 
-usage: ./build.py [--run WORD..]       builds crates/lincheck/out/lincheck, and with --run goes on as that program
-       ./build.py --release [FOLDER]   builds it too, and packs it with the records into FOLDER/lincheck-SUM.tar.xz; FOLDER is out/ where none is named
+usage: ./build.py [--run WORD..]   builds crates/lincheck/out/lincheck, and with --run goes on as that program
+       ./build.py --renew          puts the program of this source into built/, beside what it is of: that of crates/lincheck/out/, which rt ci
+                                   and this script leave there, and which is built first where a source is newer
 
 A record is what `rattle check -o` writes of a crate that it has proved from nothing. `rattle build --crate-checked` takes it only for the very
 files, libraries, lowered code and build of rattle that were proved, so a record that no longer fits does no harm: the crate is proved again.
-Records made here stay in out/proved/. Those of a package are used where its SUM is that of this source, and a release is made without them:
-out/lincheck-SUM.tar.xz, or the file that LINCHECK_PACKAGE names. It has the libraries too, so that all crates are built from their records
-side by side; each library has to come out as the package has it. SUM is what this prints, so any byte of a crate, and another kit, change it:
-    { find crates.txt crates/*/{src,specs,proofs} -type f | LC_ALL=C sort | xargs sha256sum; rt version; } | sha256sum | cut -c1-16
-Crates are proved side by side where none stands on the other, one for each processor and 5 GB of free memory, or RT_JOBS at once. Libraries
-are built in a folder below TMPDIR, since rt stops at their files anywhere in the repository but where it keeps its own.
+Records stay in out/proved/. Crates are proved side by side where none stands on the other, one for each processor and 3 GB of free memory, or
+RT_JOBS at once. Libraries are built in a folder below TMPDIR, since rt stops at their files anywhere in the repository but where it keeps its own.
 """
 import fcntl
-import glob
 import hashlib
-import lzma
 import os
 import re
 import shutil
 import signal
 import subprocess
 import sys
-import tarfile
 import tempfile
 import time
 
 HERE = os.path.dirname(os.path.abspath(__file__))
 NAME = "lincheck"
 PROGRAM = f"{HERE}/crates/{NAME}/out/{NAME}"
-OUT = f"{HERE}/out"
-PROVED = f"{OUT}/proved"
+PROVED = f"{HERE}/out/proved"
+BUILT = f"{HERE}/built"
 # Of no use to whoever reads the status of the program, which has others.
 FAILED = 70
-GIGABYTES_A_CHECK = 5
-# The checked modules, in a record and in the library that is built from it.
-SHARED = "toolchain/checked."
+# (one process takes 0.7 to 2.5)
+GIGABYTES_A_CHECK = 3
 
 
 def say(text):
@@ -77,55 +70,6 @@ def read_crates():
     return libraries, order
 
 
-def source_sum(kit):
-    files = ["crates.txt"]
-    for part in ("src", "specs", "proofs"):
-        for top in glob.glob(f"{HERE}/crates/*/{part}"):
-            files += [os.path.relpath(f"{at}/{it}", HERE) for at, _, names in os.walk(top) for it in names]
-    whole = hashlib.sha256()
-    for file in sorted(files, key=os.fsencode):
-        with open(f"{HERE}/{file}", "rb") as it:
-            whole.update(f"{hashlib.sha256(it.read()).hexdigest()}  {file}\n".encode())
-    whole.update(kit.version)
-    return whole.hexdigest()[:16]
-
-
-def unpacked(package, sum, to):
-    """Writes the package's records and libraries below a folder if it is of the source with this sum, and returns what sum it says."""
-    with tarfile.open(package, "r:xz") as tar:
-        # (the first, so that of another package no more has to be unpacked)
-        first = tar.next()
-        said = tar.extractfile(first).read(99).decode().strip() if first and first.name == "SUM" else "none"
-        for it in tar if said == sum else []:
-            parts = it.name.split("/")
-            if it.isfile() and parts[0] in ("proved", "rlibs") and not {"", ".", ".."} & {*parts}:
-                os.makedirs(os.path.dirname(f"{to}/{it.name}"), exist_ok=True)
-                with open(f"{to}/{it.name}", "wb") as file:
-                    shutil.copyfileobj(tar.extractfile(it), file)
-    # What a record and its library have in common is in the package once.
-    for file in glob.glob(f"{to}/rlibs/*.rlib/{SHARED}*"):
-        whole = f"{to}/proved/{os.path.relpath(file, f'{to}/rlibs').replace('.rlib/', '/', 1)}"
-        os.makedirs(os.path.dirname(whole), exist_ok=True)
-        shutil.copy(file, whole)
-    return said
-
-
-def package_at_hand(sum, to):
-    """Unpacks the package of this very source below a folder and returns its name, or None, and says which packages are not used."""
-    named = os.environ.get("LINCHECK_PACKAGE")
-    fits = f"{OUT}/{NAME}-{sum}.tar.xz"
-    for file in [named] if named else sorted(glob.glob(f"{OUT}/{NAME}-*.tar.xz"), key=lambda it: it != fits):
-        try:
-            said = unpacked(file, sum, to)
-        except (OSError, EOFError, UnicodeDecodeError, tarfile.TarError, lzma.LZMAError) as error:
-            say(f"{file} is not used, since it can't be read: {error}")
-            continue
-        if said == sum:
-            return file
-        say(f"{file} is not used: it is of another source or kit, with the sum {said}, and this one has {sum}")
-    return None
-
-
 def most_at_once():
     if re.fullmatch("[1-9][0-9]*", os.environ.get("RT_JOBS", "")):
         return int(os.environ["RT_JOBS"])
@@ -142,26 +86,11 @@ def most_at_once():
     return max(1, min([len(os.sched_getaffinity(0)), *[it // (GIGABYTES_A_CHECK * 10**9) for it in free]]))
 
 
-def sums_below(top):
-    found = {}
-    for at, _, names in os.walk(top):
-        for name in names:
-            with open(f"{at}/{name}", "rb") as it:
-                found[os.path.relpath(f"{at}/{name}", top)] = hashlib.sha256(it.read()).digest()
-    return found
-
-
-class Refused(Exception):
-    """A package's record or library does not fit."""
-
-
 class Build:
-    """One build of the program and of the libraries below it in a folder of its own, from the records of this tree or those of a package."""
+    """One build of the program and of the libraries below it in a folder of its own, from the records of this tree."""
 
-    def __init__(self, kit, room, package=None):
-        self.kit, self.room, self.package = kit, room, package
-        # Where the libraries stand that the crates above are built over.
-        self.libs = f"{room}/rlibs" if package else room
+    def __init__(self, kit, room):
+        self.kit, self.room = kit, room
         self.libraries, self.order = read_crates()
         self.lanes, self.began, self.told = most_at_once(), time.time(), time.time()
         self.running, self.done, self.proved = {}, set(), []
@@ -180,8 +109,8 @@ class Build:
         kit, root = self.kit.folder, "src/lib.rt" if name != NAME else "src/main.rt"
         words = ["--crate-name", name, root, "--antt-project", f"{kit}/rattle/logic/antt-project.json", "--links", f"{name}="]
         for it in ["std", *self.libraries[name]]:
-            words += ["--extern", f"{it}={self.libs if it in self.libraries else f'{kit}/rlibs'}/{it}.rlib"]
-        return [*words, "-L", f"dependency={kit}/rlibs", "-L", f"dependency={self.libs}"]
+            words += ["--extern", f"{it}={self.room if it in self.libraries else f'{kit}/rlibs'}/{it}.rlib"]
+        return [*words, "-L", f"dependency={kit}/rlibs", "-L", f"dependency={self.room}"]
 
     def steps(self, name, jobs):
         """Yields the commands that make a library or the program, and is sent the status of each. Returns whether that was well."""
@@ -197,10 +126,7 @@ class Build:
             more = ["--logic-built", f"{kit}/logic_built", "--jobs", str(jobs), "--progress", *kind, "-o", f"{PROVED}/{name}"]
             return [rattle, "check", *self.words(name), *more]
 
-        records = f"{self.room}/proved" if self.package else PROVED
-        is_taken = os.path.isdir(f"{records}/{name}") and (yield from_record(f"{records}/{name}")) == 0
-        if self.package and not (is_taken and (is_program or sums_below(made) == sums_below(f"{self.libs}/{name}.rlib"))):
-            raise Refused(name)
+        is_taken = os.path.isdir(f"{PROVED}/{name}") and (yield from_record(f"{PROVED}/{name}")) == 0
         if not is_taken:
             status = yield check(jobs)
             if status == -signal.SIGKILL:
@@ -239,8 +165,7 @@ class Build:
 
     def run(self):
         """Makes all, or stops the whole build where one crate is not proved or not built."""
-        # With all libraries at hand no crate waits, and the program, which takes longest, comes first.
-        left, asked, were = self.order[::-1] if self.package else list(self.order), [], {}
+        left, asked, were = list(self.order), [], {}
         for it in (signal.SIGINT, signal.SIGTERM, signal.SIGHUP):
             # (what is ignored stays so, as under nohup)
             if signal.getsignal(it) != signal.SIG_IGN:
@@ -249,7 +174,7 @@ class Build:
             while left or self.running:
                 if asked:
                     sys.exit(128 + asked[0])
-                ready = [it for it in left if self.package or self.done.issuperset(set(self.libraries[it]) & set(self.order))]
+                ready = [it for it in left if self.done.issuperset(set(self.libraries[it]) & set(self.order))]
                 for at, name in enumerate(ready):
                     idle = self.lanes - sum(it[2] for it in self.running.values())
                     if idle > 0:
@@ -285,39 +210,50 @@ class Build:
         stop(f"not built, since {name} failed; the end of {self.log(name)}:\n{''.join(lines[-5:]).rstrip()}")
 
 
+def sum_of(file):
+    with open(file, "rb") as it:
+        return hashlib.sha256(it.read()).hexdigest()
+
+
 def put_program(made, began):
     """Puts the program in its place as old as the sources that it was made of, so that one that was edited meanwhile is newer."""
     os.makedirs(os.path.dirname(PROGRAM), exist_ok=True)
     shutil.copy(made, f"{PROGRAM}.new")
     os.utime(f"{PROGRAM}.new", (began, began))
     os.replace(f"{PROGRAM}.new", PROGRAM)
+    # (as sha256sum prints it, for ./lincheck with LINCHECK_PROVE=1)
+    with open(f"{os.path.dirname(PROGRAM)}/proved", "w") as it:
+        it.write(f"{sum_of(PROGRAM)}  -\n")
 
 
-def pack(sum, build, folder):
-    """Writes the package, whose bytes depend on what is in it alone, and says where."""
-    os.makedirs(folder, exist_ok=True)
-    with open(f"{PROVED}/SUM", "w") as it:
-        it.write(f"{sum}\n")
-    files = [("SUM", f"{PROVED}/SUM"), (NAME, PROGRAM)]
-    tops = [(f"proved/{it}", f"{PROVED}/{it}") for it in build.order]
-    tops += [(f"rlibs/{it}.rlib", f"{build.room}/{it}.rlib") for it in build.order if it != NAME]
-    for inside, top in tops:
-        found = sorted(sums_below(top))
-        files += [(f"{inside}/{it}", f"{top}/{it}") for it in found if not (inside.startswith("proved/") and it.startswith(SHARED))]
-    file = f"{folder}/{NAME}-{sum}.tar.xz"
-    with tarfile.open(f"{file}.new", "w:xz", format=tarfile.USTAR_FORMAT) as tar:
-        for inside, path in files:
-            it = tarfile.TarInfo(inside)
-            it.size, it.mode = os.path.getsize(path), 0o755 if path == PROGRAM else 0o644
-            with open(path, "rb") as content:
-                tar.addfile(it, content)
-    os.replace(f"{file}.new", file)
-    print(f"{file}: {os.path.getsize(file)} bytes")
+def is_fresh():
+    """Whether there is a program that is newer than its sources."""
+    sources = [f"{HERE}/crates.txt", *(f"{at}/{it}" for at, _, names in os.walk(f"{HERE}/crates") for it in names if "/src" in at)]
+    return os.path.isfile(PROGRAM) and os.path.getmtime(PROGRAM) >= max(map(os.path.getmtime, sources))
+
+
+def renew(kit):
+    """Puts the program into built/, and what it is of (built/fits.sh has the form)."""
+    shutil.copy(PROGRAM, f"{BUILT}/{NAME}.new")
+    os.replace(f"{BUILT}/{NAME}.new", f"{BUILT}/{NAME}")
+    source = subprocess.run([f"{BUILT}/fits.sh", "--sum"], stdout=subprocess.PIPE, check=True, text=True).stdout.strip()
+    with open(f"{BUILT}/OF", "w") as it:
+        it.write(f"source {source}\nkit {kit.version.decode().strip()}\nprogram {sum_of(f'{BUILT}/{NAME}')}\n")
+    say(f"built/{NAME} is the program of this source; ./test.sh compares it with the one that it builds")
+
+
+def build(kit):
+    with tempfile.TemporaryDirectory(prefix=f"{NAME}-") as room:
+        say(f"proving what has no record yet, and building (logs: {PROVED}/*.log)")
+        it = Build(kit, room)
+        it.run()
+        put_program(f"{room}/{NAME}", it.began)
+        say(f"proved and built, {it.minutes()}" if it.proved else "built from the proofs recorded here")
 
 
 def main(words):
-    is_run, is_release = words[:1] == ["--run"], words[:1] == ["--release"]
-    if words and not is_run and not (is_release and len(words) < 3):
+    is_run, is_renewal = words[:1] == ["--run"], words == ["--renew"]
+    if words and not is_run and not is_renewal:
         print(__doc__, file=sys.stderr)
         return 2
     kit = Kit()
@@ -330,34 +266,10 @@ def main(words):
             fcntl.flock(lock, fcntl.LOCK_EX)
             if is_run:
                 os.execv(f"{HERE}/{NAME}", [f"{HERE}/{NAME}", *words[1:]])
-        sum = source_sum(kit)
-        with tempfile.TemporaryDirectory(prefix=f"{NAME}-") as room:
-            package = None if is_release else package_at_hand(sum, room)
-            if package:
-                try:
-                    say(f"building from the recorded proofs in {package}, a minute or more")
-                    build = Build(kit, room, package)
-                    build.run()
-                except Refused as it:
-                    with open(build.log(it), errors="replace") as log:
-                        why = re.search(r"error\[.{1,300}", log.read())
-                    say(f"{package} is not used, since its record or library of {it} was refused: {why[0] if why else 'see its log'}")
-                    package = None
-            if not package:
-                say(f"proving what has no record yet, and building (logs: {PROVED}/*.log)")
-                build = Build(kit, room)
-                build.run()
-            if is_release and source_sum(kit) != sum:
-                stop("no package, since a file changed while it was proved: run this again")
-            put_program(f"{room}/{NAME}", build.began)
-            if build.proved:
-                say(f"proved and built, {build.minutes()}")
-            elif package:
-                say("built from the recorded proofs of this very source; ./test.sh proves it here")
-            else:
-                say("built from the proofs recorded here")
-            if is_release:
-                pack(sum, build, words[1] if len(words) > 1 else OUT)
+        if not is_renewal or not is_fresh():
+            build(kit)
+        if is_renewal:
+            renew(kit)
     if is_run:
         # Python ignores these two, and the program would inherit that.
         for it in (signal.SIGPIPE, signal.SIGXFSZ):

@@ -14,7 +14,7 @@ import sys
 
 TOP = os.path.join(os.path.dirname(os.path.abspath(__file__)), "..")
 PROGRAM = "lincheck"
-DEFAULT = ["lin_edn", "lin_frontier", "lin_search", "lin_formats", PROGRAM]
+DEFAULT = ["lin_edn", "lin_frontier", "lin_search", "lin_texts", "lin_formats", PROGRAM]
 
 
 def read_crates():

@@ -3,17 +3,17 @@
 # and compares what is printed. A line `$ COMMAND` of such a block is run; the lines behind it are what it has to print. `$ echo $?` is the
 # status of the command before it in its block. A python block is run too, and has to end well. Of each page with such blocks the commands are
 # counted; the last line counts all.
-# usage: tests/readme.sh [PAGE ..]   (the program has to be built)
+# usage: tests/readme.sh [PAGE ..]   (builds what isn't built, unless LINCHECK in the environment names the program that stands for ./lincheck)
 set -u
 cd "$(dirname "$0")/.."
-./lincheck --help > /dev/null 2>&1   # builds what isn't built
+[ -n "${LINCHECK:-}" ] || ./lincheck --help > /dev/null 2>&1
 [ $# -gt 0 ] || set -- README.md docs/*.md tests/pages/*.md
 passed=0 failed=0 last=0 page='' command='' wanted=''
 
 finish() { # runs the command that was read, and compares
     [ -n "$command" ] || return 0
     local printed
-    printed=$( (exit "$last"); eval "$command" 2>&1 < /dev/null)
+    printed=$( (exit "$last"); eval "${command//.\/lincheck/${LINCHECK:-./lincheck}}" 2>&1 < /dev/null)
     last=$?
     if [ "$printed" = "${wanted%$'\n'}" ]; then
         passed=$((passed + 1))
@@ -26,7 +26,7 @@ finish() { # runs the command that was read, and compares
 
 run_script() { # runs a python block
     local said
-    if said=$(python3 -c "$wanted" 2>&1 < /dev/null); then
+    if said=$(python3 -c "${wanted//.\/lincheck/${LINCHECK:-./lincheck}}" 2>&1 < /dev/null); then
         passed=$((passed + 1))
     else
         failed=$((failed + 1))
