@@ -10,25 +10,28 @@ RECORDING is one of
   cas-unique        the same, and each write and compare-and-set leaves a value of its own
   fifo-growing      a queue into which each number is put once; two enqueues for each dequeue
   fifo-crashed      one enqueue for each dequeue; 50 dequeues that took an element crash
+  fifo-few          a queue into which the numbers 0 to 4 are put again and again; one enqueue for each dequeue
+  fifo-some         the same of the numbers 0 to 19
   set-crashed       adds of numbers that differ, of which 70 crash, and 300 reads beside them
   mutex-crashed     acquires and releases of a lock, which fail where it is held, or free; 2 in 100 crash
 An operation takes effect at some time between its invocation and its return; half of the writes, adds, acquires and releases that crash never do. A new client
 comes in the place of one that crashed. So a `sound` recording is linearizable: the operations as they took effect are a legal order.
-The others have one fault when nine tenths of the operations were made, and aren't:
+The others have one fault when nine tenths of the operations were made, and aren't, but for `changed`, of which it isn't known:
   stale    a read of a register finds a value that was overwritten before it was invoked (for its sake nobody writes 0 for a while)
   lost     the first element of a queue goes, and nobody took it
   twice    the first element of a queue is taken twice
+  changed  a dequeue that took an element says that it took another number
   missed   a read of a set doesn't find a number whose add had returned
   shared   a lock that is held is acquired, again and again while nobody releases it
-WANTED_FILE gets the answer that is right for the recording in its first line (`no` where it isn't known of which prefix), and for a sound
-one that order in its second.
+WANTED_FILE gets the answer that is right for the recording in its first line (`no` where it isn't known of which prefix, `unknown` where no
+answer is), and for a sound one that order in its second.
 """
 import random
 import sys
 from collections import deque
 
 SEED, LATE, QUIET = 20261129, 0.9, (0.85, 0.95)
-FEW, CRASHED_DEQUEUES, CRASHED_ADDS, READS = 5, 50, 70, 300
+FEW, SOME, CRASHED_DEQUEUES, CRASHED_ADDS, READS = 5, 20, 50, 70, 300
 
 
 class Operation:
@@ -138,13 +141,17 @@ class Register(Thing):
 
 
 class Queue(Thing):
-    def __init__(self, draw, fault, crashes, enqueues):
+    """Of numbers that are each put in once, or drawn from so many."""
+
+    def __init__(self, draw, fault, crashes, enqueues, numbers=0):
         super().__init__(draw, fault, crashes)
-        self.enqueues, self.members, self.fresh, self.doubled, self.is_left = enqueues, deque(), 0, None, False
+        self.enqueues, self.numbers, self.members, self.fresh, self.doubled, self.is_left = enqueues, numbers, deque(), 0, None, False
 
     def call(self):
         if self.draw.random() >= self.enqueues:
             return 'dequeue', 'nil'
+        if self.numbers:
+            return 'enqueue', self.draw.randrange(self.numbers)
         self.fresh += 1
         return 'enqueue', self.fresh
 
@@ -179,6 +186,8 @@ class Queue(Thing):
         operation.is_crashing = False
 
     def end(self, operation, _at):
+        if self.is_faulty('changed') and operation.found not in (None, 'nil'):
+            operation.found, self.fault = (operation.found + self.draw.randrange(1, self.numbers)) % self.numbers, 'sound'
         return operation.function == 'dequeue' and self.doubled is not None and operation.found == self.doubled
 
 
@@ -258,12 +267,18 @@ RECORDINGS = {
     'set-crashed': ('set', ['missed'], lambda draw, fault, _: Set(draw, fault, CRASHED_ADDS)),
     'mutex-crashed': ('mutex', ['shared'], lambda draw, fault, n: Lock(draw, fault, n // 50)),
 }
+# The same of those that aren't decided at all widths.
+REPEATED = {
+    'fifo-few': ('fifo', ['changed'], lambda draw, fault, _: Queue(draw, fault, 0, 1 / 2, FEW)),
+    'fifo-some': ('fifo', ['changed'], lambda draw, fault, _: Queue(draw, fault, 0, 1 / 2, SOME)),
+}
+ALL = {**RECORDINGS, **REPEATED}
 
 
 class Recording:
     def __init__(self, name, events, fault, clients, seed):
         self.draw, self.operations, self.clients = random.Random(seed), events // 2, clients
-        self.thing = RECORDINGS[name][2](self.draw, fault, self.operations)
+        self.thing = ALL[name][2](self.draw, fault, self.operations)
         self.time, self.invoked, self.fresh, self.failing = 3291485317, 0, clients, None
         self.idle, self.running, self.lines, self.order = list(range(clients)), [], [], []
 
@@ -306,15 +321,15 @@ class Recording:
                 self.go_on(self.draw.choice(self.running))
 
     def wanted(self, fault):
-        if fault == 'sound':
-            return 'yes'
+        if fault in ('sound', 'changed'):
+            return 'yes' if fault == 'sound' else 'unknown'
         return 'no' if self.failing is None else 'no prefix %d' % self.failing
 
 
 def is_known(words):
     numbers = words[1:2] + words[3:5]
-    return words and words[0] in RECORDINGS and all(it.isdigit() for it in numbers) and (
-        words[2:3] in ([], ['sound']) or words[2] in RECORDINGS[words[0]][1])
+    return words and words[0] in ALL and all(it.isdigit() for it in numbers) and (
+        words[2:3] in ([], ['sound']) or words[2] in ALL[words[0]][1])
 
 
 def main(words):

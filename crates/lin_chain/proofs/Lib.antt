@@ -1,5 +1,3 @@
-pub mod Tellings
-pub mod Replaying
-pub mod Budgets
-pub mod Chaining
 pub mod ExactSets
+pub mod Working
+pub mod Chaining

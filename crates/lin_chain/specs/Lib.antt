@@ -1,8 +1,4 @@
-pub mod Replays
-pub mod Ends
-pub mod Tellings
-pub mod Founds
+pub mod Work
 pub mod Chains
 pub mod Exact
 pub mod inner
-pub mod lemmas

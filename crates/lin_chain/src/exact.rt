@@ -1,5 +1,5 @@
 //! All configurations after the first events of an object.
-ghost use Rattle.std.specs.Prelude.{◌≡◌, ◌+◌, ℕ, Bool, List, All, IfOk, IfNone, IfSome, Ok, None, Some, length, take};
+ghost use Rattle.std.specs.Prelude.{◌≡◌, ◌≤◌, ◌+◌, ℕ, Bool, List, All, IfOk, IfNone, IfSome, Ok, None, Some, length, take};
 ghost use Rattle.lin_events.specs.declared.items.Item.{Item as ItemOf};
 ghost use Rattle.lin_events.specs.declared.calls.Name.{Name as NameOf};
 ghost use Rattle.lin_events.specs.declared.events.Event.{Event as EventOf};
@@ -10,13 +10,23 @@ ghost use Rattle.lin_orders.specs.Configurations.{IsOver};
 ghost use Rattle.lin_orders.specs.Linearizable.{IsLinearizableAs};
 ghost use Rattle.lin_chain.specs.Exact.{IsExact};
 
-use crate::replay::Taken;
 use lin_events::{Event, Meter, OutOfMemory, beginnings_are_well_formed};
 use lin_frontier::{
     Frontier, Nodes, Open, Step, nothing_is_open_at_first, take_in as take_in_open,
 };
 use lin_objects::{Any, Kind};
 use std::alloc::Global;
+
+/// What one more event made of all configurations.
+#[derive(Clone, Copy)]
+pub(crate) enum Taken {
+    /// Those after it.
+    Next,
+    /// There are none: the events have no legal order.
+    Empty,
+    /// There are more than the budget.
+    Over,
+}
 
 /// All configurations after some events, and what is needed to go on.
 #[derive(Drop)]
@@ -52,6 +62,7 @@ impl Exact {
         at: usize,
         event: &Event,
         budget: u32,
+        meter: &mut Meter,
     ) -> Result<Taken, OutOfMemory>
         ensures kind { self.new.object.kind ≡ self.old.object.kind }
         ensures next { result ≡ Ok Taken.Next → (functions : ItemOf → NameOf → Bool) (h : List EventOf) → IsWellFormed functions h → IsEvent h at event.now → IsExact self.old h at → IsExact self.new h (at + 1) }
@@ -59,10 +70,10 @@ impl Exact {
             → IsLinearizableAs self.old.object.kind (take (at + 1) h) → ⊥ }
         ensures over { result ≡ Ok Taken.Over → (functions : ItemOf → NameOf → Bool) (h : List EventOf) → IsWellFormed functions h → IsEvent h at event.now → IsExact self.old h at
             → IsOver (start_of self.old.object.kind) (StepOf self.old.object.kind) (take (at + 1) h) budget }
-        ensures before { result ≡ Ok Taken.OverBefore → ⊥ }
+        ensures steps { meter.new.steps ≤ meter.old.steps + 1 }
+        ensures scans { meter.new.scans ≡ meter.old.scans }
     {
         beginnings_are_well_formed();
-        let mut meter = Meter::new();
         let step = self.frontier.advance_all(
             alloc,
             &self.object,
@@ -71,7 +82,7 @@ impl Exact {
             event,
             budget,
             &mut self.nodes,
-            &mut meter,
+            meter,
         )?;
         match step {
             Step::Next(next) => {

@@ -1,13 +1,13 @@
-//! One object's frontiers over its events, with checkpoints to go back to after an edit.
+//! How the events of one object end, told by its engines, and kept right while the events are edited.
 #![tactic(auto)]
 
+mod beside;
 mod chain;
 mod exact;
 mod found;
 mod patience;
-mod pending;
 mod refuting;
-mod replay;
-mod telling;
+mod schedule;
 
-pub use chain::{Chain, End, RefuteFault};
+pub use chain::{Chain, RefuteFault};
+pub use lin_engines::End;

@@ -1,7 +1,5 @@
 //! How much work of frontiers comes before a search, or behind it.
-ghost use Rattle.std.specs.Prelude.{◌≡◌, None, true};
-
-use crate::replay::Replay;
+use lin_engines::Replay;
 use lin_events::Meter;
 use lin_objects::Kind;
 
@@ -27,15 +25,6 @@ impl Patience {
         Patience {
             tries: meter.tries().saturating_add(more.saturating_add(1_024)),
             ways,
-        }
-    }
-
-    /// What is enough for most objects under a small budget to come to their end, or to be over.
-    pub(crate) fn enough(meter: &Meter, budget: u32) -> Patience {
-        let more = (budget as u64).saturating_mul(128);
-        Patience {
-            tries: meter.tries().saturating_add(more),
-            ways: more,
         }
     }
 
@@ -67,17 +56,7 @@ fn ways(replay: &Replay, budget: u32) -> u64 {
     placed.min(budget as u64).saturating_mul(open as u64)
 }
 
-/// Whether one more event is worth it, if there is a limit.
-pub(crate) fn is_worth(
-    meter: &Meter,
-    patience: Option<Patience>,
-    replay: &Replay,
-    budget: u32,
-) -> bool
-    ensures { patience ≡ None → result ≡ true }
-{
-    match patience {
-        None => true,
-        Some(patience) => patience.allows(meter, ways(replay, budget)),
-    }
+/// Whether one more event is worth it.
+pub(crate) fn is_worth(meter: &Meter, patience: Patience, replay: &Replay, budget: u32) -> bool {
+    patience.allows(meter, ways(replay, budget))
 }

@@ -1,5 +1,5 @@
 //! Refutations of histories that have no legal order: all configurations of each beginning.
-ghost use Rattle.std.specs.Prelude.{◌≡◌, ◌+◌, ◌<◌, ℕ, Bool, List, All, IfOk, OnOk, Ok, None, Some, length, take};
+ghost use Rattle.std.specs.Prelude.{◌≡◌, ◌≤◌, ◌+◌, ◌<◌, ℕ, Bool, List, All, IfOk, OnOk, Ok, None, Some, length, take};
 ghost use Rattle.std.specs.Map.{keys_of};
 ghost use Rattle.lin_events.specs.declared.items.Item.{Item as ItemOf};
 ghost use Rattle.lin_events.specs.declared.calls.Name.{Name as NameOf};
@@ -13,9 +13,8 @@ ghost use Rattle.lin_orders.specs.Configurations.{IsOver};
 ghost use Rattle.lin_orders.specs.Linearizable.{IsDeadAt, IsLinearizableAs};
 ghost use Rattle.lin_chain.specs.inner.Refuting.{AreBuilt};
 
-use crate::exact::Exact;
-use crate::replay::Taken;
-use lin_events::{Event, OutOfMemory, Reply, beginnings_are_well_formed};
+use crate::exact::{Exact, Taken};
+use lin_events::{Event, Meter, OutOfMemory, Reply, beginnings_are_well_formed};
 use lin_frontier::{Config, Frontier};
 use lin_objects::{Any, Kind, SeqObject, State};
 use lin_order::{RefConfig, Refutation, exact_sets_refute};
@@ -85,6 +84,7 @@ impl Builder {
         at: usize,
         event: &Event,
         budget: u32,
+        meter: &mut Meter,
     ) -> Result<Taken, OutOfMemory>
         ensures kind { self.new.exact.object.kind ≡ self.old.exact.object.kind }
         ensures next { result ≡ Ok Taken.Next → (functions : ItemOf → NameOf → Bool) (h : List EventOf) → IsWellFormed functions h → IsEvent h at event.now → AreBuilt self.old h at → AreBuilt self.new h (at + 1) }
@@ -92,9 +92,10 @@ impl Builder {
             → IsLinearizableAs self.old.exact.object.kind (take (at + 1) h) → ⊥ }
         ensures over { result ≡ Ok Taken.Over → (functions : ItemOf → NameOf → Bool) (h : List EventOf) → IsWellFormed functions h → IsEvent h at event.now → AreBuilt self.old h at
             → IsOver (start_of self.old.exact.object.kind) (StepOf self.old.exact.object.kind) (take (at + 1) h) budget }
-        ensures before { result ≡ Ok Taken.OverBefore → ⊥ }
+        ensures steps { meter.new.steps ≤ meter.old.steps + 1 }
+        ensures scans { meter.new.scans ≡ meter.old.scans }
     {
-        let taken = self.exact.take_in(alloc, at, event, budget)?;
+        let taken = self.exact.take_in(alloc, at, event, budget, meter)?;
         if let Taken::Next = taken {
             let set = set_of(alloc, &self.exact.object, &self.exact.frontier)?;
             self.sets.push(set)?;
@@ -112,12 +113,15 @@ pub(crate) fn refutation_of(
     picks: &[usize],
     dead: usize,
     budget: u32,
+    meter: &mut Meter,
 ) -> Result<Option<Refutation>, OutOfMemory>
     requires dead { IsDeadAt kind (events_at events.now picks.now) dead }
     requires place { dead < length picks.now }
     requires inside { All (λ at. at < length events.now) picks.now }
     requires well_formed { (functions : ItemOf → NameOf → Bool) × IsWellFormed functions (events_at events.now picks.now) }
     ensures refuted { (refutation : Refutation) → result ≡ Ok (Some refutation) → IsRefutation (take (dead + 1) (events_at events.now picks.now)) kind (sets_of refutation) }
+    ensures steps { meter.new.steps ≤ meter.old.steps + length picks.now }
+    ensures scans { meter.new.scans ≡ meter.old.scans }
     ensures over { result ≡ Ok None → (n : ℕ) × IsOver (start_of kind) (StepOf kind) (take n (events_at events.now picks.now)) budget }
 {
     exact_sets_refute();
@@ -125,11 +129,10 @@ pub(crate) fn refutation_of(
     prefixes_are_linearizable_by(&Any { kind });
     let mut builder = Builder::new(alloc, kind)?;
     for at in 0..dead {
-        match builder.take_in(alloc, at, &events[picks[at]], budget)? {
+        match builder.take_in(alloc, at, &events[picks[at]], budget, meter)? {
             Taken::Next => {}
             Taken::Over => return Ok(None),
             Taken::Empty => unreachable!(),
-            Taken::OverBefore => unreachable!(),
         }
     }
     builder.sets.push(Vec::new(alloc))?;

@@ -1,5 +1,6 @@
 -- Orders with places that are owed.
-use Rattle.std.proofs.Common.{◌≡◌, ◌≢◌, ◌≤◌, ◌+◌, ℕ, zero, suc, cond, List, [], ◌∷◌, ◌++◌, ◌⊎◌, AllPairs, Contains, Option, Some, None, length, set, slice_get, get_or, nat_eq, inl, inr, refl, sym, ap, subst, ◌∙◌, arith}
+use Rattle.std.proofs.Common.{◌≡◌, ◌≢◌, ◌≤◌, ◌+◌, ℕ, zero, suc, cond, List, [], ◌∷◌, ◌++◌, ◌⊎◌, AllPairs, Contains, Option, Some, None, length, length-set, drop, take, set, slice_get, get_or, nat_eq, inl, inr, refl, sym, ap, subst, ◌∙◌, arith, add-one, unwrap_or}
+use Rattle.std.proofs.lemmas.List.{set-set, take_all}
 use Rattle.std.proofs.lemmas.List.Elements.{Contains-append_cases, Contains-append_left, Contains-append_right, Contains-get_or}
 use Rattle.std.proofs.lemmas.Bool.{cases_Bool}
 use Rattle.std.proofs.lemmas.Bool.Decides.{Decides-eqb}
@@ -8,7 +9,8 @@ use Rattle.lin_lists.specs.lemmas.Elements.{all_of, first_or_rest, nothing_in}
 use Rattle.lin_events.specs.declared.calls.Reply.TheVariants.{Done}
 use Rattle.lin_failures.specs.lemmas.Counting.{first_apart, pairs_rest}
 use Rattle.lin_orders.specs.declared.placed.Placed.{Placed}
-use Rattle.lin_locks.specs.inner.Fillings.{filled, paying}
+use Rattle.lin_locks.specs.declared.sides.Debt.{Debt}
+use Rattle.lin_locks.specs.inner.Fillings.{filled, in_turn, paying, settled}
 
 -- an operation that is done
 abbrev pub done : ℕ → Placed
@@ -112,3 +114,81 @@ pairs_with R (z ∷ before) x behind all ahead after = AllPairs-cons R z (before
       ]
     ]))
     (pairs_with R before x behind (pairs_rest R z (before ++ behind) all) (λ y there. ahead y (Contains-append_right (z ∷ []) before y there)) after)
+
+-- an element that another one's place does not hold stays
+pub set_other : {A : Type 0} (xs : List A) (s : ℕ) (y : A) (k : ℕ) → k ≢ s → slice_get (set xs s y) k ≡ slice_get xs k
+set_other [] s y k differ = refl
+set_other (z ∷ xs) zero y zero differ = absurd (differ refl)
+set_other (z ∷ xs) zero y (suc k) differ = refl
+set_other (z ∷ xs) (suc s) y zero differ = refl
+set_other (z ∷ xs) (suc s) y (suc k) differ = set_other xs s y k (λ e. differ (ap suc e))
+
+pub settled_other : (debts : List Debt) (opens : List ℕ) (order : List (Option ℕ)) (k : ℕ) → ((d : Debt) → Contains debts d → d.slot ≢ k) → slice_get (settled debts opens order) k ≡ slice_get order k
+settled_other [] opens order k others = refl
+settled_other (d ∷ debts) [] order k others = refl
+settled_other (d ∷ debts) (o ∷ opens) order k others =
+    settled_other debts opens (set order d.slot (Some o)) k (λ e there. others e (Contains-append_right (d ∷ []) debts e there))
+    ∙ set_other order d.slot (Some o) k (λ same. others d (0, omega arith, refl) (sym same))
+
+-- the order in which the debts are paid in turn is the filled one
+pub settled_filled : (debts : List Debt) (opens : List ℕ) (pays : ℕ → ℕ) (order : List (Option ℕ)) → ((d : Debt) → Contains debts d → slice_get order d.slot ≡ Some None) → AllPairs (λ c d. c.slot ≢ d.slot) debts
+    → filled (in_turn debts opens pays) 0 order ≡ filled pays 0 (settled debts opens order)
+settled_filled [] opens pays order places once = refl
+settled_filled (d ∷ debts) [] pays order places once = refl
+settled_filled (d ∷ debts) (o ∷ opens) pays order places once =
+    filled_paid (paying (in_turn debts opens pays) d.slot o) (in_turn debts opens pays) order 0 d.slot o (places d (0, omega arith, refl))
+    (ap (paying (in_turn debts opens pays) d.slot o) (zero_more d.slot) ∙ paying_here (in_turn debts opens pays) d.slot o)
+    (λ n differ. paying_other (in_turn debts opens pays) d.slot o n (λ same. differ (same ∙ sym (zero_more d.slot))))
+    ∙ settled_filled debts opens pays (set order d.slot (Some o))
+    (λ e there. set_other order d.slot (Some o) e.slot (λ same. first_apart (λ (c x : Debt). c.slot ≢ x.slot) d debts once e there (sym same)) ∙ places e (Contains-append_right (d ∷ []) debts e there))
+    (pairs_rest (λ c x. c.slot ≢ x.slot) d debts once)
+  where
+    zero_more : (n : ℕ) → 0 + n ≡ n
+    zero_more n = omega arith
+
+-- of what is taken from the two lists in turn, one more
+drop_here : {A : Type 0} (xs : List A) (k : ℕ) (x : A) → slice_get xs k ≡ Some x → drop k xs ≡ x ∷ drop (suc k) xs
+drop_here [] k x there = absurd (let never = there in cc)
+drop_here {A} (y ∷ xs) zero x there = ap (λ z. z ∷ xs) (same there)
+  where
+    same : {a b : A} → Some a ≡ Some b → a ≡ b
+    same e = cc
+drop_here (y ∷ xs) (suc k) x there = drop_here xs k x there
+
+drop_all : {A : Type 0} (xs : List A) (k : ℕ) → length xs ≤ k → drop k xs ≡ []
+drop_all [] zero past = refl
+drop_all [] (suc k) past = refl
+drop_all (x ∷ xs) zero past = absurd (omega (arith, past))
+drop_all (x ∷ xs) (suc k) past = drop_all xs k (omega (arith, past))
+
+settled_none : (debts : List Debt) (order : List (Option ℕ)) → settled debts [] order ≡ order
+settled_none [] order = refl
+settled_none (d ∷ debts) order = refl
+
+pub settled_one : (debts : List Debt) (opens : List ℕ) (order : List (Option ℕ)) (k : ℕ) (d : Debt) (o : ℕ) → slice_get debts k ≡ Some d → slice_get opens k ≡ Some o
+    → settled (drop (k + 1) debts) (drop (k + 1) opens) (set order d.slot (Some o)) ≡ settled (drop k debts) (drop k opens) order
+settled_one debts opens order k d o in_debts in_opens = ap (λ n. settled (drop n debts) (drop n opens) (set order d.slot (Some o))) (add-one k)
+    ∙ sym (ap (λ l. settled l (drop k opens) order) (drop_here debts k d in_debts) ∙ ap (λ l. settled (d ∷ drop (suc k) debts) l order) (drop_here opens k o in_opens))
+
+pub settled_past : (debts : List Debt) (opens : List ℕ) (order : List (Option ℕ)) (k : ℕ) → length opens ≤ k → settled (drop (k + 1) debts) (drop (k + 1) opens) order ≡ settled (drop k debts) (drop k opens) order
+settled_past debts opens order k past =
+    ap (λ l. settled (drop (k + 1) debts) l order) (drop_all opens (k + 1) (omega (arith, past))) ∙ settled_none (drop (k + 1) debts) order
+    ∙ sym (ap (λ l. settled (drop k debts) l order) (drop_all opens k past) ∙ settled_none (drop k debts) order)
+
+-- a place that was empty is so again
+set_same : {A : Type 0} (xs : List A) (s : ℕ) (x : A) → slice_get xs s ≡ Some x → set xs s x ≡ xs
+set_same [] s x there = refl
+set_same {A} (y ∷ xs) zero x there = ap (λ z. z ∷ xs) (sym (same there))
+  where
+    same : {a b : A} → Some a ≡ Some b → a ≡ b
+    same e = cc
+set_same (y ∷ xs) (suc s) x there = ap (λ l. y ∷ l) (set_same xs s x there)
+
+pub emptied_again : (order : List (Option ℕ)) (slot begin many : ℕ) → slice_get order slot ≡ Some None → many ≡ length order → set (take many (set order slot (Some begin))) slot None ≡ order
+emptied_again order slot begin many there is =
+    ap (λ l. set l slot None) (take_all many (set order slot (Some begin)) (let same = length-set order slot (Some begin) in omega (arith, same, is))) ∙ set-set order slot (Some begin) None ∙ set_same order slot None there
+
+-- one place more, where all is paid
+pub filled_more : (order : List (Option ℕ)) (x : Option ℕ) → filled (λ n. 0) 0 (order ++ x ∷ []) ≡ filled (λ n. 0) 0 order ++ done (unwrap_or x 0) ∷ []
+filled_more order (Some at) = filled_named (λ n. 0) order 0 at
+filled_more order None = filled_owed (λ n. 0) order 0

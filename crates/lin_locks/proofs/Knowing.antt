@@ -1,6 +1,5 @@
 -- The operations that the processes called last, and what an ok tells of its operation.
 use Rattle.std.proofs.Common.{◌≡◌, ℕ, Bool, true, false, cond, List, ◌⊎◌, Some, Option, length, nat_eq, inl, inr, sym, ap, subst, ◌∙◌, arith}
-use Rattle.std.specs.Map.{lookup}
 use Rattle.std.proofs.lemmas.Bool.{cases_Bool}
 use Rattle.std.proofs.lemmas.Bool.Decides.{Decides-eqb}
 use Rattle.std.proofs.lemmas.Option.{slice_get_within}
@@ -22,9 +21,9 @@ use Rattle.lin_orders.specs.Linearizable.{IsLinearizableAs}
 use Rattle.lin_orders.specs.ConfigurationLaws.{with_event}
 use Rattle.lin_orders.specs.lemmas.Ending.{ends}
 use Rattle.lin_orders.specs.lemmas.Opening.{open_back, opens}
-use Rattle.lin_locks.specs.declared.locks.Running.{Running}
+use Rattle.lin_locks.specs.declared.latest.Running.{Running}
 use Rattle.lin_locks.specs.inner.Debts.{Config, IsOfLock, lock_call}
-use Rattle.lin_locks.specs.inner.Locks.{AreRunning, IsEnding}
+use Rattle.lin_locks.specs.inner.Turns.{AreRunning, IsEnding}
 use Rattle.lin_locks.proofs.Passing.{ok_step, was_open}
 use Rattle.lin_locks.proofs.Placing.{says_done, turns}
 
@@ -37,7 +36,7 @@ module _ (functions : Item → Name → Bool) (h : List Event) (event : Event) (
   alternating = (law functions (with_event h event)).0 formed
 
   -- an invocation is the last of its process
-  pub running_joined : (call : Call) → event.body ≡ Invoke call → (old new : List (ℕ × Running)) → ((q : ℕ) → lookup (nat_eq q) new ≡ cond (nat_eq event.process q) (Some (record { begin = length h; call = call })) (lookup (nat_eq q) old))
+  pub running_joined : (call : Call) → event.body ≡ Invoke call → (old new : ℕ → Option Running) → ((q : ℕ) → new q ≡ cond (nat_eq event.process q) (Some (record { begin = length h; call = call })) (old q))
       → AreRunning h old → AreRunning (with_event h event) new
   unfolding alternating
   running_joined call is old new updated was at process key other opened = updated process ∙ elim (open_back h event at process key other opened) [
@@ -48,13 +47,13 @@ module _ (functions : Item → Name → Bool) (h : List Event) (event : Event) (
           (subst (λ p. IsOpen (with_event h event) at p key other) (sym process_is) opened) (opens h event call is) in
           let inside = slice_get_within h at _ before.begins in
           absurd (omega (arith, here, inside))
-      | inr differs ↦ ap (λ b. cond b (Some (record { begin = length h; call = call })) (lookup (nat_eq process) old)) differs ∙ was at process key other before
+      | inr differs ↦ ap (λ b. cond b (Some (record { begin = length h; call = call })) (old process)) differs ∙ was at process key other before
     ]
     | inr new_one ↦
         let process_is : event.process ≡ process = ap (λ (e : Event). e.process) new_one.1 in
         let call_is : Invoke call ≡ Invoke other = sym is ∙ ap (λ (e : Event). e.body) new_one.1 in
         let it = (Decides-eqb event.process process).1 process_is in
-        ap (λ b. cond b (Some (record { begin = length h; call = call })) (lookup (nat_eq process) old)) it ∙ ap (λ (n : ℕ). Some (record { begin = n; call = call })) (sym new_one.0) ∙ ap (λ (x : Call). Some (record { begin = at; call = x })) (same_call call_is)
+        ap (λ b. cond b (Some (record { begin = length h; call = call })) (old process)) it ∙ ap (λ (n : ℕ). Some (record { begin = n; call = call })) (sym new_one.0) ∙ ap (λ (x : Call). Some (record { begin = at; call = x })) (same_call call_is)
   ]
     where
       same_call : {a b : Call} → Invoke a ≡ Invoke b → a ≡ b
@@ -62,12 +61,12 @@ module _ (functions : Item → Name → Bool) (h : List Event) (event : Event) (
 
   module _ (name : Name) (completing : Completes event.body name) where
     -- a completion changes nothing of them
-    pub running_stays : (running : List (ℕ × Running)) → AreRunning h running → AreRunning (with_event h event) running
+    pub running_stays : (running : ℕ → Option Running) → AreRunning h running → AreRunning (with_event h event) running
     unfolding alternating
     running_stays running was at process key call opened = was at process key call (was_open functions h event name alternating completing at process key call opened)
 
     -- it ends the one of its process
-    pub known : (running : List (ℕ × Running)) → AreRunning h running → (found : Option Running) → found ≡ lookup (nat_eq event.process) running
+    pub known : (running : ℕ → Option Running) → AreRunning h running → (found : Option Running) → found ≡ running event.process
         → (it : Running) × (found ≡ Some it) × IsEnding functions h event it.begin it.call
     unfolding alternating
     known running was found is =

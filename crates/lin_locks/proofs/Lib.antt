@@ -8,3 +8,6 @@ pub mod Filled
 pub mod Filling
 pub mod Payable
 pub mod Going
+pub mod Invoking
+pub mod Undoing
+pub mod Next

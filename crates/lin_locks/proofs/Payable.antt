@@ -10,7 +10,7 @@ use Rattle.lin_events.specs.declared.events.Event.{Event}
 use Rattle.lin_events.specs.Operations.{IsOpen}
 use Rattle.lin_failures.specs.lemmas.Counting.{first_apart, pairs_rest}
 use Rattle.lin_locks.specs.declared.sides.Debt.{Debt}
-use Rattle.lin_locks.specs.declared.sides.Side.{Side}
+use Rattle.lin_locks.specs.inner.Known.{Part}
 use Rattle.lin_locks.specs.inner.Debts.{AreRising, IsPaid}
 use Rattle.lin_locks.specs.inner.Fillings.{IsPayable, IsPayment, PayInTurn, in_turn, paying}
 use Rattle.lin_locks.proofs.Filled.{paying_here, paying_other}
@@ -129,28 +129,28 @@ turn_leaves (d ∷ debts) (o ∷ opens) pays k others =
     paying_other (in_turn debts opens pays) d.slot o k (λ same. others d (0, omega arith, refl) (sym same)) ∙ turn_leaves debts opens pays k (λ e there. others e (Contains-append_right (d ∷ []) debts e there))
 
 -- such a payment is one
-pub payment_in_turn : (h : List Event) (call : Call) (side : Side) → AllPairs ◌<◌ side.open.items → IsPayable h call side → (pays : ℕ → ℕ)
-    → ((k : ℕ) (debt : Debt) (at : ℕ) → slice_get side.debts.items k ≡ Some debt → slice_get side.open.items k ≡ Some at → pays debt.slot ≡ at) → IsPayment h call side.debts.items pays
+pub payment_in_turn : (h : List Event) (call : Call) (side : Part) → AllPairs ◌<◌ side.opens → IsPayable h call side → (pays : ℕ → ℕ)
+    → ((k : ℕ) (debt : Debt) (at : ℕ) → slice_get side.debts k ≡ Some debt → slice_get side.opens k ≡ Some at → pays debt.slot ≡ at) → IsPayment h call side.debts pays
 payment_in_turn h call side rising payable pays each = record {
   opened = λ debt there.
       let p = paid debt there in
-      let o = payable.only p.1.0 (there_in side.open.items p.0 p.1.0 p.1.1) in
+      let o = payable.only p.1.0 (there_in side.opens p.0 p.1.0 p.1.1) in
       (o.0, o.1, subst (λ n. IsOpen h n o.0 o.1 call) (sym p.1.3) o.2);
   early = λ debt there. let p = paid debt there in subst (λ n. n < debt.until) (sym p.1.3) p.1.2;
   once = λ i j d before within same.
-      let ci = get_or side.debts.items i d in
-      let cj = get_or side.debts.items j d in
-      let a = payable.pays i (get_or side.debts.items i d) (slice_get-get_or side.debts.items i d (omega (arith, before, within))) in
-      let b = payable.pays j (get_or side.debts.items j d) (slice_get-get_or side.debts.items j d within) in
-      let rises = rising_at side.open.items rising i j a.0 b.0 a.1 b.1 before in
-      let at_i = each i (get_or side.debts.items i d) a.0 (slice_get-get_or side.debts.items i d (omega (arith, before, within))) a.1 in
-      let at_j = each j (get_or side.debts.items j d) b.0 (slice_get-get_or side.debts.items j d within) b.1 in
+      let ci = get_or side.debts i d in
+      let cj = get_or side.debts j d in
+      let a = payable.pays i (get_or side.debts i d) (slice_get-get_or side.debts i d (omega (arith, before, within))) in
+      let b = payable.pays j (get_or side.debts j d) (slice_get-get_or side.debts j d within) in
+      let rises = rising_at side.opens rising i j a.0 b.0 a.1 b.1 before in
+      let at_i = each i (get_or side.debts i d) a.0 (slice_get-get_or side.debts i d (omega (arith, before, within))) a.1 in
+      let at_j = each j (get_or side.debts j d) b.0 (slice_get-get_or side.debts j d within) b.1 in
       omega (arith, rises, at_i, at_j, same);
 }
   where
-    paid : (debt : Debt) → Contains side.debts.items debt → (k : ℕ) × ((begin : ℕ) × (slice_get side.open.items k ≡ Some begin) × (begin < debt.until) × (pays debt.slot ≡ begin))
+    paid : (debt : Debt) → Contains side.debts debt → (k : ℕ) × ((begin : ℕ) × (slice_get side.opens k ≡ Some begin) × (begin < debt.until) × (pays debt.slot ≡ begin))
     paid debt there =
         let k = there.0 in
-        let found : slice_get side.debts.items there.0 ≡ Some debt = slice_get-get_or side.debts.items there.0 debt there.1 ∙ ap Some there.2 in
+        let found : slice_get side.debts there.0 ≡ Some debt = slice_get-get_or side.debts there.0 debt there.1 ∙ ap Some there.2 in
         let p = payable.pays there.0 debt found in
         (there.0, (p.0, p.1, p.2, each there.0 debt p.0 found p.1))

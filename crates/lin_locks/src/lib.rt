@@ -1,9 +1,13 @@
-//! Locks, told by their debts: an engine that goes through a lock's events in one way, finds a legal order of them, and the event up to which
-//! there is none.
+//! Locks, told by their debts: an engine that takes a lock's events in, one after the other, finds whether they have a legal order, and goes back
+//! to any of its earlier events.
 #![tactic(auto)]
 
-mod failing;
+mod changes;
+mod latest;
+mod laws;
 mod locks;
 mod sides;
+mod standings;
 
-pub use failing::{lock_failure, lock_order};
+pub use laws::locks_tell;
+pub use locks::Lock;

@@ -1,5 +1,5 @@
 //! What the operations of a bag did, as far as its whole history tells. Copies of an item are alike.
-use crate::operations::{NEVER, Operation, Span, gathered};
+use lin_depth::{NEVER, Operation, Span, gathered};
 use lin_events::{Body, Call, Event, Item, OutOfMemory, Reply, Val};
 use std::alloc::Global;
 use std::collections::HashMap;

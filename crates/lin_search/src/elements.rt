@@ -1,5 +1,5 @@
 //! What the operations of a queue did, as far as its whole history tells, where each item is put in once.
-use crate::operations::{NEVER, Operation, Span, gathered};
+use lin_depth::{NEVER, Operation, Span, gathered};
 use lin_events::{Body, Call, Event, Item, OutOfMemory, Reply, Val};
 use std::alloc::Global;
 use std::collections::HashMap;

@@ -1,6 +1,6 @@
 //! A search for the order in which the elements of a queue are put in and taken out. It promises nothing.
 use crate::elements::{Element, Queue};
-use crate::operations::{NEVER, Span};
+use lin_depth::{NEVER, Span};
 use lin_events::OutOfMemory;
 use std::alloc::Global;
 

@@ -5,7 +5,7 @@
 ghost use Rattle.lin_events.specs.declared.items.Item.{Item as ItemOf};
 ghost use Rattle.lin_events.specs.declared.calls.Name.{Name as NameOf};
 ghost use Rattle.lin_events.specs.WellFormed.{IsWellFormed};
-ghost use Rattle.std.specs.Prelude.{◌≡◌, ◌≢◌, ◌<◌, ◌≤◌, ◌⊎◌, ◌+◌, ◌*◌, ◌∷◌, ◌++◌, [], Bool, None, Ok, All, IfNone, IfOk, IfSome, IsTrue, MatchOption, OnOk, length, take};
+ghost use Rattle.std.specs.Prelude.{◌≡◌, ◌≢◌, ◌<◌, ◌≤◌, ◌⊎◌, ◌+◌, ◌*◌, ◌∷◌, ◌++◌, [], Bool, None, Ok, All, IfOk, IfSome, IsTrue, OnOk, length, take};
 ghost use Rattle.lin_events.specs.Meters.{ticked};
 ghost use Rattle.lin_objects.specs.declared.kinds.Kind.TheVariants.{Fifo, Mutex, Set};
 ghost use Rattle.lin_objects.specs.Kinds.{kind_of, same_for_all};
@@ -14,14 +14,25 @@ ghost use Rattle.lin_orders.specs.Parts.{events_at};
 
 use crate::bags::bag_order;
 use crate::queues::queue_order;
+use lin_depth::depth_first_order;
 use lin_events::{Event, Item, Meter, OutOfMemory};
 use lin_failures::{BagConflict, Conflict, bag_failure, is_bag_refuted, is_refuted};
-use lin_locks::{lock_failure, lock_order};
 use lin_objects::{Kind, Kinds};
 use lin_orders::{Placed, check_order};
 use lin_queues::{End, failing_event};
 use lin_registers::{register_failure, register_order};
 use std::alloc::Global;
+
+/// Which search for an order is asked.
+#[derive(Clone, Copy)]
+pub enum Guide {
+    /// The one that the kind has.
+    OfKind,
+    /// The depth-first one.
+    DepthFirst,
+    /// The first of these that finds one.
+    Any,
+}
 
 /// So many events more were gone through.
 fn tick_steps(meter: &mut Meter, count: usize)
@@ -83,8 +94,8 @@ fn picked(
     Ok(own)
 }
 
-/// An order of the events of an object of the kind, if a search finds one. The steps of the search aren't counted here.
-fn attempted(
+/// An order of the events of an object of the kind, if the search that the kind has finds one. The steps of the search aren't counted here.
+fn own_order(
     alloc: Global,
     kind: Kind,
     events: &[Event],
@@ -97,8 +108,42 @@ fn attempted(
         Kind::Register | Kind::CasRegister => register_order(alloc, events, meter),
         Kind::Fifo => queue_order(alloc, events),
         Kind::Bag => bag_order(alloc, events),
-        Kind::Mutex => lock_order(alloc, events),
-        Kind::Set => Ok(None),
+        Kind::Set | Kind::Mutex => Ok(None),
+    }
+}
+
+/// An order of the events of an object of the kind, if the depth-first search finds one, with a try counted for each call that was tried.
+fn deep_order(
+    alloc: Global,
+    kind: Kind,
+    events: &[Event],
+    meter: &mut Meter,
+) -> Result<Option<Vec<Placed>>, OutOfMemory>
+    ensures tries { meter.old.tries ≤ meter.new.tries }
+    ensures placed { IfOk result (λ found. IfSome found (λ order. ticked meter.old.tries (length order.items) ≤ meter.new.tries)) }
+    ensures others { meter.new ≡ record meter.old { tries = meter.new.tries } }
+{
+    depth_first_order(alloc, kind, events, meter)
+}
+
+/// The same of the guide.
+fn attempted(
+    alloc: Global,
+    kind: Kind,
+    guide: Guide,
+    events: &[Event],
+    meter: &mut Meter,
+) -> Result<Option<Vec<Placed>>, OutOfMemory>
+    ensures tries { meter.old.tries ≤ meter.new.tries }
+    ensures others { meter.new ≡ record meter.old { tries = meter.new.tries } }
+{
+    match guide {
+        Guide::OfKind => own_order(alloc, kind, events, meter),
+        Guide::DepthFirst => deep_order(alloc, kind, events, meter),
+        Guide::Any => match own_order(alloc, kind, events, meter)? {
+            Some(order) => Ok(Some(order)),
+            None => deep_order(alloc, kind, events, meter),
+        },
     }
 }
 
@@ -137,6 +182,7 @@ fn is_legal_order(
 fn shown(
     alloc: Global,
     kind: Kind,
+    guide: Guide,
     events: &[Event],
     meter: &mut Meter,
 ) -> Result<Option<Vec<Placed>>, OutOfMemory>
@@ -151,7 +197,7 @@ fn shown(
     if !are_of(events, key) {
         return Ok(None);
     }
-    let Some(order) = attempted(alloc, kind, events, meter)? else {
+    let Some(order) = attempted(alloc, kind, guide, events, meter)? else {
         return Ok(None);
     };
     let is_legal = is_legal_order(alloc, kind, events, &order, meter)?;
@@ -165,6 +211,7 @@ fn shown(
 fn shown_of(
     alloc: Global,
     kind: Kind,
+    guide: Guide,
     events: &[Event],
     picks: &[usize],
     meter: &mut Meter,
@@ -177,20 +224,22 @@ fn shown_of(
     ensures scans { meter.new.scans ≡ meter.old.scans }
 {
     let own = picked(alloc, events, picks, meter)?;
-    shown(alloc, kind, own.as_slice(), meter)
+    shown(alloc, kind, guide, own.as_slice(), meter)
 }
 
 /// A legal order of the events at the places, which all are of one key, if one is found. Of events of several keys none is.
 ///
-/// Orders of registers, of bags, of locks, and of queues in which no item is put twice, are looked for. Takes time and memory linear in the events,
-/// apart from how many operations are open at a time, and from the time to sort them.
+/// Orders of registers, queues and bags are looked for. Takes time and memory linear in the events, apart from how many operations are open
+/// at a time, and from the time to sort them.
 /// `OutOfMemory` is answered only where memory was refused. The order names operations by their places among these events.
 ///
 /// The search counts a step for each place, and the check of the order that it found one more for each event there. A call is tried for
-/// each operation that is placed in a beginning of an order of a register, and for each operation of an order that is checked.
+/// each operation that is placed in a beginning of an order of a register, where the depth-first search tries it, and for each operation of an
+/// order that is checked.
 pub fn finds_order(
     alloc: Global,
     kind: Kind,
+    guide: Guide,
     events: &[Event],
     picks: &[usize],
     meter: &mut Meter,
@@ -198,16 +247,16 @@ pub fn finds_order(
     ensures legal { IfOk result (λ found. IfSome found (λ order. IsLegalOrderAs kind (events_at events.now picks.now) order.items)) }
     ensures counted { IfOk result (λ found. IfSome found (λ order. meter.new.steps ≡ ticked meter.old.steps (length picks.now + length (events_at events.now picks.now)))) }
     ensures tried { IfOk result (λ found. IfSome found (λ order. ticked meter.old.tries (length order.items) ≤ meter.new.tries)) }
-    ensures searched { kind ≢ Set → IfOk result (λ found. ticked meter.old.steps (length picks.now) ≤ meter.new.steps) }
-    ensures unsearched { kind ≡ Set → (result ≡ Ok None) × (meter.new ≡ meter.old) }
+    ensures searched { kind ≢ Set → kind ≢ Mutex → IfOk result (λ found. ticked meter.old.steps (length picks.now) ≤ meter.new.steps) }
+    ensures unsearched { kind ≡ Set ⊎ kind ≡ Mutex → (result ≡ Ok None) × (meter.new ≡ meter.old) }
     ensures steps { meter.new.steps ≤ meter.old.steps + 2 * length picks.now }
     ensures scans { meter.new.scans ≡ meter.old.scans }
 {
     match kind {
-        Kind::Register | Kind::CasRegister | Kind::Fifo | Kind::Bag | Kind::Mutex => {
-            shown_of(alloc, kind, events, picks, meter)
+        Kind::Register | Kind::CasRegister | Kind::Fifo | Kind::Bag => {
+            shown_of(alloc, kind, guide, events, picks, meter)
         }
-        Kind::Set => Ok(None),
+        Kind::Set | Kind::Mutex => Ok(None),
     }
 }
 
@@ -322,20 +371,24 @@ fn refuted(
     }
 }
 
-/// The event at which a lock fails; none where it has a legal order.
-fn locked(alloc: Global, events: &[Event], meter: &mut Meter) -> Result<Option<usize>, OutOfMemory>
-    ensures inside { IfOk result (λ found. IfSome found (λ at. at < length events.now)) }
-    ensures dead { (functions : ItemOf → NameOf → Bool) → IsWellFormed functions events.now → IfOk result (λ found. MatchOption found (IsLinearizableAs Mutex events.now) (λ at. IsDeadAt Mutex events.now at)) }
-    ensures counted { IfOk result (λ found. IfSome found (λ at. meter.new.steps ≡ ticked meter.old.steps (at + 1))) }
-    ensures least { meter.old.steps ≤ meter.new.steps }
-    ensures most { meter.new.steps ≤ meter.old.steps + length events.now }
+/// The event up to and with which the events at the places have no legal order, for an object of the kind, if one is found: those before it
+/// may have one or not. It is right of well-formed events.
+///
+/// The search counts a step for each place, and what shows that there is no legal order one for each event up to and with the one that is found.
+pub fn finds_conflict(
+    alloc: Global,
+    kind: Kind,
+    events: &[Event],
+    picks: &[usize],
+    meter: &mut Meter,
+) -> Result<Option<usize>, OutOfMemory>
+    ensures refuted { (functions : ItemOf → NameOf → Bool) → IsWellFormed functions (events_at events.now picks.now) → IfOk result (λ found. IfSome found (λ at. IsLinearizableAs kind (take (at + 1) (events_at events.now picks.now)) → ⊥)) }
+    ensures counted { IfOk result (λ found. IfSome found (λ at. meter.new.steps ≡ ticked meter.old.steps (length picks.now + (at + 1)))) }
+    ensures steps { meter.new.steps ≤ meter.old.steps + 2 * length picks.now }
     ensures scans { meter.new.scans ≡ meter.old.scans }
 {
-    let Some(at) = lock_failure(alloc, events)? else {
-        return Ok(None);
-    };
-    tick_steps(meter, at + 1);
-    Ok(Some(at))
+    let own = picked(alloc, events, picks, meter)?;
+    refuted(alloc, kind, own.as_slice(), meter)
 }
 
 /// The event at which an object of the kind fails, if one is found up to which it has no legal order, and a legal order of the events before it.
@@ -355,27 +408,10 @@ fn failing(
         return Ok(None);
     };
     tick_steps(meter, at);
-    let Some(_) = shown(alloc, kind, &events[..at], meter)? else {
+    let Some(_) = shown(alloc, kind, Guide::Any, &events[..at], meter)? else {
         return Ok(None);
     };
     Ok(Some(at))
-}
-
-/// The same of a lock's events at the places, with all steps counted.
-fn locked_of(
-    alloc: Global,
-    events: &[Event],
-    picks: &[usize],
-    meter: &mut Meter,
-) -> Result<Option<usize>, OutOfMemory>
-    ensures dead { (functions : ItemOf → NameOf → Bool) → IsWellFormed functions (events_at events.now picks.now) → IfOk result (λ found. MatchOption found (IsLinearizableAs Mutex (events_at events.now picks.now)) (λ at. IsDeadAt Mutex (events_at events.now picks.now) at)) }
-    ensures counted { IfOk result (λ found. IfSome found (λ at. meter.new.steps ≡ ticked meter.old.steps (length picks.now + (at + 1)))) }
-    ensures searched { IfOk result (λ found. ticked meter.old.steps (length picks.now) ≤ meter.new.steps) }
-    ensures steps { meter.new.steps ≤ meter.old.steps + 2 * length picks.now }
-    ensures scans { meter.new.scans ≡ meter.old.scans }
-{
-    let own = picked(alloc, events, picks, meter)?;
-    locked(alloc, own.as_slice(), meter)
 }
 
 /// The same of the events at the places, with all steps counted.
@@ -397,13 +433,13 @@ fn failing_of(
 }
 
 /// Which of the events at the places is the one at which the shortest beginning without a legal order ends, if one is found. It is right of well-formed
-/// events. Of a lock it is found exactly where there is one.
+/// events.
 ///
-/// Looked at are registers, queues, bags and locks. Takes time and memory linear in the events, apart from how many operations are open at a time.
+/// Looked at are registers, queues and bags. Takes time and memory linear in the events, apart from how many operations are open at a time.
 /// `OutOfMemory` is answered only where memory was refused.
 ///
 /// The search counts a step for each place. Where it finds an event, what shows that there is no legal order up to it counts one for each event up to and with it, and
-/// but for locks the order of those before it two for each: one for its search, and one for its check.
+/// the order of those before it two for each: one for its search, and one for its check.
 pub fn finds_failure(
     alloc: Global,
     kind: Kind,
@@ -412,11 +448,9 @@ pub fn finds_failure(
     meter: &mut Meter,
 ) -> Result<Option<usize>, OutOfMemory>
     ensures dead { (functions : ItemOf → NameOf → Bool) → IsWellFormed functions (events_at events.now picks.now) → IfOk result (λ found. IfSome found (λ at. IsDeadAt kind (events_at events.now picks.now) at)) }
-    ensures decided { kind ≡ Mutex → (functions : ItemOf → NameOf → Bool) → IsWellFormed functions (events_at events.now picks.now) → IfOk result (λ found. IfNone found (IsLinearizableAs Mutex (events_at events.now picks.now))) }
-    ensures counted { kind ≢ Mutex → IfOk result (λ found. IfSome found (λ at. meter.new.steps ≡ ticked meter.old.steps (length picks.now + (3 * at + 1)))) }
-    ensures lock_counted { kind ≡ Mutex → IfOk result (λ found. IfSome found (λ at. meter.new.steps ≡ ticked meter.old.steps (length picks.now + (at + 1)))) }
-    ensures searched { kind ≢ Set → IfOk result (λ found. ticked meter.old.steps (length picks.now) ≤ meter.new.steps) }
-    ensures unsearched { kind ≡ Set → (result ≡ Ok None) × (meter.new ≡ meter.old) }
+    ensures counted { IfOk result (λ found. IfSome found (λ at. meter.new.steps ≡ ticked meter.old.steps (length picks.now + (3 * at + 1)))) }
+    ensures searched { kind ≢ Set → kind ≢ Mutex → IfOk result (λ found. ticked meter.old.steps (length picks.now) ≤ meter.new.steps) }
+    ensures unsearched { kind ≡ Set ⊎ kind ≡ Mutex → (result ≡ Ok None) × (meter.new ≡ meter.old) }
     ensures steps { meter.new.steps ≤ meter.old.steps + 4 * length picks.now }
     ensures scans { meter.new.scans ≡ meter.old.scans }
 {
@@ -424,7 +458,6 @@ pub fn finds_failure(
         Kind::Register | Kind::CasRegister | Kind::Fifo | Kind::Bag => {
             failing_of(alloc, kind, events, picks, meter)
         }
-        Kind::Mutex => locked_of(alloc, events, picks, meter),
-        Kind::Set => Ok(None),
+        Kind::Set | Kind::Mutex => Ok(None),
     }
 }

@@ -1,5 +1,5 @@
 //! The open operations of one object: those that crashed, which stay open for good, and the others.
-ghost use Rattle.std.specs.Prelude.{◌≡◌, ◌≢◌, ◌≤◌, ◌<◌, ◌+◌, ◌++◌, [], ℕ, Bool, List, Contains, IfSome, Ok, OnOk, OnErr, true, Some, length, take, drop, slice_get, remove, set, swap};
+ghost use Rattle.std.specs.Prelude.{◌≡◌, ◌≢◌, ◌≤◌, ◌<◌, ◌+◌, ◌++◌, [], ℕ, Bool, List, Contains, IfSome, Ok, OnOk, OnErr, true, Some, length, take, drop, min, slice_get, remove, set, swap};
 ghost use Rattle.lin_events.specs.declared.items.Item.{Item as ItemOf};
 ghost use Rattle.lin_events.specs.declared.calls.Name.{Name as NameOf};
 ghost use Rattle.lin_events.specs.declared.events.Event.{Event as EventOf};
@@ -35,7 +35,9 @@ impl Opened {
     }
 
     /// How many are open.
-    pub(crate) fn len(&self) -> usize {
+    pub(crate) fn len(&self) -> usize
+        ensures { result ≡ min (length (listed self.now)) usize.MAX }
+    {
         self.crashed.len().saturating_add(self.live.len())
     }
 

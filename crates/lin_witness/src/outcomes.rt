@@ -61,7 +61,8 @@ pub(crate) fn outcome(
     Ok(Some((config, placed)))
 }
 
-/// The same behind another operation, which is placed first.
+/// The same behind another operation, which is placed first. Where the object takes that one in several ways, none of them is better than
+/// another: it takes an item out of a bag, and so allows no reply that wasn't allowed before.
 pub(crate) fn outcome_behind(
     alloc: Global,
     object: &Any,
@@ -73,14 +74,14 @@ pub(crate) fn outcome_behind(
 ) -> Result<Option<(Outcome, Outcome)>, OutOfMemory>
     ensures placed { IfOk result (λ found. IfSome found (λ x. PlacesOne (StepOf object.now.kind) other.now config.now x.0.1 x.0.0
         × PlacesOne (StepOf object.now.kind) operation.now x.0.0 x.1.1 x.1.0 × (x.1.1.reply ≡ reply.now))) }
-    ensures steps { meter.new.steps ≡ meter.old.steps }
-    ensures scans { meter.new.scans ≡ meter.old.scans }
+    ensures tried { IsTriedAtMost 2 meter.old meter.new }
 {
     let mut out = outcomes(alloc, object, config, other, meter)?;
-    while let Some(first) = out.pop() {
-        if let Some(second) = outcome(alloc, object, &first.0, operation, reply, meter)? {
-            return Ok(Some((first, second)));
-        }
+    let Some(first) = out.pop() else {
+        return Ok(None);
+    };
+    match outcome(alloc, object, &first.0, operation, reply, meter)? {
+        Some(second) => Ok(Some((first, second))),
+        None => Ok(None),
     }
-    Ok(None)
 }

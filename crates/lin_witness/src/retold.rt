@@ -1,19 +1,21 @@
-//! How a search says an order of a queue, ordered or not, or of a lock may go on. It takes events of an object that begins empty, or free, so
-//! what waits is put in first, and a lock that is held is acquired. Nothing is promised of what it says.
+//! How a search says an order of a queue, ordered or not, may go on. It takes events of a queue that begins empty, so what waits is put in
+//! first. Nothing is promised of what it says.
+ghost use Rattle.std.specs.Prelude.{◌≡◌, ◌≤◌, length};
+ghost use Rattle.lin_events.specs.Meters.{ticked};
+
 use crate::opened::Opened;
-use lin_events::{Body, Call, Event, Item, Name, OutOfMemory, Reply};
+use lin_events::{Body, Call, Event, Item, Meter, Name, OutOfMemory, Reply};
 use lin_frontier::{Config, Open, is_absent};
-use lin_locks::lock_order;
 use lin_objects::State;
 use lin_orders::Placed;
 use lin_search::{bag_order, queue_order};
 use std::alloc::Global;
 
-/// Events of an object that begins empty, or free, for a search to go through: they come to where the object stands, and go on as it does.
+/// Events of a queue that begins empty, for a search to go through: they come to where the queue stands, and go on as it does.
 #[derive(Drop)]
 struct Retold {
     events: Vec<Event>,
-    /// Where each of them stands among the object's events; none, where it doesn't.
+    /// Where each of them stands among the queue's events; none, where it doesn't.
     places: Vec<Option<usize>>,
 }
 
@@ -36,8 +38,12 @@ impl Retold {
         Ok(())
     }
 
-    /// The items were put in, one after the other.
-    fn put_in(&mut self, items: &[Item]) -> Result<(), OutOfMemory> {
+    /// The items were put in, one after the other. A try is counted for each.
+    fn put_in(&mut self, items: &[Item], meter: &mut Meter) -> Result<(), OutOfMemory>
+        ensures counted { meter.new ≡ record meter.old { tries = ticked meter.old.tries (length items.now) } }
+        ensures risen { meter.old.tries ≤ meter.new.tries }
+    {
+        tick_tries(meter, items.len());
         for item in items {
             self.add(0, Body::Invoke(Call::Enqueue(*item)), None)?;
             self.add(0, Body::Ok(Name::Enqueue, Reply::Done), None)?;
@@ -45,17 +51,17 @@ impl Retold {
         Ok(())
     }
 
-    /// The lock was acquired, if it is held.
-    fn acquire(&mut self, held: bool) -> Result<(), OutOfMemory> {
-        if held {
-            self.add(0, Body::Invoke(Call::Acquire), None)?;
-            self.add(0, Body::Ok(Name::Acquire, Reply::Done), None)?;
-        }
-        Ok(())
-    }
-
-    /// Those of the operations are open that the configuration doesn't place.
-    fn open(&mut self, config: &Config<State>, operations: &[Open]) -> Result<(), OutOfMemory> {
+    /// Those of the operations are open that the configuration doesn't place. A try is counted for each of the operations.
+    fn open(
+        &mut self,
+        config: &Config<State>,
+        operations: &[Open],
+        meter: &mut Meter,
+    ) -> Result<(), OutOfMemory>
+        ensures counted { meter.new ≡ record meter.old { tries = ticked meter.old.tries (length operations.now) } }
+        ensures risen { meter.old.tries ≤ meter.new.tries }
+    {
+        tick_tries(meter, operations.len());
         for operation in operations {
             if is_absent(config.placed(), operation.process) {
                 let call = Body::Invoke(operation.call);
@@ -66,14 +72,19 @@ impl Retold {
     }
 
     /// The rest of the events follows, which begins at the place, without the completions of operations that are placed. Whether these
-    /// returned as they were placed.
+    /// returned as they were placed. A try is counted for each of the events.
     fn follow(
         &mut self,
         alloc: Global,
         config: &Config<State>,
         rest: &[Event],
         of: usize,
-    ) -> Result<bool, OutOfMemory> {
+        meter: &mut Meter,
+    ) -> Result<bool, OutOfMemory>
+        ensures counted { meter.new ≡ record meter.old { tries = ticked meter.old.tries (length rest.now) } }
+        ensures risen { meter.old.tries ≤ meter.new.tries }
+    {
+        tick_tries(meter, rest.len());
         let mut ended: Vec<u64> = Vec::new(alloc);
         for (at, event) in rest.iter().enumerate() {
             let Some(reply) = held_by(config.placed(), &ended, event.process) else {
@@ -132,17 +143,25 @@ fn first_of(items: &[Item], count: usize) -> &[Item] {
     &items[..count.min(items.len())]
 }
 
-/// Events that come to the state, if it is one of a queue, ordered or not, or of a lock. Of what waits in an ordered queue no more is told than
-/// this many items.
-fn retold_to(alloc: Global, state: &State, most: usize) -> Result<Option<Retold>, OutOfMemory> {
-    let mut retold = Retold::new(alloc);
-    match state {
-        State::Queue(queue) => retold.put_in(first_of(queue.as_slice(), most))?,
-        State::Bag(bag) => retold.put_in(bag.as_slice())?,
-        State::Held(held) => retold.acquire(*held)?,
-        State::Value(_) | State::Members(_) => return Ok(None),
+/// So many things more were retold, or gone through.
+fn tick_tries(meter: &mut Meter, count: usize)
+    ensures counted { meter.new ≡ record meter.old { tries = ticked meter.old.tries count } }
+    ensures risen { meter.old.tries ≤ meter.new.tries }
+{
+    let before = meter.tries();
+    for _ in 0..count {
+        meter.tick_try();
     }
-    Ok(Some(retold))
+    prove!(before <= meter.tries());
+}
+
+/// What waits in the state, if it is one of a queue, ordered or not: of an ordered one no more than this many items.
+fn waiting_in(state: &State, most: usize) -> Option<&[Item]> {
+    match state {
+        State::Queue(queue) => Some(first_of(queue.as_slice(), most)),
+        State::Bag(bag) => Some(bag.as_slice()),
+        State::Value(_) | State::Members(_) | State::Held(_) => None,
+    }
 }
 
 /// An order of events that come to the state, and go on from it, if a search finds one.
@@ -154,27 +173,33 @@ fn order_of(
     match state {
         State::Queue(_) => queue_order(alloc, events),
         State::Bag(_) => bag_order(alloc, events),
-        State::Held(_) => lock_order(alloc, events),
-        State::Value(_) | State::Members(_) => Ok(None),
+        State::Value(_) | State::Members(_) | State::Held(_) => Ok(None),
     }
 }
 
 /// What may be placed next, the first one last, over the rest of the events, which begins at the place: if the configuration is one of a
-/// queue, ordered or not, or of a lock, and a search finds it. Of what waits in an ordered queue no more is told than can be taken out.
+/// queue, ordered or not, and a search finds it. Of what waits in an ordered queue no more is told than can be taken out. A try is counted
+/// for each item that waits, for each open operation, and for each of the events.
 pub(crate) fn retold_hint(
     alloc: Global,
     config: &Config<State>,
     opened: &Opened,
     rest: &[Event],
     of: usize,
-) -> Result<Option<Vec<Placed>>, OutOfMemory> {
+    meter: &mut Meter,
+) -> Result<Option<Vec<Placed>>, OutOfMemory>
+    ensures tries { meter.old.tries ≤ meter.new.tries }
+    ensures others { meter.new ≡ record meter.old { tries = meter.new.tries } }
+{
     let most = rest.len().saturating_add(opened.len());
-    let Some(mut retold) = retold_to(alloc, config.state(), most)? else {
+    let Some(items) = waiting_in(config.state(), most) else {
         return Ok(None);
     };
-    retold.open(config, &opened.crashed)?;
-    retold.open(config, &opened.live)?;
-    if !retold.follow(alloc, config, rest, of)? {
+    let mut retold = Retold::new(alloc);
+    retold.put_in(items, meter)?;
+    retold.open(config, &opened.crashed, meter)?;
+    retold.open(config, &opened.live, meter)?;
+    if !retold.follow(alloc, config, rest, of, meter)? {
         return Ok(None);
     }
     match order_of(alloc, config.state(), &retold.events)? {

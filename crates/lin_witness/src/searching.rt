@@ -1,4 +1,4 @@
-//! How a search says an order of a register, of a queue, ordered or not, or of a lock may go on: nothing is promised of it.
+//! How a search says an order of a register, or of a queue, ordered or not, may go on: nothing is promised of it.
 ghost use Rattle.std.specs.Prelude.{◌≡◌, ◌≤◌, ◌<◌, ◌+◌, ◌-◌, OnOk, length};
 ghost use Rattle.lin_events.specs.Meters.{ticked};
 
@@ -12,7 +12,7 @@ use lin_registers::{Waiting, register_order_from};
 use std::alloc::Global;
 
 /// What may be placed next, the first one last, over the object's events from the place on: if the configuration is one of a register, of a
-/// queue, ordered or not, or of a lock, and a search finds it. Each of these events is a step.
+/// queue, ordered or not, and a search finds it. Each of these events is a step.
 pub(crate) fn suggested(
     alloc: Global,
     config: &Config<State>,
@@ -30,10 +30,8 @@ pub(crate) fn suggested(
     let rest = rest_of(alloc, events, picks, of, meter)?;
     match config.state() {
         State::Value(held) => register_hint(alloc, *held, config, opened, &rest, of, meter),
-        State::Queue(_) | State::Bag(_) | State::Held(_) => {
-            retold_hint(alloc, config, opened, &rest, of)
-        }
-        State::Members(_) => Ok(None),
+        State::Queue(_) | State::Bag(_) => retold_hint(alloc, config, opened, &rest, of, meter),
+        State::Members(_) | State::Held(_) => Ok(None),
     }
 }
 

@@ -1,5 +1,15 @@
 //! A legal order of an object's events, kept while the events are edited.
-ghost use Rattle.std.specs.Prelude.{◌≡◌, ◌≢◌, ◌≤◌, ◌<◌, ◌+◌, ◌-◌, ◌*◌, ◌/◌, ◌⊎◌, [], ℕ, Bool, List, All, Contains, Ok, OnOk, OnErr, true, false, length, take, min};
+//!
+//! The order goes on event by event, and with it go the object's state and the open operations that are placed: one configuration, where a
+//! frontier has all. An invocation, and an info, leave the order as it is. An ok needs its operation placed with its reply: it stands there,
+//! or is put last, behind those that were suggested ahead of it, or behind one other that is open. A fail needs its operation not placed.
+//! Where no such order is legal, it doesn't go on, though another one may be legal: it never says that there is none.
+//!
+//! A legal order of n events holds one of its first p events, for each p up to n: its shortest beginning that has all operations which
+//! returned among these. So the length that the order has at each 64th event is kept, with the state and the open operations: a checkpoint.
+//! An edit goes back to the one at or before its place. What stood behind it is only suggested from then on, as a search over the events
+//! that follow may suggest: each operation is placed by a step of the object, taken anew.
+ghost use Rattle.std.specs.Prelude.{◌≡◌, ◌≢◌, ◌≤◌, ◌<◌, ◌+◌, ◌-◌, ◌*◌, ◌/◌, ◌⊎◌, [], ℕ, Bool, List, All, Contains, IfSome, Ok, OnOk, OnErr, true, false, length, take, min};
 ghost use Rattle.lin_events.specs.declared.items.Item.{Item as ItemOf};
 ghost use Rattle.lin_events.specs.declared.calls.Name.{Name as NameOf};
 ghost use Rattle.lin_events.specs.declared.calls.Reply.{Reply as ReplyOf};
@@ -14,6 +24,7 @@ ghost use Rattle.lin_orders.specs.Linearizable.{IsLegalOrderAs};
 ghost use Rattle.lin_orders.specs.Parts.{events_at};
 ghost use Rattle.lin_frontier.specs.declared.pending.Open.{Open as OpenOf};
 ghost use Rattle.lin_frontier.specs.Placing.{IsAbsent, PlacesOne};
+ghost use Rattle.lin_frontier.specs.Walks.{IsTriedAtMost};
 ghost use Rattle.lin_witness.specs.Witnesses.{IsLonger, IsPassed, IsWitness, listed, order_in};
 
 use crate::opened::Opened;
@@ -123,6 +134,7 @@ impl Witness {
         ensures object { self.new.object ≡ self.old.object }
         ensures same { self.old.of ≤ place → self.new ≡ self.old }
         ensures back { place < self.old.of → self.new.of ≤ place }
+        ensures near { place < self.old.of → place / 64 * 64 ≤ self.new.of }
         ensures fewer { self.new.of ≤ self.old.of }
         ensures right { (h edited : List EventOf) → IsWitness self.old h → take place h ≡ take place edited → IsWitness self.new edited }
     {
@@ -139,37 +151,42 @@ impl Witness {
         }
     }
 
-    /// Goes on over the object's events, which stand at the picks, as far as it comes. Each event is a step, and each call that is tried in a
-    /// state a try.
-    ///
-    /// Where nothing is suggested, and more than one event follows, a search may be asked first how the order of a register goes on: it knows
-    /// these ahead. It takes a step for each of them too.
-    pub fn go_on(
+    /// Of how many events it is an order once those from the place on are cut.
+    fn left_at(&self, place: usize) -> usize
+        ensures same { self.now.of ≤ place → result ≡ self.now.of }
+        ensures back { place < self.now.of → result ≡ place / 64 * 64 }
+        ensures fewer { result ≤ self.now.of }
+    {
+        if place < self.of {
+            return place / SPACING * SPACING;
+        }
+        self.of
+    }
+
+    /// What stood behind the order is suggested next. Where that is nothing, and more than one of the object's events follows, which stand at
+    /// the picks, a search may be asked how the order of a register or a queue goes on: it knows these ahead. It takes a step for each.
+    pub fn suggest(
         &mut self,
         events: &[Event],
         picks: &[usize],
         ask: bool,
         meter: &mut Meter,
     ) -> Result<(), OutOfMemory>
-        requires right { IsWitness self.old (events_at events.now picks.now) }
-        requires inside { All (λ at. at < length events.now) picks.now }
-        requires well_formed { (functions : ItemOf → NameOf → Bool) × IsWellFormed functions (events_at events.now picks.now) }
         ensures object { self.new.object ≡ self.old.object }
-        ensures right { IsWitness self.new (events_at events.now picks.now) }
-        ensures more { self.old.of ≤ self.new.of }
-        ensures counted { ticked meter.old.steps (self.new.of - self.old.of) ≤ meter.new.steps }
-        ensures steps { meter.new.steps ≤ meter.old.steps + 2 * (length picks.now - self.old.of) }
-        ensures once { ask ≡ false → meter.new.steps ≤ meter.old.steps + (length picks.now - self.old.of) }
+        ensures of { self.new.of ≡ self.old.of }
+        ensures right { (h : List EventOf) → IsWitness self.old h → IsWitness self.new h }
+        ensures idle { ask ≡ false → meter.new ≡ meter.old }
+        ensures least { meter.old.steps ≤ meter.new.steps }
+        ensures steps { meter.new.steps ≤ meter.old.steps + (length picks.now - self.old.of) }
         ensures scans { meter.new.scans ≡ meter.old.scans }
     {
         self.suggest_rest()?;
-        self.suggest_anew(events, picks, ask, meter)?;
-        self.go_through(events, picks, meter)
+        self.suggest_anew(events, picks, ask, meter)
     }
 
-    /// Goes on over all of the object's events, which stand at the picks, if it can. Where that fails as the order suggests that was cut, it
-    /// goes back to checkpoints shortly before, and a search is asked how it goes on from there. Each event that is looked at is a step, and
-    /// so is each that the search looks at; on the whole they are no more than there are events.
+    /// Where it couldn't go on over the object's events, which stand at the picks, a search is asked how it goes on from the last
+    /// checkpoint, and from others shortly before, until it is at their end. Each event that it takes in is a step, and so is each that the search looks at;
+    /// on the whole they are no more than there are events. It may end before the place where it was, not far.
     pub fn mend(
         &mut self,
         events: &[Event],
@@ -181,21 +198,22 @@ impl Witness {
         requires well_formed { (functions : ItemOf → NameOf → Bool) × IsWellFormed functions (events_at events.now picks.now) }
         ensures object { self.new.object ≡ self.old.object }
         ensures right { IsWitness self.new (events_at events.now picks.now) }
+        ensures far { self.old.of ≤ self.new.of + 1087 }
+        ensures least { meter.old.steps ≤ meter.new.steps }
         ensures steps { meter.new.steps ≤ meter.old.steps + length picks.now }
         ensures scans { meter.new.scans ≡ meter.old.scans }
     {
         let start = self.of;
         let most = start / 4;
         let (short, long, far) = BACK;
-        self.go_on(events, picks, false, meter)?;
-        self.retry(start, most, events, picks, meter)?;
+        self.retry(start.saturating_sub(1), most, events, picks, meter)?;
         self.retry(start.saturating_sub(short), most, events, picks, meter)?;
         self.retry(start.saturating_sub(long), most, events, picks, meter)?;
         self.retry(start.saturating_sub(far), most, events, picks, meter)
     }
 
     /// Where it isn't at the end, it goes back to the checkpoint at or before the place, and goes on as a search says, if that takes no
-    /// more than so many steps.
+    /// more than so many steps. Else it stays.
     fn retry(
         &mut self,
         place: usize,
@@ -209,17 +227,16 @@ impl Witness {
         requires well_formed { (functions : ItemOf → NameOf → Bool) × IsWellFormed functions (events_at events.now picks.now) }
         ensures object { self.new.object ≡ self.old.object }
         ensures right { IsWitness self.new (events_at events.now picks.now) }
+        ensures near { min self.old.of (place - 63) ≤ self.new.of }
+        ensures least { meter.old.steps ≤ meter.new.steps }
         ensures steps { meter.new.steps ≤ meter.old.steps + most }
         ensures scans { meter.new.scans ≡ meter.old.scans }
     {
-        if picks.len() <= self.of {
+        if picks.len() <= self.of || most / 2 < picks.len() - self.left_at(place) {
             return Ok(());
         }
         self.cut(place);
         self.suggest_rest()?;
-        if most / 2 < picks.len() - self.of {
-            return Ok(());
-        }
         self.suggest_found(events, picks, meter)?;
         self.go_through(events, picks, meter)
     }
@@ -238,12 +255,12 @@ impl Witness {
         ensures right { IsWitness self.new (events_at events.now picks.now) }
         ensures more { self.old.of ≤ self.new.of }
         ensures counted { ticked meter.old.steps (self.new.of - self.old.of) ≤ meter.new.steps }
+        ensures least { meter.old.steps ≤ meter.new.steps }
         ensures steps { meter.new.steps ≤ meter.old.steps + (length picks.now - self.old.of) }
         ensures scans { meter.new.scans ≡ meter.old.scans }
     {
         while self.of < picks.len() {
             let event = &events[picks[self.of]];
-            tick(meter);
             if !self.take_in(event, meter)? {
                 return Ok(());
             }
@@ -310,16 +327,20 @@ impl Witness {
         Ok(())
     }
 
-    /// Takes one more event in. Whether it goes on with it.
-    fn take_in(&mut self, event: &Event, meter: &mut Meter) -> Result<bool, OutOfMemory>
+    /// Takes one more event in, which is a step. Whether it goes on with it. Each call that is tried in a state is a try: those suggested
+    /// ahead of the operation that returns, this itself, and two for each that may stand before it.
+    pub fn take_in(&mut self, event: &Event, meter: &mut Meter) -> Result<bool, OutOfMemory>
         requires fits { self.old.of < usize.MAX }
         ensures object { self.new.object ≡ self.old.object }
         ensures next { result ≡ Ok true → self.new.of ≡ self.old.of + 1 }
         ensures stays { result ≢ Ok true → self.new.of ≡ self.old.of }
         ensures right { (functions : ItemOf → NameOf → Bool) (h : List EventOf) → IsWellFormed functions h → IsEvent h self.old.of event.now → IsWitness self.old h → IsWitness self.new h }
-        ensures steps { meter.new.steps ≡ meter.old.steps }
+        ensures counted { meter.new.steps ≡ ticked meter.old.steps 1 }
+        ensures least { meter.old.steps ≤ meter.new.steps }
         ensures scans { meter.new.scans ≡ meter.old.scans }
+        ensures tries { meter.new.tries ≤ meter.old.tries + (3 * length (listed self.old.opened) + 1) }
     {
+        tick(meter);
         if !self.mark()? {
             return Ok(false);
         }
@@ -442,8 +463,7 @@ impl Witness {
     ) -> Result<bool, OutOfMemory>
         ensures longer { IsLonger self.old self.new }
         ensures placed { result ≡ Ok true → Contains self.new.config.1 (process, reply.now) }
-        ensures steps { meter.new.steps ≡ meter.old.steps }
-        ensures scans { meter.new.scans ≡ meter.old.scans }
+        ensures tried { IsTriedAtMost (3 * length (listed self.old.opened) + 1) meter.old meter.new }
     {
         if is_placed(self.config.placed(), process, reply) {
             return Ok(true);
@@ -455,12 +475,12 @@ impl Witness {
         if self.place_somehow(&operation, reply, meter)? {
             return Ok(true);
         }
-        self.suggest(suggested)?;
+        self.suggest_again(suggested)?;
         Ok(false)
     }
 
     /// What is given is suggested next, if it is something.
-    fn suggest(&mut self, suggested: Option<Placed>) -> Result<(), OutOfMemory>
+    fn suggest_again(&mut self, suggested: Option<Placed>) -> Result<(), OutOfMemory>
         ensures { IsLonger self.old self.new }
     {
         if let Some(placed) = suggested {
@@ -479,8 +499,7 @@ impl Witness {
         requires listed { Contains (listed self.old.opened) operation.now }
         ensures longer { IsLonger self.old self.new }
         ensures placed { result ≡ Ok true → Contains self.new.config.1 (operation.now.process, reply.now) }
-        ensures steps { meter.new.steps ≡ meter.old.steps }
-        ensures scans { meter.new.scans ≡ meter.old.scans }
+        ensures tried { IsTriedAtMost (2 * length (listed self.old.opened) + 1) meter.old meter.new }
     {
         if self.place(operation, reply, meter)? {
             return Ok(true);
@@ -491,8 +510,7 @@ impl Witness {
     /// Places what is suggested ahead of the operation. What is suggested for itself is told, and suggested no more.
     fn follow(&mut self, at: usize, meter: &mut Meter) -> Result<Option<Placed>, OutOfMemory>
         ensures longer { IsLonger self.old self.new }
-        ensures steps { meter.new.steps ≡ meter.old.steps }
-        ensures scans { meter.new.scans ≡ meter.old.scans }
+        ensures tried { IsTriedAtMost (length (listed self.old.opened)) meter.old meter.new }
     {
         let Some(ahead) = self.suggested_ahead(at) else {
             return Ok(None);
@@ -504,7 +522,9 @@ impl Witness {
     }
 
     /// How many operations are suggested ahead of this one, if it is suggested behind no more than are open.
-    fn suggested_ahead(&self, at: usize) -> Option<usize> {
+    fn suggested_ahead(&self, at: usize) -> Option<usize>
+        ensures { IfSome result (λ ahead. ahead < length (listed self.now.opened)) }
+    {
         let most = self.opened.len();
         let count = self.hint.len();
         for ahead in 0..count.min(most) {
@@ -518,8 +538,7 @@ impl Witness {
     /// Places the operation that is suggested next, if it is open and the object gives the reply.
     fn place_suggested(&mut self, meter: &mut Meter) -> Result<(), OutOfMemory>
         ensures longer { IsLonger self.old self.new }
-        ensures steps { meter.new.steps ≡ meter.old.steps }
-        ensures scans { meter.new.scans ≡ meter.old.scans }
+        ensures tried { IsTriedAtMost 1 meter.old meter.new }
     {
         let Some(suggested) = self.hint.pop() else {
             return Ok(());
@@ -541,8 +560,7 @@ impl Witness {
         requires listed { Contains (listed self.old.opened) operation.now }
         ensures longer { IsLonger self.old self.new }
         ensures placed { result ≡ Ok true → Contains self.new.config.1 (operation.now.process, reply.now) }
-        ensures steps { meter.new.steps ≡ meter.old.steps }
-        ensures scans { meter.new.scans ≡ meter.old.scans }
+        ensures tried { IsTriedAtMost 1 meter.old meter.new }
     {
         match outcome(
             self.alloc,
@@ -570,8 +588,7 @@ impl Witness {
         requires listed { Contains (listed self.old.opened) operation.now }
         ensures longer { IsLonger self.old self.new }
         ensures placed { result ≡ Ok true → Contains self.new.config.1 (operation.now.process, reply.now) }
-        ensures steps { meter.new.steps ≡ meter.old.steps }
-        ensures scans { meter.new.scans ≡ meter.old.scans }
+        ensures tried { IsTriedAtMost (2 * length (listed self.old.opened)) meter.old meter.new }
     {
         for number in 0..self.opened.len() {
             if self.place_behind(number, operation, reply, meter)? {
@@ -592,8 +609,7 @@ impl Witness {
         requires listed { Contains (listed self.old.opened) operation.now }
         ensures longer { IsLonger self.old self.new }
         ensures placed { result ≡ Ok true → Contains self.new.config.1 (operation.now.process, reply.now) }
-        ensures steps { meter.new.steps ≡ meter.old.steps }
-        ensures scans { meter.new.scans ≡ meter.old.scans }
+        ensures tried { IsTriedAtMost 2 meter.old meter.new }
     {
         let Some(other) = self.opened.get(number) else {
             return Ok(false);

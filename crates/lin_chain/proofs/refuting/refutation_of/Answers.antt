@@ -13,7 +13,7 @@ use Rattle.lin_chain.proofs.refuting.refutation_of.Goals as goal
 use Rattle.lin_chain.proofs.refuting.refutation_of.Goals.{In_ok-take_in}
 
 pub loop-at-init : goal.loop-at-init
-loop-at-init c = (c.in_ok-builder.ensures.kind, c.in_ok-builder.ensures.built _)
+loop-at-init c = (c.in_ok-builder.ensures.kind, c.in_ok-builder.ensures.built _, omega arith, refl)
 
 there : (c : In_ok-take_in) → IsEvent (events_at c.args.events.now c.args.picks.now) c.loop-at.at c.index-events-picks.result
 there c = event_there c.args.events.now c.args.picks.now c.loop-at.at c.index-events-picks.result c.requires.inside (let below = c.loop-at-test.true in let place = c.requires.place in omega arith) c.index-events-picks.is
@@ -40,6 +40,8 @@ loop-at-preserved c =
     let h = events_at c.args.events.now c.args.picks.now in (
       c.take_in.ensures.kind ∙ c.loop-at.invariant.0,
       c.in_ok-take_in.ensures.next (ap Ok c.in-Next.is) c.requires.well_formed.0 h c.requires.well_formed.1 (there (goal.at.loop-at-preserved c).In_ok-take_in) c.loop-at.invariant.1,
+      omega (arith, c.loop-at.invariant.2, c.take_in.ensures.steps),
+      c.take_in.ensures.scans ∙ c.loop-at.invariant.3,
     )
 
 pub returns-clause-refuted : goal.returns-clause-refuted

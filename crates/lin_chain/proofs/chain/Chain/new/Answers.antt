@@ -1,6 +1,13 @@
-use Rattle.lin_chain.specs.declared.found.Found.TheVariants.{Nothing}
-use Rattle.lin_chain.proofs.Chaining.{right_alive}
+use Rattle.std.proofs.Common.{◌≡◌, ◌∙◌, sym, subst, arith}
+use Rattle.lin_engines.specs.Replays.{IsReplay}
+use Rattle.lin_chain.proofs.Chaining.{on_not_over}
 use Rattle.lin_chain.proofs.chain.Chain.new.Goals as goal
 
 pub returns-clause-right : goal.returns-clause-right
-returns-clause-right c = λ h. right_alive c.new.result 0 0 Nothing h c.new.ensures.reached (c.new.ensures.right h) tt
+returns-clause-right c = λ h. record {
+  frontier = c.new-2.ensures.right h (c.new.ensures.right h);
+  spared = λ exact at over. absurd (on_not_over c.new-2.result.said at c.new-2.ensures.on over);
+  beside = tt;
+  found = tt;
+  searched = omega arith;
+}

@@ -9,7 +9,7 @@ use Rattle.lin_frontier.specs.Frontiers.{IsFrontier, IsNextEvent, IsPending}
 use Rattle.lin_orders.specs.Configurations.{IsOver}
 use Rattle.lin_chain.specs.Exact.{IsExact}
 use Rattle.lin_orders.specs.Linearizable.{IsLinearizableAs}
-use Rattle.lin_chain.proofs.Replaying.{next_event, event_taken}
+use Rattle.lin_engines.specs.lemmas.Events.{event_taken, next_event}
 use Rattle.lin_chain.proofs.exact.Exact.take_in.Goals as goal
 use Rattle.lin_chain.proofs.exact.Exact.take_in.Goals.{In_ok-step}
 

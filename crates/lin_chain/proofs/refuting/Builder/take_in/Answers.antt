@@ -24,5 +24,6 @@ returns-in_default c = record {
   next = λ is. absurd (c.in_default.not-Next (ok_same refl refl is));
   empty = λ is functions h well there built. c.in_ok-taken.ensures.empty is functions h well there built.exact;
   over = λ is functions h well there built. c.in_ok-taken.ensures.over is functions h well there built.exact;
-  before = λ is. c.in_ok-taken.ensures.before is;
+  steps = c.in_ok-taken.ensures.steps;
+  scans = c.in_ok-taken.ensures.scans;
 }

@@ -1,6 +1,5 @@
-use Rattle.std.proofs.Common.{◌≡◌, ◌≤◌, ◌+◌, ◌-◌, ◌^◌, suc, min, ◌∙◌, refl, sym, subst, ap, arith}
+use Rattle.std.proofs.Common.{◌≡◌, ◌≤◌, ◌+◌, ◌-◌, ◌^◌, suc, min, ◌∙◌, refl, sym, subst, arith}
 use Rattle.lin_events.specs.Meters.{ticked}
-use Rattle.lin_events.specs.declared.meter.Meter.{Meter}
 use Rattle.lin_orders.specs.Parts.{events_at}
 use Rattle.lin_witness.specs.Witnesses.{IsWitness}
 use Rattle.lin_witness.specs.lemmas.Picks.{event_there, length-events_at}
@@ -25,17 +24,17 @@ pub loop-self-preserved : goal.loop-self-preserved
 loop-self-preserved c =
     let was = c.loop-self.invariant in
     let next = c.in_ok-take_in.ensures.next (ok_true c.in_ok-take_in.field-0 c.if-not-branch.false) in
-    let one = ap (λ (m : Meter). m.steps) c.tick.ensures.counted in
     record {
       object = c.take_in.ensures.object ∙ was.object;
       right = taken (goal.at.loop-self-preserved c).After-take_in;
       more = omega (arith, was.more, next);
       counted =
           let more : c.take_in.new.self.of - c.args.self.now.of ≡ suc (c.loop-self.self.of - c.args.self.now.of) = omega (arith, was.more, next) in
-          let most : min (ticked c.args.meter.now.steps (c.loop-self.self.of - c.args.self.now.of) + 1) (2 ^ 64 - 1) ≤ c.take_in.new.meter.steps = omega (arith, was.counted, c.take_in.ensures.steps, one) in
+          let most : min (ticked c.args.meter.now.steps (c.loop-self.self.of - c.args.self.now.of) + 1) (2 ^ 64 - 1) ≤ c.take_in.new.meter.steps = omega (arith, was.counted, c.take_in.ensures.counted) in
           subst (λ k. ticked c.args.meter.now.steps k ≤ c.take_in.new.meter.steps) (sym more) most;
-      steps = omega (arith, was.steps, next, c.take_in.ensures.steps, one);
-      scans = c.take_in.ensures.scans ∙ ap (λ (m : Meter). m.scans) c.tick.ensures.counted ∙ was.scans;
+      least = omega (arith, was.least, c.take_in.ensures.least);
+      steps = omega (arith, was.steps, next, c.take_in.ensures.counted);
+      scans = c.take_in.ensures.scans ∙ was.scans;
     }
 
 pub returns-clause-steps : goal.returns-clause-steps
@@ -53,6 +52,7 @@ loop-self-init c =
       right = c.requires.right;
       more = omega arith;
       counted = subst (λ k. ticked c.args.meter.now.steps k ≤ c.args.meter.now.steps) (sym none) (omega arith);
+      least = omega arith;
       steps = omega arith;
       scans = refl;
     }
@@ -61,8 +61,7 @@ loop-self-init c =
 ended : (c : After-take_in) → c.take_in.new.self.of ≡ c.loop-self.self.of → ticked c.args.meter.now.steps (c.take_in.new.self.of - c.args.self.now.of) ≤ c.take_in.new.meter.steps
 ended c stays =
     let was = c.loop-self.invariant in
-    let one = ap (λ (m : Meter). m.steps) c.tick.ensures.counted in
-    let most : ticked c.args.meter.now.steps (c.loop-self.self.of - c.args.self.now.of) ≤ c.take_in.new.meter.steps = omega (arith, was.counted, c.take_in.ensures.steps, one, c.tick.ensures.least) in
+    let most : ticked c.args.meter.now.steps (c.loop-self.self.of - c.args.self.now.of) ≤ c.take_in.new.meter.steps = omega (arith, was.counted, c.take_in.ensures.least) in
     subst (λ n. ticked c.args.meter.now.steps (n - c.args.self.now.of) ≤ c.take_in.new.meter.steps) (sym stays) most
 
 pub returns-in_err-take_in-clause-counted : goal.returns-in_err-take_in-clause-counted

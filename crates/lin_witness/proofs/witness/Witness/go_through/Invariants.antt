@@ -10,6 +10,7 @@ invariant-loop-self l = record {
   right : IsWitness l.self (events_at l.events l.picks);
   more : l.fn.self.of ≤ l.self.of;
   counted : ticked l.fn.meter.steps (l.self.of - l.fn.self.of) ≤ l.meter.steps;
+  least : l.fn.meter.steps ≤ l.meter.steps;
   steps : l.meter.steps + l.fn.self.of ≤ l.fn.meter.steps + l.self.of;
   scans : l.meter.scans ≡ l.fn.meter.scans;
 }

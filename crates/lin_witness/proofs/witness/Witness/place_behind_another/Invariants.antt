@@ -1,10 +1,10 @@
-use Rattle.std.proofs.Common.{◌≡◌}
+use Rattle.std.proofs.Common.{◌*◌}
+use Rattle.lin_frontier.specs.Walks.{IsTriedAtMost}
 use Rattle.lin_witness.specs.Witnesses.{IsLonger}
 use Rattle.lin_witness.proofs.witness.Witness.place_behind_another.Given as goal
 
 abbrev pub invariant-loop-number : goal.invariant-loop-number
 invariant-loop-number l = record {
   longer : IsLonger l.initial.self l.self;
-  steps : l.meter.steps ≡ l.initial.meter.steps;
-  scans : l.meter.scans ≡ l.initial.meter.scans;
+  tried : IsTriedAtMost (2 * l.number) l.initial.meter l.meter;
 }

@@ -1,0 +1,11 @@
+use Rattle.std.proofs.Common.{◌≤◌, length, arith}
+use Rattle.lin_orders.specs.Parts.{events_at}
+use Rattle.lin_witness.specs.lemmas.Picks.{length-events_at}
+use Rattle.lin_chain.proofs.Chaining.{kept_searched, kept_with_others}
+use Rattle.lin_chain.proofs.chain.Chain.search.Goals as goal
+
+pub returns-clause-kept : goal.returns-clause-kept
+returns-clause-kept c =
+    let h = events_at c.args.events.now c.args.picks.now in
+    let long = length-events_at c.args.events.now c.args.picks.now c.requires.inside in
+    kept_searched c.args.budget h c.args.self.now c.look.new.self (length c.args.picks.now) (omega (arith, long)) (kept_with_others c.args.budget h c.args.self.now c.look.new.self c.look.ensures.others c.look.ensures.right c.requires.retried c.look.ensures.mark)

@@ -1,0 +1,4 @@
+pub mod Replaying
+pub mod Lanes
+pub mod Cutting
+pub mod Exacts

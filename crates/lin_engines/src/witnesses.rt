@@ -1,0 +1,123 @@
+//! A witness as an engine: a legal order that goes on with each event, or gives up.
+ghost use Rattle.std.specs.Prelude.{◌≡◌, ◌≤◌, ◌<◌, ◌+◌, ◌-◌, ◌*◌, ℕ, Bool, List, All, IfOk, OnOk, Ok, length, take, false};
+ghost use Rattle.lin_events.specs.declared.items.Item.{Item as ItemOf};
+ghost use Rattle.lin_events.specs.declared.calls.Name.{Name as NameOf};
+ghost use Rattle.lin_events.specs.declared.events.Event.{Event as EventOf};
+ghost use Rattle.lin_events.specs.WellFormed.{IsWellFormed};
+ghost use Rattle.lin_orders.specs.Parts.{events_at};
+ghost use Rattle.lin_engines.specs.Witnessing.{IsWitnessLane, kind_of_witness};
+
+use crate::engine::Engine;
+use crate::lane::Lane;
+use crate::says::Says;
+use lin_compressed::Scratch;
+use lin_events::{Event, Meter, OutOfMemory};
+use lin_objects::Any;
+use lin_orders::Placed;
+use lin_witness::Witness;
+use std::alloc::Global;
+
+impl Engine for Witness {
+    ghost use Rattle.lin_witness.specs.Witnesses.{IsWitness};
+    ghost use Rattle.lin_engines.specs.Lanes.{IsOfWitness};
+    ghost use Rattle.lin_engines.specs.Witnessing.{kind_of_witness, reach_of_witness, witness_within};
+
+    ghost sees = { IsWitness };
+
+    ghost kind = { kind_of_witness };
+
+    ghost reach = { reach_of_witness };
+
+    ghost says = { IsOfWitness };
+
+    fn reached(&self) -> usize {
+        self.of()
+    }
+
+    fn take_in(
+        &mut self,
+        event: &Event,
+        _budget: u32,
+        meter: &mut Meter,
+        _scratch: &mut Scratch<Any>,
+    ) -> Result<Says, OutOfMemory> {
+        let goes_on = Witness::take_in(self, event, meter)?;
+        Ok(if goes_on { Says::On } else { Says::Gone })
+    }
+
+    fn cut(&mut self, place: usize) {
+        Witness::cut(self, place);
+    }
+
+    fn order(&self, alloc: Global) -> Result<Vec<Placed>, OutOfMemory> {
+        copied(alloc, Witness::order(self))
+    }
+
+    fn affirm(&self) {
+        let _of = self.of();
+    }
+
+    ghost within = { witness_within };
+
+    ghost begins = { tt };
+}
+
+/// How a witness may go on is suggested to it: as its order stood before it was cut, and else, if that may be asked, as a search says.
+pub fn suggest(
+    lane: &mut Lane<Witness>,
+    events: &[Event],
+    picks: &[usize],
+    ask: bool,
+    meter: &mut Meter,
+) -> Result<(), OutOfMemory>
+    requires right { IsWitnessLane lane.old (events_at events.now picks.now) }
+    requires inside { All (λ at. at < length events.now) picks.now }
+    requires well_formed { (functions : ItemOf → NameOf → Bool) × IsWellFormed functions (events_at events.now picks.now) }
+    ensures kind { kind_of_witness lane.new.engine ≡ kind_of_witness lane.old.engine }
+    ensures right { IsWitnessLane lane.new (events_at events.now picks.now) }
+    ensures others { lane.new ≡ record lane.old { engine = lane.new.engine } }
+    ensures steps { meter.new.steps ≤ meter.old.steps + (length picks.now - lane.old.engine.of) }
+    ensures none { ask ≡ false → meter.new.steps ≡ meter.old.steps }
+    ensures scans { meter.new.scans ≡ meter.old.scans }
+{
+    lane.engine.suggest(events, picks, ask, meter)
+}
+
+/// A witness that couldn't go on is mended, if a search says how it goes on from shortly before. Each event that is looked at is a step.
+pub fn mend(
+    lane: &mut Lane<Witness>,
+    events: &[Event],
+    picks: &[usize],
+    meter: &mut Meter,
+) -> Result<(), OutOfMemory>
+    requires gone { lane.old.said ≡ Says.Gone }
+    requires all { lane.old.mark ≡ length picks.now }
+    requires right { IsWitnessLane lane.old (events_at events.now picks.now) }
+    requires inside { All (λ at. at < length events.now) picks.now }
+    requires well_formed { (functions : ItemOf → NameOf → Bool) × IsWellFormed functions (events_at events.now picks.now) }
+    ensures kind { kind_of_witness lane.new.engine ≡ kind_of_witness lane.old.engine }
+    ensures right { IsWitnessLane lane.new (events_at events.now picks.now) }
+    ensures mark { lane.new.mark ≡ lane.old.mark }
+    ensures steps { meter.new.steps ≤ meter.old.steps + length picks.now }
+    ensures scans { meter.new.scans ≡ meter.old.scans }
+{
+    lane.engine.mend(events, picks, meter)?;
+    if lane.engine.of() == picks.len() {
+        lane.said = Says::On;
+    }
+    Ok(())
+}
+
+/// An equal order on its own memory.
+pub fn copied(alloc: Global, order: &[Placed]) -> Result<Vec<Placed>, OutOfMemory>
+    ensures { IfOk result (λ copy. copy.items ≡ order.now) }
+{
+    let mut copy = Vec::with_capacity(alloc, order.len())?;
+    for placed in order {
+        copy.push(Placed {
+            at: placed.at,
+            reply: placed.reply.copy(alloc)?,
+        })?;
+    }
+    Ok(copy)
+}

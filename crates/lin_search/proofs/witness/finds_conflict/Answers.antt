@@ -1,0 +1,27 @@
+use Rattle.std.proofs.Common.{◌≡◌, ◌≤◌, ◌+◌, ◌*◌, List, length, ap, arith, sym, subst, ◌∙◌}
+use Rattle.lin_events.specs.declared.events.Event.{Event}
+use Rattle.lin_events.specs.WellFormed.{IsWellFormed}
+use Rattle.std.proofs.lemmas.Option.{IfSome_then}
+use Rattle.std.proofs.lemmas.Result.{IfOk-weaker}
+use Rattle.lin_orders.specs.Parts.{events_at}
+use Rattle.lin_search.proofs.Ticks.{events_most, then_ticked}
+use Rattle.lin_search.proofs.witness.finds_conflict.Goals as goal
+
+pub returns-clause-counted : goal.returns-clause-counted
+returns-clause-counted c =
+    IfOk-weaker c.refuted.result _ _
+    (λ found checked. IfSome_then found checked (λ at counted. then_ticked c.args.meter.now.steps (length c.args.picks.now) (at + 1) c.picked.new.meter.steps c.refuted.new.meter.steps c.in_ok-own.ensures.counted counted))
+    c.refuted.ensures.counted
+
+pub returns-clause-steps : goal.returns-clause-steps
+returns-clause-steps c =
+    let first : c.picked.new.meter.steps ≤ c.args.meter.now.steps + length c.args.picks.now = c.picked.ensures.steps in
+    let more : c.refuted.new.meter.steps ≤ c.picked.new.meter.steps + length c.as_slice.result.now = c.refuted.ensures.most in
+    let same : length c.as_slice.result.now ≡ length (events_at c.args.events.now c.args.picks.now) = ap length (c.as_slice.ensures.value ∙ c.in_ok-own.ensures.own) in
+    let few = events_most c.args.events.now c.args.picks.now in
+    omega arith
+
+pub returns-clause-refuted : goal.returns-clause-refuted
+returns-clause-refuted c functions formed =
+    let same : c.as_slice.result.now ≡ events_at c.args.events.now c.args.picks.now = c.as_slice.ensures.value ∙ c.in_ok-own.ensures.own in
+    rw same at (c.refuted.ensures.refuted functions (subst (λ (h : List Event). IsWellFormed functions h) (sym same) formed))
