@@ -1,9 +1,10 @@
 -- The object that is listed at a place, while its chain takes events in.
-use Rattle.std.proofs.Common.{None, ◌≡◌, ◌≢◌, ◌<◌, ◌≤◌, ℕ, zero, suc, min, pos, Bool, List, [], ◌∷◌, Some, length, slice_get, get_or, set, inl, inr, refl, sym, ap, subst, ◌∙◌, arith}
-use Rattle.std.proofs.lemmas.List.{length-set}
-use Rattle.std.proofs.lemmas.Option.{slice_get-get_or, slice_get_within, same_Some}
+use Rattle.std.proofs.Common.{◌≡◌, ◌<◌, ◌≤◌, ◌+◌, ◌-◌, ℕ, pos, Bool, List, Some, length, slice_get, get_or, set, inl, inr, refl, sym, ap, subst, ◌∙◌, arith, if◌then◌else◌}
+use Rattle.std.proofs.lemmas.Bool.{cases_lt}
+use Rattle.std.proofs.lemmas.Option.{slice_get-get_or}
 use Rattle.lin_events.specs.declared.items.Item.{Item}
 use Rattle.lin_events.specs.declared.items.Item.TheVariants.{Int}
+use Rattle.lin_events.specs.Items.{item_eq}
 use Rattle.lin_events.specs.declared.calls.Name.{Name}
 use Rattle.lin_events.specs.declared.events.Event.{Event}
 use Rattle.lin_events.specs.WellFormed.{IsWellFormed}
@@ -11,49 +12,31 @@ use Rattle.lin_objects.specs.declared.kinds.Kind.{Kind}
 use Rattle.lin_objects.specs.Kinds.{functions_of}
 use Rattle.lin_orders.specs.Parts.{events_at, part}
 use Rattle.lin_orders.specs.PartLaws.{PartsAreWellFormed, PositionsSpellParts}
-use Rattle.lin_chain.specs.Chains.{end_in, end_under, kind_in, ready_under, IsRight}
+use Rattle.lin_engines.specs.declared.ends.End.{End}
+use Rattle.lin_engines.specs.declared.ends.End.TheVariants.{Alive}
+use Rattle.lin_engines.specs.Exacts.{HasExact}
+use Rattle.lin_chain.specs.Chains.{IsFor, IsKept, IsRight, kind_in, mark_in, told_in}
+use Rattle.lin_chain.specs.Work.{IsSpent, IsSpentAtMost, Mark}
+use Rattle.lin_answers.specs.declared.answers.Scope.TheVariants as scope
 use Rattle.lin_session.specs.declared.kept.Object.{Object}
 use Rattle.lin_session.specs.declared.kept.Objects.{Objects}
-use Rattle.lin_session.specs.inner.Costs.{cost_of, cost_of_all}
-use Rattle.lin_session.specs.Objects.{AreKept, AreRight, IsKnownUnder, IsObject, listed_marks, split_in}
-use Rattle.lin_session.specs.Work.{least, mark_of, stands_for, taken_in}
-use Rattle.lin_session.proofs.Marking.{least_none}
+use Rattle.lin_session.specs.Marks.{AreCarriedOn, AreExact, IsKnown, IsToldOf}
+use Rattle.lin_session.specs.Objects.{AreKept, AreRight, IsObject, listed_known, split_in}
+use Rattle.lin_session.specs.inner.Objects.{marks_in}
+use Rattle.lin_session.specs.Known.{mark_of}
+use Rattle.lin_session.specs.Work.{IsSpentAtMostIn, IsSpentIn, due_in}
 use Rattle.lin_session.proofs.Asking.{IsObject-settled, length_spelled, picks_inside, right_spelled, spelled, well_formed_spelled}
+use Rattle.lin_session.proofs.Carrying.{AreCarriedOn-one, IsSpentAtMostIn-one, IsSpentIn-one, now_is}
 use Rattle.lin_session.proofs.Changes.{AreKept-one}
 use Rattle.lin_session.proofs.Found.{object_within}
-use Rattle.lin_session.proofs.Listed.{mark_set_same}
-use Rattle.lin_lists.specs.lemmas.Taken.{element_at}
-use Rattle.lin_session.proofs.Marking.{IsMarkRight-kept}
-use Rattle.lin_lists.specs.lemmas.Lists.{get_set_cases}
+use Rattle.lin_session.proofs.Listed.{mark_listed, mark_set}
+use Rattle.lin_session.proofs.Telling.{told_none}
+use Rattle.lin_lists.specs.lemmas.Taken.{one_place}
 
 module _ (s : Objects) (i : ℕ) (listed : i < length s.keys.keys) (old : Object) (read : old ≡ get_or s.objects.items i old) where
   -- it stands there
   pub old_at : slice_get s.objects.items i ≡ Some old
   old_at = object_within s.keys.keys s.objects.items i old s.aligned listed read
-
-  -- and no other one does
-  pub one_object : (object : Object) → slice_get s.objects.items i ≡ Some object → old ≡ object
-  one_object object object_at = same_Some old object (sym old_at ∙ object_at)
-
-  -- the others stand as they did
-  pub others_stay : (new : Object) (j : ℕ) (object : Object) → j ≢ i → slice_get (set s.objects.items i new) j ≡ Some object → slice_get s.objects.items j ≡ Some object
-  others_stay new j object other object_at = elim (get_set_cases s.objects.items i new j object object_at) [
-    | inl here ↦ absurd (other here.0)
-    | inr elsewhere ↦ elsewhere.1
-  ]
-
-  -- and a new one stands where it is put
-  pub object_set : (new : Object) → slice_get (set s.objects.items i new) i ≡ Some new
-  object_set new =
-      let within = slice_get_within s.objects.items i old old_at in
-      let now = element_at (set s.objects.items i new) i (omega (arith, within, length-set s.objects.items i new)) in
-      elim (get_set_cases s.objects.items i new i now.0 now.1) [
-        | inl here ↦ now.1 ∙ ap Some (sym here.1)
-        | inr elsewhere ↦ absurd (elsewhere.0 refl)
-      ]
-
-  pub marks_stay : (new : Object) → new.mark ≡ old.mark → (x : Item) → mark_of (listed_marks s.keys.keys (set s.objects.items i new)) x ≡ mark_of (listed_marks s.keys.keys s.objects.items) x
-  marks_stay new mark = mark_set_same s.keys.keys s.objects.items i old new old_at mark
 
   -- its key
   key_there : Item
@@ -83,33 +66,73 @@ module _ (s : Objects) (i : ℕ) (listed : i < length s.keys.keys) (old : Object
     fine_there law fine = (functions_of kinds, well_formed_spelled spell kinds budget h s.split key_there old all is_there law fine)
 
     -- what is kept once the chain took some in
-    pub after : (object : Object) → object.picks ≡ old.picks → object.count ≡ length old.picks.items → kind_in object.chain ≡ kind_in old.chain → IsRight object.chain (events_at h old.picks.items)
-        → object.mark ≡ old.mark → ((other : ℕ) → min (ready_under budget old.chain) (ready_under other old.chain) ≤ ready_under other object.chain)
-        → (end_under budget object.chain ≡ end_in object.chain)
-        → (old.mark.due ≡ None → IsKnownUnder budget (length old.picks.items) object.chain × (end_in object.chain ≡ end_under budget old.chain)) → AreKept kinds budget h s.split s.keys.keys (set s.objects.items i object)
-    after object picks count kind right mark remains under known =
+    pub after : (object : Object) → object.picks ≡ old.picks → object.count ≡ length old.picks.items → IsKept budget (events_at h old.picks.items) old.chain object.chain
+        → AreKept kinds budget h s.split s.keys.keys (set s.objects.items i object)
+    after object picks count settled =
         AreKept-one kinds kinds budget budget h h s.split s.split s.keys.keys s.objects.items kept kept.within i key_there object key_is kept.known old old_at
-        (λ is. let long = sym (length_spelled spell kinds budget h s.split key_there old all is) ∙ ap length (spelled spell kinds budget h s.split key_there old all is) in
-        IsObject-settled spell kinds budget h s.split key_there old all is object picks count kind right
-        (IsMarkRight-kept budget (length (part key_there h)) old object is.marked mark (count ∙ long) remains under
-        (λ none. let k = known none in (subst (λ n. IsKnownUnder budget n object.chain) long k.0, k.1))) mark) (λ x o other is. is)
+        (λ is. IsObject-settled spell kinds budget h s.split key_there old all is object picks count settled) (λ x o other is. is)
 
-    -- what is known of one of which nothing is due
-    pub known_there : old.mark.due ≡ None → IsKnownUnder budget (length old.picks.items) old.chain
-    known_there none =
-        let long = sym (length_spelled spell kinds budget h s.split key_there old all is_there) ∙ ap length (spelled spell kinds budget h s.split key_there old all is_there) in
-        subst (λ n. IsKnownUnder budget n old.chain) (sym long) (is_there.marked.known none)
+    -- its mark, and those of all once it changes
+    pub mark_there : (key : Item) → slice_get s.keys.keys i ≡ Some key → marks_in s key ≡ mark_in old.chain
+    mark_there key key_at = mark_listed s.keys.keys s.objects.items (one_place s.keys.keys kept.distinct) i key old key_at old_at
 
-    -- and of one of which some are, no more stand than were taken in
-    pub due_there : (first : ℕ) → old.mark.due ≡ Some first → first ≤ ready_under budget old.chain
-    due_there first due =
-        let is = is_there.marked in
-        let alone : taken_in old.mark ≡ Some first = ap (λ b. least old.mark.due b) (is.apart first due) ∙ least_none old.mark.due ∙ due in
-        let stands = ap (λ t. stands_for t (length (part key_there h))) alone in
-        omega (arith, is.ready, stands)
+    pub mark_change : (new : Object) (key : Item) → slice_get s.keys.keys i ≡ Some key → (x : Item)
+        → mark_of (listed_known s.keys.keys (set s.objects.items i new)) x ≡ (if item_eq key x then mark_in new.chain else marks_in s x)
+    mark_change new key key_at = mark_set s.keys.keys s.objects.items (one_place s.keys.keys kept.distinct) i key old new key_at old_at
 
--- one object costs no more than all
-pub cost-within : (objects : List Object) (i : ℕ) (o : Object) → slice_get objects i ≡ Some o → cost_of o ≤ cost_of_all objects
-cost-within [] i o at = cc
-cost-within (x ∷ objects) zero o at = let same : x ≡ o = cc in omega (arith, ap cost_of same)
-cost-within (x ∷ objects) (suc i) o at = omega (arith, cost-within objects i o at)
+    pub part_length : (key : Item) → slice_get s.keys.keys i ≡ Some key → length (part key h) ≡ length old.picks.items
+    part_length key key_at = let is = object_there key key_at in ap length (sym (spelled spell kinds budget h s.split key old all is)) ∙ length_spelled spell kinds budget h s.split key old all is
+
+    pub retried_there : IsFor budget old.chain
+    retried_there = is_there.retried
+
+    -- what is known of it
+    pub known_there : (key : Item) → slice_get s.keys.keys i ≡ Some key → IsKnown h (marks_in s) key → (end : End) × (told_in old.chain (length old.picks.items) ≡ Some end)
+    known_there key key_at known = (known.0, ap (told_in old.chain) (sym (part_length key key_at)) ∙ ap (λ (m : Mark). m.told (length (part key h))) (sym (mark_there key key_at)) ∙ known.1)
+
+    pub told_at : (end : End) → ((key : Item) → slice_get s.keys.keys i ≡ Some key → IsToldOf h (marks_in s) key end) → told_in old.chain (length old.picks.items) ≡ Some end
+    told_at end told =
+        ap (told_in old.chain) (sym (part_length key_there key_is)) ∙ ap (λ (m : Mark). m.told (length (part key_there h))) (sym (mark_there key_there key_is)) ∙ told key_there key_is
+
+    -- one that has an engine of its own takes no more steps than are due to that, or none where it has no events
+    pub exact_there : (key : Item) → slice_get s.keys.keys i ≡ Some key → (before after : ℕ) → AreExact kinds h (scope.Object key)
+        → (HasExact (kind_in old.chain) → after ≤ before + (length old.picks.items - (mark_in old.chain).beside)) → (told_in old.chain (length old.picks.items) ≡ Some Alive → after ≡ before)
+        → after ≤ before + due_in h (scope.Object key) (marks_in s)
+    exact_there key key_at before after exact most idle = elim (cases_lt 0 (length (part key h))) [
+      | inl some ↦
+          let bound = most (subst HasExact (sym (object_there key key_at).kind) (exact key (refl, some))) in
+          omega (arith, bound, part_length key key_at, ap (λ (m : Mark). m.beside) (mark_there key key_at))
+      | inr less ↦
+          let none : length (part key h) ≡ 0 = omega (arith, less) in
+          let same = idle (ap (told_in old.chain) (sym (part_length key key_at) ∙ none) ∙ told_none (part key h) none old.chain (object_there key key_at).right) in
+          omega (arith, same)
+    ]
+
+    -- once its chain told how all its events end, or broke off
+    module _ (new : Object) (settled : IsKept budget (events_at h old.picks.items) old.chain new.chain) (again : (end : End) → told_in old.chain (length old.picks.items) ≡ Some end → new.chain ≡ old.chain)
+        (key : Item) (key_at : slice_get s.keys.keys i ≡ Some key) where
+      abbrev later : Item → Mark
+      later = mark_of (listed_known s.keys.keys (set s.objects.items i new))
+
+      pub told_there : (end : End) → told_in new.chain (length old.picks.items) ≡ Some end → IsToldOf h later key end
+      told_there end told =
+          ap (λ (m : Mark). m.told (length (part key h))) (now_is h key (marks_in s) later (mark_in old.chain) (mark_in new.chain) (mark_there key key_at) (mark_change new key key_at))
+          ∙ ap (told_in new.chain) (part_length key key_at) ∙ told
+
+      stays_told : (end : End) → told_in old.chain (length (part key h)) ≡ Some end → mark_in new.chain ≡ mark_in old.chain
+      stays_told end told = ap mark_in (again end (ap (told_in old.chain) (sym (part_length key key_at)) ∙ told))
+
+      pub carried_there : AreCarriedOn h (scope.Object key) (marks_in s) later
+      carried_there =
+          AreCarriedOn-one h key (marks_in s) later (mark_in old.chain) (mark_in new.chain) (mark_there key key_at) (mark_change new key key_at) stays_told
+          (λ none. stays_told Alive (ap (told_in old.chain) none ∙ told_none (part key h) none old.chain (object_there key key_at).right)) settled.frontier settled.beside settled.stopped
+
+      pub spent_there : (before after : ℕ) → IsSpent (mark_in old.chain) (mark_in new.chain) (length old.picks.items) before after → IsSpentIn h (scope.Object key) (marks_in s) later before after
+      spent_there before after spent =
+          IsSpentIn-one h key (marks_in s) later (mark_in old.chain) (mark_in new.chain) (mark_there key key_at) (mark_change new key key_at) before after
+          (subst (λ n. IsSpent (mark_in old.chain) (mark_in new.chain) n before after) (sym (part_length key key_at)) spent)
+
+      pub most_there : (before after : ℕ) → IsSpentAtMost (mark_in old.chain) (mark_in new.chain) (length old.picks.items) before after → IsSpentAtMostIn h (scope.Object key) (marks_in s) later before after
+      most_there before after spent =
+          IsSpentAtMostIn-one h key (marks_in s) later (mark_in old.chain) (mark_in new.chain) (mark_there key key_at) (mark_change new key key_at) before after
+          (subst (λ n. IsSpentAtMost (mark_in old.chain) (mark_in new.chain) n before after) (sym (part_length key key_at)) spent)

@@ -1,5 +1,5 @@
 -- What is kept of the objects, around an event that leaves or comes.
-use Rattle.std.proofs.Common.{◌≡◌, ◌≢◌, ◌<◌, ◌≤◌, ◌+◌, ◌-◌, ℕ, Bool, true, false, cond, min, List, ◌∷◌, ◌++◌, length, length-append, slice_get, set, take, Contains, Some, refl, sym, ap, subst, ◌∙◌, arith}
+use Rattle.std.proofs.Common.{◌≡◌, ◌≢◌, ◌<◌, ◌≤◌, ◌+◌, ◌-◌, ◌⊎◌, ℕ, Bool, true, false, cond, List, ◌∷◌, ◌++◌, length, length-append, slice_get, set, take, Contains, Some, inl, inr, refl, sym, ap, subst, ◌∙◌, arith}
 use Rattle.std.specs.Prelude.{not}
 use Rattle.std.proofs.lemmas.List.Elements.{filter-append}
 use Rattle.std.proofs.lemmas.List.Filters.{length-filter_both}
@@ -11,17 +11,12 @@ use Rattle.lin_events.specs.Operations.{IsEvent}
 use Rattle.lin_objects.specs.declared.kinds.Kind.{Kind}
 use Rattle.lin_orders.specs.Parts.{ArePositionsOf, part}
 use Rattle.lin_chain.specs.declared.chain.Chain.{Chain}
-use Rattle.lin_chain.specs.Chains.{kind_in, ready_under, IsRight}
-use Rattle.lin_chain.specs.declared.chain.End.TheVariants.{Over}
-use Rattle.lin_chain.specs.Ends.{IsEndOf}
+use Rattle.lin_chain.specs.Chains.{IsFor, IsMarkBefore, IsRight, kind_in, mark_in}
 use Rattle.lin_session.specs.declared.kept.Object.{Object}
-use Rattle.lin_session.specs.Objects.{IsMarkRight, IsObject, AreKept}
-use Rattle.lin_session.specs.Work.{rounded, touched}
+use Rattle.lin_session.specs.Objects.{AreKept, IsObject, IsUntaken}
 use Rattle.lin_lists.specs.lemmas.Taken.{get_ahead, take_ahead}
 use Rattle.lin_session.proofs.Changes.{AreKept-one, AreKept-none}
-use Rattle.lin_session.proofs.Low.{rounded_below}
-use Rattle.lin_session.proofs.Marking.{IsMarkRight-touched, IsTouched, touched_over}
-use Rattle.lin_session.proofs.Overs.{IsEndOf-ahead}
+use Rattle.lin_session.proofs.Marking.{IsUntaken-before}
 
 pub part-more : (key : Item) (event : Event) (h : List Event) → event.key ≡ key → part key (event ∷ h) ≡ event ∷ part key h
 part-more key event h same = ap (λ b. cond b (event ∷ part key h) (part key h)) ((Decides-item_eq event.key key).1 same)
@@ -43,14 +38,20 @@ IsObject-same kinds budget h edited split x o front same is = record {
   picked = subst (λ l. ArePositionsOf x l o.picks.items) front is.picked;
   kind = is.kind;
   right = subst (IsRight o.chain) same is.right;
+  retried = is.retried;
   counted = subst (λ l. o.count ≤ length l) same is.counted;
-  marked = subst (λ l. IsMarkRight budget (length l) o) same is.marked;
-  over = λ at e. subst (λ l. IsEndOf (kinds x) budget l (Over at)) same (is.over at e);
+  exact = subst (λ l. IsUntaken (mark_in o.chain) ⊎ (o.count ≡ length l)) same is.exact;
 }
 
 -- what a chain that was cut ahead of some events is right for
 abbrev pub StaysAhead : Item → List Event → ℕ → Chain → Chain → Type 0
 StaysAhead key behind count old new = (ahead h edited : List Event) → count ≤ length ahead + length (part key behind) → IsRight old (ahead ++ h) → IsRight new (ahead ++ edited)
+
+-- what else is true of one that was cut
+pub record IsCutChain (place : ℕ) (old new : Chain) : Type 0 where
+  pub kind : kind_in new ≡ kind_in old
+  pub mark : (h : List Event) → IsRight old h → IsMarkBefore place (mark_in old) (mark_in new)
+  pub retried : (budget : ℕ) → IsFor budget old → IsFor budget new
 
 module _ (kinds : Item → Kind) (budget : ℕ) (before behind : List Event) (event : Event) (key : Item) (same : event.key ≡ key) (split : ℕ) (ahead : split ≤ length before) (keys : List Item) (objects : List Object) where
   abbrev with_it : List Event
@@ -89,83 +90,51 @@ module _ (kinds : Item → Kind) (budget : ℕ) (before behind : List Event) (ev
   other_with : (x : Item) (o : Object) → x ≢ key → IsObject kinds budget without split x o → IsObject kinds budget with_it split x o
   other_with x o other = IsObject-same kinds budget without with_it split x o (take_ahead split before behind (event ∷ behind) ahead) (sym (others_part x other))
 
+  -- the number of the events of the key, with the event and without it
+  pub one_with : length (part key with_it) ≡ length (part key without) + 1
+  one_with = omega (arith, ap length own_with, length-append (part key before) (event ∷ part key behind), ap length own_without, length-append (part key before) (part key behind))
+
   -- the event leaves
   pub AreKept-without : AreKept kinds budget with_it split keys objects → (i : ℕ) (old object : Object) → slice_get keys i ≡ Some key → slice_get objects i ≡ Some old
-      → object.picks ≡ old.picks → object.count ≡ old.count - 1 → kind_in object.chain ≡ kind_in old.chain → StaysAhead key behind (old.count - 1) old.chain object.chain
-      → IsTouched (old.count - 1 - length (part key behind)) (rounded (old.count - 1 - length (part key behind))) old object
+      → object.picks ≡ old.picks → object.count ≡ old.count - 1 → StaysAhead key behind (old.count - 1) old.chain object.chain → (place : ℕ) → IsCutChain place old.chain object.chain
       → AreKept kinds budget without split keys (set objects i object)
-  AreKept-without kept i old object key_at old_at picks count kind stays touch =
+  AreKept-without kept i old object key_at old_at picks count stays place cut =
       AreKept-one kinds kinds budget budget with_it without split split keys objects kept within_without i key object key_at (known_without kept) old old_at (λ is.
-      let counted : old.count ≤ length (part key before) + (length (part key behind) + 1) = omega (arith, is.counted, ap length own_with, length-append (part key before) (event ∷ part key behind)) in
       record {
         picked = subst (λ p. ArePositionsOf key (take split without) p.items) (sym picks)
             (subst (λ l. ArePositionsOf key l old.picks.items) (take_ahead split before (event ∷ behind) behind ahead) is.picked);
-        kind = kind ∙ is.kind;
-        right = subst (IsRight object.chain) (sym own_without) (stays (part key before) (event ∷ part key behind) (part key behind) (omega arith) (subst (IsRight old.chain) own_with is.right));
-        counted = omega (arith, counted, count, ap length own_without, length-append (part key before) (part key behind));
-        marked =
-            let place = old.count - 1 - length (part key behind) in
-            IsMarkRight-touched budget (length (part key with_it)) (length (part key without)) place (rounded place) old object is.marked (rounded_below place) (omega (arith, is.counted)) touch
-            (λ exact. omega (arith, exact, count, ap length own_with, length-append (part key before) (event ∷ part key behind), ap length own_without, length-append (part key before) (part key behind)));
-        over = λ at e.
-            let place = old.count - 1 - length (part key behind) in
-            let t = touched_over place (rounded place) old.mark object.mark at touch.mark e in
-            subst (λ l. IsEndOf (kinds key) budget l (Over at)) (sym own_without)
-            (IsEndOf-ahead (kinds key) budget (part key before) (event ∷ part key behind) (part key behind) at (omega (arith, t.0, counted)) (subst (λ l. IsEndOf (kinds key) budget l (Over at)) own_with (is.over at t.1)));
+        kind = cut.kind ∙ is.kind;
+        right = subst (IsRight object.chain) (sym own_without) (stays (part key before) (event ∷ part key behind) (part key behind) (omega (arith, is.counted, ap length own_with, length-append (part key before) (event ∷ part key behind))) (subst (IsRight old.chain) own_with is.right));
+        retried = cut.retried budget is.retried;
+        counted = omega (arith, is.counted, count, one_with);
+        exact = elim is.exact [
+          | inl untaken ↦ inl (IsUntaken-before place (mark_in old.chain) (mark_in object.chain) untaken (cut.mark (part key with_it) is.right))
+          | inr all ↦ inr (omega (arith, all, count, one_with))
+        ];
       }) other_without
 
   pub AreKept-without_unlisted : AreKept kinds budget with_it split keys objects → (Contains keys key → ⊥) → AreKept kinds budget without split keys objects
   AreKept-without_unlisted kept absent =
       AreKept-none kinds kinds budget budget with_it without split split keys objects kept within_without (known_without kept) (λ x o listed. other_without x o (λ is. absent (subst (Contains keys) is listed)))
 
-  -- the number of the events of the key, with the event and without it
-  pub one_with : length (part key with_it) ≡ length (part key without) + 1
-  one_with = omega (arith, ap length own_with, length-append (part key before) (event ∷ part key behind), ap length own_without, length-append (part key before) (part key behind))
-
-  pub IsMarkRight-with : (old object : Object) → object.count ≡ old.count + 1 → IsTouched (old.count - length (part key behind)) (rounded (old.count - length (part key behind))) old object
-      → IsObject kinds budget without split key old → IsMarkRight budget (length (part key with_it)) object
-  IsMarkRight-with old object count touch is =
-      let place = old.count - length (part key behind) in
-      IsMarkRight-touched budget (length (part key without)) (length (part key with_it)) place (rounded place) old object is.marked (rounded_below place) (omega (arith, is.counted)) touch
-      (λ exact. omega (arith, exact, count, one_with))
-
   -- the event comes
   pub AreKept-with : AreKept kinds budget without split keys objects → (i : ℕ) (old object : Object) → slice_get keys i ≡ Some key → slice_get objects i ≡ Some old
-      → object.picks ≡ old.picks → object.count ≤ old.count + 1 → kind_in object.chain ≡ kind_in old.chain → StaysAhead key behind old.count old.chain object.chain
-      → (IsObject kinds budget without split key old → IsMarkRight budget (length (part key with_it)) object)
-      → ((at : ℕ) → object.mark.over ≡ Some at → (at + length (part key behind) < old.count) × (old.mark.over ≡ Some at))
+      → object.picks ≡ old.picks → object.count ≡ old.count + 1 → StaysAhead key behind old.count old.chain object.chain → (place : ℕ) → IsCutChain place old.chain object.chain
       → AreKept kinds budget with_it split keys (set objects i object)
-  AreKept-with kept i old object key_at old_at picks count kind stays marked over =
-      AreKept-one kinds kinds budget budget without with_it split split keys objects kept within_with i key object key_at (known_with kept) old old_at (λ is.
-      let counted : old.count ≤ length (part key before) + length (part key behind) = omega (arith, is.counted, ap length own_without, length-append (part key before) (part key behind)) in
-      record {
+  AreKept-with kept i old object key_at old_at picks count stays place cut =
+      AreKept-one kinds kinds budget budget without with_it split split keys objects kept within_with i key object key_at (known_with kept) old old_at (λ is. record {
         picked = subst (λ p. ArePositionsOf key (take split with_it) p.items) (sym picks)
             (subst (λ l. ArePositionsOf key l old.picks.items) (take_ahead split before behind (event ∷ behind) ahead) is.picked);
-        kind = kind ∙ is.kind;
-        right = subst (IsRight object.chain) (sym own_with) (stays (part key before) (part key behind) (event ∷ part key behind) counted (subst (IsRight old.chain) own_without is.right));
-        counted = omega (arith, counted, count, ap length own_with, length-append (part key before) (event ∷ part key behind));
-        marked = marked is;
-        over = λ at e.
-            let t = over at e in
-            subst (λ l. IsEndOf (kinds key) budget l (Over at)) (sym own_with)
-            (IsEndOf-ahead (kinds key) budget (part key before) (part key behind) (event ∷ part key behind) at (omega (arith, t.0, counted)) (subst (λ l. IsEndOf (kinds key) budget l (Over at)) own_without (is.over at t.1)));
+        kind = cut.kind ∙ is.kind;
+        right = subst (IsRight object.chain) (sym own_with) (stays (part key before) (part key behind) (event ∷ part key behind) (omega (arith, is.counted, ap length own_without, length-append (part key before) (part key behind))) (subst (IsRight old.chain) own_without is.right));
+        retried = cut.retried budget is.retried;
+        counted = omega (arith, is.counted, count, one_with);
+        exact = elim is.exact [
+          | inl untaken ↦ inl (IsUntaken-before place (mark_in old.chain) (mark_in object.chain) untaken (cut.mark (part key without) is.right))
+          | inr all ↦ inr (omega (arith, all, count, one_with))
+        ];
       }) other_with
 
   pub AreKept-with_unlisted : AreKept kinds budget without split keys objects → (Contains keys key → ⊥) → AreKept kinds budget with_it split keys objects
   AreKept-with_unlisted kept absent =
       AreKept-none kinds kinds budget budget without with_it split split keys objects kept within_with (known_with kept) (λ x o listed. other_with x o (λ is. absent (subst (Contains keys) is listed)))
-
--- an equal event comes: the object of the key is touched, and its chain stays
-pub AreKept-touched : (kinds : Item → Kind) (budget : ℕ) (h : List Event) (split : ℕ) (keys : List Item) (objects : List Object) → AreKept kinds budget h split keys objects
-    → (i : ℕ) (key : Item) (old object : Object) → slice_get keys i ≡ Some key → slice_get objects i ≡ Some old → object.picks ≡ old.picks → object.count ≡ old.count → object.chain ≡ old.chain
-    → (place : ℕ) → place ≤ old.count → object.mark ≡ touched place (rounded place) old.mark → AreKept kinds budget h split keys (set objects i object)
-AreKept-touched kinds budget h split keys objects kept i key old object key_at old_at picks count chain place inside mark =
-    AreKept-one kinds kinds budget budget h h split split keys objects kept kept.within i key object key_at kept.known old old_at (λ is. record {
-      picked = subst (λ p. ArePositionsOf key (take split h) p.items) (sym picks) is.picked;
-      kind = ap kind_in chain ∙ is.kind;
-      right = subst (λ k. IsRight k (part key h)) (sym chain) is.right;
-      counted = subst (λ n. n ≤ length (part key h)) (sym count) is.counted;
-      marked = IsMarkRight-touched budget (length (part key h)) (length (part key h)) place (rounded place) old object is.marked (rounded_below place) (omega (arith, inside, is.counted))
-          (record { mark = mark; kept = λ other. subst (λ k. min (rounded place) (ready_under other old.chain) ≤ ready_under other k) (sym chain) (omega arith) }) (λ exact. count ∙ exact);
-      over = λ at e. is.over at (touched_over place (rounded place) old.mark object.mark at mark e).1;
-    }) (λ x o other is. is)

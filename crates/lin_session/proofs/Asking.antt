@@ -1,8 +1,8 @@
 -- From where the chain of an object stands to the answer for the object.
-use Rattle.std.proofs.Common.{◌≡◌, ◌<◌, ◌-◌, ◌+◌, ℕ, List, length, slice_get, slice_index, get_or, take, AllPairs, Option, None, Some, inl, inr, refl, sym, ap, subst, ◌∙◌, arith}
+use Rattle.std.proofs.Common.{◌≡◌, ◌<◌, ◌-◌, ◌+◌, ℕ, List, length, slice_get, slice_index, get_or, take, AllPairs, Option, None, Some, IsTrue, inl, inr, refl, sym, ap, subst, ◌∙◌, arith}
 use Rattle.std.proofs.lemmas.Bool.{cases_order, cases_lt}
-use Rattle.std.proofs.lemmas.List.{take_all}
-use Rattle.std.proofs.lemmas.Option.{none-some, same_Some, slice_get_within, slice_get-get_or, get_or_from_slice_get}
+use Rattle.std.proofs.lemmas.List.{length-take-le, take_all}
+use Rattle.std.proofs.lemmas.Option.{none-some, slice_get_within, slice_get-get_or, get_or_from_slice_get}
 use Rattle.lin_events.specs.declared.items.Item.{Item}
 use Rattle.lin_events.specs.declared.events.Event.{Event}
 use Rattle.lin_events.specs.WellFormed.{IsWellFormed}
@@ -12,21 +12,24 @@ use Rattle.lin_objects.specs.Kinds.{functions_of}
 use Rattle.lin_objects.specs.Steps.{Step, start}
 use Rattle.lin_orders.specs.declared.placed.Placed.{Placed}
 use Rattle.lin_orders.specs.Linearizable.{IsLegalOrderFor, IsLinearizableFor, IsLegalOrderAs, IsLinearizableAs}
+use Rattle.lin_orders.specs.Orders.{is_of_key}
 use Rattle.lin_orders.specs.Parts.{ArePositionsOf, IsCut, events_at, part, renamed}
 use Rattle.lin_orders.specs.PartLaws.{PositionsSpellParts, PartsOfPrefixes, PartsUpToPositions, PartsAreWellFormed, RenamedOrdersAreLegal, OrdersCanBeRenamed, LinearizableByPart}
 use Rattle.lin_orders.specs.Configurations.{IsOver}
-use Rattle.lin_chain.specs.declared.chain.End.{End}
-use Rattle.lin_chain.specs.declared.chain.End.TheVariants.{Alive, Dead, Over}
-use Rattle.lin_chain.specs.Chains.{kind_in, IsRight}
-use Rattle.lin_chain.specs.Ends.{IsEndOf}
+use Rattle.lin_engines.specs.declared.ends.End.{End}
+use Rattle.lin_engines.specs.declared.ends.End.TheVariants.{Alive, Dead, Over}
+use Rattle.lin_engines.specs.Ends.{IsEndOf}
+use Rattle.lin_chain.specs.Chains.{IsDecided, IsKept, IsRight, kind_in}
+use Rattle.lin_chain.specs.Work.{Mark}
 use Rattle.lin_answers.specs.declared.answers.Verdict.{Verdict}
 use Rattle.lin_answers.specs.declared.answers.Verdict.TheVariants.{Yes, No, Undecided}
 use Rattle.lin_session.specs.declared.kept.Object.{Object}
-use Rattle.lin_session.specs.declared.marks.Mark.{Mark}
 use Rattle.lin_answers.specs.Answers.{IsObjectVerdict}
-use Rattle.lin_session.specs.Objects.{IsMarkRight, IsObject}
+use Rattle.lin_session.specs.Marks.{IsToldOf}
+use Rattle.lin_session.specs.Objects.{IsObject}
+use Rattle.lin_session.specs.Known.{count_before}
 use Rattle.lin_session.specs.inner.Objects.{IsPlaceIn, Finds, IsOrderIn}
-use Rattle.lin_session.specs.inner.Judgements.{IsFinding, IsTold}
+use Rattle.lin_session.specs.inner.Judgements.{IsFinding, IsMarkedBy, IsTold}
 use Rattle.lin_session.proofs.Picks.{event_of_key}
 
 -- a place that an end tells is among the object's events
@@ -66,10 +69,6 @@ module _ (spell : PositionsSpellParts) (kinds : Item → Kind) (budget : ℕ) (h
   pub spelled : events_at h old.picks.items ≡ part key h
   spelled = (spell key h old.picks.items picked).events_of
 
-  -- how the object's events end, as the chain names them
-  pub ended_in : (end : End) → IsEndOf (kinds key) budget (part key h) end → IsEndOf (kind_in old.chain) budget (events_at h old.picks.items) end
-  ended_in end ended = subst (λ k. IsEndOf k budget (events_at h old.picks.items) end) (sym is.kind) (subst (λ l. IsEndOf (kinds key) budget l end) (sym spelled) ended)
-
   pub right_spelled : IsRight old.chain (events_at h old.picks.items)
   right_spelled = subst (IsRight old.chain) (sym spelled) is.right
 
@@ -81,20 +80,50 @@ module _ (spell : PositionsSpellParts) (kinds : Item → Kind) (budget : ℕ) (h
   pub length_spelled : length (events_at h old.picks.items) ≡ length old.picks.items
   length_spelled = ap length spelled ∙ sym (spell key h old.picks.items picked).length_of
 
+  pub spelled_length_of : length old.picks.items ≡ length (part key h)
+  spelled_length_of = (spell key h old.picks.items picked).length_of
+
   pub well_formed_spelled : PartsAreWellFormed → IsWellFormed (functions_of kinds) h → IsWellFormed (functions_of kinds) (events_at h old.picks.items)
   well_formed_spelled law fine = subst (IsWellFormed (functions_of kinds)) (sym spelled) (law (functions_of kinds) key h fine)
 
   -- the object after it was settled
-  pub IsObject-settled : (object : Object) → object.picks ≡ old.picks → object.count ≡ length old.picks.items → kind_in object.chain ≡ kind_in old.chain → IsRight object.chain (events_at h old.picks.items)
-      → IsMarkRight budget (length (part key h)) object → object.mark ≡ old.mark → IsObject kinds budget h split key object
-  IsObject-settled object picks count kind right marked mark = record {
-    picked = subst (λ p. ArePositionsOf key (take split h) p.items) (sym picks) is.picked;
-    kind = kind ∙ is.kind;
-    right = subst (IsRight object.chain) spelled right;
-    counted = omega (arith, count, (spell key h old.picks.items picked).length_of);
-    marked = marked;
-    over = λ at e. is.over at (ap (λ (m : Mark). m.over) (sym mark) ∙ e);
-  }
+  pub IsObject-settled : (object : Object) → object.picks ≡ old.picks → object.count ≡ length old.picks.items → IsKept budget (events_at h old.picks.items) old.chain object.chain
+      → IsObject kinds budget h split key object
+  IsObject-settled object picks count settled =
+      let all = count ∙ (spell key h old.picks.items picked).length_of in
+      record {
+        picked = subst (λ p. ArePositionsOf key (take split h) p.items) (sym picks) is.picked;
+        kind = settled.kind ∙ is.kind;
+        right = subst (IsRight object.chain) spelled settled.right;
+        retried = settled.retried;
+        counted = omega (arith, all);
+        exact = inr all;
+      }
+
+  -- so many of its events are ahead of one of them
+  pub count_at : PartsOfPrefixes → (i : ℕ) → i < length old.picks.items → count_before h key (slice_index old.picks.items i) ≡ i
+  count_at prefixes i place =
+      let at = slice_index old.picks.items i in
+      let nth : slice_get old.picks.items i ≡ Some at = slice_get-get_or old.picks.items i 0 place in
+      let part_at = (prefixes key h old.picks.items i at picked (cut_at old.picks.items i at picked.rising nth)).part_of in
+      ap length part_at ∙ length-take-le i (part key h) (omega (arith, place, (spell key h old.picks.items picked).length_of))
+
+  -- what its mark tells, in positions of the history
+  pub marked_of : PartsOfPrefixes → (marks : Item → Mark) (end : End) (found : Option ℕ × Option ℕ) → IsPlaceIn (length old.picks.items) end → IsToldOf h marks key end
+      → Finds old.picks.items end found → IsMarkedBy h marks key found.0 found.1
+  marked_of prefixes marks Alive found place told finds = subst (λ (r : Option ℕ × Option ℕ). IsMarkedBy h marks key r.0 r.1) (sym finds) told
+  marked_of prefixes marks (Dead i) found place told finds =
+      let at = slice_index old.picks.items i in
+      let one : (at + 1) - 1 ≡ at = omega arith in
+      subst (λ (r : Option ℕ × Option ℕ). IsMarkedBy h marks key r.0 r.1) (sym finds) (
+        refl,
+        subst (λ n. IsTrue (is_of_key h key n)) (sym one) (picked.sound i 0 place),
+        subst (λ n. IsToldOf h marks key (Dead (count_before h key n))) (sym one) (subst (λ n. IsToldOf h marks key (Dead n)) (sym (count_at prefixes i place)) told),
+      )
+  marked_of prefixes marks (Over i) found place told finds = subst (λ (r : Option ℕ × Option ℕ). IsMarkedBy h marks key r.0 r.1) (sym finds) (
+    picked.sound i 0 place,
+    subst (λ n. IsToldOf h marks key (Over n)) (sym (count_at prefixes i place)) told,
+  )
 
   module _ (beginnings : BeginningsAreWellFormed) (prefixes : PartsOfPrefixes) (up_to : PartsUpToPositions) (linear : LinearizableByPart)
       (fine : IsWellFormed (functions_of kinds) h) where
@@ -141,23 +170,11 @@ module _ (spell : PositionsSpellParts) (kinds : Item → Kind) (budget : ℕ) (h
   order_told renames can fine order told = order_of renames can fine order
       (subst (λ k. IsOrderIn (IsLegalOrderAs k (part key h)) old.picks.items order) is.kind (subst (λ l. IsOrderIn (IsLegalOrderAs (kind_in old.chain) l) old.picks.items order) spelled told))
 
--- an end that tells nothing is alive
-pub finds_alive : (picks : List ℕ) (end : End) (found : Option ℕ × Option ℕ) → Finds picks end found → found.0 ≡ None → found.1 ≡ None → end ≡ Alive
-finds_alive picks Alive found told none_failing none_over = refl
-finds_alive picks (Dead i) found told none_failing none_over = absurd (none-some (slice_index picks i + 1) (sym none_failing ∙ ap (λ (r : Option ℕ × Option ℕ). r.0) told))
-finds_alive picks (Over i) found told none_failing none_over = absurd (none-some (slice_index picks i) (sym none_over ∙ ap (λ (r : Option ℕ × Option ℕ). r.1) told))
-
--- an end that tells a failing prefix is dead at its last event
-pub finds_dead : (picks : List ℕ) (end : End) (found : Option ℕ × Option ℕ) (n : ℕ) → Finds picks end found → found.0 ≡ Some n → (i : ℕ) × (end ≡ Dead i) × (n ≡ slice_index picks i + 1)
-finds_dead picks Alive found n told failing = absurd (none-some n (sym (ap (λ (r : Option ℕ × Option ℕ). r.0) told) ∙ failing))
-finds_dead picks (Dead i) found n told failing = (i, refl, same_Some n (slice_index picks i + 1) (sym failing ∙ ap (λ (r : Option ℕ × Option ℕ). r.0) told))
-finds_dead picks (Over i) found n told failing = absurd (none-some n (sym (ap (λ (r : Option ℕ × Option ℕ). r.0) told) ∙ failing))
-
--- an end that tells a place where the object is over is over there
-pub finds_over : (picks : List ℕ) (end : End) (found : Option ℕ × Option ℕ) (at : ℕ) → Finds picks end found → found.1 ≡ Some at → (i : ℕ) × (end ≡ Over i) × (at ≡ slice_index picks i)
-finds_over picks Alive found at told over = absurd (none-some at (sym (ap (λ (r : Option ℕ × Option ℕ). r.1) told) ∙ over))
-finds_over picks (Dead i) found at told over = absurd (none-some at (sym (ap (λ (r : Option ℕ × Option ℕ). r.1) told) ∙ over))
-finds_over picks (Over i) found at told over = (i, refl, same_Some at (slice_index picks i) (sym over ∙ ap (λ (r : Option ℕ × Option ℕ). r.1) told))
+-- an end that is decided tells no place where the object is over
+pub finds_decided : (picks : List ℕ) (end : End) (found : Option ℕ × Option ℕ) → Finds picks end found → IsDecided end → found.1 ≡ None
+finds_decided picks Alive found told decided = ap (λ (r : Option ℕ × Option ℕ). r.1) told
+finds_decided picks (Dead i) found told decided = ap (λ (r : Option ℕ × Option ℕ). r.1) told
+finds_decided picks (Over i) found told decided = absurd decided
 
 -- the verdict for one object
 pub verdict_told : (kinds : Item → Kind) (budget : ℕ) (h : List Event) (key : Item) (failing over : Option ℕ) (told : Verdict) → IsFinding kinds budget h key failing over → IsTold failing over told

@@ -44,6 +44,15 @@ pub on_err_since : {T E : Type 0} {P : Type 0} (r : Result T E) → P → OnErr 
 on_err_since (Ok x) p = tt
 on_err_since (Err e) p = p
 
+-- what holds where nothing is found, and follows there
+pub none_weaker : {T : Type 0} (r : Option T) (P Q : Type 0) → (P → Q) → IfNone r P → IfNone r Q
+none_weaker (Some x) P Q weaker p = tt
+none_weaker None P Q weaker p = weaker p
+
+pub empty_list : {T : Type 0} (xs : List T) → length xs ≡ 0 → xs ≡ []
+empty_list [] none = refl
+empty_list (x ∷ xs) none = absurd (omega (arith, none))
+
 -- what is an error isn't a success
 pub not_ok : {T E : Type 0} (r : Result T E) (e : E) → r ≡ Err e → IsOk r → ⊥
 not_ok (Ok x) e is ok = cc

@@ -3,7 +3,7 @@ use Rattle.std.proofs.Common.{◌≡◌, ◌≤◌, ℕ, min, Option, None, Some
 use Rattle.std.proofs.lemmas.Option.{none-some}
 use Rattle.std.proofs.Common.{sym}
 use Rattle.lin_session.specs.Sessions.{AreTakenIn}
-use Rattle.lin_session.specs.Work.{least, rounded}
+use Rattle.lin_session.specs.Leaving.{least, rounded}
 
 -- an edit leaves something to do
 pub some_left : (low : Option ℕ) (n : ℕ) → least low (Some n) ≡ None → ⊥

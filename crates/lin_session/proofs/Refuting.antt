@@ -1,31 +1,35 @@
 -- From sets that refute the events of an object to sets that refute it in a prefix of the history.
-use Rattle.std.proofs.Common.{◌≡◌, ◌<◌, ◌+◌, ℕ, zero, suc, List, Result, Ok, Err, ◌≢◌, length, slice_index, take, inl, inr, refl, sym, ap, subst, ◌∙◌, add-one, arith}
+use Rattle.std.proofs.Common.{◌≡◌, ◌<◌, ◌+◌, ◌-◌, ◌++◌, ℕ, zero, suc, List, Result, Ok, Err, Some, IsTrue, ◌≢◌, length, slice_index, take, drop, take-append-drop, if◌then◌else◌, inl, inr, refl, sym, ap, subst, ◌∙◌, add-one, arith}
 use Rattle.std.specs.Prelude.{IfErr}
 use Rattle.std.proofs.lemmas.Bool.{cases_lt}
-use Rattle.std.proofs.lemmas.List.{take_all}
-use Rattle.std.proofs.lemmas.Option.{slice_get-get_or}
+use Rattle.std.proofs.lemmas.List.{take-append-le, take_all}
+use Rattle.std.proofs.lemmas.List.Elements.{filter-append}
+use Rattle.std.proofs.lemmas.Option.{same_Some, slice_get-get_or}
 use Rattle.lin_events.specs.declared.items.Item.{Item}
+use Rattle.lin_events.specs.Items.{item_eq}
 use Rattle.lin_events.specs.declared.events.Event.{Event}
 use Rattle.lin_objects.specs.declared.kinds.Kind.{Kind}
 use Rattle.lin_objects.specs.Steps.{Step, start}
+use Rattle.lin_orders.specs.Orders.{is_of_key}
 use Rattle.lin_orders.specs.Parts.{ArePositionsOf, events_at, part}
 use Rattle.lin_orders.specs.PartLaws.{PositionsSpellParts, PartsUpToPositions}
 use Rattle.lin_order.specs.Refutations.{Config, IsRefutation}
 use Rattle.lin_orders.specs.Configurations.{IsOver}
-use Rattle.lin_chain.specs.declared.chain.End.TheVariants.{Dead}
-use Rattle.lin_chain.specs.lemmas.Told.{dead_told}
+use Rattle.lin_engines.specs.declared.ends.End.TheVariants.{Dead}
 use Rattle.lin_chain.specs.declared.chain.RefuteFault.{RefuteFault}
 use Rattle.lin_chain.specs.declared.chain.RefuteFault.TheVariants.{NotDead, TooLarge, OutOfMemory}
 use Rattle.lin_chain.specs.Chains.{kind_in, told_in}
 use Rattle.lin_session.specs.declared.kept.Object.{Object}
-use Rattle.lin_session.specs.inner.Judgements.{IsDead}
+use Rattle.lin_session.specs.Known.{count_before}
 use Rattle.lin_session.specs.Objects.{IsObject}
-use Rattle.lin_answers.specs.Answers.{kinds_in, IsAnswer, IsOverSomewhere}
+use Rattle.lin_answers.specs.Answers.{IsAnswer, IsOverSomewhere, IsShortestWithout, kinds_in}
 use Rattle.lin_answers.specs.Edits.{Present}
 use Rattle.lin_answers.specs.declared.answers.Answer.TheVariants.{No}
 use Rattle.lin_answers.specs.declared.answers.Scope.TheVariants.{Object as ObjectOf}
 use Rattle.lin_session.specs.Refuting.{IsUnrefuted}
 use Rattle.lin_session.proofs.Asking.{length_spelled, spelled, whole_picked}
+use Rattle.lin_session.proofs.Picks.{event_of_key}
+use Rattle.lin_session.proofs.Touching.{one_more}
 
 -- a refusal that isn't for want of a dead event
 pub refused_for : {T : Type 0} (r : Result T RefuteFault) (P : Type 0) → (r ≡ Err NotDead → ⊥) → (r ≡ Err TooLarge → P) → IfErr r (λ fault. (fault ≢ NotDead) × (fault ≡ TooLarge → P))
@@ -43,6 +47,19 @@ IsUnrefuted-fault now key n answer OutOfMemory other large = tt
 one_dead : (at i : ℕ) → Dead at ≡ Dead i → at ≡ i
 one_dead at i e = cc e
 
+-- no prefix without events fails
+pub some_prefix : (holds : List Event → Type 0) (h : List Event) (n : ℕ) → IsShortestWithout holds h n → 0 < n
+some_prefix holds h n is = elim (cases_lt 0 n) [
+  | inl some ↦ some
+  | inr none ↦ let same : n - 1 ≡ n = omega (arith, none) in absurd (is.fails (subst (λ m. holds (take m h)) same is.before))
+]
+
+-- the events of a key in a prefix are its first ones
+prefix_part : (h : List Event) (key : Item) (n : ℕ) → part key (take n h) ≡ take (count_before h key n) (part key h)
+prefix_part h key n =
+    let whole : part key h ≡ part key (take n h) ++ part key (drop n h) = ap (part key) (sym (take-append-drop n h)) ∙ filter-append (λ (e : Event). item_eq e.key key) (take n h) (drop n h) in
+    sym (ap (take (count_before h key n)) whole ∙ take-append-le (count_before h key n) (part key (take n h)) (part key (drop n h)) (omega arith) ∙ take_all (count_before h key n) (part key (take n h)) (omega arith))
+
 module _ (spell : PositionsSpellParts) (up_to : PartsUpToPositions) (kinds : Item → Kind) (budget : ℕ) (h : List Event) (split : ℕ) (key : Item) (o : Object) (all : split ≡ length h) (is : IsObject kinds budget h split key o) where
   picked : ArePositionsOf key h o.picks.items
   picked = whole_picked kinds budget h split key o all is
@@ -57,17 +74,16 @@ module _ (spell : PositionsSpellParts) (up_to : PartsUpToPositions) (kinds : Ite
   up_to_nth : (i : ℕ) → i < length o.picks.items → part key (take (slice_index o.picks.items i + 1) h) ≡ take (i + 1) (part key h)
   up_to_nth i within = up_to key h o.picks.items i (slice_index o.picks.items i) picked (slice_get-get_or o.picks.items i 0 within)
 
-  -- the place at which it is told to be dead is that of one of its events
-  dead_inside : (at : ℕ) → told_in o.chain (length o.picks.items) ≡ Dead at → at < length o.picks.items
-  dead_inside at dead = (dead_told o.chain (part key h) (length o.picks.items) at (sym part_length) dead is.right).0
-
-  pub refuted_in : (n : ℕ) (sets : List (List Config)) → IsDead n o → (at : ℕ) × (told_in o.chain (length o.picks.items) ≡ Dead at) × IsRefutation (take (at + 1) (events_at h o.picks.items)) (kind_in o.chain) sets
-      → IsRefutation (part key (take n h)) (kinds key) sets
-  refuted_in n sets dead (at, end, refutes) =
-      let same : dead.at ≡ at = one_dead dead.at at (sym dead.dead ∙ end) in
-      let last : n ≡ slice_index o.picks.items at + 1 = dead.last ∙ ap (λ i. slice_index o.picks.items i + 1) same in
-      let events : take (at + 1) (events_at h o.picks.items) ≡ part key (take n h) =
-      ap (take (at + 1)) spells ∙ sym (up_to_nth at (dead_inside at end)) ∙ ap (λ m. part key (take m h)) (sym last) in
+  -- the sets speak of the events in a prefix whose last one is the one at which it is told to be dead
+  pub refuted_in : (n : ℕ) (sets : List (List Config)) → 0 < n → IsTrue (is_of_key h key (n - 1)) → told_in o.chain (length o.picks.items) ≡ Some (Dead (count_before h key (n - 1)))
+      → (at : ℕ) × (told_in o.chain (length o.picks.items) ≡ Some (Dead at)) × IsRefutation (take (at + 1) (events_at h o.picks.items)) (kind_in o.chain) sets → IsRefutation (part key (take n h)) (kinds key) sets
+  refuted_in n sets some of_it dead (at, end, refutes) =
+      let same : count_before h key (n - 1) ≡ at = one_dead (count_before h key (n - 1)) at (same_Some _ _ (sym dead ∙ end)) in
+      let e = event_of_key h key (n - 1) of_it in
+      let more = one_more h key (n - 1) e.0 e.1 ∙ ap (λ b. if b then count_before h key (n - 1) + 1 else count_before h key (n - 1)) of_it in
+      let last : n ≡ suc (n - 1) = omega (arith, some) in
+      let count : at + 1 ≡ count_before h key n = omega (arith, same, more, ap (count_before h key) last) in
+      let events : take (at + 1) (events_at h o.picks.items) ≡ part key (take n h) = ap (take (at + 1)) spells ∙ ap (λ m. take m (part key h)) count ∙ sym (prefix_part h key n) in
       subst (λ l. IsRefutation l (kinds key) sets) events (subst (λ k. IsRefutation (take (at + 1) (events_at h o.picks.items)) k sets) is.kind refutes)
 
   -- each beginning of the object's events is its part of a prefix

@@ -28,7 +28,7 @@ use Rattle.lin_answers.specs.declared.answers.Verdict.{Verdict}
 use Rattle.lin_answers.specs.declared.answers.Verdict.TheVariants.{Yes, No, Undecided}
 use Rattle.lin_answers.specs.Answers.{IsShortestWithout, IsOverAt, IsWholeVerdict}
 use Rattle.lin_session.specs.inner.Judgements.{IsFinding, IsCovered, AreFound, IsTold}
-use Rattle.lin_session.specs.Work.{least}
+use Rattle.lin_session.specs.Leaving.{least}
 use Rattle.lin_session.proofs.Around.{part-same}
 use Rattle.lin_lists.specs.lemmas.Lists.{get_taken, take_next}
 

@@ -1,3 +1,5 @@
+pub mod Known
+pub mod Leaving
 pub mod Work
 pub mod Marks
 pub mod Objects

@@ -1,3 +1,2 @@
-pub mod Costs
 pub mod Judgements
 pub mod Objects

@@ -1,28 +1,26 @@
-//! What the chains of the objects tell of the history: verdicts, answers and refutations.
-ghost use Rattle.std.specs.Prelude.{◌≡◌, ◌≢◌, ◌+◌, ◌<◌, ◌≤◌, ℕ, All, Contains, IsOk, IfErr, IfOk, OnOk, None, Ok, Some, length, slice_get, take};
+//! What the chains of the objects tell of the history: verdicts and refutations.
+ghost use Rattle.std.specs.Prelude.{◌≡◌, ◌≢◌, ◌<◌, ◌≤◌, ◌+◌, ℕ, List, IsOk, IfErr, IfOk, OnOk, None, Ok, Some, length, slice_get, take};
 ghost use Rattle.lin_events.specs.declared.items.Item.{Item as ItemOf};
 ghost use Rattle.lin_events.specs.WellFormed.{IsWellFormed};
 ghost use Rattle.lin_objects.specs.declared.kinds.Kind.{Kind as KindOf};
 ghost use Rattle.lin_objects.specs.Kinds.{functions_of, kind_of};
 ghost use Rattle.lin_orders.specs.Parts.{part};
 ghost use Rattle.lin_order.specs.Refutations.{IsRefutation, sets_of};
-ghost use Rattle.lin_answers.specs.Answers.{IsAnswer, IsObjectVerdict, IsVerdict, IsWholeVerdict, IsOverSomewhere};
-ghost use Rattle.lin_session.specs.declared.kept.Object.{Object as ObjectOf};
+ghost use Rattle.lin_engines.specs.Exacts.{HasExact};
+ghost use Rattle.lin_answers.specs.declared.answers.Verdict.TheVariants as verdicts;
+ghost use Rattle.lin_answers.specs.Answers.{IsObjectVerdict, IsVerdict, IsWholeVerdict, IsOverSomewhere};
 ghost use Rattle.lin_session.specs.Objects.{AreRight, split_in};
 ghost use Rattle.lin_session.specs.inner.Objects.{marks_in};
-ghost use Rattle.lin_session.specs.inner.Costs.{AreJudged, AreSettled, IsJudged, IsSettled, cost_of, cost_of_all};
-ghost use Rattle.lin_session.specs.inner.Judgements.{AreAlive, AreFound, IsAlive, IsDead, IsDeadFor, IsFinding, IsOverFor, IsTold, StandsOver};
-ghost use Rattle.lin_session.specs.Marks.{IsNothingDue};
-ghost use Rattle.lin_session.specs.Refuting.{IsRefuted, IsUnrefuted};
-ghost use Rattle.lin_session.specs.Work.{AreSameMarks, cost_in};
+ghost use Rattle.lin_session.specs.inner.Judgements.{AreFound, IsFinding, IsMarkedBy, IsTold};
+ghost use Rattle.lin_session.specs.Marks.{AreCarriedOn, AreExact, IsKnown, IsMarkedAs, IsNothingDue};
+ghost use Rattle.lin_session.specs.Leaving.{least};
+ghost use Rattle.lin_session.specs.Work.{IsSpentAtMostIn, IsSpentIn, due_in};
 
 use crate::kept::Objects;
-use crate::lent::Lent;
-use crate::marks::least_of;
-use crate::refuted::Refuted;
-use lin_answers::{Answer, Scope, Verdict};
+use lin_answers::{Scope, Verdict};
 use lin_chain::RefuteFault;
 use lin_events::{Event, Item, Meter, OutOfMemory, beginnings_are_well_formed};
+use lin_objects::Kinds;
 use lin_order::Refutation;
 use lin_orders::{
     absent_keys_are_legal, linearizability_is_local, parts_keep_operations, parts_keep_orders,
@@ -31,88 +29,24 @@ use lin_orders::{
 use std::alloc::Global;
 
 impl Objects {
-    /// Whether the history is linearizable for the scope, with a legal order if it is. Its events are well-formed.
-    pub(crate) fn answer(
-        &mut self,
-        alloc: Global,
-        scope: Scope,
-        present: &Lent<'_>,
-        meter: &mut Meter,
-    ) -> Result<Answer, OutOfMemory>
-        requires few { length present.now.history.now < usize.MAX }
-        requires right { AreRight self.old (kind_of present.now.kinds.now) present.now.budget present.now.history.now }
-        requires well_formed { IsWellFormed (functions_of (kind_of present.now.kinds.now)) present.now.history.now }
-        ensures right { AreRight self.new (kind_of present.now.kinds.now) present.now.budget present.now.history.now }
-        ensures split { OnOk result (split_in self.new ≡ length present.now.history.now) }
-        ensures apart { split_in self.old ≡ length present.now.history.now → split_in self.new ≡ length present.now.history.now }
-        ensures answer { IfOk result (IsAnswer (record { history = present.now.history.now; kinds = present.now.kinds.now; budget = present.now.budget }) scope) }
-        ensures dead { (n : ℕ) → result ≡ Ok (Answer.No n) → IsDeadFor self.new scope n }
-        ensures over { (at : ℕ) → result ≡ Ok (Answer.Undecided at) → IsOverFor self.new scope at }
-        ensures scans { meter.new.scans ≡ meter.old.scans }
-        ensures marks { AreSameMarks (marks_in self.old) (marks_in self.new) }
-        ensures judged { OnOk result (AreJudged present.now.budget self.new scope) }
-        ensures steps { meter.new.steps ≤ meter.old.steps + cost_in (marks_in self.old) present.now.history.now scope }
-        ensures ready { split_in self.old ≡ length present.now.history.now → IsNothingDue present.now.history.now scope (marks_in self.old)
-            → (IsVerdict (record { history = present.now.history.now; kinds = present.now.kinds.now; budget = present.now.budget }) scope Verdict.Yes → ⊥) → IsOk result }
-        ensures idle { split_in self.old ≡ length present.now.history.now → IsNothingDue present.now.history.now scope (marks_in self.old) → meter.new ≡ meter.old }
-    {
-        match self.judge(alloc, scope, present, meter)? {
-            Verdict::Yes => {
-                let order = self.order(alloc, scope, present.history, present.kinds)?;
-                Ok(Answer::Yes(order))
-            }
-            Verdict::No { prefix } => Ok(Answer::No { prefix }),
-            Verdict::Undecided { at } => Ok(Answer::Undecided { at }),
-            Verdict::IllFormed { at, cause } => Ok(Answer::IllFormed { at, cause }),
-        }
-    }
-
-    /// Whether the object of the key is linearizable, with a refutation if it isn't. The events are well-formed.
-    pub(crate) fn refute(
-        &mut self,
-        alloc: Global,
-        key: Item,
-        present: &Lent<'_>,
-        meter: &mut Meter,
-    ) -> Result<Refuted, RefuteFault>
-        requires few { length present.now.history.now < usize.MAX }
-        requires right { AreRight self.old (kind_of present.now.kinds.now) present.now.budget present.now.history.now }
-        requires well_formed { IsWellFormed (functions_of (kind_of present.now.kinds.now)) present.now.history.now }
-        ensures right { AreRight self.new (kind_of present.now.kinds.now) present.now.budget present.now.history.now }
-        ensures split { OnOk result (split_in self.new ≡ length present.now.history.now) }
-        ensures apart { split_in self.old ≡ length present.now.history.now → split_in self.new ≡ length present.now.history.now }
-        ensures refuted { IfOk result (IsRefuted (record { history = present.now.history.now; kinds = present.now.kinds.now; budget = present.now.budget }) key) }
-        ensures unrefuted { IfErr result (IsUnrefuted (record { history = present.now.history.now; kinds = present.now.kinds.now; budget = present.now.budget }) key) }
-        ensures scans { meter.new.scans ≡ meter.old.scans }
-        ensures marks { AreSameMarks (marks_in self.old) (marks_in self.new) }
-        ensures judged { OnOk result (AreJudged present.now.budget self.new (Scope.Object key)) }
-        ensures steps { meter.new.steps ≤ meter.old.steps + cost_in (marks_in self.old) present.now.history.now (Scope.Object key) }
-        ensures idle { split_in self.old ≡ length present.now.history.now → IsNothingDue present.now.history.now (Scope.Object key) (marks_in self.old) → meter.new ≡ meter.old }
-    {
-        match self.answer(alloc, Scope::Object(key), present, meter) {
-            Ok(Answer::No { prefix }) => {
-                let refutation = self.refutation(alloc, key, present.history, present.budget)?;
-                Ok(Refuted::No { prefix, refutation })
-            }
-            Ok(answer) => Ok(Refuted::Not(answer)),
-            Err(_) => Err(RefuteFault::OutOfMemory),
-        }
-    }
-
-    /// Sets that refute the object of the key, which is dead. All events are told apart, and are well-formed.
-    fn refutation(
+    /// Sets that refute the object of the key, which is told to be dead at the last event of a prefix. All events are told apart, and are
+    /// well-formed.
+    pub(crate) fn refutation(
         &self,
         alloc: Global,
         key: Item,
         events: &[Event],
         budget: u32,
+        meter: &mut Meter,
     ) -> Result<Refutation, RefuteFault>
-        requires dead { (n : ℕ) × IsDeadFor self.now (Scope.Object key) n }
+        requires dead { (n : ℕ) × IsMarkedAs events.now (Scope.Object key) (marks_in self.now) (verdicts.No n) }
         requires split { split_in self.now ≡ length events.now }
         requires right { (kinds : ItemOf → KindOf) × AreRight self.now kinds budget events.now × IsWellFormed (functions_of kinds) events.now }
-        ensures refuted { IfOk result (λ refutation. (kinds : ItemOf → KindOf) (n : ℕ) → AreRight self.now kinds budget events.now → IsDeadFor self.now (Scope.Object key) n
-            → IsRefutation (part key (take n events.now)) (kinds key) (sets_of refutation)) }
+        ensures refuted { IfOk result (λ refutation. (kinds : ItemOf → KindOf) (n : ℕ) → AreRight self.now kinds budget events.now → 0 < n
+            → IsMarkedAs events.now (Scope.Object key) (marks_in self.now) (verdicts.No n) → IsRefutation (part key (take n events.now)) (kinds key) (sets_of refutation)) }
         ensures unrefuted { IfErr result (λ fault. (fault ≢ RefuteFault.NotDead) × (fault ≡ RefuteFault.TooLarge → (kinds : ItemOf → KindOf) → AreRight self.now kinds budget events.now → IsOverSomewhere kinds budget events.now key)) }
+        ensures steps { meter.new.steps ≤ meter.old.steps + length (part key events.now) }
+        ensures scans { meter.new.scans ≡ meter.old.scans }
     {
         positions_spell_parts();
         parts_of_prefixes();
@@ -121,7 +55,9 @@ impl Objects {
             unreachable!()
         };
         let object = &self.objects[i];
-        object.chain.refute(alloc, events, &object.picks, budget)
+        object
+            .chain
+            .refute(alloc, events, &object.picks, budget, meter)
     }
 
     /// Whether the history is linearizable for the scope. Its events are well-formed.
@@ -129,31 +65,34 @@ impl Objects {
         &mut self,
         alloc: Global,
         scope: Scope,
-        present: &Lent<'_>,
+        events: &[Event],
+        kinds: &Kinds,
+        budget: u32,
         meter: &mut Meter,
     ) -> Result<Verdict, OutOfMemory>
-        requires few { length present.now.history.now < usize.MAX }
-        requires right { AreRight self.old (kind_of present.now.kinds.now) present.now.budget present.now.history.now }
-        requires well_formed { IsWellFormed (functions_of (kind_of present.now.kinds.now)) present.now.history.now }
-        ensures right { AreRight self.new (kind_of present.now.kinds.now) present.now.budget present.now.history.now }
-        ensures split { OnOk result (split_in self.new ≡ length present.now.history.now) }
-        ensures apart { split_in self.old ≡ length present.now.history.now → split_in self.new ≡ length present.now.history.now }
-        ensures verdict { IfOk result (IsVerdict (record { history = present.now.history.now; kinds = present.now.kinds.now; budget = present.now.budget }) scope) }
-        ensures alive { result ≡ Ok Verdict.Yes → AreAlive self.new scope }
-        ensures dead { (n : ℕ) → result ≡ Ok (Verdict.No n) → IsDeadFor self.new scope n }
-        ensures over { (at : ℕ) → result ≡ Ok (Verdict.Undecided at) → IsOverFor self.new scope at }
+        requires few { length events.now < usize.MAX }
+        requires right { AreRight self.old (kind_of kinds.now) budget events.now }
+        requires well_formed { IsWellFormed (functions_of (kind_of kinds.now)) events.now }
+        ensures right { AreRight self.new (kind_of kinds.now) budget events.now }
+        ensures split { OnOk result (split_in self.new ≡ length events.now) }
+        ensures apart { split_in self.old ≡ length events.now → split_in self.new ≡ length events.now }
+        ensures verdict { IfOk result (IsVerdict (record { history = events.now; kinds = kinds.now; budget = budget }) scope) }
+        ensures told { IfOk result (IsMarkedAs events.now scope (marks_in self.new)) }
+        ensures decided { AreExact (kind_of kinds.now) events.now scope → 1024 ≤ budget → (at : ℕ) → result ≢ Ok (Verdict.Undecided at) }
+        ensures carried { AreCarriedOn events.now scope (marks_in self.old) (marks_in self.new) }
+        ensures known { OnOk result (IsNothingDue events.now scope (marks_in self.new)) }
+        ensures spent { OnOk result (IsSpentIn events.now scope (marks_in self.old) (marks_in self.new) meter.old.steps meter.new.steps) }
+        ensures most { IsSpentAtMostIn events.now scope (marks_in self.old) (marks_in self.new) meter.old.steps meter.new.steps }
+        ensures idle { IsNothingDue events.now scope (marks_in self.old) → meter.new ≡ meter.old }
+        ensures ready { split_in self.old ≡ length events.now → IsNothingDue events.now scope (marks_in self.old) → IsOk result }
+        ensures exact { AreExact (kind_of kinds.now) events.now scope → 1024 ≤ budget → meter.new.steps ≤ meter.old.steps + due_in events.now scope (marks_in self.old) }
         ensures scans { meter.new.scans ≡ meter.old.scans }
-        ensures marks { AreSameMarks (marks_in self.old) (marks_in self.new) }
-        ensures judged { OnOk result (AreJudged present.now.budget self.new scope) }
-        ensures steps { meter.new.steps ≤ meter.old.steps + cost_in (marks_in self.old) present.now.history.now scope }
-        ensures idle { split_in self.old ≡ length present.now.history.now → IsNothingDue present.now.history.now scope (marks_in self.old) → meter.new ≡ meter.old }
-        ensures ready { split_in self.old ≡ length present.now.history.now → IsNothingDue present.now.history.now scope (marks_in self.old) → IsOk result }
     {
         positions_spell_parts();
-        self.split(alloc, present.history, present.kinds)?;
+        self.split(alloc, events, kinds)?;
         match scope {
-            Scope::Object(key) => self.judge_object(key, present.history, present.budget, meter),
-            Scope::Whole => self.judge_whole(present.history, present.budget, meter),
+            Scope::Object(key) => self.judge_object(key, events, budget, meter),
+            Scope::Whole => self.judge_whole(events, budget, meter),
         }
     }
 
@@ -171,17 +110,17 @@ impl Objects {
         ensures split { split_in self.new ≡ split_in self.old }
         ensures right { (kinds : ItemOf → KindOf) → AreRight self.old kinds budget events.now → AreRight self.new kinds budget events.now }
         ensures verdict { IfOk result (λ verdict. (kinds : ItemOf → KindOf) → AreRight self.old kinds budget events.now → IsWellFormed (functions_of kinds) events.now → IsObjectVerdict kinds budget events.now key verdict) }
-        ensures alive { result ≡ Ok Verdict.Yes → AreAlive self.new (Scope.Object key) }
-        ensures dead { (n : ℕ) → result ≡ Ok (Verdict.No n) → IsDeadFor self.new (Scope.Object key) n }
-        ensures over { (at : ℕ) → result ≡ Ok (Verdict.Undecided at) → IsOverFor self.new (Scope.Object key) at }
+        ensures told { IfOk result (IsMarkedAs events.now (Scope.Object key) (marks_in self.new)) }
+        ensures decided { (kinds : ItemOf → KindOf) → AreRight self.old kinds budget events.now → AreExact kinds events.now (Scope.Object key) → 1024 ≤ budget → (at : ℕ) → result ≢ Ok (Verdict.Undecided at) }
+        ensures carried { AreCarriedOn events.now (Scope.Object key) (marks_in self.old) (marks_in self.new) }
+        ensures known { OnOk result (IsNothingDue events.now (Scope.Object key) (marks_in self.new)) }
+        ensures spent { OnOk result (IsSpentIn events.now (Scope.Object key) (marks_in self.old) (marks_in self.new) meter.old.steps meter.new.steps) }
+        ensures most { IsSpentAtMostIn events.now (Scope.Object key) (marks_in self.old) (marks_in self.new) meter.old.steps meter.new.steps }
+        ensures rests { IsNothingDue events.now (Scope.Object key) (marks_in self.old) → IsOk result × (meter.new ≡ meter.old) }
+        ensures exact { (kinds : ItemOf → KindOf) → AreRight self.old kinds budget events.now → AreExact kinds events.now (Scope.Object key) → 1024 ≤ budget → meter.new.steps ≤ meter.old.steps + due_in events.now (Scope.Object key) (marks_in self.old) }
         ensures scans { meter.new.scans ≡ meter.old.scans }
-        ensures steps { (i : ℕ) (object : ObjectOf) → slice_get self.old.keys.keys i ≡ Some key → slice_get self.old.objects.items i ≡ Some object → meter.new.steps ≤ meter.old.steps + cost_of object }
-        ensures idle { (Contains self.old.keys.keys key → ⊥) → meter.new ≡ meter.old }
-        ensures settled { AreSettled budget self.old (Scope.Object key) → IsOk result }
-        ensures rests { AreSettled budget self.old (Scope.Object key) → meter.new ≡ meter.old }
-        ensures marks { AreSameMarks (marks_in self.old) (marks_in self.new) }
-        ensures judged { OnOk result (AreJudged budget self.new (Scope.Object key)) }
     {
+        positions_spell_parts();
         absent_keys_are_legal();
         match self.find(key) {
             Some(i) => {
@@ -205,14 +144,15 @@ impl Objects {
         ensures split { split_in self.new ≡ split_in self.old }
         ensures right { (kinds : ItemOf → KindOf) → AreRight self.old kinds budget events.now → AreRight self.new kinds budget events.now }
         ensures verdict { IfOk result (λ verdict. (kinds : ItemOf → KindOf) → AreRight self.old kinds budget events.now → IsWellFormed (functions_of kinds) events.now → IsWholeVerdict kinds budget events.now verdict) }
-        ensures alive { result ≡ Ok Verdict.Yes → AreAlive self.new Scope.Whole }
-        ensures over { (at : ℕ) → result ≡ Ok (Verdict.Undecided at) → IsOverFor self.new Scope.Whole at }
+        ensures told { IfOk result (IsMarkedAs events.now Scope.Whole (marks_in self.new)) }
+        ensures decided { (kinds : ItemOf → KindOf) → AreRight self.old kinds budget events.now → AreExact kinds events.now Scope.Whole → 1024 ≤ budget → (at : ℕ) → result ≢ Ok (Verdict.Undecided at) }
+        ensures carried { AreCarriedOn events.now Scope.Whole (marks_in self.old) (marks_in self.new) }
+        ensures known { OnOk result (IsNothingDue events.now Scope.Whole (marks_in self.new)) }
+        ensures spent { OnOk result (IsSpentIn events.now Scope.Whole (marks_in self.old) (marks_in self.new) meter.old.steps meter.new.steps) }
+        ensures most { IsSpentAtMostIn events.now Scope.Whole (marks_in self.old) (marks_in self.new) meter.old.steps meter.new.steps }
+        ensures rests { IsNothingDue events.now Scope.Whole (marks_in self.old) → IsOk result × (meter.new ≡ meter.old) }
+        ensures exact { (kinds : ItemOf → KindOf) → AreRight self.old kinds budget events.now → AreExact kinds events.now Scope.Whole → 1024 ≤ budget → meter.new.steps ≤ meter.old.steps + due_in events.now Scope.Whole (marks_in self.old) }
         ensures scans { meter.new.scans ≡ meter.old.scans }
-        ensures steps { meter.new.steps ≤ meter.old.steps + cost_of_all self.old.objects.items }
-        ensures settled { All (IsSettled budget) self.old.objects.items → IsOk result }
-        ensures rests { All (IsSettled budget) self.old.objects.items → meter.new ≡ meter.old }
-        ensures marks { AreSameMarks (marks_in self.old) (marks_in self.new) }
-        ensures judged { OnOk result (AreJudged budget self.new Scope.Whole) }
     {
         absent_keys_are_legal();
         prefixes_are_linearizable();
@@ -237,15 +177,19 @@ impl Objects {
         ensures split { split_in self.new ≡ split_in self.old }
         ensures right { (kinds : ItemOf → KindOf) → AreRight self.old kinds budget events.now → AreRight self.new kinds budget events.now }
         ensures found { IfOk result (λ r. (kinds : ItemOf → KindOf) → AreRight self.old kinds budget events.now → IsWellFormed (functions_of kinds) events.now → AreFound kinds budget events.now self.old.keys.keys r.0 r.1) }
-        ensures alive { IfOk result (λ r. r.0 ≡ None → r.1 ≡ None → All IsAlive self.new.objects.items) }
-        ensures over { IfOk result (λ r. (at : ℕ) → r.1 ≡ Some at → IsOverFor self.new Scope.Whole at) }
+        ensures alive { IfOk result (λ r. r.0 ≡ None → r.1 ≡ None → IsMarkedAs events.now Scope.Whole (marks_in self.new) verdicts.Yes) }
+        ensures dead { IfOk result (λ r. (n : ℕ) → r.0 ≡ Some n → IsMarkedAs events.now Scope.Whole (marks_in self.new) (verdicts.No n)) }
+        ensures over { IfOk result (λ r. (at : ℕ) → r.1 ≡ Some at → IsMarkedAs events.now Scope.Whole (marks_in self.new) (verdicts.Undecided at)) }
+        ensures decided { IfOk result (λ r. (kinds : ItemOf → KindOf) → AreRight self.old kinds budget events.now → AreExact kinds events.now Scope.Whole → 1024 ≤ budget → r.1 ≡ None) }
+        ensures carried { AreCarriedOn events.now Scope.Whole (marks_in self.old) (marks_in self.new) }
+        ensures known { OnOk result (IsNothingDue events.now Scope.Whole (marks_in self.new)) }
+        ensures spent { OnOk result (IsSpentIn events.now Scope.Whole (marks_in self.old) (marks_in self.new) meter.old.steps meter.new.steps) }
+        ensures most { IsSpentAtMostIn events.now Scope.Whole (marks_in self.old) (marks_in self.new) meter.old.steps meter.new.steps }
+        ensures rests { IsNothingDue events.now Scope.Whole (marks_in self.old) → IsOk result × (meter.new ≡ meter.old) }
+        ensures exact { (kinds : ItemOf → KindOf) → AreRight self.old kinds budget events.now → AreExact kinds events.now Scope.Whole → 1024 ≤ budget → meter.new.steps ≤ meter.old.steps + due_in events.now Scope.Whole (marks_in self.old) }
         ensures scans { meter.new.scans ≡ meter.old.scans }
-        ensures steps { meter.new.steps ≤ meter.old.steps + cost_of_all self.old.objects.items }
-        ensures settled { All (IsSettled budget) self.old.objects.items → IsOk result }
-        ensures rests { All (IsSettled budget) self.old.objects.items → meter.new ≡ meter.old }
-        ensures marks { AreSameMarks (marks_in self.old) (marks_in self.new) }
-        ensures judged { OnOk result (AreJudged budget self.new Scope.Whole) }
     {
+        positions_spell_parts();
         let mut failing = None;
         let mut over = None;
         for i in 0..self.objects.len() {
@@ -272,16 +216,14 @@ impl Objects {
         ensures split { split_in self.new ≡ split_in self.old }
         ensures right { (kinds : ItemOf → KindOf) → AreRight self.old kinds budget events.now → AreRight self.new kinds budget events.now }
         ensures found { IfOk result (λ r. (kinds : ItemOf → KindOf) (key : ItemOf) → slice_get self.old.keys.keys i ≡ Some key → AreRight self.old kinds budget events.now → IsWellFormed (functions_of kinds) events.now → IsFinding kinds budget events.now key r.0 r.1) }
-        ensures alive { IfOk result (λ r. r.0 ≡ None → r.1 ≡ None → (object : ObjectOf) → slice_get self.new.objects.items i ≡ Some object → IsAlive object) }
-        ensures dead { IfOk result (λ r. (n : ℕ) (object : ObjectOf) → r.0 ≡ Some n → slice_get self.new.objects.items i ≡ Some object → IsDead n object) }
-        ensures over { IfOk result (λ r. (at : ℕ) (object : ObjectOf) → r.1 ≡ Some at → slice_get self.new.objects.items i ≡ Some object → StandsOver at object) }
-        ensures others { (j : ℕ) (object : ObjectOf) → j ≢ i → slice_get self.new.objects.items j ≡ Some object → slice_get self.old.objects.items j ≡ Some object }
+        ensures told { IfOk result (λ r. (key : ItemOf) → slice_get self.old.keys.keys i ≡ Some key → IsMarkedBy events.now (marks_in self.new) key r.0 r.1) }
+        ensures decided { IfOk result (λ r. (kinds : ItemOf → KindOf) (key : ItemOf) → slice_get self.old.keys.keys i ≡ Some key → AreRight self.old kinds budget events.now → HasExact (kinds key) → 1024 ≤ budget → r.1 ≡ None) }
+        ensures carried { (key : ItemOf) → slice_get self.old.keys.keys i ≡ Some key → AreCarriedOn events.now (Scope.Object key) (marks_in self.old) (marks_in self.new) }
+        ensures spent { OnOk result ((key : ItemOf) → slice_get self.old.keys.keys i ≡ Some key → IsSpentIn events.now (Scope.Object key) (marks_in self.old) (marks_in self.new) meter.old.steps meter.new.steps) }
+        ensures most { (key : ItemOf) → slice_get self.old.keys.keys i ≡ Some key → IsSpentAtMostIn events.now (Scope.Object key) (marks_in self.old) (marks_in self.new) meter.old.steps meter.new.steps }
+        ensures rests { (key : ItemOf) → slice_get self.old.keys.keys i ≡ Some key → IsKnown events.now (marks_in self.old) key → IsOk result × (meter.new ≡ meter.old) }
+        ensures exact { (kinds : ItemOf → KindOf) (key : ItemOf) → slice_get self.old.keys.keys i ≡ Some key → AreRight self.old kinds budget events.now → AreExact kinds events.now (Scope.Object key) → 1024 ≤ budget → meter.new.steps ≤ meter.old.steps + due_in events.now (Scope.Object key) (marks_in self.old) }
         ensures scans { meter.new.scans ≡ meter.old.scans }
-        ensures steps { (object : ObjectOf) → slice_get self.old.objects.items i ≡ Some object → meter.new.steps ≤ meter.old.steps + cost_of object }
-        ensures settled { (object : ObjectOf) → slice_get self.old.objects.items i ≡ Some object → IsSettled budget object → IsOk result }
-        ensures rests { (object : ObjectOf) → slice_get self.old.objects.items i ≡ Some object → IsSettled budget object → meter.new ≡ meter.old }
-        ensures marks { AreSameMarks (marks_in self.old) (marks_in self.new) }
-        ensures judged { OnOk result ((object : ObjectOf) → slice_get self.new.objects.items i ≡ Some object → IsJudged budget object) }
     {
         positions_spell_parts();
         parts_of_prefixes();
@@ -306,6 +248,19 @@ pub(crate) fn told(failing: Option<usize>, over: Option<usize>) -> Verdict
         Some(prefix) => match over {
             Some(at) if at < prefix => Verdict::Undecided { at },
             _ => Verdict::No { prefix },
+        },
+    }
+}
+
+/// The lesser of two numbers, where there are two.
+pub(crate) fn least_of(a: Option<usize>, b: Option<usize>) -> Option<usize>
+    ensures { result ≡ least a b }
+{
+    match a {
+        None => b,
+        Some(m) => match b {
+            None => Some(m),
+            Some(n) => Some(m.min(n)),
         },
     }
 }

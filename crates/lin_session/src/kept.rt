@@ -1,7 +1,6 @@
 //! What is kept of the objects of a history.
 ghost use Rattle.std.specs.Prelude.{◌≡◌, length};
 
-use crate::marks::Mark;
 use indexmap::IndexSet;
 use lin_chain::Chain;
 use lin_events::Item;
@@ -14,7 +13,6 @@ pub(crate) struct Object {
     /// At most as many as the history has of its events, and just as many from its first question on.
     pub(crate) count: usize,
     pub(crate) chain: Chain,
-    pub(crate) mark: Mark,
 }
 
 /// What is kept of the objects of a history: of each key that was met.

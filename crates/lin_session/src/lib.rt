@@ -3,8 +3,6 @@
 
 mod judgements;
 mod kept;
-mod lent;
-mod marks;
 mod merging;
 mod object;
 mod parts;

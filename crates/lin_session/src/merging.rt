@@ -1,13 +1,16 @@
 //! Legal orders of a history, out of those that its objects have.
-ghost use Rattle.std.specs.Prelude.{◌≡◌, ◌≢◌, ◌<◌, ℕ, All, IfOk, IfSome, None, Some, length, slice_get};
+ghost use Rattle.std.specs.Prelude.{◌≡◌, ◌<◌, ℕ, IfOk, Some, length, slice_get};
 ghost use Rattle.std.specs.List.{AllZip};
 ghost use Rattle.lin_events.specs.declared.items.Item.{Item as ItemOf};
 ghost use Rattle.lin_events.specs.WellFormed.{IsWellFormed};
 ghost use Rattle.lin_objects.specs.Kinds.{functions_of, kind_of};
 ghost use Rattle.lin_orders.specs.Linearizable.{IsLegalOrder, IsLegalOrderFor};
 ghost use Rattle.lin_orders.specs.Merging.{lists_of};
-ghost use Rattle.lin_session.specs.declared.kept.Object.{Object as ObjectOf};
-ghost use Rattle.lin_session.specs.inner.Judgements.{AreAlive, IsAlive, IsOrderFor};
+ghost use Rattle.lin_engines.specs.declared.ends.End.TheVariants as ends;
+ghost use Rattle.lin_answers.specs.declared.answers.Verdict.TheVariants as verdicts;
+ghost use Rattle.lin_session.specs.inner.Judgements.{IsOrderFor};
+ghost use Rattle.lin_session.specs.inner.Objects.{marks_in};
+ghost use Rattle.lin_session.specs.Marks.{IsMarkedAs, IsToldOf};
 ghost use Rattle.lin_session.specs.Objects.{AreRight, split_in};
 
 use crate::kept::Objects;
@@ -21,7 +24,7 @@ use lin_orders::{
 use std::alloc::Global;
 
 impl Objects {
-    /// A legal order for the scope, of which it is known that there is one. All events are told apart, and are well-formed.
+    /// A legal order for the scope, of which it is told that there is one. All events are told apart, and are well-formed.
     pub(crate) fn order(
         &self,
         alloc: Global,
@@ -29,7 +32,7 @@ impl Objects {
         events: &[Event],
         kinds: &Kinds,
     ) -> Result<Vec<Placed>, OutOfMemory>
-        requires alive { AreAlive self.now scope }
+        requires alive { IsMarkedAs events.now scope (marks_in self.now) verdicts.Yes }
         requires split { split_in self.now ≡ length events.now }
         requires right { (budget : ℕ) × AreRight self.now (kind_of kinds.now) budget events.now }
         requires well_formed { IsWellFormed (functions_of (kind_of kinds.now)) events.now }
@@ -48,7 +51,7 @@ impl Objects {
         events: &[Event],
         kinds: &Kinds,
     ) -> Result<Vec<Placed>, OutOfMemory>
-        requires alive { All IsAlive self.now.objects.items }
+        requires alive { IsMarkedAs events.now Scope.Whole (marks_in self.now) verdicts.Yes }
         requires split { split_in self.now ≡ length events.now }
         requires right { (budget : ℕ) × AreRight self.now (kind_of kinds.now) budget events.now }
         requires well_formed { IsWellFormed (functions_of (kind_of kinds.now)) events.now }
@@ -69,7 +72,7 @@ impl Objects {
         events: &[Event],
         kinds: &Kinds,
     ) -> Result<Vec<Vec<Placed>>, OutOfMemory>
-        requires alive { All IsAlive self.now.objects.items }
+        requires alive { IsMarkedAs events.now Scope.Whole (marks_in self.now) verdicts.Yes }
         requires split { split_in self.now ≡ length events.now }
         requires right { (budget : ℕ) × AreRight self.now (kind_of kinds.now) budget events.now }
         requires well_formed { IsWellFormed (functions_of (kind_of kinds.now)) events.now }
@@ -83,7 +86,7 @@ impl Objects {
         Ok(parts)
     }
 
-    /// A legal order for the object of the key, which has one or is not listed.
+    /// A legal order for the object of the key, which has one.
     fn order_of(
         &self,
         alloc: Global,
@@ -91,7 +94,7 @@ impl Objects {
         events: &[Event],
         kinds: &Kinds,
     ) -> Result<Vec<Placed>, OutOfMemory>
-        requires alive { AreAlive self.now (Scope.Object key) }
+        requires alive { IsToldOf events.now (marks_in self.now) key ends.Alive }
         requires split { split_in self.now ≡ length events.now }
         requires right { (budget : ℕ) × AreRight self.now (kind_of kinds.now) budget events.now }
         requires well_formed { IsWellFormed (functions_of (kind_of kinds.now)) events.now }
@@ -113,7 +116,7 @@ impl Objects {
         kinds: &Kinds,
     ) -> Result<Vec<Placed>, OutOfMemory>
         requires listed { i < length self.now.keys.keys }
-        requires alive { (object : ObjectOf) → slice_get self.now.objects.items i ≡ Some object → IsAlive object }
+        requires alive { (key : ItemOf) → slice_get self.now.keys.keys i ≡ Some key → IsToldOf events.now (marks_in self.now) key ends.Alive }
         requires split { split_in self.now ≡ length events.now }
         requires right { (budget : ℕ) × AreRight self.now (kind_of kinds.now) budget events.now }
         requires well_formed { IsWellFormed (functions_of (kind_of kinds.now)) events.now }

@@ -1,21 +1,20 @@
 //! What is kept of one object: where its events stand, and what is known of their legal orders.
-ghost use Rattle.std.specs.Prelude.{◌≡◌, ◌≢◌, ◌+◌, ◌-◌, ◌<◌, ◌≤◌, ◌∷◌, ◌++◌, [], ℕ, List, Bool, All, None, Some, min, IsOk, IsTrue, IfOk, IfSome, OnOk, OnErr, Ok, length, map, take};
+ghost use Rattle.std.specs.Prelude.{◌≡◌, ◌+◌, ◌-◌, ◌<◌, ◌≤◌, ◌∷◌, ◌++◌, [], ℕ, List, Bool, All, None, Some, IfOk, OnOk, OnErr, Ok, length, slice_get, take};
 ghost use Rattle.lin_events.specs.declared.items.Item.{Item as ItemOf};
 ghost use Rattle.lin_events.specs.declared.calls.Name.{Name as NameOf};
 ghost use Rattle.lin_events.specs.declared.events.Event.{Event as EventOf};
 ghost use Rattle.lin_events.specs.WellFormed.{IsWellFormed};
 ghost use Rattle.lin_orders.specs.Parts.{events_at, part, renamed};
-ghost use Rattle.lin_chain.specs.Chains.{IsAnswered, end_in, end_under, kind_in, ready_count, ready_under, told_in, IsRight as IsRightChain};
-ghost use Rattle.lin_chain.specs.Ends.{IsEndOf};
 ghost use Rattle.lin_orders.specs.Linearizable.{IsLegalOrderAs};
-ghost use Rattle.lin_session.specs.Objects.{IsKnownUnder};
-ghost use Rattle.lin_session.specs.inner.Objects.{Finds, IsOrderIn, IsPlaceIn, raised_object, settled_object};
-ghost use Rattle.lin_session.specs.inner.Costs.{IsSettled, cost_of};
-ghost use Rattle.lin_session.specs.inner.Judgements.{IsAlive};
-ghost use Rattle.lin_session.specs.Work.{rounded, touched, unasked};
+ghost use Rattle.lin_engines.specs.declared.ends.End.{End as EndOf};
+ghost use Rattle.lin_engines.specs.Ends.{IsEndOf};
+ghost use Rattle.lin_engines.specs.Exacts.{HasExact};
+ghost use Rattle.lin_chain.specs.Chains.{IsDecided, IsFor, IsKept, IsMarkBefore, kind_in, mark_in, told_in, IsRight as IsRightChain};
+ghost use Rattle.lin_chain.specs.Work.{IsSpent, IsSpentAtMost, unasked};
+ghost use Rattle.lin_session.specs.declared.kept.Object.{Object as ObjectOf};
+ghost use Rattle.lin_session.specs.inner.Objects.{Finds, IsOrderIn, IsPlaceIn, IsRaisedObject};
 
 use crate::kept::Object;
-use crate::marks::{Mark, round_down};
 use lin_chain::{Chain, End};
 use lin_events::{Event, Item, Meter, OutOfMemory};
 use lin_objects::Kind;
@@ -31,32 +30,23 @@ impl Object {
         meter: &mut Meter,
     ) -> Result<End, OutOfMemory>
         requires right { IsRightChain self.old.chain (events_at events.now self.old.picks.items) }
+        requires retried { IsFor budget self.old.chain }
         requires inside { All (λ at. at < length events.now) self.old.picks.items }
         requires well_formed { (functions : ItemOf → NameOf → Bool) × IsWellFormed functions (events_at events.now self.old.picks.items) }
-        requires known { self.old.mark.due ≡ None → IsKnownUnder budget (length self.old.picks.items) self.old.chain }
-        requires stands { (first : ℕ) → self.old.mark.due ≡ Some first → first ≤ ready_under budget self.old.chain }
         ensures picks { self.new.picks ≡ self.old.picks }
         ensures count { self.new.count ≡ length self.old.picks.items }
-        ensures mark { self.new.mark ≡ self.old.mark }
-        ensures kind { kind_in self.new.chain ≡ kind_in self.old.chain }
-        ensures right { IsRightChain self.new.chain (events_at events.now self.old.picks.items) }
+        ensures kept { IsKept budget (events_at events.now self.old.picks.items) self.old.chain self.new.chain }
         ensures end { IfOk result (IsEndOf (kind_in self.old.chain) budget (events_at events.now self.old.picks.items)) }
-        ensures told { IfOk result (λ end. told_in self.new.chain (length self.old.picks.items) ≡ end) }
-        ensures answered { OnOk result (IsAnswered self.new.chain (length self.old.picks.items)) }
+        ensures told { IfOk result (λ end. told_in self.new.chain (length self.old.picks.items) ≡ Some end) }
+        ensures again { (end : EndOf) → told_in self.old.chain (length self.old.picks.items) ≡ Some end → (result ≡ Ok end) × (self.new.chain ≡ self.old.chain) × (meter.new ≡ meter.old) }
+        ensures spent { OnOk result (IsSpent (mark_in self.old.chain) (mark_in self.new.chain) (length self.old.picks.items) meter.old.steps meter.new.steps) }
+        ensures most { IsSpentAtMost (mark_in self.old.chain) (mark_in self.new.chain) (length self.old.picks.items) meter.old.steps meter.new.steps }
+        ensures decided { HasExact (kind_in self.old.chain) → 1024 ≤ budget → IfOk result IsDecided }
+        ensures exact { HasExact (kind_in self.old.chain) → 1024 ≤ budget → meter.new.steps ≤ meter.old.steps + (length self.old.picks.items - (mark_in self.old.chain).beside) }
         ensures scans { meter.new.scans ≡ meter.old.scans }
-        ensures steps { meter.new.steps ≤ meter.old.steps + cost_of self.old }
-        ensures settled { IsSettled budget self.old → IsOk result }
-        ensures idle { IsSettled budget self.old → meter.new ≡ meter.old }
-        ensures known { self.old.mark.due ≡ None → IsKnownUnder budget (length self.old.picks.items) self.new.chain × (end_in self.new.chain ≡ end_under budget self.old.chain) }
-        ensures under { (end_under budget self.new.chain ≡ end_in self.new.chain) × (ready_under budget self.new.chain ≡ ready_count self.new.chain) }
-        ensures no_less { ready_under budget self.old.chain ≤ ready_count self.new.chain }
-        ensures remains { (other : ℕ) → min (ready_under budget self.old.chain) (ready_under other self.old.chain) ≤ ready_under other self.new.chain }
     {
         self.count = self.picks.len();
-        let search = self.mark.is_mostly_due(self.picks.len());
-        let known = self.mark.standing(self.picks.len());
-        self.chain
-            .settle(events, &self.picks, budget, known, search, meter)
+        self.chain.settle(events, &self.picks, budget, meter)
     }
 
     /// In positions of the history what its chain tells in places among its events.
@@ -72,10 +62,10 @@ impl Object {
         }
     }
 
-    /// A legal order of its events, in positions of the history. It is known that they have one.
+    /// A legal order of its events, in positions of the history. It is told that they have one.
     pub(crate) fn order(&self, alloc: Global) -> Result<Vec<Placed>, OutOfMemory>
         requires right { (h : List EventOf) × (length h ≡ length self.now.picks.items) × IsRightChain self.now.chain h }
-        requires alive { IsAlive self.now }
+        requires alive { told_in self.now.chain (length self.now.picks.items) ≡ Some End.Alive }
         ensures { IfOk result (λ order. (h : List EventOf) → length h ≡ length self.now.picks.items → IsRightChain self.now.chain h → IsOrderIn (IsLegalOrderAs (kind_in self.now.chain) h) self.now.picks.items order.items) }
     {
         let Some(mut order) = self.chain.order(alloc, self.picks.len())? else {
@@ -90,14 +80,14 @@ impl Object {
         ensures picks { result.picks.items ≡ [] }
         ensures count { result.count ≡ 0 }
         ensures kind { kind_in result.chain ≡ kind }
-        ensures mark { result.mark ≡ unasked }
+        ensures mark { mark_in result.chain ≡ unasked }
         ensures right { (h : List EventOf) → IsRightChain result.chain h }
+        ensures retried { (budget : ℕ) → IsFor budget result.chain }
     {
         Object {
             picks: Vec::new(alloc),
             count: 0,
             chain: Chain::new(alloc, kind),
-            mark: Mark::unasked(),
         }
     }
 
@@ -107,7 +97,6 @@ impl Object {
         ensures same { OnErr result (self.new.picks.items ≡ self.old.picks.items) }
         ensures count { self.new.count ≡ self.old.count }
         ensures chain { self.new.chain ≡ self.old.chain }
-        ensures mark { self.new.mark ≡ self.old.mark }
     {
         self.picks.push(at)?;
         Ok(())
@@ -119,24 +108,11 @@ impl Object {
         ensures count { self.new.count ≡ self.old.count }
         ensures kind { kind_in self.new.chain ≡ kind_in self.old.chain }
         ensures right { (ahead old edited : List EventOf) → self.old.count ≤ length ahead + length (part key behind.now) → IsRightChain self.old.chain (ahead ++ old) → IsRightChain self.new.chain (ahead ++ edited) }
-        ensures left { (other : ℕ) → min (rounded (self.old.count - length (part key behind.now))) (ready_under other self.old.chain) ≤ ready_under other self.new.chain }
-        ensures mark { self.new.mark ≡ touched (self.old.count - length (part key behind.now)) (rounded (self.old.count - length (part key behind.now))) self.old.mark }
+        ensures mark { (h : List EventOf) → IsRightChain self.old.chain h → IsMarkBefore (self.old.count - length (part key behind.now)) (mark_in self.old.chain) (mark_in self.new.chain) }
+        ensures retried { (budget : ℕ) → IsFor budget self.old.chain → IsFor budget self.new.chain }
     {
         let later = number_of(key, behind);
-        let place = self.count.saturating_sub(later);
-        self.chain.cut(place);
-        self.mark.touch(place, round_down(place));
-    }
-
-    /// The first of these events comes in place of an equal one: what its chain took in is kept.
-    pub(crate) fn touch_ahead_of(&mut self, key: Item, behind: &[Event])
-        ensures picks { self.new.picks ≡ self.old.picks }
-        ensures count { self.new.count ≡ self.old.count }
-        ensures chain { self.new.chain ≡ self.old.chain }
-        ensures mark { self.new.mark ≡ touched (self.old.count - length (part key behind.now)) (rounded (self.old.count - length (part key behind.now))) self.old.mark }
-    {
-        let place = self.count.saturating_sub(number_of(key, behind));
-        self.mark.touch(place, round_down(place));
+        self.chain.cut(self.count.saturating_sub(later));
     }
 
     /// What its chain took in is kept: the event that comes is the last one.
@@ -145,38 +121,27 @@ impl Object {
         ensures count { self.new.count ≡ self.old.count }
         ensures kind { kind_in self.new.chain ≡ kind_in self.old.chain }
         ensures right { (h edited : List EventOf) → take self.old.count h ≡ take self.old.count edited → IsRightChain self.old.chain h → IsRightChain self.new.chain edited }
-        ensures same { ready_count self.old.chain ≤ self.old.count → (other : ℕ) → ready_under other self.new.chain ≡ ready_under other self.old.chain }
-        ensures mark { self.new.mark ≡ touched self.old.count self.old.count self.old.mark }
+        ensures mark { (h : List EventOf) → IsRightChain self.old.chain h → IsMarkBefore self.old.count (mark_in self.old.chain) (mark_in self.new.chain) }
+        ensures retried { (budget : ℕ) → IsFor budget self.old.chain → IsFor budget self.new.chain }
     {
         self.chain.cut(self.count);
-        self.mark.touch(self.count, self.count);
     }
 
-    /// All its events were judged, if it has any.
-    pub(crate) fn mark(&mut self)
-        ensures { self.new ≡ settled_object self.old }
+    /// The budget is this one now.
+    pub(crate) fn raise(&mut self, budget: u32)
+        ensures { IsRaisedObject budget self.old self.new }
     {
-        if 0 < self.picks.len() {
-            self.mark = Mark::answered(self.chain.end(), self.chain.ready(), self.picks.len());
-        }
+        self.chain.raise(budget);
     }
 }
 
-/// The budget is larger now.
-pub(crate) fn raise_all(objects: &mut Vec<Object>)
-    ensures { objects.new.items ≡ map raised_object objects.old.items }
+/// The budget is this one now.
+pub(crate) fn raise_all(objects: &mut Vec<Object>, budget: u32)
+    ensures all { length objects.new.items ≡ length objects.old.items }
+    ensures each { (i : ℕ) (old new : ObjectOf) → slice_get objects.old.items i ≡ Some old → slice_get objects.new.items i ≡ Some new → IsRaisedObject budget old new }
 {
     for object in objects.iter_mut() {
-        object.mark.raise();
-    }
-}
-
-/// All objects were judged.
-pub(crate) fn mark_all(objects: &mut Vec<Object>)
-    ensures { objects.new.items ≡ map settled_object objects.old.items }
-{
-    for object in objects.iter_mut() {
-        object.mark();
+        object.raise(budget);
     }
 }
 

@@ -6,21 +6,19 @@ ghost use Rattle.lin_events.specs.declared.events.Event.{Event as EventOf};
 ghost use Rattle.lin_objects.specs.declared.kinds.Kind.{Kind as KindOf};
 ghost use Rattle.lin_objects.specs.Kinds.{kind_of};
 ghost use Rattle.lin_orders.specs.Orders.{is_of_key};
-ghost use Rattle.lin_orders.specs.Parts.{part};
+ghost use Rattle.lin_orders.specs.Parts.{ArePositionsOf, part};
+ghost use Rattle.lin_chain.specs.Work.{unasked};
 ghost use Rattle.lin_session.specs.Objects.{AreRight, split_in};
-ghost use Rattle.lin_session.specs.inner.Objects.{marks_in};
-ghost use Rattle.lin_session.specs.inner.Costs.{AreJudged};
-ghost use Rattle.lin_session.specs.inner.Judgements.{IsOverFor};
-ghost use Rattle.lin_session.specs.Marks.{AreMarked, IsMarkedOver};
-ghost use Rattle.lin_session.specs.Work.{AreSameMarks, AreTouched, raised, rounded, touched_at, unasked};
+ghost use Rattle.lin_session.specs.inner.Objects.{AreAppended, AreRekinded, AreTouched, marks_in};
+ghost use Rattle.lin_session.specs.Known.{AreSameMarks, count_before};
+ghost use Rattle.lin_session.specs.Leaving.{IsRebudgeted, IsTouched};
 
 use crate::kept::{Object, Objects};
-use crate::object::{mark_all, raise_all};
+use crate::object::raise_all;
 use indexmap::IndexSet;
-use lin_answers::Scope;
 use lin_events::{Event, Item, OutOfMemory};
 use lin_objects::{Kind, Kinds};
-use lin_orders::{parts_grow, parts_of_prefixes, positions_spell_parts};
+use lin_orders::{parts_grow, parts_of_prefixes};
 use std::alloc::Global;
 
 impl Objects {
@@ -45,6 +43,21 @@ impl Objects {
             Some(last) if *last == key => Some(self.keys.len() - 1),
             _ => self.keys.get_index_of(&key),
         }
+    }
+
+    /// Where the events of the key stand, if it has some and all are told apart.
+    pub(crate) fn positions(&self, key: Item, events: &[Event]) -> Option<&[usize]>
+        requires { (kinds : ItemOf → KindOf) × (budget : ℕ) × AreRight self.now kinds budget events.now }
+        ensures stand { IfSome result (λ picks. ArePositionsOf key events.now picks.now) }
+        ensures none { IfNone result (split_in self.now ≡ length events.now → part key events.now ≡ []) }
+    {
+        if self.split < events.len() {
+            return None;
+        }
+        let Some(i) = self.find(key) else {
+            return None;
+        };
+        Some(&self.objects[i].picks)
     }
 
     /// Forgets where the events from the position on stand.
@@ -80,7 +93,7 @@ impl Objects {
         ensures split { split_in self.new ≡ min at (split_in self.old) }
         ensures right { (kinds : ItemOf → KindOf) (budget : ℕ) → AreRight self.old kinds budget events.now → AreRight self.new kinds budget (remove events.now at) }
         ensures marks { (kinds : ItemOf → KindOf) (budget : ℕ) → AreRight self.old kinds budget events.now
-            → (x : ItemOf) → marks_in self.new x ≡ (if is_of_key events.now x at then touched_at events.now x at (marks_in self.old x) else marks_in self.old x) }
+            → (x : ItemOf) → IsTouched (is_of_key events.now x at) (count_before events.now x at) (marks_in self.old x) (marks_in self.new x) }
     {
         self.unsplit(events, at);
         self.take_out(events[at].key, &events[at + 1..]);
@@ -93,34 +106,10 @@ impl Objects {
         requires few { length events.now < usize.MAX }
         ensures right { (kinds : ItemOf → KindOf) (budget : ℕ) → AreRight self.old kinds budget events.now → AreRight self.new kinds budget (slice_set events.now at event.now) }
         ensures marks { (kinds : ItemOf → KindOf) (budget : ℕ) → AreRight self.old kinds budget events.now
-            → (x : ItemOf) → marks_in self.new x ≡ (if item_eq event.now.key x || is_of_key events.now x at then touched_at events.now x at (marks_in self.old x) else marks_in self.old x) }
+            → (x : ItemOf) → IsTouched (item_eq event.now.key x || is_of_key events.now x at) (count_before events.now x at) (marks_in self.old x) (marks_in self.new x) }
     {
         self.leave(events, at);
         self.put_in(event.key, &events[at + 1..]);
-    }
-
-    /// In place of the event at the position comes an equal one.
-    pub(crate) fn replace_by_equal(&mut self, events: &[Event], at: usize)
-        requires { at < length events.now }
-        ensures split { split_in self.new ≡ split_in self.old }
-        ensures right { (kinds : ItemOf → KindOf) (budget : ℕ) → AreRight self.old kinds budget events.now → AreRight self.new kinds budget events.now }
-        ensures marks { (kinds : ItemOf → KindOf) (budget : ℕ) → AreRight self.old kinds budget events.now
-            → (x : ItemOf) → marks_in self.new x ≡ (if is_of_key events.now x at then touched_at events.now x at (marks_in self.old x) else marks_in self.old x) }
-    {
-        self.touch(events[at].key, &events[at..]);
-    }
-
-    /// The first of these events, which is of the key, comes in place of an equal one.
-    fn touch(&mut self, key: Item, behind: &[Event])
-        ensures split { split_in self.new ≡ split_in self.old }
-        ensures right { (kinds : ItemOf → KindOf) (budget : ℕ) (before : List EventOf)
-            → AreRight self.old kinds budget (before ++ behind.now) → AreRight self.new kinds budget (before ++ behind.now) }
-        ensures marks { (kinds : ItemOf → KindOf) (budget : ℕ) (before : List EventOf)
-            → AreRight self.old kinds budget (before ++ behind.now) → AreTouched key (length (part key before)) (rounded (length (part key before))) (marks_in self.old) (marks_in self.new) }
-    {
-        if let Some(i) = self.find(key) {
-            self.objects[i].touch_ahead_of(key, behind);
-        }
     }
 
     /// An event of the key, ahead of these, leaves the history.
@@ -129,7 +118,7 @@ impl Objects {
         ensures right { (kinds : ItemOf → KindOf) (budget : ℕ) (before : List EventOf) (event : EventOf) → event.key ≡ key → split_in self.old ≤ length before
             → AreRight self.old kinds budget (before ++ event ∷ behind.now) → AreRight self.new kinds budget (before ++ behind.now) }
         ensures marks { (kinds : ItemOf → KindOf) (budget : ℕ) (before : List EventOf) (event : EventOf) → event.key ≡ key
-            → AreRight self.old kinds budget (before ++ event ∷ behind.now) → AreTouched key (length (part key before)) (rounded (length (part key before))) (marks_in self.old) (marks_in self.new) }
+            → AreRight self.old kinds budget (before ++ event ∷ behind.now) → AreTouched key (length (part key before)) (marks_in self.old) (marks_in self.new) }
     {
         if let Some(i) = self.find(key) {
             let object = &mut self.objects[i];
@@ -144,7 +133,7 @@ impl Objects {
         ensures right { (kinds : ItemOf → KindOf) (budget : ℕ) (before : List EventOf) (event : EventOf) → event.key ≡ key → split_in self.old ≤ length before → length before + length behind.now < usize.MAX
             → AreRight self.old kinds budget (before ++ behind.now) → AreRight self.new kinds budget (before ++ event ∷ behind.now) }
         ensures marks { (kinds : ItemOf → KindOf) (budget : ℕ) (before : List EventOf)
-            → AreRight self.old kinds budget (before ++ behind.now) → AreTouched key (length (part key before)) (rounded (length (part key before))) (marks_in self.old) (marks_in self.new) }
+            → AreRight self.old kinds budget (before ++ behind.now) → AreTouched key (length (part key before)) (marks_in self.old) (marks_in self.new) }
     {
         if let Some(i) = self.find(key) {
             let object = &mut self.objects[i];
@@ -157,7 +146,7 @@ impl Objects {
     pub(crate) fn put_last(&mut self, key: Item)
         ensures split { split_in self.new ≡ split_in self.old }
         ensures right { (kinds : ItemOf → KindOf) (budget : ℕ) (h : List EventOf) (event : EventOf) → event.key ≡ key → length h < usize.MAX → AreRight self.old kinds budget h → AreRight self.new kinds budget (h ++ event ∷ []) }
-        ensures marks { (kinds : ItemOf → KindOf) (budget : ℕ) (h : List EventOf) → AreRight self.old kinds budget h → AreTouched key (length (part key h)) (length (part key h)) (marks_in self.old) (marks_in self.new) }
+        ensures marks { (kinds : ItemOf → KindOf) (budget : ℕ) (h : List EventOf) → AreRight self.old kinds budget h → AreAppended key (marks_in self.old) (marks_in self.new) }
     {
         if let Some(i) = self.find(key) {
             let object = &mut self.objects[i];
@@ -169,12 +158,11 @@ impl Objects {
     /// The object of the key is of this kind.
     pub(crate) fn rekind(&mut self, key: Item, kind: Kind)
         ensures right { (kinds other : ItemOf → KindOf) (budget : ℕ) (h : List EventOf) → ((x : ItemOf) → other x ≡ (if item_eq key x then kind else kinds x)) → AreRight self.old kinds budget h → AreRight self.new other budget h }
-        ensures marks { (kinds : ItemOf → KindOf) (budget : ℕ) (h : List EventOf) → AreRight self.old kinds budget h → AreTouched key 0 0 (marks_in self.old) (marks_in self.new) }
+        ensures marks { (kinds : ItemOf → KindOf) (budget : ℕ) (h : List EventOf) → AreRight self.old kinds budget h → AreRekinded key (marks_in self.old) (marks_in self.new) }
     {
         if let Some(i) = self.find(key) {
             let object = &mut self.objects[i];
             object.chain.rekind(kind);
-            object.mark.touch(0, 0);
         }
     }
 
@@ -182,32 +170,10 @@ impl Objects {
     pub(crate) fn rebudget(&mut self, before: u32, after: u32)
         ensures split { split_in self.new ≡ split_in self.old }
         ensures right { (kinds : ItemOf → KindOf) (h : List EventOf) → AreRight self.old kinds before h → AreRight self.new kinds after h }
-        ensures marks { (key : ItemOf) → marks_in self.new key ≡ (if nat_lt before after then raised (marks_in self.old key) else marks_in self.old key) }
+        ensures marks { (kinds : ItemOf → KindOf) (h : List EventOf) → AreRight self.old kinds before h → (x : ItemOf) → IsRebudgeted (nat_lt before after) (marks_in self.old x) (marks_in self.new x) }
     {
         if before < after {
-            raise_all(&mut self.objects);
-        }
-    }
-
-    /// All objects of the scope that have an event were judged, and what was asked of them is answered.
-    pub(crate) fn mark(&mut self, scope: Scope)
-        ensures split { split_in self.new ≡ split_in self.old }
-        ensures right { (kinds : ItemOf → KindOf) (budget : ℕ) (h : List EventOf) → split_in self.old ≡ length h → AreRight self.old kinds budget h → AreJudged budget self.old scope
-            → AreRight self.new kinds budget h }
-        ensures marks { (kinds : ItemOf → KindOf) (budget : ℕ) (h : List EventOf) → split_in self.old ≡ length h → AreRight self.old kinds budget h → AreJudged budget self.old scope
-            → AreMarked kinds budget h scope (marks_in self.old) (marks_in self.new) }
-        ensures told { (kinds : ItemOf → KindOf) (budget : ℕ) (h : List EventOf) → split_in self.old ≡ length h → AreRight self.old kinds budget h → AreJudged budget self.old scope
-            → (at : ℕ) → IsOverFor self.old scope at → IsMarkedOver h scope (marks_in self.new) at }
-    {
-        positions_spell_parts();
-        parts_of_prefixes();
-        match scope {
-            Scope::Object(key) => {
-                if let Some(i) = self.find(key) {
-                    self.objects[i].mark();
-                }
-            }
-            Scope::Whole => mark_all(&mut self.objects),
+            raise_all(&mut self.objects, after);
         }
     }
 

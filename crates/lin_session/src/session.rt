@@ -1,30 +1,36 @@
 //! A history that is edited, with what was found of it kept up to date.
-ghost use Rattle.std.specs.Prelude.{◌≡◌, ◌≢◌, ◌↔◌, ◌<◌, ◌≤◌, ◌⊎◌, ◌+◌, ◌-◌, ◌∷◌, ◌++◌, [], ℕ, true, false, Err, None, Ok, Some, IfOk, IfErr, IfSome, IfNone, IsOk, OnOk, OnErr, length, slice_get, slice_set, remove, take, if◌then◌else◌};
+ghost use Rattle.std.specs.Prelude.{◌≡◌, ◌≢◌, ◌↔◌, ◌<◌, ◌≤◌, ◌⊎◌, ◌+◌, ◌-◌, ◌∷◌, ◌++◌, [], ℕ, true, false, Err, None, Ok, Some, IfOk, IfErr, IfSome, IfNone, IsOk, OnOk, OnErr, length, slice_get, slice_set, remove, take, nat_lt};
 ghost use Rattle.lin_events.specs.declared.items.Item.{Item as ItemOf};
 ghost use Rattle.lin_events.specs.WellFormed.{IsWellFormed};
 ghost use Rattle.lin_objects.specs.declared.kinds.Kind.{Kind as KindOf};
 ghost use Rattle.lin_objects.specs.Kinds.{functions_of, is_named, kind_of, named_count, same_for_all, with_kind};
+ghost use Rattle.lin_orders.specs.Orders.{is_of_key};
+ghost use Rattle.lin_orders.specs.Parts.{ArePositionsOf, part};
+ghost use Rattle.lin_order.specs.Refutations.{sets_of};
+ghost use Rattle.lin_engines.specs.Ends.{IsEndOf};
+ghost use Rattle.lin_chain.specs.Work.{unasked};
+ghost use Rattle.lin_answers.specs.declared.answers.Verdict.TheVariants as verdicts;
+ghost use Rattle.lin_answers.specs.Answers.{IsAnswer, IsVerdict, kinds_in, verdict_of};
 ghost use Rattle.lin_answers.specs.Edits.{IsBudget, IsRefused, edited};
-ghost use Rattle.lin_answers.specs.Answers.{IsAnswer, IsVerdict, kinds_in};
+ghost use Rattle.lin_answers.specs.Keys.{AreKeys};
 ghost use Rattle.lin_session.specs.Objects.{AreRight, split_in};
 ghost use Rattle.lin_session.specs.inner.Objects.{marks_in};
-ghost use Rattle.lin_orders.specs.Orders.{is_of_key};
-ghost use Rattle.lin_orders.specs.Parts.{part};
-ghost use Rattle.lin_chain.specs.Ends.{IsEndOf};
-ghost use Rattle.lin_session.specs.Marks.{AreMarked, IsMarkedOver, IsNothingDue};
-ghost use Rattle.lin_session.specs.Refuting.{IsRefuted, IsUnrefuted};
-ghost use Rattle.lin_answers.specs.Keys.{AreKeys};
-ghost use Rattle.lin_session.specs.Work.{AreSameMarks, anew, cost_in, low_after, mark_after, mark_of, touched_at, truncated, unasked};
+ghost use Rattle.lin_session.specs.Marks.{AreExact, IsMarkedAs, IsNothingDue, IsToldOf};
+ghost use Rattle.lin_session.specs.Refuting.{IsRefuted, IsUnrefuted, Refutes};
+ghost use Rattle.lin_session.specs.Sessions.{IsAnswered, IsQuestion};
+ghost use Rattle.lin_session.specs.Known.{count_before, mark_of};
+ghost use Rattle.lin_session.specs.Leaving.{IsMarkAfter, IsTouched, low_after, rounded};
 
+use crate::judgements::least_of;
 use crate::kept::Objects;
-use crate::lent::Lent;
-use crate::marks::{least_of, round_down};
 use crate::refuted::Refuted;
 use lin_answers::{Answer, Edit, EditFault, Present, Scope, Verdict, WholeHistory};
 use lin_chain::{End, RefuteFault};
 use lin_events::{Event, Item, Meter, OutOfMemory, Shape};
 use lin_names::Names;
 use lin_objects::{Kind, Kinds, KindsFault};
+use lin_order::Refutation;
+use lin_orders::Placed;
 use lin_wellformed::Scan;
 use std::alloc::Global;
 use std::marker::Model;
@@ -34,6 +40,9 @@ const EVENTS: usize = 1_000_000;
 
 /// The greatest budget.
 const BUDGET: u32 = 1_000_000;
+
+/// The distance between places that an edit goes back to.
+const SPACING: usize = 64;
 
 /// A history with the kinds of its objects and a budget, edited and asked about in turn.
 ///
@@ -51,12 +60,12 @@ pub struct Session {
 }
 
 impl Model for Session {
-    ghost use Rattle.lin_session.specs.Objects.{marked_keys};
+    ghost use Rattle.lin_session.specs.Objects.{known_keys};
     ghost use Rattle.lin_session.specs.Sessions.{Standing, IsUpToDate};
 
     ghost Value = { Standing };
 
-    ghost view = { λ s. record { present = record { history = s.events.items; kinds = s.kinds; budget = s.budget }; meter = s.meter; low = s.low; marks = marked_keys s.objects } };
+    ghost view = { λ s. record { present = record { history = s.events.items; kinds = s.kinds; budget = s.budget }; meter = s.meter; low = s.low; marks = known_keys s.objects } };
 
     ghost invariant = { λ s. IsUpToDate (record { history = s.events.items; kinds = s.kinds; budget = s.budget }) s.low s.scan s.objects };
 }
@@ -156,6 +165,15 @@ impl Session {
         self.budget
     }
 
+    /// Where the events of the key's object stand in the history, if it has some and all events are told apart, as they are behind a question
+    /// about a well-formed history.
+    pub fn positions(&self, key: Item) -> Option<&[usize]>
+        ensures stand { IfSome result (λ picks. ArePositionsOf key self.now.present.history picks.now) }
+        ensures none { IfNone result (self.now.low ≡ None → IsWellFormed (functions_of (kinds_in self.now.present)) self.now.present.history → part key self.now.present.history ≡ []) }
+    {
+        self.objects.positions(key, &self.events)
+    }
+
     /// How much was done so far.
     pub fn meter(&self) -> &Meter
         ensures { result.now ≡ self.now.meter }
@@ -163,9 +181,9 @@ impl Session {
         &self.meter
     }
 
-    /// Where an object is marked as over, its events up to there have more configurations than the budget.
+    /// Where it is told that an object is over, its events up to there have more configurations than the budget.
     pub fn overs_are_right(&self)
-        ensures { (key : ItemOf) (at : ℕ) → (mark_of self.now.marks key).over ≡ Some at → IsEndOf (kinds_in self.now.present key) self.now.present.budget (part key self.now.present.history) (End.Over at) }
+        ensures { (key : ItemOf) (at : ℕ) → IsToldOf self.now.present.history (mark_of self.now.marks) key (End.Over at) → IsEndOf (kinds_in self.now.present key) self.now.present.budget (part key self.now.present.history) (End.Over at) }
     {
         let _budget = self.budget;
     }
@@ -180,25 +198,24 @@ impl Session {
 
     /// Whether the present history is linearizable, for the scope.
     ///
-    /// An event of the scope's objects that is looked at anew is a step: each of those behind what stands as it was found may be looked at
-    /// twice, for frontiers and for an order that goes on; and where at least half of an object's events are due, a search may look at all,
-    /// which makes seven times each at most. What no edit touched since a question takes no step, no try and no memory, whatever was
-    /// answered, and time linear in the number of objects of the scope.
+    /// An object of the scope of which it is known how all its events end takes no step, no try and no memory, whatever was answered and
+    /// whatever was edited elsewhere. For any other one its engines take in what is due to them: an event is a step for each engine that takes
+    /// it in, and searches of all events are made again only where these have doubled, or where a witness can't go on. The time is linear in
+    /// the number of objects of the scope.
     ///
-    /// `OutOfMemory` is answered only where memory was refused; then the next question is answered as if this one had not been asked.
+    /// Of an object that has an engine of its own, as a set, it is never answered that it is undecided, with a budget from 1,024 on.
+    ///
+    /// `OutOfMemory` is answered only where memory was refused; what the engines took in till then stays.
     pub fn ask(&mut self, alloc: Global, scope: Scope) -> Result<Verdict, OutOfMemory>
         ensures verdict { IfOk result (IsVerdict self.old.present scope) }
-        ensures told { (at : ℕ) → result ≡ Ok (Verdict.Undecided at) → IsMarkedOver self.old.present.history scope (mark_of self.new.marks) at }
+        ensures told { IfOk result (IsMarkedAs self.old.present.history scope (mark_of self.new.marks)) }
+        ensures decided { AreExact (kinds_in self.old.present) self.old.present.history scope → 1024 ≤ self.old.present.budget → (at : ℕ) → result ≢ Ok (Verdict.Undecided at) }
         ensures present { self.new.present ≡ self.old.present }
-        ensures settled { OnOk result (self.new.low ≡ None) }
+        ensures question { IsQuestion scope 0 self.old self.new }
+        ensures answered { OnOk result (IsAnswered scope 0 self.old self.new) }
         ensures unsettled { OnErr result (self.new.low ≡ self.old.low) }
-        ensures scans { self.new.meter.scans ≤ self.old.meter.scans + anew self.old.low (length self.old.present.history) }
+        ensures idle { IsNothingDue self.old.present.history scope (mark_of self.old.marks) → (self.new.meter.steps ≡ self.old.meter.steps) × (self.new.meter.tries ≡ self.old.meter.tries) }
         ensures known { self.old.low ≡ None → (IsWellFormed (functions_of (kinds_in self.old.present)) self.old.present.history → ⊥) → IsOk result }
-        ensures marked { OnOk result (IsWellFormed (functions_of (kinds_in self.old.present)) self.old.present.history → AreMarked (kinds_in self.old.present) self.old.present.budget self.old.present.history scope (mark_of self.old.marks) (mark_of self.new.marks)) }
-        ensures unmarked { OnErr result (AreSameMarks (mark_of self.old.marks) (mark_of self.new.marks)) }
-        ensures ill_formed { (IsWellFormed (functions_of (kinds_in self.old.present)) self.old.present.history → ⊥) → AreSameMarks (mark_of self.old.marks) (mark_of self.new.marks) }
-        ensures steps { self.new.meter.steps ≤ self.old.meter.steps + cost_in (mark_of self.old.marks) self.old.present.history scope }
-        ensures idle { self.old.low ≡ None → IsNothingDue self.old.present.history scope (mark_of self.old.marks) → (self.new.meter.steps ≡ self.old.meter.steps) × (self.new.meter.tries ≡ self.old.meter.tries) }
         ensures ready { self.old.low ≡ None → IsNothingDue self.old.present.history scope (mark_of self.old.marks) → IsOk result }
     {
         match self
@@ -206,13 +223,14 @@ impl Session {
             .settle(&self.events, &self.kinds, &mut self.meter)?
         {
             Shape::Good => {
-                let present = Lent {
-                    history: &self.events,
-                    kinds: &self.kinds,
-                    budget: self.budget,
-                };
-                let found = self.objects.judge(alloc, scope, &present, &mut self.meter)?;
-                self.objects.mark(scope);
+                let found = self.objects.judge(
+                    alloc,
+                    scope,
+                    &self.events,
+                    &self.kinds,
+                    self.budget,
+                    &mut self.meter,
+                )?;
                 self.low = None;
                 Ok(found)
             }
@@ -223,84 +241,76 @@ impl Session {
         }
     }
 
-    /// As `ask`, with a legal order for a yes: the only memory that is taken where no edit touched anything.
+    /// As `ask`, with a legal order for a yes: the only memory that is taken where nothing has to be found.
     pub fn order(&mut self, alloc: Global, scope: Scope) -> Result<Answer, OutOfMemory>
         ensures answer { IfOk result (IsAnswer self.old.present scope) }
-        ensures told { (at : ℕ) → result ≡ Ok (Answer.Undecided at) → IsMarkedOver self.old.present.history scope (mark_of self.new.marks) at }
+        ensures told { IfOk result (λ answer. IsMarkedAs self.old.present.history scope (mark_of self.new.marks) (verdict_of answer)) }
+        ensures decided { AreExact (kinds_in self.old.present) self.old.present.history scope → 1024 ≤ self.old.present.budget → (at : ℕ) → result ≢ Ok (Answer.Undecided at) }
         ensures present { self.new.present ≡ self.old.present }
-        ensures settled { OnOk result (self.new.low ≡ None) }
-        ensures unsettled { OnErr result (self.new.low ≡ self.old.low) }
-        ensures scans { self.new.meter.scans ≤ self.old.meter.scans + anew self.old.low (length self.old.present.history) }
+        ensures question { IsQuestion scope 0 self.old self.new }
+        ensures answered { OnOk result (IsAnswered scope 0 self.old self.new) }
+        ensures idle { IsNothingDue self.old.present.history scope (mark_of self.old.marks) → (self.new.meter.steps ≡ self.old.meter.steps) × (self.new.meter.tries ≡ self.old.meter.tries) }
         ensures known { self.old.low ≡ None → (IsWellFormed (functions_of (kinds_in self.old.present)) self.old.present.history → ⊥) → IsOk result }
-        ensures marked { OnOk result (IsWellFormed (functions_of (kinds_in self.old.present)) self.old.present.history → AreMarked (kinds_in self.old.present) self.old.present.budget self.old.present.history scope (mark_of self.old.marks) (mark_of self.new.marks)) }
-        ensures unmarked { OnErr result (AreSameMarks (mark_of self.old.marks) (mark_of self.new.marks)) }
-        ensures ill_formed { (IsWellFormed (functions_of (kinds_in self.old.present)) self.old.present.history → ⊥) → AreSameMarks (mark_of self.old.marks) (mark_of self.new.marks) }
-        ensures steps { self.new.meter.steps ≤ self.old.meter.steps + cost_in (mark_of self.old.marks) self.old.present.history scope }
-        ensures idle { self.old.low ≡ None → IsNothingDue self.old.present.history scope (mark_of self.old.marks) → (self.new.meter.steps ≡ self.old.meter.steps) × (self.new.meter.tries ≡ self.old.meter.tries) }
         ensures ready { self.old.low ≡ None → IsNothingDue self.old.present.history scope (mark_of self.old.marks) → (IsVerdict self.old.present scope Verdict.Yes → ⊥) → IsOk result }
     {
-        match self
-            .scan
-            .settle(&self.events, &self.kinds, &mut self.meter)?
-        {
-            Shape::Good => {
-                let present = Lent {
-                    history: &self.events,
-                    kinds: &self.kinds,
-                    budget: self.budget,
-                };
-                let found = self
-                    .objects
-                    .answer(alloc, scope, &present, &mut self.meter)?;
-                self.objects.mark(scope);
-                self.low = None;
-                Ok(found)
+        match self.ask(alloc, scope)? {
+            Verdict::Yes => {
+                let order = self.read_order(alloc, scope)?;
+                Ok(Answer::Yes(order))
             }
-            Shape::Bad { at, cause } => {
-                self.low = None;
-                Ok(Answer::IllFormed { at, cause })
-            }
+            Verdict::No { prefix } => Ok(Answer::No { prefix }),
+            Verdict::Undecided { at } => Ok(Answer::Undecided { at }),
+            Verdict::IllFormed { at, cause } => Ok(Answer::IllFormed { at, cause }),
         }
     }
 
-    /// A refutation of the key's object, or its answer where that isn't a no.
+    /// A legal order for the scope, of which it is told that there is one.
+    fn read_order(&self, alloc: Global, scope: Scope) -> Result<Vec<Placed>, OutOfMemory>
+        requires yes { IsVerdict self.now.present scope verdicts.Yes }
+        requires told { IsMarkedAs self.now.present.history scope (mark_of self.now.marks) verdicts.Yes }
+        requires settled { self.now.low ≡ None }
+        ensures { IfOk result (λ order. IsAnswer self.now.present scope (Answer.Yes order)) }
+    {
+        self.objects.order(alloc, scope, &self.events, &self.kinds)
+    }
+
+    /// A refutation of the key's object, or its answer where that isn't a no. It takes a step for each event of the object, besides those of
+    /// `ask`.
     ///
     /// The sets speak of the object's events in the prefix of the answer. `TooLarge` is answered only for an object that is a
     /// no, and only where some prefix has more configurations of it than the budget; `OutOfMemory` as by `ask`; `NotDead` never.
     pub fn refute(&mut self, alloc: Global, key: Item) -> Result<Refuted, RefuteFault>
         ensures refuted { IfOk result (IsRefuted self.old.present key) }
         ensures unrefuted { IfErr result (IsUnrefuted self.old.present key) }
+        ensures decided { AreExact (kinds_in self.old.present) self.old.present.history (Scope.Object key) → 1024 ≤ self.old.present.budget → (at : ℕ) → result ≢ Ok (Refuted.Not (Answer.Undecided at)) }
         ensures present { self.new.present ≡ self.old.present }
-        ensures settled { OnOk result (self.new.low ≡ None) }
-        ensures unsettled { OnErr result (self.new.low ≡ self.old.low) }
-        ensures scans { self.new.meter.scans ≤ self.old.meter.scans + anew self.old.low (length self.old.present.history) }
+        ensures question { IsQuestion (Scope.Object key) (length (part key self.old.present.history)) self.old self.new }
+        ensures answered { OnOk result (IsAnswered (Scope.Object key) (length (part key self.old.present.history)) self.old self.new) }
         ensures known { self.old.low ≡ None → (IsWellFormed (functions_of (kinds_in self.old.present)) self.old.present.history → ⊥) → IsOk result }
-        ensures marked { OnOk result (IsWellFormed (functions_of (kinds_in self.old.present)) self.old.present.history → AreMarked (kinds_in self.old.present) self.old.present.budget self.old.present.history (Scope.Object key) (mark_of self.old.marks) (mark_of self.new.marks)) }
-        ensures unmarked { OnErr result (AreSameMarks (mark_of self.old.marks) (mark_of self.new.marks)) }
-        ensures ill_formed { (IsWellFormed (functions_of (kinds_in self.old.present)) self.old.present.history → ⊥) → AreSameMarks (mark_of self.old.marks) (mark_of self.new.marks) }
-        ensures steps { self.new.meter.steps ≤ self.old.meter.steps + cost_in (mark_of self.old.marks) self.old.present.history (Scope.Object key) }
-        ensures idle { self.old.low ≡ None → IsNothingDue self.old.present.history (Scope.Object key) (mark_of self.old.marks) → (self.new.meter.steps ≡ self.old.meter.steps) × (self.new.meter.tries ≡ self.old.meter.tries) }
     {
-        let Ok(shape) = self.scan.settle(&self.events, &self.kinds, &mut self.meter) else {
-            return Err(RefuteFault::OutOfMemory);
-        };
-        match shape {
-            Shape::Good => {
-                let present = Lent {
-                    history: &self.events,
-                    kinds: &self.kinds,
-                    budget: self.budget,
-                };
-                let refuted = self.objects.refute(alloc, key, &present, &mut self.meter)?;
-                self.objects.mark(Scope::Object(key));
-                self.low = None;
-                Ok(refuted)
+        match self.order(alloc, Scope::Object(key)) {
+            Ok(Answer::No { prefix }) => {
+                let refutation = self.read_sets(alloc, key)?;
+                Ok(Refuted::No { prefix, refutation })
             }
-            Shape::Bad { at, cause } => {
-                self.low = None;
-                Ok(Refuted::Not(Answer::IllFormed { at, cause }))
-            }
+            Ok(answer) => Ok(Refuted::Not(answer)),
+            Err(_) => Err(RefuteFault::OutOfMemory),
         }
+    }
+
+    /// Sets that refute the key's object, of which it is told that it is dead.
+    fn read_sets(&mut self, alloc: Global, key: Item) -> Result<Refutation, RefuteFault>
+        requires no { (n : ℕ) × IsVerdict self.old.present (Scope.Object key) (verdicts.No n) × IsMarkedAs self.old.present.history (Scope.Object key) (mark_of self.old.marks) (verdicts.No n) }
+        requires settled { self.old.low ≡ None }
+        ensures refuted { IfOk result (λ refutation. (n : ℕ) → IsVerdict self.old.present (Scope.Object key) (verdicts.No n) → IsMarkedAs self.old.present.history (Scope.Object key) (mark_of self.old.marks) (verdicts.No n)
+            → Refutes self.old.present key n (sets_of refutation)) }
+        ensures unrefuted { IfErr result (IsUnrefuted self.old.present key) }
+        ensures same { self.new ≡ record self.old { meter = self.new.meter } }
+        ensures steps { self.new.meter.steps ≤ self.old.meter.steps + length (part key self.old.present.history) }
+        ensures scans { self.new.meter.scans ≡ self.old.meter.scans }
+    {
+        self.objects
+            .refutation(alloc, key, &self.events, self.budget, &mut self.meter)
     }
 
     /// Makes the edit, or hands it back with why it is refused, and then nothing has changed.
@@ -315,7 +325,7 @@ impl Session {
         ensures same { OnErr result (self.new ≡ self.old) }
         ensures idle { self.new.meter ≡ self.old.meter }
         ensures low { OnOk result (self.new.low ≡ low_after edit self.old.present self.old.low) }
-        ensures marks { OnOk result ((x : ItemOf) → mark_of self.new.marks x ≡ mark_after edit self.old.present x (mark_of self.old.marks x)) }
+        ensures marks { OnOk result ((x : ItemOf) → IsMarkAfter edit self.old.present x (mark_of self.old.marks x) (mark_of self.new.marks x)) }
     {
         match edit {
             Edit::Append(event) => match self.append(event) {
@@ -352,7 +362,7 @@ impl Session {
         ensures same { OnErr result (self.new ≡ self.old) }
         ensures idle { self.new.meter ≡ self.old.meter }
         ensures low { OnOk result (self.new.low ≡ low_after (Edit.Append event) self.old.present self.old.low) }
-        ensures marks { OnOk result ((x : ItemOf) → mark_of self.new.marks x ≡ mark_after (Edit.Append event) self.old.present x (mark_of self.old.marks x)) }
+        ensures marks { OnOk result ((x : ItemOf) → IsMarkAfter (Edit.Append event) self.old.present x (mark_of self.old.marks x) (mark_of self.new.marks x)) }
     {
         if self.events.len() >= EVENTS {
             return Err((event, EditFault::Full));
@@ -374,7 +384,7 @@ impl Session {
         ensures same { OnErr result (self.new ≡ self.old) }
         ensures idle { self.new.meter ≡ self.old.meter }
         ensures low { OnOk result (self.new.low ≡ low_after (Edit.Truncate count) self.old.present self.old.low) }
-        ensures marks { OnOk result ((x : ItemOf) → mark_of self.new.marks x ≡ mark_after (Edit.Truncate count) self.old.present x (mark_of self.old.marks x)) }
+        ensures marks { OnOk result ((x : ItemOf) → IsMarkAfter (Edit.Truncate count) self.old.present x (mark_of self.old.marks x) (mark_of self.new.marks x)) }
     {
         if count > self.events.len() {
             return Err(EditFault::BadPosition);
@@ -392,15 +402,14 @@ impl Session {
         ensures same { OnErr result (self.new ≡ self.old) }
         ensures idle { self.new.meter ≡ self.old.meter }
         ensures low { OnOk result (self.new.low ≡ low_after (Edit.Replace at event) self.old.present self.old.low) }
-        ensures marks { OnOk result ((x : ItemOf) → mark_of self.new.marks x ≡ mark_after (Edit.Replace at event) self.old.present x (mark_of self.old.marks x)) }
+        ensures marks { OnOk result ((x : ItemOf) → IsMarkAfter (Edit.Replace at event) self.old.present x (mark_of self.old.marks x) (mark_of self.new.marks x)) }
     {
         if at >= self.events.len() {
             return Err((event, EditFault::BadPosition));
         }
         self.low = least_of(self.low, Some(round_down(at)));
-        // The history stays as it is, and so does what was found of it.
+        // The history stays as it is, and so does what is known of it.
         if self.events[at] == event {
-            self.objects.replace_by_equal(&self.events, at);
             return Ok(());
         }
         self.scan.cut(at);
@@ -416,7 +425,7 @@ impl Session {
         ensures same { OnErr result (self.new ≡ self.old) }
         ensures idle { self.new.meter ≡ self.old.meter }
         ensures low { OnOk result (self.new.low ≡ low_after (Edit.Remove at) self.old.present self.old.low) }
-        ensures marks { OnOk result ((x : ItemOf) → mark_of self.new.marks x ≡ mark_after (Edit.Remove at) self.old.present x (mark_of self.old.marks x)) }
+        ensures marks { OnOk result ((x : ItemOf) → IsMarkAfter (Edit.Remove at) self.old.present x (mark_of self.old.marks x) (mark_of self.new.marks x)) }
     {
         if at >= self.events.len() {
             return Err(EditFault::BadPosition);
@@ -435,7 +444,7 @@ impl Session {
         ensures same { OnErr result (self.new ≡ self.old) }
         ensures idle { self.new.meter ≡ self.old.meter }
         ensures low { OnOk result (self.new.low ≡ low_after (Edit.SetKind key kind) self.old.present self.old.low) }
-        ensures marks { OnOk result ((x : ItemOf) → mark_of self.new.marks x ≡ mark_after (Edit.SetKind key kind) self.old.present x (mark_of self.old.marks x)) }
+        ensures marks { OnOk result ((x : ItemOf) → IsMarkAfter (Edit.SetKind key kind) self.old.present x (mark_of self.old.marks x) (mark_of self.new.marks x)) }
     {
         match self.kinds.set(key, kind) {
             Ok(()) => {}
@@ -456,7 +465,7 @@ impl Session {
         ensures same { OnErr result (self.new ≡ self.old) }
         ensures idle { self.new.meter ≡ self.old.meter }
         ensures low { OnOk result (self.new.low ≡ low_after (Edit.SetBudget budget) self.old.present self.old.low) }
-        ensures marks { OnOk result ((x : ItemOf) → mark_of self.new.marks x ≡ mark_after (Edit.SetBudget budget) self.old.present x (mark_of self.old.marks x)) }
+        ensures marks { OnOk result ((x : ItemOf) → IsMarkAfter (Edit.SetBudget budget) self.old.present x (mark_of self.old.marks x) (mark_of self.new.marks x)) }
     {
         if !is_budget(budget) {
             return Err(EditFault::BadBudget);
@@ -472,7 +481,7 @@ fn cut_back(events: &mut Vec<Event>, objects: &mut Objects, count: usize)
     requires { split_in objects.old ≤ length events.old.items }
     ensures left { events.new.items ≡ take count events.old.items }
     ensures right { (kinds : ItemOf → KindOf) (budget : ℕ) → AreRight objects.old kinds budget events.old.items → AreRight objects.new kinds budget events.new.items }
-    ensures marks { (kinds : ItemOf → KindOf) (budget : ℕ) → AreRight objects.old kinds budget events.old.items → (x : ItemOf) → marks_in objects.new x ≡ truncated events.old.items x count (marks_in objects.old x) }
+    ensures marks { (kinds : ItemOf → KindOf) (budget : ℕ) → AreRight objects.old kinds budget events.old.items → (x : ItemOf) → IsTouched (nat_lt (count_before events.old.items x count) (length (part x events.old.items))) (count_before events.old.items x count) (marks_in objects.old x) (marks_in objects.new x) }
 {
     while events.len() > count {
         drop_last(events, objects);
@@ -487,7 +496,7 @@ fn drop_last(events: &mut Vec<Event>, objects: &mut Objects)
     ensures within { split_in objects.new ≤ length events.new.items }
     ensures right { (kinds : ItemOf → KindOf) (budget : ℕ) → AreRight objects.old kinds budget events.old.items → AreRight objects.new kinds budget events.new.items }
     ensures marks { (kinds : ItemOf → KindOf) (budget : ℕ) → AreRight objects.old kinds budget events.old.items
-        → (x : ItemOf) → marks_in objects.new x ≡ (if is_of_key events.old.items x (length events.old.items - 1) then touched_at events.old.items x (length events.old.items - 1) (marks_in objects.old x) else marks_in objects.old x) }
+        → (x : ItemOf) → IsTouched (is_of_key events.old.items x (length events.old.items - 1)) (count_before events.old.items x (length events.old.items - 1)) (marks_in objects.old x) (marks_in objects.new x) }
 {
     let last = events.len() - 1;
     objects.leave(events, last);
@@ -499,4 +508,11 @@ fn is_budget(budget: u32) -> bool
     ensures { (result ≡ true) ↔ IsBudget budget }
 {
     1 <= budget && budget <= BUDGET
+}
+
+/// The greatest multiple of the spacing that is at most the place.
+fn round_down(place: usize) -> usize
+    ensures { result ≡ rounded place }
+{
+    place / SPACING * SPACING
 }

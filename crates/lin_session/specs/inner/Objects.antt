@@ -1,30 +1,44 @@
 -- What is found of objects that are kept, and what is left of their marks.
-use Rattle.std.specs.Prelude.{Option, None, ◌+◌, slice_index, ◌≡◌, ◌<◌, ℕ, List, Some, length, nat_lt, if◌then◌else◌}
+use Rattle.std.specs.Prelude.{Option, None, ◌+◌, slice_index, ◌≡◌, ◌<◌, ℕ, List, Some}
 use Rattle.lin_events.specs.declared.items.Item.{Item}
+use Rattle.lin_events.specs.declared.events.Event.{Event}
 use Rattle.lin_orders.specs.Parts.{renamed}
-use Rattle.lin_chain.specs.Chains.{end_in, ready_count}
-use Rattle.lin_chain.specs.declared.chain.End.{End}
-use Rattle.lin_chain.specs.declared.chain.End.TheVariants.{Alive, Dead, Over}
 use Rattle.lin_orders.specs.declared.placed.Placed.{Placed}
+use Rattle.lin_engines.specs.declared.ends.End.{End}
+use Rattle.lin_engines.specs.declared.ends.End.TheVariants.{Alive, Dead, Over}
+use Rattle.lin_chain.specs.Chains.{IsFor, IsRight, kind_in, mark_in}
+use Rattle.lin_chain.specs.Work.{Mark}
 use Rattle.lin_session.specs.declared.kept.Object.{Object}
 use Rattle.lin_session.specs.declared.kept.Objects.{Objects}
-use Rattle.lin_session.specs.declared.marks.Mark.{Mark}
-use Rattle.lin_session.specs.Work.{answered_at, mark_of, raised}
-use Rattle.lin_session.specs.Objects.{marked_keys}
+use Rattle.lin_session.specs.Known.{mark_of}
+use Rattle.lin_session.specs.Leaving.{IsAppended, IsRaised, IsRekinded, IsTouched}
+use Rattle.lin_session.specs.Objects.{known_keys}
+use Rattle.lin_events.specs.Items.{item_eq}
 
 -- the mark of the key's object
 abbrev pub marks_in : Objects → Item → Mark
-marks_in objects key = mark_of (marked_keys objects) key
+marks_in objects key = mark_of (known_keys objects) key
 
 -- the object under a larger budget
-abbrev pub raised_object : Object → Object
-raised_object object = record object { mark = raised object.mark }
+pub record IsRaisedObject (budget : ℕ) (old new : Object) : Type 0 where
+  pub picks : new.picks ≡ old.picks
+  pub count : new.count ≡ old.count
+  pub kind : kind_in new.chain ≡ kind_in old.chain
+  pub right : (h : List Event) → IsRight old.chain h → IsRight new.chain h
+  pub retried : IsFor budget new.chain
+  pub mark : (h : List Event) → IsRight old.chain h → IsRaised (mark_in old.chain) (mark_in new.chain)
 
--- the object after a question, if it has an event
-abbrev pub settled_object : Object → Object
-settled_object object = record object {
-  mark = if nat_lt 0 (length object.picks.items) then answered_at (end_in object.chain) (ready_count object.chain) (length object.picks.items) else object.mark;
-}
+-- the object of the key is touched at the place, and no other one
+abbrev pub AreTouched : Item → ℕ → (Item → Mark) → (Item → Mark) → Type 0
+AreTouched key place old new = (x : Item) → IsTouched (item_eq key x) place (old x) (new x)
+
+-- it has an event more
+abbrev pub AreAppended : Item → (Item → Mark) → (Item → Mark) → Type 0
+AreAppended key old new = (x : Item) → IsAppended (item_eq key x) (old x) (new x)
+
+-- it is of another kind
+abbrev pub AreRekinded : Item → (Item → Mark) → (Item → Mark) → Type 0
+AreRekinded key old new = (x : Item) → IsRekinded (item_eq key x) (old x) (new x)
 
 -- the place that an end tells, if it tells one, is among so many
 abbrev pub IsPlaceIn : ℕ → End → Type 0

@@ -1,4 +1,4 @@
-use Rattle.std.proofs.Common.{◌≡◌, ◌<◌, ◌≤◌, ◌-◌, ◌+◌, List, length, take, sym, ap, subst, ◌∙◌, arith, if◌then◌else◌}
+use Rattle.std.proofs.Common.{◌≡◌, ◌<◌, ◌≤◌, ◌-◌, ◌+◌, List, length, take, sym, ap, subst, ◌∙◌, arith}
 use Rattle.std.proofs.lemmas.List.{length-take, length-take-le, take-take}
 use Rattle.lin_orders.specs.Orders.{is_of_key}
 use Rattle.lin_session.specs.inner.Objects.{marks_in}
@@ -6,7 +6,8 @@ use Rattle.std.proofs.Common.{inl, inr, nat_lt}
 use Rattle.std.proofs.lemmas.Bool.{cases_lt}
 use Rattle.std.proofs.lemmas.List.{take_all}
 use Rattle.lin_orders.specs.Parts.{part}
-use Rattle.lin_session.specs.Work.{rounded, touched, touched_at, truncated}
+use Rattle.lin_session.specs.Known.{count_before}
+use Rattle.lin_session.specs.Leaving.{IsTouched}
 use Rattle.lin_lists.specs.lemmas.Taken.{element_at}
 use Rattle.lin_session.proofs.Touching.{truncated_next}
 use Rattle.lin_session.proofs.session.cut_back.Goals as goal
@@ -34,11 +35,12 @@ loop-events-preserved c =
           let m = length h in
           let some : 0 < m = omega (arith, above) in
           let e = element_at all (m - 1) (omega (arith, above, inside)) in
-          let was = c.loop-events.invariant.marks kinds budget kept x in
+          let old = marks_in c.args.objects.now x in
           let mid = marks_in c.loop-events.objects x in
           let new = marks_in c.drop_last.new.objects x in
-          let now = subst (λ l. new ≡ (if is_of_key l x (m - 1) then touched_at l x (m - 1) mid else mid)) c.loop-events.invariant.left (d.marks kinds budget (c.loop-events.invariant.right kinds budget kept) x) in
-          truncated_next all x m e.0 (marks_in c.args.objects.now x) mid new some inside e.1 was now ∙ ap (λ n. truncated all x n (marks_in c.args.objects.now x)) (sym few);
+          let now = subst (λ l. IsTouched (is_of_key l x (m - 1)) (count_before l x (m - 1)) mid new) c.loop-events.invariant.left (d.marks kinds budget (c.loop-events.invariant.right kinds budget kept) x) in
+          subst (λ n. IsTouched (nat_lt (count_before all x n) (length (part x all))) (count_before all x n) old new) (sym few)
+          (truncated_next all x m e.0 old mid new some inside e.1 (c.loop-events.invariant.marks kinds budget kept x) now);
       right = λ kinds budget kept. d.right kinds budget (c.loop-events.invariant.right kinds budget kept);
     }
 
@@ -53,4 +55,4 @@ returns-clause-marks c = λ kinds budget kept x.
       | inl fewer ↦ ap (λ n. take n all) (omega (arith, ends, inv.enough (omega (arith, fewer))))
       | inr short ↦ sym inv.left ∙ inv.few short ∙ sym (take_all c.args.count all short)
     ] in
-    inv.marks kinds budget kept x ∙ ap (λ l. if nat_lt (length (part x l)) (length (part x all)) then touched (length (part x l)) (rounded (length (part x l))) old else old) front
+    subst (λ l. IsTouched (nat_lt (length (part x l)) (length (part x all))) (length (part x l)) old (marks_in c.loop-events.objects x)) front (inv.marks kinds budget kept x)

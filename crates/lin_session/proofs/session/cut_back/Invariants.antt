@@ -1,9 +1,11 @@
-use Rattle.std.proofs.Common.{◌≡◌, ◌≤◌, ℕ, length, take}
+use Rattle.std.proofs.Common.{◌≡◌, ◌≤◌, ℕ, length, nat_lt, take}
 use Rattle.lin_events.specs.declared.items.Item.{Item}
 use Rattle.lin_objects.specs.declared.kinds.Kind.{Kind}
+use Rattle.lin_orders.specs.Parts.{part}
 use Rattle.lin_session.specs.Objects.{AreRight, split_in}
 use Rattle.lin_session.specs.inner.Objects.{marks_in}
-use Rattle.lin_session.specs.Work.{truncated}
+use Rattle.lin_session.specs.Known.{count_before}
+use Rattle.lin_session.specs.Leaving.{IsTouched}
 use Rattle.lin_session.proofs.session.cut_back.Given as goal
 
 abbrev pub invariant-loop-events : goal.invariant-loop-events
@@ -14,7 +16,7 @@ invariant-loop-events l = record {
   few : length l.initial.events.items ≤ l.count → l.events.items ≡ l.initial.events.items;
   right : (kinds : Item → Kind) (budget : ℕ) → AreRight l.initial.objects kinds budget l.initial.events.items → AreRight l.objects kinds budget l.events.items;
   marks : (kinds : Item → Kind) (budget : ℕ) → AreRight l.initial.objects kinds budget l.initial.events.items
-      → (x : Item) → marks_in l.objects x ≡ truncated l.initial.events.items x (length l.events.items) (marks_in l.initial.objects x);
+      → (x : Item) → IsTouched (nat_lt (count_before l.initial.events.items x (length l.events.items)) (length (part x l.initial.events.items))) (count_before l.initial.events.items x (length l.events.items)) (marks_in l.initial.objects x) (marks_in l.objects x);
 }
 
 abbrev pub decreases-loop-events : goal.decreases-loop-events

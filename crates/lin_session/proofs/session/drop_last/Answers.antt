@@ -2,10 +2,11 @@ use Rattle.std.proofs.Common.{◌-◌, subst, sym, ◌∙◌, arith}
 use Rattle.std.specs.Prelude.{remove}
 use Rattle.lin_session.specs.Objects.{AreRight}
 use Rattle.lin_lists.specs.lemmas.Taken.{removed_last}
-use Rattle.std.proofs.Common.{◌≡◌, length, if◌then◌else◌}
+use Rattle.std.proofs.Common.{◌≡◌, length}
 use Rattle.lin_orders.specs.Orders.{is_of_key}
 use Rattle.lin_session.specs.inner.Objects.{marks_in}
-use Rattle.lin_session.specs.Work.{touched_at}
+use Rattle.lin_session.specs.Known.{count_before}
+use Rattle.lin_session.specs.Leaving.{IsTouched}
 use Rattle.lin_session.proofs.session.drop_last.Goals as goal
 
 pub returns-clause-right : goal.returns-clause-right
@@ -22,5 +23,5 @@ returns-clause-marks c = λ kinds budget kept x.
     let new = marks_in c.leave.new.self x in
     let last : c.len-last.result - 1 ≡ length h - 1 = omega (arith, c.args.events.now.ok.0, c.len-last.ensures) in
     let touch = c.leave.ensures.marks kinds budget (subst (AreRight c.args.objects.now kinds budget) (sym c.deref.ensures.value) kept) x in
-    subst (λ at. new ≡ (if is_of_key h x at then touched_at h x at old else old)) last
-    (subst (λ l. new ≡ (if is_of_key l x (c.len-last.result - 1) then touched_at l x (c.len-last.result - 1) old else old)) c.deref.ensures.value touch)
+    subst (λ at. IsTouched (is_of_key h x at) (count_before h x at) old new) last
+    (subst (λ l. IsTouched (is_of_key l x (c.len-last.result - 1)) (count_before l x (c.len-last.result - 1)) old new) c.deref.ensures.value touch)

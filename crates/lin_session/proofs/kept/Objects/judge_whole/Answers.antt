@@ -1,8 +1,10 @@
-use Rattle.std.proofs.Common.{◌≡◌, arith}
-use Rattle.std.proofs.lemmas.Option.{slice_get_within}
+use Rattle.std.proofs.Common.{◌≡◌, sym, ◌∙◌, arith}
+use Rattle.std.proofs.lemmas.Option.{none-some, slice_get_within}
+use Rattle.lin_answers.specs.declared.answers.Verdict.TheVariants.{Undecided}
+use Rattle.lin_session.specs.inner.Objects.{marks_in}
+use Rattle.lin_session.proofs.Asking.{told_undecided}
+use Rattle.lin_session.proofs.Knowing.{told_whole}
 use Rattle.lin_session.proofs.Wholes.{told_is}
-use Rattle.lin_answers.specs.declared.answers.Verdict.TheVariants.{Undecided, Yes}
-use Rattle.lin_session.proofs.Asking.{told_undecided, untold}
 use Rattle.lin_session.proofs.kept.Objects.judge_whole.Goals as goal
 
 pub returns-clause-verdict : goal.returns-clause-verdict
@@ -13,13 +15,12 @@ returns-clause-verdict c = λ kinds kept fine.
     kinds c.args.budget h fine keys (λ at event stands. kept.known at event (let below = slice_get_within h at event stands in omega (arith, below, c.requires.split)) stands)
     c.in_ok-failing.failing c.in_ok-failing.over (c.in_ok-failing.ensures.found kinds kept fine) c.told.result c.told.ensures
 
-pub returns-clause-alive : goal.returns-clause-alive
-returns-clause-alive c = λ is_yes.
-    let told_yes : c.told.result ≡ Yes = cc is_yes in
-    let none = untold c.in_ok-failing.failing c.in_ok-failing.over c.told.result c.told.ensures told_yes in
-    c.in_ok-failing.ensures.alive none.0 none.1
+pub returns-clause-told : goal.returns-clause-told
+returns-clause-told c =
+    told_whole c.args.events.now (marks_in c.judge_all.new.self) c.in_ok-failing.failing c.in_ok-failing.over c.told.result c.in_ok-failing.ensures.alive c.in_ok-failing.ensures.dead c.in_ok-failing.ensures.over c.told.ensures
 
-pub returns-clause-over : goal.returns-clause-over
-returns-clause-over c = λ at is_over.
+pub returns-clause-decided : goal.returns-clause-decided
+returns-clause-decided c = λ kinds kept exact many at is_over.
     let told : c.told.result ≡ Undecided at = cc is_over in
-    c.in_ok-failing.ensures.over at (told_undecided c.in_ok-failing.failing c.in_ok-failing.over c.told.result at c.told.ensures told)
+    let over = told_undecided c.in_ok-failing.failing c.in_ok-failing.over c.told.result at c.told.ensures told in
+    none-some at (sym (c.in_ok-failing.ensures.decided kinds kept exact many) ∙ over)

@@ -35,4 +35,4 @@ returns-clause-marks c = λ kinds budget kept x.
     let stands : slice_get h at ≡ Some event = slice_get_read h (length h) at event refl c.requires.place c.index-events-at.is in
     let touch = c.take_out.ensures.marks kinds budget (take at h) event same (subst (λ l. AreRight c.unsplit.new.self kinds budget (take at h ++ event ∷ l)) (sym rest) kept_now) in
     touched_where h at event _ stands same (marks_in c.args.self.now) (marks_in c.take_out.new.self)
-    (AreTouched-since _ _ _ (marks_in c.args.self.now) (marks_in c.unsplit.new.self) (marks_in c.take_out.new.self) c.unsplit.ensures.marks touch) x
+    (AreTouched-since _ _ (marks_in c.args.self.now) (marks_in c.unsplit.new.self) (marks_in c.take_out.new.self) c.unsplit.ensures.marks touch) x

@@ -1,7 +1,8 @@
 use Rattle.std.proofs.lemmas.Result.{IfOk-weaker}
 use Rattle.lin_objects.specs.Kinds.{kind_of}
 use Rattle.lin_orders.specs.Parts.{events_at}
-use Rattle.lin_session.proofs.Advancing.{object_there, old_at, right_there, spelled_length}
+use Rattle.lin_engines.specs.declared.ends.End.TheVariants.{Alive}
+use Rattle.lin_session.proofs.Advancing.{object_there, right_there, spelled_length, told_at}
 use Rattle.lin_session.proofs.Asking.{order_told}
 use Rattle.lin_session.proofs.kept.Objects.order_listed.Goals as goal
 
@@ -13,7 +14,9 @@ order-requires-clause-right c = (
 )
 
 pub order-requires-clause-alive : goal.order-requires-clause-alive
-order-requires-clause-alive c = c.requires.alive c.index.result.now (old_at c.args.self.now c.args.i c.requires.listed c.index.result.now c.index.ensures)
+order-requires-clause-alive c =
+    told_at c.args.self.now c.args.i c.requires.listed c.index.result.now c.index.ensures c.positions_spell_parts.ensures c.requires.right.0 c.args.events.now c.requires.split (kind_of c.args.kinds.now) c.requires.right.1 Alive
+    c.requires.alive
 
 pub returns : goal.returns
 returns c =

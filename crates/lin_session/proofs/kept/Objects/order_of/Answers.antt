@@ -1,12 +1,16 @@
-use Rattle.std.proofs.Common.{Contains, sym, subst, arith}
-use Rattle.std.proofs.lemmas.Option.{slice_get_within}
+use Rattle.std.proofs.Common.{Contains, sym, subst, ◌∙◌, arith}
+use Rattle.std.proofs.lemmas.Option.{same_Some, slice_get_within}
 use Rattle.std.proofs.lemmas.Result.{IfOk-weaker}
 use Rattle.lin_objects.specs.Kinds.{kind_of}
+use Rattle.lin_engines.specs.declared.ends.End.TheVariants.{Alive}
+use Rattle.lin_session.specs.Marks.{IsToldOf}
+use Rattle.lin_session.specs.inner.Objects.{marks_in}
 use Rattle.lin_orders.specs.Linearizable.{IsLegalOrderFor}
 use Rattle.lin_session.proofs.kept.Objects.order_of.Goals as goal
 
 pub order_listed-requires-clause-alive : goal.order_listed-requires-clause-alive
-order_listed-requires-clause-alive c = λ object object_at. c.requires.alive c.in-Some.i object c.in-Some.ensures.found object_at
+order_listed-requires-clause-alive c = λ key key_at.
+    subst (λ k. IsToldOf c.args.events.now (marks_in c.args.self.now) k Alive) (same_Some c.args.key key (sym c.in-Some.ensures.found ∙ key_at)) c.requires.alive
 
 pub returns-in-Some : goal.returns-in-Some
 returns-in-Some c =

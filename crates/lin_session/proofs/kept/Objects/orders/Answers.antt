@@ -10,8 +10,7 @@ use Rattle.lin_objects.specs.Kinds.{kind_of}
 use Rattle.lin_orders.specs.declared.placed.Placed.{Placed}
 use Rattle.lin_orders.specs.Linearizable.{IsLegalOrderFor}
 use Rattle.lin_orders.specs.Merging.{lists_of}
-use Rattle.lin_session.specs.inner.Judgements.{IsAlive}
-use Rattle.lin_lists.specs.lemmas.Taken.{All-at, zip_push}
+use Rattle.lin_lists.specs.lemmas.Taken.{zip_push}
 use Rattle.lin_session.proofs.kept.Objects.orders.Goals as goal
 
 pub loop-i-preserved : goal.loop-i-preserved
@@ -32,7 +31,7 @@ loop-i-preserved c =
     subst (λ k. AllZip R k (lists_of c.push.new.self.items)) keys_are (subst (AllZip R (take i s.keys.keys ++ key ∷ [])) lists_are more)
 
 pub order_listed-requires-clause-alive : goal.order_listed-requires-clause-alive
-order_listed-requires-clause-alive c = λ object object_at. All-at IsAlive c.args.self.now.objects.items c.requires.alive c.loop-i.i object object_at
+order_listed-requires-clause-alive c = λ key key_at. c.requires.alive key tt
 
 pub returns : goal.returns
 returns c =

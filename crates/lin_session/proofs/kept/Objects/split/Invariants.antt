@@ -2,7 +2,7 @@ use Rattle.std.proofs.Common.{◌≡◌, ◌≤◌, ◌-◌, ℕ, length}
 use Rattle.lin_objects.specs.Kinds.{kind_of}
 use Rattle.lin_session.specs.Objects.{AreRight, split_in}
 use Rattle.lin_session.specs.inner.Objects.{marks_in}
-use Rattle.lin_session.specs.Work.{AreSameMarks}
+use Rattle.lin_session.specs.Known.{AreSameMarks}
 use Rattle.lin_session.proofs.kept.Objects.split.Given as goal
 
 abbrev pub invariant-loop-self : goal.invariant-loop-self

@@ -3,7 +3,7 @@ use Rattle.lin_events.specs.declared.items.Item.{Item}
 use Rattle.lin_objects.specs.declared.kinds.Kind.{Kind}
 use Rattle.lin_session.specs.Objects.{AreRight, split_in}
 use Rattle.lin_session.specs.inner.Objects.{marks_in}
-use Rattle.lin_session.specs.Work.{AreSameMarks}
+use Rattle.lin_session.specs.Known.{AreSameMarks}
 use Rattle.lin_session.proofs.kept.Objects.unsplit.Given as goal
 
 abbrev pub invariant-loop-self : goal.invariant-loop-self

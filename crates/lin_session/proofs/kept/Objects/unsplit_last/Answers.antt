@@ -13,7 +13,7 @@ returns-in-Some-clause-right c = λ kinds budget h stands kept.
     let one : s.split ≡ suc (s.split - 1) = omega (arith, c.requires) in
     let count : vec_len old.picks ≡ length old.picks.items = omega (arith, old.picks.ok.0) in
     AreKept-less kinds budget h (s.split - 1) c.args.event.now stands s.keys.keys s.objects.items c.parts_of_prefixes.ensures.prefixes (subst (λ n. AreKept kinds budget h n s.keys.keys s.objects.items) one kept)
-    c.in-Some.i old _ c.in-Some.ensures.found old_at (c.pop.ensures.rest ∙ ap (λ n. take (n - 1) old.picks.items) count) refl refl refl
+    c.in-Some.i old _ c.in-Some.ensures.found old_at (c.pop.ensures.rest ∙ ap (λ n. take (n - 1) old.picks.items) count) refl refl
 
 pub returns-in_default-clause-right : goal.returns-in_default-clause-right
 returns-in_default-clause-right c = λ kinds budget h stands kept.

@@ -1,7 +1,7 @@
 use Rattle.std.proofs.Common.{◌≡◌, ◌++◌, ◌∷◌, [], ◌∙◌, ap, sym, subst, refl, length, Some, min, arith}
 use Rattle.lin_wellformed.specs.Scans.{ready_count}
 use Rattle.lin_session.specs.Sessions.{AreTakenIn}
-use Rattle.lin_session.specs.Work.{least}
+use Rattle.lin_session.specs.Leaving.{least}
 use Rattle.lin_session.proofs.Low.{some_left, AreTakenIn-edit}
 use Rattle.lin_session.specs.Objects.{AreRight}
 use Rattle.std.proofs.lemmas.List.{length_push}
@@ -10,8 +10,8 @@ use Rattle.lin_objects.specs.Kinds.{kind_of}
 use Rattle.lin_answers.specs.declared.edits.Edit.TheVariants.{Append}
 use Rattle.lin_session.specs.inner.Objects.{marks_in}
 use Rattle.lin_session.specs.Sessions.{Standing}
-use Rattle.lin_session.specs.Work.{mark_after, mark_of}
-use Rattle.lin_session.proofs.Touching.{touched_last}
+use Rattle.lin_session.specs.Known.{mark_of}
+use Rattle.lin_session.specs.Leaving.{IsMarkAfter}
 use Rattle.lin_session.proofs.session.Session.append.Goals as goal
 
 pub invariant_of-self-2 : goal.invariant_of-self-2
@@ -37,8 +37,5 @@ invariant_of-self-2 c = record {
 
 pub returns-clause-marks : goal.returns-clause-marks
 returns-clause-marks c = λ x.
-    let h = c.self.inside.events.items in
-    let old = marks_in c.self.inside.objects in
-    let new = marks_in c.put_last.new.self in
-    let touch = c.put_last.ensures.marks (kind_of c.self.inside.kinds) c.self.inside.budget h c.self.invariant.kept in
-    subst (λ (s : Standing). new x ≡ mark_after (Append c.args.event) s.present x (mark_of s.marks x)) c.self.view_is (touched_last c.args.event.key h old new touch x)
+    let touch = c.put_last.ensures.marks (kind_of c.self.inside.kinds) c.self.inside.budget c.self.inside.events.items c.self.invariant.kept in
+    subst (λ (s : Standing). IsMarkAfter (Append c.args.event) s.present x (mark_of s.marks x) (marks_in c.put_last.new.self x)) c.self.view_is (touch x)

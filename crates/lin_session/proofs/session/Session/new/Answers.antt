@@ -1,6 +1,6 @@
 use Rattle.std.proofs.Common.{◌∙◌, ap}
 use Rattle.lin_session.specs.Sessions.{Standing}
-use Rattle.lin_session.specs.Work.{mark_of}
+use Rattle.lin_session.specs.Known.{mark_of}
 use Rattle.lin_session.proofs.session.Session.new.Goals as goal
 
 pub returns-clause-marks : goal.returns-clause-marks

@@ -1,7 +1,7 @@
 use Rattle.std.proofs.Common.{◌∙◌, ap, sym, subst, length, Some, arith}
 use Rattle.lin_wellformed.specs.Scans.{ready_count}
 use Rattle.lin_session.specs.Sessions.{AreTakenIn}
-use Rattle.lin_session.specs.Work.{least, rounded}
+use Rattle.lin_session.specs.Leaving.{least, rounded}
 use Rattle.lin_session.proofs.Low.{some_left, AreTakenIn-edit, rounded_below}
 use Rattle.std.specs.Prelude.{remove}
 use Rattle.lin_session.specs.Objects.{AreRight}
@@ -11,8 +11,8 @@ use Rattle.lin_objects.specs.Kinds.{kind_of}
 use Rattle.lin_answers.specs.declared.edits.Edit.TheVariants.{Remove}
 use Rattle.lin_session.specs.inner.Objects.{marks_in}
 use Rattle.lin_session.specs.Sessions.{Standing}
-use Rattle.lin_session.specs.Work.{mark_after, mark_of, touched_at}
-use Rattle.std.proofs.Common.{◌≡◌, if◌then◌else◌}
+use Rattle.lin_session.specs.Known.{count_before, mark_of}
+use Rattle.lin_session.specs.Leaving.{IsMarkAfter, IsTouched}
 use Rattle.lin_orders.specs.Orders.{is_of_key}
 use Rattle.lin_session.proofs.session.Session.remove.Goals as goal
 
@@ -36,5 +36,5 @@ returns-clause-marks c = λ x.
     let new = marks_in c.leave.new.self x in
     let there = c.deref.ensures.value in
     let touch = c.leave.ensures.marks K c.self.inside.budget (subst (AreRight c.self.inside.objects K c.self.inside.budget) (sym there) c.self.invariant.kept) x in
-    subst (λ (s : Standing). new ≡ mark_after (Remove c.args.at) s.present x (mark_of s.marks x)) c.self.view_is
-    (subst (λ l. new ≡ (if is_of_key l x c.args.at then touched_at l x c.args.at old else old)) there touch)
+    subst (λ (s : Standing). IsMarkAfter (Remove c.args.at) s.present x (mark_of s.marks x) new) c.self.view_is
+    (subst (λ l. IsTouched (is_of_key l x c.args.at) (count_before l x c.args.at) old new) there touch)

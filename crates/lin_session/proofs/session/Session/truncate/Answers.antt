@@ -1,17 +1,17 @@
 use Rattle.std.proofs.Common.{◌∙◌, ap, sym, subst, length, Some, arith}
 use Rattle.lin_wellformed.specs.Scans.{ready_count}
 use Rattle.lin_session.specs.Sessions.{AreTakenIn}
-use Rattle.lin_session.specs.Work.{least, rounded}
+use Rattle.lin_session.specs.Leaving.{least, rounded}
 use Rattle.lin_session.proofs.Low.{some_left, AreTakenIn-edit, rounded_below}
 use Rattle.std.proofs.Common.{arith}
 use Rattle.std.proofs.lemmas.List.{length-take}
 use Rattle.lin_session.proofs.Before.{AgreeBefore-events, take-truncated}
 use Rattle.lin_objects.specs.Kinds.{kind_of}
-use Rattle.std.proofs.Common.{◌≡◌}
 use Rattle.lin_answers.specs.declared.edits.Edit.TheVariants.{Truncate}
 use Rattle.lin_session.specs.inner.Objects.{marks_in}
 use Rattle.lin_session.specs.Sessions.{Standing}
-use Rattle.lin_session.specs.Work.{mark_after, mark_of}
+use Rattle.lin_session.specs.Known.{mark_of}
+use Rattle.lin_session.specs.Leaving.{IsMarkAfter}
 use Rattle.lin_session.proofs.session.Session.truncate.Goals as goal
 
 pub invariant_of-self : goal.invariant_of-self
@@ -27,5 +27,5 @@ invariant_of-self c = record {
 
 pub returns-clause-marks : goal.returns-clause-marks
 returns-clause-marks c = λ x.
-    subst (λ (s : Standing). marks_in c.cut_back.new.objects x ≡ mark_after (Truncate c.args.count) s.present x (mark_of s.marks x)) c.self.view_is
+    subst (λ (s : Standing). IsMarkAfter (Truncate c.args.count) s.present x (mark_of s.marks x) (marks_in c.cut_back.new.objects x)) c.self.view_is
     (c.cut_back.ensures.marks (kind_of c.self.inside.kinds) c.self.inside.budget c.self.invariant.kept x)
