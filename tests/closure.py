@@ -7,7 +7,8 @@ something else leads to that alone. Names of the standard library and of crates 
 definition of its file, or as one that is imported there, counts as that.
 
 docs/PROOF.md lists the files of the definitions so found, each as `CRATE/specs/FILE.antt` with the number of their lines, comments in
-front of a definition counted, and last the numbers of files and lines. Its list is what stands between the two lines of MARKS.
+front of a definition counted, and last the numbers of files and lines. Its list is what stands between the two lines of MARKS. Between those
+of MARKS_OF_WORK stands the same of what the bound on work stands on beside (the contracts of ROOTS_OF_WORK).
 
 usage: tests/closure.py [--write | --names | --of NAME]
 --write puts the numbers into the list, --names prints the definitions, and --of what one definition stands on.
@@ -22,8 +23,11 @@ import sys
 HERE = os.path.join(os.path.dirname(os.path.abspath(__file__)), "..")
 PROOF = f"{HERE}/docs/PROOF.md"
 MARKS = ("<!-- what tests/closure.py finds: -->", "<!-- to here -->")
+MARKS_OF_WORK = ("<!-- what it finds beside, of work: -->", "<!-- to here, of work -->")
 # What the program promises of its runs, and of how it ends.
 ROOTS = {"lin_formats": ["verify"], "lin_report": ["check", "explain", "draw", "run"], "lin_program": ["run_words", "end_without_words"]}
+# What a question may take, and what an edit leaves.
+ROOTS_OF_WORK = {"lin_session": ["Session::ask", "Session::apply"]}
 # That a list of events is linearizable.
 CORE = ("lin_orders.specs.Linearizable", "IsLinearizable")
 USE = re.compile(r"(?:ghost )?use Rattle\.([\w.]+?)(?:\.\{(.*)\}| as (\S+?))?;?\s*(?:--.*)?$")
@@ -148,8 +152,10 @@ class Source(File):
         self.module, self.definitions, self.owners = "", {}, {}
 
     def contract(self, name):
-        """The clauses of a public function."""
-        found = re.search(r"^pub fn %s\b.*?^\{\n" % name, self.text, re.M | re.S)
+        """The clauses of a public function, or of a method, `TYPE::NAME`."""
+        type_, _, name = name.rpartition("::")
+        text = "\n".join(re.findall(r"^impl %s \{\n(.*?)^\}" % type_, self.text, re.M | re.S)) if type_ else self.text
+        found = re.search(r"^( *)pub fn %s\b.*?^\1\{\n" % name, text, re.M | re.S)
         return found and code(found[0][found[0].index(")"):])
 
     def declared(self, crate, name):
@@ -169,7 +175,10 @@ class Source(File):
 
 
 def source_of(crate, name, kind=r"(?:struct|enum)"):
-    """The file of code that has the item."""
+    """The file of code that has the item; that of a method is the one that has its type."""
+    type_, _, _ = name.rpartition("::")
+    if type_:
+        return source_of(crate, type_)
     for at, _, files in os.walk(f"{HERE}/crates/{crate}/src"):
         for it in sorted(files):
             path = f"{at}/{it}"
@@ -212,8 +221,8 @@ def closure(starts):
     return found, types
 
 
-def roots():
-    for crate, names in ROOTS.items():
+def roots(of=None):
+    for crate, names in (of or ROOTS).items():
         for name in names:
             path = source_of(crate, name, "fn")
             if not path:
@@ -228,6 +237,13 @@ def lines_by_file(found):
         path = module.replace(".", "/") + ".antt"
         counts[path] = counts.get(path, 0) + len(it.lines)
     return counts
+
+
+def told_of_work(found, types):
+    """The sentence that counts what work stands on beside."""
+    counts = lines_by_file(found)
+    return "In all %s lines in %d files that the list above doesn't have; they speak of %d more types that the code declares." % (
+        f"{sum(counts.values()):,}", len(counts), len(types))
 
 
 def told(found, types):
@@ -245,6 +261,23 @@ def show(found, types):
     print(sum(lines_by_file(found).values()), "lines")
 
 
+def hold(marks, sentence, counts, is_written):
+    """How many files the list of docs/PROOF.md between the marks has with the lines that are found, and how it differs; it is written first if that is asked."""
+    text = read(PROOF)
+    before, list_, behind = re.fullmatch("(.*%s)(.*)(%s.*)" % tuple(map(re.escape, marks)), text, re.S).groups()
+    if is_written:
+        list_ = re.sub(r"`(\w+/specs/[\w/]+\.antt)` \(\d*\)", lambda it: "`%s` (%d)" % (it[1], counts.get(it[1], 0)), list_)
+        list_ = re.sub(r"^In all .*\.$", sentence, list_, flags=re.M)
+        with open(PROOF, "w", encoding="utf-8") as file:
+            file.write(before + list_ + behind)
+    listed = {path: int(count) for path, count in re.findall(r"`(\w+/specs/[\w/]+\.antt)` \((\d+)\)", list_)}
+    faults = [f"missing: {path} ({counts[path]})" for path in counts if path not in listed]
+    faults += [f"too many: {path}" for path in listed if path not in counts]
+    faults += [f"{path}: {listed[path]} lines listed, {counts[path]} found" for path in counts if listed.get(path, counts[path]) != counts[path]]
+    faults += [] if sentence in list_.splitlines() else [f"found: {sentence}"]
+    return len([path for path in counts if listed.get(path) == counts[path]]), faults
+
+
 def main():
     if sys.argv[1:2] == ["--of"]:
         starts = [(module, name) for module, file in specs().items() for name in sys.argv[2:] if name in file.definitions]
@@ -254,21 +287,16 @@ def main():
     if sys.argv[1:2] == ["--names"]:
         show(found, types)
         return 0
-    text = read(PROOF)
-    before, list_, behind = re.fullmatch("(.*%s)(.*)(%s.*)" % tuple(map(re.escape, MARKS)), text, re.S).groups()
-    counts, sentence = lines_by_file(found), told(found, types)
-    if sys.argv[1:2] == ["--write"]:
-        list_ = re.sub(r"`(\w+/specs/[\w/]+\.antt)` \(\d*\)", lambda it: "`%s` (%d)" % (it[1], counts.get(it[1], 0)), list_)
-        list_ = re.sub(r"^In all .* declares\.$", sentence, list_, flags=re.M)
-        with open(PROOF, "w", encoding="utf-8") as file:
-            file.write(before + list_ + behind)
-    listed = {path: int(count) for path, count in re.findall(r"`(\w+/specs/[\w/]+\.antt)` \((\d+)\)", list_)}
-    faults = [f"missing: {path} ({counts[path]})" for path in counts if path not in listed]
-    faults += [f"too many: {path}" for path in listed if path not in counts]
-    faults += [f"{path}: {listed[path]} lines listed, {counts[path]} found" for path in counts if listed.get(path, counts[path]) != counts[path]]
-    faults += [] if sentence in list_.splitlines() else [f"found: {sentence}"]
-    print(sentence, *faults, sep="\n")
-    print(f"{len([path for path in counts if listed.get(path) == counts[path]])} passed, {len(faults)} failed")
+    work, types_of_work = closure(roots(ROOTS_OF_WORK))
+    work, types_of_work = ({key: it for key, it in all_.items() if key not in known} for all_, known in ((work, found), (types_of_work, types)))
+    is_written = sys.argv[1:2] == ["--write"]
+    passed, faults = 0, []
+    for marks, sentence, counts in (MARKS, told(found, types), lines_by_file(found)), (MARKS_OF_WORK, told_of_work(work, types_of_work), lines_by_file(work)):
+        print(sentence)
+        agreeing, differing = hold(marks, sentence, counts, is_written)
+        passed, faults = passed + agreeing, faults + differing
+    print(*faults, sep="\n", end="\n" if faults else "")
+    print(f"{passed} passed, {len(faults)} failed")
     return 1 if faults else 0
 
 
