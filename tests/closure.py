@@ -1,7 +1,7 @@
 #!/usr/bin/env python3
 """Finds what the promises of the program stand on, definition by definition, and holds docs/PROOF.md to it.
 
-From the contracts of ROOTS it follows each name to its definition in some specs/*.antt, and from there each name that the definition
+From the contracts of COMMANDS it follows each name to its definition in some specs/*.antt, and from there each name that the definition
 cites, in its own file or by a `use` line. A type that is declared in code leads to the types of its fields; one that contracts see as
 something else leads to that alone. Names of the standard library and of crates of others end there. A variable that is called as a
 definition of its file, or as one that is imported there, counts as that.
@@ -10,9 +10,9 @@ docs/PROOF.md lists the files of the definitions so found, each as `CRATE/specs/
 front of a definition counted, and last the numbers of files and lines. Its list is what stands between the two lines of MARKS. Between those
 of MARKS_OF_WORK stands the same of what the bound on work stands on beside (the contracts of ROOTS_OF_WORK).
 
-usage: tests/closure.py [--write | --names | --of NAME]
---write puts the numbers into the list, --names prints the definitions, and --of what one definition stands on.
-The last line counts the files that agree and those that don't.
+usage: tests/closure.py [--write | --names | --by-command | --of NAME]
+--write puts the numbers into the list, --names prints the definitions, --by-command how many lines each command stands on, which the list has
+too, between those of MARKS_BY_COMMAND, and --of what one definition stands on. The last line counts the files that agree and those that don't.
 """
 import dataclasses
 import functools
@@ -24,8 +24,16 @@ HERE = os.path.join(os.path.dirname(os.path.abspath(__file__)), "..")
 PROOF = f"{HERE}/docs/PROOF.md"
 MARKS = ("<!-- what tests/closure.py finds: -->", "<!-- to here -->")
 MARKS_OF_WORK = ("<!-- what it finds beside, of work: -->", "<!-- to here, of work -->")
-# What the program promises of its runs, and of how it ends.
-ROOTS = {"lin_formats": ["verify"], "lin_report": ["check", "explain", "draw", "run"], "lin_program": ["run_words", "end_without_words"]}
+MARKS_BY_COMMAND = ("<!-- what it finds by command: -->", "<!-- to here, by command -->")
+# What the program promises of each command's runs, and of how it reads its words and ends.
+COMMANDS = {
+    "`check`": {"lin_report": ["check"]},
+    "`verify`": {"lin_formats": ["verify"]},
+    "`draw`": {"lin_report": ["draw"]},
+    "`explain`": {"lin_report": ["explain"]},
+    "`edit`": {"lin_report": ["run"]},
+    "any of them, from the words of its line to its status": {"lin_program": ["run_words", "end_without_words"]},
+}
 # What a question may take, and what an edit leaves.
 ROOTS_OF_WORK = {"lin_session": ["Session::ask", "Session::apply"]}
 # That a list of events is linearizable.
@@ -221,8 +229,8 @@ def closure(starts):
     return found, types
 
 
-def roots(of=None):
-    for crate, names in (of or ROOTS).items():
+def roots(of):
+    for crate, names in of.items():
         for name in names:
             path = source_of(crate, name, "fn")
             if not path:
@@ -237,6 +245,23 @@ def lines_by_file(found):
         path = module.replace(".", "/") + ".antt"
         counts[path] = counts.get(path, 0) + len(it.lines)
     return counts
+
+
+def found_for_all():
+    """What the promises of all commands stand on."""
+    return closure([it for roots_ in COMMANDS.values() for it in roots(roots_)])
+
+
+def by_command():
+    """The rows of a table of how many lines each command stands on, and how many that those above it don't."""
+    yield "| A user of | believes | that no row above has |"
+    yield "|---|---|---|"
+    seen = set()
+    for command, of in COMMANDS.items():
+        found, _ = closure(roots(of))
+        counts, more = lines_by_file(found), lines_by_file({key: it for key, it in found.items() if key not in seen})
+        yield "| %s | %s lines in %d files | %s |" % (command, f"{sum(counts.values()):,}", len(counts), f"{sum(more.values()):,}")
+        seen |= set(found)
 
 
 def told_of_work(found, types):
@@ -261,15 +286,23 @@ def show(found, types):
     print(sum(lines_by_file(found).values()), "lines")
 
 
+def between(marks):
+    """What docs/PROOF.md has up to the first mark, between the two, and from the second one on."""
+    return re.fullmatch("(.*%s)(.*)(%s.*)" % tuple(map(re.escape, marks)), read(PROOF), re.S).groups()
+
+
+def write(text):
+    with open(PROOF, "w", encoding="utf-8") as file:
+        file.write(text)
+
+
 def hold(marks, sentence, counts, is_written):
     """How many files the list of docs/PROOF.md between the marks has with the lines that are found, and how it differs; it is written first if that is asked."""
-    text = read(PROOF)
-    before, list_, behind = re.fullmatch("(.*%s)(.*)(%s.*)" % tuple(map(re.escape, marks)), text, re.S).groups()
+    before, list_, behind = between(marks)
     if is_written:
         list_ = re.sub(r"`(\w+/specs/[\w/]+\.antt)` \(\d*\)", lambda it: "`%s` (%d)" % (it[1], counts.get(it[1], 0)), list_)
         list_ = re.sub(r"^In all .*\.$", sentence, list_, flags=re.M)
-        with open(PROOF, "w", encoding="utf-8") as file:
-            file.write(before + list_ + behind)
+        write(before + list_ + behind)
     listed = {path: int(count) for path, count in re.findall(r"`(\w+/specs/[\w/]+\.antt)` \((\d+)\)", list_)}
     faults = [f"missing: {path} ({counts[path]})" for path in counts if path not in listed]
     faults += [f"too many: {path}" for path in listed if path not in counts]
@@ -283,7 +316,10 @@ def main():
         starts = [(module, name) for module, file in specs().items() for name in sys.argv[2:] if name in file.definitions]
         show(*closure(starts))
         return 0
-    found, types = closure(roots())
+    if sys.argv[1:2] == ["--by-command"]:
+        print(*by_command(), sep="\n")
+        return 0
+    found, types = found_for_all()
     if sys.argv[1:2] == ["--names"]:
         show(found, types)
         return 0
@@ -295,6 +331,12 @@ def main():
         print(sentence)
         agreeing, differing = hold(marks, sentence, counts, is_written)
         passed, faults = passed + agreeing, faults + differing
+    table = "\n\n%s\n\n" % "\n".join(by_command())
+    before, list_, behind = between(MARKS_BY_COMMAND)
+    if is_written:
+        write(before + table + behind)
+    elif list_ != table:
+        faults.append("--by-command prints another table")
     print(*faults, sep="\n", end="\n" if faults else "")
     print(f"{passed} passed, {len(faults)} failed")
     return 1 if faults else 0
