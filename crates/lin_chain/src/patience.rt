@@ -3,6 +3,9 @@ use lin_engines::Replay;
 use lin_events::Meter;
 use lin_objects::Kind;
 
+/// So many items of an unordered queue are soon copied.
+const FEW: u64 = 16;
+
 /// How much work the next events are worth.
 #[derive(Clone, Copy)]
 pub(crate) struct Patience {
@@ -45,7 +48,7 @@ fn arrangements(count: usize) -> u64 {
 
 /// In how many ways one more event may be tried: of a register without compare-and-set nothing is searched, and each member goes on. Else some of
 /// the open operations may have been placed, in any order where that makes different states, and each other one may come next; but there are
-/// no more members than the budget.
+/// no more members than the budget. A dequeue of an unordered queue may take any item, and leaves a copy of the others.
 fn ways(replay: &Replay, budget: u32) -> u64 {
     let open = replay.open();
     let placed = match replay.kind() {
@@ -53,7 +56,14 @@ fn ways(replay: &Replay, budget: u32) -> u64 {
         Kind::Fifo => arrangements(open),
         _ => 1 << open.min(32),
     };
-    placed.min(budget as u64).saturating_mul(open as u64)
+    let each = match replay.inside() as u64 {
+        inside if inside > FEW => inside.saturating_mul(inside) / FEW,
+        _ => 1,
+    };
+    placed
+        .min(budget as u64)
+        .saturating_mul(open as u64)
+        .saturating_mul(each)
 }
 
 /// Whether one more event is worth it.

@@ -22,7 +22,7 @@ use lin_compressed::{Advance, Compressed, Scratch, members_spell_legal_orders};
 use lin_events::{Event, Meter, OutOfMemory, beginnings_are_well_formed};
 use lin_frontier::{Arrival, NodeId, Open, append_operations, nothing_is_open_at_first};
 use lin_members::RoundNodes;
-use lin_objects::{Any, Kind};
+use lin_objects::{Any, Kind, State};
 use lin_orders::{Placed, empty_is_legal};
 use std::alloc::Global;
 
@@ -122,6 +122,19 @@ impl Replay {
             (Some(frontier), _) => frontier.len(),
             (None, Some(last)) => last.frontier.len(),
             (None, None) => 1,
+        }
+    }
+
+    /// How many items one of these members holds, where the object is an unordered queue: each dequeue may take any of them.
+    pub fn inside(&self) -> usize {
+        let frontier = match (&self.present, self.checkpoints.last()) {
+            (Some(frontier), _) => frontier,
+            (None, Some(last)) => &last.frontier,
+            (None, None) => return 0,
+        };
+        match frontier.get(&self.object, 0).map(|member| member.state()) {
+            Some(State::Bag(items)) => items.as_slice().len(),
+            _ => 0,
         }
     }
 
