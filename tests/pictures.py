@@ -4,7 +4,8 @@
 Each history goes through `lincheck draw`. A picture has to be an SVG of few sorts of elements, without links, within its sizes; its bars have to be
 operations of the object, each in the row of its process and of the sort that it is; and its dots a legal order of the object's events (of a no: of
 those before the last of the prefix), each on its bar, behind the invocation of each dot up to it and ahead of its bar's end. Below the rows stand the
-lines that `explain` tells. Last come values and keys of signs that XML has for itself, whose pictures have to show them as they are.
+lines that `explain` tells. Then come pictures in one page: what they name alike has to be the same, since there the first one counts for all.
+Last come values and keys of signs that XML has for itself, whose pictures have to show them as they are.
 
 usage: tests/pictures.py [HISTORIES] [SEED]   (builds what isn't built, unless LINCHECK in the environment names the program)
 """
@@ -51,6 +52,9 @@ class Picture:
         for it in self.root.iter():
             if it.tag.removeprefix(SPACE) not in ELEMENTS or any('href' in name or name.startswith('on') for name in it.keys()):
                 raise Wrong('an element that has no place in a picture: %s' % it.tag)
+        self.named = {it.get('id'): ElementTree.tostring(it) for it in self.root.iter() if it.get('id')}
+        if not set(re.findall(r'url\(#([^)]*)\)', text)) <= set(self.named):
+            raise Wrong('something is filled with what the picture doesn\'t name: %s' % sorted(self.named))
         self.width = int(self.root.get('width'))
         self.bars = {int(it.get('data-at')): it for it in self.groups('bar')}
         self.dots = [(int(it.get('data-number')), int(it.get('data-at')), it.find(SPACE + 'circle')) for it in self.groups('dot')]
@@ -172,6 +176,29 @@ def random_runs(program, number, seed):
     return run.with_file(runs)
 
 
+def one_page(program):
+    """A fault for each two pictures that name two things alike, or whose open bars don't fade out where these end: of one width, and of two."""
+    faults, pictures = [], []
+    for writes in (1, 1, 5, 5, 6):
+        lines = ['{:process 0 :type :invoke :f :write :value 1}', '{:process 1 :type :invoke :f :read}']
+        lines += ['{:process 2 :type :%s :f :write :value %d}' % (type_, (1 << 62) + at) for at in range(writes) for type_ in ('invoke', 'ok')]
+        lines += ['{:process 0 :type :info :f :write}']
+        ran = subprocess.run([program, 'draw', '-'], input='\n'.join(lines).encode(), capture_output=True)
+        picture = Picture(ran.stdout.decode())
+        pictures.append(picture)
+        for at, bar in picture.bars.items():
+            if {'open', 'crashed'} & set(bar.get('class').split()):
+                name = re.fullmatch(r'url\(#(.*)\)', bar.find(SPACE + 'rect').get('fill')).group(1)
+                fade = ElementTree.fromstring(picture.named[name])
+                if int(fade.get('x2')) != picture.extent(at)[1] or not picture.extent(at)[0] <= int(fade.get('x1')) < int(fade.get('x2')):
+                    faults.append('the bar of event %d ends at %d, and fades out up to %s' % (at, picture.extent(at)[1], fade.get('x2')))
+    for one, other in itertools.combinations(pictures, 2):
+        faults += ['two pictures name %s, and mean other things by it' % name for name in one.named.keys() & other.named.keys() if one.named[name] != other.named[name]]
+    if len({picture.width for picture in pictures}) != 3:
+        faults.append('the pictures are as wide as each other, which tells little: %s' % [picture.width for picture in pictures])
+    return faults
+
+
 def strange_words(program):
     """A fault for each word that a picture doesn't show, in a value or in the name of an object, as it is spelled."""
     faults = []
@@ -193,8 +220,8 @@ def main():
     with ProcessPoolExecutor(os.cpu_count()) as pool:
         for right, wrong, counted in pool.map(random_runs, itertools.repeat(program), range(histories), itertools.repeat(seed), chunksize=8):
             passed, faults, counts = passed + right, faults + wrong, counts + counted
-    strange = strange_words(program)
-    passed, faults = passed + (not strange), faults + strange
+    for more in (one_page(program), strange_words(program)):
+        passed, faults = passed + (not more), faults + more
     for fault in faults[:10]:
         print(fault)
     for name in sorted(counts):

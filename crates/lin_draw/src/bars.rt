@@ -1,5 +1,9 @@
 //! Bars and dots.
+ghost use Rattle.std.specs.Prelude.{◌≡◌, ◌++◌, OnOk};
+ghost use Rattle.lin_draw.specs.Fills.{fill_text};
+
 use crate::canvas::{Piece, put};
+use crate::fades::put_fade_fill;
 use crate::labels::{label_of, place_title, title_of};
 use crate::layouts::{Bar, Dot, LABEL, Layout};
 use crate::operations::{Operation, Outcome};
@@ -46,15 +50,33 @@ impl<'a, 'p> Scene<'a, 'p> {
     }
 }
 
-/// The classes of a bar, and what it is filled with where no style is read.
-fn look_of(bar: &Bar) -> (&'static str, &'static str) {
+/// What a bar is filled with where no style is read.
+#[derive(Clone, Copy)]
+enum Fill {
+    Plain(&'static str),
+    /// It fades out.
+    Fading,
+}
+
+/// The classes of a bar, and what it is filled with.
+fn look_of(bar: &Bar) -> (&'static str, Fill) {
     match (bar.operation.outcome, bar.is_failing) {
-        (Outcome::Returned, false) => ("bar ok", "#8fb4ea"),
-        (Outcome::Returned, true) => ("bar ok failing", "#e5534b"),
-        (Outcome::Failed, false) => ("bar failed", "url(#lincheck-hatch)"),
-        (Outcome::Failed, true) => ("bar failed failing", "url(#lincheck-red)"),
-        (Outcome::Crashed, _) => ("bar crashed", "url(#lincheck-fade)"),
-        (Outcome::Running, _) => ("bar open", "url(#lincheck-fade)"),
+        (Outcome::Returned, false) => ("bar ok", Fill::Plain("#8fb4ea")),
+        (Outcome::Returned, true) => ("bar ok failing", Fill::Plain("#e5534b")),
+        (Outcome::Failed, false) => ("bar failed", Fill::Plain("url(#lincheck-hatch)")),
+        (Outcome::Failed, true) => ("bar failed failing", Fill::Plain("url(#lincheck-red)")),
+        (Outcome::Crashed, _) => ("bar crashed", Fill::Fading),
+        (Outcome::Running, _) => ("bar open", Fill::Fading),
+    }
+}
+
+/// Puts what a bar is filled with last, in a picture whose rows end at `right`.
+fn put_fill(text: &mut Vec<u8>, fill: Fill, right: usize) -> Result<(), AllocError>
+    ensures { OnOk result (text.new.items ≡ text.old.items ++ fill_text fill right) }
+{
+    match fill {
+        Fill::Plain(words) => text.extend_from_slice(words.as_bytes()),
+        Fill::Fading => put_fade_fill(text, right),
     }
 }
 
@@ -142,10 +164,10 @@ fn put_rectangle(
             Piece::Plain("\" width=\""),
             Piece::Number(scene.layout.end_of(bar).saturating_sub(x)),
             Piece::Plain("\" height=\"18\" rx=\"3\" fill=\""),
-            Piece::Plain(fill),
-            Piece::Plain("\"/>"),
         ],
-    )
+    )?;
+    put_fill(text, fill, scene.layout.right)?;
+    text.extend_from_slice(b"\"/>")
 }
 
 /// Puts the dashed line last that stands at the info of a crashed operation.

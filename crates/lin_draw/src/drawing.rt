@@ -4,9 +4,10 @@ ghost use Rattle.lin_draw.specs.Pictures.{IsSvg};
 
 use crate::bars::{ROW, Scene, TOP, put_bars, put_dots, put_rows};
 use crate::canvas::{Piece, letters_of, put};
-use crate::layouts::{FADE, LETTER, MARGIN};
+use crate::fades::put_fade;
+use crate::layouts::{LETTER, MARGIN};
 use crate::legends::put_legend;
-use crate::styles::{FADING, PATTERNS, STYLE};
+use crate::styles::{PATTERNS, STYLE};
 use std::alloc::{AllocError, Global};
 
 /// A picture is at least so wide.
@@ -108,23 +109,12 @@ fn put_opening(
 }
 
 /// Puts the colours last, for bars that fade out up to `right`.
-fn put_colours(alloc: Global, text: &mut Vec<u8>, right: usize) -> Result<(), AllocError> {
-    let [front, middle, behind] = FADING;
-    put(
-        alloc,
-        text,
-        &[
-            Piece::Plain(STYLE),
-            Piece::Plain("<defs>\n"),
-            Piece::Plain(PATTERNS),
-            Piece::Plain(front),
-            Piece::Number(right.saturating_sub(FADE)),
-            Piece::Plain(middle),
-            Piece::Number(right),
-            Piece::Plain(behind),
-            Piece::Plain("</defs>\n"),
-        ],
-    )
+fn put_colours(text: &mut Vec<u8>, right: usize) -> Result<(), AllocError> {
+    text.extend_from_slice(STYLE.as_bytes())?;
+    text.extend_from_slice(b"<defs>\n")?;
+    text.extend_from_slice(PATTERNS.as_bytes())?;
+    put_fade(text, right)?;
+    text.extend_from_slice(b"</defs>\n")
 }
 
 /// Puts the ground and the head last.
@@ -213,7 +203,7 @@ fn inside_of(alloc: Global, scene: &Scene, texts: &Texts) -> Result<Vec<u8>, All
     let mut text = Vec::new(alloc);
     let size = size_of(scene, texts);
     put_opening(alloc, &mut text, size, texts.head)?;
-    put_colours(alloc, &mut text, scene.layout.right)?;
+    put_colours(&mut text, scene.layout.right)?;
     put_head(alloc, &mut text, size, texts.head)?;
     put_legend(&mut text, texts.is_failure, !scene.layout.dots.is_empty())?;
     put_operations(alloc, &mut text, scene)?;

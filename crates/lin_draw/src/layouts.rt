@@ -4,6 +4,7 @@ ghost use Rattle.lin_orders.specs.Tables.{IsNextTable};
 
 use crate::canvas::letters_of;
 use crate::choosing::{Chosen, Mark};
+use crate::fades::FADE;
 use crate::labels::label_of;
 use crate::operations::{Operation, Outcome, operation_at};
 use crate::own::Own;
@@ -32,9 +33,6 @@ const APART: usize = 16;
 const STEP: usize = 19;
 
 const FRONT: usize = 14;
-
-/// Over such a width bars that don't end fade out.
-pub(crate) const FADE: usize = 56;
 
 /// Between events at most so much is put where there is room left.
 const WIDEST_SPREAD: usize = 72;

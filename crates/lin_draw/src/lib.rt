@@ -5,6 +5,7 @@ mod bars;
 mod canvas;
 mod choosing;
 mod drawing;
+mod fades;
 mod fitting;
 mod heads;
 mod labels;
@@ -16,5 +17,6 @@ mod own;
 mod pictures;
 mod styles;
 
+pub use fades::names_tell_fades;
 pub use legal::Orders;
 pub use pictures::picture_with_places;

@@ -39,17 +39,9 @@ pub(crate) const STYLE: &str = r#"<style>
 </style>
 "#;
 
-/// What the hatched bars are filled with, and the fading ones of the legend.
+/// What the hatched bars are filled with, and the fading ones of the legend: the same in all pictures.
 pub(crate) const PATTERNS: &str =
     r##"<pattern id="lincheck-hatch" width="6" height="6" patternUnits="userSpaceOnUse"><rect class="plain" width="6" height="6" fill="#e7eaee"/><path class="lines" d="M-1 1L1 -1M0 6L6 0M5 7L7 5" stroke="#8c959f" stroke-width="1.5"/></pattern>
 <pattern id="lincheck-red" width="6" height="6" patternUnits="userSpaceOnUse"><rect class="red-plain" width="6" height="6" fill="#f6b3ae"/><path class="red-lines" d="M-1 1L1 -1M0 6L6 0M5 7L7 5" stroke="#d1312a" stroke-width="1.5"/></pattern>
 <linearGradient id="lincheck-short"><stop class="full" offset="0.2" stop-color="#8fb4ea"/><stop class="gone" offset="1" stop-color="#8fb4ea" stop-opacity="0"/></linearGradient>
 "##;
-
-/// What stands in front of the two ends of the stretch in which bars fade out, between them and behind them.
-pub(crate) const FADING: [&str; 3] = [
-    r#"<linearGradient id="lincheck-fade" gradientUnits="userSpaceOnUse" y1="0" y2="0" x1=""#,
-    r#"" x2=""#,
-    r##""><stop class="full" offset="0" stop-color="#8fb4ea"/><stop class="gone" offset="1" stop-color="#8fb4ea" stop-opacity="0"/></linearGradient>
-"##,
-];
