@@ -221,6 +221,8 @@ def put_program(made, began):
     shutil.copy(made, f"{PROGRAM}.new")
     os.utime(f"{PROGRAM}.new", (began, began))
     os.replace(f"{PROGRAM}.new", PROGRAM)
+    # (from which built/static.sh links another)
+    shutil.copy(f"{made}.o", f"{PROGRAM}.o")
     # (as sha256sum prints it, for ./lincheck with LINCHECK_PROVE=1)
     with open(f"{os.path.dirname(PROGRAM)}/proved", "w") as it:
         it.write(f"{sum_of(PROGRAM)}  -\n")

@@ -32,7 +32,7 @@ see_layout() {
 
 see_program() { # a program, for all that runs one
     export LINCHECK=$1
-    for script in versions.py rows.py readme.sh generated.sh edits.py drawn.py items.py recordings.py explain.py refutations.py pictures.py progress.py growths.py adapters.py adapters_clojure.py; do
+    for script in versions.py rows.py readme.sh generated.sh edits.py drawn.py items.py recordings.py explain.py refutations.py pictures.py progress.py growths.py adapters.py adapters_clojure.py static.sh; do
         run "tests/$script"
     done
 }
@@ -86,6 +86,7 @@ if ! built/fits.sh kit; then
     see_program "$PWD/crates/lincheck/out/lincheck"
 elif cmp built/lincheck crates/lincheck/out/lincheck; then
     echo '1 passed, 0 failed' | tee -a "$log"
+    run tests/static.sh
 else
     echo 'built/lincheck is not what this source makes: ./build.py --renew puts that there'
     exit 1
