@@ -12,7 +12,12 @@ trap 'rm -rf "$room"' EXIT
 skip() { echo "skipped: $*"; echo '0 passed, 0 failed'; exit 0; }
 
 [ -x "$program" ] || skip 'there is no program'
-built/static.sh "$room/made" "$program" 2> "$room/why" || skip "$(tail -1 "$room/why")"
+built/static.sh "$room/made" "$program" 2> "$room/why"
+case $? in
+    0) ;;
+    1) skip "$(tail -1 "$room/why")" ;;
+    *) cat "$room/why"; echo '0 passed, 1 failed'; exit 1 ;;
+esac
 mkdir "$room/root"
 mv "$room/made" "$room/root/lincheck"
 if chroot "$room/root" /lincheck --version > /dev/null 2>&1; then
