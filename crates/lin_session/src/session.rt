@@ -34,6 +34,7 @@ use lin_orders::Placed;
 use lin_wellformed::Scan;
 use std::alloc::Global;
 use std::marker::Model;
+use std::mem;
 
 /// How many events a history may have.
 const EVENTS: usize = 1_000_000;
@@ -179,6 +180,21 @@ impl Session {
         ensures { result.now ≡ self.now.meter }
     {
         &self.meter
+    }
+
+    /// Takes out what was counted, so that work on the present history counts on it; `keep_meter` puts it back.
+    pub fn take_meter(&mut self) -> Meter
+        ensures counted { result ≡ self.old.meter }
+        ensures others { self.new ≡ record self.old { meter = record { scans = 0; steps = 0; tries = 0 } } }
+    {
+        mem::replace(&mut self.meter, Meter::new())
+    }
+
+    /// Counts on from the meter.
+    pub fn keep_meter(&mut self, meter: Meter)
+        ensures { self.new ≡ record self.old { meter = meter } }
+    {
+        self.meter = meter;
     }
 
     /// Where it is told that an object is over, its events up to there have more configurations than the budget.
