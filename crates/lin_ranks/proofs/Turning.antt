@@ -1,5 +1,5 @@
 -- In a legal order of a fifo queue a dequeue takes out what the enqueue of the same rank put in.
-use Rattle.std.proofs.Common.{◌≡◌, ◌≢◌, ◌<◌, ◌≤◌, ◌+◌, ℕ, zero, suc, Bool, true, false, cond, List, [], ◌∷◌, ◌++◌, ◌⊎◌, AllPairs, Contains, length, inl, inr, refl, sym, ap, subst, ◌∙◌, arith, true≢false, Some, slice_get, append_assoc}
+use Rattle.std.proofs.Common.{◌≡◌, ◌≢◌, ◌≤◌, ◌+◌, ℕ, suc, Bool, true, false, cond, List, [], ◌∷◌, ◌++◌, ◌⊎◌, AllPairs, Contains, length, inl, inr, refl, sym, ap, subst, ◌∙◌, arith, true≢false, Some, slice_get, append_assoc}
 use Rattle.std.proofs.lemmas.Bool.{cases_Bool}
 use Rattle.std.proofs.lemmas.List.Elements.{All-contains, Contains-append_cases, Contains-append_left, Contains-append_right}
 use Rattle.lin_lists.specs.lemmas.Elements.{first_or_rest, nothing_in, pairs_left}
@@ -22,10 +22,9 @@ use Rattle.lin_orders.specs.Linearizable.{Runs, IsLegalOrderAs}
 use Rattle.lin_orders.specs.lemmas.OneEnd.{one_call}
 use Rattle.lin_orders.specs.lemmas.Assembling.{one_reply}
 use Rattle.lin_orders.specs.lemmas.Running.{runs_split}
-use Rattle.lin_failures.specs.BagConflicts.{AtLeast, AtMost}
 use Rattle.lin_failures.specs.lemmas.Conflicting.{across, parted}
 use Rattle.lin_failures.specs.lemmas.Counting.{Chosen, chosen_empty, chosen_least, chosen_most, chosen_one, chosen_other, pairs_rest}
-use Rattle.lin_ranks.specs.Ranks.{HasPut, HasTaken, IsOutOfTurn, MayPut, MayTake, RanksBelow, RanksFrom, TurnLaw}
+use Rattle.lin_ranks.specs.Ranks.{HasPut, HasTaken, MayPut, MayTake, RanksBelow, RanksFrom, TurnLaw}
 
 -- whether the reply is an enqueue's, or a dequeue's that took something out
 abbrev puts : Reply → Bool

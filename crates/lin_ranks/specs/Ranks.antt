@@ -1,6 +1,6 @@
 -- Ranks of a fifo queue's operations. In a legal order the k-th dequeue that takes something out takes what the k-th enqueue put in. The
 -- rank of an operation is how many of its sort stand ahead of it: all that are before it in real time, and some that aren't behind it.
-use Rattle.std.specs.Prelude.{◌+◌, ◌<◌, ◌≤◌, ◌⊎◌, ℕ, List, take}
+use Rattle.std.specs.Prelude.{◌+◌, ◌≤◌, ◌⊎◌, ℕ, List, take}
 use Rattle.lin_events.specs.declared.items.Item.{Item}
 use Rattle.lin_events.specs.declared.calls.Call.TheVariants.{Enqueue, Dequeue}
 use Rattle.lin_events.specs.declared.calls.Reply.{Reply}

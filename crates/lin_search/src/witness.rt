@@ -15,11 +15,12 @@ ghost use Rattle.lin_orders.specs.Parts.{events_at};
 use crate::bags::bag_order;
 use crate::queues::queue_order;
 use lin_depth::depth_first_order;
-use lin_events::{Event, Item, Meter, OutOfMemory};
+use lin_events::{Event, Item, Meter, OutOfMemory, beginnings_are_well_formed};
 use lin_failures::{BagConflict, Conflict, bag_failure, is_bag_refuted, is_refuted};
 use lin_objects::{Kind, Kinds};
 use lin_orders::{Placed, check_order};
 use lin_queues::{End, failing_event};
+use lin_ranks::{out_of_turn_is_illegal, rank_failure};
 use lin_registers::{register_failure, register_order};
 use std::alloc::Global;
 
@@ -332,8 +333,37 @@ fn conflicting(
     }
 }
 
-/// The event up to which a queue's debts can't be paid, if they come to that.
-fn indebted(
+/// One of the first so many events up to which a queue's debts can't be paid, if they come to that.
+fn indebted(alloc: Global, events: &[Event], until: usize) -> Result<Option<usize>, OutOfMemory>
+    requires { until ≤ length events.now }
+    ensures inside { IfOk result (λ found. IfSome found (λ at. at < until)) }
+    ensures refuted { (functions : ItemOf → NameOf → Bool) → IsWellFormed functions events.now → IfOk result (λ found. IfSome found (λ at. IsLinearizableAs Fifo (take (at + 1) events.now) → ⊥)) }
+{
+    beginnings_are_well_formed();
+    let mut unread = Meter::new();
+    match failing_event(alloc, &events[..until], &mut unread)? {
+        End::Fails(at) => Ok(Some(at)),
+        End::Stands | End::GaveUp => Ok(None),
+    }
+}
+
+/// The event up to which a queue's dequeues aren't in turn, or its debts can't be paid: the earlier one.
+fn queue_failure(alloc: Global, events: &[Event]) -> Result<Option<usize>, OutOfMemory>
+    ensures inside { IfOk result (λ found. IfSome found (λ at. at < length events.now)) }
+    ensures refuted { (functions : ItemOf → NameOf → Bool) → IsWellFormed functions events.now → IfOk result (λ found. IfSome found (λ at. IsLinearizableAs Fifo (take (at + 1) events.now) → ⊥)) }
+{
+    out_of_turn_is_illegal();
+    let Some(turn) = rank_failure(alloc, events)? else {
+        return indebted(alloc, events, events.len());
+    };
+    match indebted(alloc, events, turn)? {
+        Some(at) => Ok(Some(at)),
+        None => Ok(Some(turn)),
+    }
+}
+
+/// The same. A step is counted for each event up to and with that one, or for all events, if there is none.
+fn queued(
     alloc: Global,
     events: &[Event],
     meter: &mut Meter,
@@ -345,10 +375,12 @@ fn indebted(
     ensures most { meter.new.steps ≤ meter.old.steps + length events.now }
     ensures scans { meter.new.scans ≡ meter.old.scans }
 {
-    match failing_event(alloc, events, meter)? {
-        End::Fails(at) => Ok(Some(at)),
-        End::Stands | End::GaveUp => Ok(None),
-    }
+    let Some(at) = queue_failure(alloc, events)? else {
+        tick_steps(meter, events.len());
+        return Ok(None);
+    };
+    tick_steps(meter, at + 1);
+    Ok(Some(at))
 }
 
 /// The event up to which an object of the kind has no legal order, if one is found.
@@ -366,7 +398,7 @@ fn refuted(
     ensures scans { meter.new.scans ≡ meter.old.scans }
 {
     match kind {
-        Kind::Fifo => indebted(alloc, events, meter),
+        Kind::Fifo => queued(alloc, events, meter),
         _ => conflicting(alloc, kind, events, meter),
     }
 }
