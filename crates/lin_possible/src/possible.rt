@@ -1,9 +1,10 @@
 //! What an object could be after some events, and what an operation that is open then could have been answered.
-ghost use Rattle.std.specs.Prelude.{◌≡◌, ◌⊎◌, ◌≤◌, ℕ, Bool, List, Contains, IfOk, IfSome, IfNone, OnOk, Ok, None, length, take};
+ghost use Rattle.std.specs.Prelude.{◌≡◌, ◌⊎◌, ◌≤◌, ◌+◌, ◌-◌, ℕ, Bool, List, Contains, IfOk, IfSome, IfNone, OnOk, Ok, None, length, take};
 ghost use Rattle.lin_events.specs.declared.items.Item.{Item as ItemOf};
 ghost use Rattle.lin_events.specs.declared.calls.Name.{Name as NameOf};
 ghost use Rattle.lin_events.specs.declared.calls.Reply.{Reply as ReplyOf};
 ghost use Rattle.lin_events.specs.declared.events.Event.{Event as EventOf};
+ghost use Rattle.lin_events.specs.Meters.{ticked};
 ghost use Rattle.lin_events.specs.WellFormed.{IsWellFormed};
 ghost use Rattle.lin_objects.specs.Steps.{Step as StepOf, start as start_of};
 ghost use Rattle.lin_objects.specs.declared.kinds.Kind.{Kind as KindOf};
@@ -128,13 +129,14 @@ fn entries_of<T: Eq + Hash + Drop>(
 }
 
 impl Possible {
-    /// What is possible after the object's events, of which the run has taken in the first ones.
+    /// What is possible after the object's events, of which the run has taken in the first ones. A step is counted for each of the others.
     fn of(
         alloc: Global,
         mut run: Run,
         from: usize,
         events: &[Event],
         budget: u32,
+        meter: &mut Meter,
     ) -> Result<Option<Possible>, OutOfMemory>
         requires known { IsKnown run events.now from }
         requires within { from ≤ length events.now }
@@ -142,52 +144,63 @@ impl Possible {
         requires well_formed { (functions : ItemOf → NameOf → Bool) × IsWellFormed functions events.now }
         ensures after { IfOk result (λ found. IfSome found (λ possible. IsAfter possible (kind_of run) events.now)) }
         ensures over { result ≡ Ok None → (n : ℕ) × IsOver (start_of (kind_of run)) (StepOf (kind_of run)) (take n events.now) budget }
+        ensures counted { IfOk result (λ found. IfSome found (λ possible. meter.new.steps ≡ ticked meter.old.steps (length events.now - from))) }
+        ensures least { meter.old.steps ≤ meter.new.steps }
+        ensures steps { meter.new.steps ≤ meter.old.steps + (length events.now - from) }
+        ensures scans { meter.new.scans ≡ meter.old.scans }
     {
         prefixes_are_linearizable_by(&run.object);
         rounds_spell_members(&run.object);
+        let _counted = meter.steps();
         let mut scratch = Scratch::new(alloc);
-        let mut meter = Meter::new();
         for at in from..events.len() {
-            match run.take_in(alloc, at, &events[at], budget, &mut meter, &mut scratch)? {
+            match run.take_in(alloc, at, &events[at], budget, meter, &mut scratch)? {
                 Taken::Next => {}
                 Taken::Empty => unreachable!(),
                 Taken::Over => return Ok(None),
             }
         }
         if run.is_overwritten() {
-            let told = run.told(alloc)?;
+            let told = run.told(alloc, meter)?;
             return Ok(Some(Possible { run, members: told }));
         }
-        let Some(members) = run.listed(alloc, budget)? else {
+        let Some(members) = run.listed(alloc, budget, meter)? else {
             return Ok(None);
         };
         Ok(Some(Possible { run, members }))
     }
 
-    /// What is possible after the object's events; `None` where some beginning of them has more configurations than the budget.
+    /// What is possible after the object's events; `None` where some beginning of them has more configurations than the budget. A step is
+    /// counted for each event that is taken in, and a try for each call that is tried.
     pub fn after(
         alloc: Global,
         kind: Kind,
         events: &[Event],
         budget: u32,
+        meter: &mut Meter,
     ) -> Result<Option<Possible>, OutOfMemory>
         requires legal { IsLinearizableAs kind events.now }
         requires well_formed { (functions : ItemOf → NameOf → Bool) × IsWellFormed functions events.now }
         ensures after { IfOk result (λ found. IfSome found (λ possible. IsAfter possible kind events.now)) }
         ensures over { result ≡ Ok None → (n : ℕ) × IsOver (start_of kind) (StepOf kind) (take n events.now) budget }
+        ensures counted { IfOk result (λ found. IfSome found (λ possible. meter.new.steps ≡ ticked meter.old.steps (length events.now))) }
+        ensures least { meter.old.steps ≤ meter.new.steps }
+        ensures steps { meter.new.steps ≤ meter.old.steps + length events.now }
+        ensures scans { meter.new.scans ≡ meter.old.scans }
     {
         let run = Run::new(alloc, kind)?;
-        Possible::of(alloc, run, 0, events, budget)
+        Possible::of(alloc, run, 0, events, budget, meter)
     }
 
-    /// What is possible after all of the events, where this is what is possible after the first ones: only those behind are taken in. `None`
-    /// where some beginning of all has more configurations than the budget.
+    /// What is possible after all of the events, where this is what is possible after the first ones: only those behind are taken in, and
+    /// counted. `None` where some beginning of all has more configurations than the budget.
     pub fn go_on(
         self,
         alloc: Global,
         from: usize,
         events: &[Event],
         budget: u32,
+        meter: &mut Meter,
     ) -> Result<Option<Possible>, OutOfMemory>
         requires before { IsAfter self (kind_in self) (take from events.now) }
         requires within { from ≤ length events.now }
@@ -195,8 +208,12 @@ impl Possible {
         requires well_formed { (functions : ItemOf → NameOf → Bool) × IsWellFormed functions events.now }
         ensures after { IfOk result (λ found. IfSome found (λ possible. IsAfter possible (kind_in self) events.now)) }
         ensures over { result ≡ Ok None → (n : ℕ) × IsOver (start_of (kind_in self)) (StepOf (kind_in self)) (take n events.now) budget }
+        ensures counted { IfOk result (λ found. IfSome found (λ possible. meter.new.steps ≡ ticked meter.old.steps (length events.now - from))) }
+        ensures least { meter.old.steps ≤ meter.new.steps }
+        ensures steps { meter.new.steps ≤ meter.old.steps + (length events.now - from) }
+        ensures scans { meter.new.scans ≡ meter.old.scans }
     {
-        Possible::of(alloc, self.run, from, events, budget)
+        Possible::of(alloc, self.run, from, events, budget, meter)
     }
 
     /// What the object could be: each state once, with a way.

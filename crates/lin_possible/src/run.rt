@@ -3,6 +3,7 @@ ghost use Rattle.std.specs.Prelude.{◌≡◌, ◌+◌, true, false, ℕ, Bool, 
 ghost use Rattle.lin_events.specs.declared.items.Item.{Item as ItemOf};
 ghost use Rattle.lin_events.specs.declared.calls.Name.{Name as NameOf};
 ghost use Rattle.lin_events.specs.declared.events.Event.{Event as EventOf};
+ghost use Rattle.lin_events.specs.Meters.{ticked};
 ghost use Rattle.lin_events.specs.Operations.{IsEvent};
 ghost use Rattle.lin_events.specs.WellFormed.{IsWellFormed};
 ghost use Rattle.lin_objects.specs.Steps.{Step as StepOf, start as start_of};
@@ -102,6 +103,8 @@ impl Run {
             → IsLinearizableAs (kind_of self.old) (take (at + 1) h) → ⊥ }
         ensures over { result ≡ Ok Taken.Over → (functions : ItemOf → NameOf → Bool) (h : List EventOf) → IsWellFormed functions h → IsEvent h at event.now → IsKnown self.old h at
             → (n : ℕ) × IsOver (start_of (kind_of self.old)) (StepOf (kind_of self.old)) (take n h) budget }
+        ensures steps { meter.new.steps ≡ ticked meter.old.steps 1 }
+        ensures scans { meter.new.scans ≡ meter.old.scans }
     {
         beginnings_are_well_formed();
         let arrival = Arrival {
@@ -152,10 +155,16 @@ impl Run {
     }
 
     /// What the members show, where the object is overwritten.
-    pub(crate) fn told(&mut self, alloc: Global) -> Result<Vec<Member<State>>, OutOfMemory>
+    pub(crate) fn told(
+        &mut self,
+        alloc: Global,
+        meter: &mut Meter,
+    ) -> Result<Vec<Member<State>>, OutOfMemory>
         requires { overwrites_of (kind_of self.old) ≡ true }
-        ensures { IfOk result (λ list. (functions : ItemOf → NameOf → Bool) (h : List EventOf) → IsWellFormed functions h → IsKnown self.old h (length h)
+        ensures after { IfOk result (λ list. (functions : ItemOf → NameOf → Bool) (h : List EventOf) → IsWellFormed functions h → IsKnown self.old h (length h)
             → IsAfter (record { run = self.new; members = list }) (kind_of self.old) h) }
+        ensures steps { meter.new.steps ≡ meter.old.steps }
+        ensures scans { meter.new.scans ≡ meter.old.scans }
     {
         well_formed_is_alternating();
         rounds_spell_members(&self.object);
@@ -165,7 +174,7 @@ impl Run {
             alloc,
             pending: self.pending.as_slice(),
         };
-        let list = telling.told(&members, &mut self.nodes)?;
+        let list = telling.told(&members, &mut self.nodes, meter)?;
         Ok(list)
     }
 
@@ -174,6 +183,7 @@ impl Run {
         &mut self,
         alloc: Global,
         budget: u32,
+        meter: &mut Meter,
     ) -> Result<Option<Vec<Member<State>>>, OutOfMemory>
         requires { overwrites_of (kind_of self.old) ≡ false }
         ensures kind { kind_of self.new ≡ kind_of self.old }
@@ -182,6 +192,8 @@ impl Run {
             → IsListingOf (start_of (kind_of self.old)) (StepOf (kind_of self.old)) (observes_of (kind_of self.old)) h list.items self.new.nodes)) }
         ensures over { IfOk result (λ found. IfNone found ((functions : ItemOf → NameOf → Bool) (h : List EventOf) → IsWellFormed functions h → IsKnown self.old h (length h)
             → IsOver (start_of (kind_of self.old)) (StepOf (kind_of self.old)) h budget)) }
+        ensures steps { meter.new.steps ≡ meter.old.steps }
+        ensures scans { meter.new.scans ≡ meter.old.scans }
     {
         let members = members_of(&self.object, alloc, &self.frontier)?;
         let pending = Pending::of(self.pending.as_slice());
@@ -192,7 +204,7 @@ impl Run {
             &members,
             budget as usize,
             &mut self.nodes,
-            &mut Meter::new(),
+            meter,
         )?;
         let Some(list) = found else {
             return Ok(None);

@@ -61,16 +61,18 @@ impl<'a, O: SeqObject> Telling<'a, O> {
         &self,
         operations: &[Open],
         config: &Config<O::State>,
+        meter: &mut Meter,
     ) -> Result<Vec<(Config<O::State>, Placed)>, OutOfMemory>
         ensures sound { IfOk result (λ out. (d : O.State × List (ℕ × ReplyOf)) (p : PlacedOf) → Contains out.items (d, p)
             → (o : OpenOf) × Contains operations.now o × PlacesOne (O.step self.now.object.now) o config.now p d) }
         ensures complete { IfOk result (λ out. (o : OpenOf) (p : PlacedOf) (d : O.State × List (ℕ × ReplyOf)) → Contains operations.now o
             → PlacesOne (O.step self.now.object.now) o config.now p d → Contains out.items (d, p)) }
+        ensures steps { meter.new.steps ≡ meter.old.steps }
+        ensures scans { meter.new.scans ≡ meter.old.scans }
     {
         let mut out = Vec::new(self.alloc);
         let mut steps = Vec::new(self.alloc);
         let mut spare = Spare::new(self.alloc);
-        let mut meter = Meter::new();
         for operation in operations {
             place_if_absent(
                 self.object,
@@ -79,7 +81,7 @@ impl<'a, O: SeqObject> Telling<'a, O> {
                 operation,
                 &mut out,
                 &mut steps,
-                &mut meter,
+                meter,
                 &mut spare,
             )?;
         }
@@ -93,15 +95,18 @@ impl<'a, O: SeqObject> Telling<'a, O> {
         member: &Member<O::State>,
         out: &mut Vec<Member<O::State>>,
         nodes: &mut RoundNodes,
+        meter: &mut Meter,
     ) -> Result<(), OutOfMemory>
         requires { (o : OpenOf) → Contains operations.now o → Contains self.now.pending.now o }
         ensures grown { IsGrown nodes.old nodes.new }
         ensures added { OnOk result (AreAdded (O.starts self.now.object.now) (O.step self.now.object.now) (O.observing self.now.object.now) self.now.pending.now member.now nodes.old nodes.new out.old.items out.new.items) }
         ensures placed { OnOk result (ArePlaced (O.step self.now.object.now) operations.now (config_of member.now) out.new.items) }
+        ensures steps { meter.new.steps ≡ meter.old.steps }
+        ensures scans { meter.new.scans ≡ meter.old.scans }
     {
         rounds_take_operations(self.object);
         rounds_spell_members(self.object);
-        let mut rest = self.placings(operations, member.config())?;
+        let mut rest = self.placings(operations, member.config(), meter)?;
         while let Some((config, placed)) = rest.pop() {
             let next = bare_next(self.alloc, config, member.path(), placed, None, nodes)?;
             push_member(out, next)?;
@@ -173,17 +178,20 @@ impl<'a, O: SeqObject> Telling<'a, O> {
         member: &Member<O::State>,
         out: &mut Vec<Member<O::State>>,
         nodes: &mut RoundNodes,
+        meter: &mut Meter,
     ) -> Result<(), OutOfMemory>
         requires { (o : OpenOf) → Contains observers.now o → Contains self.now.pending.now o }
         ensures grown { IsGrown nodes.old nodes.new }
         ensures added { OnOk result (AreAdded (O.starts self.now.object.now) (O.step self.now.object.now) (O.observing self.now.object.now) self.now.pending.now member.now nodes.old nodes.new out.old.items out.new.items) }
         ensures placed { OnOk result ((o : OpenOf) (p : PlacedOf) (d : O.State × List (ℕ × ReplyOf)) → Contains self.now.pending.now o
             → PlacesOne (O.step self.now.object.now) o (config_of member.now) p d → ArePlaced (O.step self.now.object.now) observers.now d out.new.items) }
+        ensures steps { meter.new.steps ≡ meter.old.steps }
+        ensures scans { meter.new.scans ≡ meter.old.scans }
     {
         let mut next = Vec::new(self.alloc);
-        self.place_all(self.pending, member, &mut next, nodes)?;
+        self.place_all(self.pending, member, &mut next, nodes, meter)?;
         while let Some(one) = next.pop() {
-            self.place_all(observers, &one, out, nodes)?;
+            self.place_all(observers, &one, out, nodes, meter)?;
         }
         Ok(())
     }
@@ -195,18 +203,21 @@ impl<'a, O: SeqObject> Telling<'a, O> {
         member: &Member<O::State>,
         out: &mut Vec<Member<O::State>>,
         nodes: &mut RoundNodes,
+        meter: &mut Meter,
     ) -> Result<(), OutOfMemory>
         requires { AreWatching (O.observing self.now.object.now) self.now.pending.now observers.now }
         ensures grown { IsGrown nodes.old nodes.new }
         ensures added { OnOk result (AreAdded (O.starts self.now.object.now) (O.step self.now.object.now) (O.observing self.now.object.now) self.now.pending.now member.now nodes.old nodes.new out.old.items out.new.items) }
         ensures told { OnOk result (IsTold (O.step self.now.object.now) self.now.pending.now observers.now member.now out.new.items) }
+        ensures steps { meter.new.steps ≡ meter.old.steps }
+        ensures scans { meter.new.scans ≡ meter.old.scans }
     {
         rounds_spell_members(self.object);
         let own = bare(self.object, self.alloc, member)?;
         push_member(out, own)?;
         self.take_all(member, out, nodes)?;
-        self.place_all(self.pending, member, out, nodes)?;
-        self.place_two(observers, member, out, nodes)?;
+        self.place_all(self.pending, member, out, nodes, meter)?;
+        self.place_two(observers, member, out, nodes, meter)?;
         Ok(())
     }
 
@@ -215,6 +226,7 @@ impl<'a, O: SeqObject> Telling<'a, O> {
         &self,
         members: &[Member<O::State>],
         nodes: &mut RoundNodes,
+        meter: &mut Meter,
     ) -> Result<Vec<Member<O::State>>, OutOfMemory>
         ensures grown { OnOk result (IsGrown nodes.old nodes.new) }
         ensures told { IfOk result (λ out. (observers : List OpenOf) × AreWatching (O.observing self.now.object.now) self.now.pending.now observers
@@ -222,11 +234,13 @@ impl<'a, O: SeqObject> Telling<'a, O> {
         ensures spelled { IfOk result (λ out. (functions : ItemOf → NameOf → Bool) (h : List EventOf) → IsWellFormed functions h → IsPending h self.now.pending.now
             → ((m : MemberOf O.State × PathOf) → Contains members.now m → IsSpelled (O.starts self.now.object.now) (O.step self.now.object.now) (O.observing self.now.object.now) h nodes.old m)
             → (n : MemberOf O.State × PathOf) → Contains out.items n → IsSpelled (O.starts self.now.object.now) (O.step self.now.object.now) (O.observing self.now.object.now) h nodes.new n) }
+        ensures steps { meter.new.steps ≡ meter.old.steps }
+        ensures scans { meter.new.scans ≡ meter.old.scans }
     {
         let observers = self.observers()?;
         let mut out = Vec::new(self.alloc);
         for member in members {
-            self.tell(&observers, member, &mut out, nodes)?;
+            self.tell(&observers, member, &mut out, nodes, meter)?;
         }
         Ok(out)
     }

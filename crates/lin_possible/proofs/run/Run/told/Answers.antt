@@ -10,8 +10,8 @@ use Rattle.lin_possible.proofs.Keeping.{known_stays}
 use Rattle.lin_possible.proofs.Overwritten.{told_after}
 use Rattle.lin_possible.proofs.run.Run.told.Goals as goal
 
-pub returns : goal.returns
-returns c = λ functions h well known.
+pub returns-clause-after : goal.returns-clause-after
+returns-clause-after c = λ functions h well known.
     let self = c.args.self.now in
     let kind = kind_of self in
     let told = c.in_ok-list.ensures.told in
