@@ -363,11 +363,7 @@ fn queue_failure(alloc: Global, events: &[Event]) -> Result<Option<usize>, OutOf
 }
 
 /// The same. A step is counted for each event up to and with that one, or for all events, if there is none.
-fn queued(
-    alloc: Global,
-    events: &[Event],
-    meter: &mut Meter,
-) -> Result<Option<usize>, OutOfMemory>
+fn queued(alloc: Global, events: &[Event], meter: &mut Meter) -> Result<Option<usize>, OutOfMemory>
     ensures inside { IfOk result (λ found. IfSome found (λ at. at < length events.now)) }
     ensures refuted { (functions : ItemOf → NameOf → Bool) → IsWellFormed functions events.now → IfOk result (λ found. IfSome found (λ at. IsLinearizableAs Fifo (take (at + 1) events.now) → ⊥)) }
     ensures counted { IfOk result (λ found. IfSome found (λ at. meter.new.steps ≡ ticked meter.old.steps (at + 1))) }
@@ -376,7 +372,8 @@ fn queued(
     ensures scans { meter.new.scans ≡ meter.old.scans }
 {
     let Some(at) = queue_failure(alloc, events)? else {
-        tick_steps(meter, events.len());
+        let count = events.len();
+        tick_steps(meter, count);
         return Ok(None);
     };
     tick_steps(meter, at + 1);

@@ -1,4 +1,4 @@
-use Rattle.std.proofs.Common.{◌<◌, ◌≤◌, ◌+◌, take, length, ap, arith, Ok, sym, subst}
+use Rattle.std.proofs.Common.{◌+◌, ap, arith, Ok, sym, subst}
 use Rattle.std.proofs.lemmas.List.{length-take-le, take-take}
 use Rattle.lin_objects.specs.declared.kinds.Kind.TheVariants.{Fifo}
 use Rattle.lin_orders.specs.Linearizable.{IsLinearizableAs}
