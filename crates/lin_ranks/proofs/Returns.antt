@@ -12,7 +12,7 @@ use Rattle.lin_events.specs.declared.events.Event.{Event}
 use Rattle.lin_events.specs.Operations.{IsOk}
 use Rattle.lin_orders.specs.Orders.{IsBefore, IsCall}
 use Rattle.lin_orders.specs.lemmas.OneEnd.{no_call}
-use Rattle.lin_failures.specs.BagConflicts.{AtMost}
+use Rattle.lin_failures.specs.BagConflicts.{AtLeast, AtMost}
 use Rattle.lin_ranks.specs.Ranks.{RanksBelow, RanksFrom}
 use Rattle.lin_ranks.specs.inner.Returning.{IsReturnedBy}
 
@@ -57,8 +57,5 @@ module _ (h : List Event) where
         (was.0, (was.1.0, was.1.1, was.1.2, omega (arith, ends, later)))),
   )
 
-  pub returned_later : (at place later : ℕ) → place ≤ later → IsReturnedBy h at place → IsReturnedBy h at later
-  returned_later at place later more returned = elim returned [
-    | inl none ↦ inl (omega (arith, none, more))
-    | inr ok ↦ let early = ok.3 in inr (ok.0, ok.1, ok.2, omega (arith, early, more))
-  ]
+pub least_which : (P Q : ℕ → Type 0) → ((x : ℕ) → P x → Q x) → (k : ℕ) → AtLeast k P → AtLeast k Q
+least_which P Q each k least = (least.0, least.1, least.2, all_of Q least.0 (λ x there. each x (All-contains P least.0 x least.3 there)))

@@ -2,7 +2,9 @@
 use Rattle.std.proofs.Common.{◌≡◌, ◌≢◌, ◌≤◌, ◌+◌, ℕ, suc, Bool, true, false, cond, List, [], ◌∷◌, ◌++◌, ◌⊎◌, AllPairs, Contains, length, inl, inr, refl, sym, ap, subst, ◌∙◌, arith, true≢false, Some, slice_get, append_assoc}
 use Rattle.std.proofs.lemmas.Bool.{cases_Bool}
 use Rattle.std.proofs.lemmas.List.Elements.{All-contains, Contains-append_cases, Contains-append_left, Contains-append_right}
-use Rattle.lin_lists.specs.lemmas.Elements.{first_or_rest, nothing_in, pairs_left}
+use Rattle.std.proofs.lemmas.List.Kept.{AllPairs-cons}
+use Rattle.lin_lists.specs.lemmas.Elements.{all_of, first_or_rest, nothing_in, pairs_left}
+use Rattle.lin_lists.specs.lemmas.Taken.{one_place}
 use Rattle.lin_lists.specs.lemmas.Lists.{get_cases}
 use Rattle.lin_events.specs.declared.items.Item.{Item}
 use Rattle.lin_events.specs.declared.events.Event.{Event}
@@ -23,8 +25,8 @@ use Rattle.lin_orders.specs.lemmas.OneEnd.{one_call}
 use Rattle.lin_orders.specs.lemmas.Assembling.{one_reply}
 use Rattle.lin_orders.specs.lemmas.Running.{runs_split}
 use Rattle.lin_failures.specs.lemmas.Conflicting.{across, parted}
-use Rattle.lin_failures.specs.lemmas.Counting.{Chosen, chosen_empty, chosen_least, chosen_most, chosen_one, chosen_other, pairs_rest}
-use Rattle.lin_ranks.specs.Ranks.{HasPut, HasTaken, MayPut, MayTake, RanksBelow, RanksFrom, TurnLaw}
+use Rattle.lin_failures.specs.lemmas.Counting.{Chosen, chosen_empty, chosen_least, chosen_most, chosen_one, chosen_other, first_apart, no_more, pairs_rest}
+use Rattle.lin_ranks.specs.Ranks.{HasPut, HasTaken, HasTakenItem, IsRankedBelow, IsRankedFrom, MayPut, MayPutItem, MayTake, RankLaw, RanksBelow, RanksFrom}
 
 -- whether the reply is an enqueue's, or a dequeue's that took something out
 abbrev puts : Reply → Bool
@@ -62,6 +64,20 @@ module _ (f : Reply → Bool) where
     | inl passes ↦ many_one q (o ++ p ∷ []) passes ∙ ap suc (many_last o p is) ∙ ap suc (sym (many_one q o passes))
     | inr fails ↦ many_none q (o ++ p ∷ []) fails ∙ many_last o p is ∙ ap suc (sym (many_none q o fails))
   ]
+
+  -- the rank of one of them is its place among them
+  at_rank : (before : List Placed) (z : Placed) (after : List Placed) → Is z → slice_get (ats (before ++ z ∷ after)) (many before) ≡ Some z.at
+  at_rank [] z after is = ap (λ b. slice_get (cond b (z.at ∷ ats after) (ats after)) 0) is
+  at_rank (p ∷ before) z after is =
+      let rest = at_rank before z after is in
+      elim (cases_Bool (f p.reply)) [
+        | inl passes ↦
+            ap (λ n. slice_get (ats (p ∷ before ++ z ∷ after)) n) (many_one p before passes)
+            ∙ ap (λ b. slice_get (cond b (p.at ∷ ats (before ++ z ∷ after)) (ats (before ++ z ∷ after))) (suc (many before))) passes ∙ rest
+        | inr fails ↦
+            ap (λ n. slice_get (ats (p ∷ before ++ z ∷ after)) n) (many_none p before fails)
+            ∙ ap (λ b. slice_get (cond b (p.at ∷ ats (before ++ z ∷ after)) (ats (before ++ z ∷ after))) (many before)) fails ∙ rest
+      ]
 
   chosen : (o : List Placed) → AllPairs (λ (x y : Placed). x.at ≢ y.at) o → Chosen Is o (ats o)
   chosen [] once = chosen_empty Is
@@ -303,38 +319,99 @@ first_is (x ∷ r) next item step = same step.1
     same : Value (Held item) ≡ Value (Held x) → Some x ≡ Some item
     same e = cc
 
-pub turn_law : TurnLaw
-turn_law h taken item out linear =
-    let order = linear.0 in
-    let legal = linear.1 in
-    let d : Placed = record { at = taken; reply = Value (Held item) } in
-    let parts = parted order d (ok_in h order legal taken out.end (Value (Held item)) out.took) in
-    let run = runs_split (Step Fifo) h (start Fifo) legal.legal.0 parts.0 (d ∷ parts.1) (subst (λ l. Runs (Step Fifo) h (start Fifo) l legal.legal.0) parts.2 legal.legal.1) in
-    let queue = ends_queue h parts.0 [] run.0 run.1 in
-    let step = subst (λ c. Step Fifo run.0 c run.2.1 (Value (Held item))) (one_call h taken run.2.0 Dequeue run.2.2 out.is_dequeue) run.2.3 in
-    let first = first_is queue.0 run.2.1 item (subst (λ s. Step Fifo s Dequeue run.2.1 (Value (Held item))) queue.1 step) in
-    elim (source h parts.0 [] queue.0 run.0 run.1 queue.1 0 item first) [
-      | inl inside ↦ absurd (nowhere (many takes parts.0 + 0) inside)
-      | inr from ↦
-          let e = from.1 in
-          let whole : order ≡ from.0 ++ e ∷ (from.2 ++ d ∷ parts.1) = parts.2 ∙ ap (λ l. l ++ d ∷ parts.1) from.3 ∙ append_assoc from.0 (e ∷ from.2) (d ∷ parts.1) in
-          let there : Contains order e = subst (λ l. Contains l e) (sym whole) (Contains-append_right from.0 (e ∷ (from.2 ++ d ∷ parts.1)) e (0, omega arith, refl)) in
-          let ahead : Contains parts.0 e = subst (λ l. Contains l e) (sym from.3) (Contains-append_right from.0 (e ∷ from.2) e (0, omega arith, refl)) in
-          let apart = subst (AllPairs (λ (x y : Placed). IsBefore h y.at x.at → ⊥)) parts.2 legal.order_of.real_time in
-          let same = from.6 in
-          elim (out.differs e.at from.4 (not_failed h order legal e there) (across (λ (x y : Placed). IsBefore h y.at x.at → ⊥) parts.0 (d ∷ parts.1) e d apart ahead (0, omega arith, refl))) [
-            | inl below ↦
-                let low = rank_below h order legal puts (HasPut h) (MayPut h) (has_put h order legal) (may_put h order legal) from.0 e (from.2 ++ d ∷ parts.1) whole (ap puts from.5) below.0 below.3 in
-                let high = rank_from h order legal takes (HasTaken h) (MayTake h) (has_taken h order legal) (may_take h order legal) parts.0 d parts.1 parts.2 below.1 below.4 in
-                let between = below.2 in
-                omega (arith, same, low, high, between)
-            | inr above ↦
-                let low = rank_below h order legal takes (HasTaken h) (MayTake h) (has_taken h order legal) (may_take h order legal) parts.0 d parts.1 parts.2 refl above.0 above.3 in
-                let high = rank_from h order legal puts (HasPut h) (MayPut h) (has_put h order legal) (may_put h order legal) from.0 e (from.2 ++ d ∷ parts.1) whole above.1 above.4 in
-                let between = above.2 in
-                omega (arith, same, low, high, between)
-          ]
-    ]
-  where
-    nowhere : (n : ℕ) → slice_get [] n ≡ Some item → ⊥
-    nowhere n there = cc
+-- at the same rank stands the one that took the item out, and the one that put it in
+record Pair (h : List Event) (order : List Placed) (taken put : ℕ) : Type 0 where
+  rank : ℕ
+  takes_there : slice_get (ats takes order) rank ≡ Some taken
+  puts_there : slice_get (ats puts order) rank ≡ Some put
+
+module _ (h : List Event) (order : List Placed) (legal : IsLegalOrderAs Fifo h order) (item : Item) (low high : ℕ) where
+  abbrev Taken : ℕ → Type 0
+  Taken x = HasTakenItem h item x × IsRankedFrom h (HasTaken h) x low × IsRankedBelow h (MayTake h) x high
+
+  abbrev Put : ℕ → Type 0
+  Put x = MayPutItem h item x × (IsRankedBelow h (MayPut h) x low → ⊥) × (IsRankedFrom h (HasPut h) x high → ⊥)
+
+  partner : (taken : ℕ) → Taken taken → (e : ℕ) × Pair h order taken e × Put e
+  partner taken is =
+      let d : Placed = record { at = taken; reply = Value (Held item) } in
+      let parts = parted order d (ok_in h order legal taken is.0.1.0 (Value (Held item)) is.0.1.1) in
+      let run = runs_split (Step Fifo) h (start Fifo) legal.legal.0 parts.0 (d ∷ parts.1) (subst (λ l. Runs (Step Fifo) h (start Fifo) l legal.legal.0) parts.2 legal.legal.1) in
+      let queue = ends_queue h parts.0 [] run.0 run.1 in
+      let step = subst (λ c. Step Fifo run.0 c run.2.1 (Value (Held item))) (one_call h taken run.2.0 Dequeue run.2.2 is.0.0) run.2.3 in
+      let first = first_is queue.0 run.2.1 item (subst (λ s. Step Fifo s Dequeue run.2.1 (Value (Held item))) queue.1 step) in
+      elim (source h parts.0 [] queue.0 run.0 run.1 queue.1 0 item first) [
+        | inl inside ↦ absurd (nowhere (many takes parts.0 + 0) inside)
+        | inr from ↦
+            let e = from.1 in
+            let behind = from.2 ++ d ∷ parts.1 in
+            let whole : order ≡ from.0 ++ e ∷ behind = parts.2 ∙ ap (λ l. l ++ d ∷ parts.1) from.3 ∙ append_assoc from.0 (e ∷ from.2) (d ∷ parts.1) in
+            let there : Contains order e = subst (λ l. Contains l e) (sym whole) (Contains-append_right from.0 (e ∷ behind) e (0, omega arith, refl)) in
+            let count = from.6 in
+            let same : many puts from.0 ≡ many takes parts.0 = omega (arith, count) in (
+              e.at,
+              record {
+                rank = many takes parts.0;
+                takes_there = subst (λ l. slice_get (ats takes l) (many takes parts.0) ≡ Some taken) (sym parts.2) (at_rank takes parts.0 d parts.1 refl);
+                puts_there = subst (λ l. slice_get (ats puts l) (many takes parts.0) ≡ Some e.at) (sym whole)
+                    (subst (λ n. slice_get (ats puts (from.0 ++ e ∷ behind)) n ≡ Some e.at) same (at_rank puts from.0 e behind (ap puts from.5)));
+              },
+              (
+                (from.4, not_failed h order legal e there),
+                λ below.
+                    let least = rank_below h order legal puts (HasPut h) (MayPut h) (has_put h order legal) (may_put h order legal) from.0 e behind whole (ap puts from.5) below.0 below.2 in
+                    let most = rank_from h order legal takes (HasTaken h) (MayTake h) (has_taken h order legal) (may_take h order legal) parts.0 d parts.1 parts.2 is.1.0 is.1.2 in
+                    let under = below.1 in
+                    let over = is.1.1 in
+                    omega (arith, same, least, most, under, over),
+                λ above.
+                    let least = rank_below h order legal takes (HasTaken h) (MayTake h) (has_taken h order legal) (may_take h order legal) parts.0 d parts.1 parts.2 refl is.2.0 is.2.2 in
+                    let most = rank_from h order legal puts (HasPut h) (MayPut h) (has_put h order legal) (may_put h order legal) from.0 e behind whole above.0 above.2 in
+                    let under = is.2.1 in
+                    let over = above.1 in
+                    omega (arith, same, least, most, under, over),
+              ),
+            )
+      ]
+    where
+      nowhere : (n : ℕ) → slice_get [] n ≡ Some item → ⊥
+      nowhere n there = cc
+
+  -- different ones that took it have different partners
+  one_taken : (a b e : ℕ) → Pair h order a e → Pair h order b e → a ≡ b
+  one_taken a b e p q =
+      let rank = one_place (ats puts order) (chosen puts order legal.order_of.once).apart p.rank q.rank e p.puts_there q.puts_there in
+      some_same (sym (subst (λ k. slice_get (ats takes order) k ≡ Some a) rank p.takes_there) ∙ q.takes_there)
+    where
+      some_same : Some a ≡ Some b → a ≡ b
+      some_same e = cc
+
+  partners : (ds : List ℕ) → AllPairs ◌≢◌ ds → ((x : ℕ) → Contains ds x → Taken x)
+      → (es : List ℕ) × (length es ≡ length ds) × AllPairs ◌≢◌ es × ((e : ℕ) → Contains es e → Put e × ((x : ℕ) × Contains ds x × Pair h order x e))
+  partners [] apart each = ([], refl, λ i j d before within. absurd (omega (arith, within)), λ e there. absurd (nothing_in e there))
+  partners (x ∷ ds) apart each =
+      let rest = partners ds (pairs_rest ◌≢◌ x ds apart) (λ y there. each y (Contains-append_right (x ∷ []) ds y there)) in
+      let one = partner x (each x (0, omega arith, refl)) in (
+        one.0 ∷ rest.0,
+        ap suc rest.1,
+        AllPairs-cons ◌≢◌ one.0 rest.0 (all_of (λ e. one.0 ≢ e) rest.0 (λ e there same.
+            let other = (rest.3 e there).1 in
+            first_apart ◌≢◌ x ds apart other.0 other.1 (one_taken x other.0 e (subst (Pair h order x) same one.1) other.2))) rest.2,
+        λ e there. elim (first_or_rest one.0 rest.0 e there) [
+          | inl same ↦ subst (λ y. Put y × ((z : ℕ) × Contains (x ∷ ds) z × Pair h order z y)) same (one.2, (x, (0, omega arith, refl), one.1))
+          | inr later ↦ let other = rest.3 e later in (other.0, (other.1.0, Contains-append_right (x ∷ []) ds other.1.0 other.1.1, other.1.2))
+        ],
+      )
+
+pub rank_law : RankLaw
+rank_law h item over linear =
+    let all = over.taken in
+    let some = over.put in
+    let found = partners h linear.0 linear.1 item over.low over.high all.0 all.2
+    (λ x there. All-contains (λ y. HasTakenItem h item y × IsRankedFrom h (HasTaken h) y over.low × IsRankedBelow h (MayTake h) y over.high) all.0 x all.3 there) in
+    let fits = no_more found.0 some.0 found.2 (λ e there. some.2 e (found.3 e there).0) in
+    let size = found.1 in
+    let most = some.1 in
+    let least = all.1 in
+    let fewer = over.fewer in
+    omega (arith, fits, size, most, least, fewer)

@@ -1,6 +1,6 @@
 -- Ranks of a fifo queue's operations. In a legal order the k-th dequeue that takes something out takes what the k-th enqueue put in. The
 -- rank of an operation is how many of its sort stand ahead of it: all that are before it in real time, and some that aren't behind it.
-use Rattle.std.specs.Prelude.{◌+◌, ◌≤◌, ◌⊎◌, ℕ, List, take}
+use Rattle.std.specs.Prelude.{◌+◌, ◌<◌, ◌≤◌, ℕ, List, take}
 use Rattle.lin_events.specs.declared.items.Item.{Item}
 use Rattle.lin_events.specs.declared.calls.Call.TheVariants.{Enqueue, Dequeue}
 use Rattle.lin_events.specs.declared.calls.Reply.{Reply}
@@ -32,33 +32,42 @@ HasTaken h at = IsCall h at Dequeue × ((end : ℕ) × (item : Item) × IsOk h a
 abbrev pub MayTake : List Event → ℕ → Type 0
 MayTake h at = IsCall h at Dequeue × (IsFailed h at → ⊥) × ((end : ℕ) → IsOk h at end (Value Nil) → ⊥)
 
--- The rank of the operation is at least so much: so many of its sort are before it
+-- a dequeue that is known to have taken this item out, and an enqueue that may put it in
+abbrev pub HasTakenItem : List Event → Item → ℕ → Type 0
+HasTakenItem h item at = IsCall h at Dequeue × ((end : ℕ) × IsOk h at end (Value (Held item)))
+
+abbrev pub MayPutItem : List Event → Item → ℕ → Type 0
+MayPutItem h item at = IsCall h at (Enqueue item) × (IsFailed h at → ⊥)
+
+-- so many of a sort are before the operation
 abbrev pub RanksFrom : List Event → (ℕ → Type 0) → ℕ → ℕ → Type 0
 RanksFrom h Has at k = AtLeast k (λ x. Has x × IsBefore h x at)
 
--- and less than so much: so many of its sort, the operation among them, aren't behind it
+-- so many of a sort, the operation among them, aren't behind it
 abbrev pub RanksBelow : List Event → (ℕ → Type 0) → ℕ → ℕ → Type 0
 RanksBelow h May at k = AtMost k (λ x. May x × (IsBefore h at x → ⊥))
 
--- the one operation's rank is less than the other's, of another sort
-abbrev pub IsOutranked : List Event → (ℕ → Type 0) → ℕ → (ℕ → Type 0) → ℕ → Type 0
-IsOutranked h May low Has high = (few many : ℕ) × (few ≤ many) × RanksBelow h May low few × RanksFrom h Has high many
+-- so the rank of the operation is at least k, and less than k
+abbrev pub IsRankedFrom : List Event → (ℕ → Type 0) → ℕ → ℕ → Type 0
+IsRankedFrom h Has at k = (many : ℕ) × (k ≤ many) × RanksFrom h Has at many
 
--- the enqueue and the dequeue have different ranks
-abbrev pub RanksDiffer : List Event → ℕ → ℕ → Type 0
-RanksDiffer h put taken = IsOutranked h (MayPut h) put (HasTaken h) taken ⊎ IsOutranked h (MayTake h) taken (HasPut h) put
+abbrev pub IsRankedBelow : List Event → (ℕ → Type 0) → ℕ → ℕ → Type 0
+IsRankedBelow h May at k = (few : ℕ) × (few ≤ k) × RanksBelow h May at few
 
--- The dequeue, which took the item out, is out of turn: it has another rank than each enqueue of the item that has not failed, and isn't behind it
-pub record IsOutOfTurn (h : List Event) (taken : ℕ) (item : Item) : Type 0 where
-  pub end : ℕ
-  pub is_dequeue : IsCall h taken Dequeue
-  pub took : IsOk h taken end (Value (Held item))
-  pub differs : (put : ℕ) → IsCall h put (Enqueue item) → (IsFailed h put → ⊥) → (IsBefore h taken put → ⊥) → RanksDiffer h put taken
+-- between two ranks the item was taken out more often than it can have been put in
+pub record IsOvertaken (h : List Event) (item : Item) : Type 0 where
+  pub low : ℕ
+  pub high : ℕ
+  pub few : ℕ
+  pub many : ℕ
+  pub fewer : few < many
+  pub taken : AtLeast many (λ x. HasTakenItem h item x × IsRankedFrom h (HasTaken h) x low × IsRankedBelow h (MayTake h) x high)
+  pub put : AtMost few (λ x. MayPutItem h item x × (IsRankedBelow h (MayPut h) x low → ⊥) × (IsRankedFrom h (HasPut h) x high → ⊥))
 
--- some dequeue is, by what is known up to and with this event
-abbrev pub IsOutOfTurnAt : List Event → ℕ → Type 0
-IsOutOfTurnAt h at = (taken : ℕ) × (item : Item) × IsOutOfTurn (take (at + 1) h) taken item
+-- some item was, by what is known up to and with this event
+abbrev pub IsOvertakenAt : List Event → ℕ → Type 0
+IsOvertakenAt h at = (item : Item) × IsOvertaken (take (at + 1) h) item
 
--- events with a dequeue out of turn have no legal order
-abbrev pub TurnLaw : Type 0
-TurnLaw = (h : List Event) (taken : ℕ) (item : Item) → IsOutOfTurn h taken item → IsLinearizableAs Fifo h → ⊥
+-- then the events have no legal order
+abbrev pub RankLaw : Type 0
+RankLaw = (h : List Event) (item : Item) → IsOvertaken h item → IsLinearizableAs Fifo h → ⊥

@@ -1,70 +1,55 @@
-//! Whether a dequeue is out of turn.
-ghost use Rattle.std.specs.Prelude.{◌<◌, ◌≡◌, ◌≤◌, IfOk, IsTrue, length, ℕ};
-ghost use Rattle.lin_events.specs.declared.items.Item.{Item as ItemOf};
-ghost use Rattle.lin_events.specs.declared.calls.Reply.{Reply as ReplyOf};
-ghost use Rattle.lin_events.specs.declared.calls.Call.TheVariants.{Enqueue};
-ghost use Rattle.lin_events.specs.Operations.{IsFailed, IsOk};
-ghost use Rattle.lin_orders.specs.Orders.{IsCall};
+//! Whether an item was taken out more often, between two ranks, than it can have been put in.
+ghost use Rattle.std.specs.Prelude.{◌<◌, ◌≤◌, IfOk, IsTrue, length, ℕ};
 ghost use Rattle.lin_orders.specs.Tables.{IsNextTable};
-ghost use Rattle.lin_ranks.specs.Ranks.{HasPut, HasTaken, IsOutOfTurn, IsOutranked, MayPut, MayTake};
+ghost use Rattle.lin_ranks.specs.Ranks.{HasPut, IsOvertaken, IsRankedFrom};
 
 use crate::counts::{
-    is_put_later, puts_ahead, puts_before, returned_by, takes_ahead, takes_before,
+    Places, puts_ahead, puts_before, puts_between, takes_ahead, takes_before, takes_from,
 };
-use crate::operations::take_end;
 use lin_events::{Event, Item, OutOfMemory};
 use lin_orders::ends_of;
 use std::alloc::Global;
 
-/// A dequeue, and a place that divides the enqueues of what it took out: those ahead of it have lower ranks, the others higher ones.
+/// An item, a place, so that its dequeues are looked at that weren't invoked ahead of it, and what bounds their ranks.
 #[derive(Clone, Copy)]
-pub struct Turn {
-    pub dequeue: usize,
+pub struct Window {
+    pub item: Item,
     pub from: usize,
+    pub places: Places,
 }
 
-/// Whether the enqueues of the item that were invoked ahead of the place have lower ranks than the dequeue.
-fn are_lower(events: &[Event], ends: &[Option<usize>], turn: &Turn, item: Item) -> bool
+/// Whether enqueues that weren't invoked ahead of the place have at least the rank.
+fn are_above(events: &[Event], ends: &[Option<usize>], place: usize, high: usize) -> bool
     requires table { IsNextTable events.now ends.now }
-    ensures { IsTrue result → (put : ℕ) → put < turn.now.from → IsCall events.now put (Enqueue item) → (IsFailed events.now put → ⊥) → IsOutranked events.now (MayPut events.now) put (HasTaken events.now) turn.now.dequeue }
+    ensures { IsTrue result → (x : ℕ) → x < length events.now → place ≤ x → IsRankedFrom events.now (HasPut events.now) x high }
 {
-    let place = returned_by(events, ends, item, turn.from);
-    puts_ahead(events, ends, place) <= takes_before(events, ends, turn.dequeue)
-}
-
-/// Whether the others have higher ranks than the dequeue, which returned there.
-fn are_higher(events: &[Event], ends: &[Option<usize>], turn: &Turn, item: Item, end: usize) -> bool
-    requires table { IsNextTable events.now ends.now }
-    requires ok { (reply : ReplyOf) × IsOk events.now turn.now.dequeue end reply }
-    ensures { IsTrue result → (put : ℕ) → turn.now.from ≤ put → IsCall events.now put (Enqueue item) → (IsFailed events.now put → ⊥) → IsOutranked events.now (MayTake events.now) turn.now.dequeue (HasPut events.now) put }
-{
-    if !is_put_later(events, ends, item, turn.from) {
+    if events.len() <= place {
         return true;
     }
-    takes_ahead(events, ends, end) <= puts_before(events, ends, turn.from)
+    high <= puts_before(events, ends, place)
 }
 
-/// Whether the dequeue is out of turn, by this division.
-fn divides(events: &[Event], ends: &[Option<usize>], turn: &Turn) -> bool
+/// Whether the item was overtaken, by the window.
+fn is_overtaken_in(events: &[Event], ends: &[Option<usize>], window: &Window) -> bool
     requires table { IsNextTable events.now ends.now }
-    ensures { IsTrue result → (item : ItemOf) × IsOutOfTurn events.now turn.now.dequeue item }
+    ensures { IsTrue result → IsOvertaken events.now window.now.item }
 {
-    if turn.dequeue >= events.len() {
+    let low = takes_before(events, ends, window.from);
+    if low < puts_ahead(events, ends, window.places.lower) {
         return false;
     }
-    let Some((end, item)) = take_end(events, ends, turn.dequeue) else {
-        return false;
-    };
-    if !are_lower(events, ends, turn, item) {
+    let high = takes_ahead(events, ends, events.len());
+    if !are_above(events, ends, window.places.upper, high) {
         return false;
     }
-    are_higher(events, ends, turn, item, end)
+    puts_between(events, ends, window.item, &window.places)
+        < takes_from(events, ends, window.item, window.from)
 }
 
 /// The same, where it isn't told yet how operations end. Goes through the events a few times.
-pub fn is_out_of_turn(alloc: Global, events: &[Event], turn: &Turn) -> Result<bool, OutOfMemory>
-    ensures { IfOk result (λ is. IsTrue is → (item : ItemOf) × IsOutOfTurn events.now turn.now.dequeue item) }
+pub fn is_overtaken(alloc: Global, events: &[Event], window: &Window) -> Result<bool, OutOfMemory>
+    ensures { IfOk result (λ is. IsTrue is → IsOvertaken events.now window.now.item) }
 {
     let ends = ends_of(alloc, events)?;
-    Ok(divides(events, &ends, turn))
+    Ok(is_overtaken_in(events, &ends, window))
 }

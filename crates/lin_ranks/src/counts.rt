@@ -1,15 +1,20 @@
 //! How many operations of a queue are known to have put something in, or taken something out, and how many may have.
-ghost use Rattle.std.specs.Prelude.{◌<◌, ◌≡◌, ◌≤◌, IsTrue, false, length, ℕ};
-ghost use Rattle.lin_events.specs.declared.calls.Call.TheVariants.{Enqueue};
-ghost use Rattle.lin_events.specs.Operations.{IsFailed};
-ghost use Rattle.lin_failures.specs.BagConflicts.{AtMost};
-ghost use Rattle.lin_orders.specs.Orders.{IsBefore, IsCall};
+ghost use Rattle.std.specs.Prelude.{◌<◌, ◌≡◌, ◌≤◌, IsTrue, false, length};
+ghost use Rattle.lin_failures.specs.BagConflicts.{AtLeast, AtMost};
+ghost use Rattle.lin_orders.specs.Orders.{IsBefore};
 ghost use Rattle.lin_orders.specs.Tables.{IsNextTable};
-ghost use Rattle.lin_ranks.specs.Ranks.{HasPut, HasTaken, MayPut, MayTake, RanksFrom};
+ghost use Rattle.lin_ranks.specs.Ranks.{HasPut, HasTaken, HasTakenItem, MayPut, MayPutItem, MayTake, RanksFrom};
 ghost use Rattle.lin_ranks.specs.inner.Returning.{IsReturnedBy};
 
-use crate::operations::{may_put, may_put_item, may_take, put_end, take_end};
+use crate::operations::{has_taken_item, may_put, may_put_item, may_take, put_end, take_end};
 use lin_events::{Event, Item};
+
+/// Places that bound ranks: enqueues that returned by the lower one rank below, those that weren't invoked ahead of the upper one above.
+#[derive(Clone, Copy)]
+pub struct Places {
+    pub lower: usize,
+    pub upper: usize,
+}
 
 /// Whether the operation at the one place is an enqueue that returned ahead of the other place.
 fn is_put_before(events: &[Event], ends: &[Option<usize>], at: usize, place: usize) -> bool
@@ -115,42 +120,82 @@ pub fn takes_ahead(events: &[Event], ends: &[Option<usize>], place: usize) -> us
     takes
 }
 
-/// A place by which the operation at the other place returned, if it is an enqueue that may put the item in.
-fn return_of(events: &[Event], ends: &[Option<usize>], at: usize, item: Item) -> usize
+/// Whether the operation at the place is a dequeue that took the item out, and was not invoked ahead of the other place.
+fn is_taken_from(
+    events: &[Event],
+    ends: &[Option<usize>],
+    at: usize,
+    item: Item,
+    from: usize,
+) -> bool
     requires table { IsNextTable events.now ends.now }
     requires within { at < length events.now }
-    ensures { IsCall events.now at (Enqueue item) → (IsFailed events.now at → ⊥) → IsReturnedBy events.now at result }
+    ensures { IsTrue result → HasTakenItem events.now item at × (from ≤ at) }
 {
-    if !may_put_item(events, ends, at, item) {
-        return 0;
+    if at < from {
+        return false;
     }
-    match put_end(events, ends, at) {
-        Some(end) => end,
-        None => events.len(),
-    }
+    has_taken_item(events, ends, at, item)
 }
 
-/// A place by which all enqueues returned that may put the item in, and were invoked ahead of the other place.
-pub fn returned_by(events: &[Event], ends: &[Option<usize>], item: Item, from: usize) -> usize
+/// How many dequeues that took the item out were not invoked ahead of the place.
+pub fn takes_from(events: &[Event], ends: &[Option<usize>], item: Item, from: usize) -> usize
     requires table { IsNextTable events.now ends.now }
-    ensures { (put : ℕ) → put < from → IsCall events.now put (Enqueue item) → (IsFailed events.now put → ⊥) → IsReturnedBy events.now put result }
+    ensures { AtLeast result (λ x. HasTakenItem events.now item x × (from ≤ x)) }
 {
-    let mut place = 0;
-    for at in 0..from.min(events.len()) {
-        place = return_of(events, ends, at, item).max(place);
-    }
-    place
-}
-
-/// Whether an enqueue that may put the item in was invoked at the place, or behind it.
-pub fn is_put_later(events: &[Event], ends: &[Option<usize>], item: Item, from: usize) -> bool
-    requires table { IsNextTable events.now ends.now }
-    ensures { result ≡ false → (put : ℕ) → from ≤ put → IsCall events.now put (Enqueue item) → (IsFailed events.now put → ⊥) → ⊥ }
-{
-    for at in from..events.len() {
-        if may_put_item(events, ends, at, item) {
-            return true;
+    let mut takes = 0;
+    for at in 0..events.len() {
+        if is_taken_from(events, ends, at, item, from) {
+            takes += 1;
         }
     }
-    false
+    takes
+}
+
+/// Whether the enqueue at the place is known to have returned by the other place.
+fn is_returned_by(events: &[Event], ends: &[Option<usize>], at: usize, place: usize) -> bool
+    requires table { IsNextTable events.now ends.now }
+    requires within { at < length events.now }
+    ensures { IsTrue result → IsReturnedBy events.now at place }
+{
+    match put_end(events, ends, at) {
+        Some(end) => end <= place,
+        None => false,
+    }
+}
+
+/// Whether the operation at the place is an enqueue that may put the item in, was invoked ahead of the upper place, and didn't return by the
+/// lower one.
+fn is_put_between(
+    events: &[Event],
+    ends: &[Option<usize>],
+    at: usize,
+    item: Item,
+    places: &Places,
+) -> bool
+    requires table { IsNextTable events.now ends.now }
+    requires within { at < length events.now }
+    ensures { result ≡ false → MayPutItem events.now item at × (at < places.now.upper) × (IsReturnedBy events.now at places.now.lower → ⊥) → ⊥ }
+{
+    if places.upper <= at {
+        return false;
+    }
+    if is_returned_by(events, ends, at, places.lower) {
+        return false;
+    }
+    may_put_item(events, ends, at, item)
+}
+
+/// How many enqueues that may put the item in were invoked ahead of the upper place, and didn't return by the lower one.
+pub fn puts_between(events: &[Event], ends: &[Option<usize>], item: Item, places: &Places) -> usize
+    requires table { IsNextTable events.now ends.now }
+    ensures { AtMost result (λ x. MayPutItem events.now item x × (x < places.now.upper) × (IsReturnedBy events.now x places.now.lower → ⊥)) }
+{
+    let mut puts = 0;
+    for at in 0..events.len() {
+        if is_put_between(events, ends, at, item, places) {
+            puts += 1;
+        }
+    }
+    puts
 }

@@ -1,82 +1,17 @@
-//! A search for a dequeue that is out of turn.
+//! A search for an item that was taken out more often, between two ranks, than it can have been put in.
 ghost use Rattle.std.specs.Prelude.{◌<◌, IfOk, IfSome, length};
-ghost use Rattle.lin_ranks.specs.Ranks.{IsOutOfTurnAt};
+ghost use Rattle.lin_ranks.specs.Ranks.{IsOvertakenAt};
 
-use crate::checking::{Turn, is_out_of_turn};
+use crate::checking::{Window, is_overtaken};
+use crate::lines::Line;
 use lin_events::{Body, Call, Event, Item, OutOfMemory, Reply, Val};
 use std::alloc::Global;
 use std::collections::HashMap;
 
-/// What stands for no bound.
-const NONE: usize = usize::MAX;
-
-/// An enqueue.
-#[derive(Clone, Copy)]
-struct Put {
-    at: usize,
-    /// How many enqueues returned before it was invoked.
-    least: usize,
-    /// What its rank is less than: how many enqueues were invoked before it returned. Nothing, where it failed.
-    below: usize,
-}
-
-/// The enqueues of an item, in the order of their invocations.
-#[derive(Drop)]
-struct Line {
-    puts: Vec<Put>,
-    /// What no rank of the first so many of them comes up to. They have returned.
-    reach: Vec<usize>,
-}
-
-impl Line {
-    fn new(alloc: Global) -> Line {
-        Line {
-            puts: Vec::new(alloc),
-            reach: Vec::new(alloc),
-        }
-    }
-
-    /// One more is invoked; which one it is.
-    fn add(&mut self, at: usize, least: usize) -> Result<usize, OutOfMemory> {
-        let number = self.puts.len();
-        self.puts.push(Put {
-            at,
-            least,
-            below: NONE,
-        })?;
-        Ok(number)
-    }
-
-    /// This one returned.
-    fn settle(&mut self, number: usize, below: usize) -> Result<(), OutOfMemory> {
-        if let Some(put) = self.puts.get_mut(number) {
-            put.below = below;
-        }
-        let settled = self.reach.len().min(self.puts.len());
-        let mut reach = self.reach.last().copied().unwrap_or(0);
-        for put in &self.puts[settled..] {
-            if put.below == NONE {
-                break;
-            }
-            reach = put.below.max(reach);
-            self.reach.push(reach)?;
-        }
-        Ok(())
-    }
-
-    /// What no rank comes up to that one of the first so many can have, where there are so many enqueues in all.
-    fn reach_of(&self, count: usize, puts: usize) -> usize {
-        match count.checked_sub(1) {
-            None => 0,
-            Some(last) => self.reach.get(last).copied().unwrap_or(puts),
-        }
-    }
-}
-
 /// An operation that hasn't returned.
 #[derive(Clone, Copy)]
 enum Pending {
-    /// An enqueue of the item, and which one.
+    /// An enqueue of the item, and where it was invoked.
     Put(Item, usize),
     /// A dequeue, where it was invoked, and how many had taken something out by then.
     Take(usize, usize),
@@ -109,16 +44,22 @@ impl Search {
         }
     }
 
-    /// An enqueue of the item is invoked; which of them it is.
-    fn put_in(&mut self, alloc: Global, at: usize, item: Item) -> Result<usize, OutOfMemory> {
-        self.puts = self.puts.saturating_add(1);
-        if let Some(line) = self.lines.get_mut(&item) {
-            return line.add(at, self.put);
+    /// The operations of the item, from now on.
+    fn add_line(&mut self, alloc: Global, item: Item) -> Result<(), OutOfMemory> {
+        if !self.lines.contains_key(&item) {
+            self.lines.insert(item, Line::new(alloc))?;
         }
-        let mut line = Line::new(alloc);
-        let number = line.add(at, self.put)?;
-        self.lines.insert(item, line)?;
-        Ok(number)
+        Ok(())
+    }
+
+    /// An enqueue of the item is invoked.
+    fn put_in(&mut self, alloc: Global, at: usize, item: Item) -> Result<(), OutOfMemory> {
+        self.puts = self.puts.saturating_add(1);
+        self.add_line(alloc, item)?;
+        match self.lines.get_mut(&item) {
+            Some(line) => line.put(at, self.put),
+            None => Ok(()),
+        }
     }
 
     /// An operation is invoked.
@@ -130,7 +71,10 @@ impl Search {
         call: &Call,
     ) -> Result<(), OutOfMemory> {
         let pending = match call {
-            Call::Enqueue(item) => Pending::Put(*item, self.put_in(alloc, at, *item)?),
+            Call::Enqueue(item) => {
+                self.put_in(alloc, at, *item)?;
+                Pending::Put(*item, at)
+            }
             _ => {
                 self.takes = self.takes.saturating_add(1);
                 Pending::Take(at, self.taken)
@@ -140,37 +84,50 @@ impl Search {
         Ok(())
     }
 
-    /// The enqueue of the item returned; its rank is less than this.
-    fn settle(&mut self, item: Item, number: usize, below: usize) -> Result<(), OutOfMemory> {
+    /// The enqueue of the item returned there.
+    fn put_ok(&mut self, at: usize, item: Item) -> Result<(), OutOfMemory> {
+        self.put = self.put.saturating_add(1);
         match self.lines.get_mut(&item) {
-            Some(line) => line.settle(number, below),
+            Some(line) => line.returned(at, self.puts),
             None => Ok(()),
         }
     }
 
-    /// Where the enqueues of the item divide, if each has another rank than the dequeue that took it out: this one has at least that rank.
-    fn divide(&self, item: Item, least: usize) -> Option<usize> {
-        let Some(line) = self.lines.get(&item) else {
-            return Some(NONE);
+    /// The dequeue, which was invoked there, took the item out; whether it is overtaken.
+    fn take_out(
+        &mut self,
+        alloc: Global,
+        at: usize,
+        rank: usize,
+        item: Item,
+    ) -> Result<Option<Window>, OutOfMemory> {
+        self.taken = self.taken.saturating_add(1);
+        self.add_line(alloc, item)?;
+        let Some(line) = self.lines.get_mut(&item) else {
+            return Ok(None);
         };
-        let lower = line.puts.partition_point(|put| put.least < self.takes);
-        if least < line.reach_of(lower, self.puts) {
-            return None;
-        }
-        Some(line.puts.get(lower).map_or(NONE, |put| put.at))
+        line.taken(at, rank)?;
+        Ok(
+            line.overtaken(self.takes)
+                .map(|(from, places)| Window { item, from, places }),
+        )
     }
 
-    /// The operation returned with the reply; whether it is a dequeue that is out of turn.
-    fn put_ok(&mut self, pending: Pending, reply: &Reply) -> Result<Option<Turn>, OutOfMemory> {
+    /// The operation returned with the reply; whether an item is overtaken.
+    fn returned(
+        &mut self,
+        alloc: Global,
+        at: usize,
+        pending: Pending,
+        reply: &Reply,
+    ) -> Result<Option<Window>, OutOfMemory> {
         match (pending, reply) {
-            (Pending::Put(item, number), _) => {
-                self.put = self.put.saturating_add(1);
-                self.settle(item, number, self.puts)?;
+            (Pending::Put(item, _), _) => {
+                self.put_ok(at, item)?;
                 Ok(None)
             }
-            (Pending::Take(dequeue, least), Reply::Value(Val::Item(item))) => {
-                self.taken = self.taken.saturating_add(1);
-                Ok(self.divide(*item, least).map(|from| Turn { dequeue, from }))
+            (Pending::Take(dequeue, rank), Reply::Value(Val::Item(item))) => {
+                self.take_out(alloc, dequeue, rank, *item)
             }
             (Pending::Take(_, _), _) => {
                 self.takes = self.takes.saturating_sub(1);
@@ -180,15 +137,16 @@ impl Search {
     }
 
     /// The operation failed.
-    fn fail(&mut self, pending: Pending) -> Result<(), OutOfMemory> {
+    fn fail(&mut self, pending: Pending) {
         match pending {
-            Pending::Put(item, number) => {
+            Pending::Put(item, at) => {
                 self.puts = self.puts.saturating_sub(1);
-                self.settle(item, number, 0)
+                if let Some(line) = self.lines.get_mut(&item) {
+                    line.failed(at);
+                }
             }
             Pending::Take(_, _) => {
                 self.takes = self.takes.saturating_sub(1);
-                Ok(())
             }
         }
     }
@@ -199,7 +157,7 @@ impl Search {
         alloc: Global,
         at: usize,
         event: &Event,
-    ) -> Result<Option<Turn>, OutOfMemory> {
+    ) -> Result<Option<Window>, OutOfMemory> {
         if let Body::Invoke(call) = &event.body {
             self.invoke(alloc, at, event.process, call)?;
             return Ok(None);
@@ -208,9 +166,9 @@ impl Search {
             return Ok(None);
         };
         match &event.body {
-            Body::Ok(_, reply) => self.put_ok(pending, reply),
+            Body::Ok(_, reply) => self.returned(alloc, at, pending, reply),
             Body::Fail(_) => {
-                self.fail(pending)?;
+                self.fail(pending);
                 Ok(None)
             }
             _ => Ok(None),
@@ -218,33 +176,33 @@ impl Search {
     }
 }
 
-/// The first event at which a dequeue returns out of turn, as far as is seen, and how the enqueues divide there.
-fn sought(alloc: Global, events: &[Event]) -> Result<Option<(usize, Turn)>, OutOfMemory> {
+/// The first event with which an item is overtaken, as far as is seen, and how.
+fn sought(alloc: Global, events: &[Event]) -> Result<Option<(usize, Window)>, OutOfMemory> {
     let mut search = Search::new(alloc);
     for (at, event) in events.iter().enumerate() {
-        if let Some(turn) = search.take_in(alloc, at, event)? {
-            return Ok(Some((at, turn)));
+        if let Some(window) = search.take_in(alloc, at, event)? {
+            return Ok(Some((at, window)));
         }
     }
     Ok(None)
 }
 
-/// An event of a queue up to and with which a dequeue is out of turn, if one is found.
+/// An event of a queue up to and with which an item was taken out more often, between two ranks, than it can have been put in, if one is found.
 ///
-/// What is found is right of any events. That something is found isn't promised, nor that it is the first such event. Takes time
-/// and memory linear in the events, apart from looking up, at each dequeue that returns, a rank among the enqueues of its item.
-/// `OutOfMemory` is answered only where memory was refused.
+/// What is found is right of any events. That something is found isn't promised, nor that it is the first such event. At each dequeue
+/// that returns those before it of the same item are looked at, 64 at most, each with a search among the item's enqueues: so time grows
+/// little more than linearly in the events, and memory linearly. `OutOfMemory` is answered only where memory was refused.
 pub fn rank_failure(alloc: Global, events: &[Event]) -> Result<Option<usize>, OutOfMemory>
     ensures inside { IfOk result (λ found. IfSome found (λ at. at < length events.now)) }
-    ensures out_of_turn { IfOk result (λ found. IfSome found (λ at. IsOutOfTurnAt events.now at)) }
+    ensures overtaken { IfOk result (λ found. IfSome found (λ at. IsOvertakenAt events.now at)) }
 {
-    let Some((at, turn)) = sought(alloc, events)? else {
+    let Some((at, window)) = sought(alloc, events)? else {
         return Ok(None);
     };
     if at >= events.len() {
         return Ok(None);
     }
-    if is_out_of_turn(alloc, &events[..at + 1], &turn)? {
+    if is_overtaken(alloc, &events[..at + 1], &window)? {
         Ok(Some(at))
     } else {
         Ok(None)

@@ -1,7 +1,7 @@
 //! The law of ranks. The function does nothing.
-ghost use Rattle.lin_ranks.specs.Ranks.{TurnLaw};
+ghost use Rattle.lin_ranks.specs.Ranks.{RankLaw};
 
-/// A queue's events with a dequeue out of turn have no legal order.
-pub fn out_of_turn_is_illegal()
-    ensures { TurnLaw }
+/// A queue's events have no legal order where an item was taken out more often, between two ranks, than it can have been put in.
+pub fn overtaken_ranks_are_illegal()
+    ensures { RankLaw }
 {}

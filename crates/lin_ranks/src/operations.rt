@@ -5,10 +5,10 @@ ghost use Rattle.lin_events.specs.declared.calls.Reply.{Reply as ReplyOf};
 ghost use Rattle.lin_events.specs.declared.calls.Call.TheVariants.{Dequeue, Enqueue};
 ghost use Rattle.lin_events.specs.declared.calls.Reply.TheVariants.{Value};
 ghost use Rattle.lin_events.specs.declared.calls.Val.TheVariants.{Nil, Item as Held};
-ghost use Rattle.lin_events.specs.Operations.{IsFailed, IsOk};
+ghost use Rattle.lin_events.specs.Operations.{IsOk};
 ghost use Rattle.lin_orders.specs.Orders.{IsCall};
 ghost use Rattle.lin_orders.specs.Tables.{IsNextTable};
-ghost use Rattle.lin_ranks.specs.Ranks.{IsEnqueue, MayPut, MayTake};
+ghost use Rattle.lin_ranks.specs.Ranks.{HasTakenItem, IsEnqueue, MayPut, MayPutItem, MayTake};
 
 use lin_events::{Call, Event, Item, Reply, Val};
 use lin_orders::{call_at, is_failed, ok_end};
@@ -47,7 +47,7 @@ pub fn may_put(events: &[Event], ends: &[Option<usize>], at: usize) -> bool
 pub fn may_put_item(events: &[Event], ends: &[Option<usize>], at: usize, item: Item) -> bool
     requires table { IsNextTable events.now ends.now }
     requires within { at < length events.now }
-    ensures { result ≡ false → IsCall events.now at (Enqueue item) → (IsFailed events.now at → ⊥) → ⊥ }
+    ensures { result ≡ false → MayPutItem events.now item at → ⊥ }
 {
     match enqueued(events, at) {
         Some(other) => other == item && !is_failed(events, ends, at),
@@ -82,6 +82,18 @@ pub fn take_end(events: &[Event], ends: &[Option<usize>], at: usize) -> Option<(
     match ok_end(events, ends, at) {
         Some((end, Reply::Value(Val::Item(item)))) => Some((end, *item)),
         _ => None,
+    }
+}
+
+/// Whether the operation at the place is a dequeue that is known to have taken this item out.
+pub fn has_taken_item(events: &[Event], ends: &[Option<usize>], at: usize, item: Item) -> bool
+    requires table { IsNextTable events.now ends.now }
+    requires within { at < length events.now }
+    ensures { IsTrue result → HasTakenItem events.now item at }
+{
+    match take_end(events, ends, at) {
+        Some((_, taken)) => taken == item,
+        None => false,
     }
 }
 

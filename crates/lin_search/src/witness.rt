@@ -20,7 +20,7 @@ use lin_failures::{BagConflict, Conflict, bag_failure, is_bag_refuted, is_refute
 use lin_objects::{Kind, Kinds};
 use lin_orders::{Placed, check_order};
 use lin_queues::{End, failing_event};
-use lin_ranks::{out_of_turn_is_illegal, rank_failure};
+use lin_ranks::{overtaken_ranks_are_illegal, rank_failure};
 use lin_registers::{register_failure, register_order};
 use std::alloc::Global;
 
@@ -347,18 +347,18 @@ fn indebted(alloc: Global, events: &[Event], until: usize) -> Result<Option<usiz
     }
 }
 
-/// The event up to which a queue's dequeues aren't in turn, or its debts can't be paid: the earlier one.
+/// The event up to which a queue's item was overtaken by ranks, or its debts can't be paid: the earlier one.
 fn queue_failure(alloc: Global, events: &[Event]) -> Result<Option<usize>, OutOfMemory>
     ensures inside { IfOk result (λ found. IfSome found (λ at. at < length events.now)) }
     ensures refuted { (functions : ItemOf → NameOf → Bool) → IsWellFormed functions events.now → IfOk result (λ found. IfSome found (λ at. IsLinearizableAs Fifo (take (at + 1) events.now) → ⊥)) }
 {
-    out_of_turn_is_illegal();
-    let Some(turn) = rank_failure(alloc, events)? else {
+    overtaken_ranks_are_illegal();
+    let Some(last) = rank_failure(alloc, events)? else {
         return indebted(alloc, events, events.len());
     };
-    match indebted(alloc, events, turn)? {
+    match indebted(alloc, events, last)? {
         Some(at) => Ok(Some(at)),
-        None => Ok(Some(turn)),
+        None => Ok(Some(last)),
     }
 }
 
