@@ -55,7 +55,10 @@ impl Line {
 
     /// The one that was invoked there failed.
     pub fn failed(&mut self, at: usize) {
-        self.puts.retain(|bound| bound.at != at);
+        let index = self.puts.partition_point(|bound| bound.at < at);
+        if index < self.puts.len() {
+            self.puts.remove(index);
+        }
     }
 
     /// A dequeue that was invoked there took the item out; so many others that took something out had returned by then.
