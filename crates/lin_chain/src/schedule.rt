@@ -9,6 +9,7 @@ ghost use Rattle.lin_orders.specs.Parts.{events_at};
 ghost use Rattle.lin_engines.specs.declared.ends.End.{End as EndOf};
 ghost use Rattle.lin_engines.specs.Ends.{IsEndOf};
 ghost use Rattle.lin_engines.specs.Exacts.{HasExact};
+ghost use Rattle.lin_witness.specs.Witnesses.{quarters};
 ghost use Rattle.lin_chain.specs.Chains.{IsDecided, IsExactBeside, IsFor, IsKept, IsRight, kind_in, mark_beside, mark_in, told_in};
 ghost use Rattle.lin_chain.specs.Work.{IsSpent, IsSpentAtMost};
 
@@ -22,7 +23,7 @@ use lin_events::{Event, Meter, OutOfMemory, beginnings_are_well_formed};
 use lin_objects::Any;
 use lin_orders::Placed;
 use lin_search::{Guide, finds_conflict, finds_failure, finds_order};
-use lin_witness::Witness;
+use lin_witness::{Back, Witness};
 
 /// So many turns at most are taken behind the engine that stands beside the frontiers.
 const TURNS: usize = 2;
@@ -190,8 +191,8 @@ impl Chain {
         self.repair(events, picks, meter)
     }
 
-    /// A witness that couldn't take the next event in: where this one is shown to be the failure, that is kept; else the witness is mended, if a
-    /// search says how it goes on from shortly before.
+    /// A witness that couldn't take the next event in is mended, if a search says how it goes on from its last checkpoint. Else the event may be
+    /// shown to be the failure: then that is kept. Else it is mended from checkpoints before that one.
     fn repair(
         &mut self,
         events: &[Event],
@@ -207,16 +208,41 @@ impl Chain {
         ensures steps { meter.new.steps ≤ meter.old.steps + 3 * length picks.now }
         ensures scans { meter.new.scans ≡ meter.old.scans }
     {
+        if self.is_mended(Back::Near, events, picks, meter)? {
+            return Ok(());
+        }
         if self.fails_next(events, picks, meter)? {
             return Ok(());
         }
+        self.is_mended(Back::Far, events, picks, meter)?;
+        Ok(())
+    }
+
+    /// Whether a search says how a witness goes on from shortly before the event that it couldn't take in.
+    fn is_mended(
+        &mut self,
+        back: Back,
+        events: &[Event],
+        picks: &[usize],
+        meter: &mut Meter,
+    ) -> Result<bool, OutOfMemory>
+        requires right { IsRight self.old (events_at events.now picks.now) }
+        requires inside { All (λ at. at < length events.now) picks.now }
+        requires well_formed { (functions : ItemOf → NameOf → Bool) × IsWellFormed functions (events_at events.now picks.now) }
+        ensures right { IsRight self.new (events_at events.now picks.now) }
+        ensures others { self.new ≡ record self.old { beside = self.new.beside } }
+        ensures mark { mark_beside self.old.beside ≤ mark_beside self.new.beside }
+        ensures steps { 4 * meter.new.steps ≤ 4 * meter.old.steps + quarters back * length picks.now }
+        ensures scans { meter.new.scans ≡ meter.old.scans }
+    {
         let Beside::Going(lane) = &mut self.beside else {
-            return Ok(());
+            return Ok(false);
         };
         if !lane.is_gone() || lane.mark() != picks.len() {
-            return Ok(());
+            return Ok(false);
         }
-        mend(lane, events, picks, meter)
+        mend(lane, back, events, picks, meter)?;
+        Ok(!lane.is_gone())
     }
 }
 
@@ -316,14 +342,15 @@ impl Chain {
 
     /// What is done next. It promises nothing: whatever it says, what comes of it is right.
     ///
-    /// Few tries of frontiers come before a search, since most objects are soon decided by these.
+    /// Few tries of frontiers come before a search, since most objects are soon decided by these; behind it, where an order stopped that had spared them
+    /// the events since long.
     fn turn(&self, number: usize, count: usize, budget: u32, meter: &Meter) -> Turn {
         if is_counted(budget as usize) {
             return Turn::Rest;
         }
-        match number {
-            0 => Turn::Frontier(Patience::little(meter, self.kind(), count)),
-            1 => Turn::Search,
+        match (number, self.stopped) {
+            (0, false) | (1, true) => Turn::Frontier(Patience::little(meter, self.kind(), count)),
+            (0, true) | (1, false) => Turn::Search,
             _ => Turn::Rest,
         }
     }
@@ -390,7 +417,8 @@ impl Chain {
         Ok(())
     }
 
-    /// Searches all events as the kind has it for a legal order, and else further.
+    /// Searches all events as the kind has it for a legal order, then for a failure, and then depth first for a legal order. Where an order stopped there
+    /// mostly is none, and the failure comes first.
     fn look(
         &mut self,
         events: &[Event],
@@ -408,15 +436,21 @@ impl Chain {
         ensures steps { meter.new.steps ≤ meter.old.steps + 9 * length picks.now }
         ensures scans { meter.new.scans ≡ meter.old.scans }
     {
-        let alloc = self.frontier.engine().alloc();
-        match finds_order(alloc, self.kind(), Guide::OfKind, events, picks, meter)? {
-            Some(order) => self.keep_order(order, events, picks, budget, meter, scratch),
-            None => self.look_further(events, picks, budget, meter, scratch),
+        if self.stopped {
+            return self.look_behind_a_stop(events, picks, budget, meter, scratch);
         }
+        if self.look_for_order(Guide::OfKind, events, picks, budget, meter, scratch)? {
+            return Ok(());
+        }
+        if self.look_for_failure(events, picks, meter)? {
+            return Ok(());
+        }
+        self.look_for_order(Guide::DepthFirst, events, picks, budget, meter, scratch)?;
+        Ok(())
     }
 
-    /// Searches all events for a failure, and where none is found depth first for a legal order.
-    fn look_further(
+    /// The same, the failure first.
+    fn look_behind_a_stop(
         &mut self,
         events: &[Event],
         picks: &[usize],
@@ -430,17 +464,45 @@ impl Chain {
         ensures right { IsRight self.new (events_at events.now picks.now) }
         ensures others { self.new ≡ record self.old { beside = self.new.beside; found = self.new.found } }
         ensures mark { mark_beside self.old.beside ≤ mark_beside self.new.beside }
-        ensures steps { meter.new.steps ≤ meter.old.steps + 7 * length picks.now }
+        ensures steps { meter.new.steps ≤ meter.old.steps + 9 * length picks.now }
         ensures scans { meter.new.scans ≡ meter.old.scans }
     {
         if self.look_for_failure(events, picks, meter)? {
             return Ok(());
         }
-        let alloc = self.frontier.engine().alloc();
-        match finds_order(alloc, self.kind(), Guide::DepthFirst, events, picks, meter)? {
-            Some(order) => self.keep_order(order, events, picks, budget, meter, scratch),
-            None => Ok(()),
+        if self.look_for_order(Guide::OfKind, events, picks, budget, meter, scratch)? {
+            return Ok(());
         }
+        self.look_for_order(Guide::DepthFirst, events, picks, budget, meter, scratch)?;
+        Ok(())
+    }
+
+    /// Searches all events for a legal order, and keeps what it finds. Whether it finds one.
+    fn look_for_order(
+        &mut self,
+        guide: Guide,
+        events: &[Event],
+        picks: &[usize],
+        budget: u32,
+        meter: &mut Meter,
+        scratch: &mut Scratch<Any>,
+    ) -> Result<bool, OutOfMemory>
+        requires right { IsRight self.old (events_at events.now picks.now) }
+        requires inside { All (λ at. at < length events.now) picks.now }
+        requires well_formed { (functions : ItemOf → NameOf → Bool) × IsWellFormed functions (events_at events.now picks.now) }
+        ensures right { IsRight self.new (events_at events.now picks.now) }
+        ensures others { self.new ≡ record self.old { beside = self.new.beside; found = self.new.found } }
+        ensures mark { mark_beside self.old.beside ≤ mark_beside self.new.beside }
+        ensures steps { meter.new.steps ≤ meter.old.steps + 3 * length picks.now }
+        ensures none { result ≡ Ok false → meter.new.steps ≤ meter.old.steps + 2 * length picks.now }
+        ensures scans { meter.new.scans ≡ meter.old.scans }
+    {
+        let alloc = self.frontier.engine().alloc();
+        let Some(order) = finds_order(alloc, self.kind(), guide, events, picks, meter)? else {
+            return Ok(false);
+        };
+        self.keep_order(order, events, picks, budget, meter, scratch)?;
+        Ok(true)
     }
 
     /// Searches all events for a failure, and keeps what it finds. Whether it finds one.

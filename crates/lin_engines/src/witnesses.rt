@@ -5,6 +5,7 @@ ghost use Rattle.lin_events.specs.declared.calls.Name.{Name as NameOf};
 ghost use Rattle.lin_events.specs.declared.events.Event.{Event as EventOf};
 ghost use Rattle.lin_events.specs.WellFormed.{IsWellFormed};
 ghost use Rattle.lin_orders.specs.Parts.{events_at};
+ghost use Rattle.lin_witness.specs.Witnesses.{quarters};
 ghost use Rattle.lin_engines.specs.Witnessing.{IsWitnessLane, kind_of_witness};
 
 use crate::engine::Engine;
@@ -14,7 +15,7 @@ use lin_compressed::Scratch;
 use lin_events::{Event, Meter, OutOfMemory};
 use lin_objects::Any;
 use lin_orders::Placed;
-use lin_witness::Witness;
+use lin_witness::{Back, Witness};
 use std::alloc::Global;
 
 impl Engine for Witness {
@@ -86,6 +87,7 @@ pub fn suggest(
 /// A witness that couldn't go on is mended, if a search says how it goes on from shortly before. Each event that is looked at is a step.
 pub fn mend(
     lane: &mut Lane<Witness>,
+    back: Back,
     events: &[Event],
     picks: &[usize],
     meter: &mut Meter,
@@ -98,10 +100,10 @@ pub fn mend(
     ensures kind { kind_of_witness lane.new.engine ≡ kind_of_witness lane.old.engine }
     ensures right { IsWitnessLane lane.new (events_at events.now picks.now) }
     ensures mark { lane.new.mark ≡ lane.old.mark }
-    ensures steps { meter.new.steps ≤ meter.old.steps + length picks.now }
+    ensures steps { 4 * meter.new.steps ≤ 4 * meter.old.steps + quarters back * length picks.now }
     ensures scans { meter.new.scans ≡ meter.old.scans }
 {
-    lane.engine.mend(events, picks, meter)?;
+    lane.engine.mend(back, events, picks, meter)?;
     if lane.engine.of() == picks.len() {
         lane.said = Says::On;
     }

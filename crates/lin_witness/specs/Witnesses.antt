@@ -15,6 +15,8 @@ use Rattle.lin_frontier.specs.Frontiers.{IsPending}
 use Rattle.lin_frontier.specs.Placing.{IsAbsent}
 use Rattle.lin_witness.specs.declared.opened.Opened.{Opened}
 use Rattle.lin_witness.specs.declared.witness.Checkpoint.{Checkpoint}
+use Rattle.lin_witness.specs.declared.witness.Back.{Back}
+use Rattle.lin_witness.specs.declared.witness.Back.TheVariants.{Near, Far}
 use Rattle.lin_witness.specs.declared.witness.Witness.{Witness}
 
 -- the open operations: first those that crashed
@@ -63,3 +65,8 @@ IsPassed event config = by event.body
     by (Ok name reply) = ⊥
     by (Fail name) = IsAbsent event.process config.1
     by (Info name) = Unit {0}
+
+-- how many quarters of the events it may take to mend an order from there
+abbrev pub quarters : Back → ℕ
+quarters Near = 1
+quarters Far = 3

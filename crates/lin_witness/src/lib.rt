@@ -7,4 +7,4 @@ mod retold;
 mod searching;
 mod witness;
 
-pub use witness::Witness;
+pub use witness::{Back, Witness};

@@ -25,7 +25,7 @@ ghost use Rattle.lin_orders.specs.Parts.{events_at};
 ghost use Rattle.lin_frontier.specs.declared.pending.Open.{Open as OpenOf};
 ghost use Rattle.lin_frontier.specs.Placing.{IsAbsent, PlacesOne};
 ghost use Rattle.lin_frontier.specs.Walks.{IsTriedAtMost};
-ghost use Rattle.lin_witness.specs.Witnesses.{IsLonger, IsPassed, IsWitness, listed, order_in};
+ghost use Rattle.lin_witness.specs.Witnesses.{IsLonger, IsPassed, IsWitness, listed, order_in, quarters};
 
 use crate::opened::Opened;
 use crate::outcomes::{outcome, outcome_behind};
@@ -44,6 +44,15 @@ const SPACING: usize = 64;
 
 /// An order that can't go on is looked for again from the last checkpoint, and from so many events before that.
 const BACK: (usize, usize, usize) = (64, 256, 1_024);
+
+/// From where an order that couldn't go on is mended.
+#[derive(Clone, Copy)]
+pub enum Back {
+    /// The last checkpoint.
+    Near,
+    /// Others before it.
+    Far,
+}
 
 /// Checkpoints may hold so many items each, on the whole.
 const WEIGHT: usize = 1_024;
@@ -185,10 +194,11 @@ impl Witness {
     }
 
     /// Where it couldn't go on over the object's events, which stand at the picks, a search is asked how it goes on from the last
-    /// checkpoint, and from others shortly before, until it is at their end. Each event that it takes in is a step, and so is each that the search looks at;
-    /// on the whole they are no more than there are events. It may end before the place where it was, not far.
+    /// checkpoint, or from others shortly before, until it is at their end. Each event that it takes in is a step, and so is each that the search looks at;
+    /// on the whole they are no more than a share of the events. It may end before the place where it was, not far.
     pub fn mend(
         &mut self,
+        back: Back,
         events: &[Event],
         picks: &[usize],
         meter: &mut Meter,
@@ -200,16 +210,20 @@ impl Witness {
         ensures right { IsWitness self.new (events_at events.now picks.now) }
         ensures far { self.old.of ≤ self.new.of + 1087 }
         ensures least { meter.old.steps ≤ meter.new.steps }
-        ensures steps { meter.new.steps ≤ meter.old.steps + length picks.now }
+        ensures steps { 4 * meter.new.steps ≤ 4 * meter.old.steps + quarters back * length picks.now }
         ensures scans { meter.new.scans ≡ meter.old.scans }
     {
         let start = self.of;
         let most = start / 4;
         let (short, long, far) = BACK;
-        self.retry(start.saturating_sub(1), most, events, picks, meter)?;
-        self.retry(start.saturating_sub(short), most, events, picks, meter)?;
-        self.retry(start.saturating_sub(long), most, events, picks, meter)?;
-        self.retry(start.saturating_sub(far), most, events, picks, meter)
+        match back {
+            Back::Near => self.retry(start.saturating_sub(1), most, events, picks, meter),
+            Back::Far => {
+                self.retry(start.saturating_sub(short), most, events, picks, meter)?;
+                self.retry(start.saturating_sub(long), most, events, picks, meter)?;
+                self.retry(start.saturating_sub(far), most, events, picks, meter)
+            }
+        }
     }
 
     /// Where it isn't at the end, it goes back to the checkpoint at or before the place, and goes on as a search says, if that takes no
