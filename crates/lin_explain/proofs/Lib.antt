@@ -4,4 +4,5 @@ pub mod Counting
 pub mod Failing
 pub mod Noes
 pub mod Parting
+pub mod Passing
 pub mod Texts

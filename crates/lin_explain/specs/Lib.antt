@@ -8,6 +8,7 @@ pub mod Possible
 pub mod Since
 pub mod Undecided
 pub mod Whys
+pub mod Work
 pub mod Yes
 pub mod Explained
 pub mod inner

@@ -1,5 +1,6 @@
 //! What is told of a no.
-ghost use Rattle.std.specs.Prelude.{◌≡◌, ◌-◌, ◌++◌, ℕ, List, IfOk, OnOk, decimal, length, option_map};
+ghost use Rattle.std.specs.Prelude.{◌≡◌, ◌≤◌, ◌+◌, ◌-◌, ◌*◌, ◌++◌, ℕ, List, IfOk, OnOk, decimal, length, option_map};
+ghost use Rattle.lin_events.specs.Meters.{ticked};
 ghost use Rattle.lin_orders.specs.Tables.{IsNextTable};
 ghost use Rattle.lin_answers.specs.Edits.{Present};
 ghost use Rattle.lin_window.specs.Operations.{IsFailing, IsInvoked};
@@ -16,11 +17,12 @@ use crate::fallen::Fallen;
 use crate::heads::put_object;
 use crate::known::{Quiet, known_before};
 use crate::parts::{Failed, Spot, Why};
+use crate::passes::tick_passes;
 use crate::possible::{Possibilities, put_possible};
 use crate::since::put_since;
 use crate::spots::{Origin, spot_of};
 use crate::whys::put_why;
-use lin_events::{Body, Event, OutOfMemory, Reply};
+use lin_events::{Body, Event, Meter, OutOfMemory, Reply};
 use lin_names::Names;
 use lin_objects::Kind;
 use lin_orders::{ends_of, positions_spell_parts};
@@ -30,6 +32,10 @@ use lin_texts::put_number;
 use lin_window::{Stretch, failing_operation};
 use lin_words::{put_event_spot, put_operation};
 use std::alloc::{AllocError, Global};
+
+/// So many passes are made through the events of a failing object, beside the run that tells what was possible: for the ends of its
+/// operations, for the failing one, for the last quiet place, and for the table. What a search for a certificate looks at isn't counted.
+const OWN_PASSES: usize = 4;
 
 /// A failure: the object's events up to the one at which its legal orders end, and the operation that fails.
 #[derive(Clone, Copy)]
@@ -224,15 +230,19 @@ fn put_failure(
     text: &mut Vec<u8>,
     failure: &Failure,
     ending: &Event,
+    meter: &mut Meter,
 ) -> Result<Failed, OutOfMemory>
     requires table { IsNextTable failure.now.stretch.events.now failure.now.stretch.ends.now }
     requires begins { IsInvoked failure.now.stretch.events.now failure.now.call }
     requires picks { length failure.now.stretch.picks.now ≡ length failure.now.stretch.events.now }
     requires fails { IsFailing failure.now.stretch.events.now failure.now.call }
     requires failure { IsFailure failure.now.kind failure.now.stretch.events.now ending.now }
-    ensures { IfOk result (λ failed. (lines : List ℕ)
+    ensures told { IfOk result (λ failed. (lines : List ℕ)
         × IsFailureText failure.now.kind failure.now.budget (told_of failure.now.stretch) failure.now.prefix failure.now.call ending.now lines failed
         × (text.new.items ≡ text.old.items ++ lines)) }
+    ensures least { meter.old.steps ≤ meter.new.steps }
+    ensures most { meter.new.steps ≤ meter.old.steps + 2 * length failure.now.stretch.events.now }
+    ensures scans { meter.new.scans ≡ meter.old.scans }
 {
     let (Some(invocation), Some(at)) = (
         failure.stretch.events.get(failure.call),
@@ -241,7 +251,7 @@ fn put_failure(
         unreachable!()
     };
     put_head(text, failure, *at, invocation, ending)?;
-    let (quiet, possible) = known_before(alloc, failure)?;
+    let (quiet, possible) = known_before(alloc, failure, meter)?;
     let told = put_before_failure(alloc, text, failure, possible, ending)?;
     let (why, from) = put_reasons(alloc, text, failure, &quiet)?;
     let (event, call) = spots_of(alloc, failure, *at, invocation, ending)?;
@@ -257,21 +267,26 @@ fn put_failure(
     })
 }
 
-/// Puts all lines last on the failure of the object's events with the last one.
+/// Puts all lines last on the failure of the object's events with the last one. The passes through these events are counted.
 fn put_own(
     alloc: Global,
     text: &mut Vec<u8>,
     fallen: &Fallen,
     prefix: usize,
     origin: &Origin,
+    meter: &mut Meter,
 ) -> Result<Failed, OutOfMemory>
     requires failure { IsFailure fallen.now.kind fallen.now.own.events.items fallen.now.ending }
     requires picks { length fallen.now.own.picks.items ≡ length fallen.now.own.events.items }
-    ensures { IfOk result (λ failed. (lines : List ℕ) × (call : ℕ)
+    ensures told { IfOk result (λ failed. (lines : List ℕ) × (call : ℕ)
         × IsFailureText fallen.now.kind fallen.now.budget (stretch_of origin.now.names.now fallen.now.own (option_map (λ p. p.now) origin.now.places)) prefix call fallen.now.ending lines failed
         × (text.new.items ≡ text.old.items ++ lines)) }
+    ensures counted { OnOk result (ticked meter.old.steps (4 * length fallen.now.own.events.items) ≤ meter.new.steps) }
+    ensures most { meter.new.steps ≤ meter.old.steps + 6 * length fallen.now.own.events.items }
+    ensures scans { meter.new.scans ≡ meter.old.scans }
 {
     let own = &fallen.own;
+    tick_passes(meter, OWN_PASSES, own.events.len());
     let ends = ends_of(alloc, own.events.as_slice())?;
     let Some(call) = failing_operation(own.events.as_slice(), ends.as_slice()) else {
         unreachable!()
@@ -289,7 +304,7 @@ fn put_own(
         prefix,
         call,
     };
-    put_failure(alloc, text, &failure, &fallen.ending)
+    put_failure(alloc, text, &failure, &fallen.ending, meter)
 }
 
 /// Puts what is told of a no last: the failing operation, what was possible before its end, why there is no legal order, and what ran
@@ -300,12 +315,16 @@ pub(crate) fn put_no(
     fallen: &Fallen,
     prefix: usize,
     origin: &Origin,
+    meter: &mut Meter,
 ) -> Result<Failed, OutOfMemory>
     requires { (now : Present) × IsFallen now prefix fallen.now }
-    ensures { IfOk result (λ failed. (lines : List ℕ)
+    ensures told { IfOk result (λ failed. (lines : List ℕ)
         × ((now : Present) → IsFallen now prefix fallen.now → IsNoText origin.now.names.now now (option_map (λ p. p.now) origin.now.places) prefix lines failed)
         × (text.new.items ≡ text.old.items ++ lines)) }
+    ensures counted { OnOk result (ticked meter.old.steps (4 * length fallen.now.own.events.items) ≤ meter.new.steps) }
+    ensures most { meter.new.steps ≤ meter.old.steps + 6 * length fallen.now.own.events.items }
+    ensures scans { meter.new.scans ≡ meter.old.scans }
 {
     positions_spell_parts();
-    put_own(alloc, text, fallen, prefix, origin)
+    put_own(alloc, text, fallen, prefix, origin, meter)
 }

@@ -1,5 +1,6 @@
 //! The object that a no is about.
-ghost use Rattle.std.specs.Prelude.{IfOk};
+ghost use Rattle.std.specs.Prelude.{◌≡◌, ◌≤◌, ◌+◌, ◌*◌, length, IfOk, OnOk};
+ghost use Rattle.lin_events.specs.Meters.{ticked};
 ghost use Rattle.lin_answers.specs.Answers.{IsAnswer};
 ghost use Rattle.lin_answers.specs.declared.answers.Answer.{Answer as AnswerOf};
 ghost use Rattle.lin_answers.specs.declared.answers.Scope.{Scope as ScopeOf};
@@ -9,7 +10,7 @@ use crate::heads::kind_for;
 use crate::laws::noes_fail;
 use crate::own::{Own, own_from, own_of};
 use lin_answers::{Present, WholeHistory};
-use lin_events::{Event, OutOfMemory};
+use lin_events::{Event, Meter, OutOfMemory};
 use lin_objects::Kind;
 use std::alloc::Global;
 
@@ -29,16 +30,22 @@ pub(crate) fn fallen_of(
     alloc: Global,
     present: &Present<'_>,
     prefix: usize,
+    meter: &mut Meter,
 ) -> Result<Fallen, OutOfMemory>
     requires { (scope : ScopeOf) × IsAnswer present.now scope (AnswerOf.No prefix) }
-    ensures { IfOk result (IsFallen present.now prefix) }
+    ensures fallen { IfOk result (IsFallen present.now prefix) }
+    ensures few { IfOk result (λ fallen. length fallen.own.events.items ≤ prefix) }
+    ensures counted { OnOk result (meter.new ≡ record meter.old { steps = ticked meter.old.steps prefix }) }
+    ensures least { meter.old.steps ≤ meter.new.steps }
+    ensures most { meter.new.steps ≤ meter.old.steps + prefix }
+    ensures scans { meter.new.scans ≡ meter.old.scans }
 {
     let Some(ending) = present.event(prefix - 1) else {
         unreachable!()
     };
     let kind = kind_for(present, ending);
     noes_fail(kind);
-    let own = own_of(alloc, present, ending, prefix)?;
+    let own = own_of(alloc, present, ending, prefix, meter)?;
     let ending = ending.copy(alloc)?;
     Ok(Fallen {
         kind,
@@ -53,9 +60,15 @@ pub(crate) fn fallen_from(
     alloc: Global,
     history: WholeHistory,
     prefix: usize,
+    meter: &mut Meter,
 ) -> Result<Fallen, OutOfMemory>
     requires { (scope : ScopeOf) × IsAnswer history scope (AnswerOf.No prefix) }
-    ensures { IfOk result (IsFallen history prefix) }
+    ensures fallen { IfOk result (IsFallen history prefix) }
+    ensures few { IfOk result (λ fallen. length fallen.own.events.items ≤ prefix) }
+    ensures counted { OnOk result (meter.new ≡ record meter.old { steps = ticked meter.old.steps (2 * prefix) }) }
+    ensures least { meter.old.steps ≤ meter.new.steps }
+    ensures most { meter.new.steps ≤ meter.old.steps + 2 * prefix }
+    ensures scans { meter.new.scans ≡ meter.old.scans }
 {
     let present = history.present();
     let Some(ending) = present.event(prefix - 1) else {
@@ -65,7 +78,7 @@ pub(crate) fn fallen_from(
     noes_fail(kind);
     let budget = present.budget();
     let ending = ending.copy(alloc)?;
-    let own = own_from(alloc, history, ending.key, prefix)?;
+    let own = own_from(alloc, history, ending.key, prefix, meter)?;
     Ok(Fallen {
         kind,
         budget,

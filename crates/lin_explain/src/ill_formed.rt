@@ -1,14 +1,16 @@
 //! What is told of a history that isn't well-formed.
-ghost use Rattle.std.specs.Prelude.{◌≡◌, ◌<◌, ◌++◌, ℕ, List, None, Some, Option, IfOk, OnOk, IfNone, IfSome, codes, length, option_map};
+ghost use Rattle.std.specs.Prelude.{◌≡◌, ◌<◌, ◌≤◌, ◌+◌, ◌++◌, ℕ, List, None, Some, Option, IfOk, OnOk, IfNone, IfSome, codes, length, option_map};
 ghost use Rattle.lin_events.specs.declared.events.Event.{Event as EventOf};
+ghost use Rattle.lin_events.specs.Meters.{ticked};
 ghost use Rattle.lin_answers.specs.Answers.{kinds_in};
 ghost use Rattle.lin_explain.specs.IllFormed.{IsIllFormedText, IsLastBefore, IsLastPlace, bad_text, before_line, before_text, function_text, keys_text, kinds_text, not_of_kind_text, sentence_text, stood_text};
 
 use crate::heads::{kind_for, put_key};
 use crate::parts::Parts;
+use crate::passes::tick_steps;
 use crate::spots::{Origin, spot_of};
 use lin_answers::Present;
-use lin_events::{Body, Cause, Event, Name, OutOfMemory};
+use lin_events::{Body, Cause, Event, Meter, Name, OutOfMemory};
 use lin_names::Names;
 use lin_objects::Kind;
 use lin_texts::kind_word;
@@ -197,7 +199,8 @@ fn put_bad(
     put_sentence(text, origin.names, kind, event, before, cause)
 }
 
-/// Puts what is told of a history last whose first bad position this is.
+/// Puts what is told of a history last whose first bad position this is. The events before it are gone through once, for the last one of the same
+/// process.
 pub(crate) fn put_ill_formed(
     alloc: Global,
     text: &mut Vec<u8>,
@@ -205,12 +208,16 @@ pub(crate) fn put_ill_formed(
     at: usize,
     cause: Cause,
     origin: &Origin,
+    meter: &mut Meter,
 ) -> Result<Parts, OutOfMemory>
     requires { at < length present.now.history }
-    ensures { IfOk result (λ parts. (lines : List ℕ)
+    ensures told { IfOk result (λ parts. (lines : List ℕ)
         × IsIllFormedText origin.now.names.now present.now.history (kinds_in present.now) (option_map (λ p. p.now) origin.now.places) at cause lines parts
         × (text.new.items ≡ text.old.items ++ lines)) }
+    ensures counted { meter.new ≡ record meter.old { steps = ticked meter.old.steps at } }
+    ensures most { meter.new.steps ≤ meter.old.steps + at }
 {
+    tick_steps(meter, at);
     let Some(event) = present.event(at) else {
         unreachable!()
     };

@@ -1,5 +1,6 @@
 //! What is known of an object before a failure, by one run through its events.
-ghost use Rattle.std.specs.Prelude.{IfOk};
+ghost use Rattle.std.specs.Prelude.{◌≡◌, ◌≤◌, ◌+◌, ◌*◌, length, IfOk, IfSome};
+ghost use Rattle.lin_events.specs.Meters.{ticked};
 ghost use Rattle.lin_orders.specs.Tables.{IsNextTable};
 ghost use Rattle.lin_window.specs.Operations.{IsInvoked};
 ghost use Rattle.lin_explain.specs.inner.Known.{ArePossible, IsQuietBefore};
@@ -8,7 +9,7 @@ ghost use Rattle.lin_explain.specs.Own.{without_last as all_but_last};
 
 use crate::failures::{Failure, without_last};
 use crate::laws::beginnings_are_legal;
-use lin_events::OutOfMemory;
+use lin_events::{Meter, OutOfMemory};
 use lin_outcomes::put_was;
 use lin_possible::Possible;
 use lin_window::quiet_before;
@@ -23,32 +24,38 @@ pub(crate) struct Quiet {
     pub(crate) was: Vec<u8>,
 }
 
-/// Where the object was quiet, and what was possible right before the failure; `None` where the budget is passed.
+/// Where the object was quiet, and what was possible right before the failure; `None` where the budget is passed. Each event that is taken in is
+/// counted.
 pub(crate) fn known_before(
     alloc: Global,
     failure: &Failure,
+    meter: &mut Meter,
 ) -> Result<(Quiet, Option<Possible>), OutOfMemory>
     requires table { IsNextTable failure.now.stretch.events.now failure.now.stretch.ends.now }
     requires begins { IsInvoked failure.now.stretch.events.now failure.now.call }
     requires legal { IsLegalHistory failure.now.kind (all_but_last failure.now.stretch.events.now) }
     ensures quiet { IfOk result (λ known. IsQuietBefore failure.now.stretch.names.now failure.now.kind failure.now.budget failure.now.stretch.events.now failure.now.call known.0) }
     ensures possible { IfOk result (λ known. ArePossible failure.now.kind (all_but_last failure.now.stretch.events.now) failure.now.budget known.1) }
+    ensures counted { IfOk result (λ known. IfSome known.1 (λ possible. ticked meter.old.steps (length (all_but_last failure.now.stretch.events.now)) ≤ meter.new.steps)) }
+    ensures least { meter.old.steps ≤ meter.new.steps }
+    ensures most { meter.new.steps ≤ meter.old.steps + 2 * length failure.now.stretch.events.now }
+    ensures scans { meter.new.scans ≡ meter.old.scans }
 {
     beginnings_are_legal(failure.kind);
     let stretch = &failure.stretch;
     let from = quiet_before(stretch.events, stretch.ends, failure.call);
     let events = without_last(stretch.events);
     let ahead = &events[..from];
-    match Possible::after(alloc, failure.kind, ahead, failure.budget)? {
+    match Possible::after(alloc, failure.kind, ahead, failure.budget, meter)? {
         Some(first) => {
             let mut was = Vec::new(alloc);
             put_was(alloc, &mut was, stretch.names, failure.kind, Some(&first))?;
-            let possible = first.go_on(alloc, from, events, failure.budget)?;
+            let possible = first.go_on(alloc, from, events, failure.budget, meter)?;
             Ok((Quiet { from, was }, possible))
         }
         // There may be fewer configurations after more events.
         None => {
-            let possible = Possible::after(alloc, failure.kind, events, failure.budget)?;
+            let possible = Possible::after(alloc, failure.kind, events, failure.budget, meter)?;
             let was = Vec::new(alloc);
             Ok((Quiet { from, was }, possible))
         }

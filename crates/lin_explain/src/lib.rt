@@ -10,6 +10,7 @@ mod known;
 mod laws;
 mod own;
 mod parts;
+mod passes;
 mod possible;
 mod since;
 mod spots;

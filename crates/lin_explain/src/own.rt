@@ -1,11 +1,13 @@
 //! The events of one object.
-ghost use Rattle.std.specs.Prelude.{◌≡◌, ◌≤◌, ◌∷◌, ◌++◌, [], IfOk, OnOk, length, take};
+ghost use Rattle.std.specs.Prelude.{◌≡◌, ◌≤◌, ◌+◌, ◌*◌, ◌∷◌, ◌++◌, [], IfOk, OnOk, length, take};
 ghost use Rattle.lin_events.specs.Items.{item_eq};
+ghost use Rattle.lin_events.specs.Meters.{ticked};
 ghost use Rattle.lin_orders.specs.Parts.{ArePositionsOf, part};
 ghost use Rattle.lin_explain.specs.inner.Own.{IsOwn};
 
+use crate::passes::{tick_passes, tick_steps};
 use lin_answers::{Present, WholeHistory};
-use lin_events::{Event, Item, OutOfMemory};
+use lin_events::{Event, Item, Meter, OutOfMemory};
 use lin_orders::parts_grow;
 use std::alloc::Global;
 
@@ -32,16 +34,22 @@ fn is_beside(event: &Event, other: &Event) -> bool
     event.key == other.key
 }
 
-/// The events of the object of an event among the first so many of the history.
+/// The events of the object of an event among the first so many of the history: one pass through these.
 pub(crate) fn own_of(
     alloc: Global,
     present: &Present<'_>,
     of: &Event,
     count: usize,
+    meter: &mut Meter,
 ) -> Result<Own, OutOfMemory>
     requires within { count ≤ length present.now.history }
-    ensures { IfOk result (IsOwn of.now.key (take count present.now.history)) }
+    ensures own { IfOk result (IsOwn of.now.key (take count present.now.history)) }
+    ensures few { IfOk result (λ own. length own.events.items ≤ count) }
+    ensures counted { meter.new ≡ record meter.old { steps = ticked meter.old.steps count } }
+    ensures least { meter.old.steps ≤ meter.new.steps }
+    ensures most { meter.new.steps ≤ meter.old.steps + count }
 {
+    tick_steps(meter, count);
     parts_grow();
     let mut own = Own {
         events: Vec::new(alloc),
@@ -95,16 +103,23 @@ fn keep_own(events: &mut Vec<Event>, key: Item)
     events.retain(|event| event.key == key);
 }
 
-/// The events of the key among the first so many of the history, on the memory of the whole, of which the rest goes.
+/// The events of the key among the first so many of the history, on the memory of the whole, of which the rest goes: a pass through these for
+/// where they stand, and one that keeps them.
 pub(crate) fn own_from(
     alloc: Global,
     history: WholeHistory,
     key: Item,
     count: usize,
+    meter: &mut Meter,
 ) -> Result<Own, OutOfMemory>
     requires within { count ≤ length history.history }
-    ensures { IfOk result (IsOwn key (take count history.history)) }
+    ensures own { IfOk result (IsOwn key (take count history.history)) }
+    ensures few { IfOk result (λ own. length own.events.items ≤ count) }
+    ensures counted { meter.new ≡ record meter.old { steps = ticked meter.old.steps (2 * count) } }
+    ensures least { meter.old.steps ≤ meter.new.steps }
+    ensures most { meter.new.steps ≤ meter.old.steps + 2 * count }
 {
+    tick_passes(meter, 2, count);
     let picks = picks_of(alloc, &history.present(), key, count)?;
     let mut events = history.into_events();
     events.truncate(count);

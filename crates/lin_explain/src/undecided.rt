@@ -1,16 +1,21 @@
 //! What is told where more configurations would have to be kept than the budget allows.
-ghost use Rattle.std.specs.Prelude.{◌≡◌, ◌<◌, ◌+◌, ◌++◌, ℕ, List, IfOk, OnOk, length, option_map, take};
+ghost use Rattle.std.specs.Prelude.{◌≡◌, ◌<◌, ◌≤◌, ◌+◌, ◌*◌, ◌++◌, ℕ, List, IfOk, OnOk, length, option_map, take};
+ghost use Rattle.lin_events.specs.declared.events.Event.{Event as EventOf};
+ghost use Rattle.lin_events.specs.Meters.{ticked};
+ghost use Rattle.lin_events.specs.Operations.{IsEvent};
+ghost use Rattle.lin_orders.specs.Parts.{part};
 ghost use Rattle.lin_orders.specs.Tables.{IsNextTable};
-ghost use Rattle.lin_window.specs.Tables.{Told, told_of};
-ghost use Rattle.lin_explain.specs.Own.{IsStretch};
+ghost use Rattle.lin_window.specs.Tables.{told_of};
 ghost use Rattle.lin_explain.specs.Undecided.{IsOpenText, IsUndecidedText, end_text, event_line, front_text, help_text, helps, helps_text, open_line};
+ghost use Rattle.lin_explain.specs.inner.Own.{stretch_of};
 
 use crate::heads::{kind_for, put_object};
-use crate::own::own_of;
+use crate::own::{Own, own_of};
 use crate::parts::Parts;
+use crate::passes::tick_passes;
 use crate::spots::{Origin, spot_of};
 use lin_answers::Present;
-use lin_events::{Event, OutOfMemory};
+use lin_events::{Event, Meter, OutOfMemory};
 use lin_objects::Kind;
 use lin_orders::ends_of;
 use lin_texts::put_number;
@@ -20,6 +25,10 @@ use std::alloc::{AllocError, Global};
 
 /// The greatest budget.
 const MOST: u32 = 1_000_000;
+
+/// So many passes are made through the object's events: for the ends of its operations, for those that are open, for those that crashed, and for
+/// the table.
+const OWN_PASSES: usize = 4;
 
 /// Puts the line last that names the event with which there are too many.
 fn put_event_line(
@@ -159,22 +168,18 @@ fn put_open(
     Ok(())
 }
 
-/// Puts what is told of the object's operations last, which are open behind the event at the position.
+/// Puts what is told of the object's operations last, which are open behind these events of it.
 fn put_object_open(
     alloc: Global,
     text: &mut Vec<u8>,
-    present: &Present<'_>,
-    at: usize,
-    event: &Event,
+    own: &Own,
+    budget: u32,
     origin: &Origin,
     keyed: bool,
 ) -> Result<(), OutOfMemory>
-    requires { at < length present.now.history }
-    ensures { OnOk result ((stretch : Told) × (lines : List ℕ) × IsStretch origin.now.names.now event.now.key (take (at + 1) present.now.history) (option_map (λ p. p.now) origin.now.places) stretch
-        × IsOpenText stretch present.now.budget keyed lines × (text.new.items ≡ text.old.items ++ lines)) }
+    ensures { OnOk result ((lines : List ℕ) × IsOpenText (stretch_of origin.now.names.now own.now (option_map (λ p. p.now) origin.now.places)) budget keyed lines
+        × (text.new.items ≡ text.old.items ++ lines)) }
 {
-    let _count = present.len();
-    let own = own_of(alloc, present, event, at + 1)?;
     let ends = ends_of(alloc, own.events.as_slice())?;
     let stretch = Stretch {
         events: own.events.as_slice(),
@@ -183,10 +188,11 @@ fn put_object_open(
         names: origin.names,
         places: origin.places,
     };
-    put_open(alloc, text, &stretch, present.budget(), keyed)
+    put_open(alloc, text, &stretch, budget, keyed)
 }
 
-/// Puts what is told last where the events up to and with a position are too many for the budget.
+/// Puts what is told last where the events up to and with a position are too many for the budget. The pass through these is counted, and those
+/// through the events of the object.
 pub(crate) fn put_undecided(
     alloc: Global,
     text: &mut Vec<u8>,
@@ -194,17 +200,26 @@ pub(crate) fn put_undecided(
     at: usize,
     origin: &Origin,
     keyed: bool,
+    meter: &mut Meter,
 ) -> Result<Parts, OutOfMemory>
     requires { at < length present.now.history }
-    ensures { IfOk result (λ parts. (lines : List ℕ) × IsUndecidedText origin.now.names.now present.now keyed (option_map (λ p. p.now) origin.now.places) at lines parts
+    ensures told { IfOk result (λ parts. (lines : List ℕ) × IsUndecidedText origin.now.names.now present.now keyed (option_map (λ p. p.now) origin.now.places) at lines parts
         × (text.new.items ≡ text.old.items ++ lines)) }
+    ensures counted { OnOk result ((event : EventOf) → IsEvent present.now.history at event
+        → ticked meter.old.steps ((at + 1) + 4 * length (part event.key (take (at + 1) present.now.history))) ≤ meter.new.steps) }
+    ensures most { meter.new.steps ≤ meter.old.steps + 5 * (at + 1) }
+    ensures scans { meter.new.scans ≡ meter.old.scans }
 {
     let Some(event) = present.event(at) else {
         unreachable!()
     };
+    let _count = present.len();
     let kind = kind_for(present, event);
-    put_event_line(text, kind, present.budget(), origin, at, event)?;
-    put_object_open(alloc, text, present, at, event, origin, keyed)?;
+    let budget = present.budget();
+    put_event_line(text, kind, budget, origin, at, event)?;
+    let own = own_of(alloc, present, event, at + 1, meter)?;
+    tick_passes(meter, OWN_PASSES, own.events.len());
+    put_object_open(alloc, text, &own, budget, origin, keyed)?;
     Ok(Parts::Undecided {
         key: event.key,
         kind,

@@ -1,19 +1,25 @@
 //! What is told of a yes.
-ghost use Rattle.std.specs.Prelude.{◌≡◌, ◌-◌, ◌++◌, ℕ, List, IfOk, OnOk, decimal, length};
+ghost use Rattle.std.specs.Prelude.{◌≡◌, ◌≤◌, ◌+◌, ◌-◌, ◌*◌, ◌++◌, ℕ, List, IfOk, OnOk, decimal, length};
+ghost use Rattle.lin_events.specs.Meters.{ticked};
 ghost use Rattle.lin_explain.specs.Parts.{object_in};
 ghost use Rattle.lin_explain.specs.Yes.{AreObjects, IsYesText, counts_text, open_counts_text, order_line, placed_in, places_text, yes_text};
 ghost use Rattle.lin_explain.specs.Counts.{count_in, open_in};
 
 use crate::counts::{Sort, count, count_open};
 use crate::parts::Parts;
+use crate::passes::tick_passes;
 use crate::telling::Asked;
 use lin_answers::Present;
-use lin_events::{Item, OutOfMemory};
+use lin_events::{Item, Meter, OutOfMemory};
 use lin_names::Names;
 use lin_objects::Kind;
 use lin_orders::Placed;
 use lin_texts::{put_number, write_order};
 use std::alloc::{AllocError, Global};
+
+/// So many passes are made through the history, one for each count, and one for each that what is open is told by. The keys, which are sorted, aren't
+/// counted.
+const COUNTS: usize = 10;
 
 /// Puts how many events of the sort there are last.
 fn put_count(
@@ -161,7 +167,7 @@ fn object_of(present: &Present<'_>, key: Option<Item>) -> Option<(Item, Kind)>
     }
 }
 
-/// Puts what is told of a yes last.
+/// Puts what is told of a yes last. Each pass through the history is counted.
 pub(crate) fn put_yes(
     alloc: Global,
     text: &mut Vec<u8>,
@@ -169,10 +175,14 @@ pub(crate) fn put_yes(
     present: &Present<'_>,
     order: &[Placed],
     asked: Asked,
+    meter: &mut Meter,
 ) -> Result<Parts, OutOfMemory>
-    ensures { IfOk result (λ parts. (lines : List ℕ) × IsYesText names.now present.now asked.key asked.with_order order.now lines parts
+    ensures told { IfOk result (λ parts. (lines : List ℕ) × IsYesText names.now present.now asked.key asked.with_order order.now lines parts
         × (text.new.items ≡ text.old.items ++ lines)) }
+    ensures counted { meter.new ≡ record meter.old { steps = ticked meter.old.steps (10 * length present.now.history) } }
+    ensures most { meter.new.steps ≤ meter.old.steps + 10 * length present.now.history }
 {
+    tick_passes(meter, COUNTS, present.len());
     put_lines(alloc, text, names, present, order, asked)?;
     Ok(Parts::Yes {
         object: object_of(present, asked.key),

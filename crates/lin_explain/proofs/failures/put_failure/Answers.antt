@@ -4,8 +4,8 @@ use Rattle.lin_explain.proofs.Parting.{looked_up}
 use Rattle.lin_explain.proofs.Texts.{three_put}
 use Rattle.lin_explain.proofs.failures.put_failure.Goals as goal
 
-pub returns : goal.returns
-returns c =
+pub returns-clause-told : goal.returns-clause-told
+returns-clause-told c =
     let failure = c.args.failure.now in
     let invocation = c.in-Some-Some.invocation.now in
     let at = c.in-Some-Some.at.now in

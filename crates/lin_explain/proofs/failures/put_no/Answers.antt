@@ -14,8 +14,8 @@ put_own-requires-clause-picks c =
     let spells = c.positions_spell_parts.ensures fallen.ending.key (take c.args.prefix c.requires.0.history) fallen.own.picks.items own.positions in
     spells.length_of ∙ sym (ap length own.events_of)
 
-pub returns : goal.returns
-returns c =
+pub returns-clause-told : goal.returns-clause-told
+returns-clause-told c =
     let fallen = c.args.fallen.now in
     let places = option_map (λ p. p.now) c.args.origin.now.places in
     let stretch = stretch_of c.args.origin.now.names.now fallen.own places in
@@ -32,4 +32,4 @@ returns c =
             (subst (λ b. IsFailureText fallen.kind b stretch c.args.prefix told.1 fallen.ending told.0 failed) is.budget_of told.2);
       },
       told.3,
-    )) c.put_own.ensures
+    )) c.put_own.ensures.told

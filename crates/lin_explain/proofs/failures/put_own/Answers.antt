@@ -13,8 +13,8 @@ unreachable-requires c =
 pub put_failure-requires-clause-fails : goal.put_failure-requires-clause-fails
 put_failure-requires-clause-fails c = subst (λ l. IsFailing l c.in-Some.call) (c.as_slice-2.ensures.value ∙ sym c.as_slice-4.ensures.value) c.in-Some.ensures.failing
 
-pub returns : goal.returns
-returns c =
+pub returns-clause-told : goal.returns-clause-told
+returns-clause-told c =
     let fallen = c.args.fallen.now in
     let places = option_map (λ p. p.now) c.args.origin.now.places in
     let call = c.in-Some.call in
@@ -27,4 +27,4 @@ returns c =
       subst (λ p. text fallen.own.events.items p told.0 failed) c.as_slice-6.ensures.value
           (subst (λ l. text l c.as_slice-6.result.now told.0 failed) c.as_slice-4.ensures.value told.1),
       told.2,
-    )) c.put_failure.ensures
+    )) c.put_failure.ensures.told

@@ -1,15 +1,19 @@
-use Rattle.std.proofs.Common.{◌≡◌, ◌-◌, ◌≤◌, ◌++◌, ◌∙◌, ap, arith, inl, inr, IfSome, length, map, None, Ok, Option, ℕ, List, refl, Some, subst, sym, take}
+use Rattle.std.proofs.Common.{◌≡◌, ◌-◌, ◌≤◌, ◌++◌, ◌+◌, ◌*◌, ◌∙◌, ap, arith, inl, inr, IfSome, length, map, None, Ok, Option, ℕ, List, refl, Some, subst, sym, take}
 use Rattle.std.proofs.lemmas.List.{length-take-le, take-take}
+use Rattle.std.proofs.lemmas.Option.{IfSome_then}
 use Rattle.lin_events.specs.declared.events.Event.{Event}
+use Rattle.lin_events.specs.Meters.{ticked}
 use Rattle.lin_objects.specs.declared.kinds.Kind.{Kind}
 use Rattle.lin_outcomes.specs.Texts.{was_text}
 use Rattle.lin_possible.specs.After.{IsAfter, kind_in}
 use Rattle.lin_possible.specs.declared.possible.Possible.{Possible}
+use Rattle.lin_possible.specs.lemmas.Ticks.{ticked_rising}
 use Rattle.lin_window.specs.lemmas.Standing.{invoked_within}
 use Rattle.lin_words.specs.Values.{state_text}
 use Rattle.lin_explain.specs.inner.Known.{ArePossible}
 use Rattle.lin_explain.specs.inner.Laws.{IsLegalHistory}
 use Rattle.lin_explain.specs.Possible.{IsPassed, IsWasText}
+use Rattle.lin_explain.proofs.Passing.{passed_whole}
 use Rattle.lin_explain.proofs.known.known_before.Goals as goal
 use Rattle.lin_explain.proofs.known.known_before.Goals.{After-without_last-events}
 
@@ -94,3 +98,34 @@ returns-in_ok-possible-in-None-clause-possible c =
     let possible = c.in_ok-possible-in-None.possible in
     subst (λ h. ArePossible failure.kind h failure.budget possible) c.without_last-events.ensures
     (found_possible failure.kind c.without_last-events.result.now failure.budget possible c.in_ok-possible-in-None.ensures.after (λ is. c.in_ok-possible-in-None.ensures.over (ap Ok is)))
+
+-- the quiet place is one of these
+place_within : (c : After-without_last-events) → c.quiet_before-from.result ≤ length c.without_last-events.result.now
+place_within c =
+    let events = c.args.failure.now.stretch.events.now in
+    let from = c.quiet_before-from.result in
+    let within = invoked_within events from c.quiet_before-from.ensures.quiet.begins in
+    let size = length-take-le (length events - 1) events (omega arith) in
+    subst (λ l. from ≤ length l) (sym c.without_last-events.ensures) (omega (arith, within, size))
+
+pub returns-in_ok-possible-in-Some-clause-counted : goal.returns-in_ok-possible-in-Some-clause-counted
+returns-in_ok-possible-in-Some-clause-counted c =
+    let before = c.args.meter.now.steps in
+    let mid = c.after.new.meter.steps in
+    let events = c.without_last-events.result.now in
+    let from = c.quiet_before-from.result in
+    let within = place_within (goal.at.returns-in_ok-possible-in-Some-clause-counted c).After-without_last-events in
+    let first = subst (λ o. IfSome o (λ possible. mid ≡ ticked before (length (take from events)))) c.in-Some.is c.in_ok-first.ensures.counted in
+    let size = length-take-le from events within in
+    let here : mid ≡ ticked before from = subst (λ n. mid ≡ ticked before n) size first in
+    subst (λ l. IfSome c.in_ok-possible-in-Some.possible (λ possible. ticked before (length l) ≤ c.go_on.new.meter.steps)) c.without_last-events.ensures
+    (IfSome_then c.in_ok-possible-in-Some.possible c.in_ok-possible-in-Some.ensures.counted (λ possible others. passed_whole before mid c.go_on.new.meter.steps from (length events) within here others))
+
+pub returns-in_ok-possible-in-None-clause-counted : goal.returns-in_ok-possible-in-None-clause-counted
+returns-in_ok-possible-in-None-clause-counted c =
+    let before = c.args.meter.now.steps in
+    let mid = c.after.new.meter.steps in
+    let events = c.without_last-events.result.now in
+    let rising = ticked_rising before mid (length events) c.after.ensures.least in
+    subst (λ l. IfSome c.in_ok-possible-in-None.possible (λ possible. ticked before (length l) ≤ c.after-in-None.new.meter.steps)) c.without_last-events.ensures
+    (IfSome_then c.in_ok-possible-in-None.possible c.in_ok-possible-in-None.ensures.counted (λ possible all. omega (arith, rising, all)))
