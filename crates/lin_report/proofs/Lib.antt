@@ -13,3 +13,4 @@ pub mod WordSenses
 pub mod Agreeing
 pub mod Refuted
 pub mod Answered
+pub mod Questions

@@ -12,13 +12,13 @@ ghost use Rattle.lin_explain.specs.Explained.{scope_of as scope_for};
 
 use crate::answers::{is_ill_formed, status_of, told_words, verdict_of};
 use crate::checks::{Answered, refused};
-use crate::explaining::{item_of, scope_of};
+use crate::explaining::{item_of, scope_of, told_of};
 use crate::formats::Format;
 use crate::sessions::{names_are_apart, session_of};
 use lin_answers::{Answer, Scope};
 use lin_draw::{Orders, picture_with_places};
 use lin_events::{Event, Item, OutOfMemory};
-use lin_explain::{Asked, explanation_of};
+use lin_explain::Asked;
 use lin_formats::{Counted, History, RunFault, Settings, Status, write_whole};
 use lin_names::{Names, Said};
 use lin_objects::Kind;
@@ -53,22 +53,21 @@ impl Orders for Sessions {
 /// The picture of an answer.
 fn picture_of(
     alloc: Global,
-    session: &Session,
+    session: &mut Session,
     names: &Names,
     answer: &Answer,
     asked: Asked,
     places: &Places,
 ) -> Result<Vec<u8>, OutOfMemory>
-    requires { IsAnswer session.now.present (scope_for asked.key) answer.now }
+    requires { IsAnswer session.old.present (scope_for asked.key) answer.now }
     ensures { IfOk result (λ text. is_ill_formed_in (verdict_in answer.now) ≡ false → IsSvg text.items) }
 {
     let places = Some(places.as_slice());
-    let present = session.present();
-    let told = explanation_of(alloc, &present, names, answer, asked, places)?;
+    let told = told_of(alloc, session, names, answer, asked, places)?;
     picture_with_places(
         alloc,
         &Sessions,
-        &present,
+        &session.present(),
         names,
         answer,
         asked.key,
@@ -101,7 +100,7 @@ fn drawing_of(
             with_order: false,
             keyed: settings.keyed,
         };
-        picture_of(alloc, &session, names, &answer, asked, places)?
+        picture_of(alloc, &mut session, names, &answer, asked, places)?
     };
     Ok(Answered {
         text,

@@ -1,14 +1,17 @@
 //! Why the answer is what it is.
-ghost use Rattle.std.specs.Prelude.{◌≡◌, ◌<◌, ◌≤◌, None, Some, length, IfOk, IsErrOf};
+ghost use Rattle.std.specs.Prelude.{◌≡◌, ◌<◌, ◌≤◌, ◌+◌, ◌*◌, None, Some, length, option_map, IfOk, OnOk, IsErrOf};
+ghost use Rattle.lin_events.specs.Meters.{ticked};
 ghost use Rattle.lin_formats.specs.Devices.{device_of, failures_of, Counts};
 ghost use Rattle.lin_formats.specs.Histories.{is_read_failed};
 ghost use Rattle.lin_formats.specs.Inputs.{limit};
 ghost use Rattle.lin_formats.specs.Verdicts.{is_write_failed, IsReadTooFar};
 ghost use Rattle.lin_report.specs.Explanations.{IsExplainRun, IsExplanation, IsKey, IsRightExplanation, explanation_text, key_of as key_in, line_count as lines_in, refusal_lines as lines_for, refused_told};
-ghost use Rattle.lin_explain.specs.Explained.{scope_of as scope_for};
+ghost use Rattle.lin_explain.specs.Explained.{Explains, scope_of as scope_for};
+ghost use Rattle.lin_explain.specs.Work.{least_steps};
 ghost use Rattle.lin_reading.specs.Hints.{hint_text};
 ghost use Rattle.lin_names.specs.Names.{Begins};
-ghost use Rattle.lin_answers.specs.Answers.{verdict_of as verdict_in};
+ghost use Rattle.lin_answers.specs.Answers.{IsAnswer, verdict_of as verdict_in};
+ghost use Rattle.lin_session.specs.Sessions.{IsQuestion};
 ghost use Rattle.lin_report.specs.Reports.{IsPrinted, answer_status, opened};
 ghost use Rattle.lin_report.specs.Runs.{IsCommandReply};
 ghost use Rattle.lin_report.specs.declared.commands.Command.TheVariants as command;
@@ -29,6 +32,7 @@ use lin_names::{Names, Said};
 use lin_places::Places;
 use lin_reading::{Placed, read_placed, refusal_lines};
 use lin_session::Session;
+use lin_texts::Place;
 use std::alloc::{AllocError, Global};
 use std::io::{Read, Write};
 
@@ -110,19 +114,51 @@ fn answered(
     })
 }
 
-/// An explanation of the answer for the scope.
+/// An explanation of the answer, which counts on the session's meter.
+pub fn told_of(
+    alloc: Global,
+    session: &mut Session,
+    names: &Names,
+    answer: &Answer,
+    asked: Asked,
+    places: Option<&[Place]>,
+) -> Result<Explanation, OutOfMemory>
+    requires { IsAnswer session.old.present (scope_for asked.key) answer.now }
+    ensures told { IfOk result (λ told. Explains names.now session.old.present asked (option_map (λ p. p.now) places.entry) answer.now told.lines.items told.parts) }
+    ensures same { session.new ≡ record session.old { meter = session.new.meter } }
+    ensures counted { OnOk result (ticked session.old.meter.steps (least_steps session.old.present answer.now) ≤ session.new.meter.steps) }
+    ensures most { session.new.meter.steps ≤ session.old.meter.steps + 10 * length session.old.present.history }
+    ensures scans { session.new.meter.scans ≡ session.old.meter.scans }
+{
+    let mut meter = session.take_meter();
+    let told = explanation_of(
+        alloc,
+        &session.present(),
+        names,
+        answer,
+        asked,
+        places,
+        &mut meter,
+    );
+    session.keep_meter(meter);
+    told
+}
+
+/// An explanation of the answer for the scope. What it takes is counted, beside what the question takes.
 fn explanation(
     alloc: Global,
     session: &mut Session,
     names: &Names,
+    scope: Scope,
     asked: Asked,
 ) -> Result<Answered, OutOfMemory>
+    requires { scope_for asked.key ≡ scope }
     ensures explained { IfOk result (λ answered. IsExplanation names.now Format.Text session.old.present asked None answered.text.items answered.status) }
     ensures present { session.new.present ≡ session.old.present }
+    ensures question { IsQuestion scope (10 * length session.old.present.history) session.old session.new }
 {
-    let scope = scope_of(asked.key);
     let answer = session.order(alloc, scope)?;
-    let told = explanation_of(alloc, &session.present(), names, &answer, asked, None)?;
+    let told = told_of(alloc, session, names, &answer, asked, None)?;
     Ok(answered(alloc, names, Format::Text, session.len(), &answer, &told)?)
 }
 
@@ -139,7 +175,8 @@ fn line_count(text: &[u8]) -> usize
     count
 }
 
-/// The reply to a command that asks why: how many lines follow, and they.
+/// The reply to a command that asks why: how many lines follow, and they. At most ten steps are counted for each event of the history, beside those
+/// of the question.
 pub fn explain_reply(
     alloc: Global,
     keyed: bool,
@@ -147,14 +184,15 @@ pub fn explain_reply(
     names: &Names,
     scope: Scope,
 ) -> Result<Reply, OutOfMemory>
-    ensures { IfOk result (λ reply. IsCommandReply names.now keyed (command.Explain scope) session.old.present session.new.present reply.text.items reply.status) }
+    ensures reply { IfOk result (λ reply. IsCommandReply names.now keyed (command.Explain scope) session.old.present session.new.present reply.text.items reply.status) }
+    ensures question { IsQuestion scope (10 * length session.old.present.history) session.old session.new }
 {
     let asked = Asked {
         key: key_of(scope),
         with_order: false,
         keyed,
     };
-    let answered = explanation(alloc, session, names, asked)?;
+    let answered = explanation(alloc, session, names, scope, asked)?;
     let mut text = Vec::from_slice(alloc, b"explained ")?;
     put_number(&mut text, line_count(answered.text.as_slice()) as u64)?;
     text.push(b'\n')?;
@@ -182,8 +220,10 @@ fn explained(
     let mut session = session_of(alloc, settings, events)?;
     let count = session.len();
     let answer = session.order(alloc, scope_of(asked.key))?;
+    let mut meter = session.take_meter();
+    let history = session.into_history();
     let places = Some(places.as_slice());
-    let told = explanation_from(alloc, session.into_history(), names, &answer, asked, places)?;
+    let told = explanation_from(alloc, history, names, &answer, asked, places, &mut meter)?;
     Ok(answered(alloc, names, format, count, &answer, &told)?)
 }
 
