@@ -37,6 +37,15 @@ see_program() { # a program, for all that runs one
     done
 }
 
+see_library() { # the library for C, over the crates that were proved here
+    built/library.sh "$room/library"
+    case $? in
+        0) LIBLINCHECK=$room/library run tests/library.py ;;
+        3) ;; # (it says why there is none)
+        *) exit 1 ;;
+    esac
+}
+
 see_all() {
     see_layout
     for script in imports.py closure.py ledger.py; do run "tests/$script"; done
@@ -87,6 +96,7 @@ if ! built/fits.sh kit; then
 elif cmp built/lincheck crates/lincheck/out/lincheck; then
     echo '1 passed, 0 failed' | tee -a "$log"
     run tests/static.sh
+    LINCHECK=$PWD/crates/lincheck/out/lincheck see_library
 else
     echo 'built/lincheck is not what this source makes: ./build.py --renew puts that there'
     exit 1

@@ -12,7 +12,8 @@ trap 'rm -rf "$room"' EXIT
 skip() { echo "skipped: $*"; echo '0 passed, 0 failed'; exit 0; }
 
 [ -x "$program" ] || skip 'there is no program'
-built/static.sh "$room/made" "$program" 2> "$room/why"
+grep -qx 'built/static.sh lincheck-static' docs/INTEGRATION.md || { echo 'docs/INTEGRATION.md tells another command'; echo '0 passed, 1 failed'; exit 1; }
+(cd "$room" && "$OLDPWD/built/static.sh" made "$program") 2> "$room/why"
 case $? in
     0) ;;
     1) skip "$(tail -1 "$room/why")" ;;

@@ -1,0 +1,70 @@
+//! What is handed back to a caller.
+ghost use Rattle.std.specs.Prelude.{◌≡◌, ◌≢◌};
+ghost use Rattle.lin_embedded.specs.Calls as said;
+ghost use Rattle.lin_embedded.specs.Calls.{HandsBack, IsJust};
+
+use lin_report::Status;
+
+/// A text, and the status of a run that prints it.
+#[derive(Drop)]
+pub struct Found {
+    pub text: Vec<u8>,
+    pub status: Status,
+}
+
+/// How a call ends.
+#[derive(Clone, Copy, Debug, PartialEq, Eq)]
+pub enum Ended {
+    /// The text was put into the room, and this is its status.
+    Told(Status),
+    /// The options say nothing, or the key's text names no key.
+    BadOptions,
+    /// Memory was refused, or the history has more than 1,099,511,627,776 bytes.
+    OutOfMemory,
+    /// There is no session.
+    NoSession,
+    /// The text is longer than the room.
+    TooLittleRoom,
+}
+
+/// The number of a status, as the command exits with it.
+fn status_number(status: Status) -> u32
+    ensures { result ≡ said.status_number status }
+{
+    match status {
+        Status::Yes => 0,
+        Status::No => 1,
+        Status::Undecided => 2,
+        Status::IllFormed => 3,
+        Status::Refused => 4,
+    }
+}
+
+impl Ended {
+    /// The number that stands for it.
+    pub fn number(self) -> u32
+        ensures { result ≡ said.number_of self }
+    {
+        match self {
+            Ended::Told(status) => status_number(status),
+            Ended::BadOptions => 5,
+            Ended::OutOfMemory => 6,
+            Ended::NoSession => 7,
+            Ended::TooLittleRoom => 8,
+        }
+    }
+}
+
+/// Puts the text into the beginning of the room, where it fits, and tells its length.
+pub fn hand_back(found: &Found, room: &mut [u8], needed: &mut usize) -> Ended
+    ensures hands { HandsBack (IsJust found.now.text.items found.now.status) room.old room.new needed.old needed.new result }
+    ensures good { result ≢ Ended.BadOptions }
+{
+    let text = found.text.as_slice();
+    *needed = text.len();
+    if room.len() < text.len() {
+        return Ended::TooLittleRoom;
+    }
+    room[..text.len()].copy_from_slice(text);
+    Ended::Told(found.status)
+}
