@@ -20,7 +20,7 @@ pub next_pass : (at count : ℕ) → (at + 1) * count ≡ at * count + count
 next_pass at count = let next : at + 1 ≡ suc at = omega arith in ap (λ n. n * count) next ∙ suc-mul at count
 
 -- an object has no more events than the history
-part_within : (key : Item) (h : List Event) → length (part key h) ≤ length h
+pub part_within : (key : Item) (h : List Event) → length (part key h) ≤ length h
 part_within key h =
     let test = λ (event : Event). item_eq event.key key in
     let is = length-filter test h in

@@ -12,6 +12,6 @@ returns-clause-few c =
     let kept = ap length c.keep_own.ensures in
     let few = part_within c.args.key left in
     let cut = ap length c.truncate.ensures.items in
-    let within : count ≤ length events = subst (λ l. count ≤ length l) (sym c.into_events-events.ensures) c.requires in
+    let within : count ≤ length events = subst (λ l. count ≤ length l) (sym c.into_events-events.ensures) c.requires.within in
     let size = length-take-le count events within in
     omega (arith, kept, few, cut, size)
