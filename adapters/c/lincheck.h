@@ -20,8 +20,9 @@
  * printed, and no call ends the process. Not from a signal handler, nor from the child that a process with threads forked.
  *
  * Also trusted: that malloc, realloc and free are of one allocator, and align a block to each power of two up to 16 that divides its size; that
- * the stack has room (64 KiB for the buffers of a call, and what `rt lib --backend rattle` tells of its frames); and that the processor has the
- * instructions of x86-64-v2, of 2009: a program of this repository looks for them as it starts, a library doesn't.
+ * the stack has room (Rattle's own compiler counts 75,856 bytes, and what functions that call themselves take beside, as built/library.sh tells;
+ * 128 KiB were enough in all that was tried); and that the processor has the instructions of x86-64-v2, of 2009: a program of this repository
+ * looks for them as it starts, a library doesn't.
  */
 #ifndef LINCHECK_H
 #define LINCHECK_H

@@ -21,8 +21,6 @@ pub enum Ended {
     BadOptions,
     /// Memory was refused, or the history has more than 1,099,511,627,776 bytes.
     OutOfMemory,
-    /// There is no session.
-    NoSession,
     /// The text is longer than the room.
     TooLittleRoom,
 }
@@ -49,7 +47,6 @@ impl Ended {
             Ended::Told(status) => status_number(status),
             Ended::BadOptions => 5,
             Ended::OutOfMemory => 6,
-            Ended::NoSession => 7,
             Ended::TooLittleRoom => 8,
         }
     }
