@@ -30,7 +30,7 @@ FAULT = "lincheck: 3 OutOfMemory\n"
 NOT_READ, NOT_WRITTEN = "lincheck: 1 ReadFailed\n", "lincheck: 2 WriteFailed\n"
 FAILED = 6
 # In a session with searches: how many growths at either end of a command are refused, the distance between, and how many questions do without.
-ENDS, DISTANCE, DONE_WITHOUT = 32, 61, 4
+ENDS, DISTANCE, DONE_WITHOUT = 32, 61, 8
 QUESTIONS = ("ask", "order", "report", "refute", "explain")
 
 # The growth with the number in REFUSED is refused, and that is told on descriptor 2; for number 0 the count of all, at the end.
