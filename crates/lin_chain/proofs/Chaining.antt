@@ -1,10 +1,8 @@
 -- Chains that are right, and stay so.
 use Rattle.std.proofs.Common.{inl, inr, ◌⊎◌, Bool, true, false, nat_eq, nat_lt, if◌then◌else◌, IfSome, All, zero, suc, [], ◌∷◌, slice_get, ◌≡◌, ◌≤◌, ◌<◌, ◌+◌, ◌∙◌, ℕ, Option, Some, None, List, length, take, refl, sym, ap, subst, arith}
-use Rattle.std.specs.List.{cons_option}
 use Rattle.std.proofs.lemmas.Bool.{cases_lt}
 use Rattle.std.proofs.lemmas.Bool.Decides.{Decides-eqb, Decides-ltb}
-use Rattle.std.proofs.lemmas.List.{take-take, take_all}
-use Rattle.std.proofs.lemmas.List.Elements.{All-head, All-tail}
+use Rattle.std.proofs.lemmas.List.{take_all}
 use Rattle.lin_events.specs.declared.events.Event.{Event}
 use Rattle.lin_objects.specs.declared.kinds.Kind.{Kind}
 use Rattle.lin_orders.specs.declared.placed.Placed.{Placed}
@@ -168,26 +166,6 @@ first_decides (Some end) b c first told = (end, refl, first)
 -- so a chain tells, with such an engine beside its frontiers
 pub exact_decides : (chain : Chain) (count : ℕ) → IsToldDecided (told_beside chain.beside count) → IsToldDecided (told_in chain count)
 exact_decides chain count told = first_decides (told_by_found chain.found count) (told_beside chain.beside count) _ (found_decides chain.found count) told
-
--- the events at the first picks are the first ones
-there_is : (h : List Event) (at : ℕ) → at < length h → (event : Event) × (slice_get h at ≡ Some event)
-there_is [] at inside = absurd (omega arith)
-there_is (e ∷ rest) zero inside = (e, refl)
-there_is (e ∷ rest) (suc at) inside = there_is rest at (omega arith)
-
-pub events_take : (h : List Event) (picks : List ℕ) (n : ℕ) → All (λ at. at < length h) picks → events_at h (take n picks) ≡ take n (events_at h picks)
-events_take h [] zero inside = refl
-events_take h [] (suc n) inside = refl
-events_take h (at ∷ picks) zero inside = refl
-events_take h (at ∷ picks) (suc n) inside =
-    let there = there_is h at (All-head (λ m. m < length h) at picks inside) in
-    let rest = events_take h picks n (All-tail (λ m. m < length h) at picks inside) in
-    ap (λ o. cons_option o (events_at h (take n picks))) there.1 ∙ ap (λ l. there.0 ∷ l) rest ∙ sym (ap (λ o. take (suc n) (cons_option o (events_at h picks))) there.1)
-
--- a conflict in the events up to and with one
-pub conflict_fails : (kind : Kind) (h first : List Event) (reached at : ℕ) → first ≡ take (reached + 1) h → at ≡ reached → (IsLinearizableAs kind (take (at + 1) first) → ⊥) → IsLinearizableAs kind (take (at + 1) h) → ⊥
-conflict_fails kind h first reached at begins here refuted lin =
-    refuted (subst (IsLinearizableAs kind) (sym (ap (λ l. take (at + 1) l) begins ∙ take-take (at + 1) (reached + 1) h (omega (arith, here)))) lin)
 
 -- where all events were searched, and what else is kept
 pub kept_searched : (budget : ℕ) (h : List Event) (old chain : Chain) (count : ℕ) → count ≤ length h → IsKept budget h old chain → IsKept budget h old (record chain { searched = count })

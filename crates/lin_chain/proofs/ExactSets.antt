@@ -19,7 +19,7 @@ use Rattle.lin_frontier.specs.Frontiers.{IsFrontier}
 use Rattle.lin_frontier.specs.Nodes.{Spells}
 use Rattle.lin_orders.specs.Linearizable.{IsLinearizableAs}
 use Rattle.lin_lists.specs.lemmas.Lists.{get_cases}
-use Rattle.lin_witness.specs.lemmas.Lists.{contains_from_get, get_from_contains}
+use Rattle.lin_open.specs.lemmas.Lists.{contains_from_get, get_from_contains}
 
 -- two answers that are one have one value
 pub ok_same : {T E : Type 0} {x y : T} {a b : Result T E} → a ≡ Ok x → b ≡ Ok y → a ≡ b → x ≡ y

@@ -7,12 +7,12 @@ pub no_stop : (old new : Mark) (count : ℕ) → new.stopped ≡ old.stopped →
 no_stop old new count same = by old.stopped refl
   where
     by : (b : Bool) → old.stopped ≡ b → for_stop old new count ≡ 0
-    by true is = ap (λ b. if b then 0 else if new.stopped then 21 * count else 0) is
-    by false is = ap (λ b. if b then 0 else if new.stopped then 21 * count else 0) is ∙ ap (λ b. if b then 21 * count else 0) (same ∙ is)
+    by true is = ap (λ b. if b then 0 else if new.stopped then 22 * count else 0) is
+    by false is = ap (λ b. if b then 0 else if new.stopped then 22 * count else 0) is ∙ ap (λ b. if b then 22 * count else 0) (same ∙ is)
 
 -- and where it does for the first time
-pub one_stop : (old new : Mark) (count : ℕ) → old.stopped ≡ false → new.stopped ≡ true → for_stop old new count ≡ 21 * count
-one_stop old new count before after = ap (λ b. if b then 0 else if new.stopped then 21 * count else 0) before ∙ ap (λ b. if b then 21 * count else 0) after
+pub one_stop : (old new : Mark) (count : ℕ) → old.stopped ≡ false → new.stopped ≡ true → for_stop old new count ≡ 22 * count
+one_stop old new count before after = ap (λ b. if b then 0 else if new.stopped then 22 * count else 0) before ∙ ap (λ b. if b then 22 * count else 0) after
 
 -- one stop is paid for once
 stop_adds : (a b c : Mark) (count : ℕ) → (a.stopped ≡ true → b.stopped ≡ true) → (b.stopped ≡ true → c.stopped ≡ true) → for_stop a b count + for_stop b c count ≤ for_stop a c count

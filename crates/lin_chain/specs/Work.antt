@@ -23,7 +23,7 @@ left mark count = (count - mark.frontier) + 2 * (count - mark.beside) + 18 * (co
 
 -- where a witness can't go on, for the first time since an edit, it is mended or the failure sought there, and all events may be searched anew
 abbrev pub for_stop : Mark → Mark → ℕ → ℕ
-for_stop old new count = if old.stopped then 0 else if new.stopped then 21 * count else 0
+for_stop old new count = if old.stopped then 0 else if new.stopped then 22 * count else 0
 
 -- the bound on work: what was spent and what is left are no more than what was left before
 abbrev pub IsSpent : Mark → Mark → ℕ → ℕ → ℕ → Type 0

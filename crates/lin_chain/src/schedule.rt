@@ -1,10 +1,10 @@
 //! Which of an object's engines take its events in, and when all events are searched.
-ghost use Rattle.std.specs.Prelude.{◌≡◌, ◌≤◌, ◌<◌, ◌+◌, ◌-◌, ◌*◌, ◌⊎◌, ◌↔◌, ℕ, Bool, List, All, IfOk, IfSome, IsOk, IsTrue, OnOk, Ok, Some, length, true, false, nat_lt};
+ghost use Rattle.std.specs.Prelude.{◌≡◌, ◌≤◌, ◌<◌, ◌+◌, ◌-◌, ◌*◌, ◌⊎◌, ◌↔◌, ℕ, Bool, List, All, IfOk, IfSome, IsOk, IsTrue, OnOk, Ok, Some, length, take, true, false, nat_lt};
 ghost use Rattle.lin_events.specs.declared.items.Item.{Item as ItemOf};
 ghost use Rattle.lin_events.specs.declared.calls.Name.{Name as NameOf};
 ghost use Rattle.lin_events.specs.declared.events.Event.{Event as EventOf};
 ghost use Rattle.lin_events.specs.WellFormed.{IsWellFormed};
-ghost use Rattle.lin_orders.specs.Linearizable.{IsLegalOrderAs};
+ghost use Rattle.lin_orders.specs.Linearizable.{IsLegalOrderAs, IsLinearizableAs};
 ghost use Rattle.lin_orders.specs.Parts.{events_at};
 ghost use Rattle.lin_engines.specs.declared.ends.End.{End as EndOf};
 ghost use Rattle.lin_engines.specs.Ends.{IsEndOf};
@@ -19,7 +19,7 @@ use crate::found::Found;
 use crate::patience::{Patience, is_worth};
 use lin_compressed::{Scratch, is_counted};
 use lin_engines::{End, Exact, Lane, copied, mend, suggest};
-use lin_events::{Event, Meter, OutOfMemory, beginnings_are_well_formed};
+use lin_events::{Event, Meter, OutOfMemory};
 use lin_objects::Any;
 use lin_orders::Placed;
 use lin_search::{Guide, finds_conflict, finds_failure, finds_order};
@@ -191,8 +191,8 @@ impl Chain {
         self.repair(events, picks, meter)
     }
 
-    /// A witness that couldn't take the next event in is mended, if a search says how it goes on from its last checkpoint. Else the event may be
-    /// shown to be the failure: then that is kept. Else it is mended from checkpoints before that one.
+    /// A witness that couldn't take the next event in is mended, if a search says how it goes on from its last checkpoint. Else the failure is sought:
+    /// where the witness is mended up to it, that is kept. Where none is found, it is mended from checkpoints before that one.
     fn repair(
         &mut self,
         events: &[Event],
@@ -205,34 +205,69 @@ impl Chain {
         ensures right { IsRight self.new (events_at events.now picks.now) }
         ensures others { self.new ≡ record self.old { beside = self.new.beside; found = self.new.found } }
         ensures mark { mark_beside self.old.beside ≤ mark_beside self.new.beside }
-        ensures steps { meter.new.steps ≤ meter.old.steps + 3 * length picks.now }
+        ensures steps { meter.new.steps ≤ meter.old.steps + 4 * length picks.now }
         ensures scans { meter.new.scans ≡ meter.old.scans }
     {
-        if self.is_mended(Back::Near, events, picks, meter)? {
+        if self.is_mended(Back::Near, picks.len(), events, picks, meter)? {
             return Ok(());
         }
-        if self.fails_next(events, picks, meter)? {
-            return Ok(());
+        let alloc = self.frontier.engine().alloc();
+        let conflict = finds_conflict(alloc, self.kind(), events, picks, meter)?;
+        if let Some(at) = conflict {
+            return self.show(at, events, picks, meter);
         }
-        self.is_mended(Back::Far, events, picks, meter)?;
+        self.is_mended(Back::Far, picks.len(), events, picks, meter)?;
         Ok(())
     }
 
-    /// Whether a search says how a witness goes on from shortly before the event that it couldn't take in.
+    /// The events up to and with this one have no legal order: where a witness is mended up to it, it is the failure, and that is kept.
+    fn show(
+        &mut self,
+        at: usize,
+        events: &[Event],
+        picks: &[usize],
+        meter: &mut Meter,
+    ) -> Result<(), OutOfMemory>
+        requires failing { IsLinearizableAs (kind_in self.old) (take (at + 1) (events_at events.now picks.now)) → ⊥ }
+        requires right { IsRight self.old (events_at events.now picks.now) }
+        requires inside { All (λ at. at < length events.now) picks.now }
+        requires well_formed { (functions : ItemOf → NameOf → Bool) × IsWellFormed functions (events_at events.now picks.now) }
+        ensures right { IsRight self.new (events_at events.now picks.now) }
+        ensures others { self.new ≡ record self.old { beside = self.new.beside; found = self.new.found } }
+        ensures mark { mark_beside self.old.beside ≤ mark_beside self.new.beside }
+        ensures steps { meter.new.steps ≤ meter.old.steps + length picks.now }
+        ensures scans { meter.new.scans ≡ meter.old.scans }
+    {
+        if picks.len() <= at {
+            return Ok(());
+        }
+        if self.is_mended(Back::Near, at, events, picks, meter)?
+            || self.is_mended(Back::Far, at, events, picks, meter)?
+        {
+            self.found = Found::Failure(at);
+        }
+        Ok(())
+    }
+
+    /// Whether a witness that gave up is one of the events before the place, or a search says how it goes on up to there from shortly before the event that
+    /// it couldn't take in.
     fn is_mended(
         &mut self,
         back: Back,
+        place: usize,
         events: &[Event],
         picks: &[usize],
         meter: &mut Meter,
     ) -> Result<bool, OutOfMemory>
+        requires place { place ≤ length picks.now }
         requires right { IsRight self.old (events_at events.now picks.now) }
         requires inside { All (λ at. at < length events.now) picks.now }
         requires well_formed { (functions : ItemOf → NameOf → Bool) × IsWellFormed functions (events_at events.now picks.now) }
         ensures right { IsRight self.new (events_at events.now picks.now) }
         ensures others { self.new ≡ record self.old { beside = self.new.beside } }
         ensures mark { mark_beside self.old.beside ≤ mark_beside self.new.beside }
-        ensures steps { 4 * meter.new.steps ≤ 4 * meter.old.steps + quarters back * length picks.now }
+        ensures linearizable { result ≡ Ok true → IsLinearizableAs (kind_in self.old) (take place (events_at events.now picks.now)) }
+        ensures steps { 4 * meter.new.steps ≤ 4 * meter.old.steps + quarters back * place }
         ensures scans { meter.new.scans ≡ meter.old.scans }
     {
         let Beside::Going(lane) = &mut self.beside else {
@@ -241,46 +276,14 @@ impl Chain {
         if !lane.is_gone() || lane.mark() != picks.len() {
             return Ok(false);
         }
-        mend(lane, back, events, picks, meter)?;
-        Ok(!lane.is_gone())
+        if lane.reached() < place {
+            mend(lane, back, place, events, picks, meter)?;
+        }
+        Ok(lane.reached() == place)
     }
 }
 
 impl Chain {
-    /// Whether the event that a witness couldn't take in is shown to be the one with which the events have no legal order: then that is kept.
-    fn fails_next(
-        &mut self,
-        events: &[Event],
-        picks: &[usize],
-        meter: &mut Meter,
-    ) -> Result<bool, OutOfMemory>
-        requires right { IsRight self.old (events_at events.now picks.now) }
-        requires inside { All (λ at. at < length events.now) picks.now }
-        requires well_formed { (functions : ItemOf → NameOf → Bool) × IsWellFormed functions (events_at events.now picks.now) }
-        ensures right { IsRight self.new (events_at events.now picks.now) }
-        ensures others { self.new ≡ record self.old { found = self.new.found } }
-        ensures steps { meter.new.steps ≤ meter.old.steps + 2 * length picks.now }
-        ensures scans { meter.new.scans ≡ meter.old.scans }
-    {
-        beginnings_are_well_formed();
-        let Beside::Going(lane) = &self.beside else {
-            return Ok(false);
-        };
-        let reached = lane.reached();
-        if picks.len() <= reached {
-            return Ok(false);
-        }
-        let alloc = self.frontier.engine().alloc();
-        let first = &picks[..reached + 1];
-        match finds_conflict(alloc, self.kind(), events, first, meter)? {
-            Some(at) if at == reached => {
-                self.found = Found::Failure(at);
-                Ok(true)
-            }
-            _ => Ok(false),
-        }
-    }
-
     /// Frontiers and searches take turns, as the schedule says, until it says no more.
     fn take_turns(
         &mut self,

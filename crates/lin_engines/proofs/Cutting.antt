@@ -1,12 +1,13 @@
 -- What is kept of the first events holds of any events that begin alike.
-use Rattle.std.proofs.Common.{◌≡◌, ◌≤◌, ◌*◌, ℕ, List, length, take, ap, refl, arith}
+use Rattle.std.proofs.Common.{◌≡◌, ◌≤◌, ◌*◌, ℕ, List, length, take, ap, refl, subst, arith}
 use Rattle.std.proofs.lemmas.List.{length-take}
 use Rattle.std.proofs.lemmas.Option.{slice_get_within}
 use Rattle.lin_events.specs.declared.events.Event.{Event}
+use Rattle.lin_frontier.specs.Frontiers.{IsPending}
 use Rattle.lin_engines.specs.declared.replay.Replay.{Replay}
 use Rattle.lin_engines.specs.Replays.{IsReplay}
 use Rattle.lin_engines.specs.lemmas.Beginnings.{take_alike}
-use Rattle.lin_engines.proofs.Replaying.{checkpoint_kept, known_same}
+use Rattle.lin_engines.proofs.Replaying.{checkpoint_kept, known_same, past_same}
 
 pub replay_alike : (r : Replay) (h edited : List Event) (local : ℕ) → r.reached ≤ local → take local h ≡ take local edited → IsReplay r h → IsReplay r edited
 replay_alike r h edited local below same right = record {
@@ -16,8 +17,10 @@ replay_alike r h edited local below same right = record {
   checkpoints = λ k c at.
       let was = right.checkpoints k c at in
       let inside = slice_get_within r.checkpoints.items k c at in
-      checkpoint_kept r r h edited (64 * k) c refl (take_alike (64 * k) local h edited (omega (arith, inside, right.few)) same) refl was.nodes refl was.crashed was;
+      let begins = take_alike (64 * k) local h edited (omega (arith, inside, right.few)) same in
+      checkpoint_kept r r h edited (64 * k) c refl begins refl was.nodes (past_same r.pending h edited (64 * k) c.open begins was.past) was;
   rising = right.rising;
-  present = λ f is. known_same r.object.kind _ _ f _ _ _ _ (take_alike r.reached local h edited below same) refl refl (right.present f is);
+  opened = subst (λ l. IsPending l r.pending.operations.items) (take_alike r.reached local h edited below same) right.opened;
+  present = λ f is. known_same r.object.kind _ _ f _ _ (take_alike r.reached local h edited below same) refl (right.present f is);
   last = right.last;
 }

@@ -5,7 +5,6 @@ mod ends;
 mod engine;
 mod exact;
 mod lane;
-mod pending;
 mod replay;
 mod says;
 mod witnesses;

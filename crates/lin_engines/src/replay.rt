@@ -1,5 +1,5 @@
 //! The frontiers that are kept of an object's events: the present one, and one at each 64th place. They are an engine.
-ghost use Rattle.std.specs.Prelude.{◌≡◌, ◌≢◌, ◌≤◌, ◌<◌, ◌+◌, ◌*◌, [], ℕ, Bool, List, None, Some, All, IfOk, IfSome, IfNone, OnOk, OnErr, length, take, min, vec_len, vec_capacity};
+ghost use Rattle.std.specs.Prelude.{◌≡◌, ◌≢◌, ◌≤◌, ◌<◌, ◌+◌, ◌*◌, [], ℕ, Bool, List, None, Some, All, IfOk, IfSome, IfNone, OnOk, OnErr, length, take, min};
 ghost use Rattle.lin_events.specs.declared.items.Item.{Item as ItemOf};
 ghost use Rattle.lin_events.specs.declared.calls.Name.{Name as NameOf};
 ghost use Rattle.lin_events.specs.declared.events.Event.{Event as EventOf};
@@ -12,17 +12,18 @@ ghost use Rattle.lin_orders.specs.ConfigurationLaws.{with_event};
 ghost use Rattle.lin_frontier.specs.Frontiers.{IsNextEvent, IsPending};
 ghost use Rattle.lin_orders.specs.Configurations.{IsOver};
 ghost use Rattle.lin_members.specs.Rounds.{joined, SpellsRounds};
-ghost use Rattle.lin_engines.specs.Replays.{IsCurrent, IsPrepared, IsReplay, Members, held_count};
+ghost use Rattle.lin_engines.specs.Replays.{IsCurrent, IsPrepared, IsReplay, KeepsPast, Members, held_count};
+ghost use Rattle.lin_open.specs.Opens.{HasRoom};
 ghost use Rattle.lin_orders.specs.Linearizable.{IsLegalOrderAs, IsLinearizableAs};
 
 use crate::engine::Engine;
-use crate::pending::Pending;
 use crate::says::Says;
 use lin_compressed::{Advance, Compressed, Scratch, members_spell_legal_orders};
 use lin_events::{Event, Meter, OutOfMemory, beginnings_are_well_formed};
-use lin_frontier::{Arrival, NodeId, Open, append_operations, nothing_is_open_at_first};
+use lin_frontier::{Arrival, NodeId, nothing_is_open_at_first};
 use lin_members::RoundNodes;
 use lin_objects::{Any, Kind, State};
+use lin_open::{OpenList, OpenMark};
 use lin_orders::{Placed, empty_is_legal};
 use std::alloc::Global;
 
@@ -35,10 +36,8 @@ pub(crate) struct Checkpoint {
     frontier: Compressed<Any>,
     /// How many nodes there were.
     nodes: usize,
-    /// How many operations had crashed.
-    crashed: usize,
-    /// The open operations that had not crashed.
-    live: Vec<Open>,
+    /// What was open.
+    open: OpenMark,
 }
 
 /// What is known after the first events of an object, with checkpoints to go back to.
@@ -51,8 +50,8 @@ pub struct Replay {
     checkpoints: Vec<Checkpoint>,
     /// The frontier after them. None where the last checkpoint has it.
     present: Option<Compressed<Any>>,
-    /// What is open after them. Behind the crashed ones it holds anything where there is no present frontier.
-    pending: Pending,
+    /// What is open after them.
+    pending: OpenList,
     nodes: RoundNodes,
 }
 
@@ -76,13 +75,14 @@ impl Replay {
         ensures reached { result.reached ≡ 0 }
         ensures right { (h : List EventOf) → IsReplay result h }
     {
+        nothing_is_open_at_first();
         Replay {
             alloc,
             object: Any { kind },
             reached: 0,
             checkpoints: Vec::new(alloc),
             present: None,
-            pending: Pending::new(alloc),
+            pending: OpenList::new(alloc),
             nodes: RoundNodes::new(alloc),
         }
     }
@@ -109,11 +109,7 @@ impl Replay {
 
     /// How many operations are open after the events that are known.
     pub fn open(&self) -> usize {
-        match (&self.present, self.checkpoints.last()) {
-            (Some(_), _) => self.pending.as_slice().len(),
-            (None, Some(last)) => last.crashed.saturating_add(last.live.len()),
-            (None, None) => 0,
-        }
+        self.pending.len()
     }
 
     /// How many members the frontier after them has.
@@ -143,19 +139,6 @@ impl Replay {
         self.alloc
     }
 
-    /// Forgets all events, for an object of another kind.
-    pub fn restart(&mut self, kind: Kind)
-        ensures kind { self.new.object.kind ≡ kind }
-        ensures reached { self.new.reached ≡ 0 }
-        ensures right { (h : List EventOf) → IsReplay self.new h }
-    {
-        self.object = Any { kind };
-        self.reached = 0;
-        self.checkpoints.clear();
-        self.present = None;
-        self.nodes.cut(0);
-    }
-
     /// Goes back to the checkpoint with this number.
     fn go_back(&mut self, number: usize)
         requires { 64 * number ≤ usize.MAX }
@@ -168,6 +151,7 @@ impl Replay {
         self.present = None;
         if let Some(last) = self.checkpoints.last() {
             self.nodes.cut(last.nodes);
+            self.pending.cut(number * SPACING, last.open);
         }
     }
 
@@ -179,10 +163,9 @@ impl Replay {
         ensures right { (h : List EventOf) → IsReplay self.old h → IsReplay self.new h }
         ensures prepared { OnOk result ((h : List EventOf) → IsReplay self.old h → IsPrepared self.new h) }
         ensures some { OnOk result (0 < length self.new.checkpoints.items) }
-        ensures room { OnOk result (vec_len self.new.pending.operations < vec_capacity self.new.pending.operations) }
+        ensures room { OnOk result (HasRoom self.new.pending) }
     {
         self.mark()?;
-        self.resume()?;
         self.pending.reserve()
     }
 
@@ -212,7 +195,6 @@ impl Replay {
         ensures before { OnOk result ((h : List EventOf) → IsReplay self.old h → self.new.reached < 64 * length self.new.checkpoints.items) }
         ensures some { OnOk result (0 < length self.new.checkpoints.items) }
     {
-        nothing_is_open_at_first();
         if self.checkpoints.reserve(1).is_err() {
             return Err(OutOfMemory);
         }
@@ -220,8 +202,7 @@ impl Replay {
         self.checkpoints.push_reserved(Checkpoint {
             frontier,
             nodes: self.nodes.len(),
-            crashed: 0,
-            live: Vec::new(self.alloc),
+            open: self.pending.mark(0),
         });
         Ok(())
     }
@@ -238,33 +219,14 @@ impl Replay {
         if self.checkpoints.reserve(1).is_err() {
             return Err(OutOfMemory);
         }
-        let mut live = Vec::new(self.alloc);
-        append_operations(&mut live, self.pending.live())?;
         if let Some(frontier) = self.present.take() {
             self.checkpoints.push_reserved(Checkpoint {
                 frontier,
                 nodes: self.nodes.len(),
-                crashed: self.pending.crashed(),
-                live,
+                open: self.pending.mark(self.reached),
             });
         }
         Ok(())
-    }
-
-    /// Lists the operations that are open at the last checkpoint, where that is the present.
-    fn resume(&mut self) -> Result<(), OutOfMemory>
-        requires { All (λ checkpoint. checkpoint.crashed ≤ self.old.pending.crashed) self.old.checkpoints.items }
-        ensures others { self.new ≡ record self.old { pending = self.new.pending } }
-        ensures right { (h : List EventOf) → IsReplay self.old h → IsReplay self.new h }
-        ensures prepared { OnOk result ((h : List EventOf) → IsReplay self.old h → self.old.reached < 64 * length self.old.checkpoints.items → IsPrepared self.new h) }
-    {
-        if self.present.is_some() {
-            return Ok(());
-        }
-        match self.checkpoints.last() {
-            Some(last) => self.pending.restore(last.crashed, &last.live),
-            None => Ok(()),
-        }
     }
 
     /// Takes one more event in, after `prepare`.
@@ -276,7 +238,7 @@ impl Replay {
         scratch: &mut Scratch<Any>,
     ) -> Result<Taken, OutOfMemory>
         requires some { 0 < length self.old.checkpoints.items }
-        requires room { vec_len self.old.pending.operations < vec_capacity self.old.pending.operations }
+        requires room { HasRoom self.old.pending }
         requires fits { self.old.reached < usize.MAX }
         ensures object { self.new.object ≡ self.old.object }
         ensures next { result ≡ Ok Taken.Next → self.new.reached ≡ self.old.reached + 1 }
@@ -332,14 +294,13 @@ impl Replay {
     /// Takes one more event in that leaves the frontier as it is.
     fn stay(&mut self, event: &Event) -> Result<(), OutOfMemory>
         requires some { 0 < length self.old.checkpoints.items }
-        requires room { vec_len self.old.pending.operations < vec_capacity self.old.pending.operations }
+        requires room { HasRoom self.old.pending }
         requires fits { self.old.reached < usize.MAX }
         ensures others { OnOk result (self.new ≡ record self.old { reached = self.old.reached + 1; present = self.new.present; pending = self.new.pending }) }
         ensures held { OnOk result ((frontier : Members) → IsCurrent self.old.present self.old.checkpoints.items frontier → self.new.present ≡ Some frontier) }
         ensures open { OnOk result ((functions : ItemOf → NameOf → Bool) (h : List EventOf) → IsNextEvent functions h self.old.pending.operations.items self.old.reached event.now
             → IsPending (with_event h event.now) self.new.pending.operations.items) }
-        ensures more { OnOk result (self.old.pending.crashed ≤ self.new.pending.crashed) }
-        ensures front { OnOk result (take self.old.pending.crashed self.new.pending.operations.items ≡ take self.old.pending.crashed self.old.pending.operations.items) }
+        ensures past { OnOk result ((h : List EventOf) → KeepsPast self.old.reached h self.old.pending self.new.pending) }
         ensures refused { OnErr result (self.new ≡ self.old) }
     {
         self.hold()?;

@@ -5,14 +5,14 @@ ghost use Rattle.lin_events.specs.declared.calls.Name.{Name as NameOf};
 ghost use Rattle.lin_events.specs.declared.events.Event.{Event as EventOf};
 ghost use Rattle.lin_events.specs.WellFormed.{IsWellFormed};
 ghost use Rattle.lin_orders.specs.Parts.{events_at};
-ghost use Rattle.lin_witness.specs.Witnesses.{quarters};
+ghost use Rattle.lin_witness.specs.Witnesses.{IsWitness, quarters};
 ghost use Rattle.lin_engines.specs.Witnessing.{IsWitnessLane, kind_of_witness};
 
 use crate::engine::Engine;
 use crate::lane::Lane;
 use crate::says::Says;
 use lin_compressed::Scratch;
-use lin_events::{Event, Meter, OutOfMemory};
+use lin_events::{Event, Meter, OutOfMemory, beginnings_are_well_formed};
 use lin_objects::Any;
 use lin_orders::Placed;
 use lin_witness::{Back, Witness};
@@ -84,30 +84,60 @@ pub fn suggest(
     lane.engine.suggest(events, picks, ask, meter)
 }
 
-/// A witness that couldn't go on is mended, if a search says how it goes on from shortly before. Each event that is looked at is a step.
+/// A witness that couldn't go on is mended up to the place, if a search says how it goes on from shortly before. Each event that is looked at is a
+/// step. It goes on where that is the place of all events; else it stays given up, as a legal order of the events before the place perhaps.
 pub fn mend(
     lane: &mut Lane<Witness>,
     back: Back,
+    place: usize,
     events: &[Event],
     picks: &[usize],
     meter: &mut Meter,
 ) -> Result<(), OutOfMemory>
     requires gone { lane.old.said ≡ Says.Gone }
     requires all { lane.old.mark ≡ length picks.now }
+    requires place { place ≤ length picks.now }
     requires right { IsWitnessLane lane.old (events_at events.now picks.now) }
     requires inside { All (λ at. at < length events.now) picks.now }
     requires well_formed { (functions : ItemOf → NameOf → Bool) × IsWellFormed functions (events_at events.now picks.now) }
     ensures kind { kind_of_witness lane.new.engine ≡ kind_of_witness lane.old.engine }
     ensures right { IsWitnessLane lane.new (events_at events.now picks.now) }
     ensures mark { lane.new.mark ≡ lane.old.mark }
-    ensures steps { 4 * meter.new.steps ≤ 4 * meter.old.steps + quarters back * length picks.now }
+    ensures gone { place < length picks.now → lane.new.said ≡ Says.Gone }
+    ensures steps { 4 * meter.new.steps ≤ 4 * meter.old.steps + quarters back * place }
     ensures scans { meter.new.scans ≡ meter.old.scans }
 {
-    lane.engine.mend(back, events, picks, meter)?;
-    if lane.engine.of() == picks.len() {
+    let mended = reach(&mut lane.engine, back, place, events, picks, meter);
+    if mended.is_ok() && lane.engine.of() == picks.len() {
         lane.said = Says::On;
     }
-    Ok(())
+    mended
+}
+
+/// The same, of the witness alone.
+fn reach(
+    witness: &mut Witness,
+    back: Back,
+    place: usize,
+    events: &[Event],
+    picks: &[usize],
+    meter: &mut Meter,
+) -> Result<(), OutOfMemory>
+    requires place { place ≤ length picks.now }
+    requires right { IsWitness witness.old (events_at events.now picks.now) }
+    requires inside { All (λ at. at < length events.now) picks.now }
+    requires well_formed { (functions : ItemOf → NameOf → Bool) × IsWellFormed functions (events_at events.now picks.now) }
+    ensures kind { kind_of_witness witness.new ≡ kind_of_witness witness.old }
+    ensures right { IsWitness witness.new (events_at events.now picks.now) }
+    ensures within { witness.new.of ≤ place }
+    ensures steps { 4 * meter.new.steps ≤ 4 * meter.old.steps + quarters back * place }
+    ensures scans { meter.new.scans ≡ meter.old.scans }
+{
+    beginnings_are_well_formed();
+    witness.cut(place);
+    let mended = witness.mend(back, events, &picks[..place], meter);
+    witness.cut(place);
+    mended
 }
 
 /// An equal order on its own memory.

@@ -28,46 +28,59 @@ use Rattle.lin_frontier.specs.Placing.{IsAbsent, PlacesOne, insert_pair, without
 use Rattle.lin_frontier.specs.lemmas.Inserting.{insert_added, none_from, taken_out}
 use Rattle.lin_lists.specs.lemmas.Elements.{pairs_left}
 use Rattle.lin_lists.specs.lemmas.Lists.{get_cases, get_last, get_left, get_taken, take_next}
-use Rattle.lin_witness.specs.declared.opened.Opened.{Opened}
+use Rattle.lin_open.specs.declared.opens.OpenList.{OpenList}
+use Rattle.lin_open.specs.declared.opens.OpenMark.{OpenMark}
+use Rattle.lin_open.specs.Opens.{IsEarlier, IsPast, open_at}
 use Rattle.lin_witness.specs.declared.witness.Checkpoint.{Checkpoint}
 use Rattle.lin_witness.specs.declared.witness.Witness.{Witness}
-use Rattle.lin_witness.specs.Witnesses.{IsCheckpoint, IsLonger, IsPassed, IsReached, IsWitness, listed, order_in}
-use Rattle.lin_witness.proofs.Splits.{pairs_at, pairs_take, take_alike, take_front}
+use Rattle.lin_witness.specs.Witnesses.{IsAhead, IsCheckpoint, IsLonger, IsPassed, IsReached, IsWitness, listed, order_in}
+use Rattle.lin_witness.proofs.Splits.{pairs_at, pairs_take, take_alike}
 
-reached_same : (k l : Kind) (h g : List Event) (of : ℕ) (o p : List Placed) (c : State × List (ℕ × Reply)) (xs ys : List Open) → k ≡ l → take of h ≡ take of g → of ≤ length g → o ≡ p → xs ≡ ys
-    → IsReached k h of o c xs → IsReached l g of p c ys
-reached_same k l h g of o p c xs ys kinds events within orders opened r = record {
+reached_same : (k l : Kind) (h g : List Event) (of : ℕ) (o p : List Placed) (c : State × List (ℕ × Reply)) → k ≡ l → take of h ≡ take of g → of ≤ length g → o ≡ p → IsReached k h of o c → IsReached l g of p c
+reached_same k l h g of o p c kinds events within orders r = record {
   within = within;
   ends = subst (λ kind. EndsIn (start kind) (Step kind) (take of g) p c) kinds (subst (λ x. EndsIn (start k) (Step k) x p c) events (subst (λ x. EndsIn (start k) (Step k) (take of h) x c) orders r.ends));
-  opened_are = subst (λ x. IsPending x ys) events (subst (IsPending (take of h)) opened r.opened_are);
 }
 
+-- what was open then is told of events that begin alike
+past_same : (list : OpenList) (h g : List Event) (place : ℕ) (mark : OpenMark) → take place h ≡ take place g → IsPast list h place mark → IsPast list g place mark
+past_same list h g place mark events past = record {
+  marked = past.marked;
+  crashed = past.crashed;
+  ended = past.ended;
+  open_then = subst (λ x. IsPending x (open_at list place mark)) events past.open_then;
+}
+
+-- each mark that was right for so many events still is
+abbrev pub KeepsPast : ℕ → List Event → OpenList → OpenList → Type 0
+KeepsPast of h a b = (place : ℕ) (mark : OpenMark) → place ≤ of → IsPast a h place mark → IsPast b h place mark
+
 -- where the order only grows, and what is kept of it stays
-pub grown : (a b : Witness) (h : List Event) → b.object ≡ a.object → a.length ≤ b.length → b.length ≤ length b.order.items → take a.length b.order.items ≡ take a.length a.order.items
-    → take (length a.opened.crashed.items) b.opened.crashed.items ≡ a.opened.crashed.items → b.checkpoints.items ≡ a.checkpoints.items → a.of ≤ b.of → b.of ≤ 64 * length b.checkpoints.items
-    → IsReached b.object.kind h b.of (order_in b) b.config (listed b.opened) → IsWitness a h → IsWitness b h
-grown a b h object longer inside front crashed same more enough reached w = record {
+pub grown : (a b : Witness) (h : List Event) → b.object ≡ a.object → a.length ≤ b.length → b.length ≤ length b.order.items → take a.length b.order.items ≡ take a.length a.order.items → KeepsPast a.of h a.opened b.opened
+    → b.checkpoints.items ≡ a.checkpoints.items → a.of ≤ b.of → b.of ≤ 64 * length b.checkpoints.items → IsReached b.object.kind h b.of (order_in b) b.config → IsPending (take b.of h) (listed b.opened) → IsWitness a h → IsWitness b h
+grown a b h object longer inside front past same more enough reached opened w = record {
   inside = inside;
   reached = reached;
+  opened = opened;
   enough = enough;
   few = let len = ap length same in omega (arith, w.few, more, len);
   checkpoints = λ k c at.
-      let was = w.checkpoints k c (ap (λ l. slice_get l k) (sym same) ∙ at) in
-      let behind = take_front c.crashed a.opened.crashed.items b.opened.crashed.items was.crashed crashed in
+      let there = ap (λ l. slice_get l k) (sym same) ∙ at in
+      let was = w.checkpoints k c there in
+      let at_k = slice_get_within a.checkpoints.items k c there in
       record {
-        reached = reached_same a.object.kind b.object.kind h h (64 * k) _ _ c.config _ _ (ap (λ (o : Any). o.kind) (sym object)) refl was.reached.within
-            (take_alike c.length a.length a.order.items b.order.items was.shorter (sym front)) (ap (λ l. l ++ c.live.items) behind.0) was.reached;
+        reached = reached_same a.object.kind b.object.kind h h (64 * k) _ _ c.config (ap (λ (o : Any). o.kind) (sym object)) refl was.reached.within (take_alike c.length a.length a.order.items b.order.items was.shorter (sym front)) was.reached;
+        past = past (64 * k) c.open (omega (arith, at_k, w.few)) was.past;
         shorter = omega (arith, was.shorter, longer);
-        crashed = behind.1;
       };
-  rising = subst (AllPairs (λ (c : Checkpoint) (d : Checkpoint). (c.length ≤ d.length) × (c.crashed ≤ d.crashed))) (sym same) w.rising;
+  rising = subst (AllPairs IsAhead) (sym same) w.rising;
 }
 
 -- an open operation is placed last
 pub placed_last : (kind : Kind) → PlacingIsLegal (start kind) (Step kind) → (h : List Event) (of : ℕ) (order : List Placed) (c d : State × List (ℕ × Reply)) (opened : List Open) (o : Open) (p : Placed) → Contains opened o
-    → PlacesOne (Step kind) o c p d → IsReached kind h of order c opened → IsReached kind h of (order ++ p ∷ []) d opened
-placed_last kind law h of order c d opened o p there places r =
-    let is_open = r.opened_are.sound o there in
+    → PlacesOne (Step kind) o c p d → IsPending (take of h) opened → IsReached kind h of order c → IsReached kind h of (order ++ p ∷ []) d
+placed_last kind law h of order c d opened o p there places opened_are r =
+    let is_open = opened_are.sound o there in
     record {
       within = r.within;
       ends = law (take of h) order c d p r.ends (record {
@@ -78,7 +91,6 @@ placed_last kind law h of order c d opened o p there places r =
         steps = places.steps;
         added = subst (IsAdded o.process p.reply c.1) (sym places.placed) (insert_added o.process p.reply c.1 r.ends.placed.rising (none_from o.process c.1 places.absent));
       });
-      opened_are = r.opened_are;
     }
 
 -- a pair that is put among others is there
@@ -129,66 +141,65 @@ next_event beginnings functions h n event pending well there opened = record {
   opened = opened;
 }
 
-pub reached_next : (kind : Kind) (h : List Event) (of : ℕ) (event : Event) (order : List Placed) (c : State × List (ℕ × Reply)) (opened : List Open) → IsEvent h of event
-    → EndsIn (start kind) (Step kind) (with_event (take of h) event) order c → IsPending (with_event (take of h) event) opened → IsReached kind h (of + 1) order c opened
-reached_next kind h of event order c opened there ends pending =
-    let taken : take (of + 1) h ≡ with_event (take of h) event = ap (λ m. take m h) (add-one of) ∙ take_next of h event there in
-    record {
-      within = let inside = slice_get_within h of event there in omega arith;
-      ends = subst (λ l. EndsIn (start kind) (Step kind) l order c) (sym taken) ends;
-      opened_are = subst (λ l. IsPending l opened) (sym taken) pending;
-    }
+taken_next : (h : List Event) (of : ℕ) (event : Event) → IsEvent h of event → take (of + 1) h ≡ with_event (take of h) event
+taken_next h of event there = ap (λ m. take m h) (add-one of) ∙ take_next of h event there
+
+pub reached_next : (kind : Kind) (h : List Event) (of : ℕ) (event : Event) (order : List Placed) (c : State × List (ℕ × Reply)) → IsEvent h of event → EndsIn (start kind) (Step kind) (with_event (take of h) event) order c → IsReached kind h (of + 1) order c
+reached_next kind h of event order c there ends = record {
+  within = let inside = slice_get_within h of event there in omega arith;
+  ends = subst (λ l. EndsIn (start kind) (Step kind) l order c) (sym (taken_next h of event there)) ends;
+}
 
 -- a checkpoint of what is reached
-pub marked : (a : Witness) (v : Vec Checkpoint Global) (c : Checkpoint) (h : List Event) → v.items ≡ a.checkpoints.items ++ c ∷ [] → 64 * length a.checkpoints.items ≤ a.of → c.length ≡ a.length → c.config ≡ a.config
-    → c.crashed ≡ length a.opened.crashed.items → c.live.items ≡ a.opened.live.items → IsWitness a h → IsWitness (record a { checkpoints = v }) h
-marked a v c h made due long config crashed live w = record {
+pub marked : (a : Witness) (v : Vec Checkpoint Global) (o : OpenList) (c : Checkpoint) (h : List Event) → v.items ≡ a.checkpoints.items ++ c ∷ [] → 64 * length a.checkpoints.items ≤ a.of → c.length ≡ a.length → c.config ≡ a.config
+    → o.operations.items ≡ a.opened.operations.items → (IsPending (take a.of h) a.opened.operations.items → IsPast o h a.of c.open) → ((place : ℕ) (mark : OpenMark) → IsPast a.opened h place mark → IsPast o h place mark × IsEarlier mark c.open)
+    → IsWitness a h → IsWitness (record a { checkpoints = v; opened = o }) h
+marked a v o c h made due long config same now past w = record {
   inside = w.inside;
   reached = w.reached;
+  opened = subst (IsPending (take a.of h)) (sym same) w.opened;
   enough = omega (arith, w.enough, len);
   few = omega (arith, due, len);
   checkpoints = λ k d at. elim (get_cases a.checkpoints.items c k d (ap (λ l. slice_get l k) (sym made) ∙ at)) [
-    | inl old ↦ (let was = w.checkpoints k d old in record { reached = was.reached; shorter = was.shorter; crashed = was.crashed })
-    | inr last ↦ subst (IsCheckpoint (record a { checkpoints = v }) h (64 * k)) last.1 (subst (λ n. IsCheckpoint (record a { checkpoints = v }) h n c) (let e : a.of ≡ 64 * k = omega (arith, last.0, due, w.enough) in e) new)
+    | inl old ↦ (let was = w.checkpoints k d old in record { reached = was.reached; past = (past (64 * k) d.open was.past).0; shorter = was.shorter })
+    | inr last ↦ subst (IsCheckpoint b h (64 * k)) last.1 (subst (λ n. IsCheckpoint b h n c) (let e : a.of ≡ 64 * k = omega (arith, last.0, due, w.enough) in e) new)
   ];
-  rising = subst (AllPairs R) (sym made) (all_pairs_push R a.checkpoints.items c w.rising (λ k d inside.
+  rising = subst (AllPairs IsAhead) (sym made) (all_pairs_push IsAhead a.checkpoints.items c w.rising (λ k d inside.
       let was = w.checkpoints k (get_or a.checkpoints.items k d) (slice_get-get_or a.checkpoints.items k d inside) in
-      (omega (arith, was.shorter, long), omega (arith, was.crashed, crashed))));
+      (omega (arith, was.shorter, long), (past (64 * k) (get_or a.checkpoints.items k d).open was.past).1)));
 }
   where
-    R : Checkpoint → Checkpoint → Type 0
-    R c d = (c.length ≤ d.length) × (c.crashed ≤ d.crashed)
+    b : Witness
+    b = record a { checkpoints = v; opened = o }
 
     len : length v.items ≡ length a.checkpoints.items + 1
     len = let l = ap length made in omega (arith, l, length_push a.checkpoints.items c)
 
-    front : take c.crashed a.opened.crashed.items ≡ a.opened.crashed.items
-    front = take_all c.crashed a.opened.crashed.items (omega (arith, crashed))
-
-    new : IsCheckpoint (record a { checkpoints = v }) h a.of c
+    new : IsCheckpoint b h a.of c
     new = record {
-      reached = subst (λ d. IsReached a.object.kind h a.of (take c.length a.order.items) d (take c.crashed a.opened.crashed.items ++ c.live.items)) (sym config)
-          (reached_same a.object.kind a.object.kind h h a.of _ _ a.config _ _ refl refl w.reached.within (ap (λ n. take n a.order.items) (sym long))
-          (ap (λ l. l ++ a.opened.live.items) (sym front) ∙ ap (λ l. take c.crashed a.opened.crashed.items ++ l) (sym live)) w.reached);
+      reached = subst (IsReached a.object.kind h a.of (take c.length a.order.items)) (sym config)
+          (reached_same a.object.kind a.object.kind h h a.of _ _ a.config refl refl w.reached.within (ap (λ n. take n a.order.items) (sym long)) w.reached);
+      past = now w.opened;
       shorter = omega (arith, long);
-      crashed = omega (arith, crashed);
     }
 
 -- the same witness of events that agree with those of which it is an order
 pub alike : (a : Witness) (h edited : List Event) (place : ℕ) → a.of ≤ place → take place h ≡ take place edited → IsWitness a h → IsWitness a edited
 alike a h edited place below same w = record {
   inside = w.inside;
-  reached = reached_same a.object.kind a.object.kind h edited a.of _ _ a.config _ _ refl (take_alike a.of place h edited below same) (shorter a.of below w.reached.within) refl refl w.reached;
+  reached = reached_same a.object.kind a.object.kind h edited a.of _ _ a.config refl (take_alike a.of place h edited below same) (shorter a.of below w.reached.within) refl w.reached;
+  opened = subst (λ x. IsPending x (listed a.opened)) (take_alike a.of place h edited below same) w.opened;
   enough = w.enough;
   few = w.few;
   checkpoints = λ k c at.
       let was = w.checkpoints k c at in
       let at_k = slice_get_within a.checkpoints.items k c at in
       let before : 64 * k ≤ a.of = omega (arith, at_k, w.few) in
+      let begins = take_alike (64 * k) place h edited (omega (arith, before, below)) same in
       record {
-        reached = reached_same a.object.kind a.object.kind h edited (64 * k) _ _ c.config _ _ refl (take_alike (64 * k) place h edited (omega (arith, before, below)) same) (shorter (64 * k) (omega (arith, before, below)) was.reached.within) refl refl was.reached;
+        reached = reached_same a.object.kind a.object.kind h edited (64 * k) _ _ c.config refl begins (shorter (64 * k) (omega (arith, before, below)) was.reached.within) refl was.reached;
+        past = past_same a.opened h edited (64 * k) c.open begins was.past;
         shorter = was.shorter;
-        crashed = was.crashed;
       };
   rising = w.rising;
 }
@@ -199,32 +210,31 @@ alike a h edited place below same w = record {
 -- back at a checkpoint
 pub back : (a b : Witness) (number place : ℕ) (last : Checkpoint) (h edited : List Event) → 64 * number ≤ place → place < 64 * number + 64 → place < a.of → take place h ≡ take place edited
     → take (number + 1) a.checkpoints.items ≡ b.checkpoints.items ++ last ∷ [] → b.object ≡ a.object → b.order.items ≡ a.order.items → b.length ≡ last.length → b.config ≡ last.config
-    → b.opened.crashed.items ≡ take last.crashed a.opened.crashed.items → b.opened.live.items ≡ last.live.items → b.of ≡ 64 * number → IsWitness a h → IsWitness b edited
-back a b number place last h edited below near inside same cut object order long config crashed live of w = record {
+    → (IsPast a.opened h (64 * number) last.open → IsPending (take (64 * number) h) b.opened.operations.items)
+    → ((earlier : ℕ) (mark : OpenMark) → earlier ≤ 64 * number → IsEarlier mark last.open → IsPast a.opened h (64 * number) last.open → IsPast a.opened h earlier mark → IsPast b.opened h earlier mark)
+    → b.of ≡ 64 * number → IsWitness a h → IsWitness b edited
+back a b number place last h edited below near inside same cut object order long config now past of w = record {
   inside = let len = ap length order in omega (arith, len, long, at_last.shorter, w.inside);
-  reached = subst (λ n. IsReached b.object.kind edited n (order_in b) b.config (listed b.opened)) (sym of)
-      (subst (λ c. IsReached b.object.kind edited (64 * number) (order_in b) c (listed b.opened)) (sym config)
-      (reached_same a.object.kind b.object.kind h edited (64 * number) _ _ last.config _ _ (sym kinds) (take_alike (64 * number) place h edited below same) (shorter (64 * number) below at_last.reached.within)
-      (ap (λ n. take n a.order.items) (sym long) ∙ ap (λ l. take b.length l) (sym order)) (ap (λ l. l ++ last.live.items) (sym crashed) ∙ ap (λ l. b.opened.crashed.items ++ l) (sym live)) at_last.reached));
+  reached = subst (λ n. IsReached b.object.kind edited n (order_in b) b.config) (sym of)
+      (subst (IsReached b.object.kind edited (64 * number) (order_in b)) (sym config)
+      (reached_same a.object.kind b.object.kind h edited (64 * number) _ _ last.config (sym kinds) (take_alike (64 * number) place h edited below same) (shorter (64 * number) below at_last.reached.within)
+      (ap (λ n. take n a.order.items) (sym long) ∙ ap (λ l. take b.length l) (sym order)) at_last.reached));
+  opened = subst (λ n. IsPending (take n edited) (listed b.opened)) (sym of) (subst (λ l. IsPending l (listed b.opened)) (take_alike (64 * number) place h edited below same) (now at_last.past));
   enough = omega (arith, of, count);
   few = omega (arith, of, count);
   checkpoints = λ k c at.
       let was = w.checkpoints k c (old k c at) in
       let before : k < number = omega (arith, count, slice_get_within b.checkpoints.items k c at) in
-      let least = pairs_at R a.checkpoints.items w.rising k number c last before (old k c at) last_there in
+      let ahead = pairs_at IsAhead a.checkpoints.items w.rising k number c last before (old k c at) last_there in
+      let begins = take_alike (64 * k) place h edited (omega (arith, before, below)) same in
       record {
-        reached = reached_same a.object.kind b.object.kind h edited (64 * k) _ _ c.config _ _ (sym kinds) (take_alike (64 * k) place h edited (omega (arith, before, below)) same)
-            (shorter (64 * k) (omega (arith, before, below)) was.reached.within) (ap (λ l. take c.length l) (sym order))
-            (ap (λ l. l ++ c.live.items) (sym (ap (λ l. take c.crashed l) crashed ∙ take-take c.crashed last.crashed a.opened.crashed.items least.1))) was.reached;
-        shorter = omega (arith, least.0, long);
-        crashed = omega (arith, least.1, ap length crashed, length-take-le last.crashed a.opened.crashed.items at_last.crashed);
+        reached = reached_same a.object.kind b.object.kind h edited (64 * k) _ _ c.config (sym kinds) begins (shorter (64 * k) (omega (arith, before, below)) was.reached.within) (ap (λ l. take c.length l) (sym order)) was.reached;
+        past = past_same b.opened h edited (64 * k) c.open begins (past (64 * k) c.open (omega (arith, before)) ahead.1 at_last.past was.past);
+        shorter = omega (arith, ahead.0, long);
       };
-  rising = pairs_left R b.checkpoints.items (last ∷ []) (subst (AllPairs R) cut (pairs_take R (number + 1) a.checkpoints.items (omega (arith, fits)) w.rising));
+  rising = pairs_left IsAhead b.checkpoints.items (last ∷ []) (subst (AllPairs IsAhead) cut (pairs_take IsAhead (number + 1) a.checkpoints.items (omega (arith, fits)) w.rising));
 }
   where
-    R : Checkpoint → Checkpoint → Type 0
-    R c d = (c.length ≤ d.length) × (c.crashed ≤ d.crashed)
-
     kinds : b.object.kind ≡ a.object.kind
     kinds = ap (λ (o : Any). o.kind) object
 
@@ -255,12 +265,12 @@ begun w h law nothing length_is of config opened none = record {
     within = omega (arith, of);
     ends = subst (λ n. EndsIn (start w.object.kind) (Step w.object.kind) (take n h) (order_in w) w.config) (sym of) (subst (λ n. EndsIn (start w.object.kind) (Step w.object.kind) [] (take n w.order.items) w.config) (sym length_is)
         (subst (EndsIn (start w.object.kind) (Step w.object.kind) [] []) (sym config) law.0));
-    opened_are = subst (λ n. IsPending (take n h) (listed w.opened)) (sym of) (subst (IsPending []) (sym opened) nothing);
   };
+  opened = subst (λ n. IsPending (take n h) (listed w.opened)) (sym of) (subst (IsPending []) (sym opened) nothing);
   enough = omega (arith, of);
   few = let len = ap length none in omega (arith, of, len);
   checkpoints = λ k c at. absurd (no_checkpoint k c (ap (λ l. slice_get l k) (sym none) ∙ at));
-  rising = subst (AllPairs (λ (c : Checkpoint) (d : Checkpoint). (c.length ≤ d.length) × (c.crashed ≤ d.crashed))) (sym none) (λ i j d before within. absurd (omega (arith, within)));
+  rising = subst (AllPairs IsAhead) (sym none) (λ i j d before within. absurd (omega (arith, within)));
 }
   where
     no_checkpoint : (k : ℕ) (c : Checkpoint) → slice_get {X = Checkpoint} [] k ≡ Some c → ⊥
@@ -285,21 +295,21 @@ same_order a v u behind = record {
   more = omega arith;
   right = λ h w.
       let same = behind w.inside in
-      grown a (record a { order = v; hint = u }) h refl (omega arith) same.0 same.1 (take_all (length a.opened.crashed.items) a.opened.crashed.items (omega arith)) refl (omega arith) w.enough
-      (subst (λ o. IsReached a.object.kind h a.of o a.config (listed a.opened)) (sym same.1) w.reached) w;
+      grown a (record a { order = v; hint = u }) h refl (omega arith) same.0 same.1 (λ place mark below past. past) refl (omega arith) w.enough (subst (λ o. IsReached a.object.kind h a.of o a.config) (sym same.1) w.reached) w.opened w;
 }
 
 -- what is open may stand elsewhere
-pub reopened : (a : Witness) (o : Opened) (h : List Event) → listed o ≡ listed a.opened → take (length a.opened.crashed.items) o.crashed.items ≡ a.opened.crashed.items → IsWitness a h → IsWitness (record a { opened = o }) h
-reopened a o h same front w = grown a (record a { opened = o }) h refl (omega arith) w.inside refl front refl (omega arith) w.enough (subst (IsReached a.object.kind h a.of (order_in a) a.config) (sym same) w.reached) w
+pub reopened : (a : Witness) (o : OpenList) (h : List Event) → listed o ≡ listed a.opened → KeepsPast a.of h a.opened o → IsWitness a h → IsWitness (record a { opened = o }) h
+reopened a o h same past w = grown a (record a { opened = o }) h refl (omega arith) w.inside refl past refl (omega arith) w.enough w.reached (subst (IsPending (take a.of h)) (sym same) w.opened) w
 
 -- one event more, which leaves the order as it is
-pub went_on : (a : Witness) (o : Opened) (d : State × List (ℕ × Reply)) (more : ℕ) (h : List Event) (event : Event) → more ≡ a.of + 1 → IsEvent h a.of event → take (length a.opened.crashed.items) o.crashed.items ≡ a.opened.crashed.items
+pub went_on : (a : Witness) (o : OpenList) (d : State × List (ℕ × Reply)) (more : ℕ) (h : List Event) (event : Event) → more ≡ a.of + 1 → IsEvent h a.of event → KeepsPast a.of h a.opened o
     → a.of < 64 * length a.checkpoints.items → EndsIn (start a.object.kind) (Step a.object.kind) (with_event (take a.of h) event) (order_in a) d → IsPending (with_event (take a.of h) event) (listed o) → IsWitness a h
     → IsWitness (record a { of = more; config = d; opened = o }) h
-went_on a o d more h event next there front before ends pending w =
-    grown a (record a { of = more; config = d; opened = o }) h refl (omega arith) w.inside refl front refl (omega (arith, next)) (omega (arith, next, before))
-    (subst (λ n. IsReached a.object.kind h n (order_in a) d (listed o)) (sym next) (reached_next a.object.kind h a.of event (order_in a) d (listed o) there ends pending)) w
+went_on a o d more h event next there past before ends pending w =
+    grown a (record a { of = more; config = d; opened = o }) h refl (omega arith) w.inside refl past refl (omega (arith, next)) (omega (arith, next, before))
+    (subst (λ n. IsReached a.object.kind h n (order_in a) d) (sym next) (reached_next a.object.kind h a.of event (order_in a) d there ends))
+    (subst (λ n. IsPending (take n h) (listed o)) (sym next) (subst (λ l. IsPending l (listed o)) (sym (taken_next h a.of event there)) pending)) w
 
 pub ok_false : (b : Bool) → b ≡ false → ◌≡◌ {A = Result Bool OutOfMemory} (result.Ok b) (result.Ok true) → ⊥
 ok_false b e same = cc
@@ -316,7 +326,7 @@ same_checkpoints a v same =
       of = refl;
       opened = refl;
       more = omega (arith, count);
-      right = λ h w. grown a (record a { checkpoints = v }) h refl (omega arith) w.inside refl (take_all (length a.opened.crashed.items) a.opened.crashed.items (omega arith)) same (omega arith) (omega (arith, w.enough, count)) w.reached w;
+      right = λ h w. grown a (record a { checkpoints = v }) h refl (omega arith) w.inside refl (λ place mark below past. past) same (omega arith) (omega (arith, w.enough, count)) w.reached w.opened w;
     }
 
 -- something else is suggested

@@ -1,6 +1,6 @@
 -- A legal order of the first events of an object, which goes on event by event: each beginning of it that a checkpoint keeps is one of as many first
 -- events. Nothing is said of the operations behind it, nor of the hint: an operation of these is placed only by a step of the object.
-use Rattle.std.specs.Prelude.{◌≡◌, ◌+◌, ◌*◌, ◌≤◌, ◌++◌, ℕ, List, Some, AllPairs, length, take, slice_get}
+use Rattle.std.specs.Prelude.{◌≡◌, ◌+◌, ◌*◌, ◌≤◌, ℕ, List, Some, AllPairs, length, take, slice_get}
 use Rattle.lin_events.specs.declared.events.Body.{Body}
 use Rattle.lin_events.specs.declared.events.Body.TheVariants.{Invoke, Ok, Fail, Info}
 use Rattle.lin_events.specs.declared.events.Event.{Event}
@@ -13,40 +13,45 @@ use Rattle.lin_orders.specs.Configurations.{EndsIn}
 use Rattle.lin_frontier.specs.declared.pending.Open.{Open}
 use Rattle.lin_frontier.specs.Frontiers.{IsPending}
 use Rattle.lin_frontier.specs.Placing.{IsAbsent}
-use Rattle.lin_witness.specs.declared.opened.Opened.{Opened}
+use Rattle.lin_open.specs.declared.opens.OpenList.{OpenList}
+use Rattle.lin_open.specs.Opens.{IsEarlier, IsPast}
 use Rattle.lin_witness.specs.declared.witness.Checkpoint.{Checkpoint}
 use Rattle.lin_witness.specs.declared.witness.Back.{Back}
 use Rattle.lin_witness.specs.declared.witness.Back.TheVariants.{Near, Far}
 use Rattle.lin_witness.specs.declared.witness.Witness.{Witness}
 
--- the open operations: first those that crashed
-abbrev pub listed : Opened → List Open
-listed opened = opened.crashed.items ++ opened.live.items
+-- the open operations
+abbrev pub listed : OpenList → List Open
+listed opened = opened.operations.items
 
 -- the operations of the order: behind them may stand others
 abbrev pub order_in : Witness → List Placed
 order_in witness = take witness.length witness.order.items
 
--- the order is a legal one of the first `of` events, and ends in the configuration; and these operations are open then
-pub record IsReached (kind : Kind) (h : List Event) (of : ℕ) (order : List Placed) (config : State × List (ℕ × Reply)) (opened : List Open) : Type 0 where
+-- the order is a legal one of the first `of` events, and ends in the configuration
+pub record IsReached (kind : Kind) (h : List Event) (of : ℕ) (order : List Placed) (config : State × List (ℕ × Reply)) : Type 0 where
   pub within : of ≤ length h
   pub ends : EndsIn (start kind) (Step kind) (take of h) order config
-  pub opened_are : IsPending (take of h) opened
 
 -- the checkpoint is right for the first `place` events
 pub record IsCheckpoint (witness : Witness) (h : List Event) (place : ℕ) (checkpoint : Checkpoint) : Type 0 where
-  pub reached : IsReached witness.object.kind h place (take checkpoint.length witness.order.items) checkpoint.config (take checkpoint.crashed witness.opened.crashed.items ++ checkpoint.live.items)
+  pub reached : IsReached witness.object.kind h place (take checkpoint.length witness.order.items) checkpoint.config
+  pub past : IsPast witness.opened h place checkpoint.open
   pub shorter : checkpoint.length ≤ witness.length
-  pub crashed : checkpoint.crashed ≤ length witness.opened.crashed.items
+
+-- of two checkpoints the one ahead
+abbrev pub IsAhead : Checkpoint → Checkpoint → Type 0
+IsAhead first second = (first.length ≤ second.length) × IsEarlier first.open second.open
 
 -- the order is a witness of the first `of` events, and there is a checkpoint at each 64th place before the last of them
 pub record IsWitness (witness : Witness) (h : List Event) : Type 0 where
   pub inside : witness.length ≤ length witness.order.items
-  pub reached : IsReached witness.object.kind h witness.of (order_in witness) witness.config (listed witness.opened)
+  pub reached : IsReached witness.object.kind h witness.of (order_in witness) witness.config
+  pub opened : IsPending (take witness.of h) (listed witness.opened)
   pub enough : witness.of ≤ 64 * length witness.checkpoints.items
   pub few : 64 * length witness.checkpoints.items ≤ witness.of + 64
   pub checkpoints : (k : ℕ) (checkpoint : Checkpoint) → slice_get witness.checkpoints.items k ≡ Some checkpoint → IsCheckpoint witness h (64 * k) checkpoint
-  pub rising : AllPairs (λ c d. (c.length ≤ d.length) × (c.crashed ≤ d.crashed)) witness.checkpoints.items
+  pub rising : AllPairs IsAhead witness.checkpoints.items
 
 -- the same events, with more operations placed perhaps, or more checkpoints
 pub record IsLonger (old new : Witness) : Type 0 where

@@ -1,4 +1,2 @@
-pub mod Lists
-pub mod Listing
 pub mod Picks
 pub mod Legality

@@ -1,7 +1,6 @@
 //! A legal order of an object's events that goes on event by event, with checkpoints to go back to after an edit.
 #![tactic(auto)]
 
-mod opened;
 mod outcomes;
 mod retold;
 mod searching;

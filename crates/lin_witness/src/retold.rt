@@ -3,10 +3,10 @@
 ghost use Rattle.std.specs.Prelude.{◌≡◌, ◌≤◌, length};
 ghost use Rattle.lin_events.specs.Meters.{ticked};
 
-use crate::opened::Opened;
 use lin_events::{Body, Call, Event, Item, Meter, Name, OutOfMemory, Reply};
 use lin_frontier::{Config, Open, is_absent};
 use lin_objects::State;
+use lin_open::OpenList;
 use lin_orders::Placed;
 use lin_search::{bag_order, queue_order};
 use std::alloc::Global;
@@ -183,7 +183,7 @@ fn order_of(
 pub(crate) fn retold_hint(
     alloc: Global,
     config: &Config<State>,
-    opened: &Opened,
+    opened: &OpenList,
     rest: &[Event],
     of: usize,
     meter: &mut Meter,
@@ -197,8 +197,7 @@ pub(crate) fn retold_hint(
     };
     let mut retold = Retold::new(alloc);
     retold.put_in(items, meter)?;
-    retold.open(config, &opened.crashed, meter)?;
-    retold.open(config, &opened.live, meter)?;
+    retold.open(config, opened.as_slice(), meter)?;
     if !retold.follow(alloc, config, rest, of, meter)? {
         return Ok(None);
     }

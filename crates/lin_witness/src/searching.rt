@@ -2,11 +2,11 @@
 ghost use Rattle.std.specs.Prelude.{◌≡◌, ◌≤◌, ◌<◌, ◌+◌, ◌-◌, OnOk, length};
 ghost use Rattle.lin_events.specs.Meters.{ticked};
 
-use crate::opened::Opened;
 use crate::retold::retold_hint;
 use lin_events::{Event, Meter, OutOfMemory, Reply, Val};
 use lin_frontier::{Config, Open};
 use lin_objects::State;
+use lin_open::OpenList;
 use lin_orders::Placed;
 use lin_registers::{Waiting, register_order_from};
 use std::alloc::Global;
@@ -16,7 +16,7 @@ use std::alloc::Global;
 pub(crate) fn suggested(
     alloc: Global,
     config: &Config<State>,
-    opened: &Opened,
+    opened: &OpenList,
     events: &[Event],
     picks: &[usize],
     of: usize,
@@ -40,7 +40,7 @@ fn register_hint(
     alloc: Global,
     held: Val,
     config: &Config<State>,
-    opened: &Opened,
+    opened: &OpenList,
     rest: &[Event],
     of: usize,
     meter: &mut Meter,
@@ -93,11 +93,10 @@ fn append_at(
 fn waiting(
     alloc: Global,
     config: &Config<State>,
-    opened: &Opened,
+    opened: &OpenList,
 ) -> Result<Vec<Waiting>, OutOfMemory> {
     let mut all = Vec::with_capacity(alloc, opened.len())?;
-    append_waiting(alloc, &mut all, config, &opened.crashed)?;
-    append_waiting(alloc, &mut all, config, &opened.live)?;
+    append_waiting(alloc, &mut all, config, opened.as_slice())?;
     Ok(all)
 }
 
@@ -137,7 +136,7 @@ fn reply_of(
 fn turned(
     alloc: Global,
     order: Vec<Placed>,
-    opened: &Opened,
+    opened: &OpenList,
     of: usize,
 ) -> Result<Vec<Placed>, OutOfMemory> {
     let mut order = order;
@@ -152,7 +151,7 @@ fn turned(
 }
 
 /// Where the operation with the number was invoked.
-fn place_of(opened: &Opened, of: usize, number: usize) -> usize {
+fn place_of(opened: &OpenList, of: usize, number: usize) -> usize {
     match opened.get(number) {
         Some(operation) => operation.at,
         None => of.saturating_add(number.saturating_sub(opened.len())),

@@ -27,15 +27,14 @@ ghost use Rattle.lin_frontier.specs.Placing.{IsAbsent, PlacesOne};
 ghost use Rattle.lin_frontier.specs.Walks.{IsTriedAtMost};
 ghost use Rattle.lin_witness.specs.Witnesses.{IsLonger, IsPassed, IsWitness, listed, order_in, quarters};
 
-use crate::opened::Opened;
 use crate::outcomes::{outcome, outcome_behind};
 use crate::searching::{suggested, tick};
 use lin_events::{Body, Event, Meter, OutOfMemory, Reply, beginnings_are_well_formed};
 use lin_frontier::{
-    Config, Open, Spare, append_operations, copy_config, copy_without, is_absent, is_placed,
-    nothing_is_open_at_first,
+    Config, Open, Spare, copy_config, copy_without, is_absent, is_placed, nothing_is_open_at_first,
 };
 use lin_objects::{Any, Kind, SeqObject, State};
+use lin_open::{OpenList, OpenMark};
 use lin_orders::{Placed, configurations_after_events, configurations_at_start, placing_is_legal};
 use std::alloc::Global;
 
@@ -67,10 +66,8 @@ pub(crate) struct Checkpoint {
     length: usize,
     /// The configuration in which it ends.
     config: Config<State>,
-    /// How many operations had crashed.
-    crashed: usize,
-    /// The open operations that had not crashed.
-    live: Vec<Open>,
+    /// What was open.
+    open: OpenMark,
     /// How much this and the checkpoints before it hold.
     weight: usize,
 }
@@ -93,7 +90,7 @@ pub struct Witness {
     /// The configuration in which it ends: the object's state, and the open operations that it places.
     config: Config<State>,
     /// What is open after these events.
-    opened: Opened,
+    opened: OpenList,
     checkpoints: Vec<Checkpoint>,
     /// Operations that are suggested next, the first one last.
     hint: Vec<Placed>,
@@ -116,7 +113,7 @@ impl Witness {
             length: 0,
             of: 0,
             config: Config::new(object.start(alloc)),
-            opened: Opened::new(alloc),
+            opened: OpenList::new(alloc),
             checkpoints: Vec::new(alloc),
             hint: Vec::new(alloc),
         }
@@ -155,8 +152,7 @@ impl Witness {
         if let Some(last) = self.checkpoints.pop() {
             self.length = last.length;
             self.config = last.config;
-            self.opened.crashed.truncate(last.crashed);
-            self.opened.live = last.live;
+            self.opened.cut(self.of, last.open);
         }
     }
 
@@ -399,7 +395,6 @@ impl Witness {
         before
             .saturating_add(items_in(self.config.state()))
             .saturating_add(placed)
-            .saturating_add(self.opened.live.len())
     }
 
     /// Makes a checkpoint.
@@ -409,13 +404,10 @@ impl Witness {
         ensures one { OnOk result (length self.new.checkpoints.items ≡ length self.old.checkpoints.items + 1) }
     {
         let config = copy_config(&self.object, self.alloc, &self.config)?;
-        let mut live = Vec::new(self.alloc);
-        append_operations(&mut live, &self.opened.live)?;
         self.checkpoints.push(Checkpoint {
             length: self.length,
             config,
-            crashed: self.opened.crashed.len(),
-            live,
+            open: self.opened.mark(self.of),
             weight,
         })?;
         Ok(())
@@ -432,7 +424,8 @@ impl Witness {
     {
         beginnings_are_well_formed();
         configurations_after_events(&self.object);
-        if !self.opened.take_in(self.of, event)? {
+        self.opened.reserve()?;
+        if !self.opened.take_in(self.of, event) {
             return Ok(false);
         }
         self.of += 1;
@@ -459,7 +452,8 @@ impl Witness {
             event.process,
             &mut spare,
         )?;
-        if !self.opened.take_in(self.of, event)? {
+        self.opened.reserve()?;
+        if !self.opened.take_in(self.of, event) {
             return Ok(false);
         }
         self.config = config;

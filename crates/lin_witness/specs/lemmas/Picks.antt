@@ -1,5 +1,5 @@
 -- Events that are read through picks.
-use Rattle.std.proofs.Common.{◌≡◌, ◌<◌, ℕ, zero, suc, List, [], ◌∷◌, length, Some, refl, sym, ap, ◌∙◌, arith, get_or, slice_get, All}
+use Rattle.std.proofs.Common.{◌≡◌, ◌<◌, ℕ, zero, suc, List, [], ◌∷◌, length, take, Some, refl, sym, ap, ◌∙◌, arith, get_or, slice_get, All}
 use Rattle.std.specs.List.{cons_option}
 use Rattle.std.proofs.lemmas.List.Elements.{All-tail, All-head}
 use Rattle.std.proofs.lemmas.Option.{slice_get-get_or, slice_get_read}
@@ -22,6 +22,16 @@ length-events_at h (at ∷ picks) inside =
     let first = All-head (λ n. n < length h) at picks inside in
     let rest = length-events_at h picks (All-tail (λ n. n < length h) at picks inside) in
     ap length (picked h at picks first) ∙ ap (λ n. suc n) rest
+
+-- those at the first picks are the first ones
+pub events_take : (h : List Event) (picks : List ℕ) (n : ℕ) → All (λ at. at < length h) picks → events_at h (take n picks) ≡ take n (events_at h picks)
+events_take h [] zero inside = refl
+events_take h [] (suc n) inside = refl
+events_take h (at ∷ picks) zero inside = refl
+events_take h (at ∷ picks) (suc n) inside =
+    let first = All-head (λ m. m < length h) at picks inside in
+    let rest = events_take h picks n (All-tail (λ m. m < length h) at picks inside) in
+    picked h at (take n picks) first ∙ ap (λ l. (there_is h at first).0 ∷ l) rest ∙ sym (ap (take (suc n)) (picked h at picks first))
 
 pub event_picked : (h : List Event) (picks : List ℕ) (k at : ℕ) → All (λ n. n < length h) picks → slice_get picks k ≡ Some at → slice_get (events_at h picks) k ≡ slice_get h at
 event_picked h [] k at inside there = cc

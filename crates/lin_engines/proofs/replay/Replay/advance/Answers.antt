@@ -11,16 +11,16 @@ use Rattle.lin_orders.specs.Configurations.{IsOver}
 use Rattle.lin_engines.specs.Replays.{IsCurrent, IsKnown, IsPrepared, IsReplay}
 use Rattle.lin_orders.specs.Linearizable.{IsLinearizableAs}
 use Rattle.lin_engines.specs.lemmas.Events.{event_taken, next_event}
-use Rattle.lin_engines.proofs.Replaying.{replay_advanced, replay_renamed}
+use Rattle.lin_engines.proofs.Replaying.{known_current, replay_advanced, replay_renamed}
 use Rattle.lin_engines.proofs.replay.Replay.advance.Goals as goal
 use Rattle.lin_engines.proofs.replay.Replay.advance.Goals.{In_ok-step}
 
-known : (c : In_ok-step) (h : List Event) → IsPrepared c.args.self.now h → IsKnown c.args.self.now.object.kind (take c.args.self.now.reached h) c.in-Some.frontier.now c.args.self.now.nodes c.args.self.now.pending.operations.items
-known c h prepared = prepared.known c.in-Some.frontier.now (subst (λ l. IsCurrent c.args.self.now.present l c.in-Some.frontier.now) c.deref.ensures.value c.in-Some.ensures.some)
+known : (c : In_ok-step) (h : List Event) → IsPrepared c.args.self.now h → IsKnown c.args.self.now.object.kind (take c.args.self.now.reached h) c.in-Some.frontier.now c.args.self.now.nodes
+known c h prepared = known_current c.args.self.now h prepared.right c.in-Some.frontier.now (subst (λ l. IsCurrent c.args.self.now.present l c.in-Some.frontier.now) c.deref.ensures.value c.in-Some.ensures.some)
 
 next : (c : In_ok-step) (functions : Item → Name → Bool) (h : List Event) → IsWellFormed functions h → IsEvent h c.args.self.now.reached c.args.event.now → IsPrepared c.args.self.now h
     → IsNextEvent functions (take c.args.self.now.reached h) c.args.self.now.pending.operations.items c.args.self.now.reached c.args.event.now
-next c functions h well there prepared = next_event c.beginnings_are_well_formed.ensures functions h c.args.self.now.reached c.args.event.now c.args.self.now.pending.operations.items well there (known c h prepared).opened
+next c functions h well there prepared = next_event c.beginnings_are_well_formed.ensures functions h c.args.self.now.reached c.args.event.now c.args.self.now.pending.operations.items well there prepared.right.opened
 
 -- the same, of the slice that was passed on
 passed : (c : In_ok-step) (functions : Item → Name → Bool) (h : List Event) → IsWellFormed functions h → IsEvent h c.args.self.now.reached c.args.event.now → IsPrepared c.args.self.now h
@@ -34,7 +34,7 @@ returns-in-Next-clause-right c = λ functions h well there prepared.
     let cover = c.in_ok-step.ensures.next c.in-Next.next c.in-Next.is functions before (passed (goal.at.returns-in-Next-clause-right c).In_ok-step functions h well there prepared) (known (goal.at.returns-in-Next-clause-right c).In_ok-step h prepared).compressed in
     subst (λ (r : Replay). IsReplay (record r { reached = r.reached + 1 }) h) (sym c.put.ensures)
     (replay_advanced self c.in-Next.next c.take_in.new.self c.advance.new.nodes h c.args.event.now prepared there cover (c.in_ok-step.ensures.some c.in-Next.next c.in-Next.is)
-    (c.take_in.ensures.open functions before (next (goal.at.returns-in-Next-clause-right c).In_ok-step functions h well there prepared)) c.advance.ensures.grown c.take_in.ensures.more c.take_in.ensures.front)
+    (c.take_in.ensures.open functions before (next (goal.at.returns-in-Next-clause-right c).In_ok-step functions h well there prepared)) c.advance.ensures.grown (λ place mark below past. c.take_in.ensures.past h place mark below past))
 
 pub returns-in-Empty-clause-empty : goal.returns-in-Empty-clause-empty
 returns-in-Empty-clause-empty c = λ _ functions h well there prepared lin.
@@ -75,4 +75,4 @@ returns-in_ok-stay-in-Same-clause-right c = λ functions h well there prepared.
     let held = c.in_ok-stay-in-Same.ensures.held frontier current in
     subst (λ (r : Replay). IsReplay r h) (sym (is ∙ ap (λ p. record self { reached = self.reached + 1; present = p; pending = c.stay.new.self.pending; nodes = c.advance.new.nodes }) held))
     (replay_advanced self frontier c.stay.new.self.pending c.advance.new.nodes h c.args.event.now prepared there compressed k.some
-    (c.in_ok-stay-in-Same.ensures.open functions (take self.reached h) (next at functions h well there prepared)) c.advance.ensures.grown c.in_ok-stay-in-Same.ensures.more c.in_ok-stay-in-Same.ensures.front)
+    (c.in_ok-stay-in-Same.ensures.open functions (take self.reached h) (next at functions h well there prepared)) c.advance.ensures.grown (c.in_ok-stay-in-Same.ensures.past h))

@@ -1,5 +1,4 @@
-use Rattle.std.proofs.Common.{◌≡◌, ◌*◌, ◌<◌, ◌++◌, ◌∷◌, ◌∙◌, [], ap, sym, subst, refl, length, take, drop}
-use Rattle.std.proofs.lemmas.List.{take-append-drop}
+use Rattle.std.proofs.Common.{◌≡◌, ◌*◌, ◌<◌, ◌++◌, ◌∷◌, ◌∙◌, [], ap, sym, subst, refl, length}
 use Rattle.lin_engines.specs.declared.replay.Checkpoint.{Checkpoint}
 use Rattle.lin_engines.proofs.Replaying.{replay_moved, replay_marked, replay_presents, before_last}
 use Rattle.lin_engines.proofs.replay.Replay.keep.Goals as goal
@@ -7,17 +6,12 @@ use Rattle.lin_engines.proofs.replay.Replay.keep.Goals as goal
 pub returns-then-is_err-clause-right : goal.returns-then-is_err-clause-right
 returns-then-is_err-clause-right c = λ h right. replay_moved c.args.self.now c.reserve.new.self h c.reserve.ensures.items right
 
-pub returns-in_err-append_operations-clause-right : goal.returns-in_err-append_operations-clause-right
-returns-in_err-append_operations-clause-right c = λ h right. replay_moved c.args.self.now c.reserve.new.self h c.reserve.ensures.items right
-
 pub returns-in-Some-clause-right : goal.returns-in-Some-clause-right
 returns-in-Some-clause-right c = λ h right.
     let self = c.args.self.now in
-    let checkpoint : Checkpoint = record { frontier = c.in-Some.frontier; nodes = c.len.result; crashed = c.crashed.result; live = c.append_operations.new.operations } in
-    let live : c.append_operations.new.operations.items ≡ drop self.pending.crashed self.pending.operations.items = c.in_ok-append_operations.ensures.all ∙ ap (λ l. l ++ c.live.result.now) c.new-live.ensures.items ∙ c.live.ensures in
-    replay_marked self c.push_reserved.new.self c.take.new.self c.in-Some.frontier checkpoint h c.take.ensures.after (sym c.take.ensures.value ∙ c.in-Some.is) c.requires
-    (c.push_reserved.ensures.items ∙ ap (λ l. l ++ checkpoint ∷ []) c.reserve.ensures.items) refl c.len.ensures c.crashed.ensures
-    (ap (λ n. take n self.pending.operations.items ++ c.append_operations.new.operations.items) c.crashed.ensures ∙ ap (λ l. take self.pending.crashed self.pending.operations.items ++ l) live ∙ take-append-drop self.pending.crashed self.pending.operations.items) right
+    let checkpoint : Checkpoint = record { frontier = c.in-Some.frontier; nodes = c.len.result; open = c.mark.result } in
+    replay_marked self c.push_reserved.new.self c.take.new.self c.mark.new.self c.in-Some.frontier checkpoint h c.take.ensures.after (sym c.take.ensures.value ∙ c.in-Some.is) c.requires
+    (c.push_reserved.ensures.items ∙ ap (λ l. l ++ checkpoint ∷ []) c.reserve.ensures.items) refl c.len.ensures c.mark.ensures.operations (c.mark.ensures.now h) (λ place mark past. c.mark.ensures.past h place mark past) right
 
 pub returns-in_default-clause-right : goal.returns-in_default-clause-right
 returns-in_default-clause-right c = λ h right.

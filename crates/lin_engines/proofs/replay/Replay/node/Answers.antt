@@ -14,11 +14,11 @@ pub returns-in-Some-get : goal.returns-in-Some-get
 returns-in-Some-get c = λ h right.
     let self = c.args.self.now in
     let known = known_current self h right c.in-Some.frontier.now (subst (λ l. IsCurrent self.present l c.in-Some.frontier.now) c.deref.ensures.value c.in-Some.ensures.some) in
-    member_order (λ kind. c.members_spell_legal_orders.ensures (record { kind = kind })) self.object.kind (take self.reached h) c.in-Some.frontier.now self.nodes known.0 known.1 c.path.result.node 0
+    member_order (λ kind. c.members_spell_legal_orders.ensures (record { kind = kind })) self.object.kind (take self.reached h) c.in-Some.frontier.now self.nodes known c.path.result.node 0
     (c.in-Some-get.member.now, c.in-Some-get.ensures.found, sym (ap (λ (k : Path). k.node) c.path.ensures))
 
 pub returns-in-None : goal.returns-in-None
 returns-in-None c = λ h right.
     let self = c.args.self.now in
     let known = known_current self h right c.in-Some.frontier.now (subst (λ l. IsCurrent self.present l c.in-Some.frontier.now) c.deref.ensures.value c.in-Some.ensures.some) in
-    absurd (omega (arith, known.1.some, c.in-None.ensures.past))
+    absurd (omega (arith, known.some, c.in-None.ensures.past))

@@ -1,4 +1,6 @@
-use Rattle.std.proofs.Common.{◌*◌, ◌/◌, refl, sym, ◌∙◌, arith}
+use Rattle.std.proofs.Common.{◌≡◌, ◌*◌, ◌/◌, refl, sym, subst, ◌∙◌, arith, take}
+use Rattle.lin_frontier.specs.Frontiers.{IsPending}
+use Rattle.lin_open.specs.Opens.{IsPast}
 use Rattle.lin_witness.specs.declared.witness.Witness.{Witness}
 use Rattle.lin_witness.proofs.Growing.{alike, back}
 use Rattle.lin_witness.proofs.witness.Witness.cut.Goals as goal
@@ -11,6 +13,9 @@ returns-in-Some-clause-right c = λ h edited w same.
     let a = c.args.self.now in
     let last = c.in-Some.last in
     let place = c.args.place in
-    let b : Witness = record a { length = last.length; of = place / 64 * 64; config = last.config; opened = record { crashed = c.truncate-in-Some.new.self; live = last.live }; checkpoints = c.pop.new.self } in
-    back a b (place / 64) place last h edited (omega arith) (omega arith) (omega (arith, c.if-self-place.false)) same (sym c.truncate.ensures.items ∙ c.in-Some.ensures.items) refl refl refl refl c.truncate-in-Some.ensures.items refl
+    let number : place / 64 * 64 ≡ 64 * (place / 64) = omega arith in
+    let b : Witness = record a { length = last.length; of = place / 64 * 64; config = last.config; opened = c.cut.new.self; checkpoints = c.pop.new.self } in
+    back a b (place / 64) place last h edited (omega arith) (omega arith) (omega (arith, c.if-self-place.false)) same (sym c.truncate.ensures.items ∙ c.in-Some.ensures.items) refl refl refl refl
+    (λ past. subst (λ n. IsPending (take n h) c.cut.new.self.operations.items) number (c.cut.ensures.now h (subst (λ n. IsPast a.opened h n last.open) (sym number) past)))
+    (λ earlier mark below ahead past was. c.cut.ensures.past h earlier mark (omega (arith, below)) ahead (subst (λ n. IsPast a.opened h n last.open) (sym number) past) was)
     (omega arith) w

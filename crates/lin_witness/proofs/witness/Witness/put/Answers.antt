@@ -31,7 +31,7 @@ returns-clause-longer c =
           let all : order_in b ≡ take a.length a.order.items ++ c.args.placed ∷ [] = take_all c.len-self.result c.push.new.self.items (omega (arith, whole)) ∙ items in
           grown a b h refl (omega (arith, whole, size, long)) (omega (arith, whole))
           (ap (λ l. take a.length l) items ∙ take-append-le a.length (take a.length a.order.items) (c.args.placed ∷ []) (omega (arith, long)) ∙ take-take a.length a.length a.order.items (omega arith))
-          (take_all (length a.opened.crashed.items) a.opened.crashed.items (omega arith)) refl (omega arith) w.enough
-          (subst (λ l. IsReached a.object.kind h a.of l c.args.next (listed a.opened)) (sym all)
-          (placed_last a.object.kind c.placing_is_legal.ensures h a.of (take a.length a.order.items) a.config c.args.next (listed a.opened) c.requires.placed.0 c.args.placed c.requires.placed.1 c.requires.placed.2 w.reached)) w;
+          (λ place mark below past. past) refl (omega arith) w.enough
+          (subst (λ l. IsReached a.object.kind h a.of l c.args.next) (sym all)
+          (placed_last a.object.kind c.placing_is_legal.ensures h a.of (take a.length a.order.items) a.config c.args.next (listed a.opened) c.requires.placed.0 c.args.placed c.requires.placed.1 c.requires.placed.2 w.opened w.reached)) w.opened w;
     }

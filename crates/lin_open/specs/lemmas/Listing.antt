@@ -19,7 +19,7 @@ use Rattle.lin_orders.specs.lemmas.Opening.{crashed_kept, open_kept, no_end_of_l
 use Rattle.lin_frontier.specs.declared.pending.Open.{Open}
 use Rattle.lin_frontier.specs.Frontiers.{IsNextEvent, IsPending}
 use Rattle.lin_lists.specs.lemmas.Lists.{get_left, get_cases, get_last}
-use Rattle.lin_witness.specs.lemmas.Lists.{get_remove_cases, get_removed, get_moved_cases, get_moved, get_moved_new, one_there, contains_from_get, get_from_contains, places_from_pairs, pairs_from_places}
+use Rattle.lin_open.specs.lemmas.Lists.{get_remove_cases, get_removed, get_moved_cases, get_moved, get_moved_new, one_there, contains_from_get, get_from_contains, places_from_pairs, pairs_from_places}
 
 -- exactly the open operations, told by their places in the list
 record IsListed (h : List Event) (xs : List Open) : Type 0 where

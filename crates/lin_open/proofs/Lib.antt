@@ -1,0 +1,3 @@
+pub mod Freshening
+pub mod Marks
+pub mod Holding
