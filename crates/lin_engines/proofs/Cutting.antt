@@ -18,7 +18,7 @@ replay_alike r h edited local below same right = record {
       let was = right.checkpoints k c at in
       let inside = slice_get_within r.checkpoints.items k c at in
       let begins = take_alike (64 * k) local h edited (omega (arith, inside, right.few)) same in
-      checkpoint_kept r r h edited (64 * k) c refl begins refl was.nodes (past_same r.pending h edited (64 * k) c.open begins was.past) was;
+      checkpoint_kept r r h edited (64 * k) c refl begins refl was.nodes (past_same r.pending h edited (64 * k) c.opened begins was.past) was;
   rising = right.rising;
   opened = subst (λ l. IsPending l r.pending.operations.items) (take_alike r.reached local h edited below same) right.opened;
   present = λ f is. known_same r.object.kind _ _ f _ _ (take_alike r.reached local h edited below same) refl (right.present f is);

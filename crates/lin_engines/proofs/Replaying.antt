@@ -74,7 +74,7 @@ past_same list h g place mark events past = record {
 
 -- a checkpoint stays right where what it stands on stays
 pub checkpoint_kept : (a b : Replay) (h g : List Event) (place : ℕ) (c : Checkpoint) → a.object.kind ≡ b.object.kind → take place h ≡ take place g
-    → take c.nodes a.nodes ≡ take c.nodes b.nodes → c.nodes ≤ length b.nodes → IsPast b.pending g place c.open → IsCheckpoint a h place c → IsCheckpoint b g place c
+    → take c.nodes a.nodes ≡ take c.nodes b.nodes → c.nodes ≤ length b.nodes → IsPast b.pending g place c.opened → IsCheckpoint a h place c → IsCheckpoint b g place c
 checkpoint_kept a b h g place c kind events nodes fits past was = record {
   known = subst (λ k. IsKnown k (take place g) c.frontier (take c.nodes b.nodes)) kind (known_same a.object.kind _ _ c.frontier _ _ events nodes was.known);
   past = past;
@@ -102,7 +102,7 @@ replay_held a pending h same past right = record {
   checkpoints = λ k c at.
       let was = right.checkpoints k c at in
       let inside = slice_get_within a.checkpoints.items k c at in
-      checkpoint_kept a (record a { pending = pending }) h h (64 * k) c refl refl refl was.nodes (past (64 * k) c.open (omega (arith, inside, right.few)) was.past) was;
+      checkpoint_kept a (record a { pending = pending }) h h (64 * k) c refl refl refl was.nodes (past (64 * k) c.opened (omega (arith, inside, right.few)) was.past) was;
   rising = right.rising;
   opened = subst (IsPending (take a.reached h)) (sym same) right.opened;
   present = right.present;
@@ -115,7 +115,7 @@ replay_renamed a nodes h same right = subst (λ n. IsReplay (record a { nodes = 
 
 -- the first checkpoint
 pub replay_begun : (a : Replay) (v : Vec Checkpoint Global) (pending : OpenList) (c : Checkpoint) (h : List Event) → a.checkpoints.items ≡ [] → v.items ≡ c ∷ [] → c.nodes ≡ length a.nodes
-    → pending.operations.items ≡ a.pending.operations.items → (IsPending (take 0 h) a.pending.operations.items → IsPast pending h 0 c.open)
+    → pending.operations.items ≡ a.pending.operations.items → (IsPending (take 0 h) a.pending.operations.items → IsPast pending h 0 c.opened)
     → IsCompressed (start a.object.kind) (Step a.object.kind) (observes a.object.kind) (overwrites a.object.kind) [] c.frontier a.nodes → length c.frontier ≡ 1
     → IsReplay a h → (IsReplay (record a { checkpoints = v; pending = pending }) h) × (a.reached < 64 * length v.items)
 replay_begun a v pending c h none one nodes same now cover some right = (
@@ -163,19 +163,19 @@ replay_begun a v pending c h none one nodes same now cover some right = (
 -- a checkpoint of the present frontier
 marked : (a : Replay) (v : Vec Checkpoint Global) (pending : OpenList) (frontier : Members) (c : Checkpoint) (h : List Event) → a.present ≡ Some frontier → 64 * length a.checkpoints.items ≤ a.reached
     → v.items ≡ a.checkpoints.items ++ c ∷ [] → c.frontier ≡ frontier → c.nodes ≡ length a.nodes → pending.operations.items ≡ a.pending.operations.items
-    → (IsPending (take a.reached h) a.pending.operations.items → IsPast pending h a.reached c.open) → ((place : ℕ) (mark : OpenMark) → IsPast a.pending h place mark → IsPast pending h place mark × IsEarlier mark c.open)
+    → (IsPending (take a.reached h) a.pending.operations.items → IsPast pending h a.reached c.opened) → ((place : ℕ) (mark : OpenMark) → IsPast a.pending h place mark → IsPast pending h place mark × IsEarlier mark c.opened)
     → IsReplay a h → IsReplay (record a { checkpoints = v; present = None; pending = pending }) h
 marked a v pending frontier c h is due made same nodes as_it_was now past right = record {
   within = right.within;
   enough = omega (arith, right.enough, len);
   few = omega (arith, right.enough, due, len);
   checkpoints = λ k d there. elim (get_cases a.checkpoints.items c k d (ap (λ l. slice_get l k) (sym made) ∙ there)) [
-    | inl old ↦ (let was = right.checkpoints k d old in checkpoint_kept a b h h (64 * k) d refl refl refl was.nodes (past (64 * k) d.open was.past).0 was)
+    | inl old ↦ (let was = right.checkpoints k d old in checkpoint_kept a b h h (64 * k) d refl refl refl was.nodes (past (64 * k) d.opened was.past).0 was)
     | inr new ↦ subst (IsCheckpoint b h (64 * k)) new.1 (here k new.0)
   ];
   rising = subst (AllPairs IsAhead) (sym made) (all_pairs_push IsAhead a.checkpoints.items c right.rising (λ k d inside.
       let was = right.checkpoints k (get_or a.checkpoints.items k d) (slice_get-get_or a.checkpoints.items k d inside) in
-      (omega (arith, was.nodes, nodes), (past (64 * k) (get_or a.checkpoints.items k d).open was.past).1)));
+      (omega (arith, was.nodes, nodes), (past (64 * k) (get_or a.checkpoints.items k d).opened was.past).1)));
   opened = subst (IsPending (take a.reached h)) (sym as_it_was) right.opened;
   present = λ f e. absurd (none f e);
   last = λ _ k d there end. elim (get_cases a.checkpoints.items c k d (ap (λ l. slice_get l k) (sym made) ∙ there)) [
@@ -200,13 +200,13 @@ marked a v pending frontier c h is due made same nodes as_it_was now past right 
     here k e = record {
       known = known_same a.object.kind _ _ c.frontier _ _ (ap (λ n. take n h) (sym (place k e))) (sym (ap (λ n. take n a.nodes) nodes ∙ take_all (length a.nodes) a.nodes (omega arith)))
           (subst (λ f. IsKnown a.object.kind (take a.reached h) f a.nodes) (sym same) (right.present frontier is));
-      past = subst (λ n. IsPast pending h n c.open) (sym (place k e)) (now right.opened);
+      past = subst (λ n. IsPast pending h n c.opened) (sym (place k e)) (now right.opened);
       nodes = omega (arith, nodes);
     }
 
 pub replay_marked : (a : Replay) (v : Vec Checkpoint Global) (left : Option Members) (pending : OpenList) (frontier : Members) (c : Checkpoint) (h : List Event) → left ≡ None → a.present ≡ Some frontier → 64 * length a.checkpoints.items ≤ a.reached
     → v.items ≡ a.checkpoints.items ++ c ∷ [] → c.frontier ≡ frontier → c.nodes ≡ length a.nodes → pending.operations.items ≡ a.pending.operations.items
-    → (IsPending (take a.reached h) a.pending.operations.items → IsPast pending h a.reached c.open) → ((place : ℕ) (mark : OpenMark) → IsPast a.pending h place mark → IsPast pending h place mark × IsEarlier mark c.open)
+    → (IsPending (take a.reached h) a.pending.operations.items → IsPast pending h a.reached c.opened) → ((place : ℕ) (mark : OpenMark) → IsPast a.pending h place mark → IsPast pending h place mark × IsEarlier mark c.opened)
     → IsReplay a h → IsReplay (record a { checkpoints = v; present = left; pending = pending }) h
 replay_marked a v left pending frontier c h none is due made same nodes as_it_was now past right =
     subst (λ p. IsReplay (record a { checkpoints = v; present = p; pending = pending }) h) (sym none) (marked a v pending frontier c h is due made same nodes as_it_was now past right)
@@ -249,7 +249,7 @@ replay_advanced a next pending nodes h event prepared there cover some opened gr
   checkpoints = λ k c at.
       let was = right.checkpoints k c at in
       let inside = slice_get_within a.checkpoints.items k c at in
-      checkpoint_kept a b h h (64 * k) c refl refl (take_grown c.nodes a.nodes nodes grown.0 was.nodes grown.1) (longer c.nodes was.nodes) (past (64 * k) c.open (omega (arith, inside, right.few)) was.past) was;
+      checkpoint_kept a b h h (64 * k) c refl refl (take_grown c.nodes a.nodes nodes grown.0 was.nodes grown.1) (longer c.nodes was.nodes) (past (64 * k) c.opened (omega (arith, inside, right.few)) was.past) was;
   rising = right.rising;
   opened = subst (λ l. IsPending l pending.operations.items) (sym (event_taken h a.reached event there)) opened;
   present = λ f is. subst (λ g. IsKnown a.object.kind (take (a.reached + 1) h) g nodes) (some_same next f is) (subst (λ l. IsKnown a.object.kind l next nodes) (sym (event_taken h a.reached event there)) (record { compressed = cover; some = some }));
@@ -276,8 +276,8 @@ replay_advanced a next pending nodes h event prepared there cover some opened gr
 -- back at a checkpoint
 pub replay_back : (a : Replay) (v : Vec Checkpoint Global) (number place : ℕ) (last : Checkpoint) (nodes : Links) (pending : OpenList) (h edited : List Event) → IsReplay a h → number < length a.checkpoints.items
     → take (64 * number) h ≡ take (64 * number) edited → v.items ≡ take (number + 1) a.checkpoints.items → slice_get v.items (length v.items - 1) ≡ Some last → nodes ≡ take last.nodes a.nodes
-    → (IsPast a.pending h place last.open → IsPending (take place h) pending.operations.items)
-    → ((earlier : ℕ) (mark : OpenMark) → earlier ≤ place → IsEarlier mark last.open → IsPast a.pending h place last.open → IsPast a.pending h earlier mark → IsPast pending h earlier mark) → place ≡ 64 * number
+    → (IsPast a.pending h place last.opened → IsPending (take place h) pending.operations.items)
+    → ((earlier : ℕ) (mark : OpenMark) → earlier ≤ place → IsEarlier mark last.opened → IsPast a.pending h place last.opened → IsPast a.pending h earlier mark → IsPast pending h earlier mark) → place ≡ 64 * number
     → IsReplay (record a { reached = place; checkpoints = v; present = None; nodes = nodes; pending = pending }) edited
 replay_back a v number place last nodes pending h edited right inside same made at_last cut now past is = record {
   within = let long = ap length same in omega (arith, is, length-take (64 * number) edited, length-take (64 * number) h, long, right.few, right.within);
@@ -289,7 +289,7 @@ replay_back a v number place last nodes pending h edited right inside same made 
       let ahead = most k c old.1 old.0 in
       let begins = take_alike (64 * k) (64 * number) h edited (omega (arith, old.0)) same in
       checkpoint_kept a b h edited (64 * k) c refl begins (sym (ap (λ l. take c.nodes l) cut ∙ take-take c.nodes last.nodes a.nodes ahead.0)) (omega (arith, nodes_len, ahead.0))
-      (past_same pending h edited (64 * k) c.open begins (past (64 * k) c.open (omega (arith, is, old.0)) ahead.1 past_last kept.past)) kept;
+      (past_same pending h edited (64 * k) c.opened begins (past (64 * k) c.opened (omega (arith, is, old.0)) ahead.1 past_last kept.past)) kept;
   rising = subst (AllPairs IsAhead) (sym made) (pairs_take IsAhead (number + 1) a.checkpoints.items (omega arith) right.rising);
   opened = subst (λ l. IsPending l pending.operations.items) (ap (λ n. take n h) is ∙ same ∙ ap (λ n. take n edited) (sym is)) (now past_last);
   present = λ f e. absurd (never f e);
@@ -314,8 +314,8 @@ replay_back a v number place last nodes pending h edited right inside same made 
     last_there : slice_get a.checkpoints.items number ≡ Some last
     last_there = (was number last (ap (λ m. slice_get v.items m) (let e : number ≡ length v.items - 1 = omega (arith, len) in e) ∙ at_last)).1
 
-    past_last : IsPast a.pending h place last.open
-    past_last = subst (λ n. IsPast a.pending h n last.open) (sym is) (right.checkpoints number last last_there).past
+    past_last : IsPast a.pending h place last.opened
+    past_last = subst (λ n. IsPast a.pending h n last.opened) (sym is) (right.checkpoints number last last_there).past
 
     nodes_len : length nodes ≡ last.nodes
     nodes_len = ap length cut ∙ length-take-le last.nodes a.nodes (right.checkpoints number last last_there).nodes

@@ -39,12 +39,12 @@ pub record IsKnown (kind : Kind) (h : List Event) (frontier : Members) (nodes : 
 -- the checkpoint is right for the first `place` events
 pub record IsCheckpoint (replay : Replay) (h : List Event) (place : ℕ) (checkpoint : Checkpoint) : Type 0 where
   pub known : IsKnown replay.object.kind (take place h) checkpoint.frontier (take checkpoint.nodes replay.nodes)
-  pub past : IsPast replay.pending h place checkpoint.open
+  pub past : IsPast replay.pending h place checkpoint.opened
   pub nodes : checkpoint.nodes ≤ length replay.nodes
 
 -- of two checkpoints the one ahead
 abbrev pub IsAhead : Checkpoint → Checkpoint → Type 0
-IsAhead first second = (first.nodes ≤ second.nodes) × IsEarlier first.open second.open
+IsAhead first second = (first.nodes ≤ second.nodes) × IsEarlier first.opened second.opened
 
 -- each mark that was right for no more events still is
 abbrev pub KeepsPast : ℕ → List Event → OpenList → OpenList → Type 0

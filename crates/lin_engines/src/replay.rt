@@ -37,7 +37,7 @@ pub(crate) struct Checkpoint {
     /// How many nodes there were.
     nodes: usize,
     /// What was open.
-    open: OpenMark,
+    opened: OpenMark,
 }
 
 /// What is known after the first events of an object, with checkpoints to go back to.
@@ -151,7 +151,7 @@ impl Replay {
         self.present = None;
         if let Some(last) = self.checkpoints.last() {
             self.nodes.cut(last.nodes);
-            self.pending.cut(number * SPACING, last.open);
+            self.pending.cut(number * SPACING, last.opened);
         }
     }
 
@@ -202,7 +202,7 @@ impl Replay {
         self.checkpoints.push_reserved(Checkpoint {
             frontier,
             nodes: self.nodes.len(),
-            open: self.pending.mark(0),
+            opened: self.pending.mark(0),
         });
         Ok(())
     }
@@ -223,7 +223,7 @@ impl Replay {
             self.checkpoints.push_reserved(Checkpoint {
                 frontier,
                 nodes: self.nodes.len(),
-                open: self.pending.mark(self.reached),
+                opened: self.pending.mark(self.reached),
             });
         }
         Ok(())

@@ -107,11 +107,11 @@ pub fn mend(
     ensures steps { 4 * meter.new.steps ≤ 4 * meter.old.steps + quarters back * place }
     ensures scans { meter.new.scans ≡ meter.old.scans }
 {
-    let mended = reach(&mut lane.engine, back, place, events, picks, meter);
-    if mended.is_ok() && lane.engine.of() == picks.len() {
+    reach(&mut lane.engine, back, place, events, picks, meter)?;
+    if lane.engine.of() == picks.len() {
         lane.said = Says::On;
     }
-    mended
+    Ok(())
 }
 
 /// The same, of the witness alone.

@@ -70,7 +70,7 @@ grown a b h object longer inside front past same more enough reached opened w = 
       let at_k = slice_get_within a.checkpoints.items k c there in
       record {
         reached = reached_same a.object.kind b.object.kind h h (64 * k) _ _ c.config (ap (λ (o : Any). o.kind) (sym object)) refl was.reached.within (take_alike c.length a.length a.order.items b.order.items was.shorter (sym front)) was.reached;
-        past = past (64 * k) c.open (omega (arith, at_k, w.few)) was.past;
+        past = past (64 * k) c.opened (omega (arith, at_k, w.few)) was.past;
         shorter = omega (arith, was.shorter, longer);
       };
   rising = subst (AllPairs IsAhead) (sym same) w.rising;
@@ -152,7 +152,7 @@ reached_next kind h of event order c there ends = record {
 
 -- a checkpoint of what is reached
 pub marked : (a : Witness) (v : Vec Checkpoint Global) (o : OpenList) (c : Checkpoint) (h : List Event) → v.items ≡ a.checkpoints.items ++ c ∷ [] → 64 * length a.checkpoints.items ≤ a.of → c.length ≡ a.length → c.config ≡ a.config
-    → o.operations.items ≡ a.opened.operations.items → (IsPending (take a.of h) a.opened.operations.items → IsPast o h a.of c.open) → ((place : ℕ) (mark : OpenMark) → IsPast a.opened h place mark → IsPast o h place mark × IsEarlier mark c.open)
+    → o.operations.items ≡ a.opened.operations.items → (IsPending (take a.of h) a.opened.operations.items → IsPast o h a.of c.opened) → ((place : ℕ) (mark : OpenMark) → IsPast a.opened h place mark → IsPast o h place mark × IsEarlier mark c.opened)
     → IsWitness a h → IsWitness (record a { checkpoints = v; opened = o }) h
 marked a v o c h made due long config same now past w = record {
   inside = w.inside;
@@ -161,12 +161,12 @@ marked a v o c h made due long config same now past w = record {
   enough = omega (arith, w.enough, len);
   few = omega (arith, due, len);
   checkpoints = λ k d at. elim (get_cases a.checkpoints.items c k d (ap (λ l. slice_get l k) (sym made) ∙ at)) [
-    | inl old ↦ (let was = w.checkpoints k d old in record { reached = was.reached; past = (past (64 * k) d.open was.past).0; shorter = was.shorter })
+    | inl old ↦ (let was = w.checkpoints k d old in record { reached = was.reached; past = (past (64 * k) d.opened was.past).0; shorter = was.shorter })
     | inr last ↦ subst (IsCheckpoint b h (64 * k)) last.1 (subst (λ n. IsCheckpoint b h n c) (let e : a.of ≡ 64 * k = omega (arith, last.0, due, w.enough) in e) new)
   ];
   rising = subst (AllPairs IsAhead) (sym made) (all_pairs_push IsAhead a.checkpoints.items c w.rising (λ k d inside.
       let was = w.checkpoints k (get_or a.checkpoints.items k d) (slice_get-get_or a.checkpoints.items k d inside) in
-      (omega (arith, was.shorter, long), (past (64 * k) (get_or a.checkpoints.items k d).open was.past).1)));
+      (omega (arith, was.shorter, long), (past (64 * k) (get_or a.checkpoints.items k d).opened was.past).1)));
 }
   where
     b : Witness
@@ -198,7 +198,7 @@ alike a h edited place below same w = record {
       let begins = take_alike (64 * k) place h edited (omega (arith, before, below)) same in
       record {
         reached = reached_same a.object.kind a.object.kind h edited (64 * k) _ _ c.config refl begins (shorter (64 * k) (omega (arith, before, below)) was.reached.within) refl was.reached;
-        past = past_same a.opened h edited (64 * k) c.open begins was.past;
+        past = past_same a.opened h edited (64 * k) c.opened begins was.past;
         shorter = was.shorter;
       };
   rising = w.rising;
@@ -210,8 +210,8 @@ alike a h edited place below same w = record {
 -- back at a checkpoint
 pub back : (a b : Witness) (number place : ℕ) (last : Checkpoint) (h edited : List Event) → 64 * number ≤ place → place < 64 * number + 64 → place < a.of → take place h ≡ take place edited
     → take (number + 1) a.checkpoints.items ≡ b.checkpoints.items ++ last ∷ [] → b.object ≡ a.object → b.order.items ≡ a.order.items → b.length ≡ last.length → b.config ≡ last.config
-    → (IsPast a.opened h (64 * number) last.open → IsPending (take (64 * number) h) b.opened.operations.items)
-    → ((earlier : ℕ) (mark : OpenMark) → earlier ≤ 64 * number → IsEarlier mark last.open → IsPast a.opened h (64 * number) last.open → IsPast a.opened h earlier mark → IsPast b.opened h earlier mark)
+    → (IsPast a.opened h (64 * number) last.opened → IsPending (take (64 * number) h) b.opened.operations.items)
+    → ((earlier : ℕ) (mark : OpenMark) → earlier ≤ 64 * number → IsEarlier mark last.opened → IsPast a.opened h (64 * number) last.opened → IsPast a.opened h earlier mark → IsPast b.opened h earlier mark)
     → b.of ≡ 64 * number → IsWitness a h → IsWitness b edited
 back a b number place last h edited below near inside same cut object order long config now past of w = record {
   inside = let len = ap length order in omega (arith, len, long, at_last.shorter, w.inside);
@@ -229,7 +229,7 @@ back a b number place last h edited below near inside same cut object order long
       let begins = take_alike (64 * k) place h edited (omega (arith, before, below)) same in
       record {
         reached = reached_same a.object.kind b.object.kind h edited (64 * k) _ _ c.config (sym kinds) begins (shorter (64 * k) (omega (arith, before, below)) was.reached.within) (ap (λ l. take c.length l) (sym order)) was.reached;
-        past = past_same b.opened h edited (64 * k) c.open begins (past (64 * k) c.open (omega (arith, before)) ahead.1 at_last.past was.past);
+        past = past_same b.opened h edited (64 * k) c.opened begins (past (64 * k) c.opened (omega (arith, before)) ahead.1 at_last.past was.past);
         shorter = omega (arith, ahead.0, long);
       };
   rising = pairs_left IsAhead b.checkpoints.items (last ∷ []) (subst (AllPairs IsAhead) cut (pairs_take IsAhead (number + 1) a.checkpoints.items (omega (arith, fits)) w.rising));

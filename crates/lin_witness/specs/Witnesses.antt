@@ -36,12 +36,12 @@ pub record IsReached (kind : Kind) (h : List Event) (of : ℕ) (order : List Pla
 -- the checkpoint is right for the first `place` events
 pub record IsCheckpoint (witness : Witness) (h : List Event) (place : ℕ) (checkpoint : Checkpoint) : Type 0 where
   pub reached : IsReached witness.object.kind h place (take checkpoint.length witness.order.items) checkpoint.config
-  pub past : IsPast witness.opened h place checkpoint.open
+  pub past : IsPast witness.opened h place checkpoint.opened
   pub shorter : checkpoint.length ≤ witness.length
 
 -- of two checkpoints the one ahead
 abbrev pub IsAhead : Checkpoint → Checkpoint → Type 0
-IsAhead first second = (first.length ≤ second.length) × IsEarlier first.open second.open
+IsAhead first second = (first.length ≤ second.length) × IsEarlier first.opened second.opened
 
 -- the order is a witness of the first `of` events, and there is a checkpoint at each 64th place before the last of them
 pub record IsWitness (witness : Witness) (h : List Event) : Type 0 where

@@ -67,7 +67,7 @@ pub(crate) struct Checkpoint {
     /// The configuration in which it ends.
     config: Config<State>,
     /// What was open.
-    open: OpenMark,
+    opened: OpenMark,
     /// How much this and the checkpoints before it hold.
     weight: usize,
 }
@@ -152,7 +152,7 @@ impl Witness {
         if let Some(last) = self.checkpoints.pop() {
             self.length = last.length;
             self.config = last.config;
-            self.opened.cut(self.of, last.open);
+            self.opened.cut(self.of, last.opened);
         }
     }
 
@@ -407,7 +407,7 @@ impl Witness {
         self.checkpoints.push(Checkpoint {
             length: self.length,
             config,
-            open: self.opened.mark(self.of),
+            opened: self.opened.mark(self.of),
             weight,
         })?;
         Ok(())

@@ -10,7 +10,7 @@ returns-in_err-frontier-clause-right c = λ h right. replay_moved c.args.self.no
 
 begun : (c : goal.After-push_reserved) (h : List Event) → IsReplay c.args.self.now h → (IsReplay (record c.args.self.now { checkpoints = c.push_reserved.new.self; pending = c.mark.new.self }) h) × (c.args.self.now.reached < 64 * length c.push_reserved.new.self.items)
 begun c h right =
-    let checkpoint : Checkpoint = record { frontier = c.in_ok-frontier.frontier; nodes = c.len.result; open = c.mark.result } in
+    let checkpoint : Checkpoint = record { frontier = c.in_ok-frontier.frontier; nodes = c.len.result; opened = c.mark.result } in
     replay_begun c.args.self.now c.push_reserved.new.self c.mark.new.self checkpoint h c.requires
     (c.push_reserved.ensures.items ∙ ap (λ l. l ++ checkpoint ∷ []) (c.reserve.ensures.items ∙ c.requires)) c.len.ensures c.mark.ensures.operations (c.mark.ensures.now h) c.in_ok-frontier.ensures.exact
     c.in_ok-frontier.ensures.one right

@@ -9,7 +9,7 @@ returns-then-is_err-clause-right c = λ h right. replay_moved c.args.self.now c.
 pub returns-in-Some-clause-right : goal.returns-in-Some-clause-right
 returns-in-Some-clause-right c = λ h right.
     let self = c.args.self.now in
-    let checkpoint : Checkpoint = record { frontier = c.in-Some.frontier; nodes = c.len.result; open = c.mark.result } in
+    let checkpoint : Checkpoint = record { frontier = c.in-Some.frontier; nodes = c.len.result; opened = c.mark.result } in
     replay_marked self c.push_reserved.new.self c.take.new.self c.mark.new.self c.in-Some.frontier checkpoint h c.take.ensures.after (sym c.take.ensures.value ∙ c.in-Some.is) c.requires
     (c.push_reserved.ensures.items ∙ ap (λ l. l ++ checkpoint ∷ []) c.reserve.ensures.items) refl c.len.ensures c.mark.ensures.operations (c.mark.ensures.now h) (λ place mark past. c.mark.ensures.past h place mark past) right
 

@@ -1,7 +1,7 @@
 use Rattle.std.proofs.Common.{◌+◌, ◌∙◌, refl, ap, sym, subst, take}
-use Rattle.lin_events.specs.declared.events.Event.{Event}
 use Rattle.lin_frontier.specs.Frontiers.{IsNextEvent}
 use Rattle.lin_open.specs.declared.opens.OpenList.{OpenList}
+use Rattle.lin_open.specs.Opens.{IsPast}
 use Rattle.lin_witness.specs.Witnesses.{listed, order_in}
 use Rattle.lin_witness.proofs.Growing.{completed, next_event, reopened, went_on}
 use Rattle.lin_witness.proofs.witness.Witness.complete.Goals as goal
@@ -12,7 +12,8 @@ returns-in_err-reserve-clause-right c = λ functions h name reply well there is 
 
 pub returns-then-not-take_in-clause-right : goal.returns-then-not-take_in-clause-right
 returns-then-not-take_in-clause-right c = λ functions h name reply well there is has before w.
-    reopened c.args.self.now c.take_in.new.self h c.reserve.ensures.operations (λ place mark below past. c.reserve.ensures.past h place mark past) w
+    let same = c.take_in.ensures.same c.if-not-take_in.true in
+    reopened c.args.self.now c.take_in.new.self h (ap (λ (o : OpenList). o.operations.items) same ∙ c.reserve.ensures.operations) (λ place mark below past. subst (λ (o : OpenList). IsPast o h place mark) (sym same) (c.reserve.ensures.past h place mark past)) w
 
 pub returns-clause-right : goal.returns-clause-right
 returns-clause-right c = λ functions h name reply well there is has before w.
