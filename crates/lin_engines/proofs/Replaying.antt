@@ -325,7 +325,7 @@ replay_back a v number place last nodes pending h edited right inside same made 
       | inl before ↦ pairs_at IsAhead a.checkpoints.items right.rising k number c last before at last_there
       | inr after ↦
           let e : k ≡ number = omega arith in
-          subst (IsAhead c) (one_there a.checkpoints.items number c last (ap (λ m. slice_get a.checkpoints.items m) (sym e) ∙ at) last_there) (omega arith, omega arith, omega arith)
+          subst (IsAhead c) (one_there a.checkpoints.items number c last (ap (λ m. slice_get a.checkpoints.items m) (sym e) ∙ at) last_there) (omega arith, (omega arith, omega arith))
     ]
 
 -- each node of a member spells a legal order, for each kind

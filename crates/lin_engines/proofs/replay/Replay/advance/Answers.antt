@@ -76,3 +76,10 @@ returns-in_ok-stay-in-Same-clause-right c = λ functions h well there prepared.
     subst (λ (r : Replay). IsReplay r h) (sym (is ∙ ap (λ p. record self { reached = self.reached + 1; present = p; pending = c.stay.new.self.pending; nodes = c.advance.new.nodes }) held))
     (replay_advanced self frontier c.stay.new.self.pending c.advance.new.nodes h c.args.event.now prepared there compressed k.some
     (c.in_ok-stay-in-Same.ensures.open functions (take self.reached h) (next at functions h well there prepared)) c.advance.ensures.grown (c.in_ok-stay-in-Same.ensures.past h))
+
+pub returns-in_err-step-clause-right : goal.returns-in_err-step-clause-right
+returns-in_err-step-clause-right c = λ functions h well there prepared. replay_renamed c.args.self.now c.advance.new.nodes h c.in_err-step.ensures.refused prepared.right
+
+pub returns-in_err-stay-in-Same-clause-right : goal.returns-in_err-stay-in-Same-clause-right
+returns-in_err-stay-in-Same-clause-right c = λ functions h well there prepared.
+    subst (λ (r : Replay). IsReplay r h) (sym c.in_err-stay-in-Same.ensures.refused) (replay_renamed c.args.self.now c.advance.new.nodes h (c.in_ok-step.ensures.kept (inl c.in-Same.is)) prepared.right)
