@@ -241,12 +241,35 @@ impl Chain {
         if picks.len() <= at {
             return Ok(());
         }
-        if self.is_mended(Back::Near, at, events, picks, meter)?
-            || self.is_mended(Back::Far, at, events, picks, meter)?
-        {
+        if self.reaches(at, events, picks, meter)? {
             self.found = Found::Failure(at);
         }
         Ok(())
+    }
+
+    /// Whether a witness is mended up to the place, from near or from further back.
+    fn reaches(
+        &mut self,
+        place: usize,
+        events: &[Event],
+        picks: &[usize],
+        meter: &mut Meter,
+    ) -> Result<bool, OutOfMemory>
+        requires place { place ≤ length picks.now }
+        requires right { IsRight self.old (events_at events.now picks.now) }
+        requires inside { All (λ at. at < length events.now) picks.now }
+        requires well_formed { (functions : ItemOf → NameOf → Bool) × IsWellFormed functions (events_at events.now picks.now) }
+        ensures right { IsRight self.new (events_at events.now picks.now) }
+        ensures others { self.new ≡ record self.old { beside = self.new.beside } }
+        ensures mark { mark_beside self.old.beside ≤ mark_beside self.new.beside }
+        ensures linearizable { result ≡ Ok true → IsLinearizableAs (kind_in self.old) (take place (events_at events.now picks.now)) }
+        ensures steps { meter.new.steps ≤ meter.old.steps + place }
+        ensures scans { meter.new.scans ≡ meter.old.scans }
+    {
+        if self.is_mended(Back::Near, place, events, picks, meter)? {
+            return Ok(true);
+        }
+        self.is_mended(Back::Far, place, events, picks, meter)
     }
 
     /// Whether a witness that gave up is one of the events before the place, or a search says how it goes on up to there from shortly before the event that
