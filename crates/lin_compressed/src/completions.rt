@@ -148,7 +148,7 @@ impl<'a, O: SeqObject> Completion<'a, O> {
         let Some(list) = Rc::get_mut(&mut shared) else {
             return Err(OutOfMemory);
         };
-        list.push_watched(self.object, self.alloc, self.pending, member.offers())?;
+        list.take_watched(self.object, self.alloc, self.pending, member.offers())?;
         let shown = Shown {
             object: self.object,
             alloc: self.alloc,

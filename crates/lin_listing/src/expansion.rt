@@ -105,7 +105,8 @@ impl<'a, O: SeqObject> Expansion<'a, O> {
         ensures extended { OnOk result (IsExtended (O.starts self.now.object.now) (O.step self.now.object.now) (O.observing self.now.object.now) self.now.pending.now self.now.offers.now nodes.old nodes.new found.old found.new) }
         ensures taken { OnOk result (All (IsTakenAt (O.observing self.now.object.now) self.now.pending.now found.new config.now) self.now.offers.now) }
     {
-        for offer in self.offers.as_slice() {
+        let offers = self.offers.listed(self.alloc)?;
+        for offer in offers.as_slice() {
             self.take_one(config, path, offer, found, nodes)?;
         }
         Ok(())

@@ -19,3 +19,4 @@ pub mod Aboves
 pub mod LastingWith
 pub mod SoundingWith
 pub mod Chaining
+pub mod Batching

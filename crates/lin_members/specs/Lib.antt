@@ -4,6 +4,7 @@ pub mod Exchanges
 pub mod Members
 pub mod MemberLaws
 pub mod Rounds
+pub mod Batches
 pub mod RoundLaws
 pub mod MemberExamples
 pub mod Searching

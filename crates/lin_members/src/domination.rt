@@ -1,18 +1,22 @@
 //! When one member leads to all that another leads to.
 ghost use Rattle.std.specs.Prelude.{◌≡◌, ◌⊎◌, ℕ, true, All, Contains, IsPermutation, IsTrue, map, take, drop, vec_len, ◌↔◌, ◌<◌, ◌+◌, ◌++◌};
 ghost use Rattle.lin_events.specs.declared.calls.Reply.{Reply as ReplyOf};
+ghost use Rattle.lin_members.specs.Batches.{all_of};
 ghost use Rattle.lin_members.specs.Members.{Member as MemberOf, IsOnOffer};
 ghost use Rattle.lin_members.specs.declared.members.Path.{Path as PathOf};
 ghost use Rattle.lin_frontier.specs.Placing.{IsAbsent};
 ghost use Rattle.lin_members.specs.Searching.{is_watching as is_watching_in, CoversIn, DominatesIn, IsAboveIn, IsPruned};
 ghost use Rattle.lin_frontier.specs.Masks.{is_crashed as is_crashed_in};
 
+use crate::batches::Batch;
 use crate::members::Member;
-use crate::offers::{Offers, is_watching};
+use crate::offers::Offers;
+use crate::watching::is_watching;
 use lin_events::Reply;
 use lin_frontier::{Config, Pending, is_absent, is_placed};
 use lin_objects::SeqObject;
 use std::hash::Hash;
+use std::rc::Rc;
 
 /// Whether each of the pairs is among the others.
 fn is_part(pairs: &[(u64, Reply)], others: &[(u64, Reply)]) -> bool
@@ -71,20 +75,61 @@ fn has_offer<O: SeqObject>(
     !is_absent(member.placed(), process)
 }
 
-/// Whether the member has the offer, or nobody waits for it. It is looked for first at the place.
+/// Whether the member has the offer, or nobody waits for it. It is looked for first at the place in the batch with the number.
 fn has_offer_at<O: SeqObject>(
     object: &O,
     pending: &Pending,
     member: &Member<O::State>,
+    number: usize,
     at: usize,
     offer: &(usize, (u64, Reply)),
 ) -> bool
     ensures { IsTrue result ↔ (is_watching_in (O.observing object.now) pending.now offer.now.1.0 ≡ true → IsAbsent offer.now.1.0 member.now.0.placed → IsOnOffer member.now.0 offer.now.1) }
 {
-    member.offers().stands_at(at, &offer.1) || has_offer(object, pending, member, offer)
+    member.offers().stands_at(number, at, &offer.1) || has_offer(object, pending, member, offer)
 }
 
-/// Whether the member has each of the offers, apart from those that nobody waits for. Mostly it has them in the same places.
+/// Whether the member has each of these offers of a batch, apart from those that nobody waits for. Mostly it has them in the same
+/// places of the batch with that number.
+fn has_all<O: SeqObject>(
+    object: &O,
+    pending: &Pending,
+    member: &Member<O::State>,
+    number: usize,
+    offers: &[(usize, (u64, Reply))],
+) -> bool
+    ensures { IsTrue result ↔ All (λ x. is_watching_in (O.observing object.now) pending.now x.1.0 ≡ true → IsAbsent x.1.0 member.now.0.placed → IsOnOffer member.now.0 x.1) offers.now }
+{
+    let mut at: usize = 0;
+    for offer in offers {
+        if !has_offer_at(object, pending, member, number, at, offer) {
+            return false;
+        }
+        at = at.wrapping_add(1);
+    }
+    true
+}
+
+/// The same for each of the offers of the batches.
+fn has_batches<O: SeqObject>(
+    object: &O,
+    pending: &Pending,
+    member: &Member<O::State>,
+    batches: &[Rc<Batch>],
+) -> bool
+    ensures { IsTrue result ↔ All (λ x. is_watching_in (O.observing object.now) pending.now x.1.0 ≡ true → IsAbsent x.1.0 member.now.0.placed → IsOnOffer member.now.0 x.1) (all_of batches.now) }
+{
+    let mut number: usize = 0;
+    for batch in batches {
+        if !has_all(object, pending, member, number, batch.as_ref().as_slice()) {
+            return false;
+        }
+        number = number.wrapping_add(1);
+    }
+    true
+}
+
+/// Whether the member has each of the offers, apart from those that nobody waits for.
 fn has_offers<O: SeqObject>(
     object: &O,
     pending: &Pending,
@@ -93,14 +138,9 @@ fn has_offers<O: SeqObject>(
 ) -> bool
     ensures { IsTrue result ↔ All (λ x. is_watching_in (O.observing object.now) pending.now x.1.0 ≡ true → IsAbsent x.1.0 member.now.0.placed → IsOnOffer member.now.0 x.1) offers.now }
 {
-    let mut at: usize = 0;
-    for offer in offers.as_slice() {
-        if !has_offer_at(object, pending, member, at, offer) {
-            return false;
-        }
-        at = at.wrapping_add(1);
-    }
-    true
+    let (older, newest) = offers.parts();
+    has_all(object, pending, member, older.len(), newest)
+        && has_batches(object, pending, member, older)
 }
 
 /// Whether the states are the same.
@@ -147,7 +187,43 @@ fn covers_alike<O: SeqObject>(
     covers::<O>(pending, config, other)
 }
 
-/// Whether the member surely lacks one of the offers: one that its bits tell of.
+/// Whether the member surely lacks one of these offers: one that its bits tell of.
+fn lacks_one_of<O: SeqObject>(
+    object: &O,
+    pending: &Pending,
+    member: &Member<O::State>,
+    offers: &[(usize, (u64, Reply))],
+) -> bool
+    ensures { IsTrue result → All (λ x. is_watching_in (O.observing object.now) pending.now x.1.0 ≡ true → IsAbsent x.1.0 member.now.0.placed → IsOnOffer member.now.0 x.1) offers.now → ⊥ }
+{
+    for offer in offers {
+        if !member.offers().may_offer(offer.1.0, &offer.1.1)
+            && !has_offer(object, pending, member, offer)
+        {
+            return true;
+        }
+    }
+    false
+}
+
+/// Whether it surely lacks one of those in the batches.
+fn lacks_one_among<O: SeqObject>(
+    object: &O,
+    pending: &Pending,
+    member: &Member<O::State>,
+    batches: &[Rc<Batch>],
+) -> bool
+    ensures { IsTrue result → All (λ x. is_watching_in (O.observing object.now) pending.now x.1.0 ≡ true → IsAbsent x.1.0 member.now.0.placed → IsOnOffer member.now.0 x.1) (all_of batches.now) → ⊥ }
+{
+    for batch in batches {
+        if lacks_one_of(object, pending, member, batch.as_ref().as_slice()) {
+            return true;
+        }
+    }
+    false
+}
+
+/// Whether the member surely lacks one of the offers.
 fn lacks_one<O: SeqObject>(
     object: &O,
     pending: &Pending,
@@ -156,14 +232,8 @@ fn lacks_one<O: SeqObject>(
 ) -> bool
     ensures { IsTrue result → All (λ x. is_watching_in (O.observing object.now) pending.now x.1.0 ≡ true → IsAbsent x.1.0 member.now.0.placed → IsOnOffer member.now.0 x.1) offers.now → ⊥ }
 {
-    for offer in offers.as_slice() {
-        if !member.offers().may_offer(offer.1.0, &offer.1.1)
-            && !has_offer(object, pending, member, offer)
-        {
-            return true;
-        }
-    }
-    false
+    let (older, newest) = offers.parts();
+    lacks_one_of(object, pending, member, newest) || lacks_one_among(object, pending, member, older)
 }
 
 /// Whether the member covers the configuration, and has all of the offers that matter. What it lacks is mostly an offer.

@@ -2,6 +2,7 @@
 //! dominate others.
 #![tactic(auto)]
 
+mod batches;
 mod chains;
 mod domination;
 mod member_examples;
@@ -14,6 +15,7 @@ mod places;
 mod pool;
 mod round_laws;
 mod rounds;
+mod watching;
 
 pub use domination::{covers, dominates};
 pub use member_examples::members_of_a_register;
@@ -25,7 +27,7 @@ pub use members::{
     Member, Path, advanced, bare, bare_next, copied, in_round, placed_at, push_member, put_ahead,
     put_behind, same, taken_out,
 };
-pub use offers::{OfferList, Offers, Shown, may_be_watched};
+pub use offers::{OfferList, Offers, Shown};
 pub use overwritten_laws::{
     overwritten_after_events, overwritten_after_observer, overwritten_after_update,
     overwritten_are_sound, overwritten_can_go, rounds_allow_overwritten, rounds_go_ahead,
@@ -37,3 +39,4 @@ pub use round_laws::{
     members_are_exact, rounds_after_events, rounds_spell_members, rounds_take_operations,
 };
 pub use rounds::RoundNodes;
+pub use watching::may_be_watched;

@@ -1,33 +1,48 @@
 //! What is on offer: the replies that observers may still be given, each with a round whose state gave it.
 ghost use Rattle.std.specs.Prelude.{◌≡◌, ◌&&◌, ◌↔◌, nat_eq, not, IsTrue, IsFalse, true, [], ◌∷◌, ◌++◌, ℕ, IfOk, IfSome, IfNone, OnOk, Contains, Some, length};
 ghost use Rattle.lin_events.specs.declared.calls.Reply.{Reply as ReplyOf};
-ghost use Rattle.lin_members.specs.Searching.{is_observing as is_observing_in, is_watching as is_watching_in, watched as watched_of, GivesOne, GivesAny, IsOffering};
+ghost use Rattle.lin_members.specs.Batches.{all_of};
+ghost use Rattle.lin_members.specs.Searching.{is_watching as is_watching_in, watched as watched_of, GivesOne, GivesAny, IsOffering};
 ghost use Rattle.lin_members.specs.inner.Searching.{AreSteps, Knows, Told};
 ghost use Rattle.lin_frontier.specs.Placing.{IsAbsent};
 ghost use Rattle.lin_frontier.specs.Walks.{IsTriedAtMost};
 
-use lin_events::{Call, Meter, OutOfMemory, Reply, Val};
+use crate::batches::{
+    Batch, are_all_watched, bits_of, offer_bit, one_of, put_aside, round_among, round_in,
+    share_watched,
+};
+use crate::watching::is_watching;
+use lin_events::{Call, Meter, OutOfMemory, Reply};
 use lin_frontier::{Config, Open, Pending, Spare, is_absent, is_pair};
 use lin_objects::SeqObject;
 use std::alloc::Global;
 use std::marker::Model;
 use std::rc::Rc;
 
+/// So many offers are put aside as a batch. A list with fewer is copied at once for the next one.
+const MANY: usize = 32;
+
+/// Where no batch has more offers than that, each reply is looked for in all of them before it is offered.
+const FEW: usize = 256;
+
 /// Offers that are being made, in the order in which they were: each is a round, and a process with the reply that the round's
-/// state gave to its pending call.
+/// state gave to its pending call. The older ones are in batches, which are shared with the lists that this one goes on from.
 #[derive(Drop)]
 pub struct OfferList {
+    older: Vec<Rc<Batch>>,
     items: Vec<(usize, (u64, Reply))>,
     bits: u64,
 }
 
 impl Model for OfferList {
-    ghost use Rattle.std.specs.Prelude.{ℕ, List};
+    ghost use Rattle.std.specs.Prelude.{ℕ, List, ◌++◌};
     ghost use Rattle.lin_events.specs.declared.calls.Reply.{Reply as ReplyOf};
 
     ghost Value = { List (ℕ × (ℕ × ReplyOf)) };
 
-    ghost view = { λ o. o.items.items };
+    ghost use Rattle.lin_members.specs.Batches.{all_of};
+
+    ghost view = { λ o. all_of o.older.items ++ o.items.items };
 }
 
 /// Offers that are made. Members that have the same ones share them.
@@ -59,60 +74,6 @@ pub struct Shown<'a, O: SeqObject> {
     pub round: usize,
 }
 
-/// A bit for a reply on offer to the process.
-fn offer_bit(process: u64, reply: &Reply) -> u64 {
-    let value = match reply {
-        Reply::Value(Val::Item(item)) => item.code() % 64,
-        Reply::Value(Val::Nil) | Reply::Done | Reply::Members(_) => 63,
-    };
-    1 << ((process % 64 + 7 * value) % 64)
-}
-
-/// Whether the operation is of the process, and observes.
-fn does_observe<O: SeqObject>(object: &O, operation: &Open, process: u64) -> bool
-    ensures { result ≡ (nat_eq operation.now.process process && O.observing object.now operation.now.call) }
-{
-    operation.process == process && object.observes(&operation.call)
-}
-
-/// Whether an operation of the process observes.
-fn is_observing<O: SeqObject>(object: &O, pending: &[Open], process: u64) -> bool
-    ensures { result ≡ is_observing_in (O.observing object.now) pending.now process }
-{
-    for operation in pending {
-        if does_observe(object, operation, process) {
-            return true;
-        }
-    }
-    false
-}
-
-/// Whether the process waits for the reply of an operation that observes, and has not crashed.
-pub fn is_watching<O: SeqObject>(object: &O, pending: &Pending, process: u64) -> bool
-    ensures { result ≡ is_watching_in (O.observing object.now) pending.now process }
-{
-    is_observing(object, pending.as_slice(), process) && !pending.is_crashed(process)
-}
-
-/// Whether the operation observes, and has not crashed.
-fn may_watch<O: SeqObject>(object: &O, operation: &Open) -> bool
-    ensures { result ≡ (O.observing object.now operation.now.call && not operation.now.crashed) }
-{
-    object.observes(&operation.call) && !operation.crashed
-}
-
-/// Whether any operation observes, and has not crashed. Where none does, no process watches.
-pub fn may_be_watched<O: SeqObject>(object: &O, pending: &Pending) -> bool
-    ensures { IsFalse result → (process : ℕ) → is_watching_in (O.observing object.now) pending.now process ≡ true → ⊥ }
-{
-    for operation in pending.as_slice() {
-        if may_watch(object, operation) {
-            return true;
-        }
-    }
-    false
-}
-
 /// Whether all offers may still be taken: whether they are to processes that watch.
 fn are_watched<O: SeqObject>(
     object: &O,
@@ -127,6 +88,24 @@ fn are_watched<O: SeqObject>(
         }
     }
     true
+}
+
+/// Whether it is at the place that the reply is on offer to the process.
+fn is_at(offers: &[(usize, (u64, Reply))], at: usize, pair: &(u64, Reply)) -> bool
+    ensures { IsTrue result → (round : ℕ) × Contains offers.now (round, pair.now) }
+{
+    match offers.get(at) {
+        Some(offer) => is_pair(&offer.1, pair.0, &pair.1),
+        None => false,
+    }
+}
+
+/// Whether the batches have few offers: the first one has the most.
+fn are_few(batches: &[Rc<Batch>]) -> bool {
+    match batches.first() {
+        Some(batch) => batch.as_ref().as_slice().len() <= FEW,
+        None => false,
+    }
 }
 
 /// Whether that is the call which is known.
@@ -182,19 +161,6 @@ fn may_be_told<O: SeqObject>(
     is_absent(config.placed(), operation.process)
 }
 
-/// The first round in which the process was offered the reply.
-fn round_in(offers: &[(usize, (u64, Reply))], process: u64, reply: &Reply) -> Option<usize>
-    ensures some { IfSome result (λ round. Contains offers.now (round, (process, reply.now))) }
-    ensures none { IfNone result ((round : ℕ) → Contains offers.now (round, (process, reply.now)) → ⊥) }
-{
-    for offer in offers {
-        if is_pair(&offer.1, process, reply) {
-            return Some(offer.0);
-        }
-    }
-    None
-}
-
 impl Offers {
     /// Nothing on offer.
     pub fn none() -> Self
@@ -211,7 +177,7 @@ impl Offers {
     pub fn of(list: Rc<OfferList>, spare: &mut Spare<OfferList>) -> Offers
         ensures { result ≡ list.value }
     {
-        if list.as_ref().as_slice().is_empty() {
+        if list.as_ref().is_empty() {
             spare.put(list);
             return Offers::none();
         }
@@ -230,13 +196,24 @@ impl Offers {
         }
     }
 
-    pub fn as_slice(&self) -> &[(usize, (u64, Reply))]
-        ensures { result.now ≡ self.now }
+    /// The batches that were put aside, and the newest offers.
+    #[inline(always)]
+    pub(crate) fn parts(&self) -> (&[Rc<Batch>], &[(usize, (u64, Reply))])
+        ensures { self.now ≡ all_of result.0.now ++ result.1.now }
     {
         match &self.list {
-            Some(list) => list.as_ref().as_slice(),
-            None => &[],
+            Some(list) => list.as_ref().parts(),
+            None => (&[], &[]),
         }
+    }
+
+    /// Copies of all of them.
+    pub fn listed(&self, alloc: Global) -> Result<Vec<(usize, (u64, Reply))>, OutOfMemory>
+        ensures { IfOk result (λ all. all.items ≡ self.now) }
+    {
+        let (older, newest) = self.parts();
+        let all = one_of(alloc, older, newest)?;
+        Ok(all.into_items())
     }
 
     /// Whether the reply may be on offer to the process, as far as the bits tell.
@@ -263,6 +240,15 @@ impl Offers {
         }
     }
 
+    /// Whether all of them may still be taken.
+    #[inline(always)]
+    fn are_watched<O: SeqObject>(&self, object: &O, pending: &Pending) -> bool
+        ensures { IsTrue result → watched_of (O.observing object.now) pending.now self.now ≡ self.now }
+    {
+        let (older, newest) = self.parts();
+        are_all_watched(object, pending, older) && are_watched(object, pending, newest)
+    }
+
     /// The offers that may still be taken: those to processes that watch.
     #[inline(always)]
     pub fn watched<O: SeqObject>(
@@ -274,7 +260,7 @@ impl Offers {
     ) -> Result<Offers, OutOfMemory>
         ensures { IfOk result (λ kept. kept ≡ watched_of (O.observing object.now) pending.now self.now) }
     {
-        if are_watched(object, pending, self.as_slice()) {
+        if self.are_watched(object, pending) {
             return self.copy();
         }
         let mut kept = OfferList::emptied(alloc, spare)?;
@@ -282,18 +268,26 @@ impl Offers {
         let Some(list) = Rc::get_mut(&mut kept) else {
             return Err(OutOfMemory);
         };
-        list.push_watched(object, alloc, pending, self)?;
+        list.take_watched(object, alloc, pending, self)?;
         Ok(Offers::of(kept, spare))
     }
 
-    /// Whether it is at the place that the reply is on offer to the process.
-    pub fn stands_at(&self, at: usize, pair: &(u64, Reply)) -> bool
+    /// What is in the batch with the number, or else the newest offers.
+    fn part(&self, number: usize) -> &[(usize, (u64, Reply))]
+        ensures { (x : ℕ × (ℕ × ReplyOf)) → Contains result.now x → Contains self.now x }
+    {
+        let (older, newest) = self.parts();
+        match older.get(number) {
+            Some(batch) => batch.as_ref().as_slice(),
+            None => newest,
+        }
+    }
+
+    /// Whether it is at the place, in the batch with the number or else among the newest, that the reply is on offer to the process.
+    pub(crate) fn stands_at(&self, number: usize, at: usize, pair: &(u64, Reply)) -> bool
         ensures { IsTrue result → (round : ℕ) × Contains self.now (round, pair.now) }
     {
-        match self.as_slice().get(at) {
-            Some(offer) => is_pair(&offer.1, pair.0, &pair.1),
-            None => false,
-        }
+        is_at(self.part(number), at, pair)
     }
 
     /// The first round in which the process was offered the reply.
@@ -301,7 +295,11 @@ impl Offers {
         ensures some { IfSome result (λ round. Contains self.now (round, (process, reply.now))) }
         ensures none { IfNone result ((round : ℕ) → Contains self.now (round, (process, reply.now)) → ⊥) }
     {
-        round_in(self.as_slice(), process, reply)
+        let (older, newest) = self.parts();
+        match round_among(older, process, reply) {
+            Some(round) => Some(round),
+            None => round_in(newest, process, reply),
+        }
     }
 }
 
@@ -312,6 +310,7 @@ impl OfferList {
         ensures { result ≡ [] }
     {
         OfferList {
+            older: Vec::new(alloc),
             items: Vec::new(alloc),
             bits: 0,
         }
@@ -322,6 +321,9 @@ impl OfferList {
     fn clear(&mut self)
         ensures { self.new ≡ [] }
     {
+        if !self.older.is_empty() {
+            self.older.clear();
+        }
         self.items.clear();
         self.bits = 0;
     }
@@ -344,10 +346,19 @@ impl OfferList {
         Ok(list)
     }
 
-    fn as_slice(&self) -> &[(usize, (u64, Reply))]
-        ensures { result.now ≡ self.now }
+    /// The batches that were put aside, and the newest offers.
+    #[inline(always)]
+    fn parts(&self) -> (&[Rc<Batch>], &[(usize, (u64, Reply))])
+        ensures { self.now ≡ all_of result.0.now ++ result.1.now }
     {
-        self.items.as_slice()
+        (self.older.as_slice(), self.items.as_slice())
+    }
+
+    /// Whether nothing is on offer.
+    fn is_empty(&self) -> bool
+        ensures { IsTrue result → self.now ≡ [] }
+    {
+        self.older.is_empty() && self.items.is_empty()
     }
 
     /// Whether the reply may be on offer to the process, as far as the bits tell.
@@ -355,22 +366,82 @@ impl OfferList {
         self.bits | offer_bit(process, reply) == self.bits
     }
 
-    /// Puts the offers last that may still be taken.
+    /// Takes in those of the offers that may still be taken.
     #[inline(always)]
-    pub fn push_watched<O: SeqObject>(
+    pub fn take_watched<O: SeqObject>(
         &mut self,
         object: &O,
         alloc: Global,
         pending: &Pending,
         offers: &Offers,
     ) -> Result<(), OutOfMemory>
+        requires { self.old ≡ [] }
+        ensures { OnOk result (self.new ≡ watched_of (O.observing object.now) pending.now offers.now) }
+    {
+        let (older, newest) = offers.parts();
+        self.share_watched(object, alloc, pending, older)?;
+        self.push_watched(object, alloc, pending, newest)?;
+        self.put_many_aside(alloc)?;
+        Ok(())
+    }
+
+    /// Takes in what may still be taken of the batches.
+    #[inline(always)]
+    fn share_watched<O: SeqObject>(
+        &mut self,
+        object: &O,
+        alloc: Global,
+        pending: &Pending,
+        batches: &[Rc<Batch>],
+    ) -> Result<(), OutOfMemory>
+        requires { self.old ≡ [] }
+        ensures { OnOk result (self.new ≡ watched_of (O.observing object.now) pending.now (all_of batches.now)) }
+    {
+        if batches.is_empty() {
+            return Ok(());
+        }
+        share_watched(object, alloc, pending, batches, &mut self.older)?;
+        self.bits |= bits_of(self.older.as_slice());
+        Ok(())
+    }
+
+    /// Puts the offers last that may still be taken.
+    #[inline(always)]
+    fn push_watched<O: SeqObject>(
+        &mut self,
+        object: &O,
+        alloc: Global,
+        pending: &Pending,
+        offers: &[(usize, (u64, Reply))],
+    ) -> Result<(), OutOfMemory>
         ensures { OnOk result (self.new ≡ self.old ++ watched_of (O.observing object.now) pending.now offers.now) }
     {
-        for offer in offers.as_slice() {
+        for offer in offers {
             if is_watching(object, pending, offer.1.0) {
                 self.push(offer.0, offer.1.0, offer.1.1.copy(alloc)?)?;
             }
         }
+        Ok(())
+    }
+
+    /// Puts the newest offers aside as a batch, if they are many.
+    #[inline(always)]
+    fn put_many_aside(&mut self, alloc: Global) -> Result<(), OutOfMemory>
+        ensures { OnOk result (self.new ≡ self.old) }
+    {
+        if self.items.len() < MANY {
+            return Ok(());
+        }
+        self.put_aside(alloc)
+    }
+
+    /// Puts the newest offers aside as a batch.
+    #[inline(never)]
+    fn put_aside(&mut self, alloc: Global) -> Result<(), OutOfMemory>
+        ensures { OnOk result (self.new ≡ self.old) }
+    {
+        put_aside(alloc, &mut self.older, self.items.as_slice())?;
+        self.items.clear();
         Ok(())
     }
 
@@ -385,11 +456,29 @@ impl OfferList {
         }
     }
 
+    /// Whether the reply was surely offered to the process. Where many offers are put aside it is looked for among the newest alone,
+    /// so it may be on offer twice, which costs memory.
+    fn was_offered(&self, process: u64, reply: &Reply) -> bool
+        ensures { IsTrue result → (round : ℕ) × Contains self.now (round, (process, reply.now)) }
+    {
+        let (older, newest) = self.parts();
+        if let Some(_) = round_in(newest, process, reply) {
+            return true;
+        }
+        if !are_few(older) {
+            return false;
+        }
+        match round_among(older, process, reply) {
+            Some(_) => true,
+            None => false,
+        }
+    }
+
     /// Offers the reply in the round, unless it was offered before.
     fn offer(&mut self, round: usize, process: u64, reply: Reply) -> Result<(), OutOfMemory>
         ensures { OnOk result (IsOffering (λ x. x ≡ (process, reply)) round self.old self.new) }
     {
-        if self.may_offer(process, &reply) && round_in(self.as_slice(), process, &reply).is_some() {
+        if self.may_offer(process, &reply) && self.was_offered(process, &reply) {
             return Ok(());
         }
         self.push(round, process, reply)

@@ -165,7 +165,8 @@ impl<'a, O: SeqObject> Telling<'a, O> {
         ensures added { OnOk result (AreAdded (O.starts self.now.object.now) (O.step self.now.object.now) (O.observing self.now.object.now) self.now.pending.now member.now nodes.old nodes.new out.old.items out.new.items) }
         ensures taken { OnOk result (All (IsTaken self.now.pending.now member.now out.new.items) member.now.0.offers) }
     {
-        for offer in member.offers().as_slice() {
+        let offers = member.offers().listed(self.alloc)?;
+        for offer in offers.as_slice() {
             self.take_one(member, offer, out, nodes)?;
         }
         Ok(())

@@ -1,25 +1,33 @@
-use Rattle.std.proofs.Common.{◌≡◌, ℕ, refl, sym, ◌∙◌, true, true≢false}
+use Rattle.std.proofs.Common.{ℕ, ◌≡◌, true, true≢false, All, subst, sym, ◌∙◌}
+use Rattle.std.proofs.lemmas.List.Elements.{All-append}
 use Rattle.lin_events.specs.declared.calls.Reply.{Reply}
-use Rattle.lin_frontier.specs.lemmas.Each.{all_more, not_all, all_end}
+use Rattle.lin_members.specs.Batches.{all_of}
 use Rattle.lin_members.specs.Members.{IsOnOffer}
 use Rattle.lin_frontier.specs.Placing.{IsAbsent}
 use Rattle.lin_members.specs.Searching.{is_watching}
+use Rattle.lin_members.proofs.Batching.{each_before, each_behind}
 use Rattle.lin_members.proofs.domination.has_offers.Goals as goal
 
-pub returns-then-not-has_offer_at : goal.returns-then-not-has_offer_at
-returns-then-not-has_offer_at g c =
-    let same = c.as_slice-offer-items.ensures in (
-      λ t. absurd (true≢false (sym t)),
-      λ all. absurd (not_all c.args.offers.now c.loop-offer.offer-index c.offer-item.result (rw same at c.loop-offer-test.true) (rw same at c.offer-item.is) (λ (x : ℕ × (ℕ × Reply)). is_watching (g.O.SeqObject.observing c.args.object.now) c.args.pending.now x.1.0 ≡ true → IsAbsent x.1.0 c.args.member.now.0.placed → IsOnOffer c.args.member.now.0 x.1) (λ holds. true≢false (sym (c.has_offer_at.ensures.1 holds) ∙ c.if-not-has_offer_at.true)) all),
+pub returns-then-has_all : goal.returns-then-has_all
+returns-then-has_all g c =
+    let older = all_of c.parts.result.0.now in
+    let newest = c.parts.result.1.now in (
+      λ t.
+          subst (All (λ (x : ℕ × (ℕ × Reply)). is_watching (g.O.SeqObject.observing c.args.object.now) c.args.pending.now x.1.0 ≡ true → IsAbsent x.1.0 c.args.member.now.0.placed → IsOnOffer c.args.member.now.0 x.1)) (sym c.parts.ensures)
+          (All-append (λ (x : ℕ × (ℕ × Reply)). is_watching (g.O.SeqObject.observing c.args.object.now) c.args.pending.now x.1.0 ≡ true → IsAbsent x.1.0 c.args.member.now.0.placed → IsOnOffer c.args.member.now.0 x.1) older newest (c.has_batches.ensures.0 t) (c.has_all.ensures.0 c.if-has_all.true)),
+      λ all.
+          c.has_batches.ensures.1
+          (each_before (λ (x : ℕ × (ℕ × Reply)). is_watching (g.O.SeqObject.observing c.args.object.now) c.args.pending.now x.1.0 ≡ true → IsAbsent x.1.0 c.args.member.now.0.placed → IsOnOffer c.args.member.now.0 x.1) older newest
+          (subst (All (λ (x : ℕ × (ℕ × Reply)). is_watching (g.O.SeqObject.observing c.args.object.now) c.args.pending.now x.1.0 ≡ true → IsAbsent x.1.0 c.args.member.now.0.placed → IsOnOffer c.args.member.now.0 x.1)) c.parts.ensures all)),
     )
 
-pub loop-offer-preserved : goal.loop-offer-preserved
-loop-offer-preserved g c =
-    let same = c.as_slice-offer-items.ensures in all_more c.args.offers.now c.loop-offer.offer-index c.offer-item.result (rw same at c.loop-offer-test.true) (rw same at c.offer-item.is) (λ (x : ℕ × (ℕ × Reply)). is_watching (g.O.SeqObject.observing c.args.object.now) c.args.pending.now x.1.0 ≡ true → IsAbsent x.1.0 c.args.member.now.0.placed → IsOnOffer c.args.member.now.0 x.1) c.loop-offer.invariant (c.has_offer_at.ensures.0 c.if-not-has_offer_at.false)
-
-pub returns : goal.returns
-returns g c =
-    let same = c.as_slice-offer-items.ensures in (
-      λ _. all_end (λ (x : ℕ × (ℕ × Reply)). is_watching (g.O.SeqObject.observing c.args.object.now) c.args.pending.now x.1.0 ≡ true → IsAbsent x.1.0 c.args.member.now.0.placed → IsOnOffer c.args.member.now.0 x.1) c.args.offers.now c.loop-offer.offer-index (rw same at c.loop-offer-test.false) c.loop-offer.invariant,
-      λ _. refl,
+pub returns-else-has_all : goal.returns-else-has_all
+returns-else-has_all g c =
+    let older = all_of c.parts.result.0.now in
+    let newest = c.parts.result.1.now in (
+      λ t. absurd (true≢false (sym t ∙ c.if-has_all.false)),
+      λ all.
+          c.has_all.ensures.1
+          (each_behind (λ (x : ℕ × (ℕ × Reply)). is_watching (g.O.SeqObject.observing c.args.object.now) c.args.pending.now x.1.0 ≡ true → IsAbsent x.1.0 c.args.member.now.0.placed → IsOnOffer c.args.member.now.0 x.1) older newest
+          (subst (All (λ (x : ℕ × (ℕ × Reply)). is_watching (g.O.SeqObject.observing c.args.object.now) c.args.pending.now x.1.0 ≡ true → IsAbsent x.1.0 c.args.member.now.0.placed → IsOnOffer c.args.member.now.0 x.1)) c.parts.ensures all)),
     )

@@ -7,11 +7,11 @@ pub loop-offer-init : goal.loop-offer-init
 loop-offer-init g c = taking_start _ _ _ _ _ _ _
 
 pub take_one-requires : goal.take_one-requires
-take_one-requires g c = let same = c.as_slice-offer-items.ensures ∙ c.offers.ensures in (c.loop-offer.offer-index, (rw same at c.loop-offer-test.true), sym (rw same at c.offer-item.is))
+take_one-requires g c = let same = c.as_slice-offer-items.ensures.value ∙ c.in_ok-offers.ensures ∙ c.offers.ensures in (c.loop-offer.offer-index, (rw same at c.loop-offer-test.true), sym (rw same at c.offer-item.is))
 
 pub loop-offer-preserved : goal.loop-offer-preserved
 loop-offer-preserved g c =
-    let same = c.as_slice-offer-items.ensures ∙ c.offers.ensures in
+    let same = c.as_slice-offer-items.ensures.value ∙ c.in_ok-offers.ensures ∙ c.offers.ensures in
     taking_next _ _ _ _ _ _ _ c.loop-offer.offer-index c.offer-item.result c.loop-offer.nodes c.take_one.new.nodes c.loop-offer.out.items c.take_one.new.out.items (rw same at c.loop-offer-test.true) (rw same at c.offer-item.is)
     c.take_one.ensures.grown c.in_ok-take_one.ensures.added c.in_ok-take_one.ensures.taken c.loop-offer.invariant
 
@@ -26,5 +26,5 @@ returns-clause-added g c = c.loop-offer.invariant.added
 
 pub returns-clause-taken : goal.returns-clause-taken
 returns-clause-taken g c =
-    let same = c.as_slice-offer-items.ensures ∙ c.offers.ensures in
+    let same = c.as_slice-offer-items.ensures.value ∙ c.in_ok-offers.ensures ∙ c.offers.ensures in
     taking_end _ _ _ _ _ _ _ c.loop-offer.offer-index c.loop-offer.nodes c.loop-offer.out.items (rw same at c.loop-offer-test.false) c.loop-offer.invariant

@@ -1,5 +1,5 @@
 use Rattle.std.proofs.Common.{◌≡◌, All, take}
-use Rattle.lin_members.proofs.offers.round_in.Given as goal
+use Rattle.lin_members.proofs.batches.round_in.Given as goal
 
 abbrev pub invariant-loop-offer : goal.invariant-loop-offer
 invariant-loop-offer l = All (λ o. o.1 ≡ (l.process, l.reply) → ⊥) (take l.offer-index l.offers)

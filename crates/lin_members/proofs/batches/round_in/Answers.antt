@@ -2,7 +2,7 @@ use Rattle.std.proofs.Common.{◌≡◌, ℕ, refl}
 use Rattle.std.proofs.lemmas.List.Elements.{All-contains}
 use Rattle.lin_events.specs.declared.calls.Reply.{Reply}
 use Rattle.lin_frontier.specs.lemmas.Each.{all_end}
-use Rattle.lin_members.proofs.offers.round_in.Goals as goal
+use Rattle.lin_members.proofs.batches.round_in.Goals as goal
 
 pub returns-clause-none : goal.returns-clause-none
 returns-clause-none c = λ round inside.

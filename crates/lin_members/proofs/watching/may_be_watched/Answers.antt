@@ -3,7 +3,7 @@ use Rattle.std.proofs.lemmas.List.Elements.{All-more}
 use Rattle.lin_frontier.specs.declared.pending.Open.{Open}
 use Rattle.lin_frontier.specs.lemmas.Each.{all_end}
 use Rattle.lin_members.specs.lemmas.Pruned.{none_waits}
-use Rattle.lin_members.proofs.offers.may_be_watched.Goals as goal
+use Rattle.lin_members.proofs.watching.may_be_watched.Goals as goal
 
 pub loop-operation-preserved : goal.loop-operation-preserved
 loop-operation-preserved g c =
