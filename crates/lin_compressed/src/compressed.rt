@@ -479,7 +479,7 @@ impl<O: SeqObject> Compressed<O> {
         overwritten_can_go(object);
         rounds_spell_members(object);
         let _ = nodes.len();
-        let mut members = Vec::new(alloc);
+        let mut members = Vec::with_capacity(alloc, 1)?;
         push_member(&mut members, Member::start(object.start(alloc)))?;
         Ok(Compressed { members })
     }

@@ -183,7 +183,7 @@ impl<O: SeqObject> Compressed<O> {
     pub fn copy(&self, alloc: Global, object: &O) -> Result<Compressed<O>, OutOfMemory>
         ensures { IfOk result (λ copy. copy ≡ self.now) }
     {
-        let mut members = Vec::new(alloc);
+        let mut members = Vec::with_capacity(alloc, self.members.len())?;
         for member in &self.members {
             push_member(&mut members, same(object, alloc, member)?)?;
         }
