@@ -16,6 +16,10 @@ use std::alloc::{AllocError, Global};
 /// The words for the ways in which an answer is printed.
 const FORMATS: [&str; 2] = ["text", "json"];
 
+/// What stands below the help of `edit`: its commands.
+const EDIT_COMMANDS: &str =
+    "Commands, a line each on standard input:\n  append MAP     puts an event last\n  replace N MAP  puts an event in place of the one at position N\n  remove N       takes the event at position N out\n  truncate N     keeps the first N events\n  kind KEY KIND  names the kind of one object\n  budget N       names the budget\n  ask [KEY]      asks for the whole, or for one object\n  order [KEY]    the same, and tells a legal order\n  report         asks for all objects and the whole\n  explain [KEY]  tells why the answer is what it is\n  refute KEY     makes a refutation of one object and checks it\n  pull           reads FILE to its present end and appends its events\n  work           tells how much was done so far\nExample: printf 'pull\\nask\\n' | lincheck edit history.edn";
+
 fn format_words<'a>() -> &'a [&'a str]
     ensures { map (λ word. word.now) result.now ≡ said.format_words }
 {
@@ -227,7 +231,7 @@ fn edit_command<'a>(alloc: Global, kinds: &'a [&'a str]) -> Result<Command<'a>, 
         .about(
             "Carries out the commands of standard input on a history; pull appends FILE's events",
         )
-        .after_help("Example: printf 'pull\\nask\\n' | lincheck edit history.edn")
+        .after_help(EDIT_COMMANDS)
         .arg(optional_file_argument(alloc))?;
     with_options(alloc, kinds, command)
 }
