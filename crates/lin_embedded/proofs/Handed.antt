@@ -3,7 +3,7 @@ use Rattle.std.proofs.Common.{ℕ, List, sym, subst}
 use Rattle.lin_texts.specs.declared.status.Status.{Status}
 use Rattle.lin_embedded.specs.Calls.{HandsBack, IsJust, Telling}
 use Rattle.lin_embedded.specs.declared.handing.Ended.{Ended}
-use Rattle.lin_embedded.specs.declared.handing.Ended.TheVariants.{Told, BadOptions, OutOfMemory, TooLittleRoom}
+use Rattle.lin_embedded.specs.declared.handing.Ended.TheVariants.{Told, BadOptions, OutOfMemory, TooLittleRoom, Done, NoSession}
 
 module _ (is_right : Telling) (found : List ℕ) (ends : Status) (right : is_right found ends) where
   as_found : (text : List ℕ) (status : Status) → IsJust found ends text status → is_right text status
@@ -14,3 +14,5 @@ module _ (is_right : Telling) (found : List ℕ) (ends : Status) (right : is_rig
   hands before after was needed TooLittleRoom (text, status, just, long, stands, counted) = (text, status, as_found text status just, long, stands, counted)
   hands before after was needed BadOptions it = it
   hands before after was needed OutOfMemory it = it
+  hands before after was needed Done it = it
+  hands before after was needed NoSession it = it

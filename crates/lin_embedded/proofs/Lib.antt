@@ -1,2 +1,3 @@
 mod Handed
 mod Printed
+mod Told

@@ -8,7 +8,7 @@ use Rattle.lin_report.specs.declared.explaining.Question.{Question}
 use Rattle.lin_embedded.specs.Options.{IsQuestion, format_of, settings_of}
 use Rattle.lin_embedded.specs.declared.options.Options.{Options}
 use Rattle.lin_embedded.specs.declared.handing.Ended.{Ended}
-use Rattle.lin_embedded.specs.declared.handing.Ended.TheVariants.{Told, BadOptions, OutOfMemory, TooLittleRoom}
+use Rattle.lin_embedded.specs.declared.handing.Ended.TheVariants.{Told, BadOptions, OutOfMemory, TooLittleRoom, Done, NoSession}
 
 -- It is right to print of these bytes: of all of them, or, where a fault of form or too many events refuse them, of those up to there.
 abbrev pub IsPrintedOf : Printing → List ℕ → List ℕ → Status → Type 0
@@ -40,6 +40,8 @@ HandsBack is_right before after was needed TooLittleRoom =
     (text : List ℕ) × (status : Status) × is_right text status × (length before < length text) × (after ≡ before) × (needed ≡ length text)
 HandsBack is_right before after was needed BadOptions = (after ≡ before) × (needed ≡ was)
 HandsBack is_right before after was needed OutOfMemory = (after ≡ before) × (needed ≡ was)
+HandsBack is_right before after was needed Done = ⊥
+HandsBack is_right before after was needed NoSession = ⊥
 
 -- the numbers of statuses, as the command exits with them
 abbrev pub status_number : Status → ℕ
@@ -54,7 +56,9 @@ abbrev pub number_of : Ended → ℕ
 number_of (Told status) = status_number status
 number_of BadOptions = 5
 number_of OutOfMemory = 6
+number_of NoSession = 7
 number_of TooLittleRoom = 8
+number_of Done = 0
 
 -- what the number of a call says: it is that of an end by which this is handed back, and bad options end it just where they are bad
 abbrev pub Ends : Telling → Type 0 → List ℕ → List ℕ → ℕ → ℕ → ℕ → Type 0

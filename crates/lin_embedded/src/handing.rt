@@ -23,6 +23,10 @@ pub enum Ended {
     OutOfMemory,
     /// The text is longer than the room.
     TooLittleRoom,
+    /// What was asked for was done.
+    Done,
+    /// The handle holds no session.
+    NoSession,
 }
 
 /// The number of a status, as the command exits with it.
@@ -47,7 +51,9 @@ impl Ended {
             Ended::Told(status) => status_number(status),
             Ended::BadOptions => 5,
             Ended::OutOfMemory => 6,
+            Ended::NoSession => 7,
             Ended::TooLittleRoom => 8,
+            Ended::Done => 0,
         }
     }
 }

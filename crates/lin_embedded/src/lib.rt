@@ -5,7 +5,9 @@ mod asking;
 mod calls;
 mod handing;
 mod options;
+mod sessions;
 
 pub use calls::{check, explain};
 pub use handing::Ended;
 pub use options::Options;
+pub use sessions::{session_ask, session_feed, session_free, session_new, session_order};

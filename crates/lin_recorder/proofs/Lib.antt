@@ -1,0 +1,3 @@
+pub mod AsBox
+pub mod Reading
+pub mod Asking

@@ -1,0 +1,4 @@
+pub mod Recorders
+pub mod inner
+pub mod Held
+pub mod Handles
