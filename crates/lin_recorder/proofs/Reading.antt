@@ -56,18 +56,27 @@ one_more settings bytes s s' names f f' hand hand' event read took room put =
           (took.2 m bytes h (read.sees m (is.0 ∙ took.1, is.1)));
     }
 
--- the event that was taken is in hand, and the history as it was
-pub put_back : (settings : Settings) (bytes : List ℕ) (s s' : Standing) (names : List (List ℕ)) (f f' : Followed) (hand hand' : Option Event) (event : Event)
+-- nothing waits
+pub nothing_taken : (settings : Settings) (bytes : List ℕ) (s : Standing) (names : List (List ℕ)) (f f' : Followed) (hand hand' : Option Event)
+    → HasRead settings (record { session = s; names = names; follow = f; in_hand = hand }) bytes → hand' ≡ hand → f' ≡ f
+    → HasRead settings (record { session = s; names = names; follow = f'; in_hand = hand' }) bytes
+nothing_taken settings bytes s names f f' hand hand' read same_hand same =
+    subst (λ (x : Option Event). HasRead settings (record { session = s; names = names; follow = f'; in_hand = x }) bytes) (sym same_hand)
+    (subst (λ (x : Followed). HasRead settings (record { session = s; names = names; follow = x; in_hand = hand }) bytes) (sym same) read)
+
+-- the event that was taken and handed back is in hand, and the history as it was
+pub put_back : (settings : Settings) (bytes : List ℕ) (s s' : Standing) (names : List (List ℕ)) (f f' : Followed) (hand hand' : Option Event) (event back : Event)
     → HasRead settings (record { session = s; names = names; follow = f; in_hand = hand }) bytes → TakesNext hand hand' f f' (Some event)
-    → s'.present ≡ s.present → HasRead settings (record { session = s'; names = names; follow = f'; in_hand = Some event }) bytes
-put_back settings bytes s s' names f f' hand hand' event read took same =
+    → back ≡ event → s'.present ≡ s.present → HasRead settings (record { session = s'; names = names; follow = f'; in_hand = Some back }) bytes
+put_back settings bytes s s' names f f' hand hand' event back read took handed same =
     let is_history : s'.present.history ≡ s.present.history = ap (λ p. p.history) same in
     record {
       present = same ∙ read.present ∙ ap (opened settings) (sym is_history);
       few = subst (λ (h : List Event). length h ≤ limit) (sym is_history) read.few;
       keyed = took.1 ∙ read.keyed;
       once = read.once;
-      sees = λ m is. subst (λ (h : List Event). Sees m f' bytes (h ++ event ∷ [])) (sym is_history) (took.2 m bytes s.present.history (read.sees m (is.0 ∙ took.1, is.1)));
+      sees = λ m is. subst (λ (e : Event). Sees m f' bytes (s'.present.history ++ e ∷ [])) (sym handed)
+          (subst (λ (h : List Event). Sees m f' bytes (h ++ event ∷ [])) (sym is_history) (took.2 m bytes s.present.history (read.sees m (is.0 ∙ took.1, is.1))));
     }
 
 -- a piece was taken in

@@ -29,6 +29,7 @@ returns c =
         saying settings mid bytes now,
         c.in_ok-answer.answer,
         subst (λ (p : Present). IsAnswer p Whole c.in_ok-answer.answer) (all_brought settings mid bytes now c.in_ok-bring_in.ensures.brought) c.in_ok-answer.ensures.answer,
-        is,
+        is.0,
+        is.1,
       )) c.with_order.ensures,
     ))
