@@ -85,7 +85,8 @@ static void try_session(const lincheck_options *options, const uint8_t *history,
     uint64_t events = 77, at = 77;
     size_t needed = 12345;
     lincheck_session_free(&session);
-    if (lincheck_session_feed(&session, history, length, &events) != LINCHECK_NO_SESSION || lincheck_session_ask(&session, &at) != LINCHECK_NO_SESSION ||
+    if (lincheck_session_feed(&session, history, length, &events) != LINCHECK_NO_SESSION ||
+        lincheck_session_ask(&session, &at) != LINCHECK_NO_SESSION ||
         lincheck_session_order(&session, room, sizeof room, &needed) != LINCHECK_NO_SESSION || events != 77 || at != 77 || needed != 12345)
         fail("a session where there is none");
     uint32_t status = lincheck_session_new(options, &session);
@@ -96,8 +97,8 @@ static void try_session(const lincheck_options *options, const uint8_t *history,
     uint32_t fed = feed(&session, history, length, length ? length : 1, &events);
     status = lincheck_session_ask(&session, &at);
     printf("session: fed %u, events %llu, status %u, at %llu\n", fed, (unsigned long long)events, status, (unsigned long long)at);
-    if (lincheck_session_order(&session, room, 0, &needed) != (needed ? LINCHECK_TOO_LITTLE_ROOM : status) ||
-        lincheck_session_order(&session, room, sizeof room, &needed) != status)
+    uint32_t short_of = lincheck_session_order(&session, room, 0, &needed);
+    if (short_of != (needed ? LINCHECK_TOO_LITTLE_ROOM : status) || lincheck_session_order(&session, room, sizeof room, &needed) != status)
         fail("another status with an order");
     fwrite(room, 1, needed, stdout);
     printf("\n");
@@ -105,7 +106,7 @@ static void try_session(const lincheck_options *options, const uint8_t *history,
     bad.kind = 6;
     if (lincheck_session_new(&bad, &session) != LINCHECK_BAD_OPTIONS || lincheck_session_ask(&session, &at) != status)
         fail("a session that bad options changed");
-    for (size_t size = 1; size < 8; size += 6) {
+    for (size_t size = 1; size < 8; size += 6) { /* byte by byte, and 7 at a time */
         uint64_t count = 0, place = 77;
         if (lincheck_session_new(options, &session) != LINCHECK_DONE) /* what the handle holds is freed */
             fail("no session");
