@@ -1,5 +1,5 @@
 -- What a session's calls tell, as their numbers say it.
-use Rattle.std.proofs.Common.{◌≡◌, ◌≢◌, ℕ, Bool, List, Option, None, Some, Result, Ok, Err, sym, ap, subst, ◌∙◌}
+use Rattle.std.proofs.Common.{◌≡◌, ◌≢◌, ℕ, Bool, List, Option, Some, Ok, ap, subst}
 use Rattle.lin_texts.specs.declared.status.Status.{Status}
 use Rattle.lin_report.specs.Reports.{answer_status}
 use Rattle.lin_recorder.specs.Recorders.{Feeds, Orders}

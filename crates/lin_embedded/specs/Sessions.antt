@@ -13,7 +13,7 @@ use Rattle.lin_embedded.specs.Calls.{HandsBack, Telling, number_of}
 use Rattle.lin_embedded.specs.Options.{AreOptions, settings_of}
 use Rattle.lin_embedded.specs.declared.options.Options.{Options}
 use Rattle.lin_embedded.specs.declared.handing.Ended.{Ended}
-use Rattle.lin_embedded.specs.declared.handing.Ended.TheVariants.{Told, BadOptions, OutOfMemory, TooLittleRoom, Done, NoSession}
+use Rattle.lin_embedded.specs.declared.handing.Ended.TheVariants.{Told, BadOptions, OutOfMemory, Done, NoSession}
 
 -- A session is begun in place of what the handle held, by options that say something; or they say nothing, and it holds what it held; or memory was
 -- refused, and it holds none.
