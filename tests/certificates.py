@@ -192,6 +192,19 @@ def is_crossed(ops, v, w, b, a, c=None, e=None):
     return left_once(ops, v) and c is not None and is_held_first(ops, c, v, e, w)
 
 
+def spenders(ops, value):
+    """The ok compare-and-sets that took the register from the value to another one."""
+    return [op for op in ops if op.how == 'ok' and op.call.name == 'cas' and op.call.value[0] == value != op.call.value[1]]
+
+
+def those_that_leave(ops, value):
+    return [op for op in ops if op.counts() and value in op.leaves()]
+
+
+def is_spent(ops, value):
+    return len(spenders(ops, value)) > len(those_that_leave(ops, value)) + (value is None)
+
+
 def puts(ops, name, *values):
     return [op for op in ops if op.counts() and op.does(name, *values)]
 
@@ -217,6 +230,35 @@ def is_passed(ops, i, j, d, value, by):
 
 def is_inside(ops, i, d, value):
     return i.does('enqueue', value) and i.is_before(d) and d.took(None) and stays(ops, value, d)
+
+
+def put_before(ops, place):
+    """The ok enqueues that are before the operation, the last called first."""
+    return [op for op in ops[::-1] if op.does('enqueue') and op.is_before(place)]
+
+
+def may_take_ahead(ops, d):
+    """The other dequeues that may have taken something out ahead of this one, the last called first."""
+    return [op for op in ops[::-1] if op is not d and op.does('dequeue') and op.counts() and not op.took(None) and not d.is_before(op)]
+
+
+def is_remaining(ops, d):
+    return d.took(None) and len(put_before(ops, d)) > len(may_take_ahead(ops, d))
+
+
+def taken_before(ops, d, value):
+    return [op for op in ops if op.took(value) and op.is_before(d)]
+
+
+def put_behind(ops, d, value):
+    """The first enqueue of the value that the dequeue can have taken: as many come before it as dequeues took the value before."""
+    return puts(ops, 'enqueue', value)[len(taken_before(ops, d, value)):][:1]
+
+
+def is_preceded(ops, j, d, value):
+    early = [op for op in puts(ops, 'enqueue', value) if op.at < j.at]
+    return (value is not None and d.took(value) and j in puts(ops, 'enqueue', value) and len(early) <= len(taken_before(ops, d, value))
+            and len(put_before(ops, j)) > len(may_take_ahead(ops, d)))
 
 
 def is_unadded(ops, read, value):
@@ -332,6 +374,11 @@ class Lines:
             self.put('  %d before %d: %s, %s', v, w, self.returned(c), self.called(e))
         self.put('  %d before %s: %s, %s', w, value_words(v), self.returned(b), self.called(a))
 
+    def spent(self, v):
+        failed = [op for op in self.ops if op.how == 'failed' and v in op.leaves()]
+        why = 'why: a cas from %s to another value was ok %%s, and %s was left at most %%s' % (value_words(v), value_words(v))
+        self.sides(why + ', beside the beginning' * (v is None), spenders(self.ops, v), those_that_leave(self.ops, v), failed)
+
     def taken(self, v):
         self.sides('why: %d was taken out %%s and put in at most %%s' % v, taken_by(self.ops, v), puts(self.ops, 'enqueue', v), self.failed_to('enqueue', v))
 
@@ -345,6 +392,25 @@ class Lines:
         self.put('why: %d was in the queue', v)
         self.put('  put in: %s, %s', self.returned(i), self.called(d))
         self.put('  taken out: nothing that may have taken %d out was called before %s', v, self.returned(d))
+
+    def surplus(self, place, d, what):
+        put, may = put_before(self.ops, place), may_take_ahead(self.ops, d)
+        self.put('why: %s put in before %s, and at most %d can have been taken out before %s', '1 item was' if len(put) == 1 else '%d items were' % len(put),
+                 self.called(place), len(may), what)
+        return put, may
+
+    def preceded(self, d, j, v):
+        put, may = self.surplus(j, d, '%d was: %s' % (v, self.returned(d)))
+        early = [op for op in puts(self.ops, 'enqueue', v) if op.at < j.at]
+        if early:
+            self.put('  %d was put in at most %s before that, and taken out %s before %s', v, times(len(early)), times(len(taken_before(self.ops, d, v))), self.called(d))
+        self.some(self.returned, put)
+        self.some(self.called, may)
+
+    def remaining(self, d):
+        put, may = self.surplus(d, d, 'it returned')
+        self.some(self.returned, put)
+        self.some(self.called, may)
 
     def unadded(self, r, v):
         self.nothing_does('adds %d' % v, r, self.failed_to('add', v), 'no operation adds it')
@@ -392,6 +458,7 @@ def held_of_register(ops, failing):
         return a is not failing, -a.at, -b.end, c.end if c else -1, e.at if e else -1, rank(v), w
 
     yield from (('crossed', certificate) for certificate in sorted(crossed, key=wanted))
+    yield from (('spent', (v,)) for v in sorted(values, key=rank) if is_spent(ops, v))
 
 
 def held_of_queue(kind, ops):
@@ -402,6 +469,9 @@ def held_of_queue(kind, ops):
         first = puts(ops, 'enqueue', w)[:1]
         yield from (('passed', (d, i, i.call.value, w)) for j in first if is_passed(ops, i, j, d, i.call.value, w))
     yield from (('inside', (d, i, i.call.value)) for d in backwards for i in backwards if is_inside(ops, i, d, i.call.value))
+    took = [(d, v) for d in backwards for v in values if kind == 'fifo' and d.took(v)]
+    yield from (('preceded', (d, j, v)) for d, v in took for j in put_behind(ops, d, v) if is_preceded(ops, j, d, v))
+    yield from (('remaining', (d,)) for d in backwards if is_remaining(ops, d))
 
 
 def held_of_set(ops):

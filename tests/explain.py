@@ -24,7 +24,7 @@ from concurrent.futures import ProcessPoolExecutor
 sys.dont_write_bytecode = True
 from certificates import rank, wanted
 from edits import KINDS, NAMES, Event, Model, edn
-from judges import NUMBER, STATUS, Judge, Told, Wrong, compact, head, judge_report
+from judges import NO_REASON, NUMBER, STATUS, Judge, Told, Wrong, compact, head, judge_report
 from rows import built, maps
 
 HISTORIES = 3000
@@ -249,7 +249,7 @@ class Choosing(Judge):
         first = told.next
         form = super().certificate(told, kind, ops)
         failing = max((op for op in ops if op.end is not None), key=lambda op: op.end)
-        lines, right = told.lines[first:told.next], wanted(kind, ops, failing, self.spot)[1]
+        lines, right = told.lines[first:told.next], wanted(kind, ops, failing, self.spot)[1] or [NO_REASON]
         if lines != right:
             raise Wrong('another certificate is wanted. Told is\n%s\n  and not\n%s' % ('\n'.join(lines) or 'none', '\n'.join(right) or 'none'))
         return form

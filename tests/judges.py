@@ -5,14 +5,15 @@ import re
 
 from certificates import (
     MOST_LISTED, NOUNS, OTHER, certificates, event_words, is_counted, is_crossed, is_inside, is_late, is_lost, is_overwriting,
-    is_overwritten, is_passed, is_split, is_taken, is_twice, is_unadded, is_unwritten, items_words, operations_of, others_that_leave, puts, rank,
-    reply_words, state_words, tails, taken_by, times, value_words, wanted_form)
+    is_overwritten, is_passed, is_preceded, is_remaining, is_spent, is_split, is_taken, is_twice, is_unadded, is_unwritten, items_words, may_take_ahead,
+    operations_of, others_that_leave, put_before, puts, rank, reply_words, spenders, state_words, tails, taken_before, taken_by, those_that_leave, times, value_words, wanted_form)
 from edits import NAMES
 
 NUMBER, INTEGER = r'(?:0|[1-9]\d*)', r'(?:0|-?[1-9]\d*)'
 STATUS = {'yes': 0, 'no': 1, 'undecided': 2, 'ill-formed': 3, 'refused': 4}
 CALLS = ['register', 'cas-register', 'fifo', 'set', 'mutex', 'unordered-queue']  # the kinds, as texts list them
 MOST_IN_TABLE, MOST_BUDGET = 8, 1000000
+NO_REASON = 'why: no short reason was found'
 
 
 class Wrong(Exception):
@@ -251,7 +252,8 @@ class Judge:
     def certificate(self, told, kind, ops):
         """Reads the lines of a certificate, and gives its form, or None where there is none."""
         self.named = set()
-        if told.peek() is None or not told.peek().startswith('why: '):
+        if told.peek() == NO_REASON:
+            told.take()
             return None
         self.said = {
             'returned': {'%s returned at %s' % (o.words(False), self.spot(o.end)): o for o in ops if o.how == 'ok'},
@@ -265,9 +267,12 @@ class Judge:
                 (r'(\S+) was overwritten before (.+)', 'overwritten', self.overwritten),
                 (r'crossed values nil and (\S+), nil is the beginning and nothing leaves it', 'crossed', self.crossed_with_nil),
                 (r'crossed values (\S+) and (\S+), each left by one operation', 'crossed', self.crossed),
+                (r'a cas from (\S+) to another value was ok (\d+ times?), and (\S+) was left at most (\d+ times?)(, beside the beginning)?', 'spent', self.spent),
                 (r'(\S+) was taken out (\d+ times?) and put in at most (\d+ times?)', 'taken', self.taken),
                 (r'(\S+) passed (\S+)', 'passed', self.passed),
                 (r'(\S+) was in the queue', 'inside', self.inside),
+                (r'(1 item was|\d+ items were) put in before (.+), and at most (\d+) can have been taken out before (\S+) was: (.+)', 'preceded', self.preceded),
+                (r'(1 item was|\d+ items were) put in before (.+), and at most (\d+) can have been taken out before it returned', 'remaining', self.remaining),
                 (r'nothing adds (\S+)', 'unadded', self.unadded),
                 (r'(\S+) was lost', 'lost', self.lost),
                 (r'two reads exclude each other', 'split', self.split),
@@ -322,6 +327,15 @@ class Judge:
         b, a = self.pair(told, '  %s before %s: ' % (w, v))
         return kind in ('register', 'cas-register') and value_of(v) is not None and is_crossed(ops, value_of(v), value_of(w), b, a, c, e)
 
+    def spent(self, told, kind, ops, value, goes, same, comes, beside):
+        value = value_of(value)
+        went, came = spenders(ops, value), those_that_leave(ops, value)
+        self.listed(told, went, 'returned')
+        self.listed(told, came, 'called')
+        self.listed(told, [o for o in ops if o.how == 'failed' and value in o.leaves()], 'failed')
+        return (kind in ('register', 'cas-register') and is_spent(ops, value) and (goes, comes) == (times(len(went)), times(len(came)))
+                and same == value_words(value) and (beside is not None) == (value is None))
+
     def taken(self, told, kind, ops, value, out, put):
         value = value_of(value)
         took, added = taken_by(ops, value), puts(ops, 'enqueue', value)
@@ -347,6 +361,34 @@ class Judge:
         returned = told.match(r'  taken out: nothing that may have taken (\S+) out was called before (.+)')
         return (kind in ('fifo', 'unordered-queue') and returned[1] == value and self.one_of(returned[2], 'returned') is d
                 and is_inside(ops, i, d, value_of(value)))
+
+    def last_ones(self, told, ops, verb):
+        """A line of the last three of these operations, the last called first, if there are any."""
+        if ops:
+            more = ', and %d more' % (len(ops) - 3) if len(ops) > 3 else ''
+            said = [next(words for words, op in self.said[verb].items() if op is it) for it in ops[:3]]
+            told.want('  ' + ', '.join(said) + more)
+            self.named |= set(ops[:3])
+
+    def surplus(self, told, ops, d, put, said, most):
+        """The lines of what was put in and what may have been taken out, where less was."""
+        may = may_take_ahead(ops, d)
+        self.last_ones(told, put, 'returned')
+        self.last_ones(told, may, 'called')
+        return said == ('1 item was' if len(put) == 1 else '%d items were' % len(put)) and int(most) == len(may) < len(put)
+
+    def preceded(self, told, kind, ops, said, first, most, value, taken):
+        value, j, d = value_of(value), self.one_of(first, 'called'), self.one_of(taken, 'returned')
+        early, outs = [op for op in puts(ops, 'enqueue', value) if op.at < j.at], taken_before(ops, d, value)
+        if early:
+            parts = told.match(r'  (\S+) was put in at most (.+) before that, and taken out (\d+ times?) before (.+)')
+            if parts.groups()[:3] != (value_words(value), times(len(early)), times(len(outs))) or self.one_of(parts[4], 'called') is not d:
+                return False
+        return self.surplus(told, ops, d, put_before(ops, j), said, most) and kind == 'fifo' and is_preceded(ops, j, d, value)
+
+    def remaining(self, told, kind, ops, said, first, most):
+        d = self.one_of(first, 'called')
+        return self.surplus(told, ops, d, put_before(ops, d), said, most) and kind in ('fifo', 'unordered-queue') and is_remaining(ops, d)
 
     def unadded(self, told, kind, ops, value):
         value, op = value_of(value), self.one_of(told.match(r'  (.+)')[1], 'returned')

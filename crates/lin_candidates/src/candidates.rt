@@ -1,4 +1,5 @@
 //! Certificates that may hold of operations: of each form the one that is wanted most. None is promised to hold.
+use crate::balances::{is_spender_named, preceded, remaining, spent};
 use crate::crossings::crossed;
 use crate::endings::{Ending, Operation};
 use lin_certificates::Certificate;
@@ -8,7 +9,7 @@ use std::alloc::Global;
 use std::collections::HashMap;
 
 /// So many operations that do the same are named by the lines of a certificate.
-const NAMED: usize = 3;
+pub const NAMED: usize = 3;
 
 /// A form of certificates.
 #[derive(Clone, Copy)]
@@ -17,9 +18,12 @@ pub enum Form {
     Unwritten,
     Overwritten,
     Crossed,
+    Spent,
     Taken,
     Passed,
     Inside,
+    Preceded,
+    Remaining,
     Unadded,
     Lost,
     Split,
@@ -29,14 +33,17 @@ pub enum Form {
 }
 
 /// The forms, in the order in which they are wanted.
-pub const FORMS: [Form; 13] = [
+pub const FORMS: [Form; 16] = [
     Form::Shape,
     Form::Unwritten,
     Form::Overwritten,
     Form::Crossed,
+    Form::Spent,
     Form::Taken,
     Form::Passed,
     Form::Inside,
+    Form::Preceded,
+    Form::Remaining,
     Form::Unadded,
     Form::Lost,
     Form::Split,
@@ -79,6 +86,7 @@ fn of_register(
         Form::Unwritten => Ok(unwritten(target)),
         Form::Overwritten => Ok(overwritten(target)),
         Form::Crossed => crossed(alloc, operations, target),
+        Form::Spent => Ok(spent(operations, target)),
         _ => Ok(None),
     }
 }
@@ -305,6 +313,7 @@ fn of_bag(
     match form {
         Form::Taken => Ok(taken(target)),
         Form::Inside if target.found_nothing() => inside(alloc, operations, target),
+        Form::Remaining if target.found_nothing() => Ok(remaining(operations, target)),
         _ => Ok(None),
     }
 }
@@ -318,6 +327,7 @@ fn of_fifo(
 ) -> Result<Option<Certificate>, OutOfMemory> {
     match form {
         Form::Passed => passed(alloc, operations, target),
+        Form::Preceded => Ok(preceded(operations, target)),
         _ => of_bag(alloc, form, operations, target),
     }
 }
@@ -599,6 +609,7 @@ pub fn candidate_naming(
 ) -> Result<Option<Certificate>, OutOfMemory> {
     match (kind, form) {
         (Kind::Fifo, Form::Passed) => passed_naming(alloc, operations, failing),
+        (_, Form::Spent) if !is_spender_named(operations, failing) => Ok(None),
         (_, Form::Taken | Form::Counted) if !is_named(operations, failing) => Ok(None),
         _ => candidate(alloc, kind, form, operations, failing),
     }

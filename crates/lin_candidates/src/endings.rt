@@ -52,6 +52,14 @@ impl<'a> Operation<'a> {
         }
     }
 
+    /// The value that it took a register from to another one.
+    pub fn spent(&self) -> Option<Val> {
+        match self.call {
+            Call::Cas(from, to) if from != to => Some(from),
+            _ => None,
+        }
+    }
+
     /// What it adds to a set, or puts into a queue.
     pub fn added(&self) -> Option<Item> {
         match self.call {

@@ -14,6 +14,17 @@ use std::alloc::Global;
 /// How many operations are looked at beside the failing one, the last invoked first.
 const LIMIT: usize = 64;
 
+/// How many of them where operations have to be counted for each.
+const FEW: usize = 16;
+
+/// How many operations are looked at for the form.
+fn most_tried(form: Form) -> usize {
+    match form {
+        Form::Spent | Form::Preceded | Form::Remaining => FEW,
+        _ => LIMIT,
+    }
+}
+
 /// The certificate, if there is one and it holds.
 fn tested(
     events: &[Event],
@@ -86,7 +97,7 @@ fn certificate_of(
 {
     let mut tried = 0;
     for operation in operations.iter().rev() {
-        if LIMIT <= tried {
+        if most_tried(form) <= tried {
             break;
         }
         let some = candidate(alloc, kind, form, operations, operation)?;

@@ -1,6 +1,7 @@
 //! A search for a certificate: candidates of each form, of which those that hold are answered.
 #![tactic(auto)]
 
+mod balances;
 mod candidates;
 mod crossings;
 mod endings;

@@ -10,8 +10,10 @@ use Rattle.lin_certificates.specs.Certificates.{Certifies, CertifiesBag, Certifi
 use Rattle.lin_certificates.specs.declared.certificate.Certificate.{Certificate}
 use Rattle.lin_certificates.specs.declared.certificate.Certificate.TheVariants as Form
 use Rattle.lin_certificates.proofs.LockLaws.{twice, unbalanced}
-use Rattle.lin_certificates.proofs.QueueLaws.{bag_inside, bag_taken, fifo_inside, fifo_passed, fifo_taken}
+use Rattle.lin_certificates.proofs.QueueLaws.{bag_inside, bag_remaining, bag_taken, fifo_inside, fifo_passed, fifo_remaining, fifo_taken}
+use Rattle.lin_certificates.proofs.FrontLaws.{preceded}
 use Rattle.lin_certificates.proofs.RegisterLaws.{crossed, no_members, overwritten, unwritten}
+use Rattle.lin_certificates.proofs.SpentLaws.{spent}
 use Rattle.lin_certificates.proofs.SetLaws.{late, no_value, none_added, one_lost, split}
 
 module _ (h : List Event) (order : List Placed) where
@@ -20,17 +22,21 @@ module _ (h : List Event) (order : List Placed) where
   of_register kind is legal (Form.Unwritten at v) holds = unwritten kind is h order legal at v holds
   of_register kind is legal (Form.Overwritten at v) holds = overwritten kind is h order legal at v holds
   of_register kind is legal (Form.Crossed v w early late back) holds = crossed kind is h order legal v w early late back holds
+  of_register kind is legal (Form.Spent v) holds = spent kind is h v order legal holds
   of_register kind is legal c holds = absurd holds
 
   of_bag : IsLegalOrderAs Bag h order → (c : Certificate) → CertifiesBag h c → ⊥
   of_bag legal (Form.Taken n) holds = bag_taken h order legal n holds
   of_bag legal (Form.Inside enqueue dequeue n) holds = bag_inside h order legal enqueue dequeue n holds
+  of_bag legal (Form.Remaining dequeue) holds = bag_remaining h order legal dequeue holds
   of_bag legal c holds = absurd holds
 
   of_fifo : IsLegalOrderAs Fifo h order → (c : Certificate) → CertifiesFifo h c → ⊥
   of_fifo legal (Form.Passed enqueue later dequeue n other) holds = fifo_passed h order legal enqueue later dequeue n other holds
   of_fifo legal (Form.Taken n) holds = fifo_taken h order legal n holds
   of_fifo legal (Form.Inside enqueue dequeue n) holds = fifo_inside h order legal enqueue dequeue n holds
+  of_fifo legal (Form.Remaining dequeue) holds = fifo_remaining h order legal dequeue holds
+  of_fifo legal (Form.Preceded later dequeue n) holds = preceded h order legal later dequeue n holds
   of_fifo legal c holds = absurd holds
 
   of_set : IsLegalOrderAs Set h order → (c : Certificate) → CertifiesSet h c → ⊥

@@ -2,8 +2,11 @@ pub mod Passing
 pub mod Numbers
 pub mod Outcomes
 pub mod RegisterLaws
+pub mod SpentLaws
 pub mod SetLaws
 pub mod QueueLaws
+pub mod CountLaws
+pub mod FrontLaws
 pub mod LockLaws
 pub mod Laws
 pub mod Deciding

@@ -28,7 +28,8 @@ use Rattle.lin_failures.specs.lemmas.Conflicting.{parted}
 use Rattle.lin_failures.specs.lemmas.Counting.{Changes, Puts, TakesOut, chosen_least, chosen_most, counted, overtaken}
 use Rattle.lin_failures.specs.lemmas.QueueConflicting.{one_alone, passed_later, passed_over, takes_call}
 use Rattle.lin_certificates.specs.Words.{Exactly, Returned, StaysOpen}
-use Rattle.lin_certificates.specs.Certificates.{CanAdd, IsInside, IsPassed, IsTaken, Stays, TookOut}
+use Rattle.lin_certificates.specs.Certificates.{CanAdd, IsInside, IsPassed, IsRemaining, IsTaken, Stays, TookOut}
+use Rattle.lin_certificates.proofs.CountLaws.{remaining_of}
 use Rattle.lin_certificates.proofs.Numbers.{the_one}
 use Rattle.lin_certificates.proofs.Outcomes.{not_added, outcome}
 use Rattle.lin_failures.specs.lemmas.Standing.{At, at_here, at_left, at_within, left_at, not_failed, ok_there, one_place, place_of, reply_there, stands_ahead, stands_in}
@@ -38,7 +39,7 @@ abbrev waiting : State → List Item → ℕ
 waiting (Queue q) ns = times ns q
 waiting _ ns = 0
 
-times_behind : (ns q : List Item) (x : Item) → times ns (q ++ x ∷ []) ≡ one ns x + times ns q
+pub times_behind : (ns q : List Item) (x : Item) → times ns (q ++ x ∷ []) ≡ one ns x + times ns q
 times_behind ns [] x = refl
 times_behind ns (y ∷ q) x = let rest = times_behind ns q x in omega (arith, rest)
 
@@ -71,7 +72,7 @@ none_waits (Queue (x ∷ q)) next ns step = absurd (apart step.1)
 none_waits s next ns step = absurd step
 
 -- what takes an item out is a dequeue that found it
-took_it : (call : Call) (reply : Reply) (n : Item) → Takes call reply n → (call ≡ Dequeue) × (reply ≡ Replied.Value (Held n))
+pub took_it : (call : Call) (reply : Reply) (n : Item) → Takes call reply n → (call ≡ Dequeue) × (reply ≡ Replied.Value (Held n))
 took_it Dequeue (Replied.Value (Held x)) n takes = (refl, ap (λ y. Replied.Value (Held y)) takes)
 took_it Dequeue reply n takes = absurd takes
 took_it call reply n takes = absurd takes
@@ -197,12 +198,18 @@ module _ (h : List Event) (order : List Placed) (legal : IsLegalOrderAs Bag h or
   pub bag_inside : (enqueue dequeue : ℕ) (n : Item) → IsInside h enqueue dequeue n → ⊥
   bag_inside = inside_of Bag inside changes (λ ns. refl) empties h order legal
 
+  pub bag_remaining : (dequeue : ℕ) → IsRemaining h dequeue → ⊥
+  bag_remaining = remaining_of Bag inside changes (λ ns. refl) empties h order legal
+
 module _ (h : List Event) (order : List Placed) (legal : IsLegalOrderAs Fifo h order) where
   pub fifo_taken : (n : Item) → IsTaken h n → ⊥
   fifo_taken = taken_of Fifo waiting moves (λ ns. refl) none_waits h order legal
 
   pub fifo_inside : (enqueue dequeue : ℕ) (n : Item) → IsInside h enqueue dequeue n → ⊥
   fifo_inside = inside_of Fifo waiting moves (λ ns. refl) none_waits h order legal
+
+  pub fifo_remaining : (dequeue : ℕ) → IsRemaining h dequeue → ⊥
+  fifo_remaining = remaining_of Fifo waiting moves (λ ns. refl) none_waits h order legal
 
   pub fifo_passed : (enqueue later dequeue : ℕ) (n other : Item) → IsPassed h enqueue later dequeue n other → ⊥
   fifo_passed enqueue later dequeue n other is = elim is.stays.open_later [

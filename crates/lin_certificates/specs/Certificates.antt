@@ -1,5 +1,5 @@
 -- What each form of a certificate says of the operations of one object. None of these has a legal order.
-use Rattle.std.specs.Prelude.{◌≡◌, ◌≢◌, ◌⊎◌, ◌<◌, ◌+◌, ℕ, List, Option, None, Some}
+use Rattle.std.specs.Prelude.{◌≡◌, ◌≢◌, ◌⊎◌, ◌<◌, ◌≤◌, ◌+◌, ℕ, List, Option, None, Some}
 use Rattle.lin_events.specs.declared.items.Item.{Item}
 use Rattle.lin_events.specs.declared.calls.Call.TheVariants.{Dequeue}
 use Rattle.lin_events.specs.declared.calls.Reply.TheVariants as Replied
@@ -13,7 +13,7 @@ use Rattle.lin_failures.specs.Adding.{Adds}
 use Rattle.lin_failures.specs.Conflicts.{Leaves}
 use Rattle.lin_failures.specs.QueueConflicts.{Takes}
 use Rattle.lin_failures.specs.SetConflicts.{Has, Lacks}
-use Rattle.lin_certificates.specs.Words.{Counts, Exactly, Gives, IsOfCalls, Needs, Returned, StaysOpen, Updates}
+use Rattle.lin_certificates.specs.Words.{AddsSome, Counts, Exactly, Gives, IsOfCalls, MayTakeAhead, Needs, Returned, Spends, StaysOpen, Updates}
 use Rattle.lin_certificates.specs.declared.words.Calls.{Calls}
 use Rattle.lin_certificates.specs.declared.words.Calls.TheVariants.{Acquires, Releases}
 use Rattle.lin_certificates.specs.declared.words.Sort.TheVariants as Sorted
@@ -79,6 +79,23 @@ pub record AreCrossed (h : List Event) (v : Val) (w : Item) (early late : ℕ) (
   pub in_turn : IsLeftAhead h (Held w) v early late
   pub again : IsAhead h v (Held w) back
 
+-- the operation is ok, and took the register from the value to another one
+abbrev pub Spent : List Event → Val → ℕ → Type 0
+Spent h v at = Returned h (λ call reply. Spends call v) at
+
+-- a register begins with nil, once
+abbrev pub begun : Val → ℕ
+begun Nil = 1
+begun (Held v) = 0
+
+-- the register was taken from the value to another one more often than it can have come to the value
+pub record IsSpent (h : List Event) (v : Val) : Type 0 where
+  pub comes : ℕ
+  pub goes : ℕ
+  pub all_come : Exactly comes (CanLeave h v)
+  pub all_go : Exactly goes (Spent h v)
+  pub fewer : comes + begun v < goes
+
 -- the operation counts and puts the item in, or adds it
 abbrev pub CanAdd : List Event → Item → ℕ → Type 0
 CanAdd h n at = Counts h (λ call. Adds call n) at
@@ -117,6 +134,42 @@ pub record IsInside (h : List Event) (enqueue dequeue : ℕ) (n : Item) : Type 0
   pub found : Returned h (λ call reply. (call ≡ Dequeue) × (reply ≡ Replied.Value Nil)) dequeue
   pub in_time : IsBefore h enqueue dequeue
   pub stays : Stays h n dequeue
+
+-- the operation is ok, puts some item in, and is before the place
+abbrev pub PutsBefore : List Event → ℕ → ℕ → Type 0
+PutsBefore h place at = Returned h (λ call reply. AddsSome call) at × IsBefore h at place
+
+-- the dequeue found nothing, and more items were put in before it than other dequeues may have taken out ahead of it
+pub record IsRemaining (h : List Event) (dequeue : ℕ) : Type 0 where
+  pub found : Returned h (λ call reply. (call ≡ Dequeue) × (reply ≡ Replied.Value Nil)) dequeue
+  pub puts : ℕ
+  pub takes : ℕ
+  pub all_puts : Exactly puts (PutsBefore h dequeue)
+  pub all_takes : Exactly takes (MayTakeAhead h dequeue)
+  pub fewer : takes < puts
+
+-- the operation is ok, took the item out, and is before the place; or it counts, puts the item in, and was invoked before the place
+abbrev pub TookBefore : List Event → Item → ℕ → ℕ → Type 0
+TookBefore h n place at = TookOut h n at × IsBefore h at place
+
+abbrev pub CanAddBelow : List Event → Item → ℕ → ℕ → Type 0
+CanAddBelow h n place at = CanAdd h n at × (at < place)
+
+-- The dequeue took the item out. At most as many enqueues of it were invoked before `later`, one of them, as dequeues took it before this one: so it
+-- took what was put in there or behind. And more items were put in before that than other dequeues may have taken out ahead of it.
+pub record IsPreceded (h : List Event) (later dequeue : ℕ) (n : Item) : Type 0 where
+  pub took : TookOut h n dequeue
+  pub some_later : CanAdd h n later
+  pub outs : ℕ
+  pub early : ℕ
+  pub puts : ℕ
+  pub takes : ℕ
+  pub all_outs : Exactly outs (TookBefore h n dequeue)
+  pub all_early : Exactly early (CanAddBelow h n later)
+  pub all_puts : Exactly puts (PutsBefore h later)
+  pub all_takes : Exactly takes (MayTakeAhead h dequeue)
+  pub in_turn : early ≤ outs
+  pub fewer : takes < puts
 
 -- the set has the item behind the ok operation
 abbrev pub Had : List Event → Item → ℕ → Type 0
@@ -181,15 +234,18 @@ CertifiesRegister h (Form.Shape at) = Returned h (λ call reply. Gives Sorted.Me
 CertifiesRegister h (Form.Unwritten at v) = IsUnwritten h at v
 CertifiesRegister h (Form.Overwritten at v) = IsOverwritten h at v
 CertifiesRegister h (Form.Crossed v w early late back) = AreCrossed h v w early late back
+CertifiesRegister h (Form.Spent v) = IsSpent h v
 CertifiesRegister h _ = ⊥
 
 abbrev pub CertifiesBag : List Event → Certificate → Type 0
 CertifiesBag h (Form.Taken n) = IsTaken h n
 CertifiesBag h (Form.Inside enqueue dequeue n) = IsInside h enqueue dequeue n
+CertifiesBag h (Form.Remaining dequeue) = IsRemaining h dequeue
 CertifiesBag h _ = ⊥
 
 abbrev pub CertifiesFifo : List Event → Certificate → Type 0
 CertifiesFifo h (Form.Passed enqueue later dequeue n other) = IsPassed h enqueue later dequeue n other
+CertifiesFifo h (Form.Preceded later dequeue n) = IsPreceded h later dequeue n
 CertifiesFifo h c = CertifiesBag h c
 
 abbrev pub CertifiesSet : List Event → Certificate → Type 0

@@ -1,5 +1,5 @@
 -- What operations do, in the words of which certificates are made.
-use Rattle.std.specs.Prelude.{◌≡◌, ◌≢◌, ◌⊎◌, ◌≤◌, ℕ, List, AllPairs, Contains, length, ◌↔◌}
+use Rattle.std.specs.Prelude.{◌≡◌, ◌≢◌, ◌⊎◌, ◌<◌, ◌≤◌, ℕ, List, AllPairs, Contains, length, ◌↔◌}
 use Rattle.lin_events.specs.declared.items.Item.{Item}
 use Rattle.lin_events.specs.declared.calls.Call.{Call}
 use Rattle.lin_events.specs.declared.calls.Call.TheVariants.{Read, Cas, Dequeue, Acquire, Release}
@@ -33,11 +33,22 @@ Needs _ _ w = ⊥
 abbrev pub Updates : Call → Type 0
 Updates call = (v : Val) × Leaves call v
 
+-- the call takes the register from the value to another one
+abbrev pub Spends : Call → Val → Type 0
+Spends (Cas from to) v = (from ≡ v) × (to ≢ v)
+Spends _ v = ⊥
+
+-- the call adds some item
+abbrev pub AddsSome : Call → Type 0
+AddsSome call = (n : Item) × Adds call n
+
 -- the call is of this sort
 abbrev pub IsOfCalls : Calls → Call → Type 0
 IsOfCalls (Called.Leaves v) call = Leaves call v
 IsOfCalls Called.Updates call = Updates call
+IsOfCalls (Called.Spends v) call = Spends call v
 IsOfCalls (Called.Adds n) call = Adds call n
+IsOfCalls Called.AddsSome call = AddsSome call
 IsOfCalls Called.Dequeues call = call ≡ Dequeue
 IsOfCalls Called.Acquires call = call ≡ Acquire
 IsOfCalls Called.Releases call = call ≡ Release
@@ -71,14 +82,21 @@ Returned h P at = (call : Call) × (end : ℕ) × (reply : Reply) × IsCall h at
 abbrev pub StaysOpen : List Event → (Call → Type 0) → ℕ → Type 0
 StaysOpen h P at = (call : Call) × IsCall h at call × ((end : ℕ) (reply : Reply) → IsOk h at end reply → ⊥) × (IsFailed h at → ⊥) × P call
 
+-- the dequeue, another one, may have taken something out ahead of the one
+abbrev pub MayTakeAhead : List Event → ℕ → ℕ → Type 0
+MayTakeAhead h dequeue at = (at ≢ dequeue) × Counts h (λ call. call ≡ Dequeue) at
+    × (Returned h (λ call reply. (call ≡ Dequeue) × (reply ≡ Replied.Value Nil)) at → ⊥) × (IsBefore h dequeue at → ⊥)
+
 -- the operation is one of these
 abbrev pub IsOfWhich : List Event → Which → ℕ → Type 0
 IsOfWhich h (Chosen.Counts calls) at = Counts h (IsOfCalls calls) at
 IsOfWhich h (Chosen.CountsBut calls but) at = (at ≢ but) × Counts h (IsOfCalls calls) at
+IsOfWhich h (Chosen.CountsBelow calls place) at = Counts h (IsOfCalls calls) at × (at < place)
 IsOfWhich h (Chosen.Returned answers) at = Returned h (IsOfAnswers answers) at
 IsOfWhich h (Chosen.ReturnedBut answers but) at = (at ≢ but) × Returned h (IsOfAnswers answers) at
 IsOfWhich h (Chosen.ReturnedBefore answers place) at = Returned h (IsOfAnswers answers) at × IsBefore h at place
 IsOfWhich h (Chosen.OpenBut calls but) at = (at ≢ but) × StaysOpen h (IsOfCalls calls) at
+IsOfWhich h (Chosen.TakesAhead dequeue) at = MayTakeAhead h dequeue at
 
 -- just so many operations are such
 abbrev pub Exactly : ℕ → (ℕ → Type 0) → Type 0

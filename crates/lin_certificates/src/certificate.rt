@@ -6,8 +6,8 @@ ghost use Rattle.lin_certificates.specs.Laws.{CertificatesExcludeOrders};
 
 use crate::locks::{is_counted, is_twice};
 use crate::operations::is_among;
-use crate::queues::{is_inside, is_passed, is_taken};
-use crate::registers::{are_crossed, is_overwritten, is_unwritten};
+use crate::queues::{is_inside, is_passed, is_preceded, is_remaining, is_taken};
+use crate::registers::{are_crossed, is_overwritten, is_spent, is_unwritten};
 use crate::sets::{are_split, is_late, is_lost, is_unadded};
 use crate::words::{Answers, Sort, Which};
 use lin_events::{Event, Item, OutOfMemory, Val};
@@ -42,6 +42,11 @@ pub enum Certificate {
         late: usize,
         back: Option<(usize, usize)>,
     },
+    /// More ok operations took the register from the value to another one than operations leave it that aren't failed, with the beginning if it
+    /// is nil.
+    Spent {
+        value: Val,
+    },
     /// More dequeues took the item than enqueues of it aren't failed.
     Taken {
         item: Item,
@@ -60,6 +65,17 @@ pub enum Certificate {
         enqueue: usize,
         dequeue: usize,
         item: Item,
+    },
+    /// The dequeue took the item, which was put in by the named enqueue or behind it, since no more enqueues of it were invoked before that one than
+    /// dequeues took it before this one. More enqueues were before that than other dequeues may have taken something out ahead of this one.
+    Preceded {
+        later: usize,
+        dequeue: usize,
+        item: Item,
+    },
+    /// The dequeue found nothing. More enqueues were before it than other dequeues may have taken something out ahead of it.
+    Remaining {
+        dequeue: usize,
     },
     /// The read has the item, and all adds of it failed.
     Unadded {
@@ -122,6 +138,7 @@ fn certifies_register(events: &[Event], ends: &[Option<usize>], certificate: &Ce
             late,
             back,
         } => are_crossed(events, ends, *value, *item, (*early, *late), *back),
+        Certificate::Spent { value } => is_spent(events, ends, *value),
         _ => false,
     }
 }
@@ -138,6 +155,7 @@ fn certifies_bag(events: &[Event], ends: &[Option<usize>], certificate: &Certifi
             dequeue,
             item,
         } => is_inside(events, ends, *enqueue, *dequeue, *item),
+        Certificate::Remaining { dequeue } => is_remaining(events, ends, *dequeue),
         _ => false,
     }
 }
@@ -155,6 +173,11 @@ fn certifies_fifo(events: &[Event], ends: &[Option<usize>], certificate: &Certif
             item,
             other,
         } => is_passed(events, ends, (*enqueue, *later), *dequeue, *item, *other),
+        Certificate::Preceded {
+            later,
+            dequeue,
+            item,
+        } => is_preceded(events, ends, *later, *dequeue, *item),
         _ => certifies_bag(events, ends, certificate),
     }
 }

@@ -11,3 +11,5 @@ mod sets;
 mod words;
 
 pub use certificate::{Certificate, certificates_exclude_orders, certifies, holds};
+pub use operations::is_of_which;
+pub use words::{Answers, Calls, Sort, Which};

@@ -3,7 +3,7 @@ ghost use Rattle.std.specs.Prelude.{◌↔◌, ◌<◌, IsTrue, length};
 ghost use Rattle.lin_events.specs.Operations.{IsFailed};
 ghost use Rattle.lin_orders.specs.Orders.{IsBefore};
 ghost use Rattle.lin_orders.specs.Tables.{IsNextTable};
-ghost use Rattle.lin_certificates.specs.Words.{Counts, IsOfAnswers, IsOfCalls, IsOfWhich, Returned, StaysOpen};
+ghost use Rattle.lin_certificates.specs.Words.{Counts, IsOfAnswers, IsOfCalls, IsOfWhich, MayTakeAhead, Returned, StaysOpen};
 
 use crate::words::{Answers, Calls, Which, is_of_answers, is_of_calls};
 use lin_events::Event;
@@ -68,6 +68,19 @@ pub fn comes_before(events: &[Event], ends: &[Option<usize>], earlier: usize, la
     earlier < events.len() && is_before(events, ends, earlier, later)
 }
 
+/// Whether the dequeue at the place, another one, may have taken something out ahead of the one.
+fn may_take_ahead(events: &[Event], ends: &[Option<usize>], at: usize, dequeue: usize) -> bool
+    requires table { IsNextTable events.now ends.now }
+    requires within { at < length events.now }
+    ensures { IsTrue result ↔ MayTakeAhead events.now dequeue at }
+{
+    let same = at == dequeue;
+    let may = counts(events, ends, at, &Calls::Dequeues);
+    let nothing = returned(events, ends, at, &Answers::FindsNothing);
+    let behind = comes_before(events, ends, dequeue, at);
+    !same & may & !nothing & !behind
+}
+
 /// Whether the operation at the place, which stands in the history, is one of these.
 pub fn is_of_which(events: &[Event], ends: &[Option<usize>], at: usize, which: &Which) -> bool
     requires table { IsNextTable events.now ends.now }
@@ -77,12 +90,14 @@ pub fn is_of_which(events: &[Event], ends: &[Option<usize>], at: usize, which: &
     match which {
         Which::Counts(calls) => counts(events, ends, at, calls),
         Which::CountsBut(calls, but) => at != *but && counts(events, ends, at, calls),
+        Which::CountsBelow(calls, place) => at < *place && counts(events, ends, at, calls),
         Which::Returned(answers) => returned(events, ends, at, answers),
         Which::ReturnedBut(answers, but) => at != *but && returned(events, ends, at, answers),
         Which::ReturnedBefore(answers, place) => {
             returned(events, ends, at, answers) && is_before(events, ends, at, *place)
         }
         Which::OpenBut(calls, but) => at != *but && is_open(events, ends, at, calls),
+        Which::TakesAhead(dequeue) => may_take_ahead(events, ends, at, *dequeue),
     }
 }
 

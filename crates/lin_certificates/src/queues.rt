@@ -1,7 +1,7 @@
 //! Certificates of queues, ordered or not.
 ghost use Rattle.std.specs.Prelude.{◌↔◌, ℕ, IsTrue};
 ghost use Rattle.lin_orders.specs.Tables.{IsNextTable};
-ghost use Rattle.lin_certificates.specs.Certificates.{CanAdd, IsInside, IsPassed, IsTaken, Stays, TookOut};
+ghost use Rattle.lin_certificates.specs.Certificates.{CanAdd, IsInside, IsPassed, IsPreceded, IsRemaining, IsTaken, Stays, TookOut};
 ghost use Rattle.lin_certificates.specs.Words.{Exactly};
 
 use crate::operations::{comes_before, is_among};
@@ -94,4 +94,48 @@ pub fn is_inside(
     let before = comes_before(events, ends, enqueue, dequeue);
     let stayed = stays(events, ends, item, dequeue);
     put & found & before & stayed
+}
+
+/// Whether the dequeue found nothing, though more items were put in before it than other dequeues may have taken out ahead of it.
+pub fn is_remaining(events: &[Event], ends: &[Option<usize>], dequeue: usize) -> bool
+    requires { IsNextTable events.now ends.now }
+    ensures { IsTrue result ↔ IsRemaining events.now dequeue }
+{
+    let some = Answers::Called(Calls::AddsSome);
+    let found = is_among(
+        events,
+        ends,
+        dequeue,
+        &Which::Returned(Answers::FindsNothing),
+    );
+    let puts = count_of(events, ends, &Which::ReturnedBefore(some, dequeue));
+    let takes = count_of(events, ends, &Which::TakesAhead(dequeue));
+    let fewer = takes < puts;
+    found & fewer
+}
+
+/// Whether more items were put in ahead of the one that the dequeue took, which was put in at the one place or behind, than other dequeues may
+/// have taken out ahead of this one.
+pub fn is_preceded(
+    events: &[Event],
+    ends: &[Option<usize>],
+    later: usize,
+    dequeue: usize,
+    item: Item,
+) -> bool
+    requires { IsNextTable events.now ends.now }
+    ensures { IsTrue result ↔ IsPreceded events.now later dequeue item }
+{
+    let takes_it = Answers::Takes(item);
+    let adds_it = Calls::Adds(item);
+    let some = Answers::Called(Calls::AddsSome);
+    let took = is_among(events, ends, dequeue, &Which::Returned(takes_it));
+    let added = is_among(events, ends, later, &Which::Counts(adds_it));
+    let outs = count_of(events, ends, &Which::ReturnedBefore(takes_it, dequeue));
+    let early = count_of(events, ends, &Which::CountsBelow(adds_it, later));
+    let puts = count_of(events, ends, &Which::ReturnedBefore(some, later));
+    let takes = count_of(events, ends, &Which::TakesAhead(dequeue));
+    let over = outs < early;
+    let fewer = takes < puts;
+    took & added & !over & fewer
 }

@@ -2,7 +2,7 @@
 ghost use Rattle.std.specs.Prelude.{◌↔◌, ◌≡◌, IsTrue};
 ghost use Rattle.lin_events.specs.declared.calls.Val.{Val as ValOf};
 ghost use Rattle.lin_orders.specs.Tables.{IsNextTable};
-ghost use Rattle.lin_certificates.specs.Certificates.{AreCrossed, HasSource, IsAhead, IsLeftAhead, IsLeftOnce, IsOverwritten, IsUnwritten, Touches};
+ghost use Rattle.lin_certificates.specs.Certificates.{AreCrossed, HasSource, IsAhead, IsLeftAhead, IsLeftOnce, IsOverwritten, IsSpent, IsUnwritten, Touches, begun as begun_with};
 
 use crate::operations::{comes_before, is_among};
 use crate::passes::{all_ahead, count_of, is_any, last_of};
@@ -132,4 +132,26 @@ pub fn are_crossed(
     let in_turn = is_left_ahead(events, ends, other, value, pair);
     let again = is_ahead(events, ends, value, other, back);
     !same & in_turn & again
+}
+
+/// How often a register begins with the value.
+fn begun(value: Val) -> usize
+    ensures { result ≡ begun_with value }
+{
+    match value {
+        Val::Nil => 1,
+        Val::Item(_) => 0,
+    }
+}
+
+/// Whether the register was taken from the value to another one more often than operations leave the value that aren't failed, and the register
+/// begins with it.
+pub fn is_spent(events: &[Event], ends: &[Option<usize>], value: Val) -> bool
+    requires { IsNextTable events.now ends.now }
+    ensures { IsTrue result ↔ IsSpent events.now value }
+{
+    let comes = count_of(events, ends, &Which::Counts(Calls::Leaves(value)));
+    let spending = Which::Returned(Answers::Called(Calls::Spends(value)));
+    let goes = count_of(events, ends, &spending);
+    comes < goes.saturating_sub(begun(value))
 }

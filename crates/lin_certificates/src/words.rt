@@ -4,7 +4,7 @@ ghost use Rattle.lin_failures.specs.Adding.{Adds};
 ghost use Rattle.lin_failures.specs.Conflicts.{Leaves};
 ghost use Rattle.lin_failures.specs.QueueConflicts.{Takes};
 ghost use Rattle.lin_failures.specs.SetConflicts.{Has, Lacks};
-ghost use Rattle.lin_certificates.specs.Words.{Gives, IsOfAnswers, IsOfCalls, Needs, Updates};
+ghost use Rattle.lin_certificates.specs.Words.{AddsSome, Gives, IsOfAnswers, IsOfCalls, Needs, Spends, Updates};
 
 use lin_events::{Call, Item, Reply, Val};
 
@@ -15,8 +15,12 @@ pub enum Calls {
     Leaves(Val),
     /// It leaves some value in a register.
     Updates,
+    /// It takes a register from the value to another one.
+    Spends(Val),
     /// It adds the item to a set, or puts it into a queue.
     Adds(Item),
+    /// It adds some item, or puts it in.
+    AddsSome,
     Dequeues,
     Acquires,
     Releases,
@@ -59,6 +63,8 @@ pub enum Which {
     Counts(Calls),
     /// Those that aren't failed, but for this one.
     CountsBut(Calls, usize),
+    /// Those that aren't failed, and were invoked before this place.
+    CountsBelow(Calls, usize),
     /// Those that are ok.
     Returned(Answers),
     /// Those that are ok, but for this one.
@@ -67,6 +73,9 @@ pub enum Which {
     ReturnedBefore(Answers, usize),
     /// Those that are neither ok nor failed, but for this one.
     OpenBut(Calls, usize),
+    /// Dequeues that may have taken something out ahead of this one: they aren't failed, aren't known to have found nothing, and this one isn't
+    /// before them.
+    TakesAhead(usize),
 }
 
 /// Whether the register has to hold the value for the call to get this reply.
@@ -105,6 +114,16 @@ fn updates(call: &Call) -> bool
     }
 }
 
+/// Whether the call takes the register from the value to another one.
+fn spends(call: &Call, value: Val) -> bool
+    ensures { IsTrue result ↔ Spends call.now value }
+{
+    match call {
+        Call::Cas(from, to) => *from == value && *to != value,
+        _ => false,
+    }
+}
+
 /// Whether the call adds the item to a set, or puts it into a queue.
 fn adds(call: &Call, item: Item) -> bool
     ensures { IsTrue result ↔ Adds call.now item }
@@ -112,6 +131,17 @@ fn adds(call: &Call, item: Item) -> bool
     match call {
         Call::Add(added) => *added == item,
         Call::Enqueue(added) => *added == item,
+        _ => false,
+    }
+}
+
+/// Whether the call adds some item to a set, or puts it into a queue.
+fn adds_some(call: &Call) -> bool
+    ensures { IsTrue result ↔ AddsSome call.now }
+{
+    match call {
+        Call::Add(_) => true,
+        Call::Enqueue(_) => true,
         _ => false,
     }
 }
@@ -176,7 +206,9 @@ pub fn is_of_calls(call: &Call, calls: &Calls) -> bool
     match calls {
         Calls::Leaves(value) => leaves(call, *value),
         Calls::Updates => updates(call),
+        Calls::Spends(value) => spends(call, *value),
         Calls::Adds(item) => adds(call, *item),
+        Calls::AddsSome => adds_some(call),
         Calls::Dequeues => matches!(call, Call::Dequeue),
         Calls::Acquires => matches!(call, Call::Acquire),
         Calls::Releases => matches!(call, Call::Release),

@@ -17,9 +17,12 @@ form_name (Form.Shape read) = codes "shape"
 form_name (Form.Unwritten operation item) = codes "unwritten"
 form_name (Form.Overwritten operation value) = codes "overwritten"
 form_name (Form.Crossed value item early late back) = codes "crossed"
+form_name (Form.Spent value) = codes "spent"
 form_name (Form.Taken item) = codes "taken"
 form_name (Form.Passed enqueue later dequeue item other) = codes "passed"
 form_name (Form.Inside enqueue dequeue item) = codes "inside"
+form_name (Form.Preceded later dequeue item) = codes "preceded"
+form_name (Form.Remaining dequeue) = codes "remaining"
 form_name (Form.Unadded read item) = codes "unadded"
 form_name (Form.Lost earlier read item) = codes "lost"
 form_name (Form.Split first second item other) = codes "split"
@@ -48,7 +51,10 @@ pub record IsWhy (kind : Kind) (stretch : Told) (lines named : List ℕ) (why : 
   pub name_of : why.name.now ≡ form_name certificate
   pub calls_of : why.calls.items ≡ map (position_in stretch.picks) named
 
--- a certificate is told, or none, and then nothing is named
+abbrev pub no_reason_text : List ℕ
+no_reason_text = codes "why: no short reason was found\n"
+
+-- a certificate is told, or that none was found, and then nothing is named
 abbrev pub IsWhyText : Kind → Told → List ℕ → List ℕ → Option Why → Type 0
-IsWhyText kind stretch lines named None = (lines ≡ []) × (named ≡ [])
+IsWhyText kind stretch lines named None = (lines ≡ no_reason_text) × (named ≡ [])
 IsWhyText kind stretch lines named (Some why) = IsWhy kind stretch lines named why

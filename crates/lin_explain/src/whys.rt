@@ -31,9 +31,12 @@ fn form_name(certificate: &Certificate) -> &'static str
         Certificate::Unwritten { .. } => "unwritten",
         Certificate::Overwritten { .. } => "overwritten",
         Certificate::Crossed { .. } => "crossed",
+        Certificate::Spent { .. } => "spent",
         Certificate::Taken { .. } => "taken",
         Certificate::Passed { .. } => "passed",
         Certificate::Inside { .. } => "inside",
+        Certificate::Preceded { .. } => "preceded",
+        Certificate::Remaining { .. } => "remaining",
         Certificate::Unadded { .. } => "unadded",
         Certificate::Lost { .. } => "lost",
         Certificate::Split { .. } => "split",
@@ -96,7 +99,7 @@ fn put_certificate(
     })
 }
 
-/// Puts the lines of a certificate last that holds of the object's events, if one is found.
+/// Puts the lines of a certificate last that holds of the object's events, or that none was found.
 pub(crate) fn put_why(
     alloc: Global,
     text: &mut Vec<u8>,
@@ -111,6 +114,7 @@ pub(crate) fn put_why(
     match find_certificate(alloc, stretch.events, kind, call)? {
         Some(certificate) => put_certificate(alloc, text, kind, stretch, &certificate),
         None => {
+            text.extend_from_slice(b"why: no short reason was found\n")?;
             Ok(Reason {
                 named: Vec::new(alloc),
                 why: None,

@@ -11,13 +11,15 @@ use Rattle.std.proofs.lemmas.List.Sorted.{Contains-permutation, IsPermutation-sy
 use Rattle.std.proofs.lemmas.Map.Keys.{IsStrictlyIncreasing-dedup}
 use Rattle.lin_lists.specs.lemmas.Elements.{first_or_rest, nothing_in}
 use Rattle.lin_failures.specs.lemmas.Counting.{no_more}
-use Rattle.lin_certificates.specs.Words.{Exactly}
+use Rattle.lin_certificates.specs.Words.{Exactly, IsOfWhich}
+use Rattle.lin_certificates.specs.declared.words.Which.{Which}
+use Rattle.lin_certificates.specs.declared.words.Which.TheVariants as Chosen
 use Rattle.std.proofs.lemmas.Option.{slice_get_within}
 use Rattle.lin_events.specs.declared.calls.Call.{Call}
 use Rattle.lin_events.specs.declared.events.Event.{Event}
 use Rattle.lin_orders.specs.Orders.{IsCall}
 use Rattle.lin_reasons.specs.declared.groups.Group.{Group}
-use Rattle.lin_reasons.specs.declared.groups.Group.TheVariants.{Counts, CountsBut, Fails, Returned, Overwrites, Between}
+use Rattle.lin_reasons.specs.declared.groups.Group.TheVariants.{Counts, CountsBut, Fails, Returned, Overwrites, Between, Such}
 use Rattle.lin_reasons.specs.Groups.{IsInGroup, IsListing}
 
 module _ (P : ℕ → Type 0) where
@@ -80,7 +82,17 @@ sorted_once named sorted once moved up is = subst (IsListing (Contains named)) (
   ),
 )
 
--- what is one of a group is an operation
+-- what a certificate speaks of is an operation, and so is what is one of a group
+which_call : (h : List Event) (which : Which) (at : ℕ) → IsOfWhich h which at → (call : Call) × IsCall h at call
+which_call h (Chosen.Counts calls) at is = (is.0, is.1)
+which_call h (Chosen.CountsBut calls but) at is = (is.1.0, is.1.1)
+which_call h (Chosen.CountsBelow calls place) at is = (is.0.0, is.0.1)
+which_call h (Chosen.Returned answers) at is = (is.0, is.3)
+which_call h (Chosen.ReturnedBut answers but) at is = (is.1.0, is.1.3)
+which_call h (Chosen.ReturnedBefore answers place) at is = (is.0.0, is.0.3)
+which_call h (Chosen.OpenBut calls but) at is = (is.1.0, is.1.1)
+which_call h (Chosen.TakesAhead dequeue) at is = (is.1.0, is.1.1)
+
 group_call : (h : List Event) (group : Group) (at : ℕ) → IsInGroup h group at → (call : Call) × IsCall h at call
 group_call h (Counts calls) at is = (is.0, is.1)
 group_call h (CountsBut calls but) at is = (is.1.0, is.1.1)
@@ -88,6 +100,7 @@ group_call h (Fails calls) at is = (is.0, is.1)
 group_call h (Returned answers) at is = (is.0, is.3)
 group_call h (Overwrites last) at is = (is.0.0, is.0.3)
 group_call h (Between first last) at is = (is.0.0.0, is.0.0.3)
+group_call h (Such which) at is = which_call h which at is
 
 -- and stands in the history
 pub group_within : (h : List Event) (group : Group) (at : ℕ) → IsInGroup h group at → at < length h

@@ -7,7 +7,7 @@ use Rattle.lin_objects.specs.declared.kinds.Kind.{Kind}
 use Rattle.lin_objects.specs.declared.kinds.Kind.TheVariants.{Register, CasRegister, Fifo, Bag, Set, Mutex}
 use Rattle.lin_certificates.specs.Certificates.{Certifies, IsCounted, IsOverwritten}
 use Rattle.lin_certificates.specs.declared.certificate.Certificate.{Certificate}
-use Rattle.lin_certificates.specs.declared.certificate.Certificate.TheVariants.{Shape, Unwritten, Overwritten, Crossed, Taken, Passed, Inside, Unadded, Lost, Split, Late, Twice, Counted}
+use Rattle.lin_certificates.specs.declared.certificate.Certificate.TheVariants.{Shape, Unwritten, Overwritten, Crossed, Spent, Taken, Passed, Inside, Preceded, Remaining, Unadded, Lost, Split, Late, Twice, Counted}
 use Rattle.lin_reasons.specs.Reasons.{ArePut, IsCertified, IsReasonOfRegister}
 use Rattle.lin_reasons.specs.declared.told.Told.{Told}
 
@@ -48,9 +48,12 @@ module _ (told : Told) where
   nothing_put (Unwritten at n) text named a b d e = absurd (b at n refl)
   nothing_put (Overwritten at v) text named a b d e = absurd (d at v refl)
   nothing_put (Crossed v n early late back) text named a b d e = absurd (e v n early late back refl)
+  nothing_put (Spent v) text named a b d e = nothing (Spent v) text named (λ lines more p q. (p, q))
   nothing_put (Taken n) text named a b d e = nothing (Taken n) text named (λ lines more p q. (p, q))
   nothing_put (Passed enqueue later dequeue n other) text named a b d e = nothing (Passed enqueue later dequeue n other) text named (λ lines more p q. (p, q))
   nothing_put (Inside enqueue dequeue n) text named a b d e = nothing (Inside enqueue dequeue n) text named (λ lines more p q. (p, q))
+  nothing_put (Preceded later dequeue n) text named a b d e = nothing (Preceded later dequeue n) text named (λ lines more p q. (p, q))
+  nothing_put (Remaining dequeue) text named a b d e = nothing (Remaining dequeue) text named (λ lines more p q. (p, q))
   nothing_put (Unadded read n) text named a b d e = nothing (Unadded read n) text named (λ lines more p q. (p, q))
   nothing_put (Lost earlier read n) text named a b d e = nothing (Lost earlier read n) text named (λ lines more p q. (p, q))
   nothing_put (Split first second n other) text named a b d e = nothing (Split first second n other) text named (λ lines more p q. (p, q))

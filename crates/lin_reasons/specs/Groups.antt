@@ -10,7 +10,7 @@ use Rattle.lin_failures.specs.Adding.{Adds}
 use Rattle.lin_failures.specs.Conflicts.{Leaves}
 use Rattle.lin_failures.specs.QueueConflicts.{Takes}
 use Rattle.lin_certificates.specs.Certificates.{Overwrites}
-use Rattle.lin_certificates.specs.Words.{Counts, Returned, Updates}
+use Rattle.lin_certificates.specs.Words.{Counts, IsOfWhich, Returned, Spends, Updates}
 use Rattle.lin_reasons.specs.declared.groups.Calls.{Calls}
 use Rattle.lin_reasons.specs.declared.groups.Calls.TheVariants as Called
 use Rattle.lin_reasons.specs.declared.groups.Answers.{Answers}
@@ -34,6 +34,7 @@ IsBetween h first last over = Overwrites h last over × IsBefore h first over
 abbrev pub IsOfCalls : Calls → Call → Type 0
 IsOfCalls (Called.Leaves v) call = Leaves call v
 IsOfCalls Called.Updates call = Updates call
+IsOfCalls (Called.Spends v) call = Spends call v
 IsOfCalls (Called.Adds n) call = Adds call n
 IsOfCalls Called.Acquires call = call ≡ Acquire
 IsOfCalls Called.Releases call = call ≡ Release
@@ -51,3 +52,4 @@ IsInGroup h (Chosen.Fails calls) at = Fails h (IsOfCalls calls) at
 IsInGroup h (Chosen.Returned answers) at = Returned h (IsOfAnswers answers) at
 IsInGroup h (Chosen.Overwrites place) at = Overwrites h place at
 IsInGroup h (Chosen.Between first last) at = IsBetween h first last at
+IsInGroup h (Chosen.Such which) at = IsOfWhich h which at

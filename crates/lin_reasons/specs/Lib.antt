@@ -3,4 +3,5 @@ pub mod Series
 pub mod Lines
 pub mod Groups
 pub mod Sides
+pub mod Surplus
 pub mod Reasons

@@ -7,6 +7,7 @@ use Rattle.lin_events.specs.declared.calls.Name.TheVariants as Named
 use Rattle.lin_events.specs.declared.calls.Reply.{Reply}
 use Rattle.lin_events.specs.declared.calls.Reply.TheVariants.{Done, Value, Members}
 use Rattle.lin_events.specs.declared.calls.Val.{Val}
+use Rattle.lin_events.specs.declared.calls.Val.TheVariants.{Nil, Item as Held}
 use Rattle.lin_words.specs.Operations.{name_text}
 use Rattle.lin_words.specs.Values.{short_item_text, value_text}
 use Rattle.lin_reasons.specs.Series.{fact_text, failures_text, sides_text, times_text}
@@ -144,3 +145,16 @@ twice_text told first second = if is_acquire (call_in (slice_get told.events.now
 abbrev pub counted_text : Told → Name → Name → List ℕ → List ℕ → List ℕ → List ℕ
 counted_text told over under done may failed = codes "why: " ++ past_text over ++ codes " " ++ times_text (length done)
     ++ codes " and " ++ past_text under ++ codes " at most " ++ times_text (length may) ++ codes "\n" ++ sides_text told done may failed
+
+-- a register begins with nil
+abbrev pub beside_text : Val → List ℕ
+beside_text Nil = codes ", beside the beginning\n"
+beside_text (Held n) = codes "\n"
+
+-- the register was taken from the value to another one oftener than it came to it
+abbrev pub spent_why : Told → Val → List ℕ → List ℕ → List ℕ
+spent_why told v done may = codes "why: a cas from " ++ value_text told.names.now v ++ codes " to another value was ok " ++ times_text (length done)
+    ++ codes ", and " ++ value_text told.names.now v ++ codes " was left at most " ++ times_text (length may) ++ beside_text v
+
+abbrev pub spent_text : Told → Val → List ℕ → List ℕ → List ℕ → List ℕ
+spent_text told v done may failed = spent_why told v done may ++ sides_text told done may failed

@@ -10,16 +10,17 @@ use Rattle.lin_events.specs.declared.events.Event.{Event}
 use Rattle.lin_objects.specs.declared.kinds.Kind.{Kind}
 use Rattle.lin_failures.specs.Adding.{Adds}
 use Rattle.lin_failures.specs.Conflicts.{Leaves}
-use Rattle.lin_certificates.specs.Certificates.{CanAdd, CanCall, Certifies, DidCall, OtherCanLeave, Overwrites, TookOut}
+use Rattle.lin_certificates.specs.Certificates.{CanAdd, CanCall, CanLeave, Certifies, DidCall, OtherCanLeave, Overwrites, Spent, TookOut}
 use Rattle.lin_certificates.specs.declared.certificate.Certificate.{Certificate}
 use Rattle.lin_certificates.specs.declared.certificate.Certificate.TheVariants as Form
 use Rattle.lin_certificates.specs.declared.words.Calls.{Calls}
 use Rattle.lin_certificates.specs.declared.words.Calls.TheVariants.{Acquires, Releases}
 use Rattle.lin_certificates.specs.Words.{IsOfCalls}
 use Rattle.lin_reasons.specs.Groups.{Fails, IsBetween, IsListing}
-use Rattle.lin_reasons.specs.Lines.{counted_text, crossed_text, inside_text, late_text, lost_text, overwritten_text, passed_text, shape_text, split_text, taken_text, twice_text, unadded_text, unwritten_text}
+use Rattle.lin_reasons.specs.Lines.{counted_text, crossed_text, inside_text, late_text, lost_text, overwritten_text, passed_text, shape_text, spent_text, split_text, taken_text, twice_text, unadded_text, unwritten_text}
 use Rattle.lin_reasons.specs.Series.{firsts}
 use Rattle.lin_reasons.specs.Sides.{named_sides}
+use Rattle.lin_reasons.specs.Surplus.{IsPrecededTold, IsRemainingTold}
 use Rattle.lin_reasons.specs.declared.told.Told.{Told}
 
 -- the lines tell that nothing leaves the item, and of those that failed to
@@ -128,11 +129,28 @@ IsReasonOfSet told (Form.Split first second n other) lines operations = (lines �
 IsReasonOfSet told (Form.Late earlier add read n other) lines operations = (lines ≡ late_text told (earlier, add) read n other) × (operations ≡ earlier ∷ add ∷ read ∷ [])
 IsReasonOfSet told c lines operations = IsReasonOfQueue told c lines operations
 
+-- the lines tell how often the register was taken from the value to another one, and how often it can have come to it
+pub record IsSpentTold (told : Told) (v : Val) (lines operations : List ℕ) : Type 0 where
+  pub done : List ℕ
+  pub may : List ℕ
+  pub failed : List ℕ
+  pub all_done : IsListing (Spent told.events.now v) done
+  pub all_may : IsListing (CanLeave told.events.now v) may
+  pub all_failed : IsListing (Fails told.events.now (λ call. Leaves call v)) failed
+  pub put : lines ≡ spent_text told v done may failed
+  pub named : operations ≡ named_sides done may failed
+
+abbrev pub IsReasonByCount : Told → Certificate → List ℕ → List ℕ → Type 0
+IsReasonByCount told (Form.Spent v) lines operations = IsSpentTold told v lines operations
+IsReasonByCount told (Form.Remaining dequeue) lines operations = IsRemainingTold told dequeue lines operations
+IsReasonByCount told (Form.Preceded later dequeue n) lines operations = IsPrecededTold told later dequeue n lines operations
+IsReasonByCount told c lines operations = IsReasonOfSet told c lines operations
+
 -- the lines tell the certificate, and name these operations
 abbrev pub IsReason : Told → Certificate → List ℕ → List ℕ → Type 0
 IsReason told (Form.Twice first second) lines operations = (lines ≡ twice_text told first second) × (operations ≡ first ∷ second ∷ [])
 IsReason told Form.Counted lines operations = IsCountedTold told lines operations
-IsReason told c lines operations = IsReasonOfSet told c lines operations
+IsReason told c lines operations = IsReasonByCount told c lines operations
 
 -- lines of this meaning, and the operations that they name, were put last
 abbrev pub ArePut : (List ℕ → List ℕ → Type 0) → List ℕ → List ℕ → List ℕ → List ℕ → Type 0

@@ -6,9 +6,10 @@ ghost use Rattle.lin_failures.specs.Adding.{Adds};
 ghost use Rattle.lin_failures.specs.Conflicts.{Leaves};
 ghost use Rattle.lin_failures.specs.QueueConflicts.{Takes};
 ghost use Rattle.lin_certificates.specs.Certificates.{Overwrites};
-ghost use Rattle.lin_certificates.specs.Words.{Counts, Returned, Updates};
+ghost use Rattle.lin_certificates.specs.Words.{Counts, Returned, Spends, Updates};
 ghost use Rattle.lin_reasons.specs.Groups.{Fails, IsBetween, IsInGroup, IsOfAnswers, IsOfCalls};
 
+use lin_certificates::{Which, is_of_which};
 use lin_events::{Call, Event, Item, Reply, Val};
 use lin_orders::{call_at, is_failed, ok_end};
 
@@ -19,6 +20,8 @@ pub(crate) enum Calls {
     Leaves(Val),
     /// It leaves some value in a register.
     Updates,
+    /// It takes a register from the value to another one.
+    Spends(Val),
     /// It adds the item to a set, or puts it into a queue.
     Adds(Item),
     Acquires,
@@ -49,6 +52,8 @@ pub(crate) enum Group {
     Overwrites(usize),
     /// Those of them that stand between the two.
     Between(usize, usize),
+    /// Those that a certificate speaks of.
+    Such(Which),
 }
 
 /// Whether the call leaves the value in the register.
@@ -69,6 +74,16 @@ fn updates(call: &Call) -> bool
     match call {
         Call::Write(_) => true,
         Call::Cas(_, _) => true,
+        _ => false,
+    }
+}
+
+/// Whether the call takes the register from the value to another one.
+fn spends(call: &Call, value: Val) -> bool
+    ensures { IsTrue result ↔ Spends call.now value }
+{
+    match call {
+        Call::Cas(from, to) => *from == value && *to != value,
         _ => false,
     }
 }
@@ -104,6 +119,7 @@ fn is_of_calls(call: &Call, calls: &Calls) -> bool
     match calls {
         Calls::Leaves(value) => leaves(call, *value),
         Calls::Updates => updates(call),
+        Calls::Spends(value) => spends(call, *value),
         Calls::Adds(item) => adds(call, *item),
         Calls::Acquires => matches!(call, Call::Acquire),
         Calls::Releases => matches!(call, Call::Release),
@@ -225,5 +241,6 @@ pub(crate) fn is_in_group(
         Group::Returned(answers) => returned(events, ends, at, answers),
         Group::Overwrites(last) => overwrites(events, ends, at, *last),
         Group::Between(first, last) => is_between(events, ends, at, *first, *last),
+        Group::Such(which) => is_of_which(events, ends, at, which),
     }
 }

@@ -1,6 +1,7 @@
 //! The lines of an explanation that tell a certificate in words.
 #![tactic(auto)]
 
+mod counts;
 mod groups;
 mod listing;
 mod locks;
@@ -11,6 +12,7 @@ mod registers;
 mod series;
 mod sets;
 mod sides;
+mod surplus;
 mod told;
 
 pub use reasons::put_reason;

@@ -3,9 +3,9 @@ ghost use Rattle.std.specs.Prelude.{IfOk, OnOk};
 ghost use Rattle.lin_orders.specs.Tables.{IsNextTable};
 ghost use Rattle.lin_reasons.specs.Reasons.{ArePut, IsCertified, IsReason, IsTold};
 
+use crate::counts::put_count_reason;
 use crate::locks::{put_counted, put_twice};
 use crate::naming::{in_order, name_pair};
-use crate::sets::put_set_reason;
 use crate::told::Told;
 use lin_certificates::Certificate;
 use std::alloc::{AllocError, Global};
@@ -29,7 +29,7 @@ fn put_any_reason(
             Ok(())
         }
         Certificate::Counted => put_counted(text, named, told, alloc),
-        _ => put_set_reason(text, named, told, certificate, alloc),
+        _ => put_count_reason(text, named, told, certificate, alloc),
     }
 }
 
