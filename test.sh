@@ -32,7 +32,7 @@ see_layout() {
 
 see_program() { # a program, for all that runs one
     export LINCHECK=$1
-    for script in versions.py rows.py readme.sh generated.sh edits.py drawn.py items.py recordings.py explain.py refutations.py pictures.py progress.py growths.py adapters.py adapters_clojure.py static.sh; do
+    for script in versions.py rows.py readme.sh generated.sh edits.py drawn.py items.py recordings.py explain.py refutations.py pictures.py progress.py growths.py memory.py adapters.py adapters_clojure.py static.sh; do
         run "tests/$script"
     done
 }
