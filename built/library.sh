@@ -26,8 +26,9 @@ for it in $(below); do
         { echo "skipped: no library for C, since $it is not built here from its present text, as rt ci does where it has to prove it" >&2; exit 3; }
 done
 words=(--crate-name lincheck_c src/lib.rt --extern "std=$kit/rlibs/std.rlib" -L "dependency=$kit/rlibs"
-    --extern "lin_embedded=$crates/lin_embedded/out/rlib/lin_embedded.rlib" --antt-project "$kit/rattle/logic/antt-project.json"
+    --antt-project "$kit/rattle/logic/antt-project.json"
     --links lincheck_c= --crate-type staticlib)
+for it in $(sed -n 's/^lincheck_c staticlib:\([^#]*\).*/\1/p' ../crates.txt); do words+=(--extern "$it=$crates/$it/out/rlib/$it.rlib"); done
 for it in $(below); do words+=(-L "dependency=$crates/$it/out/rlib"); done
 
 tell() { # a log, where a command failed
