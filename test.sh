@@ -48,7 +48,7 @@ see_library() { # the library for C, over the crates that were proved here
 
 see_all() {
     see_layout
-    for script in imports.py closure.py ledger.py; do run "tests/$script"; done
+    for script in imports.py crates.py closure.py ledger.py; do run "tests/$script"; done
     if built/fits.sh source program; then
         see_program "$PWD/built/lincheck"
     else

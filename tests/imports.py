@@ -2,9 +2,8 @@
 """Holds each crate to what it may cite of the others: their specs/ and, in .rt files, the public items of those that crates.txt lists for it.
 
 An offence is an import of another crate's proofs, but for those of ROOMS, whose plain lemmas are for all above, or of its specs/inner/; an import
-from a crate that does not stand below by crates.txt, or by a name of one that it does not list for the crate itself; and such a path of Rust. So is a crate
-that docs/CRATES.md has no row of, or with other libraries than crates.txt, and one of the program that the pictures there and in README.md lack.
-Each is printed, and last a count of the crates without and with offences.
+from a crate that does not stand below by crates.txt, or by a name of one that it does not list for the crate itself; and such a path of Rust.
+Each is printed, and last a count of the crates without and with offences. (tests/crates.py holds the pages to crates.txt.)
 usage: tests/imports.py
 """
 import os
@@ -59,28 +58,8 @@ def offences(libraries, name, line, is_rust):
             yield f"uses {library}, which crates.txt does not list for {name}"
 
 
-def untold(libraries):
-    """Yields the crates of which the pages tell otherwise than crates.txt, and how."""
-    pages = {}
-    for page in ("docs/CRATES.md", "README.md"):
-        with open(f"{HERE}/{page}", encoding="utf-8") as it:
-            pages[page] = it.read()
-    rows = {name: re.findall(r"`(\w+)`", cell) for name, cell in re.findall(r"(?m)^\| `(\w+)` \|[^|]*\|([^|]*)\|", pages["docs/CRATES.md"])}
-    of_program = below(libraries, "lincheck") & {*libraries} | {"lincheck"}
-    for name in libraries:
-        if sorted(rows.get(name, ["nothing"])) != sorted(libraries[name]):
-            yield name, f"docs/CRATES.md: the row of {name} is not as crates.txt has it: {' '.join(libraries[name])}"
-    for page, text in pages.items():
-        drawn = re.findall(r"\b(?:lin_\w+|lincheck)\b", next(it for it in text.split("```")[1::2] if "lin_lists" in it))
-        yield from ((name, f"{page}: the picture has {name} {drawn.count(name)} times") for name in sorted(of_program | {*drawn}) if drawn.count(name) != 1 or name not in of_program)
-    yield from ((name, f"docs/CRATES.md has a row of {name}, which is not there") for name in sorted({*rows} - {*libraries}))
-
-
 def main():
     libraries, failed = read_crates(), set()
-    for name, why in untold(libraries):
-        print(why)
-        failed.add(name)
     for name in libraries:
         for file in files_of(name):
             with open(file, encoding="utf-8") as it:

@@ -535,6 +535,31 @@ class Judge:
             'a completion has the :f of its invocation',
             'a completion has the key of its invocation: %d and %d' % (self.events[earlier[-1]].key if earlier else 0, event.key)][cause - 1])
 
+    def is_over(self, key):
+        """Whether some beginning of the object's events has more configurations than the budget."""
+        return any(len(self.model.ends_of(key, n)) > self.model.budget for n in range(len(self.events) + 1))
+
+    def beside(self, told, key):
+        """What is told beside an undecided whole: of the objects that are a no the one with the shortest failing prefix.
+
+        An object that fails is a no for certain where it never has more configurations than the budget; else it may be undecided too."""
+        certain = [k for k in self.model.keys() if not self.is_over(k)] if key is None else []
+        if key is not None or told.peek() is None:
+            if not all(self.model.ends_of(k, len(self.events)) for k in certain):
+                raise Wrong('an object is a no, and nothing is told of it')
+            return
+        failed = int(told.match('not linearizable all the same: object (%s) has no legal order' % INTEGER)[1])
+        undecided, first = self.facts, told.next
+        answer = told.match('no prefix %s' % NUMBER)[0]
+        count = int(answer.split()[2])
+        if not self.model.is_right(failed, answer):
+            raise Wrong('the answer is wrong: %s' % answer)
+        if not all(self.model.ends_of(k, count - 1) for k in certain):
+            raise Wrong('another object fails with fewer events')
+        self.no(told, failed, count)
+        self.facts = {**undecided, 'failed': {**head(answer), 'events': len(self.events), **self.facts, 'text': '\n'.join(told.lines[first:])}}
+        self.counts['failures beside what is undecided'] += 1
+
     def explanation(self, lines, key, with_order):
         """Judges the whole text, and gives the answer's first word."""
         told = Told(lines)
@@ -548,6 +573,7 @@ class Judge:
             self.no(told, key, int(words[2]))
         elif words[0] == 'undecided':
             self.undecided(told, int(words[2]))
+            self.beside(told, key)
         else:
             self.ill_formed(told, int(words[2]), int(words[4]))
         told.end()
@@ -557,14 +583,15 @@ class Judge:
 
     def machine(self, lines):
         """The line for machines, of an explanation that was judged."""
-        return compact({**head(lines[0]), 'events': len(self.events), **self.facts, 'text': '\n'.join(lines)})
+        return compact({**head(lines[0], 'failed' in self.facts), 'events': len(self.events), **self.facts, 'text': '\n'.join(lines)})
 
 
 # the forms for machines
 
-def head(answer):
+def head(answer, fails=False):
+    """What each map says of an answer, and whether an object is a no beside an undecided whole."""
     status = STATUS[answer.split()[0]]
-    return {'valid?': {0: True, 1: False}.get(status, 'unknown'), 'status': status, 'answer': answer}
+    return {'valid?': False if fails else {0: True, 1: False}.get(status, 'unknown'), 'status': status, 'answer': answer}
 
 
 def compact(said):
@@ -595,7 +622,11 @@ def judge_report(model, line):
 
     objects = [judged(int(it['key']), it['answer'], {'key': it['key'], 'kind': model.kinds(int(it['key']))}) for it in said['objects']]
     answer = said['answer'].split()[0]
-    wanted = {**judged(None, said['answer'], {}), 'events': len(model.events), 'objects': objects}
+    wanted = {**judged(None, said['answer'], {}), 'events': len(model.events)}
+    noes = [(int(it['answer'].split()[2]), it['key']) for it in objects if it['status'] == 1]
+    if answer == 'undecided' and noes:
+        wanted.update({'valid?': False, 'failed': min(noes)[1]})
+    wanted['objects'] = objects
     if compact(wanted) != line:
         raise Wrong('says  %s\n  and not  %s' % (line, compact(wanted)))
     if [int(it['key']) for it in objects] != ([] if answer == 'ill-formed' else sorted(model.keys())):

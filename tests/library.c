@@ -1,10 +1,11 @@
 /*
- * Calls of the library, told on standard output: for each history that the words name, `check` and `explain` with rooms of several lengths.
+ * Calls of the library, told on standard output: for each history that the words name, `check` and `explain` with rooms of several lengths, and
+ * sessions that are fed it whole, in pieces, and byte by byte.
  *
  * usage: library KIND KEYED BUDGET ORDER JSON KEY FILE..
  *
  * What a call wrote is told once, behind its name and its status. What it may not do is told too, and ends the program with status 1: to write
- * behind its text, or into a room that is too short; or to answer otherwise because the room has another length.
+ * behind its text, or into a room that is too short; or to answer otherwise because the room has another length, or the history came in pieces.
  */
 #include <stdio.h>
 #include <stdlib.h>
@@ -62,6 +63,64 @@ static void try_call(int explains, const lincheck_options *options, const uint8_
     free(text);
 }
 
+/* Feeds a session the history in pieces, each a block of its own, and asks now and then; it tells how far the history went. */
+static uint32_t feed(lincheck_session *session, const uint8_t *history, size_t length, size_t size, uint64_t *events) {
+    uint32_t status = lincheck_session_feed(session, history, 0, events);
+    for (size_t at = 0, turn = 0; at < length; at += size, turn++) {
+        size_t taken = length - at < size ? length - at : size;
+        uint8_t *piece = malloc(taken);
+        memcpy(piece, history + at, taken);
+        status = lincheck_session_feed(session, piece, taken, events);
+        free(piece);
+        uint64_t place = 77;
+        if (turn % 50 == 10 && lincheck_session_ask(session, &place) > LINCHECK_ILL_FORMED)
+            fail("nothing is known of a beginning");
+    }
+    return status;
+}
+
+static void try_session(const lincheck_options *options, const uint8_t *history, size_t length) {
+    static uint8_t room[1 << 20];
+    lincheck_session session = LINCHECK_SESSION;
+    uint64_t events = 77, at = 77;
+    size_t needed = 12345;
+    lincheck_session_free(&session);
+    if (lincheck_session_feed(&session, history, length, &events) != LINCHECK_NO_SESSION ||
+        lincheck_session_ask(&session, &at) != LINCHECK_NO_SESSION ||
+        lincheck_session_order(&session, room, sizeof room, &needed) != LINCHECK_NO_SESSION || events != 77 || at != 77 || needed != 12345)
+        fail("a session where there is none");
+    uint32_t status = lincheck_session_new(options, &session);
+    if (status != LINCHECK_DONE) {
+        printf("session: status %u, %s\n", status, session.at ? "one" : "none");
+        return;
+    }
+    uint32_t fed = feed(&session, history, length, length ? length : 1, &events);
+    status = lincheck_session_ask(&session, &at);
+    printf("session: fed %u, events %llu, status %u, at %llu\n", fed, (unsigned long long)events, status, (unsigned long long)at);
+    uint32_t short_of = lincheck_session_order(&session, room, 0, &needed);
+    if (short_of != (needed ? LINCHECK_TOO_LITTLE_ROOM : status) || lincheck_session_order(&session, room, sizeof room, &needed) != status)
+        fail("another status with an order");
+    fwrite(room, 1, needed, stdout);
+    printf("\n");
+    lincheck_options bad = *options;
+    bad.kind = 6;
+    if (lincheck_session_new(&bad, &session) != LINCHECK_BAD_OPTIONS || lincheck_session_ask(&session, &at) != status)
+        fail("a session that bad options changed");
+    for (size_t size = 1; size < 8; size += 6) { /* byte by byte, and 7 at a time */
+        uint64_t count = 0, place = 77;
+        if (lincheck_session_new(options, &session) != LINCHECK_DONE) /* what the handle holds is freed */
+            fail("no session");
+        if (feed(&session, history, length, size, &count) != fed || count != events)
+            fail("other events in pieces");
+        if (lincheck_session_ask(&session, &place) != status || place != at)
+            fail("another verdict in pieces");
+    }
+    lincheck_session_free(&session);
+    if (session.at)
+        fail("a handle that is freed holds something");
+    lincheck_session_free(&session);
+}
+
 int main(int count, char **words) {
     if (count < 8)
         return 2;
@@ -85,6 +144,7 @@ int main(int count, char **words) {
         history = realloc(history, length ? length : 1); /* so that a read behind it is seen */
         try_call(0, &options, history, length, words[6]);
         try_call(1, &options, history, length, words[6]);
+        try_session(&options, history, length);
         free(history);
     }
     return 0;

@@ -3,8 +3,9 @@
 
 For each history below and for options of all sorts, what a call writes and the number that it gives have to be what the command prints of the same
 bytes and what it exits with. tests/library.c tries rooms of several lengths besides, under the address sanitizer where cc has it; Python calls the
-shared object by ctypes, from four threads at once. Options and keys that say nothing have to be told, and to change nothing. Last come the programs
-of docs/INTEGRATION.md and adapters/c/README.md.
+shared object by ctypes, from four threads at once. A session that is fed a history in pieces, and asked in between, has to tell what `lincheck edit`
+tells where it pulls the same pieces. Options and keys that say nothing have to be told, and to change nothing; so has a handle without a session. Last
+come the programs of docs/INTEGRATION.md and adapters/c/README.md.
 
 usage: tests/library.py     (LIBLINCHECK in the environment names the folder of built/library.sh, else nothing is tried; LINCHECK the program)
 """
@@ -25,12 +26,18 @@ from rows import built
 
 TOP = pathlib.Path(__file__).resolve().parent.parent
 KINDS = ['register', 'cas-register', 'fifo', 'set', 'mutex', 'unordered-queue']
-BAD_OPTIONS, NO_MEMORY, TOO_LITTLE_ROOM = 5, 6, 8
+REFUSED, BAD_OPTIONS, NO_MEMORY, NO_SESSION, TOO_LITTLE_ROOM = 4, 5, 6, 7, 8
+VERDICTS = ['yes', 'no', 'undecided', 'ill-formed']
+UNTOLD = 77
 THREADS, DRAWN, LONG = 4, 60, 3000
 
 
 class Options(ctypes.Structure):
     _fields_ = [(name, ctypes.c_uint32) for name in ('kind', 'keyed', 'budget', 'order', 'json')]
+
+
+class Handle(ctypes.Structure):
+    _fields_ = [('at', ctypes.c_void_p)]
 
 
 class Library:
@@ -39,23 +46,99 @@ class Library:
         text, size = ctypes.c_char_p, ctypes.c_size_t
         shared.lincheck_check.argtypes = [ctypes.POINTER(Options), text, size, text, size, ctypes.POINTER(size)]
         shared.lincheck_explain.argtypes = [ctypes.POINTER(Options), text, size, text, size, text, size, ctypes.POINTER(size)]
-        shared.lincheck_check.restype = shared.lincheck_explain.restype = ctypes.c_uint32
+        handle, number = ctypes.POINTER(Handle), ctypes.POINTER(ctypes.c_uint64)
+        shared.lincheck_session_new.argtypes = [ctypes.POINTER(Options), handle]
+        shared.lincheck_session_feed.argtypes = [handle, text, size, number]
+        shared.lincheck_session_ask.argtypes = [handle, number]
+        shared.lincheck_session_order.argtypes = [handle, text, size, ctypes.POINTER(size)]
+        shared.lincheck_session_free.argtypes = [handle]
+        for name in ('check', 'explain', 'session_new', 'session_feed', 'session_ask', 'session_order'):
+            getattr(shared, 'lincheck_' + name).restype = ctypes.c_uint32
+        shared.lincheck_session_free.restype = None
         self.shared = shared
 
     def call(self, name, options, history, key=None):
-        """The number that a call gives, and what it wrote: none where it may write nothing. A first call has too little room."""
+        """The number that a call gives, and what it wrote."""
         keys = [] if key is None else [key, len(key)]
-        room, needed = ctypes.create_string_buffer(b'\xa5' * 8, 8), ctypes.c_size_t(77)
-        ask = lambda: getattr(self.shared, name)(ctypes.byref(Options(*options)), history, len(history), *keys, room, len(room), ctypes.byref(needed))
-        number = ask()
-        if number == TOO_LITTLE_ROOM:
-            assert room.raw == b'\xa5' * 8 and needed.value > 8
-            room = ctypes.create_string_buffer(b'\xa5' * (needed.value + 3), needed.value + 3)
-            number = ask()
-            assert number < BAD_OPTIONS and room.raw[needed.value:] == b'\xa5' * 3
-            return number, room.raw[:needed.value]
-        assert number >= BAD_OPTIONS and room.raw == b'\xa5' * 8 and needed.value == 77, (number, room.raw, needed.value)
-        return number, None
+        return told_in_room(lambda *room: getattr(self.shared, name)(ctypes.byref(Options(*options)), history, len(history), *keys, *room))
+
+
+def told_in_room(call):
+    """The number that a call gives, and what it wrote into the room that it was given: none where it may write nothing. A first call has little room."""
+    room, needed = ctypes.create_string_buffer(b'\xa5' * 8, 8), ctypes.c_size_t(UNTOLD)
+    number = call(room, len(room), ctypes.byref(needed))
+    if number == TOO_LITTLE_ROOM:
+        assert room.raw == b'\xa5' * 8 and needed.value > 8
+        room = ctypes.create_string_buffer(b'\xa5' * (needed.value + 3), needed.value + 3)
+        number = call(room, len(room), ctypes.byref(needed))
+        assert number < BAD_OPTIONS
+    if number < BAD_OPTIONS:
+        assert room.raw[needed.value:] == b'\xa5' * (len(room) - needed.value)
+        return number, room.raw[:needed.value]
+    assert room.raw == b'\xa5' * 8 and needed.value == UNTOLD, (number, room.raw, needed.value)
+    return number, None
+
+
+class Session:
+    """A session of the library: each call gives its number, and what it told."""
+
+    def __init__(self, library):
+        self.shared, self.handle = library.shared, Handle()
+
+    def new(self, options):
+        return self.shared.lincheck_session_new(ctypes.byref(Options(*options)), ctypes.byref(self.handle))
+
+    def feed(self, piece):
+        events = ctypes.c_uint64(UNTOLD)
+        return self.shared.lincheck_session_feed(ctypes.byref(self.handle), piece, len(piece), ctypes.byref(events)), events.value
+
+    def ask(self):
+        at = ctypes.c_uint64(UNTOLD)
+        return self.shared.lincheck_session_ask(ctypes.byref(self.handle), ctypes.byref(at)), at.value
+
+    def order(self):
+        return told_in_room(lambda *room: self.shared.lincheck_session_order(ctypes.byref(self.handle), *room))
+
+    def free(self):
+        self.shared.lincheck_session_free(ctypes.byref(self.handle))
+        assert not self.handle.at
+
+
+class Edit:
+    """The command that pulls what a file has gained, and is asked in between: it tells what a session tells."""
+
+    def __init__(self, program, options, file):
+        kind, keyed, budget = options[:3]
+        words = [program, 'edit', file.name, '--kind', KINDS[kind], '--budget', str(budget)] + ['--keyed'] * keyed
+        self.file, self.run = file, subprocess.Popen(words, stdin=subprocess.PIPE, stdout=subprocess.PIPE)
+
+    def told(self, command):
+        self.run.stdin.write(command + b'\n')
+        self.run.stdin.flush()
+        return self.run.stdout.readline()
+
+    def feed(self, piece):
+        self.file.write(piece)
+        self.file.flush()
+        name, count, *_ = self.told(b'pull').split()
+        if name == b'ok':
+            return 0, int(count)
+        events = int(self.told(b'report').split()[1])
+        while not self.run.stdout.readline().startswith(b'whole: '):
+            pass
+        return REFUSED, events
+
+    def ask(self):
+        name, *words = self.told(b'ask').decode().split()
+        return VERDICTS.index(name), next((int(word) for word in words if word.isdigit()), UNTOLD)
+
+    def order(self):
+        name, *words = self.told(b'order').split()
+        return VERDICTS.index(name.decode()), b' '.join(words) if name == b'yes' else b''
+
+    def end(self):
+        self.run.stdin.close()
+        return self.run.wait()
 
 
 def told(program, name, options, history, key=b''):
@@ -110,6 +193,40 @@ def test_python(program, library, some):
         list(pool.map(one, range(3 * len(some))))
 
 
+def test_sessions(program, library, some):
+    """The same as `lincheck edit` of a file that grows, from threads, of which each has a handle of its own."""
+    choices = [(kind, keyed, budget, order, json) for kind in range(6) for keyed in (0, 1) for budget in (1, 65536) for order in (0, 1) for json in (0, 1)]
+
+    def one(at):
+        draw = random.Random(at)
+        history, options = some[at % len(some)], choices[0] if at < len(some) else draw.choice(choices)
+        cuts = sorted(draw.randrange(len(history) + 1) for _ in range(draw.randrange(6)))
+        session = Session(library)
+        assert session.new(options) == 0
+        with tempfile.NamedTemporaryFile() as file:
+            edit = Edit(program, options, file)
+            for begin, end in zip([0] + cuts, cuts + [len(history)]):
+                for does in (lambda it: it.feed(history[begin:end]), lambda it: it.ask(), lambda it: it.order()):
+                    assert does(session) == does(edit), (options, history[:200], cuts, begin)
+            edit.end()
+        session.free()
+        session.free()
+
+    with ThreadPoolExecutor(THREADS) as pool:
+        list(pool.map(one, range(2 * len(some))))
+
+
+def test_no_session(program, library, some):
+    good, session = (0, 0, 65536, 0, 0), Session(library)
+    for _ in range(2):
+        session.free()
+        assert session.feed(some[0]) == session.ask() == (NO_SESSION, UNTOLD) and session.order() == (NO_SESSION, None)
+        assert session.new((6,) + good[1:]) == BAD_OPTIONS and not session.handle.at
+        assert session.new(good) == 0 and session.feed(b'{') == (0, 0) and session.ask() == (0, UNTOLD)
+        assert session.new((0, 0, 0, 0, 0)) == BAD_OPTIONS and session.feed(b'}') == (REFUSED, 0)
+        assert session.new(good) == 0 and session.feed(b'') == (0, 0) and session.order() == (0, b'empty')
+
+
 def test_bad_options(program, library, some):
     good = (0, 0, 65536, 0, 0)
     for at, value in [(0, 6), (0, 1 << 31), (1, 2), (3, 2), (4, 2), (2, 0), (2, 1000001), (2, (1 << 32) - 1)]:
@@ -145,24 +262,32 @@ def test_c(program, folder, some):
             for name in ('check', 'explain'):
                 status, text = told(program, name, options, history, key)
                 wanted += b'%s: status %d, needed %d\n%s' % (name.encode(), status, len(text), text)
+            with tempfile.NamedTemporaryFile() as file:
+                edit = Edit(program, options, file)
+                wanted += b'session: fed %d, events %d, status %d, at %d\n%s\n' % (*edit.feed(history), *edit.ask(), edit.order()[1])
+                edit.end()
         done = subprocess.run([str(folder / 'calls'), *map(str, options), os.fsdecode(key), *map(str, files)], stdout=subprocess.PIPE)
         assert done.returncode == 0 and done.stdout == wanted, done.stdout[-2000:]
     bad = subprocess.run([str(folder / 'calls'), '7', '0', '65536', '0', '0', '', str(files[0])], stdout=subprocess.PIPE)
-    assert bad.stdout == b'check: status 5, needed 12345\nexplain: status 5, needed 12345\n'
+    assert bad.stdout == b'check: status 5, needed 12345\nexplain: status 5, needed 12345\nsession: status 5, none\n'
 
 
 def test_pages(folder):
-    """The C block of docs/INTEGRATION.md and the Python block of adapters/c/README.md, and what they print."""
+    """The C blocks of docs/INTEGRATION.md and the Python blocks of adapters/c/README.md, and what they print."""
     page = (TOP / 'docs/INTEGRATION.md').read_text(encoding='utf-8')
-    program, wanted = re.search(r'(?ms)^```c\n(.*?)^```\n+```text\n(.*?)^```$', page).groups()
-    (folder / 'page.c').write_text(program, encoding='utf-8')
-    compiled(folder, folder / 'page.c', folder / 'page')
-    done = subprocess.run([str(folder / 'page')], cwd=TOP, stdout=subprocess.PIPE, text=True)
-    assert (done.returncode, done.stdout) == (1, wanted), done
+    programs = re.findall(r'(?ms)^```c\n(.*?)^```\n+```text\n(.*?)^```$', page)
+    assert len(programs) == 2
+    for program, wanted in programs:
+        (folder / 'page.c').write_text(program, encoding='utf-8')
+        compiled(folder, folder / 'page.c', folder / 'page')
+        done = subprocess.run([str(folder / 'page')], cwd=TOP, stdout=subprocess.PIPE, text=True)
+        assert (done.returncode, done.stdout) == (1, wanted), done
     page = (TOP / 'adapters/c/README.md').read_text(encoding='utf-8')
-    program, wanted = re.search(r'(?ms)^```python\n(.*?)^```\n+```text\n(.*?)^```$', page).groups()
-    done = subprocess.run([sys.executable, '-c', program], cwd=folder, stdout=subprocess.PIPE, text=True)
-    assert (done.returncode, done.stdout.rstrip()) == (0, wanted.rstrip()), done
+    programs = re.findall(r'(?ms)^```python\n(.*?)^```\n+```text\n(.*?)^```$', page)
+    assert len(programs) == 2
+    for program, wanted in programs:
+        done = subprocess.run([sys.executable, '-c', program], cwd=folder, stdout=subprocess.PIPE, text=True)
+        assert (done.returncode, done.stdout.rstrip()) == (0, wanted.rstrip()), done
 
 
 def main():
@@ -177,7 +302,8 @@ def main():
     passed = failed = 0
     with tempfile.TemporaryDirectory() as room:
         folder = pathlib.Path(room)
-        for test in (lambda: test_python(program, library, some), lambda: test_bad_options(program, library, some),
+        for test in (lambda: test_python(program, library, some), lambda: test_sessions(program, library, some),
+                     lambda: test_no_session(program, library, some), lambda: test_bad_options(program, library, some),
                      lambda: test_c(program, folder, some), lambda: test_pages(folder)):
             try:
                 test()

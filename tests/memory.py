@@ -14,7 +14,7 @@ sys.path.insert(0, os.path.join(HERE, '../bench'))
 import growth
 
 EVENTS, TIMES, MORE = 20_000, 8, 32
-# each checkpoint of its order holds what is inside: 50 MB for a file of one
+# the checkpoints of its order hold up to a million items: 47 MB for a file of one
 LEFT = {'queue filled'}
 
 

@@ -19,13 +19,15 @@ A file of tests/rows/ is a topic. Its lines:
       +COUNT EVENT; EVENT        the same so many times, where `#` is the number of the turn, from 0 on, but for the `#` of a set
       % NAME=LEAST..MOST ..      `work` on standard input, and a line of its counts wanted of which each that is named (`scans`, `steps`, `tries`)
                                  has grown by as much since the line `%` before, or the start; `NAME=COUNT` is just so much, `LEAST..` at least
+      ? LINE                     a line wanted on standard error
       ~ BYTES                    the file grows by these bytes once all lines wanted so far are there
       !                          standard input fails once all lines wanted so far are there
 
 Words are divided and quoted as in a shell, those of `parts` too. Bytes, commands and words know the escapes of Python. `FILE` is a file
 with the history, the only one of the folder. A row stands for several where it has the word `EACH` (each kind of object), `FILE:A..B`
 (the first A bytes of the history, the first A + 1, and so on to B) or at its end `> A..B` (a standard output that takes A bytes of what
-is wanted and then fails, one that takes A + 1, and so on). `> PATH` sends standard output elsewhere. Standard error has to stay empty.
+is wanted and then fails, one that takes A + 1, and so on). `> PATH` sends standard output elsewhere. Standard error has to stay empty, but
+for the lines that are wanted there.
 
 A line of another form is a fault, and so is a group without rows.
 
@@ -105,7 +107,7 @@ class Row:
     words: list
     status: int
     history: tuple  # how it is said, and the text that says it
-    steps: list = dataclasses.field(default_factory=list)  # bytes `told`, `wanted`, `counted` or `grown`, or what has `failed`
+    steps: list = dataclasses.field(default_factory=list)  # bytes `told`, `wanted`, `noted`, `counted` or `grown`, or what has `failed`
     kept: int = None  # how many bytes of the history there are, and how many standard output takes: all if None
     taken: int = None
     output: str = None
@@ -127,6 +129,8 @@ class Row:
         elif mark == '%':
             bounds_of(rest)
             self.steps += [('told', b'work\n'), ('counted', rest.encode())]
+        elif mark == '?':
+            self.steps.append(('noted', rest.encode() + b'\n'))
         elif mark == '~':
             self.steps.append(('grown', unescaped(rest)))
         elif mark == '!':
@@ -177,11 +181,13 @@ class Row:
         except (ValueError, OSError) as error:  # there is no such history; no program starts, or it ended before its file grew
             return '%s: %s' % (self.place, error)
         wanted = self.wanted(printed)
-        if status == self.status and not failed and (printed if wanted == b'...\n' else printed == wanted):
+        noted = b''.join(text for what, text in self.steps if what == 'noted')
+        if status == self.status and failed == noted and (printed if wanted == b'...\n' else printed == wanted):
             return None
         # long words are cut, and of long texts the ends are shown
-        return '%s: %s\n  wanted %d, %r\n  got %d, %r %r' % (
-            self.place, shlex.join(word.decode('latin-1')[:80] for word in self.words), self.status, wanted[-500:], status, printed[-500:], failed[-500:])
+        return '%s: %s\n  wanted %d, %r %r\n  got %d, %r %r' % (
+            self.place, shlex.join(word.decode('latin-1')[:80] for word in self.words),
+            self.status, wanted[-500:], noted[-500:], status, printed[-500:], failed[-500:])
 
     def run(self, words, folder):
         """What the program prints on both outputs, and its status."""
@@ -215,7 +221,7 @@ class Row:
                 told += text
             elif what in ('wanted', 'counted'):
                 due += 1
-            else:
+            elif what != 'noted':
                 if peer:
                     peer.sendall(told)
                 else:

@@ -137,6 +137,7 @@ func (o Options) ask(ctx context.Context, history []byte, command string) (*Repo
 	}
 	it := struct {
 		head
+		Failed  json.RawMessage // of an object that is a no beside one that is undecided
 		Text    string
 		Key     Word
 		Objects []struct {
@@ -146,7 +147,11 @@ func (o Options) ask(ctx context.Context, history []byte, command string) (*Repo
 		}
 	}{head: head{Status: -1}}
 	valid := [...]any{true, false, "unknown", "unknown", "unknown"}
-	if json.Unmarshal(printed, &it) != nil || it.Status != status || it.Valid != valid[status] {
+	isRead := json.Unmarshal(printed, &it) == nil
+	if status == 2 && it.Failed != nil {
+		valid[2] = false
+	}
+	if !isRead || it.Status != status || it.Valid != valid[status] {
 		return nil, fmt.Errorf("lincheck: status %d: %.1000s", status, printed)
 	}
 	report := &Report{Verdict(status + 1), it.Answer, it.Text, it.Key, nil, printed}

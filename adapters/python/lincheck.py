@@ -260,6 +260,8 @@ class _Command:
         except ValueError:
             found = None
         valid = {0: True, 1: False}.get(status, "unknown")
+        if status == 2 and isinstance(found, dict) and "failed" in found:
+            valid = False  # an object is a no beside one that is undecided
         if not isinstance(found, dict) or found.get("status") != status or found.get("valid?") != valid:
             raise Error("status %d: %s%s" % (status, printed[:1000], errors))
         return found

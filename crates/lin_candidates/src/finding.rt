@@ -1,11 +1,14 @@
-//! A search for a certificate. Whatever it finds is tested; that it finds one isn't promised.
-ghost use Rattle.std.specs.Prelude.{IfOk, IfSome};
+//! A search for a certificate. Whatever it finds is tested; it finds one wherever the failing operation alone decides it.
+ghost use Rattle.std.specs.Prelude.{IfNone, IfOk, IfSome};
 ghost use Rattle.lin_orders.specs.Tables.{IsNextTable};
 ghost use Rattle.lin_certificates.specs.Certificates.{Certifies};
+ghost use Rattle.lin_certificates.specs.declared.certificate.Certificate.{Certificate as CertificateOf};
+ghost use Rattle.lin_candidates.specs.OwnCertificates.{IsOwn};
 
 use crate::candidates::{FORMS, Form, candidate, candidate_naming};
 use crate::endings::{Operation, operations_of};
-use lin_certificates::{Certificate, holds};
+use crate::own::{own_certificate, tested};
+use lin_certificates::Certificate;
 use lin_events::{Event, OutOfMemory};
 use lin_objects::Kind;
 use lin_orders::ends_of;
@@ -22,22 +25,6 @@ fn most_tried(form: Form) -> usize {
     match form {
         Form::Spent | Form::Preceded | Form::Remaining => FEW,
         _ => LIMIT,
-    }
-}
-
-/// The certificate, if there is one and it holds.
-fn tested(
-    events: &[Event],
-    ends: &[Option<usize>],
-    kind: Kind,
-    candidate: Option<Certificate>,
-) -> Option<Certificate>
-    requires { IsNextTable events.now ends.now }
-    ensures { IfSome result (λ found. Certifies events.now kind found) }
-{
-    match candidate {
-        Some(certificate) if holds(events, ends, kind, &certificate) => Some(certificate),
-        _ => None,
     }
 }
 
@@ -132,15 +119,16 @@ fn certificate_of_last(
 
 /// A certificate that holds of the events, which are those of one object of the kind, if the search finds one. `failing` is the place where the
 /// failing operation was invoked, the one with whose end no order is legal any more. Of the certificates whose lines name it the first is wanted,
-/// else the first of all: forms in their order, and of a form mostly the operations that were invoked last. `OutOfMemory` is answered only where
-/// memory was refused.
+/// else the first of all: forms in their order, and of a form mostly the operations that were invoked last. Where the failing operation alone decides
+/// a certificate, one is found. `OutOfMemory` is answered only where memory was refused.
 pub fn find_certificate(
     alloc: Global,
     events: &[Event],
     kind: Kind,
     failing: usize,
 ) -> Result<Option<Certificate>, OutOfMemory>
-    ensures { IfOk result (λ found. IfSome found (λ certificate. Certifies events.now kind certificate)) }
+    ensures sound { IfOk result (λ found. IfSome found (λ certificate. Certifies events.now kind certificate)) }
+    ensures own { IfOk result (λ found. IfNone found ((c : CertificateOf) → IsOwn events.now failing c → Certifies events.now kind c → ⊥)) }
 {
     let ends = ends_of(alloc, events)?;
     let operations = operations_of(alloc, events, ends.as_slice())?;
@@ -155,5 +143,9 @@ pub fn find_certificate(
     if found.is_some() {
         return Ok(found);
     }
-    certificate_of_last(alloc, events, ends.as_slice(), kind, operations.as_slice())
+    let last = certificate_of_last(alloc, events, ends.as_slice(), kind, operations.as_slice())?;
+    if last.is_some() {
+        return Ok(last);
+    }
+    Ok(own_certificate(events, ends.as_slice(), kind, failing))
 }

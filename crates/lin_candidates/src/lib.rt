@@ -6,5 +6,6 @@ mod candidates;
 mod crossings;
 mod endings;
 mod finding;
+mod own;
 
 pub use finding::find_certificate;

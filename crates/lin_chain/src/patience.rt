@@ -6,6 +6,9 @@ use lin_objects::Kind;
 /// So many items of an unordered queue are soon copied.
 const FEW: u64 = 16;
 
+/// A frontier of a queue that holds more items isn't worth its checkpoints, each of which has a copy of them.
+const LONG: u64 = 1_024;
+
 /// How much work the next events are worth.
 #[derive(Clone, Copy)]
 pub(crate) struct Patience {
@@ -51,14 +54,13 @@ fn arrangements(count: usize) -> u64 {
 /// no more members than the budget. A dequeue of an unordered queue may take any item, and leaves a copy of the others.
 fn ways(replay: &Replay, budget: u32) -> u64 {
     let open = replay.open();
-    let placed = match replay.kind() {
+    let inside = replay.inside() as u64;
+    let (placed, each) = match replay.kind() {
         Kind::Register => return replay.members() as u64,
-        Kind::Fifo => arrangements(open),
-        _ => 1 << open.min(32),
-    };
-    let each = match replay.inside() as u64 {
-        inside if inside > FEW => inside.saturating_mul(inside) / FEW,
-        _ => 1,
+        Kind::Fifo if inside > LONG => return u64::MAX,
+        Kind::Fifo => (arrangements(open), 1),
+        Kind::Bag if inside > FEW => (1 << open.min(32), inside.saturating_mul(inside) / FEW),
+        _ => (1 << open.min(32), 1),
     };
     placed
         .min(budget as u64)

@@ -23,7 +23,7 @@ ghost use Rattle.lin_frontier.specs.Walks.{IsTriedAtMost};
 
 use crate::compressed::{Compressed, Found, Search, alone_all, open_after, push_all_taken_out};
 use crate::scratch::Scratch;
-use lin_events::{Body, Meter, OutOfMemory, ends_are_unique, well_formed_is_alternating};
+use lin_events::{Body, Event, Meter, OutOfMemory, ends_are_unique, well_formed_is_alternating};
 use lin_frontier::{Arrival, Pending};
 use lin_listing::{are_surely_more, listed};
 use lin_members::{
@@ -190,7 +190,7 @@ impl<O: SeqObject> Compressed<O> {
         Ok(Compressed { members })
     }
 
-    /// The frontier after one more event. An invocation leaves the members as they are.
+    /// The frontier after one more event. An invocation leaves the members as they are, and so does an info where there is one.
     ///
     /// Where the budget is below 1,024, configurations are counted after each event; above it only where a search comes to so many
     /// members that there may be too many configurations before the event.
@@ -232,8 +232,8 @@ impl<O: SeqObject> Compressed<O> {
         ensures scans { meter.new.scans ≡ meter.old.scans }
     {
         let budget = budget as usize;
-        if let Body::Invoke(_) = &arrival.event.body {
-            return self.invoked(arrival, budget, nodes, meter);
+        if self.stays(arrival.event) {
+            return self.kept(arrival, budget, nodes, meter);
         }
         let count = nodes.len();
         match self.step(arrival, budget, nodes, meter, scratch) {
@@ -258,15 +258,26 @@ impl<O: SeqObject> Compressed<O> {
         !object.overwrites() || (is_counted(budget) && are_alone(&self.members))
     }
 
-    /// After an invocation the members are the same, unless the configurations are counted and too many.
-    fn invoked(
+    /// Whether the members stay as they are: after an invocation, and after an info where there is one alone.
+    fn stays(&self, event: &Event) -> bool
+        ensures { result ≡ true → ((call : CallOf) × (event.now.body ≡ BodyOf.Invoke call)) ⊎ ((name : NameOf) × (event.now.body ≡ BodyOf.Info name) × (length self.now ≤ 1)) }
+    {
+        match &event.body {
+            Body::Invoke(_) => true,
+            Body::Info(_) => self.members.len() == 1,
+            _ => false,
+        }
+    }
+
+    /// After such an event the members are the same, unless the configurations are counted and too many.
+    fn kept(
         &self,
         arrival: &Arrival<O>,
         budget: usize,
         nodes: &mut RoundNodes,
         meter: &mut Meter,
     ) -> Result<Advance<O>, OutOfMemory>
-        requires { (call : CallOf) × (arrival.now.event.now.body ≡ BodyOf.Invoke call) }
+        requires { ((call : CallOf) × (arrival.now.event.now.body ≡ BodyOf.Invoke call)) ⊎ ((name : NameOf) × (arrival.now.event.now.body ≡ BodyOf.Info name) × (length self.now ≤ 1)) }
         ensures answers { IfOk result (λ step. (step ≡ Advance.Same) ⊎ (step ≡ Advance.Over)) }
         ensures same { IfOk result (λ step. step ≡ Advance.Same → (functions : ItemOf → NameOf → Bool) (h : List EventOf)
             → IsNextEvent functions h arrival.now.pending.now arrival.now.at arrival.now.event.now → IsCompressed (O.starts arrival.now.object.now) (O.step arrival.now.object.now) (O.observing arrival.now.object.now) (O.overwriting arrival.now.object.now) h self.now nodes.old

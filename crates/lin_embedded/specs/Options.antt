@@ -24,8 +24,9 @@ pub record AreOptions (options : Options) : Type 0 where
   pub least : 1 ≤ options.budget
   pub most : options.budget ≤ 1000000
 
+-- what a run is told: however few events there are, it answers
 abbrev pub settings_of : Options → Settings
-settings_of options = record { kind = kind_numbered options.kind; keyed = options.keyed == 1; budget = options.budget }
+settings_of options = record { kind = kind_numbered options.kind; keyed = options.keyed == 1; budget = options.budget; at_least = 0 }
 
 abbrev pub format_of : Options → Format
 format_of options = if options.json == 1 then Json else Text

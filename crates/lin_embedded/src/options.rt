@@ -60,6 +60,7 @@ pub fn settings_of(options: Options) -> Settings
         kind: kind_of(options.kind),
         keyed: options.keyed == 1,
         budget: options.budget,
+        at_least: 0,
     }
 }
 

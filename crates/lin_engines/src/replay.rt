@@ -121,7 +121,7 @@ impl Replay {
         }
     }
 
-    /// How many items one of these members holds, where the object is an unordered queue: each dequeue may take any of them.
+    /// How many items one of these members holds, where the object is a queue, ordered or not.
     pub fn inside(&self) -> usize {
         let frontier = match (&self.present, self.checkpoints.last()) {
             (Some(frontier), _) => frontier,
@@ -130,6 +130,7 @@ impl Replay {
         };
         match frontier.get(&self.object, 0).map(|member| member.state()) {
             Some(State::Bag(items)) => items.as_slice().len(),
+            Some(State::Queue(items)) => items.as_slice().len(),
             _ => 0,
         }
     }

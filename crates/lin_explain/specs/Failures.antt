@@ -73,7 +73,7 @@ pub record AreReasons (kind : Kind) (budget : ℕ) (stretch : Told) (call : ℕ)
   pub why : List ℕ
   pub named : List ℕ
   pub since : List ℕ
-  pub is_why : IsWhyText kind stretch why named told
+  pub is_why : IsWhyText kind stretch call why named told
   pub is_since : IsSinceText kind budget stretch call named since from
   pub says : lines ≡ why ++ since
 

@@ -1,3 +1,4 @@
+pub mod Certain
 pub mod Counts
 pub mod Failures
 pub mod Heads

@@ -2,6 +2,7 @@
 use Rattle.std.specs.Prelude.{◌≡◌, ℕ, List, [], Contains, Option, Some, None, codes, map, option_map}
 use Rattle.lin_objects.specs.declared.kinds.Kind.{Kind}
 use Rattle.lin_orders.specs.Tables.{IsNextTable}
+use Rattle.lin_candidates.specs.OwnCertificates.{IsOwn}
 use Rattle.lin_certificates.specs.Certificates.{Certifies}
 use Rattle.lin_certificates.specs.declared.certificate.Certificate.{Certificate}
 use Rattle.lin_certificates.specs.declared.certificate.Certificate.TheVariants as Form
@@ -54,7 +55,7 @@ pub record IsWhy (kind : Kind) (stretch : Told) (lines named : List ℕ) (why : 
 abbrev pub no_reason_text : List ℕ
 no_reason_text = codes "why: no short reason was found\n"
 
--- a certificate is told, or that none was found, and then nothing is named
-abbrev pub IsWhyText : Kind → Told → List ℕ → List ℕ → Option Why → Type 0
-IsWhyText kind stretch lines named None = (lines ≡ no_reason_text) × (named ≡ [])
-IsWhyText kind stretch lines named (Some why) = IsWhy kind stretch lines named why
+-- a certificate is told; or that none was found, and then nothing is named, and no certificate that the failing operation alone decides holds
+abbrev pub IsWhyText : Kind → Told → ℕ → List ℕ → List ℕ → Option Why → Type 0
+IsWhyText kind stretch call lines named None = (lines ≡ no_reason_text) × (named ≡ []) × ((c : Certificate) → IsOwn stretch.events call c → Certifies stretch.events kind c → ⊥)
+IsWhyText kind stretch call lines named (Some why) = IsWhy kind stretch lines named why

@@ -17,3 +17,10 @@ least_steps now (IllFormed at cause) = at
 least_steps now (Yes order) = 10 * length now.history
 least_steps now (No n) = n + 4 * own_count (slice_get now.history (n - 1)) (take n now.history)
 least_steps now (Undecided at) = (at + 1) + 4 * own_count (slice_get now.history at) (take (at + 1) now.history)
+
+-- it makes no more than so many passes through the whole history
+abbrev pub most_passes : Answer → ℕ
+most_passes (IllFormed at cause) = 1
+most_passes (Yes order) = 10
+most_passes (No n) = 7
+most_passes (Undecided at) = 5

@@ -1,6 +1,7 @@
 //! Why the answer is what it is: the lines of an explanation, behind the answer's own, and what they say in parts.
 #![tactic(auto)]
 
+mod certain;
 mod counts;
 mod failures;
 mod fallen;
@@ -19,5 +20,6 @@ mod undecided;
 mod whys;
 mod yes;
 
+pub use certain::{noes_are_certain, put_certain};
 pub use parts::{Choices, Explanation, Failed, Parts, Spot, Why};
 pub use telling::{Asked, explanation_from, explanation_of};

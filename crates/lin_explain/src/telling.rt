@@ -6,7 +6,7 @@ ghost use Rattle.lin_answers.specs.declared.answers.Answer.{Answer as AnswerOf};
 ghost use Rattle.lin_answers.specs.declared.answers.Scope.{Scope as ScopeOf};
 ghost use Rattle.lin_explain.specs.Explained.{Explains, scope_of};
 ghost use Rattle.lin_explain.specs.Failures.{IsNoText};
-ghost use Rattle.lin_explain.specs.Work.{least_steps};
+ghost use Rattle.lin_explain.specs.Work.{least_steps, most_passes};
 ghost use Rattle.lin_explain.specs.declared.parts.Failed.{Failed as FailedOf};
 ghost use Rattle.lin_explain.specs.declared.parts.Parts.{Parts as PartsOf};
 
@@ -48,7 +48,7 @@ fn put_answer(
     ensures told { IfOk result (λ parts. (lines : List ℕ) × Explains origin.now.names.now present.now asked (option_map (λ p. p.now) origin.now.places) answer.now lines parts
         × (text.new.items ≡ text.old.items ++ lines)) }
     ensures counted { OnOk result (ticked meter.old.steps (least_steps present.now answer.now) ≤ meter.new.steps) }
-    ensures most { meter.new.steps ≤ meter.old.steps + 10 * length present.now.history }
+    ensures most { meter.new.steps ≤ meter.old.steps + most_passes answer.now * length present.now.history }
     ensures scans { meter.new.scans ≡ meter.old.scans }
 {
     match answer {
@@ -84,7 +84,7 @@ fn put_answer(
 /// An explanation of the answer: the lines that follow the answer's own, and what they say in parts.
 ///
 /// A step is counted for each event that is looked at, as often as it is: of a yes ten times, once for each count; of a no once, to find those of
-/// its object, then these four times, and as they are taken in. What a search for a certificate looks at, and the keys, which are sorted, aren't
+/// its object, then these four times, and as they are taken in, in all at most seven times; of what is undecided at most five times. What a search for a certificate looks at, and the keys, which are sorted, aren't
 /// counted.
 pub fn explanation_of(
     alloc: Global,
@@ -98,7 +98,7 @@ pub fn explanation_of(
     requires { IsAnswer present.now (scope_of asked.key) answer.now }
     ensures told { IfOk result (λ told. Explains names.now present.now asked (option_map (λ p. p.now) places.entry) answer.now told.lines.items told.parts) }
     ensures counted { OnOk result (ticked meter.old.steps (least_steps present.now answer.now) ≤ meter.new.steps) }
-    ensures most { meter.new.steps ≤ meter.old.steps + 10 * length present.now.history }
+    ensures most { meter.new.steps ≤ meter.old.steps + most_passes answer.now * length present.now.history }
     ensures scans { meter.new.scans ≡ meter.old.scans }
 {
     let mut lines = Vec::new(alloc);

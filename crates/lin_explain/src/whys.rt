@@ -77,7 +77,7 @@ fn put_certificate(
 ) -> Result<Reason, OutOfMemory>
     requires table { IsNextTable stretch.now.events.now stretch.now.ends.now }
     requires holds { Certifies stretch.now.events.now kind certificate.now }
-    ensures { IfOk result (λ reason. (lines : List ℕ) × IsWhyText kind (told_of stretch.now) lines reason.named.items reason.why
+    ensures { IfOk result (λ reason. (lines : List ℕ) × ((call : ℕ) → IsWhyText kind (told_of stretch.now) call lines reason.named.items reason.why)
         × (text.new.items ≡ text.old.items ++ lines)) }
 {
     let told = Told {
@@ -99,7 +99,8 @@ fn put_certificate(
     })
 }
 
-/// Puts the lines of a certificate last that holds of the object's events, or that none was found.
+/// Puts the lines of a certificate last that holds of the object's events, or that none was found, where the failing operation, which was invoked
+/// at the place, decides none alone.
 pub(crate) fn put_why(
     alloc: Global,
     text: &mut Vec<u8>,
@@ -108,7 +109,7 @@ pub(crate) fn put_why(
     call: usize,
 ) -> Result<Reason, OutOfMemory>
     requires { IsNextTable stretch.now.events.now stretch.now.ends.now }
-    ensures { IfOk result (λ reason. (lines : List ℕ) × IsWhyText kind (told_of stretch.now) lines reason.named.items reason.why
+    ensures { IfOk result (λ reason. (lines : List ℕ) × IsWhyText kind (told_of stretch.now) call lines reason.named.items reason.why
         × (text.new.items ≡ text.old.items ++ lines)) }
 {
     match find_certificate(alloc, stretch.events, kind, call)? {

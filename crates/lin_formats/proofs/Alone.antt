@@ -16,7 +16,7 @@ use Rattle.lin_formats.specs.Inputs.{limit, IsFaulty, AreRefused, IsTooMany, IsW
 use Rattle.lin_texts.specs.Orders.{order_of, order_said, order_written, IsOrderBy}
 use Rattle.lin_formats.specs.Verdicts.{all_of, IsJudged, IsRightBy}
 use Rattle.lin_formats.specs.declared.verdicts.Refusal.{Refusal}
-use Rattle.lin_formats.specs.declared.verdicts.Refusal.TheVariants.{Edn, Event as OfEvent, Truncated, Full, BadPair}
+use Rattle.lin_formats.specs.declared.verdicts.Refusal.TheVariants.{Edn, Event as OfEvent, Truncated, Full, BadPair, Few}
 use Rattle.lin_formats.specs.declared.verdicts.OrderVerdict.{OrderVerdict}
 use Rattle.lin_formats.specs.declared.verdicts.OrderVerdict.TheVariants.{Yes, No, IllFormed, Refused}
 use Rattle.lin_texts.specs.declared.settings.Settings.{Settings}
@@ -79,6 +79,11 @@ module _ (streams : StreamsAreUnique) (names : List (List ℕ)) (numbers : (numb
   one_refusal (Truncated at) (BadPair _) x y = elim y [ ]
   one_refusal Full (BadPair _) x y = elim y [ ]
   one_refusal (BadPair _) s x y = elim x [ ]
+  one_refusal (Edn at cause) (Few _ _) x y = elim y [ ]
+  one_refusal (OfEvent at cause) (Few _ _) x y = elim y [ ]
+  one_refusal (Truncated at) (Few _ _) x y = elim y [ ]
+  one_refusal Full (Few _ _) x y = elim y [ ]
+  one_refusal (Few _ _) s x y = elim x [ ]
 
   -- a whole history is not refused
   never_both : (events : List Event) (r : Refusal) → IsWhole keyed names text events → AreRefused keyed names text r → ⊥
@@ -91,6 +96,7 @@ module _ (streams : StreamsAreUnique) (names : List (List ℕ)) (numbers : (numb
       let many : limit < length y.0 = y.3 in
       omega arith
   never_both events (BadPair at) x y = elim y [ ]
+  never_both events (Few _ _) x y = elim y [ ]
 
 module _ (shapes : ShapesAreUnique) (names : List (List ℕ)) (numbers : (number : Numbering) × AgreesWith names number) (kind : Kind) (events : List Event)
     (text : List ℕ) where
@@ -123,22 +129,27 @@ module _ (shapes : ShapesAreUnique) (names : List (List ℕ)) (numbers : (number
   one_judgement Yes (Refused (OfEvent _ _)) x y = elim y [ ]
   one_judgement Yes (Refused (Truncated _)) x y = elim y [ ]
   one_judgement Yes (Refused Full) x y = elim y [ ]
+  one_judgement Yes (Refused (Few _ _)) x y = elim y [ ]
   one_judgement No (Refused (Edn _ _)) x y = elim y [ ]
   one_judgement No (Refused (OfEvent _ _)) x y = elim y [ ]
   one_judgement No (Refused (Truncated _)) x y = elim y [ ]
   one_judgement No (Refused Full) x y = elim y [ ]
+  one_judgement No (Refused (Few _ _)) x y = elim y [ ]
   one_judgement (IllFormed place other) (Refused (Edn _ _)) x y = elim y [ ]
   one_judgement (IllFormed place other) (Refused (OfEvent _ _)) x y = elim y [ ]
   one_judgement (IllFormed place other) (Refused (Truncated _)) x y = elim y [ ]
   one_judgement (IllFormed place other) (Refused Full) x y = elim y [ ]
+  one_judgement (IllFormed place other) (Refused (Few _ _)) x y = elim y [ ]
   one_judgement (Refused (Edn _ _)) w x y = elim x [ ]
   one_judgement (Refused (OfEvent _ _)) w x y = elim x [ ]
   one_judgement (Refused (Truncated _)) w x y = elim x [ ]
   one_judgement (Refused Full) w x y = elim x [ ]
+  one_judgement (Refused (Few _ _)) w x y = elim x [ ]
   one_judgement (Refused (BadPair at)) (Refused (Edn _ _)) x y = elim y [ ]
   one_judgement (Refused (BadPair at)) (Refused (OfEvent _ _)) x y = elim y [ ]
   one_judgement (Refused (BadPair at)) (Refused (Truncated _)) x y = elim y [ ]
   one_judgement (Refused (BadPair at)) (Refused Full) x y = elim y [ ]
+  one_judgement (Refused (BadPair at)) (Refused (Few _ _)) x y = elim y [ ]
 
 -- one verdict is right
 pub one_verdict : StreamsAreUnique → ShapesAreUnique → (names : List (List ℕ)) → (number : Numbering) × AgreesWith names number

@@ -10,6 +10,10 @@ device_of c = c.inner
 abbrev pub failures_of : {T : Type 0} → Counted T → ℕ
 failures_of c = c.failures
 
+-- whether the history that was read from it last was whole and had no event
+abbrev pub is_empty_of : {T : Type 0} → Counted T → Bool
+is_empty_of c = c.is_empty
+
 -- a write fails by an error, or where it takes none of some bytes
 abbrev pub takes_nothing : {E : Type 0} → List ℕ → Result ℕ E → Bool
 takes_nothing buf (Ok n) = (n == 0) && nat_lt 0 (length buf)

@@ -8,7 +8,7 @@ use Rattle.lin_texts.specs.Causes.{cause_text}
 use Rattle.lin_texts.specs.declared.status.Status.{Status}
 use Rattle.lin_texts.specs.declared.status.Status.TheVariants as status
 use Rattle.lin_formats.specs.declared.verdicts.Refusal.{Refusal}
-use Rattle.lin_formats.specs.declared.verdicts.Refusal.TheVariants.{Edn, Event, Truncated, Full, BadPair}
+use Rattle.lin_formats.specs.declared.verdicts.Refusal.TheVariants.{Edn, Event, Truncated, Full, BadPair, Few}
 use Rattle.lin_formats.specs.declared.verdicts.OrderVerdict.{OrderVerdict}
 use Rattle.lin_formats.specs.declared.verdicts.OrderVerdict.TheVariants.{Yes, No, IllFormed, Refused}
 
@@ -32,6 +32,10 @@ event_fault_text fault.BadKey = codes "7 BadKey"
 event_fault_text fault.BadValue = codes "8 BadValue"
 event_fault_text fault.OutOfMemory = codes "9 OutOfMemory"
 
+-- the text of the refusal of a history that has so many events, where more are wanted
+abbrev pub few_text : ℕ → ℕ → List ℕ
+few_text events wanted = codes "refused input few " ++ decimal events ++ codes " events, " ++ decimal wanted ++ codes " wanted"
+
 -- the text of a refusal
 abbrev pub refusal_text : Refusal → List ℕ
 refusal_text (Edn at cause) = codes "refused input edn " ++ edn_cause_text cause ++ codes " at " ++ decimal at
@@ -39,6 +43,7 @@ refusal_text (Event at cause) = codes "refused input event " ++ event_fault_text
 refusal_text (Truncated at) = codes "refused input truncated at " ++ decimal at
 refusal_text Full = codes "refused edit 2 Full"
 refusal_text (BadPair at) = codes "refused order 1 BadPair at " ++ decimal at
+refusal_text (Few events wanted) = few_text events wanted
 
 -- the text of what is found
 abbrev pub verdict_text : OrderVerdict → List ℕ

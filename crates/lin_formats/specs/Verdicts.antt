@@ -42,6 +42,7 @@ module _ (names : List (List ℕ)) where
   IsJudged kind events text (Refused (refusal.Event at cause)) = ⊥
   IsJudged kind events text (Refused (refusal.Truncated at)) = ⊥
   IsJudged kind events text (Refused refusal.Full) = ⊥
+  IsJudged kind events text (Refused (refusal.Few count wanted)) = ⊥
 
   -- What is right to answer of the bytes of a file and the text of an order, both read by these names: why the bytes are refused; or,
   -- where they are a whole history, what is right to answer of that.

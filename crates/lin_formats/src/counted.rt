@@ -1,27 +1,55 @@
-//! Readers and writers that count their failures.
-ghost use Rattle.std.specs.Prelude.{◌≡◌, ◌+◌, min, is_err};
+//! Readers and writers that count their failures, and readers that have given a history of no event.
+ghost use Rattle.std.specs.Prelude.{◌≡◌, ◌+◌, false, min, is_err};
 ghost use Rattle.std.specs.Io.{ReadsAtMost, WritesAtMost};
 ghost use Rattle.std.specs.Io.KnownBytes.{Keeps, ReadConsumes, WriteAppends};
 
+use crate::inputs::History;
 use std::io;
 use std::io::{Read, Write};
 
-/// A reader or a writer that counts its failures: errors of the device, and writes of some bytes that take none.
+/// A reader or a writer that counts its failures: errors of the device, and writes of some bytes that take none. Of a reader it is kept in
+/// mind whether it gave a whole history of no event.
 #[derive(Drop)]
 pub struct Counted<T> {
     inner: T,
     failures: u64,
+    is_empty: bool,
 }
 
 impl<T> Counted<T> {
-    ghost use Rattle.lin_formats.specs.Devices.{device_of, failures_of};
+    ghost use Rattle.lin_formats.specs.Devices.{device_of, failures_of, is_empty_of};
+    ghost use Rattle.lin_formats.specs.Histories.{says_nothing};
 
     /// The device, with no failure so far.
     pub fn new(inner: T) -> Counted<T>
         ensures device { device_of result ≡ inner }
         ensures none { failures_of result ≡ 0 }
+        ensures unread { is_empty_of result ≡ false }
     {
-        Counted { inner, failures: 0 }
+        Counted {
+            inner,
+            failures: 0,
+            is_empty: false,
+        }
+    }
+
+    /// Whether the history that was read from it last was whole and had no event.
+    pub fn is_empty(&self) -> bool
+        ensures { result ≡ is_empty_of self.now }
+    {
+        self.is_empty
+    }
+
+    /// Keeps in mind whether this history, which was read from it, is whole and has no event.
+    pub fn has_given(&mut self, history: &History)
+        ensures device { device_of self.new ≡ device_of self.old }
+        ensures failures { failures_of self.new ≡ failures_of self.old }
+        ensures noted { is_empty_of self.new ≡ says_nothing history.now }
+    {
+        self.is_empty = match history {
+            History::Whole(events) => events.is_empty(),
+            History::Refused(_) => false,
+        };
     }
 
     /// How many calls have failed, up to the greatest number.

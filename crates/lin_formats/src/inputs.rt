@@ -4,12 +4,13 @@ ghost use Rattle.std.specs.Io.KnownBytes.{Consumes, IsAtEnd};
 ghost use Rattle.lin_events.specs.declared.events.Event.{Event as EventOf};
 ghost use Rattle.lin_history.specs.Sees.{is_fault};
 ghost use Rattle.lin_names.specs.Names.{AgreesWith, AreEachOnce, Begins, Numbering};
-ghost use Rattle.lin_formats.specs.Devices.{device_of, failures_of, Counts};
+ghost use Rattle.lin_formats.specs.Devices.{device_of, failures_of, is_empty_of, Counts};
 ghost use Rattle.lin_formats.specs.Intakes.{AreSeen, IsFed, IsFedOn, IsTooMuch};
 ghost use Rattle.lin_formats.specs.Inputs.{limit, AreRefused, IsTooMany};
 ghost use Rattle.lin_formats.specs.Inputs as inputs_said;
+ghost use Rattle.lin_formats.specs.Histories as histories_said;
 ghost use Rattle.lin_formats.specs.Verdicts.{IsReadTooFar};
-ghost use Rattle.lin_formats.specs.Histories.{EndsFor, IsHistory, StopsFor, is_read_failed};
+ghost use Rattle.lin_formats.specs.Histories.{EndsFor, IsHistory, IsHistoryFor, IsNoted, StopsFor, is_read_failed};
 
 use crate::counted::Counted;
 use crate::verdicts::Refusal;
@@ -130,10 +131,10 @@ pub fn finish_history(
     }
 }
 
-/// The history in a file, read to its end or to a fault.
+/// The history in a file, read to its end or to a fault, however many events it has.
 ///
 /// Errors: `ReadFailed`; want of memory; `TooMuch` where the file has more than 1,099,511,627,776 bytes.
-pub fn read_history<R: Read>(
+pub(crate) fn read_stream<R: Read>(
     alloc: Global,
     keyed: bool,
     file: &mut Counted<R>,
@@ -166,6 +167,54 @@ pub fn read_history<R: Read>(
         }
     }
     Err(RunFault::TooMuch)
+}
+
+/// What a file says where so many events are wanted at least: a whole history of fewer is refused.
+pub fn with_least(history: History, least: u32) -> History
+    ensures { result ≡ histories_said.with_least least history }
+{
+    match history {
+        History::Whole(events) => {
+            let count = events.len();
+            if count < least as usize {
+                History::Refused(Refusal::Few {
+                    events: count,
+                    wanted: least,
+                })
+            } else {
+                History::Whole(events)
+            }
+        }
+        History::Refused(refusal) => History::Refused(refusal),
+    }
+}
+
+/// The history in a file, read to its end or to a fault. It is refused where it has fewer events of clients than `least`. The reader keeps in
+/// mind whether it has none.
+///
+/// Errors: `ReadFailed`; want of memory; `TooMuch` where the file has more than 1,099,511,627,776 bytes.
+pub fn read_history<R: Read>(
+    alloc: Global,
+    keyed: bool,
+    least: u32,
+    file: &mut Counted<R>,
+    names: &mut Names,
+) -> Result<History, RunFault>
+    requires { failures_of file.old < u64.MAX }
+    ensures begun { Begins names.old names.new }
+    ensures read { IfOk result (λ history. (bytes : List ℕ)
+        × Consumes (R.remaining (device_of file.old)) (R.remaining (device_of file.new)) bytes
+        × (length bytes ≤ 2 ^ 40)
+        × EndsFor history (R.remaining (device_of file.new))
+        × IsHistoryFor least keyed names.new bytes history
+        × IsNoted keyed names.new bytes (is_empty_of file.new)) }
+    ensures too_much { IsErrOf result RunFault.TooMuch → IsReadTooFar (R.remaining (device_of file.old)) (R.remaining (device_of file.new)) }
+    ensures counts { Counts (is_read_failed result) (failures_of file.old) (failures_of file.new) }
+    ensures readers { IsErrOf result RunFault.WriteFailed → ⊥ }
+{
+    let history = read_stream(alloc, keyed, file, names)?;
+    file.has_given(&history);
+    Ok(with_least(history, least))
 }
 
 /// Each spelling has one number, and a numbering agrees with the names. The function does nothing.

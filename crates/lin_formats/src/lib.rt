@@ -9,7 +9,7 @@ mod verifying;
 mod writing;
 
 pub use counted::Counted;
-pub use inputs::{History, finish_history, read_history, take_piece};
+pub use inputs::{History, finish_history, read_history, take_piece, with_least};
 pub use lin_texts::{
     OrderFault, RunFault, Settings, Status, Word, cause_words, end_of_part, item_in, kind_named,
     kind_word, kind_words, kind_words_are_read, next_word, number, put_item, put_list, put_members,

@@ -1,6 +1,6 @@
 //! What a run answers, and its text.
 ghost use Rattle.std.specs.Prelude.{◌≡◌, IfOk};
-ghost use Rattle.lin_formats.specs.VerdictTexts.{edn_cause_text, event_fault_text, line_of, refusal_text, status_of, verdict_text};
+ghost use Rattle.lin_formats.specs.VerdictTexts.{edn_cause_text, event_fault_text, few_text, line_of, refusal_text, status_of, verdict_text};
 
 use lin_edn::EdnCause;
 use lin_events::Cause;
@@ -21,6 +21,8 @@ pub enum Refusal {
     Full,
     /// The word of an order's text at this place is no pair.
     BadPair { at: usize },
+    /// The stream is a whole one of so many events, and more are wanted.
+    Few { events: usize, wanted: u32 },
 }
 
 /// What is found of a history and an order.
@@ -77,6 +79,18 @@ pub fn event_fault(fault: EventFault) -> &'static str
     }
 }
 
+/// The text of the refusal of a history that is too short.
+fn few_words(alloc: Global, events: usize, wanted: u32) -> Result<Vec<u8>, AllocError>
+    ensures { IfOk result (λ line. line.items ≡ few_text events wanted) }
+{
+    let mut line = Vec::from_slice(alloc, b"refused input few ")?;
+    put_number(&mut line, events as u64)?;
+    line.extend_from_slice(b" events, ")?;
+    put_number(&mut line, wanted as u64)?;
+    line.extend_from_slice(b" wanted")?;
+    Ok(line)
+}
+
 /// The text of a refusal.
 pub fn refusal_words(alloc: Global, refusal: Refusal) -> Result<Vec<u8>, AllocError>
     ensures { IfOk result (λ line. line.items ≡ refusal_text refusal) }
@@ -107,6 +121,7 @@ pub fn refusal_words(alloc: Global, refusal: Refusal) -> Result<Vec<u8>, AllocEr
             put_number(&mut line, at as u64)?;
             Ok(line)
         }
+        Refusal::Few { events, wanted } => few_words(alloc, events, wanted),
     }
 }
 

@@ -8,7 +8,7 @@ ghost use Rattle.lin_formats.specs.Histories.{is_read_failed};
 ghost use Rattle.lin_formats.specs.Verdicts.{is_write_failed, IsJudged, IsReadTooFar, IsVerifiedBy, IsVerifyRun};
 
 use crate::counted::Counted;
-use crate::inputs::{History, read_history, some_numbering};
+use crate::inputs::{History, read_stream, some_numbering};
 use crate::verdicts::{OrderVerdict, Refusal, line};
 use crate::writing::write_whole;
 use lin_events::{Event, Meter, OutOfMemory, Shape};
@@ -66,7 +66,7 @@ fn find_verdict<R: Read>(
     ensures counts { Counts (is_read_failed result) (failures_of file.old) (failures_of file.new) }
     ensures readers { IsErrOf result RunFault.WriteFailed → ⊥ }
 {
-    match read_history(alloc, settings.keyed, file, names)? {
+    match read_stream(alloc, settings.keyed, file, names)? {
         History::Whole(events) => {
             Ok(judge(alloc, settings.kind, events.as_slice(), order, names)?)
         }

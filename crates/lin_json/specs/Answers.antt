@@ -1,5 +1,5 @@
 -- The answers for a history and for its objects.
-use Rattle.std.specs.Prelude.{ℕ, List, ◌++◌, codes, decimal}
+use Rattle.std.specs.Prelude.{ℕ, Bool, true, false, List, [], ◌++◌, Option, Some, None, codes, decimal, is_some}
 use Rattle.lin_events.specs.declared.items.Item.{Item}
 use Rattle.lin_objects.specs.declared.kinds.Kind.{Kind}
 use Rattle.lin_texts.specs.Kinds.{kind_text}
@@ -8,13 +8,14 @@ use Rattle.lin_texts.specs.declared.status.Status.{Status}
 use Rattle.lin_texts.specs.declared.status.Status.TheVariants.{Yes, No, Undecided, IllFormed, Refused}
 use Rattle.lin_json.specs.Strings.{string_json}
 
--- only a yes says that the history is linearizable, and only a no that it isn't
-abbrev pub valid_text : Status → List ℕ
-valid_text Yes = codes "true"
-valid_text No = codes "false"
-valid_text Undecided = codes "\"unknown\""
-valid_text IllFormed = codes "\"unknown\""
-valid_text Refused = codes "\"unknown\""
+-- only a yes says that the history is linearizable, and only a no that it isn't, or an undecided whole of which an object is a no
+abbrev pub valid_text : Status → Bool → List ℕ
+valid_text Yes fails = codes "true"
+valid_text No fails = codes "false"
+valid_text Undecided true = codes "false"
+valid_text Undecided false = codes "\"unknown\""
+valid_text IllFormed fails = codes "\"unknown\""
+valid_text Refused fails = codes "\"unknown\""
 
 -- the exit status of a run that ends so
 abbrev pub status_number : Status → ℕ
@@ -24,25 +25,18 @@ status_number Undecided = 2
 status_number IllFormed = 3
 status_number Refused = 4
 
--- what each map says of an answer or a refusal, which has this line
-abbrev pub head_json : Status → List ℕ → List ℕ
-head_json status answer = codes "\"valid?\":" ++ valid_text status ++ codes ",\"status\":" ++ decimal (status_number status)
+-- what each map says of an answer or a refusal, which has this line, and of an object that is a no beside it, if one is
+abbrev pub head_json : Bool → Status → List ℕ → List ℕ
+head_json fails status answer = codes "\"valid?\":" ++ valid_text status fails ++ codes ",\"status\":" ++ decimal (status_number status)
     ++ codes ",\"answer\":" ++ string_json answer
 
 -- an answer alone
 abbrev pub answer_json : Status → List ℕ → List ℕ
-answer_json status answer = codes "{" ++ head_json status answer ++ codes "}"
+answer_json status answer = codes "{" ++ head_json false status answer ++ codes "}"
 
 -- an answer for a history of so many events, and what else the map says will follow
-abbrev pub counted_json : Status → List ℕ → ℕ → List ℕ
-counted_json status answer events = codes "{" ++ head_json status answer ++ codes ",\"events\":" ++ decimal events
-
-abbrev pub objects_front : Status → List ℕ → ℕ → List ℕ
-objects_front status answer events = counted_json status answer events ++ codes ",\"objects\":["
-
--- the answer for a history of so many events, with those for its objects, which are these texts
-abbrev pub checked_json : Status → List ℕ → ℕ → List ℕ → List ℕ
-checked_json status answer events objects = objects_front status answer events ++ objects ++ codes "]}"
+abbrev pub counted_json : Bool → Status → List ℕ → ℕ → List ℕ
+counted_json fails status answer events = codes "{" ++ head_json fails status answer ++ codes ",\"events\":" ++ decimal events
 
 module _ (names : List (List ℕ)) where
   -- the name of an object; a word for a kind has no byte that is escaped
@@ -51,4 +45,16 @@ module _ (names : List (List ℕ)) where
 
   -- the answer for an object
   abbrev pub object_json : Item → Kind → Status → List ℕ → List ℕ
-  object_json key kind status answer = codes "{" ++ named_json key kind ++ codes "," ++ head_json status answer ++ codes "}"
+  object_json key kind status answer = codes "{" ++ named_json key kind ++ codes "," ++ head_json false status answer ++ codes "}"
+
+  -- the key of the object that is a no beside an undecided whole, if one is
+  abbrev pub failed_key : Option Item → List ℕ
+  failed_key None = []
+  failed_key (Some key) = codes ",\"failed\":" ++ string_json (item_text names key)
+
+  abbrev pub objects_front : Option Item → Status → List ℕ → ℕ → List ℕ
+  objects_front failed status answer events = counted_json (is_some failed) status answer events ++ failed_key failed ++ codes ",\"objects\":["
+
+  -- the answer for a history of so many events, with those for its objects, which are these texts
+  abbrev pub checked_json : Option Item → Status → List ℕ → ℕ → List ℕ → List ℕ
+  checked_json failed status answer events objects = objects_front failed status answer events ++ objects ++ codes "]}"

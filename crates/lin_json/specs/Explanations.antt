@@ -1,5 +1,5 @@
 -- Explanations of answers, and of refused files.
-use Rattle.std.specs.Prelude.{ℕ, List, [], ◌++◌, Option, Some, None, codes}
+use Rattle.std.specs.Prelude.{ℕ, false, List, [], ◌++◌, Option, Some, None, codes, is_some}
 use Rattle.lin_events.specs.declared.items.Item.{Item}
 use Rattle.lin_explain.specs.declared.parts.Parts.{Parts}
 use Rattle.lin_explain.specs.declared.parts.Parts.TheVariants.{Yes, No, Undecided, IllFormed}
@@ -20,7 +20,12 @@ told_json told = codes ",\"text\":" ++ string_json told ++ codes "}"
 
 -- why a file is refused, and where the fault stands, if it has a place
 abbrev pub refusal_json : Status → List ℕ → Option Place → List ℕ → List ℕ
-refusal_json status answer place told = codes "{" ++ head_json status answer ++ place_json place ++ told_json told
+refusal_json status answer place told = codes "{" ++ head_json false status answer ++ place_json place ++ told_json told
+
+-- the map of the object that is a no beside an undecided whole, if one is
+abbrev pub failed_map : Option (List ℕ) → List ℕ
+failed_map None = []
+failed_map (Some map) = codes ",\"failed\":" ++ map
 
 module _ (names : List (List ℕ)) where
   -- the object that was asked about, if one was
@@ -35,6 +40,7 @@ module _ (names : List (List ℕ)) where
   parts_json (Undecided key kind event) = named_event names key kind event
   parts_json (IllFormed event) = event_json event
 
-  -- the explanation of an answer for a history of so many events
-  abbrev pub explanation_json : Status → List ℕ → ℕ → Parts → List ℕ → List ℕ
-  explanation_json status answer events parts told = counted_json status answer events ++ parts_json parts ++ told_json told
+  -- the explanation of an answer for a history of so many events, and the map of an object that is a no beside it, if one is
+  abbrev pub explanation_json : Status → List ℕ → ℕ → Parts → Option (List ℕ) → List ℕ → List ℕ
+  explanation_json status answer events parts failed told =
+      counted_json (is_some failed) status answer events ++ parts_json parts ++ failed_map failed ++ told_json told

@@ -1,7 +1,7 @@
 //! Answers, of a whole history and of its objects.
-ghost use Rattle.std.specs.Prelude.{◌≡◌, ◌++◌, OnOk, codes};
+ghost use Rattle.std.specs.Prelude.{◌≡◌, ◌++◌, OnOk, codes, is_some};
 ghost use Rattle.lin_texts.specs.Items.{item_text};
-ghost use Rattle.lin_json.specs.Answers.{answer_json, counted_json, head_json, named_json, object_json, objects_front, status_number as number_of, valid_text};
+ghost use Rattle.lin_json.specs.Answers.{answer_json, counted_json, failed_key, head_json, named_json, object_json, objects_front, status_number as number_of, valid_text};
 ghost use Rattle.lin_json.specs.Strings.{string_json};
 
 use crate::strings::put_string;
@@ -18,14 +18,14 @@ pub struct Head<'a> {
     pub answer: &'a [u8],
 }
 
-/// Whether a history is linearizable of which this is found.
-fn valid_word(status: Status) -> &'static str
-    ensures { result.now ≡ valid_text status }
+/// Whether a history is linearizable of which this is found, and beside which an object is a no, or none.
+fn valid_word(status: Status, fails: bool) -> &'static str
+    ensures { result.now ≡ valid_text status fails }
 {
-    match status {
-        Status::Yes => "true",
-        Status::No => "false",
-        Status::Undecided | Status::IllFormed | Status::Refused => "\"unknown\"",
+    match (status, fails) {
+        (Status::Yes, _) => "true",
+        (Status::No, _) | (Status::Undecided, true) => "false",
+        (Status::Undecided, false) | (Status::IllFormed | Status::Refused, _) => "\"unknown\"",
     }
 }
 
@@ -43,11 +43,11 @@ fn status_number(status: Status) -> u64
 }
 
 /// Puts last what each map says: whether the history is linearizable, the exit status, and the answer's line.
-pub(crate) fn put_head(text: &mut Vec<u8>, head: Head) -> Result<(), AllocError>
-    ensures { OnOk result (text.new.items ≡ text.old.items ++ head_json head.entry.status head.entry.answer.now) }
+pub(crate) fn put_head(text: &mut Vec<u8>, head: Head, fails: bool) -> Result<(), AllocError>
+    ensures { OnOk result (text.new.items ≡ text.old.items ++ head_json fails head.entry.status head.entry.answer.now) }
 {
     text.extend_from_slice(b"\"valid?\":")?;
-    text.extend_from_slice(valid_word(head.status).as_bytes())?;
+    text.extend_from_slice(valid_word(head.status, fails).as_bytes())?;
     text.extend_from_slice(b",\"status\":")?;
     put_number(text, status_number(head.status))?;
     text.extend_from_slice(b",\"answer\":")?;
@@ -59,27 +59,24 @@ pub fn put_answer(text: &mut Vec<u8>, head: Head) -> Result<(), AllocError>
     ensures { OnOk result (text.new.items ≡ text.old.items ++ answer_json head.entry.status head.entry.answer.now) }
 {
     text.push(b'{')?;
-    put_head(text, head)?;
+    put_head(text, head, false)?;
     text.push(b'}')?;
     Ok(())
 }
 
 /// Puts what every map of a history's answer begins with last: the answer, and how many events the history has.
-pub(crate) fn put_counted(text: &mut Vec<u8>, head: Head, events: usize) -> Result<(), AllocError>
-    ensures { OnOk result (text.new.items ≡ text.old.items ++ counted_json head.entry.status head.entry.answer.now events) }
+pub(crate) fn put_counted(
+    text: &mut Vec<u8>,
+    head: Head,
+    fails: bool,
+    events: usize,
+) -> Result<(), AllocError>
+    ensures { OnOk result (text.new.items ≡ text.old.items ++ counted_json fails head.entry.status head.entry.answer.now events) }
 {
     text.push(b'{')?;
-    put_head(text, head)?;
+    put_head(text, head, fails)?;
     text.extend_from_slice(b",\"events\":")?;
     put_number(text, events as u64)
-}
-
-/// Puts what stands in front of the objects last.
-pub fn put_objects_front(text: &mut Vec<u8>, head: Head, events: usize) -> Result<(), AllocError>
-    ensures { OnOk result (text.new.items ≡ text.old.items ++ objects_front head.entry.status head.entry.answer.now events) }
-{
-    put_counted(text, head, events)?;
-    text.extend_from_slice(b",\"objects\":[")
 }
 
 /// Puts the text of an item last, between quotes, as it stands.
@@ -100,6 +97,49 @@ fn put_key(text: &mut Vec<u8>, names: &Names, key: Item) -> Result<(), AllocErro
         Said::Word(spelling) => put_string(text, spelling),
         Said::Int(_) | Said::Bool(_) => put_plain(text, names, key),
     }
+}
+
+/// Puts the key of the object last that is a no beside an undecided whole, if one is.
+fn put_failed_key(text: &mut Vec<u8>, names: &Names, failed: Option<Item>) -> Result<(), AllocError>
+    ensures { OnOk result (text.new.items ≡ text.old.items ++ failed_key names.now failed) }
+{
+    match failed {
+        Some(key) => {
+            text.extend_from_slice(b",\"failed\":")?;
+            put_key(text, names, key)
+        }
+        None => Ok(()),
+    }
+}
+
+/// Puts the answer last, and how many events the history has, where this object is a no beside it, or none.
+fn put_counted_for(
+    text: &mut Vec<u8>,
+    head: Head,
+    events: usize,
+    failed: Option<Item>,
+) -> Result<(), AllocError>
+    ensures { OnOk result (text.new.items ≡ text.old.items ++ counted_json (is_some failed) head.entry.status head.entry.answer.now events) }
+{
+    match failed {
+        Some(_) => put_counted(text, head, true, events),
+        None => put_counted(text, head, false, events),
+    }
+}
+
+/// Puts what stands in front of the objects last: the answer, and the object that is a no beside an undecided whole, if one is.
+pub fn put_objects_front(
+    text: &mut Vec<u8>,
+    names: &Names,
+    head: Head,
+    events: usize,
+    failed: Option<Item>,
+) -> Result<(), AllocError>
+    ensures { OnOk result (text.new.items ≡ text.old.items ++ objects_front names.now failed head.entry.status head.entry.answer.now events) }
+{
+    put_counted_for(text, head, events, failed)?;
+    put_failed_key(text, names, failed)?;
+    text.extend_from_slice(b",\"objects\":[")
 }
 
 /// Puts the key and the kind of an object last.
@@ -132,7 +172,7 @@ pub fn put_object(
     text.push(b'{')?;
     put_named(text, names, key, kind)?;
     text.push(b',')?;
-    put_head(text, head)?;
+    put_head(text, head, false)?;
     text.push(b'}')?;
     Ok(())
 }

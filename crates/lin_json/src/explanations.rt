@@ -1,6 +1,7 @@
 //! Explanations.
-ghost use Rattle.std.specs.Prelude.{◌≡◌, ◌++◌, OnOk};
-ghost use Rattle.lin_json.specs.Explanations.{event_json, explanation_json, object_named, parts_json, refusal_json, told_json};
+ghost use Rattle.std.specs.Prelude.{◌≡◌, ◌++◌, OnOk, is_some, option_map};
+ghost use Rattle.lin_json.specs.Answers.{counted_json};
+ghost use Rattle.lin_json.specs.Explanations.{event_json, explanation_json, failed_map, object_named, parts_json, refusal_json, told_json};
 
 use crate::answers::{Head, put_counted, put_head, put_named};
 use crate::failures::{put_failed, put_named_event, put_place, put_spot};
@@ -59,19 +60,52 @@ fn put_told(text: &mut Vec<u8>, told: &[u8]) -> Result<(), AllocError>
     Ok(())
 }
 
-/// Puts the map of an explanation last: the answer, how many events the history has, what is said of them, and the text that says it.
+/// Puts the answer last, and how many events the history has, where an object with this map is a no beside it, or none.
+fn put_counted_for(
+    text: &mut Vec<u8>,
+    head: Head,
+    events: usize,
+    failed: Option<&[u8]>,
+) -> Result<(), AllocError>
+    ensures { OnOk result (text.new.items ≡ text.old.items
+        ++ counted_json (is_some (option_map (λ m. m.now) failed.entry)) head.entry.status head.entry.answer.now events) }
+{
+    match failed {
+        Some(_) => put_counted(text, head, true, events),
+        None => put_counted(text, head, false, events),
+    }
+}
+
+/// Puts the map of the object last that is a no beside an undecided whole, if one is.
+fn put_failed_map(text: &mut Vec<u8>, failed: Option<&[u8]>) -> Result<(), AllocError>
+    ensures { OnOk result (text.new.items ≡ text.old.items ++ failed_map (option_map (λ m. m.now) failed.entry)) }
+{
+    match failed {
+        Some(map) => {
+            text.extend_from_slice(b",\"failed\":")?;
+            text.extend_from_slice(map)
+        }
+        None => Ok(()),
+    }
+}
+
+/// Puts the map of an explanation last: the answer, how many events the history has, what is said of them, the map of the object that is a no
+/// beside an undecided whole, if one is, and the text that says it.
 pub fn put_explanation(
     text: &mut Vec<u8>,
     names: &Names,
     head: Head,
     events: usize,
     parts: &Parts,
+    failed: Option<&[u8]>,
     told: &[u8],
 ) -> Result<(), AllocError>
-    ensures { OnOk result (text.new.items ≡ text.old.items ++ explanation_json names.now head.entry.status head.entry.answer.now events parts.now told.now) }
+    ensures { OnOk result (text.new.items ≡ text.old.items
+        ++ explanation_json names.now head.entry.status head.entry.answer.now events parts.now (option_map (λ m. m.now) failed.entry) told.now) }
 {
-    put_counted(text, head, events)?;
+    put_counted_for(text, head, events, failed)?;
     put_parts(text, names, parts)?;
+    put_failed_map(text, failed)?;
     put_told(text, told)
 }
 
@@ -85,7 +119,7 @@ pub fn put_refusal(
     ensures { OnOk result (text.new.items ≡ text.old.items ++ refusal_json head.entry.status head.entry.answer.now place told.now) }
 {
     text.push(b'{')?;
-    put_head(text, head)?;
+    put_head(text, head, false)?;
     put_place(text, place)?;
     put_told(text, told)
 }

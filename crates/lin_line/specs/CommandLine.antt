@@ -66,11 +66,15 @@ abbrev pub order_file_rule : Rule
 order_file_rule = record (new_rule (codes "order-file")) { value_names = 1; long = Some (codes "order-file"); action = Some Set }
 
 -- the number that the text spells, with or without a `+` before its digits, where it is 1 to 1,000,000
-abbrev pub SpellsBudget : Text → ℕ → Type 0
-SpellsBudget text n = IsUnsignedIn 1 1000000 text × (n ≡ digits_value 10 (without_leading_plus text))
+abbrev pub SpellsCount : Text → ℕ → Type 0
+SpellsCount text n = IsUnsignedIn 1 1000000 text × (n ≡ digits_value 10 (without_leading_plus text))
 
 abbrev pub budget_rule : Rule
 budget_rule = record (new_rule (codes "budget")) { value_names = 1; long = Some (codes "budget"); action = Some Set; defaults = codes "65536" ∷ []; parser = Some (Unsigned 1 1000000) }
+
+-- the option that names how many events of clients a file has to have at least
+abbrev pub least_rule : Rule
+least_rule = record (new_rule (codes "at-least")) { value_names = 1; long = Some (codes "at-least"); action = Some Set; parser = Some (Unsigned 1 1000000) }
 
 abbrev pub key_rule : Rule
 key_rule = record (new_rule (codes "key")) { value_names = 1; long = Some (codes "key"); action = Some Set }
@@ -86,14 +90,18 @@ format_rule parser = record (new_rule (codes "format")) { value_names = 1; long 
 abbrev pub with_options : ValueParser → App → App
 with_options parser app = with_rule (with_rule (with_rule app (kind_rule parser)) keyed_rule) budget_rule
 
+-- and with those of each command that tells of a file what it found
+abbrev pub with_report_options : ValueParser → App → App
+with_report_options parser app = with_rule (with_options parser app) least_rule
+
 abbrev pub check_app : Parsers → App
-check_app parsers = with_options parsers.kinds (with_rule (with_rule (new_app (codes "check")) files_rule) (format_rule parsers.formats))
+check_app parsers = with_report_options parsers.kinds (with_rule (with_rule (new_app (codes "check")) files_rule) (format_rule parsers.formats))
 
 abbrev pub explain_app : Parsers → App
-explain_app parsers = with_options parsers.kinds (with_rule (with_rule (with_rule (with_rule (new_app (codes "explain")) file_rule) key_rule) order_flag_rule) (format_rule parsers.formats))
+explain_app parsers = with_report_options parsers.kinds (with_rule (with_rule (with_rule (with_rule (new_app (codes "explain")) file_rule) key_rule) order_flag_rule) (format_rule parsers.formats))
 
 abbrev pub draw_app : ValueParser → App
-draw_app parser = with_options parser (with_rule (with_rule (new_app (codes "draw")) file_rule) key_rule)
+draw_app parser = with_report_options parser (with_rule (with_rule (new_app (codes "draw")) file_rule) key_rule)
 
 abbrev pub verify_app : ValueParser → App
 verify_app parser = with_options parser (with_rule (with_rule (new_app (codes "verify")) files_rule) order_file_rule)
@@ -115,11 +123,17 @@ abbrev pub is_given : Option Text → Bool
 is_given None = false
 is_given (Some word) = bytes_eq word (codes "true")
 
--- the settings are what the matches say: a kind, whether values are keyed, and a budget
+-- the number that the text spells, or 0 where there is none
+abbrev pub IsLeast : Option Text → ℕ → Type 0
+IsLeast None n = n ≡ 0
+IsLeast (Some text) n = SpellsCount text n
+
+-- the settings are what the matches say: a kind, whether values are keyed, a budget, and how many events are wanted at least
 abbrev pub HasSettings : List Row → Settings → Type 0
 HasSettings rows settings =
     (option_and_then kind_named (first_of (codes "kind") rows) ≡ Some settings.kind) × (settings.keyed ≡ is_given (first_of (codes "keyed") rows))
-    × ((text : Text) × (first_of (codes "budget") rows ≡ Some text) × SpellsBudget text settings.budget)
+    × ((text : Text) × (first_of (codes "budget") rows ≡ Some text) × SpellsCount text settings.budget)
+    × IsLeast (first_of (codes "at-least") rows) settings.at_least
 
 -- the text that the matches give for the name
 abbrev pub GivesText : List Row → Text → Option Text → Type 0
@@ -195,9 +209,10 @@ refusal_kind InputTwice = ArgumentConflict
 refusal_kind NoKey = ValueValidation
 refusal_kind Unsaid = OutOfMemory
 
--- the matches name no kind or lack a budget
+-- the matches name no kind, lack a budget, or have another text than one that spells how many events are wanted at least
 abbrev pub LacksSettings : List Row → Type 0
-LacksSettings rows = (option_and_then kind_named (first_of (codes "kind") rows) ≡ None) ⊎ ((text : Text) (n : ℕ) → GivesText rows (codes "budget") (Some text) → SpellsBudget text n → ⊥)
+LacksSettings rows = (option_and_then kind_named (first_of (codes "kind") rows) ≡ None) ⊎ ((text : Text) (n : ℕ) → GivesText rows (codes "budget") (Some text) → SpellsCount text n → ⊥)
+    ⊎ ((n : ℕ) → IsLeast (first_of (codes "at-least") rows) n → ⊥)
 
 -- the words have no fault, and this is the command that they name, with its matches
 abbrev pub Finds : Parsers → List Text → Text × List Row → Type 0

@@ -3,7 +3,7 @@ ghost use Rattle.std.specs.Prelude.{◌≡◌, Some, IfOk, map, true, false};
 ghost use Rattle.clap.specs.Words.{app_of, kind_of, rule_of};
 ghost use Rattle.clap.specs.declared.builder.value_parser.ValueParser.TheVariants.{Names};
 ghost use Rattle.clap.specs.declared.builder.command.Command.TheViews.{out-Command as fields_of};
-ghost use Rattle.lin_line.specs.CommandLine.{budget_rule, check_app, draw_app, edit_app, explain_app, file_rule, files_rule, format_rule, key_rule, keyed_rule, kind_rule, optional_file_rule, order_file_rule, order_flag_rule, program_app, refusal_kind, verify_app, with_options as options_of, AreParsers, Parsers};
+ghost use Rattle.lin_line.specs.CommandLine.{budget_rule, check_app, draw_app, edit_app, explain_app, file_rule, files_rule, format_rule, key_rule, keyed_rule, kind_rule, least_rule, optional_file_rule, order_file_rule, order_flag_rule, program_app, refusal_kind, verify_app, with_options as options_of, with_report_options as report_options_of, AreParsers, Parsers};
 ghost use Rattle.lin_line.specs.CommandLine as said;
 
 use crate::misuse::NoLine;
@@ -12,6 +12,9 @@ use clap::builder::ValueParser;
 use clap::{Arg, ArgAction, Command, Error};
 use lin_texts::kind_words;
 use std::alloc::{AllocError, Global};
+
+/// The greatest number of events of a file.
+const MOST_EVENTS: u64 = 1_000_000;
 
 /// The words for the ways in which an answer is printed.
 const FORMATS: [&str; 2] = ["text", "json"];
@@ -50,6 +53,18 @@ fn budget_option<'a>(alloc: Global) -> Arg<'a>
         .action(ArgAction::Set)
         .value_parser(ValueParser::unsigned(1, 1_000_000))
         .default_value("65536")
+}
+
+fn least_option<'a>(alloc: Global) -> Arg<'a>
+    ensures rule { rule_of result ≡ least_rule }
+    ensures local { (result.required ≡ false) × (result.global ≡ false) }
+{
+    Arg::new(alloc, "at-least")
+        .long("at-least")
+        .value_name("N")
+        .help("Refuse a FILE with fewer events of clients, 1 to 1000000")
+        .action(ArgAction::Set)
+        .value_parser(ValueParser::unsigned(1, MOST_EVENTS))
 }
 
 fn keyed_option<'a>(alloc: Global) -> Arg<'a>
@@ -155,6 +170,18 @@ fn with_options<'a>(
         .arg(budget_option(alloc))
 }
 
+/// The command with the options of each command that tells of a file what it found.
+fn with_report_options<'a>(
+    alloc: Global,
+    kinds: &'a [&'a str],
+    command: Command<'a>,
+) -> Result<Command<'a>, AllocError>
+    ensures app { IfOk result (λ all. app_of all ≡ report_options_of (Names kinds.entry) (app_of command.entry)) }
+    ensures local { IfOk result (λ all. (fields_of all).has_globals ≡ (fields_of command.entry).has_globals) }
+{
+    with_options(alloc, kinds, command)?.arg(least_option(alloc))
+}
+
 fn check_command<'a>(
     alloc: Global,
     kinds: &'a [&'a str],
@@ -172,7 +199,7 @@ fn check_command<'a>(
             "Recorded histories, operation maps in EDN; - is standard input",
         ))?
         .arg(format_option(alloc, formats))?;
-    with_options(alloc, kinds, command)
+    with_report_options(alloc, kinds, command)
 }
 
 fn explain_command<'a>(
@@ -190,7 +217,7 @@ fn explain_command<'a>(
         .arg(key_option(alloc))?
         .arg(order_flag(alloc))?
         .arg(format_option(alloc, formats))?;
-    with_options(alloc, kinds, command)
+    with_report_options(alloc, kinds, command)
 }
 
 fn draw_command<'a>(alloc: Global, kinds: &'a [&'a str]) -> Result<Command<'a>, AllocError>
@@ -202,7 +229,7 @@ fn draw_command<'a>(alloc: Global, kinds: &'a [&'a str]) -> Result<Command<'a>, 
         .after_help("Example: lincheck draw --keyed --key 3 history.edn > history.svg")
         .arg(file_argument(alloc))?
         .arg(key_option(alloc))?;
-    with_options(alloc, kinds, command)
+    with_report_options(alloc, kinds, command)
 }
 
 fn verify_command<'a>(alloc: Global, kinds: &'a [&'a str]) -> Result<Command<'a>, AllocError>

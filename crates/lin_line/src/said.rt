@@ -4,7 +4,7 @@ ghost use Rattle.clap.specs.Words.{first_of, found_of, rows_of};
 ghost use Rattle.lin_texts.specs.Orders.{order_written};
 ghost use Rattle.lin_line.specs.declared.words.Line.TheVariants as LineOf;
 ghost use Rattle.lin_line.specs.declared.words.Order.TheVariants as OrderOf;
-ghost use Rattle.lin_line.specs.CommandLine.{is_given as given, EndInOrder, GivesKey, HasSettings, IsUnsaid, LacksKey, LacksSettings, SpellsBudget, Says, texts_of};
+ghost use Rattle.lin_line.specs.CommandLine.{is_given as given, EndInOrder, GivesKey, HasSettings, IsLeast, IsUnsaid, LacksKey, LacksSettings, SpellsCount, Says, texts_of};
 ghost use Rattle.lin_line.specs.CommandLine as said;
 
 use crate::misuse::NoLine;
@@ -14,8 +14,8 @@ use lin_names::{Names, Said, names_grow};
 use lin_texts::{OrderFault, Settings, item_in, kind_named, read_order};
 use std::alloc::{AllocError, Global};
 
-/// The greatest budget.
-const MOST_BUDGET: u32 = 1_000_000;
+/// The greatest budget, and the greatest number of events of a file.
+const MOST: u32 = 1_000_000;
 
 /// The text that `clap` found for the name.
 fn text_of<'a>(matches: &ArgMatches<'a>, name: &str) -> Option<&'a str>
@@ -44,13 +44,13 @@ fn is_given(text: Option<&str>) -> bool
     }
 }
 
-/// The budget that a text spells, where it is one.
-fn budget_of(text: &str) -> Option<u32>
-    ensures some { IfSome result (SpellsBudget text.now) }
-    ensures none { IfNone result ((n : ℕ) → SpellsBudget text.now n → ⊥) }
+/// The number that a text spells, where it is 1 to 1,000,000.
+fn count_of(text: &str) -> Option<u32>
+    ensures some { IfSome result (SpellsCount text.now) }
+    ensures none { IfNone result ((n : ℕ) → SpellsCount text.now n → ⊥) }
 {
     match text.parse::<u32>() {
-        Ok(budget) if 1 <= budget && budget <= MOST_BUDGET => Some(budget),
+        Ok(count) if 1 <= count && count <= MOST => Some(count),
         _ => None,
     }
 }
@@ -63,6 +63,17 @@ fn format_named(word: &str) -> Option<Format>
         "text" => Some(Format::Text),
         "json" => Some(Format::Json),
         _ => None,
+    }
+}
+
+/// How many events of clients a file has to have at least, 0 where nothing is said of that; none where `clap` found no number.
+fn least_of<'a>(matches: &ArgMatches<'a>) -> Option<u32>
+    ensures some { IfSome result (IsLeast (first_of (codes "at-least") (rows_of (found_of matches.now)))) }
+    ensures none { IfNone result ((n : ℕ) → IsLeast (first_of (codes "at-least") (rows_of (found_of matches.now))) n → ⊥) }
+{
+    match text_of(matches, "at-least") {
+        Some(text) => count_of(text),
+        None => Some(0),
     }
 }
 
@@ -80,13 +91,17 @@ fn settings_of<'a>(matches: &ArgMatches<'a>) -> Option<Settings>
     let Some(budget) = text_of(matches, "budget") else {
         return None;
     };
-    let Some(budget) = budget_of(budget) else {
+    let Some(budget) = count_of(budget) else {
+        return None;
+    };
+    let Some(at_least) = least_of(matches) else {
         return None;
     };
     Some(Settings {
         kind,
         keyed: is_given(text_of(matches, "keyed")),
         budget,
+        at_least,
     })
 }
 

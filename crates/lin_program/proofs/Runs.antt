@@ -1,17 +1,21 @@
 -- Reports one behind the other, and devices within counters.
-use Rattle.std.proofs.Common.{◌≡◌, ◌∙◌, ◌<◌, ◌≤◌, ◌+◌, ◌++◌, ◌∷◌, [], ℕ, List, Bor, Option, Result, Ok, Err, length, map, take, drop, get_or, suc, refl, sym, ap, subst, append-nil}
+use Rattle.std.proofs.Common.{◌≡◌, ◌∙◌, Bool, ◌<◌, ◌≤◌, ◌+◌, ◌++◌, ◌∷◌, [], ℕ, List, Bor, Option, Result, Ok, Err, ◌⊎◌, inl, inr, length, map, take, drop, get_or, suc, refl, sym, ap, subst, append-nil, arith}
 use Rattle.std.specs.Result.{IsErrAnd}
 use Rattle.std.proofs.Math.Seq.{split_at}
 use Rattle.std.proofs.lemmas.List.{map-append, take_all, take_more}
 use Rattle.std.proofs.lemmas.List.Sums.{fold_push}
+use Rattle.std.proofs.lemmas.List.Elements.{All-append, All-cons, All-nil, Contains-append_right}
+use Rattle.std.specs.List.{Contains}
 use Rattle.lin_report.specs.Runs.{IsEditRun}
 use Rattle.lin_texts.specs.declared.settings.Settings.{Settings}
 use Rattle.lin_texts.specs.declared.faults.RunFault.{RunFault}
 use Rattle.lin_texts.specs.declared.status.Status.{Status}
 use Rattle.lin_texts.specs.declared.status.Status.TheVariants.{Yes}
-use Rattle.lin_program.specs.Exit.{worse, worst}
-use Rattle.lin_program.specs.Reporting.{AreReportedFrom, AreReports, Reporting, one_more}
+use Rattle.lin_program.specs.Endings.{AreTold}
+use Rattle.lin_program.specs.Exit.{SystemWords, worse, worst}
+use Rattle.lin_program.specs.Reporting.{AreAmong, AreReportedFrom, AreReports, Reporting, one_more}
 use Rattle.lin_program.specs.declared.endings.Stop.{Stop}
+use Rattle.lin_program.specs.declared.system.Message.TheVariants.{NothingRead}
 
 -- the texts behind references
 abbrev texts : List (Bor (List ℕ)) → List (List ℕ)
@@ -54,3 +58,25 @@ reported_some reports start before after names i d statuses stop inside are one 
     let split : texts names ≡ texts (take i names) ++ (get_or names i d).now ∷ texts (drop (suc i) names) =
     ap texts (split_at names i d inside) ∙ map-append (λ (n : Bor (List ℕ)). n.now) (take i names) (get_or names i d ∷ drop (suc i) names) in
     (texts (take i names), (get_or names i d).now ∷ texts (drop (suc i) names), split, before, statuses, are, (e, refl, (after, subst (λ s. reports (get_or names i d).now before after (Err s)) (sym same) one)))
+
+-- the names that were put last are of the files, where the next one is of theirs
+pub kept_among : (names some more : List (Bor (List ℕ))) (i : ℕ) (d : Bor (List ℕ)) → i < length names → AreAmong (texts names) some
+    → (more ≡ some) ⊎ (more ≡ some ++ get_or names i d ∷ []) → AreAmong (texts names) more
+kept_among names some more i d inside among (inl same) = subst (AreAmong (texts names)) (sym same) among
+kept_among names some more i d inside among (inr put) =
+    let split : texts names ≡ texts (take i names) ++ (get_or names i d).now ∷ texts (drop (suc i) names) =
+    ap texts (split_at names i d inside) ∙ map-append (λ (n : Bor (List ℕ)). n.now) (take i names) (get_or names i d ∷ drop (suc i) names) in
+    let here : Contains (texts names) (get_or names i d).now =
+    subst (λ ns. Contains ns (get_or names i d).now) (sym split) (Contains-append_right (texts (take i names)) _ _ (0, omega arith, refl)) in
+    let of_files : Bor (List ℕ) → Type 0 = λ x. Contains (texts names) x.now in
+    subst (AreAmong (texts names)) (sym put) (All-append of_files some (get_or names i d ∷ []) among (All-cons of_files (get_or names i d) [] here (All-nil of_files)))
+
+module _ {S F C O : Type 0} (system : SystemWords S F C O) (old : S) where
+  -- one more of the files is told of
+  pub told_more : (names : List (Bor (List ℕ))) (i : ℕ) (d : Bor (List ℕ)) (now new : S) (told : Bool) → i < length names → AreTold system old (take i names) now
+      → system.tells now (NothingRead (get_or names i d)) told new → AreTold system old (take (i + 1) names) new
+  told_more names i d now new told inside so_far one = subst (λ ns. AreTold system old ns new) (sym (take_more names i d inside)) (AreTold.one_more so_far (get_or names i d) told new one)
+
+  -- all are
+  pub told_all : (names : List (Bor (List ℕ))) (i : ℕ) (now : S) → length names ≤ i → AreTold system old (take i names) now → AreTold system old names now
+  told_all names i now past so_far = subst (λ ns. AreTold system old ns now) (take_all i names past) so_far

@@ -16,7 +16,7 @@ use Rattle.lin_line.specs.declared.words.Line.TheVariants.{Check, Explain, Draw,
 use Rattle.lin_line.specs.declared.words.Order.{Order}
 use Rattle.lin_line.specs.declared.words.Order.TheVariants.{Given, InFile}
 use Rattle.lin_program.specs.Exit.{SystemWords, exit_status}
-use Rattle.lin_program.specs.Reporting.{AreReported, Holds, IsNotOpened, stopped}
+use Rattle.lin_program.specs.Reporting.{AreAmong, AreReported, Holds, IsNotOpened, stopped}
 use Rattle.lin_program.specs.Tasks.{HasBudget, report_format}
 use Rattle.lin_program.specs.declared.endings.Stop.{Stop}
 use Rattle.lin_program.specs.declared.endings.Stop.TheVariants.{NotOpened, Fault}
@@ -30,6 +30,20 @@ IsRunnable (Explain settings key with_order format file) = HasBudget settings
 IsRunnable (Draw settings key file) = HasBudget settings
 IsRunnable (Verify settings order files) = HasBudget settings
 IsRunnable (Edit settings file) = HasBudget settings
+
+-- the files that a line has reported on, of which each should have an event
+abbrev pub reported_files : Line → List (List ℕ)
+reported_files (Check settings format files) = map (λ n. n.now) files.items
+reported_files (Explain settings key with_order format file) = file.now ∷ []
+reported_files (Draw settings key file) = file.now ∷ []
+reported_files (Verify settings order files) = []
+reported_files (Edit settings file) = []
+
+-- Of the files of these names, one after the other, it was told that no event was read from them, or that couldn't be told: from the old system on.
+pub data AreTold {S F C O : Type 0} (system : SystemWords S F C O) (old : S) : List (Bor (List ℕ)) → S → Type 0 where
+  nothing : AreTold system old [] old
+  one_more : {names : List (Bor (List ℕ))} {now : S} → AreTold system old names now → (path : Bor (List ℕ)) (told : Bool) (new : S) →
+      system.tells now (message.NothingRead path) told new → AreTold system old (names ++ path ∷ []) new
 
 -- the text ends with this byte
 abbrev pub EndsIn : ℕ → List ℕ → Type 0
@@ -107,6 +121,9 @@ module _ {S F C O : Type 0} (system : SystemWords S F C O) (old new : S) where
   EndsBy (Err (NotOpened path)) status = IsTold (TellsOfFile path.now) × (status ≡ 6)
   EndsBy (Err (Fault fault)) status = IsTold (λ m. m ≡ message.Fault fault) × (status ≡ exit_status (Err fault))
 
-  -- the program ends so on a line: by the outcome of what the line says, done with the old system
-  abbrev pub Ends : (F → Option (List ℕ)) → (C → Option (List ℕ)) → (O → Option (List ℕ)) → Line → ℕ → Type 0
-  Ends held commanded written line status = (outcome : Result Status Stop) × IsOutcomeOf system held commanded written old line outcome × EndsBy outcome status
+-- The program ends so on a line: what the line says is done with the old system; of some of its files it may be told that no event was read;
+-- and it ends by the outcome.
+abbrev pub Ends : {S F C O : Type 0} → SystemWords S F C O → S → S → (F → Option (List ℕ)) → (C → Option (List ℕ)) → (O → Option (List ℕ)) → Line → ℕ → Type 0
+Ends {S} system old new held commanded written line status =
+    (outcome : Result Status Stop) × IsOutcomeOf system held commanded written old line outcome
+    × (names : List (Bor (List ℕ))) × AreAmong (reported_files line) names × (told : S) × AreTold system old names told × EndsBy system told new outcome status

@@ -1,5 +1,5 @@
 -- Files that are reported on, one behind the other.
-use Rattle.std.specs.Prelude.{◌≡◌, ◌⊎◌, ℕ, Bool, true, false, List, [], ◌∷◌, ◌++◌, Option, Result, Ok, Err, codes, length, nat_lt, take}
+use Rattle.std.specs.Prelude.{◌≡◌, ◌⊎◌, ℕ, Bool, true, false, List, [], ◌∷◌, ◌++◌, Option, Result, Ok, Err, codes, length, nat_lt, take, All, Contains}
 use Rattle.std.specs.Borrow.{Bor}
 use Rattle.std.specs.Io.KnownBytes.{Appends, Keeps}
 use Rattle.std.specs.Str.{bytes_eq}
@@ -56,6 +56,10 @@ abbrev pub AreReportedFrom : Reporting → Option (List ℕ) → List (List ℕ)
 AreReportedFrom reports start names outcome =
     (done : List (List ℕ)) × (rest : List (List ℕ)) × (names ≡ done ++ rest)
     × (after : Option (List ℕ)) × (statuses : List Status) × AreReports reports start done after statuses × EndsBehind reports rest statuses after outcome
+
+-- each of the names is one of those of the files
+abbrev pub AreAmong : List (List ℕ) → List (Bor (List ℕ)) → Type 0
+AreAmong files names = All (λ (name : Bor (List ℕ)). Contains files name.now) names
 
 -- The bytes that a file and standard input hold are given by two functions.
 module _ {S F C O : Type 0} (system : SystemWords S F C O) (held : F → Option (List ℕ)) (commanded : C → Option (List ℕ)) (now : S) where

@@ -1,10 +1,11 @@
 //! The program on any system: runs of a command line's words, what it tells, and the exit statuses with which it ends.
 #![tactic(auto)]
 
-ghost use Rattle.std.specs.Prelude.{map, option_map};
+ghost use Rattle.std.specs.Prelude.{◌≡◌, [], map, option_map};
 ghost use Rattle.std.specs.IoError.{error_kind};
-ghost use Rattle.lin_program.specs.Endings.{Ends, EndsBy, IsEdited, IsEditedIn, IsOutcomeOf, IsRunnable, IsVerifiedBy, IsVerifiedFrom};
+ghost use Rattle.lin_program.specs.Endings.{AreTold, Ends, EndsBy, IsEdited, IsEditedIn, IsOutcomeOf, IsRunnable, IsVerifiedBy, IsVerifiedFrom, reported_files};
 ghost use Rattle.lin_program.specs.Program.{EndsOnWords, EndsWithoutWords};
+ghost use Rattle.lin_program.specs.Reporting.{AreAmong};
 ghost use Rattle.lin_program.specs.Tasks.{HasBudget};
 
 mod endings;
@@ -40,7 +41,8 @@ fn verify_from<'a, S: System>(
 {
     let text = bytes_in(alloc, system, name)?;
     let order = without_line_end(text.as_slice());
-    report_all(alloc, system, Task::Verify(settings, order), files)
+    let task = Task::Verify(settings, order);
+    report_all(alloc, system, task, files, &mut Vec::new(alloc))
 }
 
 /// Decides of each of the files whether the order is a legal order of its history.
@@ -57,7 +59,7 @@ fn verify_all<'a, S: System>(
     match order {
         Order::Given(text) => {
             let task = Task::Verify(settings, text.as_bytes());
-            report_all(alloc, system, task, files)
+            report_all(alloc, system, task, files, &mut Vec::new(alloc))
         }
         Order::InFile(name) => verify_from(alloc, system, settings, name, files),
     }
@@ -101,10 +103,17 @@ fn edit_named<'a, S: System>(
     }
 }
 
-/// Does what the line says.
-fn carry_out<'a, S: System>(alloc: Global, system: &S, line: &Line<'a>) -> Result<Status, Stop<'a>>
-    requires { IsRunnable line.now }
-    ensures { IsOutcomeOf S.words S.File.remaining S.Commands.remaining S.Out.contents system.now line.now result }
+/// Does what the line says. The names of the files from which no event was read, though one is looked for there, are put into `empty`.
+fn carry_out<'a, S: System>(
+    alloc: Global,
+    system: &S,
+    line: &Line<'a>,
+    empty: &mut Vec<&'a str>,
+) -> Result<Status, Stop<'a>>
+    requires runs { IsRunnable line.now }
+    requires none { empty.old.items ≡ [] }
+    ensures outcome { IsOutcomeOf S.words S.File.remaining S.Commands.remaining S.Out.contents system.now line.now result }
+    ensures named { AreAmong (reported_files line.now) empty.new.items }
 {
     match line {
         Line::Check {
@@ -113,7 +122,7 @@ fn carry_out<'a, S: System>(alloc: Global, system: &S, line: &Line<'a>) -> Resul
             files,
         } => {
             let task = Task::Check(*settings, report_format(*format));
-            report_all(alloc, system, task, files.as_slice())
+            report_all(alloc, system, task, files.as_slice(), empty)
         }
         Line::Explain {
             settings,
@@ -127,19 +136,32 @@ fn carry_out<'a, S: System>(alloc: Global, system: &S, line: &Line<'a>) -> Resul
                 with_order: *with_order,
                 format: report_format(*format),
             };
-            report_all(alloc, system, Task::Explain(*settings, question), &[*file])
+            let task = Task::Explain(*settings, question);
+            report_all(alloc, system, task, &[*file], empty)
         }
         Line::Draw {
             settings,
             key,
             file,
-        } => report_all(alloc, system, Task::Draw(*settings, *key), &[*file]),
+        } => {
+            let task = Task::Draw(*settings, *key);
+            report_all(alloc, system, task, &[*file], empty)
+        }
         Line::Verify {
             settings,
             order,
             files,
         } => verify_all(alloc, system, *settings, *order, files.as_slice()),
         Line::Edit { settings, file } => edit_named(alloc, system, *settings, *file),
+    }
+}
+
+/// Tells of each of the files that no event of a client was read from it.
+fn tell_empty<S: System>(system: &mut S, names: &[&str])
+    ensures { AreTold S.words system.old names.now system.new }
+{
+    for name in names {
+        let _is_told = system.tell(&Message::NothingRead(*name));
     }
 }
 
@@ -160,12 +182,14 @@ fn end<S: System>(system: &mut S, outcome: Result<Status, Stop>) -> u8
     }
 }
 
-/// Does what the line says, tells why that ended early, if it did, and gives the exit status.
+/// Does what the line says, tells from which files no event was read, and why that ended early, if it did, and gives the exit status.
 fn run_line<S: System>(alloc: Global, system: &mut S, line: Line) -> u8
     requires { IsRunnable line }
     ensures { Ends S.words system.old system.new S.File.remaining S.Commands.remaining S.Out.contents line.entry result }
 {
-    let outcome = carry_out(alloc, &*system, &line);
+    let mut empty = Vec::new(alloc);
+    let outcome = carry_out(alloc, &*system, &line, &mut empty);
+    tell_empty(system, empty.as_slice());
     end(system, outcome)
 }
 

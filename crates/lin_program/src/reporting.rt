@@ -1,9 +1,9 @@
 //! Files that are reported on, one behind the other.
-ghost use Rattle.std.specs.Prelude.{◌≡◌, ◌⊎◌, IfErr, OnOk, Err, ℕ, take, map};
+ghost use Rattle.std.specs.Prelude.{◌≡◌, ◌⊎◌, ◌++◌, ◌∷◌, [], IfErr, OnOk, Err, ℕ, take, map};
 ghost use Rattle.std.specs.Io.KnownBytes.{Appends, Keeps};
 ghost use Rattle.lin_formats.specs.Devices.{device_of, failures_of};
 ghost use Rattle.lin_program.specs.Tasks.{HasBudget, IsTaskRun, settings_of};
-ghost use Rattle.lin_program.specs.Reporting.{heading, AreReported, IsReportOn, IsRunBehind};
+ghost use Rattle.lin_program.specs.Reporting.{heading, AreAmong, AreReported, IsReportOn, IsRunBehind};
 
 use crate::endings::{Stop, stopped, worse};
 use crate::system::System;
@@ -27,7 +27,8 @@ fn write_name<W: Write>(alloc: Global, name: &str, out: &mut Counted<W>) -> Resu
     write_whole(out, line.as_slice())
 }
 
-/// Reports on a file that is open, behind a line with its name where it is one of several.
+/// Reports on a file that is open, behind a line with its name where it is one of several. Whether it is a whole history of no event goes to
+/// `is_empty`, where the report comes as far.
 fn report_on<R: Read + Drop, W: Write>(
     alloc: Global,
     task: Task,
@@ -35,6 +36,7 @@ fn report_on<R: Read + Drop, W: Write>(
     is_named: bool,
     file: R,
     out: &mut Counted<W>,
+    is_empty: &mut bool,
 ) -> Result<Status, RunFault>
     requires budget { HasBudget (settings_of task) }
     requires writes { failures_of out.old ≡ 0 }
@@ -44,10 +46,14 @@ fn report_on<R: Read + Drop, W: Write>(
     if is_named {
         write_name(alloc, name, out)?;
     }
-    task.run(alloc, &mut Counted::new(file), out)
+    let mut file = Counted::new(file);
+    let outcome = task.run(alloc, &mut file, out);
+    *is_empty = file.is_empty();
+    outcome
 }
 
-/// Reports on the file of this name: on standard input for `-`, else on the file that the system opens.
+/// Reports on the file of this name: on standard input for `-`, else on the file that the system opens. Whether it is a whole history of no
+/// event goes to `is_empty`.
 fn report<'a, S: System>(
     alloc: Global,
     system: &S,
@@ -55,6 +61,7 @@ fn report<'a, S: System>(
     name: &'a str,
     is_named: bool,
     out: &mut Counted<S::Out>,
+    is_empty: &mut bool,
 ) -> Result<Status, Stop<'a>>
     requires budget { HasBudget (settings_of task) }
     requires writes { failures_of out.old ≡ 0 }
@@ -64,32 +71,45 @@ fn report<'a, S: System>(
 {
     if name == "-" {
         let input = system.commands();
-        return stopped(report_on(alloc, task, name, is_named, input, out));
+        return stopped(report_on(alloc, task, name, is_named, input, out, is_empty));
     }
     match system.open(name) {
-        Some(file) => stopped(report_on(alloc, task, name, is_named, file, out)),
+        Some(file) => stopped(report_on(alloc, task, name, is_named, file, out, is_empty)),
         None => Err(Stop::NotOpened(name)),
     }
 }
 
-/// Reports on the files of these names, one behind the other, and gives the worst status.
+/// Puts a name last where it is to be kept and there is memory for it.
+fn keep_if<'a>(is_kept: bool, name: &'a str, names: &mut Vec<&'a str>)
+    ensures { (names.new.items ≡ names.old.items) ⊎ (names.new.items ≡ names.old.items ++ name.entry ∷ []) }
+{
+    if is_kept {
+        let _fits = names.push(name).is_ok();
+    }
+}
+
+/// Reports on the files of these names, one behind the other, and gives the worst status. The names of those that are whole histories of no
+/// event are put into `empty`, as far as there is memory for that.
 pub fn report_all<'a, S: System>(
     alloc: Global,
     system: &S,
     task: Task,
     names: &[&'a str],
+    empty: &mut Vec<&'a str>,
 ) -> Result<Status, Stop<'a>>
-    requires { HasBudget (settings_of task) }
-    ensures { AreReported S.words S.File.remaining S.Commands.remaining system.now S.Out.contents (IsTaskRun task.entry) (map (λ n. n.now) names.now) result }
+    requires budget { HasBudget (settings_of task) }
+    requires none { empty.old.items ≡ [] }
+    ensures reported { AreReported S.words S.File.remaining S.Commands.remaining system.now S.Out.contents (IsTaskRun task.entry) (map (λ n. n.now) names.now) result }
+    ensures named { AreAmong (map (λ n. n.now) names.now) empty.new.items }
 {
     let mut out = Counted::new(system.out());
     let is_named = 1 < names.len();
     let mut worst = Status::Yes;
     for name in names {
-        worst = worse(
-            worst,
-            report(alloc, system, task, name, is_named, &mut out)?,
-        );
+        let mut is_empty = false;
+        let status = report(alloc, system, task, name, is_named, &mut out, &mut is_empty)?;
+        worst = worse(worst, status);
+        keep_if(is_empty, name, empty);
     }
     Ok(worst)
 }

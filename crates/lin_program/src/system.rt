@@ -13,6 +13,8 @@ pub enum Message<'a> {
     Refusal(&'a Error),
     /// The file of this name can't be opened.
     NotOpened(&'a str),
+    /// No event of a client was read from the file of this name.
+    NothingRead(&'a str),
     /// Why a run ended early.
     Fault(RunFault),
     /// Memory was refused before there was a command line.

@@ -4,7 +4,7 @@ use Rattle.lin_events.specs.declared.events.Event.{Event}
 use Rattle.lin_formats.specs.Inputs.{AreRefused}
 use Rattle.lin_formats.specs.Intakes.{IsFed}
 use Rattle.lin_formats.specs.declared.verdicts.Refusal.{Refusal}
-use Rattle.lin_formats.specs.declared.verdicts.Refusal.TheVariants.{Edn, Event as BadEvent, Truncated, Full, BadPair}
+use Rattle.lin_formats.specs.declared.verdicts.Refusal.TheVariants.{Edn, Event as BadEvent, Truncated, Full, BadPair, Few}
 use Rattle.lin_history.specs.Reading.{IsReading, Reading}
 use Rattle.lin_history.specs.Sees.{Followed}
 use Rattle.lin_names.specs.Names.{Begins}
@@ -27,3 +27,4 @@ module _ (old new : List (List ℕ)) (begun : Begins old new) where
   refused_later keyed text (Truncated at) is = (is.0, λ m reads. is.1 m (reading_before keyed m reads), is.2)
   refused_later keyed text Full is = (is.0, is.1, λ m reads. is.2 m (reading_before keyed m reads), is.3)
   refused_later keyed text (BadPair at) is = is
+  refused_later keyed text (Few count wanted) is = is

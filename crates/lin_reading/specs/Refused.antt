@@ -5,7 +5,7 @@ use Rattle.lin_edn.specs.declared.EdnCause.TheVariants as edn
 use Rattle.lin_history.specs.declared.table.EventFault.{EventFault}
 use Rattle.lin_history.specs.declared.table.EventFault.TheVariants as event
 use Rattle.lin_formats.specs.declared.verdicts.Refusal.{Refusal}
-use Rattle.lin_formats.specs.declared.verdicts.Refusal.TheVariants.{Edn, Event, Truncated, Full, BadPair}
+use Rattle.lin_formats.specs.declared.verdicts.Refusal.TheVariants.{Edn, Event, Truncated, Full, BadPair, Few}
 use Rattle.lin_places.specs.Places.{Marked, bad_of, unfinished_of}
 use Rattle.lin_texts.specs.declared.place.Place.{Place}
 
@@ -35,6 +35,7 @@ sentence_text (Event at cause) = event_sentence cause
 sentence_text (Truncated at) = codes "the file ends within the element or discard that begins here"
 sentence_text Full = codes "a history has at most 1000000 events"
 sentence_text (BadPair at) = []
+sentence_text (Few count wanted) = codes "the file has fewer events of clients than --at-least asks for; what a nemesis did isn't counted"
 
 -- where the fault stands: a fault of EDN and a map that is no event where they are, what is unfinished where it begins
 abbrev pub place_in : Marked → Refusal → Option Place
@@ -43,6 +44,7 @@ place_in marked (Event at cause) = bad_of marked.stop
 place_in marked (Truncated at) = unfinished_of marked.stop
 place_in marked Full = None
 place_in marked (BadPair at) = None
+place_in marked (Few count wanted) = None
 
 abbrev pub place_words : Option Place → List ℕ
 place_words None = []

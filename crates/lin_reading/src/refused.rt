@@ -57,6 +57,9 @@ fn sentence(refusal: Refusal) -> &'static str
         Refusal::Truncated { .. } => "the file ends within the element or discard that begins here",
         Refusal::Full => "a history has at most 1000000 events",
         Refusal::BadPair { .. } => "",
+        Refusal::Few { .. } => {
+            "the file has fewer events of clients than --at-least asks for; what a nemesis did isn't counted"
+        }
     }
 }
 

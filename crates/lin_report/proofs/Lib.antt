@@ -14,3 +14,6 @@ pub mod Agreeing
 pub mod Refuted
 pub mod Answered
 pub mod Questions
+pub mod FirstFailing
+pub mod Still
+pub mod Besides

@@ -18,7 +18,7 @@ use Rattle.lin_formats.specs.Intakes.{AreSeen}
 use Rattle.lin_report.specs.Pulls.{Enters, IsAllOrFull, IsStop, StandsAt}
 use Rattle.lin_report.specs.Runs.{AreMore, GoesOn, IsPull, IsReadOn, RunState, pull_refusal, refusal_in, room_in}
 use Rattle.lin_formats.specs.declared.verdicts.Refusal.{Refusal}
-use Rattle.lin_formats.specs.declared.verdicts.Refusal.TheVariants.{Edn, Event as OfEvent, Truncated, Full, BadPair}
+use Rattle.lin_formats.specs.declared.verdicts.Refusal.TheVariants.{Edn, Event as OfEvent, Truncated, Full, BadPair, Few}
 
 -- no event went yet
 pub none_entered : (now : Present) (follow : Followed) → Enters now now follow follow []
@@ -225,6 +225,7 @@ ends_right now new after entered refused made room stop =
     by_refusal (Some (OfEvent at cause)) s size both = settled (Some (OfEvent at cause)) s.0 s.1
     by_refusal (Some (Truncated at)) s size both = settled (Some (Truncated at)) s.0 s.1
     by_refusal (Some (BadPair at)) s size both = settled (Some (BadPair at)) s.0 s.1
+    by_refusal (Some (Few count wanted)) s size both = settled (Some (Few count wanted)) s.0 s.1
 
 -- where a pull ends, it did what it should
 pub pull_ends : (keyed : Bool) (before : RunState) (now new : Present) (names names' : List (List ℕ)) (follow after : Followed) (old left : Option (List ℕ)) (part : List ℕ) (entered : List Event)

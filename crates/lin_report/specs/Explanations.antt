@@ -1,5 +1,5 @@
 -- What is right to tell of why an answer is what it is.
-use Rattle.std.specs.Prelude.{◌≡◌, ◌-◌, ◌++◌, ◌⊎◌, ℕ, Bool, false, List, Option, Some, None, Result, codes, count_by, decimal, length, nat_eq, option_map, take}
+use Rattle.std.specs.Prelude.{◌≡◌, ◌-◌, ◌++◌, ◌⊎◌, ℕ, Bool, false, List, [], Option, Some, None, Result, codes, count_by, decimal, length, nat_eq, option_map, take}
 use Rattle.std.specs.Io.KnownBytes.{IsAtEnd}
 use Rattle.lin_events.specs.declared.events.Event.{Event}
 use Rattle.lin_events.specs.declared.items.Item.{Item}
@@ -9,13 +9,16 @@ use Rattle.lin_names.specs.Spelled.{numbered, seen}
 use Rattle.lin_names.specs.declared.said.Said.{Said}
 use Rattle.lin_answers.specs.Answers.{IsAnswer, verdict_of}
 use Rattle.lin_answers.specs.Edits.{Present}
+use Rattle.lin_answers.specs.Keys.{AreKeys}
 use Rattle.lin_answers.specs.declared.answers.Answer.{Answer}
+use Rattle.lin_answers.specs.declared.answers.Answer.TheVariants as answers
 use Rattle.lin_answers.specs.declared.answers.Scope.{Scope}
 use Rattle.lin_answers.specs.declared.answers.Verdict.{Verdict}
+use Rattle.lin_answers.specs.declared.answers.Verdict.TheVariants.{No, Undecided}
 use Rattle.lin_answers.specs.declared.answers.Scope.TheVariants.{Object, Whole}
 use Rattle.lin_formats.specs.VerdictTexts.{refusal_text}
 use Rattle.lin_formats.specs.Histories.{StopsFor}
-use Rattle.lin_formats.specs.Inputs.{AreRefused, IsWhole}
+use Rattle.lin_formats.specs.Inputs.{AreRefusedFor, IsEnough}
 use Rattle.lin_texts.specs.declared.faults.RunFault.{RunFault}
 use Rattle.lin_texts.specs.declared.settings.Settings.{Settings}
 use Rattle.lin_formats.specs.declared.verdicts.Refusal.{Refusal}
@@ -23,14 +26,19 @@ use Rattle.lin_texts.specs.declared.status.Status.{Status}
 use Rattle.lin_texts.specs.declared.status.Status.TheVariants as ends
 use Rattle.lin_places.specs.Places.{Marked, Marks}
 use Rattle.lin_texts.specs.declared.place.Place.{Place}
+use Rattle.lin_explain.specs.Certain.{certain_line}
 use Rattle.lin_explain.specs.Explained.{Explains, scope_of}
 use Rattle.lin_reading.specs.Hints.{IsHint}
 use Rattle.lin_reading.specs.Refused.{place_in, refused_text}
 use Rattle.lin_explain.specs.declared.parts.Parts.{Parts}
 use Rattle.lin_explain.specs.declared.telling.Asked.{Asked}
 use Rattle.lin_json.specs.Explanations.{explanation_json, refusal_json}
-use Rattle.lin_report.specs.Reports.{IsPrintRun, answer_status, answer_text, opened, told_text}
+use Rattle.lin_report.specs.Failing.{first_failing}
+use Rattle.lin_report.specs.Reports.{AreFindings, IsPrintRun, answer_status, answer_text, opened, told_text}
+use Rattle.lin_report.specs.declared.beside.Beside.{Beside}
 use Rattle.lin_report.specs.declared.explaining.Question.{Question}
+use Rattle.lin_report.specs.declared.failing.Failing.{Failing}
+use Rattle.lin_report.specs.declared.findings.Finding.{Finding}
 use Rattle.lin_report.specs.declared.formats.Format.{Format}
 use Rattle.lin_report.specs.declared.formats.Format.TheVariants.{Text, Json}
 
@@ -52,20 +60,52 @@ asked_by keyed scope = record { key = key_of scope; with_order = false; keyed = 
 
 -- with these spellings of words
 module _ (names : List (List ℕ)) where
-  -- An explanation: the answer's line, and those that explain it; or one line of JSON, which has this text as well.
-  abbrev pub explanation_text : Format → ℕ → Verdict → List ℕ → Parts → List ℕ
-  explanation_text Text events verdict lines parts = told_text verdict lines
-  explanation_text Json events verdict lines parts =
-      explanation_json names (answer_status verdict) (answer_text verdict) events parts (without_end (told_text verdict lines)) ++ codes "\n"
+  -- The object that is told beside an answer: where the whole is asked about and undecided, the one that fails first of all objects, if one is a no.
+  -- What is found of an object may be any answer that is right.
+  abbrev pub IsFailing : Present → Option Item → Verdict → Option Failing → Type 0
+  IsFailing now None (Undecided at) failing = (keys : List Item) × AreKeys names now.history keys
+      × (found : List Finding) × AreFindings now keys found × (failing ≡ first_failing found)
+  IsFailing now _ _ failing = failing ≡ None
 
-  -- an answer that is right, with what explains it
+  -- what is told of it: the same as where its key alone is asked about
+  abbrev pub IsBeside : Present → Asked → Option (List Place) → Verdict → Option Beside → Type 0
+  IsBeside now asked places verdict None = IsFailing now asked.key verdict None
+  IsBeside now asked places verdict (Some beside) = IsFailing now asked.key verdict (Some beside.failing)
+      × Explains names now (record asked { key = Some beside.failing.key }) places (answers.No beside.failing.prefix) beside.told.lines.items beside.told.parts
+
+  -- its lines, from that of its answer on, behind one that says that the whole isn't linearizable
+  abbrev pub beside_text : Option Beside → List ℕ
+  beside_text None = []
+  beside_text (Some beside) = certain_line names beside.failing.key ++ told_text (No beside.failing.prefix) beside.told.lines.items
+
+  abbrev pub beside_json : ℕ → Beside → List ℕ
+  beside_json events beside = explanation_json names ends.No (answer_text (No beside.failing.prefix)) events beside.told.parts None
+      (without_end (told_text (No beside.failing.prefix) beside.told.lines.items))
+
+  -- its map, for a history of so many events
+  abbrev pub beside_map : ℕ → Option Beside → Option (List ℕ)
+  beside_map events beside = option_map (beside_json events) beside
+
+  abbrev pub whole_text : Verdict → List ℕ → Option Beside → List ℕ
+  whole_text verdict lines beside = told_text verdict lines ++ beside_text beside
+
+  -- An explanation: the answer's line, those that explain it, and those of an object that fails beside it; or one line of JSON, which has this text
+  -- as well.
+  abbrev pub explanation_text : Format → ℕ → Verdict → List ℕ → Parts → Option Beside → List ℕ
+  explanation_text Text events verdict lines parts beside = whole_text verdict lines beside
+  explanation_text Json events verdict lines parts beside =
+      explanation_json names (answer_status verdict) (answer_text verdict) events parts (beside_map events beside) (without_end (whole_text verdict lines beside)) ++ codes "\n"
+
+  -- an answer that is right, with what explains it, and what is told beside it
   pub record IsExplanation (format : Format) (now : Present) (asked : Asked) (places : Option (List Place)) (text : List ℕ) (status : Status) : Type 0 where
     pub answer : Answer
     pub lines : List ℕ
     pub parts : Parts
+    pub beside : Option Beside
     pub is_answer : IsAnswer now (scope_of asked.key) answer
     pub explained : Explains names now asked places answer lines parts
-    pub says : text ≡ explanation_text format (length now.history) (verdict_of answer) lines parts
+    pub is_beside : IsBeside now asked places (verdict_of answer) beside
+    pub says : text ≡ explanation_text format (length now.history) (verdict_of answer) lines parts beside
     pub status_is : status ≡ answer_status (verdict_of answer)
 
   -- the reply to a command: how many lines follow, and they; events that come by commands have no places
@@ -95,9 +135,9 @@ asked_in settings question key = record { key = key; with_order = question.with_
 abbrev pub IsRightExplanation : Settings → Question → List ℕ → Option (List ℕ) → List ℕ → Status → Type 0
 IsRightExplanation settings question bytes left text status = (names : List (List ℕ)) × AreEachOnce names
     × (marked : Marked) × ((m : Reading) → IsReading settings.keyed names m → Marks m marked bytes) × (marked.keyed ≡ settings.keyed)
-    × (((refusal : Refusal) × AreRefused settings.keyed names bytes refusal × StopsFor refusal left
+    × (((refusal : Refusal) × AreRefusedFor settings.keyed names settings.at_least bytes refusal × StopsFor refusal left
     × ((hint : List ℕ) × IsHint settings.keyed bytes marked refusal hint × (text ≡ refused_told question.format marked refusal hint)) × (status ≡ ends.Refused))
-    ⊎ ((events : List Event) × IsWhole settings.keyed names bytes events × IsAtEnd left × (key : Option Item) × IsKey names question.key key
+    ⊎ ((events : List Event) × IsEnough settings.keyed names settings.at_least bytes events × IsAtEnd left × (key : Option Item) × IsKey names question.key key
     × IsExplanation names question.format (opened settings events) (asked_in settings question key) (Some marked.places) text status))
 
 -- what a run reads and writes, and how it ends

@@ -2,6 +2,7 @@ pub mod Commands
 pub mod CommandLaws
 pub mod MapCommands
 pub mod Pulls
+pub mod Failing
 pub mod Reports
 pub mod Explanations
 pub mod Pictures

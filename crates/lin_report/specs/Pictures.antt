@@ -9,7 +9,7 @@ use Rattle.lin_answers.specs.Answers.{IsAnswer, verdict_of}
 use Rattle.lin_answers.specs.Edits.{Present}
 use Rattle.lin_answers.specs.declared.answers.Answer.{Answer}
 use Rattle.lin_formats.specs.Histories.{StopsFor}
-use Rattle.lin_formats.specs.Inputs.{AreRefused, IsWhole}
+use Rattle.lin_formats.specs.Inputs.{AreRefusedFor, IsEnough}
 use Rattle.lin_texts.specs.declared.faults.RunFault.{RunFault}
 use Rattle.lin_texts.specs.declared.settings.Settings.{Settings}
 use Rattle.lin_formats.specs.declared.verdicts.Refusal.{Refusal}
@@ -33,8 +33,8 @@ pub record IsDrawing (now : Present) (key : Option Item) (text : List ℕ) (stat
 -- object of the key that is said or the whole.
 abbrev pub IsRightDrawing : Settings → Option Said → List ℕ → Option (List ℕ) → List ℕ → Status → Type 0
 IsRightDrawing settings said bytes left text status = (names : List (List ℕ)) × AreEachOnce names
-    × (((refusal : Refusal) × AreRefused settings.keyed names bytes refusal × StopsFor refusal left × (text ≡ refusal_line Text refusal) × (status ≡ ends.Refused))
-    ⊎ ((events : List Event) × IsWhole settings.keyed names bytes events × IsAtEnd left × (key : Option Item) × IsKey names said key
+    × (((refusal : Refusal) × AreRefusedFor settings.keyed names settings.at_least bytes refusal × StopsFor refusal left × (text ≡ refusal_line Text refusal) × (status ≡ ends.Refused))
+    ⊎ ((events : List Event) × IsEnough settings.keyed names settings.at_least bytes events × IsAtEnd left × (key : Option Item) × IsKey names said key
     × IsDrawing (opened settings events) key text status))
 
 -- what a run reads and writes, and how it ends

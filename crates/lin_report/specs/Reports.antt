@@ -17,7 +17,7 @@ use Rattle.lin_answers.specs.declared.answers.Verdict.TheVariants.{IllFormed, Ye
 use Rattle.lin_texts.specs.Causes.{cause_text}
 use Rattle.lin_formats.specs.VerdictTexts.{refusal_text}
 use Rattle.lin_formats.specs.Histories.{StopsFor}
-use Rattle.lin_formats.specs.Inputs.{AreRefused, IsWhole}
+use Rattle.lin_formats.specs.Inputs.{AreRefusedFor, IsEnough}
 use Rattle.lin_texts.specs.Items.{item_text}
 use Rattle.lin_texts.specs.Kinds.{kind_text}
 use Rattle.lin_formats.specs.Verdicts.{IsReadTooFar}
@@ -27,6 +27,7 @@ use Rattle.lin_texts.specs.declared.status.Status.TheVariants as ends
 use Rattle.lin_texts.specs.declared.faults.RunFault.{RunFault}
 use Rattle.lin_texts.specs.declared.faults.RunFault.TheVariants.{ReadFailed, WriteFailed, OutOfMemory, TooMuch}
 use Rattle.lin_texts.specs.declared.settings.Settings.{Settings}
+use Rattle.lin_report.specs.Failing.{failing_key}
 use Rattle.lin_report.specs.declared.findings.Finding.{Finding}
 use Rattle.lin_report.specs.declared.findings.Findings.{Findings}
 use Rattle.lin_report.specs.declared.formats.Format.{Format}
@@ -82,12 +83,12 @@ module _ (names : List (List ℕ)) where
   json_objects kinds found = join_by (λ f. json_object (kinds f.key) f) (codes ",") found
 
   -- The report of a history of so many keys: what is found of its objects, and of the whole. As text there is a line that counts, one for each
-  -- object, and one for the whole; as JSON one line for all.
+  -- object, and one for the whole; as JSON one line for all, which names the object that fails first where the whole is undecided and one is a no.
   abbrev pub report_text : Format → Present → ℕ → List Finding → Verdict → List ℕ
   report_text Text now keys found whole =
       counts_text (length now.history) keys ++ lines_text (kinds_in now) found ++ codes "whole: " ++ (answer_text whole ++ codes "\n")
   report_text Json now keys found whole =
-      checked_json (answer_status whole) (answer_text whole) (length now.history) (json_objects (kinds_in now) found) ++ codes "\n"
+      checked_json names (failing_key whole found) (answer_status whole) (answer_text whole) (length now.history) (json_objects (kinds_in now) found) ++ codes "\n"
 
   -- What is found of a history: of each of its keys, in the order of print, what is found of its object, and what is found of the whole. Of a
   -- history that isn't well-formed no object is named.
@@ -121,8 +122,8 @@ refusal_line Json refusal = answer_json ends.Refused (refusal_text refusal) ++ c
 -- byte is left, a report of it. Words are told by the spellings by which they are read.
 abbrev pub IsRightReport : Settings → Format → List ℕ → Option (List ℕ) → List ℕ → Status → Type 0
 IsRightReport settings format bytes left text status = (names : List (List ℕ)) × AreEachOnce names
-    × (((refusal : Refusal) × AreRefused settings.keyed names bytes refusal × StopsFor refusal left × (text ≡ refusal_line format refusal) × (status ≡ ends.Refused))
-    ⊎ ((events : List Event) × IsWhole settings.keyed names bytes events × IsAtEnd left × IsReport names format (opened settings events) text status))
+    × (((refusal : Refusal) × AreRefusedFor settings.keyed names settings.at_least bytes refusal × StopsFor refusal left × (text ≡ refusal_line format refusal) × (status ≡ ends.Refused))
+    ⊎ ((events : List Event) × IsEnough settings.keyed names settings.at_least bytes events × IsAtEnd left × IsReport names format (opened settings events) text status))
 
 -- what is right to print of bytes, of which so much is left, and the status
 abbrev pub Printing : Type 1

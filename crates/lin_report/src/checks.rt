@@ -81,7 +81,7 @@ fn find<R: Read>(
     ensures readers { IsErrOf result RunFault.WriteFailed → ⊥ }
 {
     let mut names = Names::new(alloc);
-    let history = read_history(alloc, settings.keyed, file, &mut names)?;
+    let history = read_history(alloc, settings.keyed, settings.at_least, file, &mut names)?;
     names_are_apart(&names);
     match history {
         History::Whole(events) => Ok(report_of(alloc, settings, format, &names, events)?),

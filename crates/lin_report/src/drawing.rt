@@ -124,7 +124,13 @@ fn find<R: Read>(
 {
     let mut names = Names::new(alloc);
     let key = item_of(key, &mut names)?;
-    let (history, placed) = read_placed(alloc, settings.keyed, file, &mut names)?;
+    let (history, placed) = read_placed(
+        alloc,
+        settings.keyed,
+        settings.at_least,
+        file,
+        &mut names,
+    )?;
     names_are_apart(&names);
     match history {
         History::Whole(events) => {

@@ -7,7 +7,7 @@ ghost use Rattle.lin_formats.specs.Inputs.{limit};
 ghost use Rattle.lin_formats.specs.Verdicts.{is_write_failed, IsReadTooFar};
 ghost use Rattle.lin_report.specs.Explanations.{IsExplainRun, IsExplanation, IsKey, IsRightExplanation, explanation_text, key_of as key_in, line_count as lines_in, refusal_lines as lines_for, refused_told};
 ghost use Rattle.lin_explain.specs.Explained.{Explains, scope_of as scope_for};
-ghost use Rattle.lin_explain.specs.Work.{least_steps};
+ghost use Rattle.lin_explain.specs.Work.{least_steps, most_passes};
 ghost use Rattle.lin_reading.specs.Hints.{hint_text};
 ghost use Rattle.lin_names.specs.Names.{Begins};
 ghost use Rattle.lin_answers.specs.Answers.{IsAnswer, verdict_of as verdict_in};
@@ -16,7 +16,8 @@ ghost use Rattle.lin_report.specs.Reports.{IsPrinted, answer_status, opened};
 ghost use Rattle.lin_report.specs.Runs.{IsCommandReply};
 ghost use Rattle.lin_report.specs.declared.commands.Command.TheVariants as command;
 
-use crate::answers::{status_of, told_words, verdict_of};
+use crate::answers::{status_of, verdict_of};
+use crate::beside::{Beside, beside_of, whole_words};
 use crate::checks::Answered;
 use crate::formats::Format;
 use crate::json_explanations::{json_explanation, json_refused};
@@ -78,7 +79,7 @@ fn key_of(scope: Scope) -> Option<Item>
     }
 }
 
-/// What explains an answer for so many events, as it is wanted.
+/// What explains an answer for so many events, and what is told beside it, as it is wanted.
 fn told_as(
     alloc: Global,
     names: &Names,
@@ -86,12 +87,14 @@ fn told_as(
     events: usize,
     verdict: Verdict,
     told: &Explanation,
+    beside: Option<&Beside>,
 ) -> Result<Vec<u8>, AllocError>
-    ensures { IfOk result (λ text. text.items ≡ explanation_text names.now format events verdict told.now.lines.items told.now.parts) }
+    ensures { IfOk result (λ text. text.items
+        ≡ explanation_text names.now format events verdict told.now.lines.items told.now.parts (option_map (λ b. b.now) beside.entry)) }
 {
     match format {
-        Format::Text => told_words(alloc, verdict, &told.lines),
-        Format::Json => json_explanation(alloc, names, events, verdict, told),
+        Format::Text => whole_words(alloc, names, verdict, &told.lines, beside),
+        Format::Json => json_explanation(alloc, names, events, verdict, told, beside),
     }
 }
 
@@ -103,11 +106,14 @@ fn answered(
     events: usize,
     answer: &Answer,
     told: &Explanation,
+    beside: Option<&Beside>,
 ) -> Result<Answered, AllocError>
-    ensures { IfOk result (λ answered. (answered.text.items ≡ explanation_text names.now format events (verdict_in answer.now) told.now.lines.items told.now.parts) × (answered.status ≡ answer_status (verdict_in answer.now))) }
+    ensures { IfOk result (λ answered. (answered.text.items
+        ≡ explanation_text names.now format events (verdict_in answer.now) told.now.lines.items told.now.parts (option_map (λ b. b.now) beside.entry))
+        × (answered.status ≡ answer_status (verdict_in answer.now))) }
 {
     let verdict = verdict_of(answer);
-    let text = told_as(alloc, names, format, events, verdict, told)?;
+    let text = told_as(alloc, names, format, events, verdict, told, beside)?;
     Ok(Answered {
         text,
         status: status_of(verdict),
@@ -127,7 +133,7 @@ pub fn told_of(
     ensures told { IfOk result (λ told. Explains names.now session.old.present asked (option_map (λ p. p.now) places.entry) answer.now told.lines.items told.parts) }
     ensures same { session.new ≡ record session.old { meter = session.new.meter } }
     ensures counted { OnOk result (ticked session.old.meter.steps (least_steps session.old.present answer.now) ≤ session.new.meter.steps) }
-    ensures most { session.new.meter.steps ≤ session.old.meter.steps + 10 * length session.old.present.history }
+    ensures most { session.new.meter.steps ≤ session.old.meter.steps + most_passes answer.now * length session.old.present.history }
     ensures scans { session.new.meter.scans ≡ session.old.meter.scans }
 {
     let mut meter = session.take_meter();
@@ -144,7 +150,7 @@ pub fn told_of(
     told
 }
 
-/// An explanation of the answer for the scope. What it takes is counted, beside what the question takes.
+/// An explanation of the answer for the scope, and of an object that is a no beside it. What it takes is counted, beside what the question takes.
 fn explanation(
     alloc: Global,
     session: &mut Session,
@@ -155,11 +161,14 @@ fn explanation(
     requires { scope_for asked.key ≡ scope }
     ensures explained { IfOk result (λ answered. IsExplanation names.now Format.Text session.old.present asked None answered.text.items answered.status) }
     ensures present { session.new.present ≡ session.old.present }
-    ensures question { IsQuestion scope (10 * length session.old.present.history) session.old session.new }
+    ensures question { IsQuestion scope (12 * length session.old.present.history) session.old session.new }
 {
     let answer = session.order(alloc, scope)?;
+    let beside = beside_of(alloc, session, names, &answer, asked, None)?;
     let told = told_of(alloc, session, names, &answer, asked, None)?;
-    Ok(answered(alloc, names, Format::Text, session.len(), &answer, &told)?)
+    let count = session.len();
+    let also = beside.as_ref();
+    Ok(answered(alloc, names, Format::Text, count, &answer, &told, also)?)
 }
 
 /// How many lines a text has.
@@ -175,8 +184,8 @@ fn line_count(text: &[u8]) -> usize
     count
 }
 
-/// The reply to a command that asks why: how many lines follow, and they. At most ten steps are counted for each event of the history, beside those
-/// of the question.
+/// The reply to a command that asks why: how many lines follow, and they. At most twelve steps are counted for each event of the history, beside
+/// those of the question: ten for a yes, seven for a no, five for what is undecided, and seven for an object that is a no beside that.
 pub fn explain_reply(
     alloc: Global,
     keyed: bool,
@@ -185,7 +194,7 @@ pub fn explain_reply(
     scope: Scope,
 ) -> Result<Reply, OutOfMemory>
     ensures reply { IfOk result (λ reply. IsCommandReply names.now keyed (command.Explain scope) session.old.present session.new.present reply.text.items reply.status) }
-    ensures question { IsQuestion scope (10 * length session.old.present.history) session.old session.new }
+    ensures question { IsQuestion scope (12 * length session.old.present.history) session.old session.new }
 {
     let asked = Asked {
         key: key_of(scope),
@@ -203,7 +212,26 @@ pub fn explain_reply(
     })
 }
 
-/// An explanation of these events. What the session found of them goes first.
+/// What explains the answer, where the session isn't needed any more. What it found of the events goes first.
+fn explained_last(
+    alloc: Global,
+    session: Session,
+    names: &Names,
+    answer: &Answer,
+    asked: Asked,
+    places: &Places,
+) -> Result<Explanation, OutOfMemory>
+    requires { IsAnswer session.present (scope_for asked.key) answer.now }
+    ensures { IfOk result (λ told. Explains names.now session.present asked (Some places.now.places) answer.now told.lines.items told.parts) }
+{
+    let mut session = session;
+    let mut meter = session.take_meter();
+    let history = session.into_history();
+    let places = Some(places.as_slice());
+    explanation_from(alloc, history, names, answer, asked, places, &mut meter)
+}
+
+/// An explanation of these events.
 fn explained(
     alloc: Global,
     settings: Settings,
@@ -220,11 +248,11 @@ fn explained(
     let mut session = session_of(alloc, settings, events)?;
     let count = session.len();
     let answer = session.order(alloc, scope_of(asked.key))?;
-    let mut meter = session.take_meter();
-    let history = session.into_history();
-    let places = Some(places.as_slice());
-    let told = explanation_from(alloc, history, names, &answer, asked, places, &mut meter)?;
-    Ok(answered(alloc, names, format, count, &answer, &told)?)
+    let spots = Some(places.as_slice());
+    let beside = beside_of(alloc, &mut session, names, &answer, asked, spots)?;
+    let told = explained_last(alloc, session, names, &answer, asked, places)?;
+    let also = beside.as_ref();
+    Ok(answered(alloc, names, format, count, &answer, &told, also)?)
 }
 
 /// The lines that are told of a file that is refused.
@@ -278,7 +306,13 @@ fn find<R: Read>(
         with_order: question.with_order,
         keyed: settings.keyed,
     };
-    let (history, placed) = read_placed(alloc, settings.keyed, file, &mut names)?;
+    let (history, placed) = read_placed(
+        alloc,
+        settings.keyed,
+        settings.at_least,
+        file,
+        &mut names,
+    )?;
     names_are_apart(&names);
     let format = question.format;
     match history {

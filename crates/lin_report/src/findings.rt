@@ -5,6 +5,7 @@ ghost use Rattle.lin_answers.specs.Keys.{AreKeys};
 ghost use Rattle.lin_answers.specs.declared.answers.Scope.TheVariants as scope;
 ghost use Rattle.lin_report.specs.Reports as said;
 ghost use Rattle.lin_report.specs.Reports.{AreFindings, HasFound};
+ghost use Rattle.lin_report.specs.inner.Still.{IsAllKnown, IsStill};
 
 use crate::answers::is_ill_formed;
 use lin_answers::{Scope, Verdict};
@@ -31,14 +32,15 @@ pub struct Findings {
     pub whole: Verdict,
 }
 
-/// What is found of the objects of these keys.
-fn find_objects(
+/// What is found of the objects of these keys. Where all is known of them, nothing is counted.
+pub fn find_objects(
     alloc: Global,
     session: &mut Session,
     keys: &[Item],
 ) -> Result<Vec<Finding>, OutOfMemory>
     ensures found { IfOk result (λ found. AreFindings session.old.present keys.now found.items) }
     ensures present { session.new.present ≡ session.old.present }
+    ensures still { IsAllKnown session.old → IsStill 0 session.old session.new }
 {
     let mut found = Vec::new(alloc);
     for key in keys {

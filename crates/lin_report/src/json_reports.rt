@@ -2,13 +2,17 @@
 ghost use Rattle.std.specs.Prelude.{◌≡◌, ◌++◌, IfOk, OnOk, codes};
 ghost use Rattle.lin_formats.specs.VerdictTexts.{refusal_text};
 ghost use Rattle.lin_texts.specs.declared.status.Status.TheVariants as ends;
-ghost use Rattle.lin_json.specs.Answers.{answer_json};
+ghost use Rattle.lin_json.specs.Answers.{answer_json, objects_front};
 ghost use Rattle.lin_answers.specs.Answers.{kinds_in};
-ghost use Rattle.lin_report.specs.Reports.{json_object, json_objects, report_text};
+ghost use Rattle.lin_report.specs.Failing as said;
+ghost use Rattle.lin_report.specs.Reports.{answer_status, answer_text, json_object, json_objects, report_text};
 
 use crate::answers::{status_of, verdict_words};
+use crate::failing::failing_key;
 use crate::findings::{Finding, Findings};
 use crate::formats::Format;
+use lin_answers::Verdict;
+use lin_events::Item;
 use lin_formats::{Refusal, Status, refusal_words};
 use lin_json::{Head, put_answer, put_object, put_objects_front};
 use lin_names::Names;
@@ -55,7 +59,42 @@ fn put_each(
     Ok(())
 }
 
-/// Puts a report last: what is found of the whole, how many events the history has, and what is found of its objects.
+/// Puts what stands in front of the maps of objects last, where this object is a no beside what is found of the whole, or none.
+fn put_front_of(
+    alloc: Global,
+    text: &mut Vec<u8>,
+    names: &Names,
+    events: usize,
+    whole: Verdict,
+    failed: Option<Item>,
+) -> Result<(), AllocError>
+    ensures { OnOk result (text.new.items ≡ text.old.items ++ objects_front names.now failed (answer_status whole) (answer_text whole) events) }
+{
+    let answer = verdict_words(alloc, whole)?;
+    let head = Head {
+        status: status_of(whole),
+        answer: &answer,
+    };
+    put_objects_front(text, names, head, events, failed)
+}
+
+/// Puts the same last, where this is found of the objects.
+fn put_front(
+    alloc: Global,
+    text: &mut Vec<u8>,
+    names: &Names,
+    events: usize,
+    whole: Verdict,
+    found: &[Finding],
+) -> Result<(), AllocError>
+    ensures { OnOk result (text.new.items ≡ text.old.items ++ objects_front names.now (said.failing_key whole found.now) (answer_status whole) (answer_text whole) events) }
+{
+    let failed = failing_key(whole, found);
+    put_front_of(alloc, text, names, events, whole, failed)
+}
+
+/// Puts a report last: what is found of the whole, how many events the history has, the object that fails first where the whole is undecided and
+/// one is a no, and what is found of its objects.
 pub fn put_json_report(
     alloc: Global,
     text: &mut Vec<u8>,
@@ -65,12 +104,8 @@ pub fn put_json_report(
 ) -> Result<(), AllocError>
     ensures { OnOk result (text.new.items ≡ text.old.items ++ report_text names.now Format.Json session.now.present found.now.keys found.now.objects.items found.now.whole) }
 {
-    let answer = verdict_words(alloc, found.whole)?;
-    let head = Head {
-        status: status_of(found.whole),
-        answer: &answer,
-    };
-    put_objects_front(text, head, session.len())?;
+    let events = session.len();
+    put_front(alloc, text, names, events, found.whole, &found.objects)?;
     put_each(alloc, text, names, session, &found.objects)?;
     text.extend_from_slice(b"]}\n")
 }

@@ -2,10 +2,12 @@
 #![tactic(auto)]
 
 mod answers;
+mod beside;
 mod checks;
 mod commands;
 mod drawing;
 mod explaining;
+mod failing;
 mod findings;
 mod formats;
 mod json_explanations;

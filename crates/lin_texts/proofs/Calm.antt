@@ -6,11 +6,11 @@ use Rattle.std.specs.Option.{option_eq}
 use Rattle.lin_bytes.specs.Bytes.{ends, escapes, is_stop, stays}
 use Rattle.lin_bytes.specs.TextEnds.{by_quoted, closing_end}
 use Rattle.lin_texts.specs.Items.{is_closed, is_keyword, is_string, is_word}
-use Rattle.lin_texts.specs.Parts.{Part, behind, behind_hash, divides, is_inside, next, opens, parts_from, parts_on, separator, with_first}
+use Rattle.lin_texts.specs.Parts.{Part, behind, divides, is_inside, next, opens, parts_from, parts_on, separator, with_first}
 use Rattle.lin_texts.specs.declared.parts.Division.{Division}
 use Rattle.lin_texts.specs.declared.parts.Division.TheVariants.{Words, Pairs, Members}
 use Rattle.lin_texts.specs.declared.parts.Standing.{Standing}
-use Rattle.lin_texts.specs.declared.parts.Standing.TheVariants.{Fresh, Hashed, Quoted, Escaped, Plain, Endless}
+use Rattle.lin_texts.specs.declared.parts.Standing.TheVariants.{Fresh, Hashed, Quoted, Escaped, Plain}
 use Rattle.lin_texts.proofs.PartsOfTexts.{no_front, part_at, with_front}
 use Rattle.lin_texts.proofs.Digits.{avoids, both, is_not}
 
@@ -40,13 +40,9 @@ pub calm_on : (division : Division) (standing : Standing) (s t : List ℕ) → I
 calm_on division standing s t (middle, passes, none) more =
     let (after, on, out) = more middle none in (after, passed_on division standing middle s t passes ∙ on, out)
 
--- in an order a hash without a quote behind it is nothing
-abbrev pub IsTame : Division → Type 0
-IsTame division = (c : ℕ) → behind_hash division c ≡ behind division c
-
 -- a byte that is no quote opens no string
-next_calm : (division : Division) → IsTame division → (standing : Standing) (c : ℕ) → is_inside standing ≡ false → (c == 34) ≡ false → is_inside (next division standing c) ≡ false
-next_calm division tame standing c out other = by standing out
+next_calm : (division : Division) → (standing : Standing) (c : ℕ) → is_inside standing ≡ false → (c == 34) ≡ false → is_inside (next division standing c) ≡ false
+next_calm division standing c out other = by standing out
   where
     opened : (b : Bool) → is_inside (if b then Fresh else Plain) ≡ false
     opened true = refl
@@ -58,20 +54,19 @@ next_calm division tame standing c out other = by standing out
 
     by : (st : Standing) → is_inside st ≡ false → is_inside (next division st c) ≡ false
     by Fresh e = ap (λ b. is_inside (if b then Quoted else (if c == 35 then Hashed else behind division c))) other ∙ hashed (c == 35)
-    by Hashed e = ap (λ b. is_inside (if b then Quoted else behind_hash division c)) other ∙ ap is_inside (tame c) ∙ opened (opens division c)
+    by Hashed e = ap (λ b. is_inside (if b then Quoted else behind division c)) other ∙ opened (opens division c)
     by Quoted e = absurd (true≢false e)
     by Escaped e = absurd (true≢false e)
     by Plain e = opened (opens division c)
-    by Endless e = absurd (true≢false e)
 
 -- a text with no quote and no separator
-pub calm_run : (division : Division) → IsTame division → (standing : Standing) (s : List ℕ) → is_inside standing ≡ false → avoids 34 s ≡ true → avoids (separator division) s ≡ true
+pub calm_run : (division : Division) → (standing : Standing) (s : List ℕ) → is_inside standing ≡ false → avoids 34 s ≡ true → avoids (separator division) s ≡ true
     → IsCalm division standing s
-calm_run division tame standing [] out quotes separators = (standing, refl, out)
-calm_run division tame standing (c ∷ s) out quotes separators =
+calm_run division standing [] out quotes separators = (standing, refl, out)
+calm_run division standing (c ∷ s) out quotes separators =
     let quote = both (not (c == 34)) (avoids 34 s) quotes in
     let parts = both (not (c == separator division)) (avoids (separator division) s) separators in
-    let (after, passes, rest) = calm_run division tame (next division standing c) s (next_calm division tame standing c out (is_not (c == 34) quote.0)) quote.1 parts.1 in
+    let (after, passes, rest) = calm_run division (next division standing c) s (next_calm division standing c out (is_not (c == 34) quote.0)) quote.1 parts.1 in
     let on : divides division standing c ≡ false =
     ap (λ b. not b && (c == separator division)) out ∙ is_not (c == separator division) parts.0 in
     (after, ap (λ b. cond b None (passed division (next division standing c) s)) on ∙ passes, rest)
@@ -211,14 +206,14 @@ separator_stops Pairs = (refl, refl)
 separator_stops Members = (refl, refl)
 
 -- a word is one part
-pub word_calm : (division : Division) → IsTame division → (text : List ℕ) → is_word text ≡ true → IsCalm division Fresh text
-word_calm division tame text h = by (word_begun text h)
+pub word_calm : (division : Division) → (text : List ℕ) → is_word text ≡ true → IsCalm division Fresh text
+word_calm division text h = by (word_begun text h)
   where
     by : Begun text → IsCalm division Fresh text
     by (colon s is none) =
         let (stop, other) = separator_stops division in
         subst (IsCalm division Fresh) (sym is)
-        (calm_run division tame Fresh (58 ∷ s) refl (avoids_stop 34 s refl none) (ap (λ b. not b && avoids (separator division) s) other ∙ avoids_stop (separator division) s stop none))
+        (calm_run division Fresh (58 ∷ s) refl (avoids_stop 34 s refl none) (ap (λ b. not b && avoids (separator division) s) other ∙ avoids_stop (separator division) s stop none))
     by (quote s is closed) = subst (IsCalm division Fresh) (sym is) (quoted_calm division s closed)
     by (hash s is closed) = subst (IsCalm division Fresh) (sym is) (hashed_calm division s closed)
 

@@ -32,8 +32,8 @@ use Rattle.lin_texts.specs.OrderLaws.{HasBits, IsItemOfCode, IsPairOfCode, IsRep
 use Rattle.lin_texts.specs.declared.parts.Division.{Division}
 use Rattle.lin_texts.specs.declared.parts.Division.TheVariants as division
 use Rattle.lin_texts.specs.declared.parts.Standing.{Standing}
-use Rattle.lin_texts.specs.declared.parts.Standing.TheVariants.{Fresh, Hashed, Quoted, Escaped, Plain, Endless}
-use Rattle.lin_texts.proofs.Calm.{Begun, colon, quote, hash, passed, IsCalm, IsTame, calm_on, calm_run, parts_next, parts_one, word_begun, word_calm}
+use Rattle.lin_texts.specs.declared.parts.Standing.TheVariants.{Fresh, Hashed, Quoted, Escaped, Plain}
+use Rattle.lin_texts.proofs.Calm.{Begun, colon, quote, hash, passed, IsCalm, calm_on, calm_run, parts_next, parts_one, word_begun, word_calm}
 use Rattle.lin_texts.proofs.Digits.{avoids, avoids_at, avoids_decimal, avoids_signed, integer_read, number_read, some_signed}
 use Rattle.lin_texts.proofs.Pairs.{pairs_not_empty}
 use Rattle.lin_texts.proofs.PrintedSets.{from_map, printed_rises, seen_back, set_back}
@@ -96,11 +96,11 @@ no_truth division.Pairs = (refl, refl)
 no_truth division.Members = (refl, refl)
 
 -- an item is one part
-item_calm : (d : Division) → IsTame d → (s : Spelled) → IsOfCode s → IsCalm d Fresh (spelled_text s)
-item_calm d tame (number i) fits = calm_run d tame Fresh (signed_decimal i) refl (avoids_signed 34 i refl refl fits) (avoids_signed (separator d) i (no_digit d) (no_sign d) fits)
-item_calm d tame (truth true) fits = calm_run d tame Fresh (codes "true") refl refl (no_truth d).0
-item_calm d tame (truth false) fits = calm_run d tame Fresh (codes "false") refl refl (no_truth d).1
-item_calm d tame (word w) fits = word_calm d tame w fits
+item_calm : (d : Division) → (s : Spelled) → IsOfCode s → IsCalm d Fresh (spelled_text s)
+item_calm d (number i) fits = calm_run d Fresh (signed_decimal i) refl (avoids_signed 34 i refl refl fits) (avoids_signed (separator d) i (no_digit d) (no_sign d) fits)
+item_calm d (truth true) fits = calm_run d Fresh (codes "true") refl refl (no_truth d).0
+item_calm d (truth false) fits = calm_run d Fresh (codes "false") refl refl (no_truth d).1
+item_calm d (word w) fits = word_calm d w fits
 
 some_item : (s : Spelled) → IsOfCode s → 0 < length (spelled_text s)
 some_item (number i) fits = some_signed i fits
@@ -119,10 +119,10 @@ joined ss = join_by spelled_text (codes ",") ss
 items_read : (at : ℕ) (s : Spelled) (ss : List Spelled) → IsOfCode s → All IsOfCode ss → items_of (parts_from division.Members at (joined (s ∷ ss))) ≡ Some (s ∷ ss)
 items_read at s [] fits more =
     ap (λ t. items_of (parts_from division.Members at t)) (append-nil (spelled_text s))
-    ∙ ap items_of (parts_one division.Members at (spelled_text s) (item_calm division.Members (λ c. refl) s fits))
+    ∙ ap items_of (parts_one division.Members at (spelled_text s) (item_calm division.Members s fits))
     ∙ ap (λ r. before_all r (Some [])) (item_read s fits)
 items_read at s (z ∷ zs) fits more =
-    let (p, is) = parts_next division.Members at (spelled_text s) (joined (z ∷ zs)) (item_calm division.Members (λ c. refl) s fits) in
+    let (p, is) = parts_next division.Members at (spelled_text s) (joined (z ∷ zs)) (item_calm division.Members s fits) in
     ap items_of is ∙ ap (λ r. before_all r (items_of (parts_from division.Members p (joined (z ∷ zs))))) (item_read s fits)
     ∙ ap (before_all (Some s)) (items_read p z zs (All-head IsOfCode z zs more) (All-tail IsOfCode z zs more))
 
@@ -193,7 +193,6 @@ sign_opens Hashed out = (refl, refl)
 sign_opens Quoted out = absurd (true≢false out)
 sign_opens Escaped out = absurd (true≢false out)
 sign_opens Plain out = (refl, refl)
-sign_opens Endless out = absurd (true≢false out)
 
 brace_opens : Opens 123
 brace_opens Fresh out = (refl, refl)
@@ -201,7 +200,6 @@ brace_opens Hashed out = (refl, refl)
 brace_opens Quoted out = absurd (true≢false out)
 brace_opens Escaped out = absurd (true≢false out)
 brace_opens Plain out = (refl, refl)
-brace_opens Endless out = absurd (true≢false out)
 
 comma_opens : Opens 44
 comma_opens Fresh out = (refl, refl)
@@ -209,7 +207,6 @@ comma_opens Hashed out = (refl, refl)
 comma_opens Quoted out = absurd (true≢false out)
 comma_opens Escaped out = absurd (true≢false out)
 comma_opens Plain out = (refl, refl)
-comma_opens Endless out = absurd (true≢false out)
 
 calm_behind : (c : ℕ) (standing : Standing) (s : List ℕ) → Opens c → is_inside standing ≡ false → IsCalm division.Pairs Fresh s → IsCalm division.Pairs standing (c ∷ s)
 calm_behind c standing s opens out (after, passes, none) =
@@ -221,18 +218,18 @@ others_calm : (standing : Standing) (ss : List Spelled) → is_inside standing �
 others_calm standing [] out fits = (standing, refl, out)
 others_calm standing (s ∷ ss) out fits =
     calm_behind 44 standing (spelled_text s ++ flat_map (λ (z : Spelled). codes "," ++ spelled_text z) ss) comma_opens out
-    (calm_on division.Pairs Fresh (spelled_text s) _ (item_calm division.Pairs (λ c. refl) s (All-head IsOfCode s ss fits))
+    (calm_on division.Pairs Fresh (spelled_text s) _ (item_calm division.Pairs s (All-head IsOfCode s ss fits))
     (λ after none. others_calm after ss none (All-tail IsOfCode s ss fits)))
 
 joined_calm : (ss : List Spelled) → All IsOfCode ss → IsCalm division.Pairs Fresh (joined ss)
 joined_calm [] fits = (Fresh, refl, refl)
 joined_calm (s ∷ ss) fits =
-    calm_on division.Pairs Fresh (spelled_text s) _ (item_calm division.Pairs (λ c. refl) s (All-head IsOfCode s ss fits)) (λ after none. others_calm after ss none (All-tail IsOfCode s ss fits))
+    calm_on division.Pairs Fresh (spelled_text s) _ (item_calm division.Pairs s (All-head IsOfCode s ss fits)) (λ after none. others_calm after ss none (All-tail IsOfCode s ss fits))
 
 braced_calm : (ss : List Spelled) → All IsOfCode ss → IsCalm division.Pairs Fresh (codes "{" ++ joined ss ++ codes "}")
 braced_calm ss fits =
     calm_behind 123 Fresh (joined ss ++ 125 ∷ []) brace_opens refl
-    (calm_on division.Pairs Fresh (joined ss) (125 ∷ []) (joined_calm ss fits) (λ after none. calm_run division.Pairs (λ c. refl) after (125 ∷ []) none refl refl))
+    (calm_on division.Pairs Fresh (joined ss) (125 ∷ []) (joined_calm ss fits) (λ after none. calm_run division.Pairs after (125 ∷ []) none refl refl))
 
 module _ (names : List (List ℕ)) (of : Numbering) (agrees : AgreesWith names of) where
   spelled_of_code : (x : Item) → IsItemOfCode names x → IsOfCode (spelled names x)
@@ -261,9 +258,9 @@ module _ (names : List (List ℕ)) (of : Numbering) (agrees : AgreesWith names o
       ∙ ap (option_map members) (members_read (printed names xs) (printed_of_code xs fits.0) (is_rising_of (printed names xs) (printed_rises names of agrees xs fits.0 fits.1)))
 
   reply_calm : (r : Reply) → IsReplyOfCode names r → IsCalm division.Pairs Fresh (reply_text names r)
-  reply_calm Done fits = calm_run division.Pairs (λ c. refl) Fresh (codes "done") refl refl refl
-  reply_calm (Value Nil) fits = calm_run division.Pairs (λ c. refl) Fresh (codes "nil") refl refl refl
-  reply_calm (Value (Held x)) fits = item_calm division.Pairs (λ c. refl) (spelled names x) (spelled_of_code x fits)
+  reply_calm Done fits = calm_run division.Pairs Fresh (codes "done") refl refl refl
+  reply_calm (Value Nil) fits = calm_run division.Pairs Fresh (codes "nil") refl refl refl
+  reply_calm (Value (Held x)) fits = item_calm division.Pairs (spelled names x) (spelled_of_code x fits)
   reply_calm (Members xs) fits = braced_calm (printed names xs) (printed_of_code xs fits.0)
 
   abbrev said_at : Placed → SaidPair
@@ -286,7 +283,7 @@ module _ (names : List (List ℕ)) (of : Numbering) (agrees : AgreesWith names o
       let at = decimal pair.at in
       let reply = reply_text names pair.reply in
       subst (IsCalm division.Pairs Fresh) (sym (append_assoc at (codes "=") reply))
-      (calm_on division.Pairs Fresh at (61 ∷ reply) (calm_run division.Pairs (λ c. refl) Fresh at refl (avoids_decimal 34 pair.at refl fits.0) (avoids_decimal 32 pair.at refl fits.0))
+      (calm_on division.Pairs Fresh at (61 ∷ reply) (calm_run division.Pairs Fresh at refl (avoids_decimal 34 pair.at refl fits.0) (avoids_decimal 32 pair.at refl fits.0))
       (λ after none. calm_behind 61 after reply sign_opens none (reply_calm pair.reply fits.1)))
 
   -- the word of a pair

@@ -4,7 +4,7 @@ use Rattle.std.specs.List.{filter}
 use Rattle.lin_texts.specs.declared.parts.Division.{Division}
 use Rattle.lin_texts.specs.declared.parts.Division.TheVariants.{Words, Pairs, Members}
 use Rattle.lin_texts.specs.declared.parts.Standing.{Standing}
-use Rattle.lin_texts.specs.declared.parts.Standing.TheVariants.{Fresh, Hashed, Quoted, Escaped, Plain, Endless}
+use Rattle.lin_texts.specs.declared.parts.Standing.TheVariants.{Fresh, Hashed, Quoted, Escaped, Plain}
 
 -- a part of a text, with the place of its first byte
 pub record Part : Type 0 where
@@ -27,29 +27,22 @@ opens Members c = false
 abbrev pub behind : Division → ℕ → Standing
 behind division c = if opens division c then Fresh else Plain
 
--- A command word that begins with `#` is a string with a hash in front, or goes on to the end. In an order a keyword may have `=#` in it.
-abbrev pub behind_hash : Division → ℕ → Standing
-behind_hash Words c = Endless
-behind_hash Pairs c = behind Pairs c
-behind_hash Members c = behind Members c
-
--- how the next byte stands: behind a backslash in a string no byte closes it
+-- How the next byte stands. A hash is a string's where a quote follows it at once, and else a byte like others: a command word may begin with
+-- it, and in an order a keyword may have `=#` in it. Behind a backslash in a string no byte closes it.
 abbrev pub next : Division → Standing → ℕ → Standing
 next division Fresh c = if c == 34 then Quoted else (if c == 35 then Hashed else behind division c)
-next division Hashed c = if c == 34 then Quoted else behind_hash division c
+next division Hashed c = if c == 34 then Quoted else behind division c
 next division Quoted c = if c == 34 then Plain else (if c == 92 then Escaped else Quoted)
 next division Escaped c = Quoted
 next division Plain c = behind division c
-next division Endless c = Endless
 
--- it stands in a string, or where nothing divides any more
+-- it stands in a string
 abbrev pub is_inside : Standing → Bool
 is_inside Fresh = false
 is_inside Hashed = false
 is_inside Quoted = true
 is_inside Escaped = true
 is_inside Plain = false
-is_inside Endless = true
 
 -- a separator in no string
 abbrev pub divides : Division → Standing → ℕ → Bool
@@ -78,8 +71,8 @@ is_filled part = nat_lt 0 (length part.text)
 abbrev pub filled_from : Division → ℕ → List ℕ → List Part
 filled_from division at s = filter is_filled (parts_from division at s)
 
--- The words of a text that begins at `at`: what stands between its spaces, where that is not empty. A word that begins with `"` or `#` runs
--- through its closing quote to the next space, or to the end where no quote closes.
+-- The words of a text that begins at `at`: what stands between its spaces, where that is not empty. A word that begins with `"` or `#"` runs
+-- through its closing quote to the next space, or to the end where no quote closes; any other ends at the next space.
 abbrev pub words_from : ℕ → List ℕ → List Part
 words_from at s = filled_from Words at s
 

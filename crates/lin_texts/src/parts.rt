@@ -27,8 +27,6 @@ pub(crate) enum Standing {
     Escaped,
     /// Anywhere else.
     Plain,
-    /// Behind a `#` that begins a command word and no string: nothing divides any more.
-    Endless,
 }
 
 /// A word of a text, and the place of its first byte.
@@ -57,16 +55,6 @@ impl Division {
             _ => Standing::Plain,
         }
     }
-
-    /// How a byte stands behind one that follows a `#` and is no quote.
-    fn behind_hash(self, byte: u8) -> Standing
-        ensures { result ≡ said.behind_hash self byte }
-    {
-        match self {
-            Division::Words => Standing::Endless,
-            Division::Pairs | Division::Members => self.behind(byte),
-        }
-    }
 }
 
 impl Standing {
@@ -77,22 +65,17 @@ impl Standing {
         match (self, byte) {
             (Standing::Fresh | Standing::Hashed, b'"') => Standing::Quoted,
             (Standing::Fresh, b'#') => Standing::Hashed,
-            (Standing::Hashed, _) => division.behind_hash(byte),
-            (Standing::Fresh | Standing::Plain, _) => division.behind(byte),
+            (Standing::Fresh | Standing::Hashed | Standing::Plain, _) => division.behind(byte),
             (Standing::Quoted, b'"') => Standing::Plain,
             (Standing::Quoted, b'\\') => Standing::Escaped,
             (Standing::Quoted | Standing::Escaped, _) => Standing::Quoted,
-            (Standing::Endless, _) => Standing::Endless,
         }
     }
 
     fn is_inside(self) -> bool
         ensures { result ≡ said.is_inside self }
     {
-        matches!(
-            self,
-            Standing::Quoted | Standing::Escaped | Standing::Endless
-        )
+        matches!(self, Standing::Quoted | Standing::Escaped)
     }
 
     /// Whether the byte that stands so divides.
@@ -172,8 +155,8 @@ pub(crate) fn next_filled(text: &[u8], from: usize, division: Division) -> Optio
     })
 }
 
-/// The first word of a command line from `from` on. One that begins with `"` or `#` runs through its closing quote to the next space, or to
-/// the line's end where no quote closes.
+/// The first word of a command line from `from` on. One that begins with `"` or `#"` runs through its closing quote to the next space, or to
+/// the line's end where no quote closes; any other ends at the next space.
 pub fn next_word(text: &[u8], from: usize) -> Option<Word<'_>>
     requires { from ≤ length text.now }
     ensures { MatchOption result (words_from from (drop from text.now) ≡ [])

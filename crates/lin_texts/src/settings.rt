@@ -11,4 +11,6 @@ pub struct Settings {
     pub keyed: bool,
     /// How many configurations are kept for one object, 1 to 1,000,000.
     pub budget: u32,
+    /// How many events of clients a file has to have of which a run tells what it found. Where its bytes are a history of fewer, it is refused.
+    pub at_least: u32,
 }

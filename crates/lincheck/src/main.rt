@@ -47,6 +47,9 @@ impl<'a> System for Host<'a> {
         let told = match message {
             Message::Refusal(error) => print!(self.runtime; "{error}"),
             Message::NotOpened(path) => println!(self.runtime; "lincheck: cannot open {path}"),
+            Message::NothingRead(path) => {
+                eprintln!(self.runtime; "lincheck: {path}: no event of a client was read")
+            }
             Message::Fault(fault) => println!(self.runtime; "lincheck: {fault}"),
             Message::OutOfMemory => println!(self.runtime; "lincheck: 3 OutOfMemory"),
             Message::NoText => println!(self.runtime; "lincheck: the command line is no text"),

@@ -1,13 +1,14 @@
 -- What is read of a file in several calls.
-use Rattle.std.proofs.Common.{◌≡◌, ◌+◌, ◌<◌, ◌≤◌, ◌^◌, false, ◌∷◌, [], ℕ, List, Bool, Option, None, Some, Result, Ok, Err, MatchOption, MatchResult, IfOk, IfNone, IfSome, length, take, ◌++◌, arith, length-append, append-nil, ap, ◌∙◌, subst}
+use Rattle.std.proofs.Common.{◌≡◌, ◌+◌, ◌<◌, ◌≤◌, ◌^◌, true, false, refl, nat_lt, ltb-true, ltb-false, ◌∷◌, [], ℕ, List, Bool, Option, None, Some, Result, Ok, Err, MatchOption, MatchResult, IfOk, IfNone, IfSome, length, take, ◌++◌, arith, length-append, append-nil, ap, ◌∙◌, subst}
+use Rattle.std.specs.Prelude.{if◌then◌else◌}
 use Rattle.std.proofs.KnownBytes.{Consumes-trans}
 use Rattle.std.proofs.lemmas.List.{length-take-le}
 use Rattle.std.specs.Io.KnownBytes.{Consumes, IsAtEnd}
-use Rattle.lin_formats.specs.Histories.{EndsFor, IsHistory, StopsFor}
-use Rattle.lin_formats.specs.Inputs.{AreRefused}
+use Rattle.lin_formats.specs.Histories.{EndsFor, IsHistory, IsHistoryFor, StopsFor, with_least}
+use Rattle.lin_formats.specs.Inputs.{AreRefused, IsWhole}
 use Rattle.lin_texts.specs.declared.faults.RunFault.{RunFault}
 use Rattle.lin_formats.specs.declared.verdicts.Refusal.{Refusal}
-use Rattle.lin_formats.specs.declared.verdicts.Refusal.TheVariants.{Edn, Event, Truncated, Full, BadPair}
+use Rattle.lin_formats.specs.declared.verdicts.Refusal.TheVariants.{Edn, Event, Truncated, Full, BadPair, Few}
 use Rattle.lin_formats.specs.declared.inputs.History.{History}
 use Rattle.lin_formats.specs.declared.inputs.History.TheVariants.{Whole, Refused}
 
@@ -17,11 +18,36 @@ stops_at_end (Event at cause) left end = tt
 stops_at_end (Truncated at) left end = end
 stops_at_end Full left end = tt
 stops_at_end (BadPair at) left end = end
+stops_at_end (Few count wanted) left end = end
 
 -- at its end a reader may stop for whatever is found
 pub ends_at_end : (h : History) (left : Option (List ℕ)) → IsAtEnd left → EndsFor h left
 ends_at_end (Whole events) left end = end
 ends_at_end (Refused refusal) left end = stops_at_end refusal left end
+
+-- a history of too few events is refused
+pub limited : (least : ℕ) (keyed : Bool) (names : List (List ℕ)) (text : List ℕ) (h : History) → IsHistory keyed names text h
+    → IsHistoryFor least keyed names text (with_least least h)
+limited least keyed names text (Whole events) whole = by (nat_lt (length events.items) least) refl
+  where
+    by : (few : Bool) → nat_lt (length events.items) least ≡ few → IsHistoryFor least keyed names text (if few then Refused (Few (length events.items) least) else Whole events)
+    by true is = (events.items, whole, refl, refl, ltb-true (length events.items) least is)
+    by false is = (whole, ltb-false (length events.items) least is)
+limited least keyed names text (Refused (Edn at cause)) is = is
+limited least keyed names text (Refused (Event at cause)) is = is
+limited least keyed names text (Refused (Truncated at)) is = is
+limited least keyed names text (Refused Full) is = is
+limited least keyed names text (Refused (BadPair at)) is = is
+limited least keyed names text (Refused (Few count wanted)) is = absurd is
+
+-- the reader came as far for that as it did
+pub limited_ends : (least : ℕ) (h : History) (left : Option (List ℕ)) → EndsFor h left → EndsFor (with_least least h) left
+limited_ends least (Whole events) left end = by (nat_lt (length events.items) least)
+  where
+    by : (few : Bool) → EndsFor (if few then Refused (Few (length events.items) least) else Whole events) left
+    by true = end
+    by false = end
+limited_ends least (Refused refusal) left end = end
 
 -- some more bytes are one more at least
 pub longer : (turn count : ℕ) (text piece : List ℕ) → turn ≤ length text → count ≤ length piece → 0 < count

@@ -1,32 +1,52 @@
 use Rattle.std.proofs.Common.{[], ◌∷◌, map, subst, sym}
+use Rattle.std.proofs.lemmas.List.Elements.{All-nil}
 use Rattle.lin_report.specs.Explanations.{IsExplainRun}
 use Rattle.lin_report.specs.Reports.{IsCheckRun}
-use Rattle.lin_program.specs.Endings.{IsOutcomeOf, IsVerifiedBy}
-use Rattle.lin_program.specs.Reporting.{AreReported}
+use Rattle.lin_program.specs.Endings.{IsOutcomeOf, IsVerifiedBy, reported_files}
+use Rattle.lin_program.specs.Reporting.{AreAmong, AreReported}
 use Rattle.lin_program.proofs.carry_out.Goals as goal
 
-pub returns-in-Check : goal.returns-in-Check
-returns-in-Check g c =
+pub returns-in-Check-clause-outcome : goal.returns-in-Check-clause-outcome
+returns-in-Check-clause-outcome g c =
     let named = subst (λ f. AreReported g.S.System.words g.S.File.Read.remaining g.S.Commands.Read.remaining c.args.system.now g.S.Out.Write.contents (IsCheckRun c.in-Check.settings f)
-    (map (λ n. n.now) c.as_slice.result.now) c.report_all.result) c.report_format.ensures c.report_all.ensures in
+    (map (λ n. n.now) c.as_slice.result.now) c.report_all.result) c.report_format.ensures c.report_all.ensures.reported in
     let all = subst (λ ns. AreReported g.S.System.words g.S.File.Read.remaining g.S.Commands.Read.remaining c.args.system.now g.S.Out.Write.contents
     (IsCheckRun c.in-Check.settings (Rattle.lin_program.specs.Tasks.report_format c.in-Check.format)) (map (λ n. n.now) ns) c.report_all.result) c.as_slice.ensures.value named in
     subst (λ l. IsOutcomeOf g.S.System.words g.S.File.Read.remaining g.S.Commands.Read.remaining g.S.Out.Write.contents c.args.system.now l c.report_all.result) (sym c.in-Check.is) all
 
-pub returns-in-Verify : goal.returns-in-Verify
-returns-in-Verify g c =
+pub returns-in-Verify-clause-outcome : goal.returns-in-Verify-clause-outcome
+returns-in-Verify-clause-outcome g c =
     let all = subst (λ ns. IsVerifiedBy g.S.System.words g.S.File.Read.remaining g.S.Commands.Read.remaining g.S.Out.Write.contents c.args.system.now c.in-Verify.settings c.in-Verify.order
     (map (λ n. n.now) ns) c.verify_all.result) c.as_slice-in-Verify.ensures.value c.verify_all.ensures in
     subst (λ l. IsOutcomeOf g.S.System.words g.S.File.Read.remaining g.S.Commands.Read.remaining g.S.Out.Write.contents c.args.system.now l c.verify_all.result) (sym c.in-Verify.is) all
 
-pub returns-in-Explain : goal.returns-in-Explain
-returns-in-Explain g c =
+pub returns-in-Explain-clause-outcome : goal.returns-in-Explain-clause-outcome
+returns-in-Explain-clause-outcome g c =
     let named = subst (λ f. AreReported g.S.System.words g.S.File.Read.remaining g.S.Commands.Read.remaining c.args.system.now g.S.Out.Write.contents
     (IsExplainRun c.in-Explain.settings (record { key = c.in-Explain.key; with_order = c.in-Explain.with_order; format = f })) (c.in-Explain.file.now ∷ []) c.report_all-in-Explain.result)
-    c.report_format-in-Explain.ensures c.report_all-in-Explain.ensures in
+    c.report_format-in-Explain.ensures c.report_all-in-Explain.ensures.reported in
     subst (λ l. IsOutcomeOf g.S.System.words g.S.File.Read.remaining g.S.Commands.Read.remaining g.S.Out.Write.contents c.args.system.now l c.report_all-in-Explain.result) (sym c.in-Explain.is) named
 
-pub returns-in-Draw : goal.returns-in-Draw
-returns-in-Draw g c =
+pub returns-in-Draw-clause-outcome : goal.returns-in-Draw-clause-outcome
+returns-in-Draw-clause-outcome g c =
     subst (λ l. IsOutcomeOf g.S.System.words g.S.File.Read.remaining g.S.Commands.Read.remaining g.S.Out.Write.contents c.args.system.now l c.report_all-in-Draw.result) (sym c.in-Draw.is)
-    c.report_all-in-Draw.ensures
+    c.report_all-in-Draw.ensures.reported
+
+pub returns-in-Check-clause-named : goal.returns-in-Check-clause-named
+returns-in-Check-clause-named g c =
+    let named = subst (λ ns. AreAmong (map (λ n. n.now) ns) c.report_all.new.empty.items) c.as_slice.ensures.value c.report_all.ensures.named in
+    subst (λ l. AreAmong (reported_files l) c.report_all.new.empty.items) (sym c.in-Check.is) named
+
+pub returns-in-Explain-clause-named : goal.returns-in-Explain-clause-named
+returns-in-Explain-clause-named g c =
+    subst (λ l. AreAmong (reported_files l) c.report_all-in-Explain.new.empty.items) (sym c.in-Explain.is) c.report_all-in-Explain.ensures.named
+
+pub returns-in-Draw-clause-named : goal.returns-in-Draw-clause-named
+returns-in-Draw-clause-named g c =
+    subst (λ l. AreAmong (reported_files l) c.report_all-in-Draw.new.empty.items) (sym c.in-Draw.is) c.report_all-in-Draw.ensures.named
+
+pub returns-in-Verify-clause-named : goal.returns-in-Verify-clause-named
+returns-in-Verify-clause-named g c = subst (AreAmong (reported_files c.args.line.now)) (sym c.requires.none) (All-nil _)
+
+pub returns-in-Edit-clause-named : goal.returns-in-Edit-clause-named
+returns-in-Edit-clause-named g c = subst (AreAmong (reported_files c.args.line.now)) (sym c.requires.none) (All-nil _)

@@ -8,5 +8,5 @@ pub returns-in-Given : goal.returns-in-Given
 returns-in-Given g c =
     let names = map (λ n. n.now) c.args.files.now in
     let said = subst (λ order. AreReported g.S.System.words g.S.File.Read.remaining g.S.Commands.Read.remaining c.args.system.now g.S.Out.Write.contents (IsVerifyRun c.args.settings order) names c.report_all.result)
-    c.as_bytes.ensures.value c.report_all.ensures in
+    c.as_bytes.ensures.value c.report_all.ensures.reported in
     subst (λ o. IsVerifiedBy g.S.System.words g.S.File.Read.remaining g.S.Commands.Read.remaining g.S.Out.Write.contents c.args.system.now c.args.settings o names c.report_all.result) (sym c.in-Given.is) said

@@ -1,79 +1,21 @@
-use Rattle.std.proofs.Common.{[], Err, take, ◌++◌, ◌∙◌, refl, sym, ap, subst, arith}
-use Rattle.std.proofs.KnownBytes.{Consumes-nil, Consumes-trans}
-use Rattle.lin_names.specs.lemmas.Begins.{begins_itself, begins_on}
-use Rattle.lin_formats.specs.Devices.{failures_of, Counts}
-use Rattle.lin_formats.proofs.Taking.{fed_nothing, never_fails, no_read_failed}
-use Rattle.lin_formats.specs.lemmas.Reading.{consumed_end, said_at_end, refused_for, not_refused, not_refused_so, stops_for, longer, fits}
+use Rattle.std.proofs.Common.{sym, subst}
+use Rattle.std.specs.Io.KnownBytes.{Consumes}
+use Rattle.lin_formats.specs.Devices.{device_of}
+use Rattle.lin_formats.specs.Histories.{EndsFor, IsHistoryFor, with_least}
+use Rattle.lin_formats.specs.lemmas.Reading.{limited, limited_ends}
 use Rattle.lin_formats.proofs.inputs.read_history.Goals as goal
 
-pub returns-then-count-eq0-clause-read : goal.returns-then-count-eq0-clause-read
-returns-then-count-eq0-clause-read g c =
-    let v = c.pieces.invariant in
-    let read = c.in-Ok.ensures.bytes in
-    said_at_end c.finish_history.result _ _ _ c.args.keyed c.pieces.names v.bytes v.keyed v.within
-    (consumed_end _ _ _ v.bytes c.read.new.buf c.in-Ok.count v.consumed read.0 c.if-count-eq0.true)
-    (read.1 c.if-count-eq0.true (omega arith))
-    (c.finish_history.ensures v.bytes v.taken)
-
-pub returns-in_err-refusal-clause-too_much : goal.returns-in_err-refusal-clause-too_much
-returns-in_err-refusal-clause-too_much g c = λ e.
-    let v = c.pieces.invariant in
-    let more = longer c.pieces.counter c.in-Ok.count v.bytes c.read.new.buf v.counted c.in-Ok.ensures.bound.0 (omega arith) in
-    let same = rw e at c.from_residual.ensures.1 in
-    let large = c.in_err-refusal.ensures.too_much (ap Err (sym same)) v.bytes v.taken in
-    (v.bytes ++ take c.in-Ok.count c.read.new.buf, Consumes-trans _ _ _ v.bytes _ v.consumed c.in-Ok.ensures.bytes.0, omega arith)
-
-pub returns-in-Some-clause-read : goal.returns-in-Some-clause-read
-returns-in-Some-clause-read g c =
-    let v = c.pieces.invariant in
-    let bytes = v.bytes ++ take c.in-Ok.count c.read.new.buf in
-    let more = longer c.pieces.counter c.in-Ok.count v.bytes c.read.new.buf v.counted c.in-Ok.ensures.bound.0 (omega arith) in (
-      bytes,
-      Consumes-trans _ _ _ v.bytes _ v.consumed c.in-Ok.ensures.bytes.0,
-      fits _ v.bytes _ (omega (arith, v.room, c.read.auto.buf, c.in-Ok.ensures.bound)) v.going (c.in_ok-refusal.ensures.within v.bytes v.taken) _ more.1,
-      stops_for _ _ _ c.in-Some.is c.in_ok-refusal.ensures.stops,
-      refused_for _ _ _ c.args.keyed c.take_piece.new.names bytes _ c.in-Some.is (c.in_ok-refusal.ensures.keyed ∙ v.keyed) (c.in_ok-refusal.ensures.taken v.bytes v.taken),
+pub returns-clause-read : goal.returns-clause-read
+returns-clause-read g c =
+    let read = c.in_ok-history.ensures.read in
+    let history = c.in_ok-history.history in
+    let least = c.args.least in
+    let same = sym c.has_given.ensures.device in
+    let ends = limited_ends least history _ read.3 in (
+      read.0,
+      subst (λ d. Consumes (g.R.Read.remaining (device_of c.args.file.now)) (g.R.Read.remaining d) read.0) same read.1,
+      read.2,
+      subst (λ h. EndsFor h (g.R.Read.remaining (device_of c.has_given.new.self))) (sym c.with_least.ensures) (subst (λ d. EndsFor (with_least least history) (g.R.Read.remaining d)) same ends),
+      subst (IsHistoryFor least c.args.keyed c.read_stream.new.names read.0) (sym c.with_least.ensures) (limited least c.args.keyed c.read_stream.new.names read.0 history read.4),
+      (history, read.4, c.has_given.ensures.noted),
     )
-
-pub pieces-preserved : goal.pieces-preserved
-pieces-preserved g c =
-    let v = c.pieces.invariant in
-    let more = longer c.pieces.counter c.in-Ok.count v.bytes c.read.new.buf v.counted c.in-Ok.ensures.bound.0 (omega arith) in
-    record {
-      bytes = v.bytes ++ take c.in-Ok.count c.read.new.buf;
-      consumed = Consumes-trans _ _ _ v.bytes _ v.consumed c.in-Ok.ensures.bytes.0;
-      begun = begins_on _ _ _ v.begun c.in_ok-refusal.ensures.begun;
-      taken = not_refused _ _ _ c.in_default-2.is (c.in_ok-refusal.ensures.taken v.bytes v.taken);
-      going = λ _. not_refused_so _ _ c.in_default-2.is c.in_ok-refusal.ensures.goes_on;
-      within = fits _ v.bytes _ (omega (arith, v.room, c.read.auto.buf, c.in-Ok.ensures.bound)) v.going (c.in_ok-refusal.ensures.within v.bytes v.taken) _ more.1;
-      keyed = c.in_ok-refusal.ensures.keyed ∙ v.keyed;
-      room = c.read.auto.buf ∙ v.room;
-      counted = more.0;
-      uncounted = c.in-Ok.ensures.counts ∙ v.uncounted;
-    }
-
-pub pieces-init : goal.pieces-init
-pieces-init g c = record {
-  bytes = [];
-  consumed = Consumes-nil _;
-  begun = begins_itself _;
-  taken = fed_nothing _ _ _ (λ m reading. c.new-follow.ensures.sees m (reading.0 ∙ c.new-follow.ensures.keyed)) c.new-follow.ensures.ready c.new-events.ensures.items;
-  going = λ some. absurd (omega (arith, some));
-  within = omega arith;
-  keyed = c.new-follow.ensures.keyed;
-  room = refl;
-  counted = omega arith;
-  uncounted = refl;
-}
-
-pub returns-then-count-eq0-clause-too_much : goal.returns-then-count-eq0-clause-too_much
-returns-then-count-eq0-clause-too_much g c = λ e. absurd (never_fails _ _ _ (c.finish_history.ensures c.pieces.invariant.bytes c.pieces.invariant.taken) e)
-
-pub returns-then-count-eq0-clause-counts : goal.returns-then-count-eq0-clause-counts
-returns-then-count-eq0-clause-counts g c =
-    let v = c.pieces.invariant in
-    subst (λ b. Counts b (failures_of c.args.file.now) (failures_of c.read.new.self)) (sym (no_read_failed _ _ (c.finish_history.ensures v.bytes v.taken)))
-    (c.in-Ok.ensures.counts ∙ v.uncounted)
-
-pub returns-then-count-eq0-clause-readers : goal.returns-then-count-eq0-clause-readers
-returns-then-count-eq0-clause-readers g c = λ e. never_fails _ _ _ (c.finish_history.ensures c.pieces.invariant.bytes c.pieces.invariant.taken) e

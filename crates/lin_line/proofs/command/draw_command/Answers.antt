@@ -2,7 +2,7 @@ use Rattle.std.proofs.Common.{ap, ap₂, codes, ◌||◌, ◌≡◌, ◌∙◌}
 use Rattle.std.proofs.lemmas.Result.{IfOk-weaker}
 use Rattle.clap.specs.Words.{app_of, new_app, with_rule}
 use Rattle.clap.specs.Simple.{app_of_fields}
-use Rattle.lin_line.specs.CommandLine.{with_options}
+use Rattle.lin_line.specs.CommandLine.{with_report_options}
 use Rattle.clap.specs.declared.builder.value_parser.ValueParser.TheVariants.{Names}
 use Rattle.lin_line.proofs.command.draw_command.Goals as goal
 
@@ -15,6 +15,6 @@ returns c =
     let a1 = c.in_ok-command.ensures.shape c.key_option.ensures.local.1 ∙ ap₂ with_rule a0 c.key_option.ensures.rule in
     let l1 = c.in_ok-command.ensures.globals ∙ ap₂ (λ a b. a || b) l0 c.key_option.ensures.local.1 in
     record {
-      app = IfOk-weaker c.with_options.result _ _ (λ command h. h ∙ ap (with_options (Names c.args.kinds)) a1) c.with_options.ensures.app;
-      local = IfOk-weaker c.with_options.result _ _ (λ command h. h ∙ l1) c.with_options.ensures.local;
+      app = IfOk-weaker c.with_report_options.result _ _ (λ command h. h ∙ ap (with_report_options (Names c.args.kinds)) a1) c.with_report_options.ensures.app;
+      local = IfOk-weaker c.with_report_options.result _ _ (λ command h. h ∙ l1) c.with_report_options.ensures.local;
     }

@@ -1,98 +1,30 @@
-use Rattle.std.proofs.Common.{[], rules, Err, Bool, ℕ, List, false, take, ◌++◌, ◌∙◌, refl, sym, ap, subst, arith, true≢false}
-use Rattle.std.proofs.KnownBytes.{Consumes-trans}
-use Rattle.lin_formats.specs.lemmas.Reading.{consumed_end, ends_at_end, refused_for, not_refused, not_refused_so, stops_for, longer, fits}
-use Rattle.lin_formats.specs.Histories.{IsHistory}
-use Rattle.lin_formats.specs.Intakes.{IsFed}
-use Rattle.lin_formats.specs.declared.inputs.History.{History}
-use Rattle.lin_formats.specs.declared.inputs.History.TheVariants.{Whole, Refused}
-use Rattle.lin_places.specs.Places.{Marked}
-use Rattle.lin_names.specs.lemmas.Begins.{begins_itself, begins_on}
+use Rattle.std.proofs.Common.{sym, subst}
+use Rattle.std.specs.Io.KnownBytes.{Consumes}
+use Rattle.lin_formats.specs.Devices.{device_of}
+use Rattle.lin_formats.specs.Histories.{EndsFor, IsHistoryFor, with_least}
+use Rattle.lin_formats.specs.lemmas.Reading.{limited, limited_ends}
 use Rattle.lin_reading.specs.Hints.{IsPairTold}
-use Rattle.lin_reading.proofs.Later.{fed_later, reading_before, refused_later}
+use Rattle.lin_reading.proofs.Limited.{pair_limited}
 use Rattle.lin_reading.proofs.reading.read_placed.Goals as goal
 
--- where the text came to its end, nothing is told
-none_told : (keyed : Bool) (bytes : List ℕ) (marked : Marked) (history : History) → IsPairTold keyed bytes marked history false
-none_told keyed bytes marked (Whole events) = refl
-none_told keyed bytes marked (Refused refusal) = λ told. absurd (true≢false (sym told))
-
-pub pieces-init : goal.pieces-init
-pieces-init g c = record {
-  bytes = [];
-  begun = begins_itself c.args.names.now;
-  consumed = search rules;
-  taken = subst (IsFed c.args.names.now c.new-follow.result []) (sym c.new-events.ensures.items)
-      (record { sees = λ m is. c.new-follow.ensures.sees m (is.0 ∙ c.new-follow.ensures.keyed); none_ready = c.new-follow.ensures.ready; within = omega arith });
-  going = λ some. absurd (omega arith);
-  within = omega arith;
-  keyed = c.new-follow.ensures.keyed;
-  room = refl;
-  counted = omega arith;
-  tail = c.new-tail.ensures;
-  marks = λ m is. c.new-places.ensures.marks m is.0;
-  keyed_places = c.new-places.ensures.keyed;
-  uncounted = refl;
-}
-
-pub returns-then-count-eq0-clause-read : goal.returns-then-count-eq0-clause-read
-returns-then-count-eq0-clause-read g c =
-    let v = c.pieces.invariant in
-    let read = c.in-Ok.ensures.bytes in
-    let history = c.in_ok-history.history in (
-      v.bytes,
-      consumed_end _ _ _ v.bytes c.read.new.buf c.in-Ok.count v.consumed read.0 c.if-count-eq0.true,
-      v.within,
-      ends_at_end history _ (read.1 c.if-count-eq0.true (omega arith)),
-      subst (λ k. IsHistory k c.pieces.names v.bytes history) v.keyed (c.in_ok-history.ensures v.bytes v.taken),
-      v.marks,
-      v.keyed_places,
-      none_told _ _ _ history,
+pub returns-clause-read : goal.returns-clause-read
+returns-clause-read g c =
+    let read = c.in_ok-history.ensures.read in
+    let history = c.in_ok-history.history in
+    let placed = c.in_ok-history.placed in
+    let least = c.args.least in
+    let keyed = c.args.keyed in
+    let names = c.read_any.new.names in
+    let same = sym c.has_given.ensures.device in
+    let told = sym c.with_least.ensures in
+    let ends = limited_ends least history _ read.3 in (
+      read.0,
+      subst (λ d. Consumes (g.R.Read.remaining (device_of c.args.file.now)) (g.R.Read.remaining d) read.0) same read.1,
+      read.2,
+      subst (λ h. EndsFor h (g.R.Read.remaining (device_of c.has_given.new.self))) told (subst (λ d. EndsFor (with_least least history) (g.R.Read.remaining d)) same ends),
+      subst (IsHistoryFor least keyed names read.0) told (limited least keyed names read.0 history read.4),
+      read.5,
+      read.6,
+      subst (λ h. IsPairTold keyed read.0 placed.places h placed.is_pair) told (pair_limited keyed read.0 placed.places least history placed.is_pair read.7),
+      (history, read.4, c.has_given.ensures.noted),
     )
-
-pub returns-in_err-refusal-clause-too_much : goal.returns-in_err-refusal-clause-too_much
-returns-in_err-refusal-clause-too_much g c = λ e.
-    let v = c.pieces.invariant in
-    let more = longer c.pieces.counter c.in-Ok.count v.bytes c.read.new.buf v.counted c.in-Ok.ensures.bound.0 (omega arith) in
-    let same = rw e at c.from_residual-in_err-refusal.ensures.1 in
-    let large = c.in_err-refusal.ensures.too_much (ap Err (sym same)) v.bytes v.taken in
-    (v.bytes ++ take c.in-Ok.count c.read.new.buf, Consumes-trans _ _ _ v.bytes _ v.consumed c.in-Ok.ensures.bytes.0, omega arith)
-
-pub returns-in-Some-clause-read : goal.returns-in-Some-clause-read
-returns-in-Some-clause-read g c =
-    let v = c.pieces.invariant in
-    let bytes = v.bytes ++ take c.in-Ok.count c.read.new.buf in
-    let more = longer c.pieces.counter c.in-Ok.count v.bytes c.read.new.buf v.counted c.in-Ok.ensures.bound.0 (omega arith) in
-    let first = c.in_ok-refusal.ensures.begun in
-    let second = c.in_ok-feed.ensures.begun in (
-      bytes,
-      Consumes-trans _ _ _ v.bytes _ v.consumed c.in-Ok.ensures.bytes.0,
-      fits _ v.bytes _ (omega (arith, v.room, c.read.auto.buf, c.in-Ok.ensures.bound)) v.going (c.in_ok-refusal.ensures.within v.bytes v.taken) _ more.1,
-      stops_for _ _ _ c.in-Some.is c.in_ok-refusal.ensures.stops,
-      refused_later _ _ second c.args.keyed bytes _ (refused_for _ _ _ c.args.keyed _ bytes _ c.in-Some.is (c.in_ok-refusal.ensures.keyed ∙ v.keyed) (c.in_ok-refusal.ensures.taken v.bytes v.taken)),
-      λ m is. c.in_ok-feed.ensures.feeds.1 m is.1 v.bytes (v.marks m (reading_before _ _ (begins_on _ _ _ first second) c.args.keyed m is)),
-      c.in_ok-feed.ensures.feeds.0 ∙ v.keyed_places,
-      λ told. c.is_of_two_parts-is_pair.ensures told bytes (c.in_ok-feed-2.ensures v.bytes v.tail),
-    )
-
-pub pieces-preserved : goal.pieces-preserved
-pieces-preserved g c =
-    let v = c.pieces.invariant in
-    let more = longer c.pieces.counter c.in-Ok.count v.bytes c.read.new.buf v.counted c.in-Ok.ensures.bound.0 (omega arith) in
-    let first = c.in_ok-refusal.ensures.begun in
-    let second = c.in_ok-feed.ensures.begun in
-    let both = begins_on _ _ _ first second in
-    record {
-      bytes = v.bytes ++ take c.in-Ok.count c.read.new.buf;
-      begun = begins_on _ _ _ v.begun both;
-      consumed = Consumes-trans _ _ _ v.bytes _ v.consumed c.in-Ok.ensures.bytes.0;
-      taken = fed_later _ _ second _ _ _ (not_refused _ _ _ c.in_default-refusal.is (c.in_ok-refusal.ensures.taken v.bytes v.taken));
-      going = λ _. not_refused_so _ _ c.in_default-refusal.is c.in_ok-refusal.ensures.goes_on;
-      within = fits _ v.bytes _ (omega (arith, v.room, c.read.auto.buf, c.in-Ok.ensures.bound)) v.going (c.in_ok-refusal.ensures.within v.bytes v.taken) _ more.1;
-      keyed = c.in_ok-refusal.ensures.keyed ∙ v.keyed;
-      room = c.read.auto.buf ∙ v.room;
-      counted = more.0;
-      tail = c.in_ok-go_on.ensures v.bytes v.tail;
-      marks = λ m is. c.in_ok-feed.ensures.feeds.1 m is.1 v.bytes (v.marks m (reading_before _ _ both c.args.keyed m is));
-      keyed_places = c.in_ok-feed.ensures.feeds.0 ∙ v.keyed_places;
-      uncounted = c.in-Ok.ensures.counts ∙ v.uncounted;
-    }

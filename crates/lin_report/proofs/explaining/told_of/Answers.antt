@@ -5,7 +5,7 @@ use Rattle.lin_events.specs.Meters.{ticked}
 use Rattle.lin_answers.specs.Answers.{IsAnswer}
 use Rattle.lin_answers.specs.Edits.{Present}
 use Rattle.lin_explain.specs.Explained.{Explains, scope_of}
-use Rattle.lin_explain.specs.Work.{least_steps}
+use Rattle.lin_explain.specs.Work.{least_steps, most_passes}
 use Rattle.lin_session.specs.Sessions.{Standing}
 use Rattle.lin_report.proofs.explaining.told_of.Goals as goal
 use Rattle.lin_report.proofs.explaining.told_of.Goals.{After-explanation_of-told, After-keep_meter, After-present}
@@ -48,9 +48,9 @@ returns-clause-most c =
     let step = goal.at.returns-clause-most c in
     let is = ap (λ (s : Standing). s.meter.steps) (same_is step.After-keep_meter) in
     let first = ap (λ (m : Meter). m.steps) c.take_meter-meter.ensures.counted in
-    subst (λ n. n ≤ c.args.session.now.meter.steps + 10 * length c.args.session.now.present.history) (sym is)
-    (subst (λ (now : Present). c.explanation_of-told.new.meter.steps ≤ c.args.session.now.meter.steps + 10 * length now.history) (present_is step.After-present)
-    (subst (λ n. c.explanation_of-told.new.meter.steps ≤ n + 10 * length c.present.result.history) first c.explanation_of-told.ensures.most))
+    subst (λ n. n ≤ c.args.session.now.meter.steps + most_passes c.args.answer.now * length c.args.session.now.present.history) (sym is)
+    (subst (λ (now : Present). c.explanation_of-told.new.meter.steps ≤ c.args.session.now.meter.steps + most_passes c.args.answer.now * length now.history) (present_is step.After-present)
+    (subst (λ n. c.explanation_of-told.new.meter.steps ≤ n + most_passes c.args.answer.now * length c.present.result.history) first c.explanation_of-told.ensures.most))
 
 pub returns-clause-scans : goal.returns-clause-scans
 returns-clause-scans c =

@@ -4,7 +4,7 @@ use Rattle.lin_history.specs.Sees.{is_fault}
 use Rattle.std.specs.Io.KnownBytes.{Consumes}
 use Rattle.lin_formats.specs.Devices.{device_of, failures_of}
 use Rattle.lin_formats.specs.Intakes.{IsFed}
-use Rattle.lin_formats.proofs.inputs.read_history.Given as goal
+use Rattle.lin_formats.proofs.inputs.read_stream.Given as goal
 
 abbrev pub invariant-pieces : goal.invariant-pieces
 invariant-pieces g l = record {

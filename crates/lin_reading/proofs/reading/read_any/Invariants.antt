@@ -7,7 +7,7 @@ use Rattle.lin_formats.specs.Devices.{device_of, failures_of}
 use Rattle.lin_formats.specs.Intakes.{IsFed}
 use Rattle.lin_places.specs.Places.{Marks}
 use Rattle.lin_reading.specs.inner.Tails.{IsTail}
-use Rattle.lin_reading.proofs.reading.read_placed.Given as goal
+use Rattle.lin_reading.proofs.reading.read_any.Given as goal
 
 abbrev pub invariant-pieces : goal.invariant-pieces
 invariant-pieces g l = record {
