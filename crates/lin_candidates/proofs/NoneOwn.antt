@@ -81,3 +81,4 @@ module _ (h : List Event) (at : ℕ) where
     none_own (Form.Split first second n m) own is = own
     none_own (Form.Late earlier add read n other) own is = own
     none_own (Form.Twice first second) own is = own
+    none_own (Form.Within calls from to) own is = own

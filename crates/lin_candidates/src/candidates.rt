@@ -2,6 +2,7 @@
 use crate::balances::{is_spender_named, preceded, remaining, spent};
 use crate::crossings::crossed;
 use crate::endings::{Ending, Operation};
+use crate::within::within;
 use lin_certificates::Certificate;
 use lin_events::{Call, Item, OutOfMemory, Val};
 use lin_objects::Kind;
@@ -30,10 +31,11 @@ pub enum Form {
     Late,
     Twice,
     Counted,
+    Within,
 }
 
 /// The forms, in the order in which they are wanted.
-pub const FORMS: [Form; 16] = [
+pub const FORMS: [Form; 17] = [
     Form::Shape,
     Form::Unwritten,
     Form::Overwritten,
@@ -50,6 +52,7 @@ pub const FORMS: [Form; 16] = [
     Form::Late,
     Form::Twice,
     Form::Counted,
+    Form::Within,
 ];
 
 /// A value that nothing else may leave, of an operation that needs it.
@@ -545,11 +548,17 @@ fn twice(operations: &[Operation], target: &Operation) -> Option<Certificate> {
 }
 
 /// What may be a certificate of a lock.
-fn of_mutex(form: Form, operations: &[Operation], target: &Operation) -> Option<Certificate> {
+fn of_mutex(
+    alloc: Global,
+    form: Form,
+    operations: &[Operation],
+    target: &Operation,
+) -> Result<Option<Certificate>, OutOfMemory> {
     match form {
-        Form::Twice => twice(operations, target),
-        Form::Counted => Some(Certificate::Counted),
-        _ => None,
+        Form::Twice => Ok(twice(operations, target)),
+        Form::Counted => Ok(Some(Certificate::Counted)),
+        Form::Within => within(alloc, operations, target),
+        _ => Ok(None),
     }
 }
 
@@ -566,7 +575,7 @@ pub fn candidate(
         Kind::Fifo => of_fifo(alloc, form, operations, target),
         Kind::Bag => of_bag(alloc, form, operations, target),
         Kind::Set => of_set(alloc, form, operations, target),
-        Kind::Mutex => Ok(of_mutex(form, operations, target)),
+        Kind::Mutex => of_mutex(alloc, form, operations, target),
     }
 }
 
@@ -578,6 +587,8 @@ fn is_named(operations: &[Operation], target: &Operation) -> bool {
             && operation.call == target.call
             && operation.taken() == target.taken()
             && operation.counts() == target.counts()
+            && (operation.returned().is_some() == target.returned().is_some()
+                || target.added().is_some())
         {
             alike = alike.saturating_add(1);
         }

@@ -24,6 +24,8 @@ const FEW: usize = 16;
 fn most_tried(form: Form) -> usize {
     match form {
         Form::Spent | Form::Preceded | Form::Remaining => FEW,
+        // only what the failing operation does makes a stretch hold that didn't
+        Form::Within => 0,
         _ => LIMIT,
     }
 }

@@ -7,5 +7,6 @@ mod crossings;
 mod endings;
 mod finding;
 mod own;
+mod within;
 
 pub use finding::find_certificate;

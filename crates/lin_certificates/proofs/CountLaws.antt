@@ -1,22 +1,20 @@
 -- Queues have no legal order where more items were put in for certain than can have been taken out.
-use Rattle.std.proofs.Common.{◌≡◌, ◌≢◌, ◌⊎◌, ◌<◌, ◌≤◌, ◌+◌, ℕ, List, [], ◌∷◌, ◌++◌, AllPairs, Contains, length, inl, inr, refl, sym, ap, subst, ◌∙◌, arith}
-use Rattle.std.proofs.lemmas.Bool.{cases_lt}
+use Rattle.std.proofs.Common.{◌≡◌, ◌≢◌, ◌<◌, ℕ, List, [], ◌∷◌, ◌++◌, AllPairs, Contains, length, inl, inr, refl, sym, subst, ◌∙◌, arith}
 use Rattle.std.proofs.lemmas.List.Elements.{Contains-append_left, Contains-append_right}
-use Rattle.std.proofs.lemmas.List.Kept.{AllPairs-cons}
 use Rattle.lin_events.specs.declared.items.Item.{Item}
-use Rattle.lin_lists.specs.lemmas.Elements.{all_of, first_or_rest, nothing_in, pairs_left}
+use Rattle.lin_lists.specs.lemmas.Elements.{first_or_rest, nothing_in, pairs_left}
 use Rattle.lin_events.specs.declared.calls.Call.{Call}
 use Rattle.lin_events.specs.declared.calls.Call.TheVariants.{Add, Enqueue, Dequeue}
 use Rattle.lin_events.specs.declared.calls.Reply.{Reply}
 use Rattle.lin_events.specs.declared.calls.Reply.TheVariants as Replied
-use Rattle.lin_events.specs.declared.calls.Val.TheVariants.{Nil, Item as Held}
+use Rattle.lin_events.specs.declared.calls.Val.TheVariants.{Nil}
 use Rattle.lin_events.specs.declared.events.Event.{Event}
 use Rattle.lin_objects.specs.declared.kinds.Kind.{Kind}
 use Rattle.lin_objects.specs.declared.states.State.{State}
 use Rattle.lin_objects.specs.Steps.{Step, start}
 use Rattle.lin_orders.specs.declared.placed.Placed.{Placed}
 use Rattle.lin_orders.specs.Linearizable.{IsLegalOrderAs, Runs}
-use Rattle.lin_orders.specs.Orders.{IsBefore, IsCall}
+use Rattle.lin_orders.specs.Orders.{IsCall}
 use Rattle.lin_orders.specs.lemmas.OneEnd.{one_call}
 use Rattle.lin_orders.specs.lemmas.Running.{runs_split}
 use Rattle.lin_failures.specs.Adding.{Adds}
@@ -25,7 +23,7 @@ use Rattle.lin_failures.specs.lemmas.Conflicting.{parted}
 use Rattle.lin_failures.specs.lemmas.Counting.{Changes, Puts, TakesOut, chosen_least, chosen_most, counted}
 use Rattle.lin_failures.specs.lemmas.QueueConflicting.{takes_call}
 use Rattle.lin_failures.specs.lemmas.Standing.{At, at_here, at_left, at_within, left_at, not_failed, ok_there, one_place, place_of, reply_there, stands_ahead, stands_in}
-use Rattle.lin_certificates.specs.Words.{AddsSome, MayTakeAhead, Returned}
+use Rattle.lin_certificates.specs.Words.{MayTakeAhead}
 use Rattle.lin_certificates.specs.Certificates.{IsRemaining, PutsBefore}
 use Rattle.lin_certificates.proofs.Numbers.{at_least, at_most}
 

@@ -3,7 +3,7 @@ use Rattle.std.proofs.Common.{◌≡◌, ◌≢◌, ◌⊎◌, ◌<◌, ◌≤�
 use Rattle.std.proofs.lemmas.Bool.{cases_lt}
 use Rattle.std.proofs.lemmas.List.Kept.{AllPairs-cons}
 use Rattle.lin_events.specs.declared.items.Item.{Item}
-use Rattle.lin_lists.specs.lemmas.Elements.{all_of, first_or_rest, nothing_in, pairs_left}
+use Rattle.lin_lists.specs.lemmas.Elements.{all_of, first_or_rest, pairs_left}
 use Rattle.lin_events.specs.declared.calls.Call.{Call}
 use Rattle.lin_events.specs.declared.calls.Call.TheVariants.{Enqueue, Dequeue}
 use Rattle.lin_events.specs.declared.calls.Reply.{Reply}

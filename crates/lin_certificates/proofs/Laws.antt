@@ -9,7 +9,7 @@ use Rattle.lin_failures.specs.Conflicts.{IsRegister}
 use Rattle.lin_certificates.specs.Certificates.{Certifies, CertifiesBag, CertifiesFifo, CertifiesMutex, CertifiesRegister, CertifiesSet}
 use Rattle.lin_certificates.specs.declared.certificate.Certificate.{Certificate}
 use Rattle.lin_certificates.specs.declared.certificate.Certificate.TheVariants as Form
-use Rattle.lin_certificates.proofs.LockLaws.{twice, unbalanced}
+use Rattle.lin_certificates.proofs.LockLaws.{twice, unbalanced, within}
 use Rattle.lin_certificates.proofs.QueueLaws.{bag_inside, bag_remaining, bag_taken, fifo_inside, fifo_passed, fifo_remaining, fifo_taken}
 use Rattle.lin_certificates.proofs.FrontLaws.{preceded}
 use Rattle.lin_certificates.proofs.RegisterLaws.{crossed, no_members, overwritten, unwritten}
@@ -50,6 +50,7 @@ module _ (h : List Event) (order : List Placed) where
   of_mutex : IsLegalOrderAs Mutex h order → (c : Certificate) → CertifiesMutex h c → ⊥
   of_mutex legal (Form.Twice first second) holds = twice h order legal first second holds
   of_mutex legal Form.Counted holds = unbalanced h order legal holds
+  of_mutex legal (Form.Within calls from to) holds = within h order legal calls from to holds
   of_mutex legal c holds = absurd holds
 
   pub excluded : (kind : Kind) (c : Certificate) → Certifies h kind c → IsLegalOrderAs kind h order → ⊥

@@ -9,5 +9,6 @@ pub mod CountLaws
 pub mod FrontLaws
 pub mod LockLaws
 pub mod Laws
+pub mod Cutting
 pub mod Deciding
 pub mod Overwriting

@@ -1,5 +1,6 @@
 -- Locks have no legal order of operations that a certificate holds of.
-use Rattle.std.proofs.Common.{◌≡◌, ◌⊎◌, ◌<◌, ◌≤◌, ◌+◌, ℕ, zero, suc, Bool, true, false, List, [], ◌∷◌, AllPairs, Contains, length, inl, inr, refl, sym, ap, subst, ◌∙◌, arith}
+use Rattle.std.proofs.Common.{if◌then◌else◌, nat_eq, ◌≡◌, ◌⊎◌, ◌<◌, ◌≤◌, ◌+◌, ℕ, zero, suc, Bool, true, false, List, [], ◌∷◌, AllPairs, Contains, length, inl, inr, refl, sym, ap, subst, ◌∙◌, arith}
+use Rattle.std.proofs.lemmas.Bool.Decides.{Decides-eqb}
 use Rattle.lin_events.specs.declared.calls.Call.{Call}
 use Rattle.lin_events.specs.declared.calls.Call.TheVariants.{Acquire, Release}
 use Rattle.lin_events.specs.declared.calls.Reply.{Reply}
@@ -16,8 +17,9 @@ use Rattle.lin_failures.specs.lemmas.Counting.{Chosen, chosen_empty, chosen_leas
 use Rattle.lin_certificates.specs.Words.{IsOfCalls, Returned}
 use Rattle.lin_certificates.specs.declared.words.Calls.{Calls}
 use Rattle.lin_certificates.specs.declared.words.Calls.TheVariants.{Acquires, Releases}
-use Rattle.lin_certificates.specs.Certificates.{CanCall, DidCall, IsCounted, IsTwice, IsTwiceIn}
+use Rattle.lin_certificates.specs.Certificates.{CanCall, CanWithin, DidCall, DidWithin, IsCounted, IsMoreWithin, IsTwice, IsTwiceIn, IsWithin, spare_release}
 use Rattle.lin_failures.specs.lemmas.Standing.{At, not_failed, ok_there, place_of, stands_ahead}
+use Rattle.lin_certificates.proofs.Cutting.{Segment, segment}
 use Rattle.lin_certificates.proofs.Numbers.{at_least, at_most}
 
 -- the lock is held or free, and a step turns that round
@@ -142,15 +144,15 @@ module _ (h : List Event) where
   held_as (Held true) = 1
   held_as s = 0
 
+  at_most_one : (u : State) → held_as u ≤ 1
+  at_most_one (Held true) = omega arith
+  at_most_one (Held false) = omega arith
+  at_most_one u = omega arith
+
   -- the lock was acquired as often as it was released, and once more where it is held
   counted : (s t : State) (order : List Placed) → AllPairs (λ x y. x.at ≡ y.at → ⊥) order → Runs (Step Mutex) h s order t
       → (ups : List ℕ) × (downs : List ℕ) × Chosen (Makes Acquire) order ups × Chosen (Makes Release) order downs × (held_as s + length ups ≡ held_as t + length downs) × (held_as t ≤ 1)
-  counted s t [] once run = ([], [], chosen_empty (Makes Acquire), chosen_empty (Makes Release), ap (λ u. held_as u + 0) run, small t)
-    where
-      small : (u : State) → held_as u ≤ 1
-      small (Held true) = omega arith
-      small (Held false) = omega arith
-      small u = omega arith
+  counted s t [] once run = ([], [], chosen_empty (Makes Acquire), chosen_empty (Makes Release), ap (λ u. held_as u + 0) run, at_most_one t)
   counted s t (q ∷ order) once run =
       let rest = counted run.1 t order (pairs_rest (λ x y. x.at ≡ y.at → ⊥) q order once) run.4 in
       let sum = rest.4 in
@@ -219,3 +221,52 @@ module _ (h : List Event) where
           | inl less ↦ omega (arith, sum, few_up, many_down, less)
           | inr less ↦ omega (arith, sum, small, few_down, many_up, less)
         ]
+
+    -- between the two places the lock was acquired and released in turn
+    module _ (from to : ℕ) where
+      can_within : (sort : Calls) (call : Call) → IsOfCalls sort call → (g : Segment h Mutex order legal from to) (p : Placed) → Contains g.part p → Makes call p → CanWithin h sort from to p.at
+      can_within sort call of_it g p there makes = (can sort call of_it p (g.in_order p there) makes, (g.can p there).0, (g.can p there).1)
+
+      did_within : (sort : Calls) (call : Call) → ((it : Call) → IsOfCalls sort it → it ≡ call) → (g : Segment h Mutex order legal from to) (at : ℕ) → DidWithin h sort from to at
+          → (p : Placed) × Contains g.part p × Makes call p × (p.at ≡ at)
+      did_within sort call one g at did =
+          (record { at = at; reply = did.0.2 }, g.did at did.0.1 did.0.2 did.0.4 did.1 did.2, subst (IsCall h at) (one did.0.0 did.0.5) did.0.3, refl)
+
+      acquired_oftener : IsMoreWithin h Acquires Releases from to 1 → ⊥
+      acquired_oftener is = segment h Mutex order legal from to by
+        where
+          by : Segment h Mutex order legal from to → ⊥
+          by g =
+              let all = counted g.before g.after g.part g.once g.run in
+              let sum = all.4 in
+              let small = all.5 in
+              let few = chosen_most (Makes Release) g.part all.1 all.3 (CanWithin h Releases from to) (can_within Releases Release refl g) is.can (at_most (CanWithin h Releases from to) is.can is.all_can) in
+              let many = chosen_least (Makes Acquire) g.part all.0 all.2 (DidWithin h Acquires from to) (did_within Acquires Acquire (λ it same. same) g) is.did (at_least (DidWithin h Acquires from to) is.did is.all_did) in
+              let more = is.more in
+              omega (arith, sum, small, few, many, more)
+
+      -- where the first place is the beginning, the lock is free there
+      free_first : (s : State) → (from ≡ 0 → s ≡ Held false) → held_as s ≤ spare_release from
+      free_first s free = by (nat_eq from 0) refl
+        where
+          by : (b : Bool) → nat_eq from 0 ≡ b → held_as s ≤ (if b then 0 else 1)
+          by true first = let is : held_as s ≡ 0 = ap held_as (free ((Decides-eqb from 0).0 first)) in omega (arith, is)
+          by false later = at_most_one s
+
+      released_oftener : IsMoreWithin h Releases Acquires from to (spare_release from) → ⊥
+      released_oftener is = segment h Mutex order legal from to by
+        where
+          by : Segment h Mutex order legal from to → ⊥
+          by g =
+              let all = counted g.before g.after g.part g.once g.run in
+              let sum = all.4 in
+              let small = free_first g.before g.begins in
+              let few = chosen_most (Makes Acquire) g.part all.0 all.2 (CanWithin h Acquires from to) (can_within Acquires Acquire refl g) is.can (at_most (CanWithin h Acquires from to) is.can is.all_can) in
+              let many = chosen_least (Makes Release) g.part all.1 all.3 (DidWithin h Releases from to) (did_within Releases Release (λ it same. same) g) is.did (at_least (DidWithin h Releases from to) is.did is.all_did) in
+              let more = is.more in
+              omega (arith, sum, small, few, many, more)
+
+    pub within : (calls : Calls) (from to : ℕ) → IsWithin h calls from to → ⊥
+    within Acquires from to is = acquired_oftener from to is
+    within Releases from to is = released_oftener from to is
+    within calls from to is = absurd is

@@ -10,7 +10,7 @@ use Rattle.lin_events.specs.declared.events.Event.{Event}
 use Rattle.lin_orders.specs.Orders.{IsCall}
 use Rattle.lin_certificates.specs.Words.{Exactly, IsLastOf, IsOfWhich}
 use Rattle.lin_certificates.specs.declared.words.Which.{Which}
-use Rattle.lin_certificates.specs.declared.words.Which.TheVariants.{Counts, CountsBut, CountsBelow, Returned, ReturnedBut, ReturnedBefore, OpenBut, TakesAhead}
+use Rattle.lin_certificates.specs.declared.words.Which.TheVariants.{Counts, CountsBut, CountsBelow, Returned, ReturnedBut, ReturnedBefore, ReturnedWithin, CountsWithin, OpenBut, TakesAhead}
 
 -- what is one of these is an operation
 which_call : (h : List Event) (which : Which) (at : ℕ) → IsOfWhich h which at → (call : Call) × IsCall h at call
@@ -20,6 +20,8 @@ which_call h (CountsBelow calls place) at is = (is.0.0, is.0.1)
 which_call h (Returned answers) at is = (is.0, is.3)
 which_call h (ReturnedBut answers but) at is = (is.1.0, is.1.3)
 which_call h (ReturnedBefore answers place) at is = (is.0.0, is.0.3)
+which_call h (ReturnedWithin answers from to) at is = (is.0.0, is.0.3)
+which_call h (CountsWithin calls from to) at is = (is.0.0, is.0.1)
 which_call h (OpenBut calls but) at is = (is.1.0, is.1.1)
 which_call h (TakesAhead dequeue) at is = (is.1.0, is.1.1)
 

@@ -1,6 +1,5 @@
 -- A register has no legal order where it was taken from a value more often than it can have come to it.
-use Rattle.std.proofs.Common.{◌≡◌, ◌≢◌, ◌⊎◌, ◌≤◌, ◌<◌, ◌+◌, ℕ, Bool, true, false, cond, List, [], ◌∷◌, AllPairs, Contains, length, inl, inr, refl, sym, ap, subst, ◌∙◌, arith}
-use Rattle.lin_events.specs.declared.items.Item.{Item}
+use Rattle.std.proofs.Common.{◌≡◌, ◌≢◌, ◌⊎◌, ◌≤◌, ◌+◌, ℕ, Bool, true, false, List, [], ◌∷◌, AllPairs, length, inl, inr, refl, sym, ap, subst, ◌∙◌, arith}
 use Rattle.lin_events.specs.Items.{item_eq}
 use Rattle.lin_events.specs.Sameness.{Decides-item_eq}
 use Rattle.lin_events.specs.declared.calls.Call.{Call}

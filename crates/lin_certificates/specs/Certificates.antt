@@ -1,5 +1,5 @@
 -- What each form of a certificate says of the operations of one object. None of these has a legal order.
-use Rattle.std.specs.Prelude.{◌≡◌, ◌≢◌, ◌⊎◌, ◌<◌, ◌≤◌, ◌+◌, ℕ, List, Option, None, Some}
+use Rattle.std.specs.Prelude.{◌≡◌, ◌≢◌, ◌⊎◌, ◌<◌, ◌≤◌, ◌+◌, ℕ, List, Option, None, Some, if◌then◌else◌, nat_eq}
 use Rattle.lin_events.specs.declared.items.Item.{Item}
 use Rattle.lin_events.specs.declared.calls.Call.TheVariants.{Dequeue}
 use Rattle.lin_events.specs.declared.calls.Reply.TheVariants as Replied
@@ -228,6 +228,32 @@ pub record IsCounted (h : List Event) : Type 0 where
   pub all_released : Exactly released (DidCall h Releases)
   pub more : (can_acquire < released) ⊎ (can_release + 1 < acquired)
 
+-- the operation is ok, its call is of this sort, it was called at the one place or behind it, and had returned before the other
+abbrev pub DidWithin : List Event → Calls → ℕ → ℕ → ℕ → Type 0
+DidWithin h calls from to at = DidCall h calls at × (from ≤ at) × IsBefore h at to
+
+-- it counts, was called before the other place, and hadn't returned before the one
+abbrev pub CanWithin : List Event → Calls → ℕ → ℕ → ℕ → Type 0
+CanWithin h calls from to at = CanCall h calls at × (at < to) × (IsBefore h at from → ⊥)
+
+-- between the two places the lock had the one call more often than it can have had the other, and more than so many times oftener
+pub record IsMoreWithin (h : List Event) (calls other : Calls) (from to spare : ℕ) : Type 0 where
+  pub did : ℕ
+  pub can : ℕ
+  pub all_did : Exactly did (DidWithin h calls from to)
+  pub all_can : Exactly can (CanWithin h other from to)
+  pub more : can + spare < did
+
+-- the lock begins free, so from the beginning on it isn't released once oftener
+abbrev pub spare_release : ℕ → ℕ
+spare_release from = if nat_eq from 0 then 0 else 1
+
+-- between the two places the lock was acquired more than once oftener than it can have been released, or released oftener than it can have been acquired
+abbrev pub IsWithin : List Event → Calls → ℕ → ℕ → Type 0
+IsWithin h Acquires from to = IsMoreWithin h Acquires Releases from to 1
+IsWithin h Releases from to = IsMoreWithin h Releases Acquires from to (spare_release from)
+IsWithin h _ from to = ⊥
+
 -- what certifies that a register, a queue, ordered or not, a set, or a lock has no legal order
 abbrev pub CertifiesRegister : List Event → Certificate → Type 0
 CertifiesRegister h (Form.Shape at) = Returned h (λ call reply. Gives Sorted.Members call reply) at
@@ -259,6 +285,7 @@ CertifiesSet h _ = ⊥
 abbrev pub CertifiesMutex : List Event → Certificate → Type 0
 CertifiesMutex h (Form.Twice first second) = IsTwice h first second
 CertifiesMutex h Form.Counted = IsCounted h
+CertifiesMutex h (Form.Within calls from to) = IsWithin h calls from to
 CertifiesMutex h _ = ⊥
 
 -- the form holds of the operations that the certificate names, for an object of the kind

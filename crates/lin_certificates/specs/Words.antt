@@ -95,6 +95,8 @@ IsOfWhich h (Chosen.CountsBelow calls place) at = Counts h (IsOfCalls calls) at 
 IsOfWhich h (Chosen.Returned answers) at = Returned h (IsOfAnswers answers) at
 IsOfWhich h (Chosen.ReturnedBut answers but) at = (at ≢ but) × Returned h (IsOfAnswers answers) at
 IsOfWhich h (Chosen.ReturnedBefore answers place) at = Returned h (IsOfAnswers answers) at × IsBefore h at place
+IsOfWhich h (Chosen.ReturnedWithin answers from to) at = Returned h (IsOfAnswers answers) at × (from ≤ at) × IsBefore h at to
+IsOfWhich h (Chosen.CountsWithin calls from to) at = Counts h (IsOfCalls calls) at × (at < to) × (IsBefore h at from → ⊥)
 IsOfWhich h (Chosen.OpenBut calls but) at = (at ≢ but) × StaysOpen h (IsOfCalls calls) at
 IsOfWhich h (Chosen.TakesAhead dequeue) at = MayTakeAhead h dequeue at
 

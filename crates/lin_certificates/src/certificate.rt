@@ -4,12 +4,12 @@ ghost use Rattle.lin_orders.specs.Tables.{IsNextTable};
 ghost use Rattle.lin_certificates.specs.Certificates.{Certifies, CertifiesBag, CertifiesFifo, CertifiesMutex, CertifiesRegister, CertifiesSet};
 ghost use Rattle.lin_certificates.specs.Laws.{CertificatesExcludeOrders};
 
-use crate::locks::{is_counted, is_twice};
+use crate::locks::{is_counted, is_twice, is_within};
 use crate::operations::is_among;
 use crate::queues::{is_inside, is_passed, is_preceded, is_remaining, is_taken};
 use crate::registers::{are_crossed, is_overwritten, is_spent, is_unwritten};
 use crate::sets::{are_split, is_late, is_lost, is_unadded};
-use crate::words::{Answers, Sort, Which};
+use crate::words::{Answers, Calls, Sort, Which};
 use lin_events::{Event, Item, OutOfMemory, Val};
 use lin_objects::Kind;
 use lin_orders::ends_of;
@@ -111,6 +111,13 @@ pub enum Certificate {
     },
     /// More releases are ok than acquires aren't failed, or more acquires than one more than the releases that aren't.
     Counted,
+    /// Between the two places more operations with the call, which is an acquire or a release, are known to have taken effect than ones with the other
+    /// call can have, and one more. From the beginning, when the lock is free, no release is one more.
+    Within {
+        calls: Calls,
+        from: usize,
+        to: usize,
+    },
 }
 
 /// Whether the certificate holds of a register.
@@ -225,6 +232,7 @@ fn certifies_mutex(events: &[Event], ends: &[Option<usize>], certificate: &Certi
     match certificate {
         Certificate::Twice { first, second } => is_twice(events, ends, *first, *second),
         Certificate::Counted => is_counted(events, ends),
+        Certificate::Within { calls, from, to } => is_within(events, ends, *calls, *from, *to),
         _ => false,
     }
 }

@@ -1,7 +1,7 @@
 //! Certificates of locks.
-ghost use Rattle.std.specs.Prelude.{◌↔◌, IsTrue};
+ghost use Rattle.std.specs.Prelude.{◌↔◌, ◌≡◌, IsTrue};
 ghost use Rattle.lin_orders.specs.Tables.{IsNextTable};
-ghost use Rattle.lin_certificates.specs.Certificates.{IsCounted, IsTwice, IsTwiceIn};
+ghost use Rattle.lin_certificates.specs.Certificates.{IsCounted, IsMoreWithin, IsTwice, IsTwiceIn, IsWithin, spare_release as spare_of};
 
 use crate::operations::{comes_before, is_among};
 use crate::passes::{all_ahead, count_of};
@@ -59,4 +59,52 @@ pub fn is_counted(events: &[Event], ends: &[Option<usize>]) -> bool
     let over_released = can_acquire < released;
     let over_acquired = can_release < acquired.saturating_sub(1);
     over_released | over_acquired
+}
+
+/// Whether between the places the lock had the one call more often than it can have had the other, and more than so many times oftener.
+fn is_more_within(
+    events: &[Event],
+    ends: &[Option<usize>],
+    calls: (Calls, Calls),
+    places: (usize, usize),
+    spare: usize,
+) -> bool
+    requires { IsNextTable events.now ends.now }
+    ensures { IsTrue result ↔ IsMoreWithin events.now calls.0 calls.1 places.0 places.1 spare }
+{
+    let made = Which::ReturnedWithin(Answers::Called(calls.0), places.0, places.1);
+    let others = Which::CountsWithin(calls.1, places.0, places.1);
+    let did = count_of(events, ends, &made);
+    let can = count_of(events, ends, &others);
+    can < did.saturating_sub(spare)
+}
+
+/// How many releases may have no acquire ahead of them from the place on.
+fn spare_release(from: usize) -> usize
+    ensures { result ≡ spare_of from }
+{
+    if from == 0 { 0 } else { 1 }
+}
+
+/// Whether between the places the lock was acquired more than once oftener than it can have been released, or released oftener than it can have been
+/// acquired.
+pub fn is_within(
+    events: &[Event],
+    ends: &[Option<usize>],
+    calls: Calls,
+    from: usize,
+    to: usize,
+) -> bool
+    requires { IsNextTable events.now ends.now }
+    ensures { IsTrue result ↔ IsWithin events.now calls from to }
+{
+    let acquired = (Calls::Acquires, Calls::Releases);
+    let released = (Calls::Releases, Calls::Acquires);
+    match calls {
+        Calls::Acquires => is_more_within(events, ends, acquired, (from, to), 1),
+        Calls::Releases => {
+            is_more_within(events, ends, released, (from, to), spare_release(from))
+        }
+        _ => false,
+    }
 }

@@ -1,5 +1,5 @@
 //! Which operations a history has: those that count, that are ok, and that are open.
-ghost use Rattle.std.specs.Prelude.{◌↔◌, ◌<◌, IsTrue, length};
+ghost use Rattle.std.specs.Prelude.{◌↔◌, ◌<◌, ◌≤◌, IsTrue, length};
 ghost use Rattle.lin_events.specs.Operations.{IsFailed};
 ghost use Rattle.lin_orders.specs.Orders.{IsBefore};
 ghost use Rattle.lin_orders.specs.Tables.{IsNextTable};
@@ -81,6 +81,42 @@ fn may_take_ahead(events: &[Event], ends: &[Option<usize>], at: usize, dequeue: 
     !same & may & !nothing & !behind
 }
 
+/// Whether the operation at the place is ok, its call with its reply is of the sort, and it ran between the two places.
+fn returned_within(
+    events: &[Event],
+    ends: &[Option<usize>],
+    at: usize,
+    answers: &Answers,
+    places: (usize, usize),
+) -> bool
+    requires table { IsNextTable events.now ends.now }
+    requires within { at < length events.now }
+    ensures { IsTrue result ↔ (Returned events.now (IsOfAnswers answers.now) at × (places.0 ≤ at) × IsBefore events.now at places.1) }
+{
+    let made = returned(events, ends, at, answers);
+    let early = at < places.0;
+    let before = is_before(events, ends, at, places.1);
+    made & !early & before
+}
+
+/// Whether the operation at the place counts, its call is of the sort, and it may have run between the two places.
+fn counts_within(
+    events: &[Event],
+    ends: &[Option<usize>],
+    at: usize,
+    calls: &Calls,
+    places: (usize, usize),
+) -> bool
+    requires table { IsNextTable events.now ends.now }
+    requires within { at < length events.now }
+    ensures { IsTrue result ↔ (Counts events.now (IsOfCalls calls.now) at × (at < places.1) × (IsBefore events.now at places.0 → ⊥)) }
+{
+    let may = counts(events, ends, at, calls);
+    let ahead = at < places.1;
+    let over = is_before(events, ends, at, places.0);
+    may & ahead & !over
+}
+
 /// Whether the operation at the place, which stands in the history, is one of these.
 pub fn is_of_which(events: &[Event], ends: &[Option<usize>], at: usize, which: &Which) -> bool
     requires table { IsNextTable events.now ends.now }
@@ -95,6 +131,12 @@ pub fn is_of_which(events: &[Event], ends: &[Option<usize>], at: usize, which: &
         Which::ReturnedBut(answers, but) => at != *but && returned(events, ends, at, answers),
         Which::ReturnedBefore(answers, place) => {
             returned(events, ends, at, answers) && is_before(events, ends, at, *place)
+        }
+        Which::ReturnedWithin(answers, from, to) => {
+            returned_within(events, ends, at, answers, (*from, *to))
+        }
+        Which::CountsWithin(calls, from, to) => {
+            counts_within(events, ends, at, calls, (*from, *to))
         }
         Which::OpenBut(calls, but) => at != *but && is_open(events, ends, at, calls),
         Which::TakesAhead(dequeue) => may_take_ahead(events, ends, at, *dequeue),

@@ -71,6 +71,10 @@ pub enum Which {
     ReturnedBut(Answers, usize),
     /// Those that were known to be ok before this place.
     ReturnedBefore(Answers, usize),
+    /// Those that were invoked at the first place or behind it, and were known to be ok before the second.
+    ReturnedWithin(Answers, usize, usize),
+    /// Those that aren't failed, were invoked before the second place, and weren't known to be ok before the first.
+    CountsWithin(Calls, usize, usize),
     /// Those that are neither ok nor failed, but for this one.
     OpenBut(Calls, usize),
     /// Dequeues that may have taken something out ahead of this one: they aren't failed, aren't known to have found nothing, and this one isn't

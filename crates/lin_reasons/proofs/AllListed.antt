@@ -19,7 +19,7 @@ use Rattle.lin_events.specs.declared.calls.Call.{Call}
 use Rattle.lin_events.specs.declared.events.Event.{Event}
 use Rattle.lin_orders.specs.Orders.{IsCall}
 use Rattle.lin_reasons.specs.declared.groups.Group.{Group}
-use Rattle.lin_reasons.specs.declared.groups.Group.TheVariants.{Counts, CountsBut, Fails, Returned, Overwrites, Between, Such}
+use Rattle.lin_reasons.specs.declared.groups.Group.TheVariants.{Counts, CountsBut, Fails, FailsWithin, Returned, Overwrites, Between, Such}
 use Rattle.lin_reasons.specs.Groups.{IsInGroup, IsListing}
 
 module _ (P : ℕ → Type 0) where
@@ -90,6 +90,8 @@ which_call h (Chosen.CountsBelow calls place) at is = (is.0.0, is.0.1)
 which_call h (Chosen.Returned answers) at is = (is.0, is.3)
 which_call h (Chosen.ReturnedBut answers but) at is = (is.1.0, is.1.3)
 which_call h (Chosen.ReturnedBefore answers place) at is = (is.0.0, is.0.3)
+which_call h (Chosen.ReturnedWithin answers from to) at is = (is.0.0, is.0.3)
+which_call h (Chosen.CountsWithin calls from to) at is = (is.0.0, is.0.1)
 which_call h (Chosen.OpenBut calls but) at is = (is.1.0, is.1.1)
 which_call h (Chosen.TakesAhead dequeue) at is = (is.1.0, is.1.1)
 
@@ -97,6 +99,7 @@ group_call : (h : List Event) (group : Group) (at : ℕ) → IsInGroup h group a
 group_call h (Counts calls) at is = (is.0, is.1)
 group_call h (CountsBut calls but) at is = (is.1.0, is.1.1)
 group_call h (Fails calls) at is = (is.0, is.1)
+group_call h (FailsWithin calls from to) at is = (is.0.0, is.0.1)
 group_call h (Returned answers) at is = (is.0, is.3)
 group_call h (Overwrites last) at is = (is.0.0, is.0.3)
 group_call h (Between first last) at is = (is.0.0.0, is.0.0.3)

@@ -4,3 +4,4 @@ pub mod Pairing
 pub mod Premises
 pub mod Counting
 pub mod Chains
+pub mod Stretches

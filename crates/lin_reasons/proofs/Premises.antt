@@ -7,7 +7,7 @@ use Rattle.lin_objects.specs.declared.kinds.Kind.{Kind}
 use Rattle.lin_objects.specs.declared.kinds.Kind.TheVariants.{Register, CasRegister, Fifo, Bag, Set, Mutex}
 use Rattle.lin_certificates.specs.Certificates.{Certifies, IsCounted, IsOverwritten}
 use Rattle.lin_certificates.specs.declared.certificate.Certificate.{Certificate}
-use Rattle.lin_certificates.specs.declared.certificate.Certificate.TheVariants.{Shape, Unwritten, Overwritten, Crossed, Spent, Taken, Passed, Inside, Preceded, Remaining, Unadded, Lost, Split, Late, Twice, Counted}
+use Rattle.lin_certificates.specs.declared.certificate.Certificate.TheVariants.{Shape, Unwritten, Overwritten, Crossed, Spent, Taken, Passed, Inside, Preceded, Remaining, Unadded, Lost, Split, Late, Twice, Counted, Within}
 use Rattle.lin_reasons.specs.Reasons.{ArePut, IsCertified, IsReasonOfRegister}
 use Rattle.lin_reasons.specs.declared.told.Told.{Told}
 
@@ -60,3 +60,4 @@ module _ (told : Told) where
   nothing_put (Late earlier add read n other) text named a b d e = nothing (Late earlier add read n other) text named (λ lines more p q. (p, q))
   nothing_put (Twice first second) text named a b d e = nothing (Twice first second) text named (λ lines more p q. (p, q))
   nothing_put Counted text named a b d e = nothing Counted text named (λ lines more p q. (p, q))
+  nothing_put (Within calls from to) text named a b d e = nothing (Within calls from to) text named (λ lines more p q. (p, q))

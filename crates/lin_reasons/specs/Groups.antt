@@ -4,7 +4,7 @@ use Rattle.lin_events.specs.declared.calls.Call.{Call}
 use Rattle.lin_events.specs.declared.calls.Call.TheVariants.{Acquire, Release}
 use Rattle.lin_events.specs.declared.calls.Reply.{Reply}
 use Rattle.lin_events.specs.declared.events.Event.{Event}
-use Rattle.lin_events.specs.Operations.{IsFailed}
+use Rattle.lin_events.specs.Operations.{IsEnd, IsFailed}
 use Rattle.lin_orders.specs.Orders.{IsBefore, IsCall}
 use Rattle.lin_failures.specs.Adding.{Adds}
 use Rattle.lin_failures.specs.Conflicts.{Leaves}
@@ -25,6 +25,14 @@ IsListing P list = AllPairs ◌<◌ list × ((at : ℕ) → P at ↔ Contains li
 -- the operation failed, and its call is such
 abbrev pub Fails : List Event → (Call → Type 0) → ℕ → Type 0
 Fails h P at = (call : Call) × IsCall h at call × IsFailed h at × P call
+
+-- the operation ended before the place
+abbrev pub EndsBefore : List Event → ℕ → ℕ → Type 0
+EndsBefore h at place = (end : ℕ) × (ending : Event) × IsEnd h at end ending × (end < place)
+
+-- it failed, its call is such, it was called before the second place, and hadn't ended before the first
+abbrev pub FailsWithin : List Event → (Call → Type 0) → ℕ → ℕ → ℕ → Type 0
+FailsWithin h P from to at = Fails h P at × (at < to) × (EndsBefore h at from → ⊥)
 
 -- between the one operation and the other stands an ok one that leaves some value
 abbrev pub IsBetween : List Event → ℕ → ℕ → ℕ → Type 0
@@ -49,6 +57,7 @@ abbrev pub IsInGroup : List Event → Group → ℕ → Type 0
 IsInGroup h (Chosen.Counts calls) at = Counts h (IsOfCalls calls) at
 IsInGroup h (Chosen.CountsBut calls but) at = (at ≢ but) × Counts h (IsOfCalls calls) at
 IsInGroup h (Chosen.Fails calls) at = Fails h (IsOfCalls calls) at
+IsInGroup h (Chosen.FailsWithin calls from to) at = FailsWithin h (IsOfCalls calls) from to at
 IsInGroup h (Chosen.Returned answers) at = Returned h (IsOfAnswers answers) at
 IsInGroup h (Chosen.Overwrites place) at = Overwrites h place at
 IsInGroup h (Chosen.Between first last) at = IsBetween h first last at

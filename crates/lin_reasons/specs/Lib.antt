@@ -4,4 +4,5 @@ pub mod Lines
 pub mod Groups
 pub mod Sides
 pub mod Surplus
+pub mod Within
 pub mod Reasons

@@ -21,6 +21,7 @@ use Rattle.lin_reasons.specs.Lines.{counted_text, crossed_text, inside_text, lat
 use Rattle.lin_reasons.specs.Series.{firsts}
 use Rattle.lin_reasons.specs.Sides.{named_sides}
 use Rattle.lin_reasons.specs.Surplus.{IsPrecededTold, IsRemainingTold}
+use Rattle.lin_reasons.specs.Within.{IsWithinTold}
 use Rattle.lin_reasons.specs.declared.told.Told.{Told}
 
 -- the lines tell that nothing leaves the item, and of those that failed to
@@ -150,6 +151,7 @@ IsReasonByCount told c lines operations = IsReasonOfSet told c lines operations
 abbrev pub IsReason : Told → Certificate → List ℕ → List ℕ → Type 0
 IsReason told (Form.Twice first second) lines operations = (lines ≡ twice_text told first second) × (operations ≡ first ∷ second ∷ [])
 IsReason told Form.Counted lines operations = IsCountedTold told lines operations
+IsReason told (Form.Within calls from to) lines operations = IsWithinTold told calls from to lines operations
 IsReason told c lines operations = IsReasonByCount told c lines operations
 
 -- lines of this meaning, and the operations that they name, were put last

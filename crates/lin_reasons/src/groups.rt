@@ -7,11 +7,11 @@ ghost use Rattle.lin_failures.specs.Conflicts.{Leaves};
 ghost use Rattle.lin_failures.specs.QueueConflicts.{Takes};
 ghost use Rattle.lin_certificates.specs.Certificates.{Overwrites};
 ghost use Rattle.lin_certificates.specs.Words.{Counts, Returned, Spends, Updates};
-ghost use Rattle.lin_reasons.specs.Groups.{Fails, IsBetween, IsInGroup, IsOfAnswers, IsOfCalls};
+ghost use Rattle.lin_reasons.specs.Groups.{EndsBefore, Fails, FailsWithin, IsBetween, IsInGroup, IsOfAnswers, IsOfCalls};
 
 use lin_certificates::{Which, is_of_which};
 use lin_events::{Call, Event, Item, Reply, Val};
-use lin_orders::{call_at, is_failed, ok_end};
+use lin_orders::{call_at, end_of, is_failed, ok_end};
 
 /// A sort of calls.
 #[derive(Clone, Copy, Debug, PartialEq, Eq)]
@@ -46,6 +46,8 @@ pub(crate) enum Group {
     CountsBut(Calls, usize),
     /// Those that failed.
     Fails(Calls),
+    /// Those that failed, were invoked before the second place, and hadn't ended before the first.
+    FailsWithin(Calls, usize, usize),
     /// Those that are ok.
     Returned(Answers),
     /// Those that are ok, leave some value in a register, and are before this one.
@@ -57,7 +59,7 @@ pub(crate) enum Group {
 }
 
 /// Whether the call leaves the value in the register.
-fn leaves(call: &Call, value: Val) -> bool
+pub(crate) fn leaves(call: &Call, value: Val) -> bool
     ensures { IsTrue result ↔ Leaves call.now value }
 {
     match call {
@@ -89,7 +91,7 @@ fn spends(call: &Call, value: Val) -> bool
 }
 
 /// Whether the call adds the item to a set, or puts it into a queue.
-fn adds(call: &Call, item: Item) -> bool
+pub(crate) fn adds(call: &Call, item: Item) -> bool
     ensures { IsTrue result ↔ Adds call.now item }
 {
     match call {
@@ -158,6 +160,36 @@ fn fails(events: &[Event], ends: &[Option<usize>], at: usize, calls: &Calls) -> 
         return false;
     };
     is_of_calls(call, calls) && is_failed(events, ends, at)
+}
+
+/// Whether the operation at the place ended before the other place.
+fn ends_before(events: &[Event], ends: &[Option<usize>], at: usize, place: usize) -> bool
+    requires table { IsNextTable events.now ends.now }
+    requires within { at < length events.now }
+    ensures { IsTrue result ↔ EndsBefore events.now at place }
+{
+    match end_of(events, ends, at) {
+        Some((end, _)) => end < place,
+        None => false,
+    }
+}
+
+/// Whether the operation at the place failed, its call is of the sort, and it ran between the two places.
+fn fails_within(
+    events: &[Event],
+    ends: &[Option<usize>],
+    at: usize,
+    calls: &Calls,
+    places: (usize, usize),
+) -> bool
+    requires table { IsNextTable events.now ends.now }
+    requires within { at < length events.now }
+    ensures { IsTrue result ↔ FailsWithin events.now (IsOfCalls calls.now) places.0 places.1 at }
+{
+    let failed = fails(events, ends, at, calls);
+    let ahead = at < places.1;
+    let over = ends_before(events, ends, at, places.0);
+    failed & ahead & !over
 }
 
 /// Whether the operation at the place is ok, and its call with its reply is of the sort.
@@ -238,6 +270,9 @@ pub(crate) fn is_in_group(
         Group::Counts(calls) => counts(events, ends, at, calls),
         Group::CountsBut(calls, but) => at != *but && counts(events, ends, at, calls),
         Group::Fails(calls) => fails(events, ends, at, calls),
+        Group::FailsWithin(calls, from, to) => {
+            fails_within(events, ends, at, calls, (*from, *to))
+        }
         Group::Returned(answers) => returned(events, ends, at, answers),
         Group::Overwrites(last) => overwrites(events, ends, at, *last),
         Group::Between(first, last) => is_between(events, ends, at, *first, *last),

@@ -14,6 +14,7 @@ mod sets;
 mod sides;
 mod surplus;
 mod told;
+mod within;
 
 pub use reasons::put_reason;
 pub use told::{Told, put_called, put_failed, put_op, put_returned};

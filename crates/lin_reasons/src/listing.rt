@@ -1,5 +1,5 @@
 //! Lists of all operations of a group.
-ghost use Rattle.std.specs.Prelude.{◌≡◌, ◌⊎◌, ℕ, Contains, IfOk};
+ghost use Rattle.std.specs.Prelude.{◌≡◌, ◌⊎◌, ℕ, Contains, IfOk, reverse};
 ghost use Rattle.lin_orders.specs.Tables.{IsNextTable};
 ghost use Rattle.lin_reasons.specs.Groups.{IsInGroup, IsListing};
 
@@ -18,6 +18,20 @@ pub(crate) fn all_of(told: &Told, group: &Group, alloc: Global) -> Result<Vec<us
             list.push(at)?;
         }
     }
+    Ok(list)
+}
+
+/// All operations of the group, the last called first.
+pub(crate) fn last_first(
+    told: &Told,
+    group: &Group,
+    alloc: Global,
+) -> Result<Vec<usize>, AllocError>
+    requires { IsNextTable told.now.events.now told.now.ends.now }
+    ensures { IfOk result (λ list. IsListing (IsInGroup told.now.events.now group.now) (reverse list.items)) }
+{
+    let mut list = all_of(told, group, alloc)?;
+    list.reverse();
     Ok(list)
 }
 

@@ -24,7 +24,7 @@ fn put_name(text: &mut Vec<u8>, name: Name) -> Result<(), AllocError>
 }
 
 /// Puts the word of a lock's call last, in the past.
-fn put_past(text: &mut Vec<u8>, name: Name) -> Result<(), AllocError>
+pub(crate) fn put_past(text: &mut Vec<u8>, name: Name) -> Result<(), AllocError>
     ensures { OnOk result (text.new.items ≡ text.old.items ++ past_text name) }
 {
     put_name(text, name)?;

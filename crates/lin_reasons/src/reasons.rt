@@ -7,6 +7,7 @@ use crate::counts::put_count_reason;
 use crate::locks::{put_counted, put_twice};
 use crate::naming::{in_order, name_pair};
 use crate::told::Told;
+use crate::within::put_within;
 use lin_certificates::Certificate;
 use std::alloc::{AllocError, Global};
 
@@ -29,6 +30,9 @@ fn put_any_reason(
             Ok(())
         }
         Certificate::Counted => put_counted(text, named, told, alloc),
+        Certificate::Within { calls, from, to } => {
+            put_within(text, named, told, *calls, (*from, *to), alloc)
+        }
         _ => put_count_reason(text, named, told, certificate, alloc),
     }
 }

@@ -6,7 +6,7 @@ ghost use Rattle.lin_reasons.specs.Reasons.{ArePut};
 ghost use Rattle.lin_reasons.specs.Surplus.{IsPrecededTold, IsRemainingTold, IsSurplus, earlier_line, earlier_text, items_text, named_surplus, preceded_text, preceded_why, remaining_text, surplus_text, surplus_why};
 
 use crate::groups::Group;
-use crate::listing::all_of;
+use crate::listing::{all_of, last_first};
 use crate::naming::name_pair;
 use crate::series::{FIRSTS, firsts_of, put_facts, put_how_often};
 use crate::told::{Told, Verb, put_called, put_returned};
@@ -21,16 +21,6 @@ use std::alloc::{AllocError, Global};
 struct Surplus {
     puts: Vec<usize>,
     takes: Vec<usize>,
-}
-
-/// All operations of the group, the last called first.
-fn last_first(told: &Told, group: &Group, alloc: Global) -> Result<Vec<usize>, AllocError>
-    requires { IsNextTable told.now.events.now told.now.ends.now }
-    ensures { IfOk result (λ list. IsListing (IsInGroup told.now.events.now group.now) (reverse list.items)) }
-{
-    let mut list = all_of(told, group, alloc)?;
-    list.reverse();
-    Ok(list)
 }
 
 /// The enqueues that are before the place, and the dequeues that may have taken something out ahead of the one.

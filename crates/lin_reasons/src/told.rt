@@ -32,7 +32,7 @@ pub(crate) enum Verb {
 }
 
 /// Where an event of the object stands in the whole history.
-fn position_of(told: &Told, at: usize) -> usize
+pub(crate) fn position_of(told: &Told, at: usize) -> usize
     ensures { result ≡ position told.now at }
 {
     match told.picks.get(at) {
@@ -115,7 +115,7 @@ pub(crate) fn is_acquire(told: &Told, at: usize) -> bool
 }
 
 /// Puts last where an event of the object stands.
-fn put_spot_at(line: &mut Vec<u8>, told: &Told, at: usize) -> Result<(), AllocError>
+pub(crate) fn put_spot_at(line: &mut Vec<u8>, told: &Told, at: usize) -> Result<(), AllocError>
     ensures { OnOk result (line.new.items ≡ line.old.items ++ spot_at told.now at) }
 {
     put_spot(line, told.places, position_of(told, at))

@@ -11,3 +11,9 @@ returns-in-Counted c =
     let told = c.args.told.now in
     subst (λ x. OnOk c.put_counted.result (ArePut (IsReason told x) c.args.text.now.items c.put_counted.new.text.items c.args.named.now.items c.put_counted.new.named.items))
     (sym c.in-Counted.is) c.put_counted.ensures
+
+pub returns-in-Within : goal.returns-in-Within
+returns-in-Within c =
+    let told = c.args.told.now in
+    subst (λ x. OnOk c.put_within.result (ArePut (IsReason told x) c.args.text.now.items c.put_within.new.text.items c.args.named.now.items c.put_within.new.named.items))
+    (sym c.in-Within.is) c.put_within.ensures
