@@ -13,7 +13,7 @@ use Rattle.lin_history.specs.Sees.{is_fault, FaultsStay}
 use Rattle.lin_events.specs.declared.events.Event.{Event}
 use Rattle.lin_history.specs.declared.follow.FollowFault.{FollowFault}
 use Rattle.lin_history.specs.declared.follow.FollowFault.TheVariants as fault
-use Rattle.lin_places.specs.Places.{place_at, Begins, alone, inside, ArePlaces, none, one_more, StopsAt, is_bad, Marked, Marks}
+use Rattle.lin_places.specs.Places.{place_at, Begins, alone, inside, ArePlaces, none, one_more, StopsAt, is_bad, IsBehind, IsHeld, Marked, Marks}
 use Rattle.lin_places.specs.inner.Marks.{IsReadTo, Ends, IsRead, IsResting}
 use Rattle.lin_texts.specs.declared.place.Place.{Place}
 use Rattle.lin_places.specs.declared.place.Stop.{Stop}
@@ -137,7 +137,7 @@ marks_behind l r stay k m piece text bad h =
 -- a piece that is taken in
 pub marks_taken : Laws → (k : Reading) (m : Marked) (piece text held : List ℕ) (places : List Place) (r : Read) → is_bad m.stop ≡ false → IsCut piece m.held m.places held places (Ok r) →
     IsRead k (m.held ++ piece) m.next m.places places r → Marks k m text →
-    Marks k (record { keyed = m.keyed; places = places; stop = r.stop; next = r.next.place; held = held }) (text ++ piece)
+    let new : Marked = record { keyed = m.keyed; places = places; stop = r.stop; next = r.next.place; held = held } in Marks k new (text ++ piece) × IsHeld new (text ++ piece)
 marks_taken l k m piece text held places r calm cut t h =
     let old = h.is_held calm in
     let within : m.next.offset ≤ length text = gives_inside l old.0 in
@@ -150,16 +150,25 @@ marks_taken l k m piece text held places r calm cut t h =
     let far : r.next.at ≤ length (m.held ++ piece) = cut.1.0 in
     let size : length (m.held ++ piece) ≡ length (text ++ piece) - m.next.offset = ap length front ∙ length-drop m.next.offset (text ++ piece) in
     let longer = length-append text piece in
-    let left : length held ≡ length (text ++ piece) - r.next.place.offset = ap length behind ∙ length-drop r.next.place.offset (text ++ piece) in record {
-      keyed = h.keyed;
-      events = e.events;
-      outcome = e.outcome;
-      is_stream = e.is_stream;
-      are_places = e.are_places;
-      stops = e.stops;
-      room = omega arith;
-      is_held = λ n. (let on = e.goes_on n in (on.0, on.1, behind));
-    }
+    let left : length held ≡ length (text ++ piece) - r.next.place.offset = ap length behind ∙ length-drop r.next.place.offset (text ++ piece) in (
+      record {
+        keyed = h.keyed;
+        events = e.events;
+        outcome = e.outcome;
+        is_stream = e.is_stream;
+        are_places = e.are_places;
+        stops = e.stops;
+        room = omega arith;
+        is_held = λ n. (let on = e.goes_on n in (on.0, on.1, behind));
+      },
+      behind,
+    )
+
+-- what rests has no fault
+pub rest_behind : (held : List ℕ) (next : Place) (x : Stop) → IsResting held next x → IsBehind next x
+rest_behind held next stop.Nowhere rests = tt
+rest_behind held next (stop.Unfinished p) rests = tt
+rest_behind held next (stop.Bad p) rests = absurd rests
 
 -- an empty text
 pub marks_nothing : (k : Reading) (keyed : Bool) → k.keyed ≡ keyed → Marks k (record { keyed = keyed; places = []; stop = stop.Nowhere; next = record { offset = 0; line = 1 }; held = [] }) []

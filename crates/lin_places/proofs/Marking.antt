@@ -12,7 +12,7 @@ use Rattle.lin_history.specs.Table.{event}
 use Rattle.lin_events.specs.declared.events.Event.{Event}
 use Rattle.lin_history.specs.declared.table.EventFault.{EventFault}
 use Rattle.lin_places.specs.Places.{place_at, row_of, Begins, alone, inside, ArePlaces, one_more}
-use Rattle.lin_places.specs.inner.Marks.{IsPutBehind, IsMarkedOne, IsPut, StandsAt, Follow, another, IsAmong, IsStanding, IsSound, IsUnsound, AreMarked}
+use Rattle.lin_places.specs.inner.Marks.{IsPutBehind, IsMarkedOne, IsPut, StandsAt, Follow, another, IsAmong, IsStanding, IsSound, IsUnsound, AreMarked, ArePassed}
 use Rattle.lin_texts.specs.declared.place.Place.{Place}
 use Rattle.lin_places.specs.declared.place.Cursor.{Cursor}
 use Rattle.lin_names.specs.Names.{Begins as BeginNames}
@@ -271,3 +271,8 @@ standing s v at used (spells {t = t} {u = u} bs e le) all_there =
       short = le;
       inside = all_there;
     }
+
+-- a fault that isn't before a later place isn't before an earlier one
+pub passed_from : (text : List ℕ) (from later : Place) (until : ℕ) (r : Maps) → from.offset ≤ later.offset → ArePassed text later until r → ArePassed text from until r
+passed_from text from later until (maps.Sound next) h passed = passed
+passed_from text from later until (maps.Bad bad) h passed = omega (arith, h, passed)

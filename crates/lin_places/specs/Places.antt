@@ -79,6 +79,12 @@ bad_of stop.Nowhere = None
 bad_of (stop.Unfinished p) = None
 bad_of (stop.Bad p) = Some p
 
+-- a fault, and a map that is no event, stand at this place or behind it
+abbrev pub IsBehind : Place → Stop → Type 0
+IsBehind next stop.Nowhere = Unit {0}
+IsBehind next (stop.Unfinished p) = Unit {0}
+IsBehind next (stop.Bad p) = next.offset ≤ p.offset
+
 -- the place of what is unfinished, if something is
 abbrev pub unfinished_of : Stop → Option Place
 unfinished_of stop.Nowhere = None
@@ -107,9 +113,14 @@ pub record Marks (m : Reading) (marked : Marked) (text : List ℕ) : Type 0 wher
   pub is_held : is_bad marked.stop ≡ false →
       Gives m text events marked.next.offset × (marked.next ≡ place_at text marked.next.offset) × (marked.held ≡ drop marked.next.offset text)
 
--- What feeding a piece does, where these are the names behind it: read by them, the reader is right for the longer text; or memory ran out,
--- and nothing changed.
+-- what is held is what stands behind what is read
+abbrev pub IsHeld : Marked → List ℕ → Type 0
+IsHeld marked text = marked.held ≡ drop marked.next.offset text
+
+-- What feeding a piece does, where these are the names behind it: read by them, the reader is right for the longer text, and what it holds
+-- stands behind what is read, unless the text stopped at a fault before; or memory ran out, and nothing changed.
 abbrev pub Feeds : {E : Type 0} → List (List ℕ) → Marked → List ℕ → Marked → Result (Unit {0}) E → Type 0
 Feeds names old piece new (Ok _) = (new.keyed ≡ old.keyed) ×
-    ((m : Reading) → AgreesWith names m.number → (text : List ℕ) → Marks m old text → Marks m new (text ++ piece))
+    ((m : Reading) → AgreesWith names m.number → (text : List ℕ) → Marks m old text →
+    Marks m new (text ++ piece) × (is_bad old.stop ≡ false → IsHeld new (text ++ piece)))
 Feeds names old piece new (Err _) = new ≡ old

@@ -9,7 +9,7 @@ ghost use Rattle.lin_history.specs.Sees.{most};
 ghost use Rattle.lin_history.specs.Stream.{told, told_by};
 ghost use Rattle.lin_history.specs.Table.{event, IsAnswer};
 ghost use Rattle.lin_places.specs.inner.Marks.{Fits, IsMarkedOne, IsPutBehind, StandsAt, IsStanding, IsAmong, AreMarked, ArePassed, IsFront, IsPassed, IsRead};
-ghost use Rattle.lin_places.specs.Places.{row_of};
+ghost use Rattle.lin_places.specs.Places.{IsBehind, row_of};
 
 use crate::place::{Cursor, Stop, go_to};
 use lin_edn::{
@@ -171,7 +171,7 @@ fn mark_all(
     requires among { IsAmong text.now part.from.at [] (map view items.now) part.until }
     ensures begun { Begins names.old names.new }
     ensures put { IsPutBehind places.old.items places.new.items }
-    ensures passed { IfOk result (ArePassed text.now part.until) }
+    ensures passed { IfOk result (ArePassed text.now part.from.place part.until) }
     ensures marked { IfOk result (λ maps. (m : Reading) → IsReading keyed names.new m →
         AreMarked m text.now (told_by m (values_of (map view items.now))) part.from places.old.items places.new.items maps) }
 {
@@ -201,7 +201,7 @@ fn mark(
     requires spelled { Spells text.now (view element.now) part.from.at part.until }
     ensures begun { Begins names.old names.new }
     ensures put { IsPutBehind places.old.items places.new.items }
-    ensures passed { IfOk result (ArePassed text.now part.until) }
+    ensures passed { IfOk result (ArePassed text.now part.from.place part.until) }
     ensures marked { IfOk result (λ maps. (m : Reading) → IsReading keyed names.new m →
         AreMarked m text.now (told m (view element.now)) part.from places.old.items places.new.items maps) }
 {
@@ -356,6 +356,7 @@ pub(crate) fn read_on(
     ensures begun { Begins names.old names.new }
     ensures put { IsPutBehind places.old.items places.new.items }
     ensures fits { IfOk result (λ r. Fits text.now r.next) }
+    ensures behind { IfOk result (λ r. IsBehind r.next.place r.stop) }
     ensures read { IfOk result (λ r. (m : Reading) → IsReading keyed names.new m → IsRead m text.now place places.old.items places.new.items r) }
 {
     let mut at = 0;

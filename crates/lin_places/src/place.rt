@@ -40,6 +40,7 @@ pub(crate) fn go_to(text: &[u8], from: Cursor, to: usize) -> Cursor
     requires fits { Fits text.now from }
     ensures at { result.at ≡ to }
     ensures fits { Fits text.now result }
+    ensures behind { from.place.offset ≤ result.place.offset }
     ensures place { (whole : List ℕ) (p : ℕ) → text.now ≡ drop p whole → from.place ≡ place_at whole (p + from.at) → result.place ≡ place_at whole (p + to) }
 {
     let passed = &text[from.at..to];

@@ -1,9 +1,9 @@
 //! The places of the events of a stream that comes in pieces.
-ghost use Rattle.std.specs.Prelude.{◌≡◌, ◌+◌, ◌≤◌, ◌++◌, [], false, Bool, ℕ, List, length, drop, IfOk, IfSome, IsSome, IsNone};
+ghost use Rattle.std.specs.Prelude.{◌≡◌, ◌+◌, ◌≤◌, ◌-◌, ◌++◌, [], false, None, Some, MatchOption, Bool, ℕ, List, length, drop, IfOk, IfSome, IsSome, IsNone};
 ghost use Rattle.lin_names.specs.Names.{Begins};
 ghost use Rattle.lin_history.specs.Reading.{Reading, IsReading};
 ghost use Rattle.lin_places.specs.inner.Marks.{Fits, IsRead, IsResting};
-ghost use Rattle.lin_places.specs.Places.{Marks, Feeds, bad_of, unfinished_of, is_bad as says_bad};
+ghost use Rattle.lin_places.specs.Places.{IsBehind, IsHeld, Marks, Feeds, bad_of, unfinished_of, is_bad as says_bad};
 ghost use Rattle.lin_places.specs.Rests.{IsSeen, IsCut};
 
 use crate::mark::{Read, read_on};
@@ -47,14 +47,14 @@ struct Rest {
 impl Model for Places {
     ghost use Rattle.std.specs.Prelude.{◌+◌, ◌≤◌, suc, length};
     ghost use Rattle.lin_history.specs.Sees.{most};
-    ghost use Rattle.lin_places.specs.Places.{Marked};
+    ghost use Rattle.lin_places.specs.Places.{IsBehind, Marked};
     ghost use Rattle.lin_places.specs.Rests.{IsSeen};
 
     ghost Value = { Marked };
 
     ghost view = { λ p. record { keyed = p.keyed; places = p.places.items; stop = p.stop; next = p.next; held = p.held.items } };
 
-    ghost invariant = { λ p. (p.next.offset + length p.held.items ≤ most) × (p.next.line ≤ suc p.next.offset) × IsSeen p.rest p.held.items };
+    ghost invariant = { λ p. (p.next.offset + length p.held.items ≤ most) × (p.next.line ≤ suc p.next.offset) × IsSeen p.rest p.held.items × IsBehind p.next p.stop };
 }
 
 impl Places {
@@ -62,6 +62,8 @@ impl Places {
     pub fn new(alloc: Global, keyed: bool) -> Places
         ensures keyed { result.keyed ≡ keyed }
         ensures marks { (m : Reading) → m.keyed ≡ keyed → Marks m result [] }
+        ensures calm { says_bad result.stop ≡ false }
+        ensures held { IsHeld result [] }
     {
         Places {
             keyed,
@@ -92,6 +94,22 @@ impl Places {
             Stop::Bad(place) => Some(place),
             _ => None,
         }
+    }
+
+    /// The bytes that are held from the place of the map on that is no event, or from that of a fault of EDN, if the stream stops there.
+    pub fn from_bad(&self) -> Option<&[u8]>
+        ensures { MatchOption result (bad_of self.now.stop ≡ None) (λ bytes. (place : Place) × (bad_of self.now.stop ≡ Some place)
+            × (self.now.next.offset ≤ place.offset) × (bytes.now ≡ drop (place.offset - self.now.next.offset) self.now.held)) }
+    {
+        let Stop::Bad(place) = self.stop else {
+            return None;
+        };
+        let passed = place.offset - self.next.offset;
+        let held = self.held.as_slice();
+        if passed > held.len() as u64 {
+            return Some(&held[held.len()..]);
+        }
+        Some(&held[passed as usize..])
     }
 
     /// The place of the element or discard that is unfinished so far, if one is.
@@ -163,6 +181,7 @@ fn take_in(
     requires seen { IsSeen rest.old held.old.items }
     ensures begun { Begins names.old names.new }
     ensures cut { IsCut piece.now held.old.items places.old.items held.new.items places.new.items result }
+    ensures behind { IfOk result (λ r. IsBehind r.next.place r.stop) }
     ensures read { IfOk result (λ r. (m : Reading) → IsReading keyed names.new m → IsRead m (held.old.items ++ piece.now) next places.old.items places.new.items r) }
     ensures seen { IsSeen rest.new held.new.items }
 {

@@ -1,3 +1,4 @@
+pub mod Beginnings
+pub mod Calm
 pub mod Later
 pub mod ValuePairs
-pub mod Limited

@@ -1,3 +1,3 @@
+pub mod Elements
 pub mod Hints
 pub mod Refused
-pub mod inner

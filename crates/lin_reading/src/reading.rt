@@ -5,15 +5,15 @@ ghost use Rattle.lin_formats.specs.Devices.{Counts, device_of, failures_of, is_e
 ghost use Rattle.lin_formats.specs.Histories.{EndsFor, IsHistory, IsHistoryFor, IsNoted, is_read_failed};
 ghost use Rattle.lin_formats.specs.Verdicts.{IsReadTooFar};
 ghost use Rattle.lin_history.specs.Reading.{IsReading, Reading};
-ghost use Rattle.lin_names.specs.Names.{Begins};
-ghost use Rattle.lin_places.specs.Places.{Marks};
-ghost use Rattle.lin_reading.specs.Hints.{IsPairTold};
+ghost use Rattle.lin_history.specs.Stream.{StreamsAreUnique};
+ghost use Rattle.lin_names.specs.Names.{AgreesWith, Begins, Numbering};
+ghost use Rattle.lin_places.specs.Places.{IsHeld, Marks};
+ghost use Rattle.lin_reading.specs.Hints.{IsHinted, beginning};
 
-use crate::pairs::is_of_two_parts;
-use crate::tails::Tail;
+use crate::hints::{hints_of, keep_first};
 use lin_formats::{Counted, History, RunFault, finish_history, take_piece, with_least};
-use lin_history::Follow;
-use lin_names::Names;
+use lin_history::{Follow, streams_are_unique};
+use lin_names::{Names, names_grow};
 use lin_places::Places;
 use std::alloc::Global;
 use std::io::Read;
@@ -25,17 +25,17 @@ const PIECE: usize = 65_536;
 #[derive(Drop)]
 pub struct Placed {
     pub places: Places,
-    /// Whether what is refused is a value of two parts where keys aren't read, if that is known.
-    pub is_pair: bool,
+    /// Lines that hint at what to do, where the file is refused and there are any.
+    pub hints: Vec<u8>,
 }
 
-/// The history in a file, however many events it has, and where they stand.
+/// The history in a file, however many events it has, where they stand, and the first bytes of the file.
 fn read_any<R: Read>(
     alloc: Global,
     keyed: bool,
     file: &mut Counted<R>,
     names: &mut Names,
-) -> Result<(History, Placed), RunFault>
+) -> Result<(History, Places, Vec<u8>), RunFault>
     requires { failures_of file.old < u64.MAX }
     ensures begun { Begins names.old names.new }
     ensures read { IfOk result (λ found. (bytes : List ℕ)
@@ -43,16 +43,17 @@ fn read_any<R: Read>(
         × (length bytes ≤ 2 ^ 40)
         × EndsFor found.0 (R.remaining (device_of file.new))
         × IsHistory keyed names.new bytes found.0
-        × ((m : Reading) → IsReading keyed names.new m → Marks m found.1.places bytes)
-        × (found.1.places.keyed ≡ keyed)
-        × IsPairTold keyed bytes found.1.places found.0 found.1.is_pair) }
+        × ((m : Reading) → IsReading keyed names.new m → Marks m found.1 bytes)
+        × (found.1.keyed ≡ keyed)
+        × IsHeld found.1 bytes
+        × (found.2.items ≡ beginning bytes)) }
     ensures too_much { IsErrOf result RunFault.TooMuch → IsReadTooFar (R.remaining (device_of file.old)) (R.remaining (device_of file.new)) }
     ensures counts { Counts (is_read_failed result) (failures_of file.old) (failures_of file.new) }
     ensures readers { IsErrOf result RunFault.WriteFailed → ⊥ }
 {
     let mut follow = Follow::new(alloc, keyed);
     let mut places = Places::new(alloc, keyed);
-    let mut tail = Tail::new(alloc);
+    let mut first = Vec::new(alloc);
     let mut events = Vec::new(alloc);
     let mut piece = [0u8; PIECE];
     'pieces: for _ in 0..u64::MAX {
@@ -61,17 +62,15 @@ fn read_any<R: Read>(
         };
         if count == 0 {
             let history = finish_history(&follow, events, names)?;
-            let is_pair = false;
-            return Ok((history, Placed { places, is_pair }));
+            return Ok((history, places, first));
         }
         let refusal = take_piece(&mut follow, &mut events, &piece[..count], names)?;
         places.feed(&piece[..count], names)?;
+        keep_first(&mut first, &piece[..count])?;
+        some_numbering(names);
         if let Some(refusal) = refusal {
-            tail.feed(&piece[..count])?;
-            let is_pair = is_of_two_parts(alloc, keyed, refusal, &places, &tail);
-            return Ok((History::Refused(refusal), Placed { places, is_pair }));
+            return Ok((History::Refused(refusal), places, first));
         }
-        tail.go_on(&piece[..count], places.as_slice())?;
     }
     Err(RunFault::TooMuch)
 }
@@ -95,13 +94,25 @@ pub fn read_placed<R: Read>(
         × IsHistoryFor least keyed names.new bytes found.0
         × ((m : Reading) → IsReading keyed names.new m → Marks m found.1.places bytes)
         × (found.1.places.keyed ≡ keyed)
-        × IsPairTold keyed bytes found.1.places found.0 found.1.is_pair
+        × IsHinted keyed bytes found.1.places found.0 found.1.hints.items
         × IsNoted keyed names.new bytes (is_empty_of file.new)) }
     ensures too_much { IsErrOf result RunFault.TooMuch → IsReadTooFar (R.remaining (device_of file.old)) (R.remaining (device_of file.new)) }
     ensures counts { Counts (is_read_failed result) (failures_of file.old) (failures_of file.new) }
     ensures readers { IsErrOf result RunFault.WriteFailed → ⊥ }
 {
-    let (history, placed) = read_any(alloc, keyed, file, names)?;
+    let (history, places, first) = read_any(alloc, keyed, file, names)?;
     file.has_given(&history);
-    Ok((with_least(history, least), placed))
+    let history = with_least(history, least);
+    let hints = hints_of(alloc, keyed, &history, &places, first.as_slice())?;
+    Ok((history, Placed { places, hints }))
+}
+
+/// Each spelling has one number, and a numbering agrees with the names; a text has one stream. The function does nothing.
+fn some_numbering(names: &Names)
+    ensures numbering { (number : Numbering) × AgreesWith names.now number }
+    ensures streams { StreamsAreUnique }
+{
+    names_grow();
+    streams_are_unique();
+    names.len();
 }

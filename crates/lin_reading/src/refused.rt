@@ -1,6 +1,5 @@
 //! What is told of a file that is refused.
 ghost use Rattle.std.specs.Prelude.{◌≡◌, ◌++◌, IfOk, OnOk};
-ghost use Rattle.lin_reading.specs.Hints.{hint_text};
 ghost use Rattle.lin_reading.specs.Refused.{edn_sentence as edn_text, event_sentence as event_text, place_in, place_words, refused_text, sentence_text};
 
 use crate::reading::Placed;
@@ -88,29 +87,18 @@ fn put_place(text: &mut Vec<u8>, place: Option<Place>) -> Result<(), AllocError>
     text.extend_from_slice(b": ")
 }
 
-/// The hint, if it is given.
-fn hint(is_pair: bool) -> &'static str
-    ensures { result.now ≡ hint_text is_pair }
-{
-    if is_pair {
-        "the value is of two parts: if it is a key and a value, say --keyed\n"
-    } else {
-        ""
-    }
-}
-
-/// The lines of an explanation that follow that of the refusal: where the fault stands and what is asked there, and a hint if there is one.
+/// The lines of an explanation that follow that of the refusal: where the fault stands and what is asked there, and hints if there are any.
 pub fn refusal_lines(
     alloc: Global,
     refusal: Refusal,
     placed: &Placed,
 ) -> Result<Vec<u8>, OutOfMemory>
-    ensures { IfOk result (λ lines. lines.items ≡ refused_text placed.now.places refusal ++ hint_text placed.now.is_pair) }
+    ensures { IfOk result (λ lines. lines.items ≡ refused_text placed.now.places refusal ++ placed.now.hints.items) }
 {
     let mut text = Vec::new(alloc);
     put_place(&mut text, place_of(refusal, &placed.places))?;
     text.extend_from_slice(sentence(refusal).as_bytes())?;
     text.push(b'\n')?;
-    text.extend_from_slice(hint(placed.is_pair).as_bytes())?;
+    text.extend_from_slice(placed.hints.as_slice())?;
     Ok(text)
 }

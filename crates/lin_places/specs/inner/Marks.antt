@@ -11,7 +11,7 @@ use Rattle.lin_events.specs.declared.events.Event.{Event}
 use Rattle.lin_events.specs.declared.lists.OutOfMemory.{OutOfMemory}
 use Rattle.lin_history.specs.declared.table.EventFault.{EventFault}
 use Rattle.lin_history.specs.declared.follow.FollowFault.{FollowFault}
-use Rattle.lin_places.specs.Places.{place_at, AreTags, is_row, Begins, ArePlaces, StopsAt, is_bad}
+use Rattle.lin_places.specs.Places.{place_at, AreTags, is_row, Begins, ArePlaces, StopsAt, is_bad, IsBehind}
 use Rattle.lin_texts.specs.declared.place.Place.{Place}
 use Rattle.lin_places.specs.declared.place.Cursor.{Cursor}
 use Rattle.lin_places.specs.declared.place.Stop.{Stop}
@@ -100,10 +100,10 @@ abbrev pub AreMarked : Reading → List ℕ → Told → Cursor → List Place �
 AreMarked m text t from old new (maps.Sound next) = IsSound m text t from old next new
 AreMarked m text t from old new (maps.Bad bad) = IsUnsound m text t from old bad new
 
--- the maps of an element are passed up to a place, if they are without fault
-abbrev pub ArePassed : List ℕ → ℕ → Maps → Type 0
-ArePassed text until (maps.Sound next) = (next.at ≡ until) × Fits text next
-ArePassed text until (maps.Bad bad) = Unit {0}
+-- the maps of an element that begins at a place are passed up to another, if they are without fault; else the bad one isn't before the element
+abbrev pub ArePassed : List ℕ → Place → ℕ → Maps → Type 0
+ArePassed text from until (maps.Sound next) = (next.at ≡ until) × Fits text next
+ArePassed text from until (maps.Bad bad) = from.offset ≤ bad.offset
 
 -- what is read of a text up to a place, and the places in it
 abbrev pub IsReadTo : Reading → List ℕ → Place → List Place → Type 0
@@ -129,10 +129,10 @@ IsFront m text place old new (front.Element next) =
     (whole : List ℕ) → text ≡ drop place.offset whole → IsReadTo m whole place old → (next.place.offset ≡ place.offset + next.at) × IsReadTo m whole next.place new
 IsFront m text place old new (front.End r) = IsRead m text place old new r
 
--- what is done with lies within the text, and some of it with an element
+-- what is done with lies within the text, and some of it with an element; a fault isn't before it
 abbrev pub IsPassed : List ℕ → Front → Type 0
 IsPassed text (front.Element next) = Fits text next × (1 ≤ next.at)
-IsPassed text (front.End r) = Fits text r.next
+IsPassed text (front.End r) = Fits text r.next × IsBehind r.next.place r.stop
 
 -- a text that is held goes on with what is unfinished in front of it, or is blank
 abbrev pub IsResting : List ℕ → Place → Stop → Type 0

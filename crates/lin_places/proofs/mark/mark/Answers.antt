@@ -4,10 +4,10 @@ use Rattle.lin_edn.specs.Value.{values_of}
 use Rattle.lin_edn.specs.View.{view}
 use Rattle.lin_history.specs.Reading.{Reading, IsReading}
 use Rattle.lin_history.specs.Stream.{told, told_by}
-use Rattle.lin_places.specs.inner.Marks.{AreMarked, IsAmong}
+use Rattle.lin_places.specs.inner.Marks.{AreMarked, ArePassed, IsAmong}
 use Rattle.lin_places.specs.Places.{place_at}
 use Rattle.lin_places.proofs.Telling.{told_row}
-use Rattle.lin_places.proofs.Marking.{standing, marked_from, lone_sound, lone_unsound, marked_sound, marked_bad, among_ends}
+use Rattle.lin_places.proofs.Marking.{standing, marked_from, lone_sound, lone_unsound, marked_sound, marked_bad, among_ends, passed_from}
 use Rattle.lin_places.proofs.mark.mark.Goals as goal
 
 pub row_begun-requires-clause-stands : goal.row_begun-requires-clause-stands
@@ -45,6 +45,11 @@ mark_all-requires-clause-among c =
     let ends : c.in_ok-from-in-Some.from ≤ c.args.part.until = among_ends _ _ _ _ _ row.1 in
     let inside = within.1 in
     subst (λ (i : ℕ). IsAmong c.args.text.now i [] (map view c.in-Some.items.now) c.args.part.until) (sym c.go_to.ensures.at) row.1
+
+pub returns-in_ok-from-in-Some-clause-passed : goal.returns-in_ok-from-in-Some-clause-passed
+returns-in_ok-from-in-Some-clause-passed c =
+    IfOk-weaker c.mark_all.result (ArePassed c.args.text.now c.go_to.result.place c.args.part.until) (ArePassed c.args.text.now c.args.part.from.place c.args.part.until)
+    (λ maps passed. passed_from c.args.text.now c.args.part.from.place c.go_to.result.place c.args.part.until maps c.go_to.ensures.behind passed) c.mark_all.ensures.passed
 
 pub returns-in_ok-from-in-Some-clause-marked : goal.returns-in_ok-from-in-Some-clause-marked
 returns-in_ok-from-in-Some-clause-marked c =

@@ -44,6 +44,7 @@ loop-item-init c =
     record {
       begun = begins_itself c.args.names.now;
       fits = c.requires.fits;
+      behind = omega arith;
       among = c.requires.among;
       put = ([], sym (append-nil places));
       sound = λ k is. ([], refl, λ whole p es up. (up.2, subst (λ l. ArePlaces k whole l places) (sym (append-nil es)) up.3));
@@ -119,6 +120,7 @@ loop-item-preserved c =
     record {
       begun = begins_on c.args.names.now c.loop-item.names c.mark_one.new.names c.loop-item.invariant.begun c.in_ok-mark_one.ensures.begun;
       fits = c.go_to-next.ensures.fits;
+      behind = omega (arith, c.loop-item.invariant.behind, c.go_to-here.ensures.behind, c.go_to-next.ensures.behind);
       among = subst (λ (i : ℕ). IsAmong c.args.text.now i (take (c.loop-item.item-index + 1) (map view c.args.items.now)) (drop (c.loop-item.item-index + 1) (map view c.args.items.now)) c.args.part.until) at
           (subst (λ (l : List Value). IsAmong c.args.text.now n.used l (drop (c.loop-item.item-index + 1) (map view c.args.items.now)) c.args.part.until) list n.among);
       put = put_again _ _ _ c.loop-item.invariant.put c.in_ok-mark_one.ensures.put;

@@ -35,7 +35,7 @@ returns-in-End-clause-put c = put_again _ _ _ c.elements.invariant.put c.in_ok-n
 pub returns-in-End-clause-fits : goal.returns-in-End-clause-fits
 returns-in-End-clause-fits c =
     let passed = rw (rest_is c.args.text.now c.elements.at) at (rw c.in-End.is at c.in_ok-next.ensures.passed) in
-    end_fits c.args.text.now c.elements.at c.elements.place c.in-End.read.next c.elements.invariant.up passed
+    end_fits c.args.text.now c.elements.at c.elements.place c.in-End.read.next c.elements.invariant.up passed.0
 
 pub returns-in-End-clause-read : goal.returns-in-End-clause-read
 returns-in-End-clause-read c = λ k is.

@@ -1,20 +1,13 @@
-use Rattle.std.proofs.Common.{[], rules, Err, Bool, ℕ, List, false, take, ◌++◌, ◌∙◌, refl, sym, ap, subst, arith, true≢false}
+use Rattle.std.proofs.Common.{[], rules, Err, take, ◌++◌, ◌∙◌, refl, sym, ap, subst, arith}
 use Rattle.std.proofs.KnownBytes.{Consumes-trans}
 use Rattle.lin_formats.specs.lemmas.Reading.{consumed_end, ends_at_end, refused_for, not_refused, not_refused_so, stops_for, longer, fits}
 use Rattle.lin_formats.specs.Histories.{IsHistory}
 use Rattle.lin_formats.specs.Intakes.{IsFed}
-use Rattle.lin_formats.specs.declared.inputs.History.{History}
-use Rattle.lin_formats.specs.declared.inputs.History.TheVariants.{Whole, Refused}
-use Rattle.lin_places.specs.Places.{Marked}
 use Rattle.lin_names.specs.lemmas.Begins.{begins_itself, begins_on}
-use Rattle.lin_reading.specs.Hints.{IsPairTold}
+use Rattle.lin_history.specs.Reading.{Reading}
+use Rattle.lin_reading.proofs.Calm.{calm_so}
 use Rattle.lin_reading.proofs.Later.{fed_later, reading_before, refused_later}
 use Rattle.lin_reading.proofs.reading.read_any.Goals as goal
-
--- where the text came to its end, nothing is told
-none_told : (keyed : Bool) (bytes : List ℕ) (marked : Marked) (history : History) → IsPairTold keyed bytes marked history false
-none_told keyed bytes marked (Whole events) = refl
-none_told keyed bytes marked (Refused refusal) = λ told. absurd (true≢false (sym told))
 
 pub pieces-init : goal.pieces-init
 pieces-init g c = record {
@@ -28,8 +21,10 @@ pieces-init g c = record {
   keyed = c.new-follow.ensures.keyed;
   room = refl;
   counted = omega arith;
-  tail = c.new-tail.ensures;
+  first = c.new-first.ensures.items;
   marks = λ m is. c.new-places.ensures.marks m is.0;
+  held = c.new-places.ensures.held;
+  calm = c.new-places.ensures.calm;
   keyed_places = c.new-places.ensures.keyed;
   uncounted = refl;
 }
@@ -46,7 +41,8 @@ returns-then-count-eq0-clause-read g c =
       subst (λ k. IsHistory k c.pieces.names v.bytes history) v.keyed (c.in_ok-history.ensures v.bytes v.taken),
       v.marks,
       v.keyed_places,
-      none_told _ _ _ history,
+      v.held,
+      v.first,
     )
 
 pub returns-in_err-refusal-clause-too_much : goal.returns-in_err-refusal-clause-too_much
@@ -63,15 +59,18 @@ returns-in-Some-clause-read g c =
     let bytes = v.bytes ++ take c.in-Ok.count c.read.new.buf in
     let more = longer c.pieces.counter c.in-Ok.count v.bytes c.read.new.buf v.counted c.in-Ok.ensures.bound.0 (omega arith) in
     let first = c.in_ok-refusal.ensures.begun in
-    let second = c.in_ok-feed.ensures.begun in (
+    let second = c.in_ok-feed.ensures.begun in
+    let numbering = c.some_numbering.ensures.numbering in
+    let reading : Reading = record { keyed = c.args.keyed; number = numbering.0 } in (
       bytes,
       Consumes-trans _ _ _ v.bytes _ v.consumed c.in-Ok.ensures.bytes.0,
       fits _ v.bytes _ (omega (arith, v.room, c.read.auto.buf, c.in-Ok.ensures.bound)) v.going (c.in_ok-refusal.ensures.within v.bytes v.taken) _ more.1,
       stops_for _ _ _ c.in-Some.is c.in_ok-refusal.ensures.stops,
       refused_later _ _ second c.args.keyed bytes _ (refused_for _ _ _ c.args.keyed _ bytes _ c.in-Some.is (c.in_ok-refusal.ensures.keyed ∙ v.keyed) (c.in_ok-refusal.ensures.taken v.bytes v.taken)),
-      λ m is. c.in_ok-feed.ensures.feeds.1 m is.1 v.bytes (v.marks m (reading_before _ _ (begins_on _ _ _ first second) c.args.keyed m is)),
+      λ m is. (c.in_ok-feed.ensures.feeds.1 m is.1 v.bytes (v.marks m (reading_before _ _ (begins_on _ _ _ first second) c.args.keyed m is))).0,
       c.in_ok-feed.ensures.feeds.0 ∙ v.keyed_places,
-      λ told. c.is_of_two_parts-is_pair.ensures told bytes (c.in_ok-feed-2.ensures v.bytes v.tail),
+      (c.in_ok-feed.ensures.feeds.1 reading numbering.1 v.bytes (v.marks reading (reading_before _ _ (begins_on _ _ _ first second) c.args.keyed reading (refl, numbering.1)))).1 v.calm,
+      c.in_ok-keep_first.ensures v.bytes v.first,
     )
 
 pub pieces-preserved : goal.pieces-preserved
@@ -81,18 +80,26 @@ pieces-preserved g c =
     let first = c.in_ok-refusal.ensures.begun in
     let second = c.in_ok-feed.ensures.begun in
     let both = begins_on _ _ _ first second in
+    let numbering = c.some_numbering.ensures.numbering in
+    let reading : Reading = record { keyed = c.args.keyed; number = numbering.0 } in
+    let here = c.in_ok-feed.ensures.feeds.1 reading numbering.1 v.bytes (v.marks reading (reading_before _ _ both c.args.keyed reading (refl, numbering.1))) in
+    let fed = fed_later _ _ second _ _ _ (not_refused _ _ _ c.in_default-refusal.is (c.in_ok-refusal.ensures.taken v.bytes v.taken)) in
+    let keyed = c.in_ok-refusal.ensures.keyed ∙ v.keyed in
+    let going = not_refused_so _ _ c.in_default-refusal.is c.in_ok-refusal.ensures.goes_on in
     record {
       bytes = v.bytes ++ take c.in-Ok.count c.read.new.buf;
       begun = begins_on _ _ _ v.begun both;
       consumed = Consumes-trans _ _ _ v.bytes _ v.consumed c.in-Ok.ensures.bytes.0;
-      taken = fed_later _ _ second _ _ _ (not_refused _ _ _ c.in_default-refusal.is (c.in_ok-refusal.ensures.taken v.bytes v.taken));
-      going = λ _. not_refused_so _ _ c.in_default-refusal.is c.in_ok-refusal.ensures.goes_on;
+      taken = fed;
+      going = λ _. going;
       within = fits _ v.bytes _ (omega (arith, v.room, c.read.auto.buf, c.in-Ok.ensures.bound)) v.going (c.in_ok-refusal.ensures.within v.bytes v.taken) _ more.1;
-      keyed = c.in_ok-refusal.ensures.keyed ∙ v.keyed;
+      keyed = keyed;
       room = c.read.auto.buf ∙ v.room;
       counted = more.0;
-      tail = c.in_ok-go_on.ensures v.bytes v.tail;
-      marks = λ m is. c.in_ok-feed.ensures.feeds.1 m is.1 v.bytes (v.marks m (reading_before _ _ both c.args.keyed m is));
+      first = c.in_ok-keep_first.ensures v.bytes v.first;
+      marks = λ m is. (c.in_ok-feed.ensures.feeds.1 m is.1 v.bytes (v.marks m (reading_before _ _ both c.args.keyed m is))).0;
+      held = here.1 v.calm;
+      calm = calm_so c.some_numbering.ensures.streams reading _ _ _ _ (fed.sees reading (sym keyed, numbering.1)) here.0 going;
       keyed_places = c.in_ok-feed.ensures.feeds.0 ∙ v.keyed_places;
       uncounted = c.in-Ok.ensures.counts ∙ v.uncounted;
     }

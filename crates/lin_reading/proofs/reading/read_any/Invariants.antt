@@ -5,8 +5,8 @@ use Rattle.lin_names.specs.Names.{Begins}
 use Rattle.std.specs.Io.KnownBytes.{Consumes}
 use Rattle.lin_formats.specs.Devices.{device_of, failures_of}
 use Rattle.lin_formats.specs.Intakes.{IsFed}
-use Rattle.lin_places.specs.Places.{Marks}
-use Rattle.lin_reading.specs.inner.Tails.{IsTail}
+use Rattle.lin_places.specs.Places.{IsHeld, Marks, is_bad}
+use Rattle.lin_reading.specs.Hints.{beginning}
 use Rattle.lin_reading.proofs.reading.read_any.Given as goal
 
 abbrev pub invariant-pieces : goal.invariant-pieces
@@ -20,8 +20,10 @@ invariant-pieces g l = record {
   keyed : l.follow.keyed ≡ l.fn.keyed;
   room : length l.piece ≡ 65536;
   counted : l.counter ≤ length bytes;
-  tail : IsTail l.tail bytes;
+  first : l.first.items ≡ beginning bytes;
   marks : (m : Reading) → IsReading l.fn.keyed l.names m → Marks m l.places bytes;
+  held : IsHeld l.places bytes;
+  calm : is_bad l.places.stop ≡ false;
   keyed_places : l.places.keyed ≡ l.fn.keyed;
   uncounted : failures_of l.file ≡ failures_of l.fn.file;
 }

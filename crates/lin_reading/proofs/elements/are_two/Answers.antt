@@ -1,5 +1,5 @@
 use Rattle.lin_reading.proofs.ValuePairs.{are_two}
-use Rattle.lin_reading.proofs.pairs.are_two.Goals as goal
+use Rattle.lin_reading.proofs.elements.are_two.Goals as goal
 
 pub returns : goal.returns
 returns c = are_two c.args.items.now

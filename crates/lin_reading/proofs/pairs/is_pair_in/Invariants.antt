@@ -1,9 +1,0 @@
-use Rattle.std.proofs.Common.{◌≡◌, codes, drop, map}
-use Rattle.lin_edn.specs.Value.{entries_of}
-use Rattle.lin_edn.specs.View.{entry_view}
-use Rattle.lin_history.specs.Table.{under}
-use Rattle.lin_reading.proofs.pairs.is_pair_in.Given as goal
-
-abbrev pub invariant-loop-entry : goal.invariant-loop-entry
-invariant-loop-entry l =
-    under (codes ":value") (entries_of (map entry_view l.entries)) ≡ under (codes ":value") (entries_of (map entry_view (drop l.entry-index l.entries)))
