@@ -101,6 +101,8 @@ module _ (alternates : WellFormedIsAlternating) (kind : Kind) (invoked : Invocat
         fails = fails;
         before = subst (IsLegalHistory kind) (sym is_ahead) (record { well_formed = (functions, fine_ahead); legal = before });
         failing = (done.0, (length ahead, returns done.0 done.3, last));
+        ends = ap (λ l. l ++ ending ∷ []) (sym is_ahead);
+        well_formed = (functions, fine);
         uncrashed = subst (λ l. HasNotCrashed l ending.process) (sym is_ahead) (none_crashed done.0 done.1 done.2 done.3);
       }
 
@@ -133,6 +135,14 @@ module _ (begins : BeginningsAreWellFormed) (fine_parts : PartsAreWellFormed) (l
       let same : part key (take at h) ≡ part key (take (at + 1) h) = sym ((grow key (take at h) ending).same differ) ∙ sym (ap (part key) longer) in
       (by_part key (at + 1)).1 (subst (IsLinearizableAs (kinds key)) same ((by_part key at).0 lin))
 
+  -- so an object fails with an event of its own
+  pub object_same : (key : Item) → IsLinearizableFor kinds key (take at h) → (IsLinearizableFor kinds key (take (at + 1) h) → ⊥) → ending.key ≡ key
+  object_same key lin fails = by (item_eq ending.key key) refl
+    where
+      by : (b : Bool) → item_eq ending.key key ≡ b → ending.key ≡ key
+      by true e = (Decides-item_eq ending.key key).0 e
+      by false e = absurd (fails (other_stays key (λ same. false≢true (sym e ∙ (Decides-item_eq ending.key key).1 same)) lin))
+
   module _ (end_so : FailuresEnd (kinds ending.key)) where
     own_fails : IsLinearizableFor kinds ending.key (take at h) → (IsLinearizableFor kinds ending.key (take (at + 1) h) → ⊥)
         → IsFailure (kinds ending.key) (part ending.key (take (at + 1) h)) ending
@@ -146,13 +156,9 @@ module _ (begins : BeginningsAreWellFormed) (fine_parts : PartsAreWellFormed) (l
 
     pub object_fails : (key : Item) → IsLinearizableFor kinds key (take at h) → (IsLinearizableFor kinds key (take (at + 1) h) → ⊥)
         → IsFailure (kinds ending.key) (part ending.key (take (at + 1) h)) ending
-    object_fails key lin fails = by (item_eq ending.key key) refl
-      where
-        by : (b : Bool) → item_eq ending.key key ≡ b → IsFailure (kinds ending.key) (part ending.key (take (at + 1) h)) ending
-        by true e =
-            let same = (Decides-item_eq ending.key key).0 e in
-            own_fails (subst (λ k. IsLinearizableFor kinds k (take at h)) (sym same) lin) (λ own. fails (subst (λ k. IsLinearizableFor kinds k (take (at + 1) h)) same own))
-        by false e = absurd (fails (other_stays key (λ same. false≢true (sym e ∙ (Decides-item_eq ending.key key).1 same)) lin))
+    object_fails key lin fails =
+        let same = object_same key lin fails in
+        own_fails (subst (λ k. IsLinearizableFor kinds k (take at h)) (sym same) lin) (λ own. fails (subst (λ k. IsLinearizableFor kinds k (take (at + 1) h)) same own))
 
     pub whole_fails : IsLinearizable kinds (take at h) → (IsLinearizable kinds (take (at + 1) h) → ⊥)
         → IsFailure (kinds ending.key) (part ending.key (take (at + 1) h)) ending

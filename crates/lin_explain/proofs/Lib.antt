@@ -2,6 +2,7 @@ pub mod Answered
 pub mod Before
 pub mod Counting
 pub mod Failing
+pub mod FailureLaws
 pub mod Noes
 pub mod Parting
 pub mod Passing

@@ -3,6 +3,7 @@ pub mod Counts
 pub mod Failures
 pub mod Heads
 pub mod IllFormed
+pub mod Laws
 pub mod Own
 pub mod Parts
 pub mod Possible

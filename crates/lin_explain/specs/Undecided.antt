@@ -10,12 +10,14 @@ use Rattle.lin_window.specs.Operations.{Exactly, IsOpenAt}
 use Rattle.lin_window.specs.Tables.{IsTable, Told, open_ones}
 use Rattle.lin_words.specs.Operations.{event_text}
 use Rattle.lin_words.specs.Spots.{event_spot_text}
+use Rattle.lin_explain.specs.Certain.{IsCertainText}
 use Rattle.lin_explain.specs.Heads.{object_text}
 use Rattle.lin_explain.specs.Own.{IsStretch}
 use Rattle.lin_explain.specs.Parts.{IsSpot}
 use Rattle.lin_explain.specs.declared.parts.Parts.{Parts}
 use Rattle.lin_explain.specs.declared.parts.Parts.TheVariants as Part
 use Rattle.lin_explain.specs.declared.parts.Spot.{Spot}
+use Rattle.lin_explain.specs.declared.parts.Why.{Why}
 
 -- the event with which there are too many
 abbrev pub event_line : List (List ℕ) → Kind → ℕ → Option (List Place) → ℕ → Event → List ℕ
@@ -60,15 +62,21 @@ pub record IsOpenText (stretch : Told) (budget : ℕ) (keyed : Bool) (lines : Li
   pub is_table : IsTable stretch open_ones table
   pub says : lines ≡ (open_line running crashed ++ table) ++ helps budget keyed running crashed
 
--- The lines: the event with which there are too many, and which operations of its object are open behind it. The parts have the object and the event.
+-- The lines: the event with which there are too many, which operations of its object are open behind it, and a certificate of all events of the
+-- object, if one is told. The parts have the object, the event, and what the certificate says.
 pub record IsUndecidedText (names : List (List ℕ)) (now : Present) (keyed : Bool) (places : Option (List Place)) (at : ℕ) (lines : List ℕ) (parts : Parts) : Type 0 where
   pub event : Event
   pub stretch : Told
   pub back : List ℕ
+  pub whole : Told
+  pub certain : List ℕ
+  pub why : Option Why
   pub spot : Spot
   pub stands : IsEvent now.history at event
   pub own : IsStretch names event.key (take (at + 1) now.history) places stretch
   pub is_open : IsOpenText stretch now.budget keyed back
-  pub says : lines ≡ event_line names (kinds_in now event.key) now.budget places at event ++ back
+  pub whole_own : IsStretch names event.key now.history places whole
+  pub is_certain : IsCertainText (kinds_in now event.key) whole certain why
+  pub says : lines ≡ (event_line names (kinds_in now event.key) now.budget places at event ++ back) ++ certain
   pub is_spot : IsSpot names places at event spot
-  pub parts_told : parts ≡ Part.Undecided event.key (kinds_in now event.key) spot
+  pub parts_told : parts ≡ Part.Undecided event.key (kinds_in now event.key) spot why

@@ -30,6 +30,7 @@ form_name (Form.Split first second item other) = codes "split"
 form_name (Form.Late earlier add read item other) = codes "late"
 form_name (Form.Twice first second) = codes "twice"
 form_name Form.Counted = codes "counted"
+form_name (Form.Within calls from to) = codes "within"
 
 -- the same spellings, events, positions and places, with the next event of each one's process
 pub record IsSource (stretch : Told) (source : Source) : Type 0 where

@@ -23,4 +23,4 @@ abbrev pub most_passes : Answer → ℕ
 most_passes (IllFormed at cause) = 1
 most_passes (Yes order) = 10
 most_passes (No n) = 7
-most_passes (Undecided at) = 5
+most_passes (Undecided at) = 6

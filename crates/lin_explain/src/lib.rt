@@ -15,11 +15,13 @@ mod passes;
 mod possible;
 mod since;
 mod spots;
+mod sums;
 mod telling;
 mod undecided;
 mod whys;
 mod yes;
 
-pub use certain::{noes_are_certain, put_certain};
+pub use certain::{certificates_are_certain, noes_are_certain, put_certain};
+pub use laws::failures_are_explained;
 pub use parts::{Choices, Explanation, Failed, Parts, Spot, Why};
 pub use telling::{Asked, explanation_from, explanation_of};

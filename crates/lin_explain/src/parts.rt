@@ -53,12 +53,22 @@ pub struct Failed {
 #[derive(Drop)]
 pub enum Parts {
     /// The object that was asked about with its kind, if one was.
-    Yes { object: Option<(Item, Kind)> },
+    Yes {
+        object: Option<(Item, Kind)>,
+    },
     No(Failed),
-    /// The object that has too many configurations, and the event with which it has them.
-    Undecided { key: Item, kind: Kind, event: Spot },
+    /// The object that has too many configurations, the event with which it has them, and the certificate of all its events that is told, if one
+    /// is: then it has no legal order all the same.
+    Undecided {
+        key: Item,
+        kind: Kind,
+        event: Spot,
+        why: Option<Why>,
+    },
     /// The first bad event.
-    IllFormed { event: Spot },
+    IllFormed {
+        event: Spot,
+    },
 }
 
 /// An explanation of an answer.

@@ -84,7 +84,7 @@ fn put_answer(
 /// An explanation of the answer: the lines that follow the answer's own, and what they say in parts.
 ///
 /// A step is counted for each event that is looked at, as often as it is: of a yes ten times, once for each count; of a no once, to find those of
-/// its object, then these four times, and as they are taken in, in all at most seven times; of what is undecided at most five times. What a search for a certificate looks at, and the keys, which are sorted, aren't
+/// its object, then these four times, and as they are taken in, in all at most seven times; of what is undecided at most six times. What a search for a certificate looks at, and the keys, which are sorted, aren't
 /// counted.
 pub fn explanation_of(
     alloc: Global,

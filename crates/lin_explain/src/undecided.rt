@@ -9,6 +9,7 @@ ghost use Rattle.lin_window.specs.Tables.{told_of};
 ghost use Rattle.lin_explain.specs.Undecided.{IsOpenText, IsUndecidedText, end_text, event_line, front_text, help_text, helps, helps_text, open_line};
 ghost use Rattle.lin_explain.specs.inner.Own.{stretch_of};
 
+use crate::certain::put_certain_reason;
 use crate::heads::{kind_for, put_object};
 use crate::own::{Own, own_of};
 use crate::parts::Parts;
@@ -191,8 +192,8 @@ fn put_object_open(
     put_open(alloc, text, &stretch, budget, keyed)
 }
 
-/// Puts what is told last where the events up to and with a position are too many for the budget. The pass through these is counted, and those
-/// through the events of the object.
+/// Puts what is told last where the events up to and with a position are too many for the budget. The pass through these is counted, those
+/// through the events of the object, and the one through all events for what is certain all the same.
 pub(crate) fn put_undecided(
     alloc: Global,
     text: &mut Vec<u8>,
@@ -207,7 +208,7 @@ pub(crate) fn put_undecided(
         × (text.new.items ≡ text.old.items ++ lines)) }
     ensures counted { OnOk result ((event : EventOf) → IsEvent present.now.history at event
         → ticked meter.old.steps ((at + 1) + 4 * length (part event.key (take (at + 1) present.now.history))) ≤ meter.new.steps) }
-    ensures most { meter.new.steps ≤ meter.old.steps + 5 * (at + 1) }
+    ensures most { meter.new.steps ≤ meter.old.steps + 6 * length present.now.history }
     ensures scans { meter.new.scans ≡ meter.old.scans }
 {
     let Some(event) = present.event(at) else {
@@ -220,9 +221,11 @@ pub(crate) fn put_undecided(
     let own = own_of(alloc, present, event, at + 1, meter)?;
     tick_passes(meter, OWN_PASSES, own.events.len());
     put_object_open(alloc, text, &own, budget, origin, keyed)?;
+    let why = put_certain_reason(alloc, text, present, event, kind, origin, meter)?;
     Ok(Parts::Undecided {
         key: event.key,
         kind,
         event: spot_of(alloc, origin, at, event)?,
+        why,
     })
 }

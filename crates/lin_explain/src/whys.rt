@@ -3,7 +3,7 @@ ghost use Rattle.std.specs.Prelude.{◌≡◌, ◌++◌, ℕ, List, IfOk, map};
 ghost use Rattle.lin_certificates.specs.Certificates.{Certifies};
 ghost use Rattle.lin_orders.specs.Tables.{IsNextTable};
 ghost use Rattle.lin_window.specs.Tables.{position_in, told_of};
-ghost use Rattle.lin_explain.specs.Whys.{IsWhyText, form_name as name_of};
+ghost use Rattle.lin_explain.specs.Whys.{IsWhy, IsWhyText, form_name as name_of};
 
 use crate::parts::Why;
 use lin_candidates::find_certificate;
@@ -43,6 +43,7 @@ fn form_name(certificate: &Certificate) -> &'static str
         Certificate::Late { .. } => "late",
         Certificate::Twice { .. } => "twice",
         Certificate::Counted => "counted",
+        Certificate::Within { .. } => "within",
     }
 }
 
@@ -67,18 +68,25 @@ fn positions(alloc: Global, picks: &[usize], places: &[usize]) -> Result<Vec<usi
     Ok(found)
 }
 
+/// A certificate that is told.
+#[derive(Drop)]
+pub(crate) struct Certified {
+    /// Where the operations were invoked that are named, among the object's own events, rising.
+    pub(crate) named: Vec<usize>,
+    pub(crate) why: Why,
+}
+
 /// Puts the lines of a certificate last that holds of the object's events.
-fn put_certificate(
+pub(crate) fn put_certificate(
     alloc: Global,
     text: &mut Vec<u8>,
     kind: Kind,
     stretch: &Stretch,
     certificate: &Certificate,
-) -> Result<Reason, OutOfMemory>
+) -> Result<Certified, OutOfMemory>
     requires table { IsNextTable stretch.now.events.now stretch.now.ends.now }
     requires holds { Certifies stretch.now.events.now kind certificate.now }
-    ensures { IfOk result (λ reason. (lines : List ℕ) × ((call : ℕ) → IsWhyText kind (told_of stretch.now) call lines reason.named.items reason.why)
-        × (text.new.items ≡ text.old.items ++ lines)) }
+    ensures { IfOk result (λ told. (lines : List ℕ) × IsWhy kind (told_of stretch.now) lines told.named.items told.why × (text.new.items ≡ text.old.items ++ lines)) }
 {
     let told = Told {
         names: stretch.names,
@@ -93,10 +101,7 @@ fn put_certificate(
         name: form_name(certificate),
         calls,
     };
-    Ok(Reason {
-        named,
-        why: Some(why),
-    })
+    Ok(Certified { named, why })
 }
 
 /// Puts the lines of a certificate last that holds of the object's events, or that none was found, where the failing operation, which was invoked
@@ -113,7 +118,13 @@ pub(crate) fn put_why(
         × (text.new.items ≡ text.old.items ++ lines)) }
 {
     match find_certificate(alloc, stretch.events, kind, call)? {
-        Some(certificate) => put_certificate(alloc, text, kind, stretch, &certificate),
+        Some(certificate) => {
+            let told = put_certificate(alloc, text, kind, stretch, &certificate)?;
+            Ok(Reason {
+                named: told.named,
+                why: Some(told.why),
+            })
+        }
         None => {
             text.extend_from_slice(b"why: no short reason was found\n")?;
             Ok(Reason {

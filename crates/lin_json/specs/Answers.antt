@@ -8,7 +8,7 @@ use Rattle.lin_texts.specs.declared.status.Status.{Status}
 use Rattle.lin_texts.specs.declared.status.Status.TheVariants.{Yes, No, Undecided, IllFormed, Refused}
 use Rattle.lin_json.specs.Strings.{string_json}
 
--- only a yes says that the history is linearizable, and only a no that it isn't, or an undecided whole of which an object is a no
+-- only a yes says that the history is linearizable, and only a no that it isn't, or what is undecided and has no legal order all the same
 abbrev pub valid_text : Status → Bool → List ℕ
 valid_text Yes fails = codes "true"
 valid_text No fails = codes "false"
@@ -29,6 +29,10 @@ status_number Refused = 4
 abbrev pub head_json : Bool → Status → List ℕ → List ℕ
 head_json fails status answer = codes "\"valid?\":" ++ valid_text status fails ++ codes ",\"status\":" ++ decimal (status_number status)
     ++ codes ",\"answer\":" ++ string_json answer
+
+-- what stands in front of a map that tells of a file of this name, in place of the brace that opens it
+abbrev pub file_front : List ℕ → List ℕ
+file_front name = codes "{\"file\":" ++ string_json name ++ codes ","
 
 -- an answer alone
 abbrev pub answer_json : Status → List ℕ → List ℕ

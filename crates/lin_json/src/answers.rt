@@ -1,7 +1,7 @@
 //! Answers, of a whole history and of its objects.
 ghost use Rattle.std.specs.Prelude.{◌≡◌, ◌++◌, OnOk, codes, is_some};
 ghost use Rattle.lin_texts.specs.Items.{item_text};
-ghost use Rattle.lin_json.specs.Answers.{answer_json, counted_json, failed_key, head_json, named_json, object_json, objects_front, status_number as number_of, valid_text};
+ghost use Rattle.lin_json.specs.Answers.{answer_json, counted_json, failed_key, file_front, head_json, named_json, object_json, objects_front, status_number as number_of, valid_text};
 ghost use Rattle.lin_json.specs.Strings.{string_json};
 
 use crate::strings::put_string;
@@ -52,6 +52,16 @@ pub(crate) fn put_head(text: &mut Vec<u8>, head: Head, fails: bool) -> Result<()
     put_number(text, status_number(head.status))?;
     text.extend_from_slice(b",\"answer\":")?;
     put_string(text, head.answer)
+}
+
+/// Puts last what stands in front of a map that tells of a file of this name, in place of the brace that opens it.
+pub fn put_file_front(text: &mut Vec<u8>, name: &[u8]) -> Result<(), AllocError>
+    ensures { OnOk result (text.new.items ≡ text.old.items ++ file_front name.now) }
+{
+    text.extend_from_slice(b"{\"file\":")?;
+    put_string(text, name)?;
+    text.push(b',')?;
+    Ok(())
 }
 
 /// Puts the map last that says an answer and nothing else.

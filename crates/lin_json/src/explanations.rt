@@ -1,13 +1,15 @@
 //! Explanations.
-ghost use Rattle.std.specs.Prelude.{◌≡◌, ◌++◌, OnOk, is_some, option_map};
+ghost use Rattle.std.specs.Prelude.{◌≡◌, ◌++◌, ◌||◌, OnOk, is_some, option_map};
 ghost use Rattle.lin_json.specs.Answers.{counted_json};
-ghost use Rattle.lin_json.specs.Explanations.{event_json, explanation_json, failed_map, object_named, parts_json, refusal_json, told_json};
+ghost use Rattle.lin_json.specs.Failures.{named_event};
+ghost use Rattle.lin_json.specs.Explanations as said;
+ghost use Rattle.lin_json.specs.Explanations.{certain_json, event_json, explanation_json, failed_map, object_named, parts_json, refusal_json, told_json};
 
 use crate::answers::{Head, put_counted, put_head, put_named};
-use crate::failures::{put_failed, put_named_event, put_place, put_spot};
+use crate::failures::{put_failed, put_named_event, put_place, put_spot, put_why};
 use crate::strings::put_string;
 use lin_events::Item;
-use lin_explain::{Parts, Spot};
+use lin_explain::{Parts, Spot, Why};
 use lin_names::Names;
 use lin_objects::Kind;
 use lin_texts::Place;
@@ -38,6 +40,44 @@ fn put_event(text: &mut Vec<u8>, event: &Spot) -> Result<(), AllocError>
     put_spot(text, event)
 }
 
+/// Puts the certificate last that is told of an object that is undecided, if one is.
+fn put_certain(text: &mut Vec<u8>, why: Option<&Why>) -> Result<(), AllocError>
+    ensures { OnOk result (text.new.items ≡ text.old.items ++ certain_json (option_map (λ w. w.now) why.entry)) }
+{
+    match why {
+        Some(_) => {
+            text.extend_from_slice(b",\"why\":")?;
+            put_why(text, why)
+        }
+        None => Ok(()),
+    }
+}
+
+/// Puts an object that is undecided last, the event with which it is, and the certificate that is told of it, if one is.
+fn put_undecided(
+    text: &mut Vec<u8>,
+    names: &Names,
+    key: Item,
+    kind: Kind,
+    event: &Spot,
+    why: Option<&Why>,
+) -> Result<(), AllocError>
+    ensures { OnOk result (text.new.items ≡ text.old.items ++ (named_event names.now key kind event.now ++ certain_json (option_map (λ w. w.now) why.entry))) }
+{
+    put_named_event(text, names, key, kind, event)?;
+    put_certain(text, why)
+}
+
+/// Whether an object that is undecided has no legal order all the same, as is told.
+fn is_certain(parts: &Parts) -> bool
+    ensures { result ≡ said.is_certain parts.now }
+{
+    match parts {
+        Parts::Undecided { why, .. } => why.is_some(),
+        _ => false,
+    }
+}
+
 /// Puts what an explanation says last.
 fn put_parts(text: &mut Vec<u8>, names: &Names, parts: &Parts) -> Result<(), AllocError>
     ensures { OnOk result (text.new.items ≡ text.old.items ++ parts_json names.now parts.now) }
@@ -45,7 +85,12 @@ fn put_parts(text: &mut Vec<u8>, names: &Names, parts: &Parts) -> Result<(), All
     match parts {
         Parts::Yes { object } => put_asked(text, names, *object),
         Parts::No(failed) => put_failed(text, names, failed),
-        Parts::Undecided { key, kind, event } => put_named_event(text, names, *key, *kind, event),
+        Parts::Undecided {
+            key,
+            kind,
+            event,
+            why,
+        } => put_undecided(text, names, *key, *kind, event, why.as_ref()),
         Parts::IllFormed { event } => put_event(text, event),
     }
 }
@@ -60,19 +105,20 @@ fn put_told(text: &mut Vec<u8>, told: &[u8]) -> Result<(), AllocError>
     Ok(())
 }
 
-/// Puts the answer last, and how many events the history has, where an object with this map is a no beside it, or none.
+/// Puts the answer last, and how many events the history has, where this is said of it, and an object with this map is a no beside it, or none.
 fn put_counted_for(
     text: &mut Vec<u8>,
     head: Head,
     events: usize,
+    parts: &Parts,
     failed: Option<&[u8]>,
 ) -> Result<(), AllocError>
     ensures { OnOk result (text.new.items ≡ text.old.items
-        ++ counted_json (is_some (option_map (λ m. m.now) failed.entry)) head.entry.status head.entry.answer.now events) }
+        ++ counted_json (is_some (option_map (λ m. m.now) failed.entry) || said.is_certain parts.now) head.entry.status head.entry.answer.now events) }
 {
     match failed {
         Some(_) => put_counted(text, head, true, events),
-        None => put_counted(text, head, false, events),
+        None => put_counted(text, head, is_certain(parts), events),
     }
 }
 
@@ -103,7 +149,7 @@ pub fn put_explanation(
     ensures { OnOk result (text.new.items ≡ text.old.items
         ++ explanation_json names.now head.entry.status head.entry.answer.now events parts.now (option_map (λ m. m.now) failed.entry) told.now) }
 {
-    put_counted_for(text, head, events, failed)?;
+    put_counted_for(text, head, events, parts, failed)?;
     put_parts(text, names, parts)?;
     put_failed_map(text, failed)?;
     put_told(text, told)

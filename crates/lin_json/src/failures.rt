@@ -105,7 +105,7 @@ fn put_calls(text: &mut Vec<u8>, calls: &[usize]) -> Result<(), AllocError>
 }
 
 /// Puts a certificate last, or that there is none.
-fn put_why(text: &mut Vec<u8>, why: Option<&Why>) -> Result<(), AllocError>
+pub(crate) fn put_why(text: &mut Vec<u8>, why: Option<&Why>) -> Result<(), AllocError>
     ensures { OnOk result (text.new.items ≡ text.old.items ++ why_json (option_map (λ w. w.now) why.entry)) }
 {
     let Some(why) = why else {

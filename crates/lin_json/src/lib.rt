@@ -6,5 +6,5 @@ mod explanations;
 mod failures;
 mod strings;
 
-pub use answers::{Head, put_answer, put_object, put_objects_front};
+pub use answers::{Head, put_answer, put_file_front, put_object, put_objects_front};
 pub use explanations::{put_explanation, put_refusal};

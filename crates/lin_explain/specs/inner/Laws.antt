@@ -14,6 +14,7 @@ use Rattle.lin_answers.specs.Edits.{Present}
 use Rattle.lin_answers.specs.declared.answers.Answer.TheVariants.{No}
 use Rattle.lin_answers.specs.declared.answers.Scope.{Scope}
 use Rattle.lin_window.specs.Operations.{IsFailing}
+use Rattle.lin_explain.specs.Laws.{IsExplained, IsOf}
 use Rattle.lin_explain.specs.Own.{without_last}
 
 -- the events of an object of the kind are well-formed, and have a legal order
@@ -27,6 +28,8 @@ pub record IsFailure (kind : Kind) (h : List Event) (ending : Event) : Type 0 wh
   pub fails : IsLinearizableAs kind h → ⊥
   pub before : IsLegalHistory kind (without_last h)
   pub failing : (call : ℕ) × IsFailing h call
+  pub ends : h ≡ without_last h ++ ending ∷ []
+  pub well_formed : (functions : Item → Name → Bool) × IsWellFormed functions h
   pub uncrashed : HasNotCrashed (without_last h) ending.process
 
 -- each event with which legal orders end is such
@@ -38,6 +41,18 @@ FailuresEnd kind = (functions : Item → Name → Bool) (ahead : List Event) (en
 abbrev pub NoesFail : Kind → Type 0
 NoesFail kind = (now : Present) (scope : Scope) (n : ℕ) (ending : Event) → IsAnswer now scope (No n) → IsEvent now.history (n - 1) ending → kinds_in now ending.key ≡ kind
     → IsFailure kind (part ending.key (take n now.history)) ending
+
+-- that event is of an object that the scope has
+abbrev pub NoesStayInside : Type 0
+NoesStayInside = (now : Present) (scope : Scope) (n : ℕ) (ending : Event) → IsAnswer now scope (No n) → IsEvent now.history (n - 1) ending → IsOf scope ending.key
+
+-- of such a failure the lines of its explanation say this; and so of the object that a no is about, whose kind it is
+abbrev pub FailuresMean : Kind → Type 0
+FailuresMean kind = (h : List Event) (ending : Event) → IsFailure kind h ending → IsExplained kind h ending
+
+abbrev pub NoesMean : Kind → Type 0
+NoesMean kind = (now : Present) (scope : Scope) (n : ℕ) (ending : Event) → IsAnswer now scope (No n) → IsEvent now.history (n - 1) ending → kinds_in now ending.key ≡ kind
+    → IsOf scope ending.key × IsExplained kind (part ending.key (take n now.history)) ending
 
 -- each beginning of events that have a legal order has one
 abbrev pub BeginningsAreLegal : Kind → Type 0
