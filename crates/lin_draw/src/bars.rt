@@ -144,6 +144,15 @@ fn put_label(
     )
 }
 
+/// What follows a bar's fill: what the explanation names is outlined.
+fn outline_of(bar: &Bar) -> &'static str {
+    if bar.is_named {
+        "\" stroke=\"#8a6d00\" stroke-width=\"2\" class=\"named\"/>"
+    } else {
+        "\"/>"
+    }
+}
+
 /// Puts the rectangle of a bar last.
 fn put_rectangle(
     alloc: Global,
@@ -167,7 +176,7 @@ fn put_rectangle(
         ],
     )?;
     put_fill(text, fill, scene.layout.right)?;
-    text.extend_from_slice(b"\"/>")
+    text.extend_from_slice(outline_of(bar).as_bytes())
 }
 
 /// Puts the dashed line last that stands at the info of a crashed operation.

@@ -1,22 +1,33 @@
 //! Which operations are drawn.
 ghost use Rattle.std.specs.Prelude.{◌≡◌, ◌<◌, ◌≤◌, ◌+◌, IfOk, length};
+ghost use Rattle.lin_draw.specs.Pictures.{drawn_at_most};
 ghost use Rattle.lin_orders.specs.Tables.{IsNextTable};
 
-use crate::operations::is_call;
+use crate::operations::{is_call, is_open_behind};
 use crate::own::Own;
 use lin_events::OutOfMemory;
 use lin_texts::number;
 use lin_window::ran_beside;
 use std::alloc::Global;
 
-/// At most so many operations are drawn.
+/// At most so many operations are drawn where nothing is said of that.
 const MOST: usize = 20;
+
+/// How many operations are drawn at most where so many are said, or none.
+pub(crate) fn most_drawn(last: Option<u32>) -> usize
+    ensures { result ≡ drawn_at_most last }
+{
+    match last {
+        Some(count) => count as usize,
+        None => MOST,
+    }
+}
 
 /// What an operation is to a picture.
 #[derive(Clone, Copy)]
 pub(crate) enum Mark {
     Failing,
-    /// The explanation names it.
+    /// The explanation names it, or it is open where there are too many configurations.
     Named,
     /// It ran beside the failing one.
     Beside,
@@ -37,6 +48,10 @@ pub(crate) struct Focus<'a> {
     pub(crate) failing: Option<usize>,
     /// The positions in the history at which operations begin that the explanation names.
     pub(crate) named: &'a [usize],
+    /// How many of the object's events are followed by too many configurations, if some are: what is open behind them is drawn first.
+    pub(crate) stops: Option<usize>,
+    /// At most so many operations are drawn.
+    pub(crate) most: usize,
 }
 
 /// The operations that may be drawn, in the order of their invocations, and how many there are in all.
@@ -58,12 +73,24 @@ impl Mark {
     }
 }
 
+/// The mark of an operation where none fails: whether it is open behind the first events, with which there are too many configurations.
+fn mark_behind(own: &Own, ends: &[Option<usize>], stops: usize, at: usize) -> Mark
+    requires table { IsNextTable own.now.events.items ends.now }
+    requires within { at < length own.now.events.items }
+{
+    if at < stops && is_open_behind(own.events.as_slice(), ends, at, stops) {
+        return Mark::Named;
+    }
+    Mark::Other
+}
+
 /// The mark of an operation.
 fn mark_of(own: &Own, ends: &[Option<usize>], focus: &Focus, at: usize) -> Mark
-    requires { IsNextTable own.now.events.items ends.now }
+    requires table { IsNextTable own.now.events.items ends.now }
+    requires within { at < length own.now.events.items }
 {
     let Some(failing) = focus.failing else {
-        return Mark::Other;
+        return mark_behind(own, ends, focus.stops.unwrap_or(0), at);
     };
     if at == failing {
         return Mark::Failing;
@@ -107,7 +134,7 @@ pub(crate) fn choose(
     focus: &Focus,
 ) -> Result<Choice, OutOfMemory>
     requires { IsNextTable own.now.events.items ends.now }
-    ensures { IfOk result (λ choice. length choice.chosen.items ≤ 20) }
+    ensures { IfOk result (λ choice. length choice.chosen.items ≤ focus.now.most) }
 {
     let mut chosen = Vec::new(alloc);
     let mut all = 0usize;
@@ -118,7 +145,7 @@ pub(crate) fn choose(
         all = all.saturating_add(1);
         let mark = mark_of(own, ends, focus, at);
         chosen.push(Chosen { at, mark })?;
-        if chosen.len() > MOST {
+        if chosen.len() > focus.most {
             leave_last(&mut chosen);
         }
     }

@@ -5,7 +5,7 @@ ghost use Rattle.lin_draw.specs.Pictures.{IsSvg};
 use crate::bars::{ROW, Scene, TOP, put_bars, put_dots, put_rows};
 use crate::canvas::{Piece, letters_of, put};
 use crate::fades::put_fade;
-use crate::layouts::{LETTER, MARGIN};
+use crate::layouts::{LETTER, Layout, MARGIN};
 use crate::legends::put_legend;
 use crate::styles::{PATTERNS, STYLE};
 use std::alloc::{AllocError, Global};
@@ -198,6 +198,16 @@ fn put_operations(alloc: Global, text: &mut Vec<u8>, scene: &Scene) -> Result<()
     put_note(alloc, text, layout.left, layout.rows.len())
 }
 
+/// Whether a bar is outlined.
+fn has_named(layout: &Layout) -> bool {
+    for bar in layout.bars.as_slice() {
+        if bar.is_named {
+            return true;
+        }
+    }
+    false
+}
+
 /// What stands between the first mark of the picture and its last.
 fn inside_of(alloc: Global, scene: &Scene, texts: &Texts) -> Result<Vec<u8>, AllocError> {
     let mut text = Vec::new(alloc);
@@ -205,7 +215,9 @@ fn inside_of(alloc: Global, scene: &Scene, texts: &Texts) -> Result<Vec<u8>, All
     put_opening(alloc, &mut text, size, texts.head)?;
     put_colours(&mut text, scene.layout.right)?;
     put_head(alloc, &mut text, size, texts.head)?;
-    put_legend(&mut text, texts.is_failure, !scene.layout.dots.is_empty())?;
+    let layout = scene.layout;
+    let has_dots = !layout.dots.is_empty();
+    put_legend(&mut text, texts.is_failure, has_dots, has_named(layout))?;
     put_operations(alloc, &mut text, scene)?;
     put_lines(alloc, &mut text, bottom_of(scene.layout.rows.len()), texts)?;
     Ok(text)

@@ -1,5 +1,5 @@
 //! How many operations fit into a picture.
-ghost use Rattle.std.specs.Prelude.{◌↔◌, ◌<◌, ◌≤◌, ◌+◌, ◌⊎◌, IfOk, IsTrue, length};
+ghost use Rattle.std.specs.Prelude.{◌↔◌, ◌<◌, ◌≤◌, ◌+◌, ◌⊎◌, ◌≡◌, IfOk, IsTrue, length, true};
 ghost use Rattle.lin_orders.specs.Tables.{IsNextTable};
 
 use crate::choosing::{Chosen, leave_last};
@@ -19,17 +19,19 @@ fn is_wide(layout: &Layout) -> bool
     layout.right.saturating_add(MARGIN) > WIDEST
 }
 
-/// The layout of the operations; of those that don't fit the last chosen are left out.
+/// The layout of the operations; where the picture is to be narrow, the last chosen of those that don't fit are left out.
 pub(crate) fn fit<'a>(
     alloc: Global,
     object: &Object<'a>,
-    mut chosen: Vec<Chosen>,
+    chosen: Vec<Chosen>,
+    is_narrowed: bool,
 ) -> Result<Layout<'a>, OutOfMemory>
     requires { IsNextTable object.now.own.now.events.items object.now.ends.now }
-    ensures { IfOk result (λ layout. (layout.right + 20 ≤ 1200) ⊎ (length layout.bars.items ≤ 6)) }
+    ensures narrow { is_narrowed ≡ true → IfOk result (λ layout. (layout.right + 20 ≤ 1200) ⊎ (length layout.bars.items ≤ 6)) }
 {
+    let mut chosen = chosen;
     let mut layout = layout_of(alloc, object, chosen.as_slice())?;
-    while is_wide(&layout) && chosen.len() > LEAST {
+    while is_narrowed && is_wide(&layout) && chosen.len() > LEAST {
         leave_last(&mut chosen);
         layout = layout_of(alloc, object, chosen.as_slice())?;
     }

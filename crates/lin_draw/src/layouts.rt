@@ -42,6 +42,8 @@ const WIDEST_SPREAD: usize = 72;
 pub(crate) struct Bar<'a> {
     pub(crate) operation: Operation<'a>,
     pub(crate) is_failing: bool,
+    /// Whether it is outlined.
+    pub(crate) is_named: bool,
     /// How many letters its label has.
     letters: usize,
 }
@@ -125,6 +127,7 @@ fn bars_of<'a>(
         bars.push(Bar {
             operation,
             is_failing: matches!(one.mark, Mark::Failing),
+            is_named: matches!(one.mark, Mark::Named),
             letters: letters_of(alloc, label.as_slice())?.min(LABEL),
         })?;
     }

@@ -19,4 +19,4 @@ mod styles;
 
 pub use fades::names_tell_fades;
 pub use legal::Orders;
-pub use pictures::picture_with_places;
+pub use pictures::{Wanted, picture_with_places};

@@ -1,4 +1,5 @@
 //! How the operations of an object stand.
+ghost use Rattle.std.specs.Prelude.{◌<◌, length};
 ghost use Rattle.lin_orders.specs.Tables.{IsNextTable};
 
 use lin_events::{Body, Call, Event, Reply};
@@ -49,6 +50,22 @@ fn reply_of(ending: &Event) -> Option<&Reply> {
 /// Whether an operation begins at the place.
 pub(crate) fn is_call(events: &[Event], at: usize) -> bool {
     call_at(events, at).is_some()
+}
+
+/// Whether the operation that begins at the place neither returned nor failed before the other place.
+pub(crate) fn is_open_behind(
+    events: &[Event],
+    ends: &[Option<usize>],
+    at: usize,
+    place: usize,
+) -> bool
+    requires table { IsNextTable events.now ends.now }
+    requires within { at < length events.now }
+{
+    match end_of(events, ends, at) {
+        Some((end, ending)) => place <= end || matches!(ending.body, Body::Info(_)),
+        None => true,
+    }
 }
 
 /// The operation that begins at the place, if one does.

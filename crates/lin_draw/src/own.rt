@@ -51,6 +51,16 @@ impl Own {
         }
     }
 
+    /// How many of them stand up to and with the position in the history.
+    pub(crate) fn count_to(&self, position: usize) -> usize {
+        for (at, pick) in self.picks.iter().enumerate() {
+            if *pick > position {
+                return at;
+            }
+        }
+        self.picks.len()
+    }
+
     /// All of these events but the last one and the one at the place.
     pub(crate) fn without(
         &self,

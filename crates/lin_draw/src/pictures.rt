@@ -5,7 +5,7 @@ ghost use Rattle.lin_orders.specs.Tables.{IsNextTable};
 ghost use Rattle.lin_draw.specs.Pictures.{IsSvg};
 
 use crate::bars::Scene;
-use crate::choosing::{Choice, Focus, choose, named_of};
+use crate::choosing::{Choice, Focus, choose, most_drawn, named_of};
 use crate::drawing::{Texts, drawn, width_of};
 use crate::fitting::fit;
 use crate::heads::{Subject, head_of, left_out, subject_of, told_of};
@@ -28,8 +28,20 @@ struct Asked<'a, 'p> {
     names: &'a Names,
     answer: &'a Answer,
     subject: Subject,
-    lines: &'a [u8],
-    places: Option<&'p [Place]>,
+    wanted: Wanted<'a, 'p>,
+}
+
+/// What is wanted of a picture.
+#[derive(Clone, Copy)]
+pub struct Wanted<'a, 'p> {
+    /// The object of this key, or the whole.
+    pub key: Option<Item>,
+    /// The lines of the explanation behind the answer's own.
+    pub lines: &'a [u8],
+    /// For each position of the history where its event stands in the file, if there is one.
+    pub places: Option<&'p [Place]>,
+    /// How many operations are drawn at most, however wide that is, if that is said.
+    pub last: Option<u32>,
 }
 
 /// Where the failing operation was invoked, among the object's own events, if the answer is a no.
@@ -38,6 +50,14 @@ fn failing_of(answer: &Answer, own: &Own, ends: &[Option<usize>]) -> Option<usiz
 {
     match answer {
         Answer::No { .. } => failing_operation(own.events.as_slice(), ends),
+        _ => None,
+    }
+}
+
+/// How many of the object's own events are followed by too many configurations, if the answer is undecided.
+fn stops_of(answer: &Answer, own: &Own) -> Option<usize> {
+    match answer {
+        Answer::Undecided { at } => Some(own.count_to(*at)),
         _ => None,
     }
 }
@@ -88,7 +108,7 @@ fn finished(
         names: asked.names,
         own,
         layout: &layout,
-        places: asked.places,
+        places: asked.wanted.places,
     };
     Ok(drawn(alloc, &scene, texts)?)
 }
@@ -104,17 +124,17 @@ fn pictured(
     ensures { IfOk result (λ text. IsSvg text.items) }
 {
     let Choice { chosen, all } = choice;
-    let layout = fit(alloc, object, chosen)?;
+    let layout = fit(alloc, object, chosen, asked.wanted.last.is_none())?;
     let head = head_of(
         alloc,
         asked.present,
         asked.names,
         asked.answer,
         asked.subject.key,
-        asked.lines,
+        asked.wanted.lines,
     )?;
     let more = left_out(alloc, all.saturating_sub(layout.bars.len()))?;
-    let lines = told_of(alloc, asked.lines)?;
+    let lines = told_of(alloc, asked.wanted.lines)?;
     let texts = Texts {
         head: head.as_slice(),
         lines: lines.as_slice(),
@@ -131,10 +151,12 @@ fn picture_of<O: Orders>(alloc: Global, orders: &O, asked: &Asked) -> Result<Vec
     let own = events_for(alloc, asked)?;
     let ends = ends_of(alloc, own.events.as_slice())?;
     let failing = failing_of(asked.answer, &own, ends.as_slice());
-    let named = named_of(alloc, asked.lines)?;
+    let named = named_of(alloc, asked.wanted.lines)?;
     let focus = Focus {
         failing,
         named: named.as_slice(),
+        stops: stops_of(asked.answer, &own),
+        most: most_drawn(asked.wanted.last),
     };
     let choice = choose(alloc, &own, ends.as_slice(), &focus)?;
     let found = found_order(alloc, orders, asked, &own, failing)?;
@@ -157,9 +179,7 @@ pub fn picture_with_places<O: Orders>(
     present: &Present<'_>,
     names: &Names,
     answer: &Answer,
-    key: Option<Item>,
-    lines: &[u8],
-    places: Option<&[Place]>,
+    wanted: Wanted,
 ) -> Result<Vec<u8>, OutOfMemory>
     ensures ill_formed { IfOk result (λ text. (at : ℕ) (cause : CauseOf) → answer.now ≡ Answer.IllFormed at cause → text.items ≡ []) }
     ensures drawn { IfOk result (λ text. ((at : ℕ) (cause : CauseOf) → answer.now ≡ Answer.IllFormed at cause → ⊥) → IsSvg text.items) }
@@ -171,9 +191,8 @@ pub fn picture_with_places<O: Orders>(
         present,
         names,
         answer,
-        subject: subject_of(present, answer, key),
-        lines,
-        places,
+        subject: subject_of(present, answer, wanted.key),
+        wanted,
     };
     picture_of(alloc, orders, &asked)
 }

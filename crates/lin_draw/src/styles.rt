@@ -18,6 +18,7 @@ pub(crate) const STYLE: &str = r#"<style>
 .lincheck .full,.lincheck .gone{stop-color:#8fb4ea}
 .lincheck .info{stroke:#8a4b00}
 .lincheck .cross{stroke:#86120d}
+.lincheck .named{stroke:#8a6d00}
 .lincheck circle{fill:#24426e}
 @media (prefers-color-scheme:dark){
 .lincheck text{fill:#e6edf3}
@@ -34,6 +35,7 @@ pub(crate) const STYLE: &str = r#"<style>
 .lincheck .full,.lincheck .gone{stop-color:#3c69b0}
 .lincheck .info{stroke:#e3a04f}
 .lincheck .cross{stroke:#ffc1bc}
+.lincheck .named{stroke:#f2cc60}
 .lincheck circle{fill:#d6e4fb}
 }
 </style>

@@ -1,8 +1,8 @@
 use Rattle.std.proofs.Common.{◌≤◌, length}
 use Rattle.lin_draw.proofs.fitting.fit.Given as goal
 
-abbrev pub invariant-loop-chosen : goal.invariant-loop-chosen
-invariant-loop-chosen l = length l.layout.bars.items ≤ length l.chosen.items
+abbrev pub invariant-loop-layout : goal.invariant-loop-layout
+invariant-loop-layout l = length l.layout.bars.items ≤ length l.chosen.items
 
-abbrev pub decreases-loop-chosen : goal.decreases-loop-chosen
-decreases-loop-chosen l = length l.chosen.items
+abbrev pub decreases-loop-layout : goal.decreases-loop-layout
+decreases-loop-layout l = length l.chosen.items
